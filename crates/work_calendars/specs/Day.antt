@@ -1,0 +1,22 @@
+-- Days, as day numbers: days since 1970-01-01.
+use Rattle.std.specs.Prelude.{ℕ, ◌+◌, ◌%◌, ◌≤◌}
+
+-- 1972-01-01
+abbrev pub first_day : ℕ
+first_day = 730
+
+-- 2071-12-31
+abbrev pub last_day : ℕ
+last_day = 37254
+
+-- 2068-12-31, the last day that a plan may reach
+abbrev pub last_planning_day : ℕ
+last_planning_day = 36159
+
+-- a day of the range that calendars know
+abbrev pub IsDay : ℕ → Type 0
+IsDay d = (first_day ≤ d) × (d ≤ last_day)
+
+-- the weekday of a day, Monday 0 and Sunday 6: day 0 was a Thursday
+abbrev pub weekday_of_day : ℕ → ℕ
+weekday_of_day d = (d + 3) % 7

@@ -1,0 +1,3 @@
+pub mod Day
+pub mod Minute
+pub mod Moment

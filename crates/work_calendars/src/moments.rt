@@ -1,0 +1,77 @@
+ghost use Rattle.std.specs.Prelude.{◌≡◌, ℕ, ◌↔◌, IsSome, IfSome};
+ghost use Rattle.work_calendars.specs.Day.{IsDay};
+ghost use Rattle.work_calendars.specs.Minute.{IsMinute};
+ghost use Rattle.work_calendars.specs.Moment.{IsMoment, moment_of, day_of_moment, minute_of_moment};
+
+use crate::{Day, Minute};
+use std::marker::Model;
+
+/// A minute of a day. Contracts see its number: the day's number times 1440, plus the minute.
+#[derive(Clone, Copy, Debug, PartialEq, Eq, PartialOrd, Ord, Hash)]
+pub struct Moment {
+    number: u32,
+}
+
+impl Model for Moment {
+    ghost Value = { ℕ };
+
+    ghost view = { λ m. m.number };
+
+    ghost invariant = { λ m. IsMoment m.number };
+
+    ghost inverse = { λ n. record { number = n } };
+}
+
+impl Moment {
+    /// That minute of that day.
+    pub fn new(day: Day, minute: Minute) -> Moment
+        ensures value { result ≡ moment_of day minute }
+        ensures in_range { IsMoment result }
+        ensures day { day_of_moment result ≡ day }
+        ensures minute { minute_of_moment result ≡ minute }
+    {
+        Moment {
+            number: day.number() * 1440 + minute.number(),
+        }
+    }
+
+    /// The moment with this number, if its day is in range.
+    pub fn from_number(number: u32) -> Option<Moment>
+        ensures valid { IsSome result ↔ IsMoment number }
+        ensures value { IfSome result (λ m. m ≡ number) }
+    {
+        if number >= 730 * 1440 && number < 37255 * 1440 {
+            Some(Moment { number })
+        } else {
+            None
+        }
+    }
+
+    /// The minutes since 1970-01-01 00.00.
+    pub fn number(self) -> u32
+        ensures value { result ≡ self }
+        ensures in_range { IsMoment result }
+    {
+        self.number
+    }
+
+    /// The moment's day.
+    pub fn day(self) -> Day
+        ensures value { result ≡ day_of_moment self }
+        ensures in_range { IsDay result }
+    {
+        Day {
+            number: (self.number / 1440) as u16,
+        }
+    }
+
+    /// The moment's minute of its day.
+    pub fn minute(self) -> Minute
+        ensures value { result ≡ minute_of_moment self }
+        ensures in_range { IsMinute result }
+    {
+        Minute {
+            number: (self.number % 1440) as u16,
+        }
+    }
+}
