@@ -1,3 +1,4 @@
 pub mod Day
 pub mod Minute
 pub mod Moment
+pub mod Name

@@ -4,7 +4,9 @@
 mod days;
 mod minutes;
 mod moments;
+mod names;
 
 pub use days::Day;
 pub use minutes::Minute;
 pub use moments::Moment;
+pub use names::{App, Name, Short};

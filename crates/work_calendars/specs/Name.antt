@@ -1,0 +1,46 @@
+-- Names: how they are spelled, and how one is kept in an array.
+use Rattle.std.specs.Prelude.{◌≡◌, ℕ, ◌-◌, ◌<◌, ◌≤◌, Bool, not, ◌||◌, ◌==◌, IsTrue, List, ◌++◌, length, take, slice_index}
+use Rattle.std.specs.Char.{is_ascii_digit, is_ascii_uppercase}
+use Rattle.std.specs.List.{All}
+use Rattle.std.proofs.Common.{sym, ap, subst, ◌∙◌}
+use Rattle.std.proofs.Math.ListN.{replicate}
+use Rattle.std.proofs.lemmas.List.{length-take-le}
+
+-- A to Z, 0 to 9, '@' (64), '#' (35) and '$' (36)
+unfoldable pub is_name_byte : ℕ → Bool
+is_name_byte b =
+    is_ascii_uppercase b || is_ascii_digit b || (b == 64) || (b == 35) || (b == 36)
+
+-- a name of at most that many characters, of which the first is no digit
+pub record IsNameWithin (longest : ℕ) (name : List ℕ) : Type 0 where
+  pub not_empty : 0 < length name
+  pub fits : length name ≤ longest
+  pub alphabet : All (λ b. IsTrue (is_name_byte b)) name
+  pub start : IsTrue (not (is_ascii_digit (slice_index name 0)))
+
+-- a name of an application or a calendar
+abbrev pub IsName : List ℕ → Type 0
+IsName name = IsNameWithin 16 name
+
+-- a short name, of a period or a run cycle
+abbrev pub IsShort : List ℕ → Type 0
+IsShort name = IsNameWithin 8 name
+
+-- an array of that size that holds a name in its first bytes, and zeros after it
+pub record HoldsName (size : ℕ) (bytes : List ℕ) (len : ℕ) : Type 0 where
+  pub full : length bytes ≡ size
+  pub padded : bytes ≡ take len bytes ++ replicate (size - len) 0
+  pub within : len ≤ size
+  pub named : IsNameWithin size (take len bytes)
+
+-- the array of a name
+abbrev pub padded_name : ℕ → List ℕ → List ℕ
+padded_name size name = name ++ replicate (size - length name) 0
+
+pub length-held : (size : ℕ) (bytes : List ℕ) (len : ℕ) → HoldsName size bytes len → length (take len bytes) ≡ len
+length-held size bytes len h =
+    length-take-le len bytes (let P : ℕ → Type 0 = λ n. len ≤ n in subst P (sym h.full) h.within)
+
+pub padded_name-held : (size : ℕ) (bytes : List ℕ) (len : ℕ) → HoldsName size bytes len → padded_name size (take len bytes) ≡ bytes
+padded_name-held size bytes len h =
+    ap (λ n. take len bytes ++ replicate (size - n) 0) (length-held size bytes len h) ∙ sym h.padded
