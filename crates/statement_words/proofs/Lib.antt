@@ -1,0 +1,9 @@
+pub mod Uses
+pub mod Looks
+pub mod Rules
+pub mod Rows
+pub mod Turns
+pub mod Ends
+pub mod Steps
+pub mod Reading
+pub mod Written

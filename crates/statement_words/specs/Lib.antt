@@ -1,0 +1,5 @@
+pub mod Grammar
+pub mod Written
+pub mod Form
+pub mod Command
+pub mod Values

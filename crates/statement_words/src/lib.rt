@@ -1,0 +1,13 @@
+//! The words of a statement: how a line is cut into words, and what `clap` reads of them.
+#![tactic(auto)]
+
+mod form;
+mod law;
+mod values;
+
+pub use form::Form;
+pub use law::reads_what_is_written;
+pub use values::Values;
+
+#[cfg(test)]
+mod tests;
