@@ -1,0 +1,7 @@
+pub mod Key
+pub mod Place
+pub mod Refusal
+pub mod Row
+pub mod Serial
+pub mod Status
+pub mod Ties

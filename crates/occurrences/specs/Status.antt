@@ -1,0 +1,24 @@
+use Rattle.std.specs.Prelude.{ℕ, Option, Some, None}
+use Rattle.occurrences.specs.declared.status.Status.{Status}
+use Rattle.occurrences.specs.declared.status.Status.TheVariants.{W, S, E, C, D}
+use Rattle.occurrences.specs.declared.status.Action.{Action}
+use Rattle.occurrences.specs.declared.status.Action.TheVariants.{Start, Complete, Fail, Reset, Delete}
+
+-- the table of status changes: the status that an action leads to, where the status allows it
+abbrev pub changed_status : Status → Action → Option Status
+changed_status W Start = Some S
+changed_status S Complete = Some C
+changed_status E Complete = Some C
+changed_status S Fail = Some E
+changed_status E Reset = Some W
+changed_status W Delete = Some D
+changed_status E Delete = Some D
+changed_status _ _ = None
+
+-- the letter that lists and tables show for a status
+abbrev pub status_letter : Status → ℕ
+status_letter W = 87
+status_letter S = 83
+status_letter E = 69
+status_letter C = 67
+status_letter D = 68
