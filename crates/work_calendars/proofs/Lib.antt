@@ -1,1 +1,2 @@
+pub mod CalendarFacts
 pub mod NameFacts

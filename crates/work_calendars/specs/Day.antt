@@ -1,5 +1,5 @@
 -- Days, as day numbers: days since 1970-01-01.
-use Rattle.std.specs.Prelude.{ℕ, ◌+◌, ◌%◌, ◌≤◌}
+use Rattle.std.specs.Prelude.{ℕ, ◌+◌, ◌%◌, ◌≤◌, Bool, ◌&&◌, nat_le}
 
 -- 1972-01-01
 abbrev pub first_day : ℕ
@@ -16,6 +16,10 @@ last_planning_day = 36159
 -- a day of the range that calendars know
 abbrev pub IsDay : ℕ → Type 0
 IsDay d = (first_day ≤ d) × (d ≤ last_day)
+
+-- the same as a test
+abbrev pub is_day : ℕ → Bool
+is_day d = nat_le first_day d && nat_le d last_day
 
 -- the weekday of a day, Monday 0 and Sunday 6: day 0 was a Thursday
 abbrev pub weekday_of_day : ℕ → ℕ

@@ -54,7 +54,8 @@ impl Day {
     /// The weekday, from 0 for Monday to 6 for Sunday.
     pub fn weekday(self) -> u8
         ensures value { result ≡ weekday_of_day self }
-        ensures in_range { result < 7 }
+        ensures in_week { result < 7 }
+        ensures in_range { IsDay self }
     {
         ((self.number() + 3) % 7) as u8
     }

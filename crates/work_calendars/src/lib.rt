@@ -1,12 +1,18 @@
 //! Days, minutes, moments and names, calendars of work days and free days, and the index of a calendar's work days.
 #![tactic(auto)]
 
+mod calendars;
 mod days;
 mod minutes;
 mod moments;
 mod names;
+mod statuses;
 
+pub use calendars::Calendar;
 pub use days::Day;
+pub use jiff::civil::Weekday;
 pub use minutes::Minute;
 pub use moments::Moment;
 pub use names::{App, Name, Short};
+pub use statuses::DayStatus;
+pub use std::alloc::AllocError as Memory;

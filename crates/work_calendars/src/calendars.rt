@@ -1,0 +1,85 @@
+ghost use Rattle.std.specs.Prelude.{◌≡◌, ℕ, Bool, OnOk, OnErr};
+ghost use Rattle.std.specs.FinMap as map;
+ghost use Rattle.std.specs.List.{slice_index_or};
+ghost use Rattle.std.specs.Prelude.{None};
+ghost use Rattle.work_calendars.specs.Calendar.{CalendarEntries, is_work_day, no_entries, with_weekday, with_date};
+ghost use Rattle.jiff.specs.Words.{monday_zero};
+
+use crate::{Day, DayStatus};
+use jiff::civil::Weekday;
+use std::alloc::{AllocError, Global};
+use std::collections::BTreeMap;
+use std::marker::Model;
+
+/// Which days are work days: a listed date has its own status, else its weekday's, and a weekday that is not listed is
+/// a work day. Contracts see the listed statuses.
+#[derive(Debug, Drop)]
+pub struct Calendar {
+    weekdays: [Option<DayStatus>; 7],
+    dates: BTreeMap<Day, DayStatus>,
+}
+
+impl Model for Calendar {
+    ghost use Rattle.std.specs.Prelude.{◌≡◌, length};
+    ghost use Rattle.std.specs.FinMap.{from_entries};
+    ghost use Rattle.work_calendars.specs.Calendar.{CalendarEntries, entries_code};
+    ghost use Rattle.work_calendars.specs.contracts.statuses.DayStatus as status;
+
+    ghost Value = { CalendarEntries };
+
+    ghost coded = { entries_code status.the_row.coded };
+
+    ghost view = { λ c. record { weekdays = c.weekdays; dates = from_entries c.dates.entries } };
+
+    ghost invariant = { λ c. length c.weekdays ≡ 7 };
+}
+
+impl Calendar {
+    /// A calendar that lists nothing, in which every day is a work day.
+    pub fn new(alloc: Global) -> Calendar
+        ensures { result ≡ no_entries }
+    {
+        Calendar {
+            weekdays: [None; 7],
+            dates: BTreeMap::new(alloc),
+        }
+    }
+
+    /// Lists that weekday, in place of what was listed for it.
+    pub fn set_weekday(&mut self, weekday: Weekday, status: DayStatus)
+        ensures { self.new ≡ with_weekday self.old (monday_zero weekday) status }
+    {
+        self.weekdays[weekday.to_monday_zero_offset() as usize] = Some(status);
+    }
+
+    /// Lists that date, in place of what was listed for it. Where memory is refused, nothing changes.
+    pub fn set_date(&mut self, day: Day, status: DayStatus) -> Result<(), AllocError>
+        ensures ok { OnOk result (self.new ≡ with_date self.old day status) }
+        ensures err { OnErr result (self.new ≡ self.old) }
+    {
+        self.dates.insert(day, status)?;
+        Ok(())
+    }
+
+    /// What is listed for the weekday.
+    pub fn weekday_status(&self, weekday: Weekday) -> Option<DayStatus>
+        ensures { result ≡ slice_index_or self.now.weekdays (monday_zero weekday) None }
+    {
+        self.weekdays[weekday.to_monday_zero_offset() as usize]
+    }
+
+    /// What is listed for the date.
+    pub fn date_status(&self, day: Day) -> Option<DayStatus>
+        ensures { result ≡ map.get self.now.dates day }
+    {
+        self.dates.get(&day).copied()
+    }
+
+    /// Whether the day is a work day: by the date's status if it is listed, else by its weekday's, else it is.
+    pub fn is_work(&self, day: Day) -> bool
+        ensures { result ≡ is_work_day self.now day }
+    {
+        let of_weekday = self.weekdays[day.weekday() as usize].unwrap_or(DayStatus::Work);
+        self.date_status(day).unwrap_or(of_weekday).is_work()
+    }
+}
