@@ -1,0 +1,4 @@
+pub mod Fault
+pub mod Interval
+pub mod Period
+pub mod Walk
