@@ -1,2 +1,4 @@
 pub mod CalendarFacts
 pub mod NameFacts
+pub mod WorkDayFacts
+pub mod WorkIndexFacts

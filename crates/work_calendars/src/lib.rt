@@ -7,6 +7,7 @@ mod minutes;
 mod moments;
 mod names;
 mod statuses;
+mod work_index;
 
 pub use calendars::Calendar;
 pub use days::Day;
@@ -16,3 +17,4 @@ pub use moments::Moment;
 pub use names::{App, Name, Short};
 pub use statuses::DayStatus;
 pub use std::alloc::AllocError as Memory;
+pub use work_index::WorkIndex;
