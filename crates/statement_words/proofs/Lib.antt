@@ -7,3 +7,4 @@ pub mod Ends
 pub mod Steps
 pub mod Reading
 pub mod Written
+pub mod LineLemmas

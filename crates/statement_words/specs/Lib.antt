@@ -3,3 +3,4 @@ pub mod Written
 pub mod Form
 pub mod Command
 pub mod Values
+pub mod Line

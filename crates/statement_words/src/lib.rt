@@ -3,10 +3,12 @@
 
 mod form;
 mod law;
+mod line;
 mod values;
 
 pub use form::Form;
 pub use law::reads_what_is_written;
+pub use line::{first_word, is_line_text, words_in};
 pub use values::Values;
 
 #[cfg(test)]

@@ -1,5 +1,5 @@
 //! What a form takes, on words that are written out.
-use crate::Form;
+use crate::{Form, first_word, is_line_text, words_in};
 
 static REQUIRED: [&str; 2] = ["app", "from"];
 
@@ -43,5 +43,31 @@ fn refuses_words(rt: HostRuntime) {
     for words in refused.iter() {
         let values = form().read(rt.alloc(), words.as_slice());
         assert!(rt; values.expect(&rt, "memory").is_none());
+    }
+}
+
+#[test]
+fn cuts_lines(rt: HostRuntime) {
+    let lines = [
+        "define calendars --job 1",
+        "  define\tcalendars \t --job  1\t",
+        "\tdefine calendars\t\t--job 1 ",
+    ];
+    for line in lines.iter() {
+        assert!(rt; is_line_text(line.as_bytes()));
+        let words = words_in(rt.alloc(), line.as_bytes()).expect(&rt, "memory");
+        assert_eq!(rt;
+            words.as_slice(),
+            ["define", "calendars", "--job", "1"].as_slice()
+        );
+        assert!(rt; first_word(line.as_bytes()) == Some(b"define".as_slice()));
+    }
+    for line in ["", " ", "\t \t"].iter() {
+        let words = words_in(rt.alloc(), line.as_bytes()).expect(&rt, "memory");
+        assert!(rt; words.is_empty() && first_word(line.as_bytes()).is_none());
+    }
+    assert!(rt; first_word(b"\xff\x00 days") == Some(b"\xff\x00".as_slice()));
+    for byte in [0, 8, 10, 13, 31, 127, 128, 255] {
+        assert!(rt; !is_line_text([b'a', byte].as_slice()));
     }
 }

@@ -1,0 +1,24 @@
+-- The words of a line.
+use Rattle.std.specs.Prelude.{◌==◌, ◌||◌, ℕ, Bool, true, false, not, List, [], ◌∷◌, filter}
+use Rattle.std.specs.Int.{is_in_range}
+use Rattle.std.specs.List.{slice_split}
+use Rattle.statement_words.specs.Grammar.{Text}
+
+-- a blank (32) or a tab (9), which part words
+abbrev pub is_blank : ℕ → Bool
+is_blank b = b == 32 || b == 9
+
+abbrev pub is_word_byte : ℕ → Bool
+is_word_byte b = not (is_blank b)
+
+-- what a line may have: a tab, and printable ASCII (32 to 126)
+abbrev pub is_line_byte : ℕ → Bool
+is_line_byte b = b == 9 || is_in_range 32 126 b
+
+abbrev pub has_bytes : Text → Bool
+has_bytes [] = false
+has_bytes (x ∷ xs) = true
+
+-- the line cut at each blank and tab; the pieces between two that stand together are no words
+abbrev pub words_of : List ℕ → List Text
+words_of line = filter has_bytes (slice_split is_blank line)
