@@ -1,9 +1,29 @@
-use Rattle.std.specs.Prelude.{◌≡◌, ◌&&◌, nat_eq}
+use Rattle.std.specs.Prelude.{◌≡◌, ℕ, ◌<◌, ◌⊎◌, List, [], ◌∷◌, ◌++◌, ◌&&◌, nat_eq}
 use Rattle.std.specs.Cmp.{IsTotalOrder, then_total, on_total, nat_cmp_total, both_tied, unsigned_ties}
 use Rattle.std.specs.Cmp.Lexicographic.{slice_cmp, pointwise, nat_list_cmp_total, texts_ties}
 use Rattle.std.specs.declared.cmp.Ordering.{Ordering}
 use Rattle.std.specs.Ordering.{nat_cmp, on, then_cmp, is_eq}
 use Rattle.occurrences.specs.declared.key.Key.{Key}
+
+-- the first list has ended where the second goes on, or begins with the lesser byte
+abbrev pub IsLessAtOnce : List ℕ → List ℕ → Type 0
+IsLessAtOnce [] [] = ⊥
+IsLessAtOnce [] (y ∷ ys) = Unit {0}
+IsLessAtOnce (x ∷ xs) [] = ⊥
+IsLessAtOnce (x ∷ xs) (y ∷ ys) = x < y
+
+-- byte order: after what the two begin with in common, the first has ended or has the lesser byte
+pub record ByteBefore (xs ys : List ℕ) : Type 0 where
+  pub common : List ℕ
+  pub left : List ℕ
+  pub right : List ℕ
+  pub first : xs ≡ common ++ left
+  pub second : ys ≡ common ++ right
+  pub less : IsLessAtOnce left right
+
+-- the first key comes before the second: it arrives earlier, or at the same moment with its application before in byte order
+abbrev pub KeyBefore : Key → Key → Type 0
+KeyBefore a b = (a.ia < b.ia) ⊎ ((a.ia ≡ b.ia) × ByteBefore a.app b.app)
 
 -- how two keys compare: by input arrival, then by application in byte order
 abbrev pub key_cmp : Key → Key → Ordering
@@ -14,4 +34,5 @@ key_cmp_total = then_total (on_total (λ k. k.ia) nat_cmp_total) (on_total (λ k
 
 -- two keys tie where both fields are equal
 pub key_ties : (a b : Key) → (nat_eq a.ia b.ia && pointwise nat_eq a.app b.app) ≡ is_eq (key_cmp a b)
-key_ties a b = both_tied _ _ (nat_cmp a.ia b.ia) (slice_cmp nat_cmp a.app b.app) (unsigned_ties a.ia b.ia) (texts_ties a.app b.app)
+key_ties a b =
+    both_tied _ _ (nat_cmp a.ia b.ia) (slice_cmp nat_cmp a.app b.app) (unsigned_ties a.ia b.ia) (texts_ties a.app b.app)

@@ -1,4 +1,5 @@
 pub mod Key
+pub mod Order
 pub mod Place
 pub mod Refusal
 pub mod Row

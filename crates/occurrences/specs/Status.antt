@@ -1,4 +1,4 @@
-use Rattle.std.specs.Prelude.{ℕ, Option, Some, None}
+use Rattle.std.specs.Prelude.{ℕ, Option, Some, None, List, [], ◌∷◌, unwrap_or}
 use Rattle.occurrences.specs.declared.status.Status.{Status}
 use Rattle.occurrences.specs.declared.status.Status.TheVariants.{W, S, E, C, D}
 use Rattle.occurrences.specs.declared.status.Action.{Action}
@@ -22,3 +22,8 @@ status_letter S = 83
 status_letter E = 69
 status_letter C = 67
 status_letter D = 68
+
+-- the status after some actions were tried in turn: one that the status doesn't allow leaves it
+abbrev pub status_after : Status → List Action → Status
+status_after s [] = s
+status_after s (a ∷ tried) = status_after (unwrap_or (changed_status s a) s) tried

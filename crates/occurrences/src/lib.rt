@@ -3,14 +3,18 @@
 #![tactic(auto)]
 
 mod key;
+mod laws;
 mod place;
 mod refusal;
 mod reply;
 mod row;
 mod serial;
 mod status;
+#[cfg(test)]
+mod tests;
 
 pub use key::Key;
+pub use laws::{key_order, places, row_order, status_changes};
 pub use place::{Deletion, Place, Reason};
 pub use refusal::Refusal;
 pub use reply::Reply;
