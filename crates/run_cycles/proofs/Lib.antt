@@ -1,0 +1,4 @@
+pub mod NameLemmas
+pub mod OccurrenceLemmas
+pub mod PeriodsLemmas
+pub mod ShiftLemmas
