@@ -1,0 +1,4 @@
+pub mod Kept
+pub mod Text
+pub mod Reading
+pub mod Progress

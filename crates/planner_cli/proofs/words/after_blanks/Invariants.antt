@@ -1,0 +1,10 @@
+-- what is left still begins with the same first word
+use Rattle.std.proofs.Common.{◌≡◌, length}
+use Rattle.planner_cli.specs.Lines.{after_blanks}
+use Rattle.planner_cli.proofs.words.after_blanks.Given as goal
+
+abbrev pub invariant-loop-rest : goal.invariant-loop-rest
+invariant-loop-rest l = after_blanks l.rest ≡ after_blanks l.text
+
+abbrev pub decreases-loop-rest : goal.decreases-loop-rest
+decreases-loop-rest l = length l.rest

@@ -1,0 +1,9 @@
+pub mod Lines
+pub mod Items
+pub mod Found
+pub mod Entries
+pub mod Replies
+pub mod Desk
+pub mod Meaning
+pub mod Faults
+pub mod Runs

@@ -1,0 +1,29 @@
+-- What is answered to an item, and what the answers print.
+use Rattle.std.specs.Prelude.{ℕ, List, [], ◌∷◌, ◌++◌, Bool, codes, nat_eq, flat_map}
+use Rattle.std.specs.List.{starts_with}
+
+-- an answer: the rows that are printed first, and its reply line, each without its line feed
+pub record Reply : Type 0 where
+  pub rows : List (List ℕ)
+  pub line : List ℕ
+
+unfoldable pub is_accepted : Reply → Bool
+is_accepted reply = starts_with nat_eq reply.line (codes "ok")
+
+unfoldable pub is_refused : Reply → Bool
+is_refused reply = starts_with nat_eq reply.line (codes "refused")
+
+unfoldable pub ended : List ℕ → List ℕ
+ended line = line ++ 10 ∷ []
+
+-- the bytes of one answer
+unfoldable pub printed : Reply → List ℕ
+printed reply = flat_map ended reply.rows ++ ended reply.line
+
+-- the bytes of all answers, one after the other
+unfoldable pub prints : List Reply → List ℕ
+prints replies = flat_map printed replies
+
+-- the answer to what is no statement
+unfoldable pub no_statement : Reply
+no_statement = record { rows = []; line = codes "refused 10" }

@@ -1,0 +1,47 @@
+//! What is known between two statements, and what one statement answers and changes.
+ghost use Rattle.std.specs.Prelude.{◌≡◌, ◌++◌, IfOk, OnOk, OnErr, not};
+ghost use Rattle.planner_cli.specs.Replies.{printed, is_accepted, is_refused};
+ghost use Rattle.planner_cli.specs.Entries.{item_entered};
+
+use crate::entries::Entry;
+use std::alloc::{AllocError, Global};
+
+/// What is known between two statements: nothing yet, as no statement is known.
+#[derive(Debug, Drop)]
+pub struct Desk {}
+
+/// The answer to a statement.
+#[derive(Debug, Drop)]
+pub struct Answer {
+    /// All bytes that are printed: rows, if there are any, and the reply line.
+    pub text: Vec<u8>,
+    /// Whether the reply line begins with `ok`.
+    pub is_accepted: bool,
+}
+
+impl Desk {
+    ghost use Rattle.planner_cli.specs.Desk.{step};
+
+    /// A desk on which nothing is known.
+    pub fn new() -> Desk {
+        Desk {}
+    }
+
+    /// Answers an item. The answer is made before anything is changed; where memory for it is
+    /// refused, nothing is.
+    #[tactic(auto, unfolding(crate::specs::Desk::step, crate::specs::Replies::printed, crate::specs::Replies::ended, crate::specs::Replies::no_statement, crate::specs::Replies::is_accepted, crate::specs::Replies::is_refused))]
+    pub fn answer(&mut self, alloc: Global, item: Entry<'_>) -> Result<Answer, AllocError>
+        ensures text { IfOk result (λ answer. answer.text.items ≡ printed (step self.old (item_entered item.entry)).reply) }
+        ensures accepted { IfOk result (λ answer. answer.is_accepted ≡ is_accepted (step self.old (item_entered item.entry)).reply) }
+        ensures refused { IfOk result (λ answer. not answer.is_accepted ≡ is_refused (step self.old (item_entered item.entry)).reply) }
+        ensures state { OnOk result (self.new ≡ (step self.old (item_entered item.entry)).state) }
+        ensures err { OnErr result (self.new ≡ self.old) }
+    {
+        let _ = item;
+        let text = Vec::from_slice(alloc, b"refused 10\n")?;
+        Ok(Answer {
+            text,
+            is_accepted: false,
+        })
+    }
+}

@@ -1,0 +1,110 @@
+//! What ends a run before its stream does.
+ghost use Rattle.std.specs.Prelude.{◌≡◌};
+ghost use Rattle.planner_cli.specs.Faults.{cause_of, read_cause, tally_in, fault_number};
+
+use crate::lines::ReadFault;
+use crate::tally::Tally;
+use std::fmt;
+use thiserror::Error;
+
+/// What a device fault blames.
+#[derive(Clone, Copy, Debug, PartialEq, Eq)]
+pub enum Part {
+    /// What keeps the plan.
+    Store,
+    /// Where the stream comes from.
+    Reader,
+    /// Where the replies go.
+    Writer,
+}
+
+impl fmt::Display for Part {
+    fn fmt<W: fmt::Write>(&self, f: &mut fmt::Formatter<W>) -> fmt::Result {
+        match self {
+            Part::Store => write!(f, "store"),
+            Part::Reader => write!(f, "reader"),
+            Part::Writer => write!(f, "writer"),
+        }
+    }
+}
+
+/// Why a run ends.
+#[derive(Clone, Copy, Debug, PartialEq, Eq)]
+pub enum Cause {
+    /// Memory was refused.
+    Memory,
+    /// A part failed.
+    Device(Part),
+}
+
+/// The fault that ended a run, and the tally of the statements answered before it.
+#[derive(Debug, Drop, Error)]
+pub enum RunFault {
+    /// Fault 40: memory was refused.
+    #[error("fault 40: memory was refused")]
+    Memory {
+        /// What was answered before.
+        tally: Tally,
+    },
+    /// Fault 41: the store, the reader or the writer failed.
+    #[error("fault 41: the {part} failed")]
+    Device {
+        /// The part that failed.
+        part: Part,
+        /// What was answered before.
+        tally: Tally,
+    },
+}
+
+impl RunFault {
+    /// The fault of a cause, after what was answered.
+    pub fn new(cause: Cause, tally: Tally) -> RunFault
+        ensures cause { cause_of result ≡ cause }
+        ensures tally { tally_in result ≡ tally }
+    {
+        match cause {
+            Cause::Memory => RunFault::Memory { tally },
+            Cause::Device(part) => RunFault::Device { part, tally },
+        }
+    }
+
+    /// Why the run ended.
+    pub fn cause(&self) -> Cause
+        ensures { result ≡ cause_of self.now }
+    {
+        match self {
+            RunFault::Memory { .. } => Cause::Memory,
+            RunFault::Device { part, .. } => Cause::Device(*part),
+        }
+    }
+
+    /// What was answered before.
+    pub fn tally(&self) -> Tally
+        ensures { result ≡ tally_in self.now }
+    {
+        match self {
+            RunFault::Memory { tally } => *tally,
+            RunFault::Device { tally, .. } => *tally,
+        }
+    }
+
+    /// The number of the fault: 40 or 41.
+    pub fn number(&self) -> u8
+        ensures { result ≡ fault_number (cause_of self.now) }
+    {
+        match self {
+            RunFault::Memory { .. } => 40,
+            RunFault::Device { .. } => 41,
+        }
+    }
+}
+
+/// The cause that a fault of reading is.
+pub fn cause_of_read(fault: ReadFault) -> Cause
+    ensures { result ≡ read_cause fault }
+{
+    match fault {
+        ReadFault::Memory => Cause::Memory,
+        ReadFault::Reader => Cause::Device(Part::Reader),
+    }
+}

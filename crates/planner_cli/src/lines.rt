@@ -1,0 +1,121 @@
+//! Lines of a reader, of which only the first bytes are kept.
+ghost use Rattle.std.specs.Prelude.{◌≡◌, ◌≢◌, ◌↔◌, ℕ, List, true, ◌-◌, ◌<◌, ◌≤◌, length, take, All, IfOk, OnOk, OnErr, OnSome, IfSome, IsTrue};
+ghost use Rattle.std.specs.Io.{StopsAt, IsEmptyOrEndsWith};
+ghost use Rattle.std.specs.Io.KnownBytes.{Consumes, IsAtEnd};
+ghost use Rattle.std.specs.Io.BufRead.{take_through, strip_last, DropsThrough};
+ghost use Rattle.planner_cli.specs.Lines.{kept, line_of};
+
+use std::io::BufRead;
+
+/// Why a line could not be read.
+#[derive(Clone, Copy, Debug, PartialEq, Eq)]
+pub enum ReadFault {
+    /// Memory was refused.
+    Memory,
+    /// The reader failed.
+    Reader,
+}
+
+/// The length up to and including the first line feed, or the whole length.
+fn len_through(bytes: &[u8]) -> usize
+    ensures bound { result ≤ length bytes.now }
+    ensures some { 0 < length bytes.now → 0 < result }
+    ensures before { All (λ x. x ≢ 10) (take (result - 1) bytes.now) }
+{
+    let mut i = 0;
+    while i < bytes.len() {
+        if bytes[i] == b'\n' {
+            return i + 1;
+        }
+        i += 1;
+    }
+    i
+}
+
+/// Appends `bytes` as far as there is room for them below `limit`.
+fn keep(held: &mut Vec<u8>, limit: usize, bytes: &[u8]) -> Result<(), ReadFault>
+    ensures ok { OnOk result (held.new.items ≡ kept limit held.old.items bytes.now) }
+    ensures err { OnErr result (held.new.items ≡ held.old.items) }
+{
+    let room = limit.saturating_sub(held.len()).min(bytes.len());
+    match held.extend_from_slice(&bytes[..room]) {
+        Ok(()) => Ok(()),
+        Err(_) => Err(ReadFault::Memory),
+    }
+}
+
+/// Takes what the reader shows of a line, and puts its first bytes into both buffers. Answers how
+/// many bytes it took, and whether it met the line's end or the reader's.
+fn take_part<R: BufRead>(
+    reader: &mut R,
+    head: &mut Vec<u8>,
+    head_limit: usize,
+    all: &mut Vec<u8>,
+    all_limit: usize,
+) -> Result<(usize, bool), ReadFault>
+    ensures { IfOk result (λ r. (bs : List ℕ) × (length bs ≡ r.0) × StopsAt bs 10
+        × Consumes (R.remaining reader.old) (R.remaining reader.new) bs
+        × (r.1 ≢ true → All (λ x. x ≢ 10) bs)
+        × (r.1 ≡ true → IsEmptyOrEndsWith bs 10)
+        × (r.1 ≡ true → length bs ≡ 0
+        → OnSome (R.remaining reader.old) (IsAtEnd (R.remaining reader.new)))
+        × (head.new.items ≡ kept head_limit head.old.items bs)
+        × (all.new.items ≡ kept all_limit all.old.items bs)) }
+{
+    let available = match reader.fill_buf() {
+        Ok(available) => available,
+        Err(_) => return Err(ReadFault::Reader),
+    };
+    let end = len_through(available);
+    let is_done = end == 0 || available[end - 1] == b'\n';
+    keep(head, head_limit, &available[..end])?;
+    keep(all, all_limit, &available[..end])?;
+    reader.consume(end);
+    Ok((end, is_done))
+}
+
+/// Takes one line from a reader, its line feed included. `head` and `all` each get its bytes as far
+/// as they have room. Answers whether there was a line. Every error of the reader is a fault.
+pub fn read_line<R: BufRead>(
+    reader: &mut R,
+    head: &mut Vec<u8>,
+    head_limit: usize,
+    all: &mut Vec<u8>,
+    all_limit: usize,
+) -> Result<bool, ReadFault>
+    ensures some { IfOk result (λ any. IfSome (R.remaining reader.old) (λ xs. IsTrue any ↔ (0 < length xs))) }
+    ensures rest { OnOk result (DropsThrough (R.remaining reader.old) (R.remaining reader.new) 10) }
+    ensures head { OnOk result (IfSome (R.remaining reader.old)
+        (λ xs. head.new.items ≡ kept head_limit head.old.items (take_through 10 xs))) }
+    ensures all { OnOk result (IfSome (R.remaining reader.old)
+        (λ xs. all.new.items ≡ kept all_limit all.old.items (take_through 10 xs))) }
+{
+    let mut total = 0usize;
+    for _ in 0..u64::MAX {
+        let (taken, is_done) = take_part(reader, head, head_limit, all, all_limit)?;
+        total = total.saturating_add(taken);
+        if is_done {
+            return Ok(total > 0);
+        }
+    }
+    Err(ReadFault::Reader)
+}
+
+/// Removes the last byte if it is `byte`.
+fn pop_if_last(bytes: &mut Vec<u8>, byte: u8)
+    ensures { bytes.new.items ≡ strip_last byte bytes.old.items }
+{
+    let n = bytes.len();
+    if n > 0 && bytes[n - 1] == byte {
+        bytes.truncate(n - 1);
+    }
+}
+
+/// Cuts off the line feed that ends a line, and then one carriage return.
+#[tactic(auto, unfolding(crate::specs::Lines::line_of))]
+pub fn trim_line_end(line: &mut Vec<u8>)
+    ensures { line.new.items ≡ line_of line.old.items }
+{
+    pop_if_last(line, b'\n');
+    pop_if_last(line, b'\r');
+}

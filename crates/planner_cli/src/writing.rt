@@ -1,0 +1,28 @@
+//! Replies on their way to the writer.
+ghost use Rattle.std.specs.Prelude.{◌≡◌, ℕ, ◌≤◌, length, take, OnOk, IfErr};
+ghost use Rattle.std.specs.Io.KnownBytes.{Appends};
+ghost use Rattle.planner_cli.specs.declared.faults.Cause.TheVariants.{Device};
+ghost use Rattle.planner_cli.specs.declared.faults.Part.TheVariants.{Writer};
+
+use crate::faults::{Cause, Part};
+use std::io::Write;
+
+/// Writes all bytes, and flushes. Every error of the writer counts, and so does a write that takes
+/// nothing; the bytes that were taken before it stay written.
+pub fn write_out<W: Write>(writer: &mut W, bytes: &[u8]) -> Result<(), Cause>
+    ensures ok { OnOk result (Appends (W.contents writer.old) (W.contents writer.new) bytes.now) }
+    ensures err { IfErr result (λ cause. cause ≡ Device Writer) }
+    ensures front { (n : ℕ) × (n ≤ length bytes.now) × Appends (W.contents writer.old) (W.contents writer.new) (take n bytes.now) }
+{
+    let mut written = 0;
+    while written < bytes.len() {
+        match writer.write(&bytes[written..]) {
+            Ok(0) | Err(_) => return Err(Cause::Device(Part::Writer)),
+            Ok(n) => written += n,
+        }
+    }
+    match writer.flush() {
+        Ok(()) => Ok(()),
+        Err(_) => Err(Cause::Device(Part::Writer)),
+    }
+}
