@@ -1,1 +1,4 @@
 pub mod FaultLemmas
+pub mod ListedLemmas
+pub mod StepLemmas
+pub mod WalkLemmas

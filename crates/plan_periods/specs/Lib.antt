@@ -1,4 +1,5 @@
 pub mod Fault
 pub mod Interval
 pub mod Period
+pub mod Places
 pub mod Walk

@@ -5,9 +5,10 @@ mod faults;
 mod intervals;
 mod origins;
 mod periods;
+mod places;
 
 pub use faults::PeriodFault;
-pub use intervals::Interval;
+pub use intervals::{Interval, Intervals};
 pub use origins::Origins;
 pub use periods::{MAX_INTERVAL, Period};
 

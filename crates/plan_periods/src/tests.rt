@@ -1,7 +1,7 @@
 ghost use Rattle.std.specs.Prelude.{◌≡◌};
 ghost use Rattle.work_calendars.specs.Day.{IsDay};
 
-use crate::{MAX_INTERVAL, Origins, Period, PeriodFault};
+use crate::{Intervals, MAX_INTERVAL, Origins, Period, PeriodFault};
 use std::alloc::{AllocError, Global};
 use std::process::Abort;
 use std::test::Fail;
@@ -100,4 +100,197 @@ fn gives_origins_back(rt: HostRuntime) -> Result<(), Fail> {
     assert_eq!(rt; origins.as_slice(), entries.as_slice());
     assert_eq!(rt; origins.into_vec().as_slice(), entries.as_slice());
     Ok(())
+}
+
+// What a walk gives, by day numbers, and how many intervals it has looked at.
+fn assert_walk(
+    rt: &impl Abort,
+    period: &Period,
+    from: u32,
+    to: u32,
+    want: &[(u32, Option<u32>)],
+    visited: usize,
+) {
+    assert_eq!(rt; period.check(), Ok(()));
+    let (from, to) = (
+        Day::from_number(from).unwrap_or(Day::FIRST),
+        Day::from_number(to).unwrap_or(Day::LAST),
+    );
+    let mut intervals = Intervals::new(period, from, to);
+    assert_eq!(rt; intervals.visited(), 0);
+    for (first, last) in want {
+        let interval = intervals.next().expect(rt, "an interval is missing");
+        assert_eq!(rt; interval.first.number(), *first);
+        assert_eq!(rt; interval.last.map(|last| last.number()), *last);
+    }
+    assert!(rt; intervals.next().is_none());
+    assert!(rt; intervals.next().is_none());
+    assert_eq!(rt; intervals.visited(), visited);
+}
+
+#[test]
+fn row01(rt: HostRuntime) {
+    let week = Period::All {
+        origin: day(NEW_YEAR),
+        interval: 7,
+    };
+    assert_walk(
+        &rt,
+        &week,
+        19723,
+        19736,
+        &[(19723, Some(19729)), (19730, Some(19736))],
+        2,
+    );
+}
+
+#[test]
+fn row03(rt: HostRuntime) {
+    let week = Period::All {
+        origin: day(NEW_YEAR),
+        interval: 7,
+    };
+    assert_walk(
+        &rt,
+        &week,
+        19729,
+        19730,
+        &[(19723, Some(19729)), (19730, Some(19736))],
+        2,
+    );
+}
+
+#[test]
+fn row04(rt: HostRuntime) {
+    let week = Period::All {
+        origin: day(NEW_YEAR),
+        interval: 7,
+    };
+    assert_walk(&rt, &week, 19727, 19727, &[(19723, Some(19729))], 1);
+}
+
+#[test]
+fn row05(rt: HostRuntime) -> Result<(), Fail> {
+    let months = listed(rt.alloc(), &[(19723, None), (19754, None), (19783, None)])?;
+    assert_walk(
+        &rt,
+        &months,
+        19723,
+        20088,
+        &[(19723, Some(19753)), (19754, Some(19782)), (19783, None)],
+        3,
+    );
+    assert_walk(
+        &rt,
+        &months,
+        19753,
+        19754,
+        &[(19723, Some(19753)), (19754, Some(19782))],
+        3,
+    );
+    assert_walk(&rt, &months, 730, 19722, &[], 3);
+    assert_walk(&rt, &months, 37254, 37254, &[(19783, None)], 3);
+    Ok(())
+}
+
+#[test]
+fn row06(rt: HostRuntime) {
+    let five = Period::Work {
+        origin: day(19728),
+        interval: 5,
+    };
+    assert_walk(&rt, &five, 19728, 19738, &[], 0);
+}
+
+#[test]
+fn row08(rt: HostRuntime) {
+    let long = Period::All {
+        origin: Day::FIRST,
+        interval: 999,
+    };
+    assert_walk(&rt, &long, 730, 1728, &[(730, Some(1728))], 1);
+    assert_walk(
+        &rt,
+        &long,
+        1728,
+        1729,
+        &[(730, Some(1728)), (1729, Some(2727))],
+        2,
+    );
+    // 36 intervals end by the last day, and the next one would end after it.
+    assert_walk(&rt, &long, 36693, 37254, &[(35695, Some(36693))], 1);
+    assert_walk(&rt, &long, 36694, 37254, &[], 0);
+}
+
+#[test]
+fn row_r2_2(rt: HostRuntime) -> Result<(), Fail> {
+    let overlapping = listed(rt.alloc(), &[(19723, Some(19732)), (19730, Some(19734))])?;
+    let both = [(19723, Some(19732)), (19730, Some(19734))];
+    assert_walk(&rt, &overlapping, 19723, 19753, &both, 2);
+    assert_walk(&rt, &overlapping, 19731, 19731, &both, 2);
+    assert_walk(&rt, &overlapping, 19733, 19753, &[(19730, Some(19734))], 2);
+    assert_walk(&rt, &overlapping, 19735, 19753, &[], 2);
+    Ok(())
+}
+
+#[test]
+fn ends_of_the_days(rt: HostRuntime) {
+    let last = Period::All {
+        origin: Day::LAST,
+        interval: 1,
+    };
+    assert_walk(&rt, &last, 730, 37254, &[(37254, Some(37254))], 1);
+    let past = Period::All {
+        origin: Day::LAST,
+        interval: 2,
+    };
+    assert_walk(&rt, &past, 730, 37254, &[], 0);
+    let week = Period::All {
+        origin: day(37248),
+        interval: 7,
+    };
+    assert_walk(&rt, &week, 37254, 37254, &[(37248, Some(37254))], 1);
+    let daily = Period::All {
+        origin: Day::FIRST,
+        interval: 1,
+    };
+    assert_walk(
+        &rt,
+        &daily,
+        730,
+        732,
+        &[(730, Some(730)), (731, Some(731)), (732, Some(732))],
+        3,
+    );
+}
+
+#[test]
+fn empty_ranges(rt: HostRuntime) -> Result<(), Fail> {
+    let week = Period::All {
+        origin: day(NEW_YEAR),
+        interval: 7,
+    };
+    assert_walk(&rt, &week, 730, 19722, &[], 0);
+    assert_walk(&rt, &week, 19726, 19725, &[], 0);
+    let open = listed(rt.alloc(), &[(19723, None)])?;
+    assert_walk(&rt, &open, 19726, 19725, &[], 1);
+    assert_walk(&rt, &open, 19723, 19723, &[(19723, None)], 1);
+    Ok(())
+}
+
+#[test]
+fn walks_in_a_loop(rt: HostRuntime) {
+    let week = Period::All {
+        origin: day(NEW_YEAR),
+        interval: 7,
+    };
+    let mut firsts = 0u32;
+    for interval in Intervals::new(&week, day(19723), day(20088)) {
+        assert!(rt; interval.first.number() >= 19723);
+        firsts += 1;
+        if firsts > 60 {
+            break;
+        }
+    }
+    assert_eq!(rt; firsts, 53);
 }
