@@ -1,0 +1,119 @@
+-- Orders of names and links, and lists in rising order.
+use Rattle.std.proofs.Common.{◌≡◌, ◌↔◌, ℕ, ◌+◌, ◌-◌, ◌<◌, ◌≤◌, ◌⊎◌, Bool, true, false, List, length, get_or, take, drop, refl, sym, ap, subst, ◌∙◌, inl, inr, arith, Ordering}
+use Rattle.std.specs.declared.cmp.Ordering.TheVariants.{Less, Equal, Greater}
+use Rattle.std.specs.List.{Contains}
+use Rattle.std.specs.List.Sorted.{IsPartitionPoint, IsNonDecreasingBy}
+use Rattle.std.specs.Cmp.{IsTotalOrder}
+use Rattle.std.specs.Cmp.Lexicographic.{slice_cmp}
+use Rattle.std.specs.Ordering.{nat_cmp, ordering_then, ordering_index, is_lt, is_le, ordering_reverse}
+use Rattle.std.specs.FinMap.{IsAntisymmetric, nat_cmp-IsAntisymmetric, slice_cmp-IsAntisymmetric}
+use Rattle.std.proofs.lemmas.Cmp.{nat_list_cmp_total, on_total, then_total, tied_itself, alike_right}
+use Rattle.std.proofs.lemmas.List.{get_or-take, get_or-drop, length-drop, length-take-le}
+use Rattle.std.proofs.lemmas.List.Sorted.{searchable_from_sorted}
+use Rattle.std.proofs.lemmas.Bool.{cases_lt, cases_order, false≢true}
+use Rattle.external_dependencies.specs.declared.links.Link.{Link}
+use Rattle.external_dependencies.specs.Link.{link_cmp}
+use Rattle.external_dependencies.specs.Rising.{IsRising}
+
+-- only equal names tie
+pub name_ties : IsAntisymmetric (slice_cmp nat_cmp)
+name_ties = slice_cmp-IsAntisymmetric nat_cmp-IsAntisymmetric
+
+-- both parts tie
+pub then_equal : (o p : Ordering) → ordering_then o p ≡ Equal → (o ≡ Equal) × (p ≡ Equal)
+then_equal Less p is = cc
+then_equal Equal p is = (refl, is)
+then_equal Greater p is = cc
+
+-- the first part decides, or it ties
+pub then_less : (o p : Ordering) → ordering_then o p ≡ Less → (o ≡ Less) ⊎ ((o ≡ Equal) × (p ≡ Less))
+then_less Less p is = inl refl
+then_less Equal p is = inr (refl, is)
+then_less Greater p is = cc
+
+pub link_ties : IsAntisymmetric link_cmp
+link_ties x y is =
+    let both = then_equal _ _ is in
+    let apps : x.app ≡ y.app = name_ties x.app y.app both.0 in
+    let predecessors : x.predecessor ≡ y.predecessor = name_ties x.predecessor y.predecessor both.1 in
+    λ i. record { app = apps i; predecessor = predecessors i }
+
+pub link_total : IsTotalOrder link_cmp
+link_total = then_total (on_total (λ (l : Link). l.app) nat_list_cmp_total) (on_total (λ (l : Link). l.predecessor) nat_list_cmp_total)
+
+module _ {K : Type 0} {R : K → K → Ordering} (o : IsTotalOrder R) where
+  -- at most
+  abbrev pub AtMost : K → K → Type 0
+  AtMost x y = (R x y ≡ Less) ⊎ (R x y ≡ Equal)
+
+  pub less_after : (x y z : K) → AtMost x y → R y z ≡ Less → R x z ≡ Less
+  less_after x y z (inl less) is = o.trans x y z less is
+  less_after x y z (inr same) is = o.congr x y z same ∙ is
+
+  pub at_most_after : (x y z : K) → AtMost x y → AtMost y z → AtMost x z
+  at_most_after x y z below (inl less) = inl (less_after x y z below less)
+  at_most_after x y z (inl less) (inr same) = inl (sym (alike_right o y z x same) ∙ less)
+  at_most_after x y z (inr tied) (inr same) = inr (o.congr x y z tied ∙ same)
+
+  -- from the answer of a comparison
+  pub at_most_from : (x y : K) → is_le (R x y) ≡ true → AtMost x y
+  at_most_from x y is = elim (R x y) as (λ r. is_le r ≡ true → (r ≡ Less) ⊎ (r ≡ Equal)) [
+    | Less ↦ λ _. inl refl
+    | Equal ↦ λ _. inr refl
+    | Greater ↦ λ is. absurd (false≢true is)
+  ] is
+
+  pub not_less_then : (x y : K) → is_lt (R x y) ≡ false → is_le (R x y) ≡ true → R x y ≡ Equal
+  not_less_then x y not_lt is = elim (R x y) as (λ r. is_lt r ≡ false → is_le r ≡ true → r ≡ Equal) [
+    | Less ↦ λ not_lt _. cc
+    | Equal ↦ λ _ _. refl
+    | Greater ↦ λ _ is. cc
+  ] not_lt is
+
+  -- what a rising list says of two places
+  pub rising_at_most : (xs : List K) → IsRising R xs → (i j : ℕ) (d : K) → i ≤ j → j < length xs → AtMost (get_or xs i d) (get_or xs j d)
+  rising_at_most xs rising i j d le lt = elim (cases_order i j) [
+    | inl same ↦ inr (subst (λ k. R (get_or xs i d) (get_or xs k d) ≡ Equal) same (tied_itself o (get_or xs i d)))
+    | inr (inl below) ↦ inl (rising i j d below lt)
+    | inr (inr above) ↦ absurd (omega arith)
+  ]
+
+  -- a rising list serves a binary search
+  pub rising_searchable : (xs : List K) → IsRising R xs → (x : K) → IsNonDecreasingBy (λ y. ordering_index (R y x)) xs
+  rising_searchable xs rising x = searchable_from_sorted o (λ (y : K). y) xs x (λ k d _ lt. ap is_lt (o.antisymm (get_or xs (k + 1) d) (get_or xs k d) ∙ ap ordering_reverse (rising k (k + 1) d (omega arith) lt)))
+
+  -- each element stands at one place
+  pub rising_once : (xs : List K) → IsRising R xs → (i j : ℕ) (d : K) → i < length xs → j < length xs → get_or xs i d ≡ get_or xs j d → i ≡ j
+  rising_once xs rising i j d lt_i lt_j same = elim (cases_order i j) [
+    | inl is ↦ is
+    | inr (inl below) ↦ absurd (apart (sym (rising i j d below lt_j) ∙ ap (λ y. R (get_or xs i d) y) (sym same) ∙ tied_itself o (get_or xs i d)))
+    | inr (inr above) ↦ absurd (apart (sym (rising j i d above lt_i) ∙ ap (λ y. R (get_or xs j d) y) same ∙ tied_itself o (get_or xs j d)))
+  ]
+    where
+      apart : Less ≡ Equal → ⊥
+      apart is = cc
+
+-- the part of a list between two tests, where each rules a front of the list
+pub between_is : {X : Type 0} (xs : List X) (below upto : X → Bool) (start count : ℕ) → start ≤ length xs → IsPartitionPoint (λ x. below x ≡ true) (λ x. below x ≡ false) xs start → count ≤ length (drop start xs) → IsPartitionPoint (λ x. upto x ≡ true) (λ x. upto x ≡ false) (drop start xs) count → (x : X) → Contains (take count (drop start xs)) x ↔ (Contains xs x × (below x ≡ false) × (upto x ≡ true))
+between_is {X} xs below upto start count in_range point in_rest point' x = (forward, backward)
+  where
+    forward : Contains (take count (drop start xs)) x → Contains xs x × (below x ≡ false) × (upto x ≡ true)
+    forward (k, lt, at) =
+        let short : k < count = omega (arith, length-take-le count (drop start xs) in_rest) in
+        let long : start + k < length xs = omega (arith, length-drop start xs) in
+        let in_rest_at : get_or (drop start xs) k x ≡ x = sym (get_or-take count (drop start xs) k x short) ∙ at in
+        let in_all : get_or xs (start + k) x ≡ x = sym (get_or-drop start xs k x) ∙ in_rest_at in
+        ((start + k, long, in_all), subst (λ y. below y ≡ false) in_all (point.1 (start + k) x (omega arith) long), subst (λ y. upto y ≡ true) in_rest_at (point'.0 k x (omega arith) short))
+
+    backward : Contains xs x × (below x ≡ false) × (upto x ≡ true) → Contains (take count (drop start xs)) x
+    backward ((k, lt, at), not_below, is_upto) = elim (cases_lt k start) [
+      | inl front ↦ absurd (false≢true (sym (subst (λ y. below y ≡ false) refl not_below) ∙ subst (λ y. below y ≡ true) at (point.0 k x (omega arith) front)))
+      | inr back ↦
+          let there : start + (k - start) ≡ k = omega arith in
+          let at_rest : get_or (drop start xs) (k - start) x ≡ x = get_or-drop start xs (k - start) x ∙ ap (λ n. get_or xs n x) there ∙ at in
+          let long : k - start < length (drop start xs) = omega (arith, length-drop start xs) in
+          elim (cases_lt (k - start) count) [
+            | inl short ↦ (k - start, omega (arith, length-take-le count (drop start xs) in_rest), get_or-take count (drop start xs) (k - start) x short ∙ at_rest)
+            | inr far ↦ absurd (false≢true (sym (subst (λ y. upto y ≡ false) at_rest (point'.1 (k - start) x far long)) ∙ is_upto))
+          ]
+    ]

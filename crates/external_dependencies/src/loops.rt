@@ -1,0 +1,38 @@
+ghost use Rattle.std.specs.Prelude.{◌≡◌, map, IfOk};
+ghost use Rattle.external_dependencies.specs.Loop.{IsLeastOnLoop, AreApplications};
+ghost use Rattle.external_dependencies.specs.declared.links.Link.{Link};
+
+use crate::graph::Graph;
+use crate::links::{Link, Links};
+use crate::rising::into_rising;
+use std::alloc::{AllocError, Global};
+use work_calendars::App;
+
+/// The least application, in byte order, that stands on a loop of two or more different applications, each in the
+/// list of the one before; `None` if there is no loop. An application that names itself alone makes none.
+pub fn find_loop(alloc: Global, links: &Links) -> Result<Option<App>, AllocError>
+    ensures { IfOk result (λ found. IsLeastOnLoop links.now found) }
+{
+    let names = applications(alloc, links)?;
+    let graph = Graph::new(alloc, links, &names)?;
+    for (place, name) in names.iter().enumerate() {
+        if graph.returns_to(alloc, place)? {
+            return Ok(Some(*name));
+        }
+    }
+    Ok(None)
+}
+
+// The applications that have a list, in byte order, each once.
+fn applications(alloc: Global, links: &Links) -> Result<Vec<App>, AllocError>
+    ensures { IfOk result (λ names. AreApplications links.now names.items) }
+{
+    Ok(into_rising(apps(alloc, links.as_slice())?))
+}
+
+// The application of each link.
+fn apps(alloc: Global, links: &[Link]) -> Result<Vec<App>, AllocError>
+    ensures { IfOk result (λ apps. apps.items ≡ map (λ (link : Link). link.app) links.now) }
+{
+    links.iter().map(|link| link.app).collect(alloc)
+}
