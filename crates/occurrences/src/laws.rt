@@ -28,7 +28,8 @@ pub fn key_order()
 pub fn row_order()
     ensures strict { IsStrictOrder RowBefore }
     ensures total { IsTotalOrder row_cmp }
-    ensures ranks { (a b : Row) → a.serial ≢ b.serial → MatchOrdering (row_cmp a b) (RowBefore a b) ⊥ (RowBefore b a) }
+    ensures ranks { (a b : Row) → a.serial ≢ b.serial →
+        MatchOrdering (row_cmp a b) (RowBefore a b) ⊥ (RowBefore b a) }
     ensures compared { (a b : Row) → ⟦<Row as Ord>⟧.cmp a b ≡ row_cmp a b }
     ensures equal { (a b : Row) → (⟦<Row as PartialEq>⟧.eq a b ≡ true) ↔ (a ≡ b) }
 {}
@@ -36,9 +37,12 @@ pub fn row_order()
 /// Law: the ways into each status. S is entered by a start of W alone, E by a failure of S, C by a completion of S
 /// or E, W by a reset of E, and D by a deletion of W or E. So what is complete or deleted stays so, whatever is tried.
 pub fn status_changes()
-    ensures into_w { (s : Status) (a : Action) → (changed_status s a ≡ Some Status.W) ↔ ((s ≡ Status.E) × (a ≡ Action.Reset)) }
-    ensures into_s { (s : Status) (a : Action) → (changed_status s a ≡ Some Status.S) ↔ ((s ≡ Status.W) × (a ≡ Action.Start)) }
-    ensures into_e { (s : Status) (a : Action) → (changed_status s a ≡ Some Status.E) ↔ ((s ≡ Status.S) × (a ≡ Action.Fail)) }
+    ensures into_w { (s : Status) (a : Action) →
+        (changed_status s a ≡ Some Status.W) ↔ ((s ≡ Status.E) × (a ≡ Action.Reset)) }
+    ensures into_s { (s : Status) (a : Action) →
+        (changed_status s a ≡ Some Status.S) ↔ ((s ≡ Status.W) × (a ≡ Action.Start)) }
+    ensures into_e { (s : Status) (a : Action) →
+        (changed_status s a ≡ Some Status.E) ↔ ((s ≡ Status.S) × (a ≡ Action.Fail)) }
     ensures into_c { (s : Status) (a : Action) →
         (changed_status s a ≡ Some Status.C) ↔ (((s ≡ Status.S) ⊎ (s ≡ Status.E)) × (a ≡ Action.Complete)) }
     ensures into_d { (s : Status) (a : Action) →
