@@ -1,4 +1,5 @@
 pub mod CalendarFacts
 pub mod NameFacts
+pub mod SpellingFacts
 pub mod WorkDayFacts
 pub mod WorkIndexFacts

@@ -5,3 +5,4 @@ pub mod Name
 pub mod WorkDay
 pub mod WorkIndex
 pub mod Calendar
+pub mod Spelling

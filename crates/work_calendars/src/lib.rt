@@ -3,6 +3,7 @@
 
 mod calendars;
 mod days;
+mod digits;
 mod minutes;
 mod moments;
 mod names;

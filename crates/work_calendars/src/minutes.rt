@@ -1,6 +1,9 @@
 ghost use Rattle.std.specs.Prelude.{◌≡◌, ℕ, ◌↔◌, IsSome, IfSome};
+ghost use Rattle.std.specs.Prelude.{List};
 ghost use Rattle.work_calendars.specs.Minute.{IsMinute};
+ghost use Rattle.work_calendars.specs.Spelling.{SpellsMinute};
 
+use crate::digits::{digit, two_digits_value};
 use std::marker::Model;
 
 /// A minute of the day, from 00.00 to 23.59. Contracts see its number, 0 to 1439.
@@ -46,5 +49,52 @@ impl Minute {
         ensures in_range { IsMinute result }
     {
         self.number as u32
+    }
+
+    /// Writes the minute as `HH.MM`, the only text that spells it.
+    pub fn write_text(self, text: &mut [u8; 5])
+        ensures spelled { SpellsMinute text.new self }
+        ensures only { (s : List ℕ) → SpellsMinute s self → s ≡ text.new }
+    {
+        let hour = self.number() / 60;
+        let minute = self.number() % 60;
+        *text = [
+            digit(hour / 10),
+            digit(hour % 10),
+            b'.',
+            digit(minute / 10),
+            digit(minute % 10),
+        ];
+    }
+
+    /// The minute that the text spells as `HH.MM`.
+    pub fn from_text(text: &str) -> Option<Minute>
+        ensures valid { IsSome result ↔ ((m : ℕ) × SpellsMinute text.now m) }
+        ensures value { IfSome result (SpellsMinute text.now) }
+        ensures only { IfSome result (λ minute. (m : ℕ) → SpellsMinute text.now m → m ≡ minute) }
+    {
+        Minute::from_bytes(text.as_bytes())
+    }
+
+    /// The same, of the text's bytes.
+    pub(crate) fn from_bytes(text: &[u8]) -> Option<Minute>
+        ensures valid { IsSome result ↔ ((m : ℕ) × SpellsMinute text.now m) }
+        ensures value { IfSome result (SpellsMinute text.now) }
+        ensures only { IfSome result (λ minute. (m : ℕ) → SpellsMinute text.now m → m ≡ minute) }
+    {
+        if text.len() != 5 {
+            return None;
+        }
+        let number = two_digits_value(text, 0) * 60 + two_digits_value(text, 3);
+        let Some(minute) = Minute::from_number(number) else {
+            return None;
+        };
+        let mut spelled = [0; 5];
+        minute.write_text(&mut spelled);
+        if text == &spelled[..] {
+            Some(minute)
+        } else {
+            None
+        }
     }
 }

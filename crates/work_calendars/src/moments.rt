@@ -1,7 +1,9 @@
 ghost use Rattle.std.specs.Prelude.{◌≡◌, ℕ, ◌↔◌, IsSome, IfSome};
+ghost use Rattle.std.specs.Prelude.{List};
 ghost use Rattle.work_calendars.specs.Day.{IsDay};
 ghost use Rattle.work_calendars.specs.Minute.{IsMinute};
 ghost use Rattle.work_calendars.specs.Moment.{IsMoment, moment_of, day_of_moment, minute_of_moment};
+ghost use Rattle.work_calendars.specs.Spelling.{SpellsMoment};
 
 use crate::{Day, Minute};
 use std::marker::Model;
@@ -73,5 +75,38 @@ impl Moment {
         Minute {
             number: (self.number % 1440) as u16,
         }
+    }
+
+    /// Writes the moment as `YYYY-MM-DD/HH.MM`, the only text that spells it.
+    pub fn write_text(self, text: &mut [u8; 16])
+        ensures spelled { SpellsMoment text.new self }
+        ensures only { (s : List ℕ) → SpellsMoment s self → s ≡ text.new }
+    {
+        let mut day = [0; 10];
+        self.day().write_text(&mut day);
+        let mut minute = [0; 5];
+        self.minute().write_text(&mut minute);
+        text[..10].copy_from_slice(&day);
+        text[10] = b'/';
+        text[11..].copy_from_slice(&minute);
+    }
+
+    /// The moment that the text spells as `YYYY-MM-DD/HH.MM`.
+    pub fn from_text(text: &str) -> Option<Moment>
+        ensures valid { IsSome result ↔ ((m : ℕ) × SpellsMoment text.now m) }
+        ensures value { IfSome result (SpellsMoment text.now) }
+        ensures only { IfSome result (λ moment. (m : ℕ) → SpellsMoment text.now m → m ≡ moment) }
+    {
+        let text = text.as_bytes();
+        if text.len() != 16 || text[10] != b'/' {
+            return None;
+        }
+        let Some(day) = Day::from_bytes(&text[..10]) else {
+            return None;
+        };
+        let Some(minute) = Minute::from_bytes(&text[11..]) else {
+            return None;
+        };
+        Some(Moment::new(day, minute))
     }
 }
