@@ -13,5 +13,5 @@ pub mod writing;
 
 pub use desk::Desk;
 pub use faults::{Part, RunFault};
-pub use stream::run;
+pub use stream::{exit_status, run};
 pub use tally::Tally;
