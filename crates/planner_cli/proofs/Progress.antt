@@ -7,10 +7,10 @@ use Rattle.std.proofs.lemmas.List.Sums.{sum_by-append}
 use Rattle.std.proofs.KnownBytes.{Appends-nil, Appends-trans, Appends-kept}
 use Rattle.planner_cli.specs.Items.{Item, items_of}
 use Rattle.planner_cli.specs.Replies.{Reply, printed, prints, is_accepted, is_refused}
-use Rattle.planner_cli.specs.Desk.{State, step}
-use Rattle.planner_cli.specs.Meaning.{replies_to, state_after, tally_after, tally_of, output_of}
+use Rattle.planner_cli.specs.Desk.{State, Step}
+use Rattle.planner_cli.specs.Meaning.{Answers, tally_after, tally_of}
 use Rattle.planner_cli.specs.Faults.{cause_of, read_cause, tally_in, fault_line}
-use Rattle.planner_cli.specs.Runs.{IsFrontOf, ItemBreaks, TailIs, items_done, Stopped}
+use Rattle.planner_cli.specs.Runs.{EndsBy, IsFrontOf, ItemBreaks, Ran, Replied, Stopped}
 use Rattle.planner_cli.specs.declared.tally.Tally.{Tally}
 use Rattle.planner_cli.specs.declared.lines.ReadFault.{ReadFault}
 use Rattle.planner_cli.specs.declared.lines.ReadFault.TheVariants as Reads
@@ -21,44 +21,30 @@ use Rattle.planner_cli.specs.declared.faults.RunFault.{RunFault}
 use Rattle.planner_cli.proofs.Kept.{take_short}
 use Rattle.planner_cli.proofs.Reading.{ItemRead}
 
-pub replies_to-append : (s : State) (xs ys : List Item) → replies_to s (xs ++ ys) ≡ replies_to s xs ++ replies_to (state_after s xs) ys
-unfolding replies_to state_after
-replies_to-append s [] ys = refl
-replies_to-append s (x ∷ xs) ys = ap (λ l. (step s x).reply ∷ l) (replies_to-append (step s x).state xs ys)
-
-pub state_after-append : (s : State) (xs ys : List Item) → state_after s (xs ++ ys) ≡ state_after (state_after s xs) ys
-unfolding state_after
-state_after-append s [] ys = refl
-state_after-append s (x ∷ xs) ys = state_after-append (step s x).state xs ys
+-- more items are answered after the first ones
+pub answers_more : (s m t : State) (xs : List Item) (rs : List Reply) (y : Item) (r : Reply) → Answers s xs rs m → Step m y r t → Answers s (xs ++ y ∷ []) (rs ++ r ∷ []) t
+answers_more s m t [] rs y r a step =
+    (r, [], t, ap (λ l. l ++ r ∷ []) a.0, subst (λ s'. Step s' y r t) a.1 step, (refl, refl))
+answers_more s m t (x ∷ xs) rs y r a step =
+    let (reply, rest, between, e, first, later) = a in
+    (reply, rest ++ r ∷ [], between, ap (λ l. l ++ r ∷ []) e, first, answers_more between m t xs rest y r later step)
 
 pub prints-append : (xs ys : List Reply) → prints (xs ++ ys) ≡ prints xs ++ prints ys
 unfolding prints
 prints-append [] ys = refl
 prints-append (x ∷ xs) ys = ap (λ l. printed x ++ l) (prints-append xs ys) ∙ sym (append_assoc (printed x) (prints xs) (prints ys))
 
-pub reply_to-one : (s : State) (item : Item) → replies_to s (item ∷ []) ≡ (step s item).reply ∷ []
-unfolding replies_to
-reply_to-one s item = refl
-
-pub state_after-one : (s : State) (item : Item) → state_after s (item ∷ []) ≡ (step s item).state
-unfolding state_after
-state_after-one s item = refl
-
 pub prints-one : (reply : Reply) → prints (reply ∷ []) ≡ printed reply
 unfolding prints
 prints-one reply = append-nil (printed reply)
 
-nothing_printed : (s : State) → prints (replies_to s []) ≡ []
-unfolding prints replies_to
-nothing_printed s = refl
+nothing_printed : prints [] ≡ []
+unfolding prints
+nothing_printed = refl
 
-nothing_changed : (s : State) → state_after s [] ≡ s
-unfolding state_after
-nothing_changed s = refl
-
-nothing_counted : (s : State) → tally_of (replies_to s []) ≡ record { accepted = 0; refused = 0 }
-unfolding tally_of tally_after replies_to
-nothing_counted s = refl
+nothing_counted : tally_of [] ≡ record { accepted = 0; refused = 0 }
+unfolding tally_of tally_after
+nothing_counted = refl
 
 count_by-more : (p : Reply → Bool) (rs : List Reply) (r : Reply) → count_by p (rs ++ r ∷ []) ≡ count_by p rs + (if p r then 1 else 0)
 count_by-more p rs r = sum_by-append (λ x. cond (p x) 1 0) rs (r ∷ []) ∙ ap (λ k. sum_by (λ x. cond (p x) 1 0) rs + k) (zero-add (cond (p r) 1 0))
@@ -90,11 +76,12 @@ tally_of-more rs r met m n e accepted refused more_accepted more_refused =
 pub record Progress (s0 s : State) (w0 w now : Option (List ℕ)) (text : List ℕ) (tally : Tally) : Type 0 where
   pub done : List Item
   pub left : List ℕ
+  pub replies : List Reply
   pub now_is : now ≡ Some left
   pub items : items_of text ≡ done ++ items_of left
-  pub written : Appends w0 w (prints (replies_to s0 done))
-  pub state : s ≡ state_after s0 done
-  pub tally_is : tally ≡ tally_of (replies_to s0 done)
+  pub answers : Answers s0 done replies s
+  pub written : Appends w0 w (prints replies)
+  pub tally_is : tally ≡ tally_of replies
 
 pub progress_starts : (s : State) (w a : Option (List ℕ)) (tally : Tally) → tally.accepted ≡ 0 → tally.refused ≡ 0 → IfSome a (λ text. Progress s s w w a text tally)
 progress_starts s w None tally e f = tt
@@ -102,11 +89,12 @@ progress_starts s w (Some text) tally e f =
     record {
       done = [];
       left = text;
+      replies = [];
       now_is = refl;
       items = refl;
-      written = subst (Appends w w) (sym (nothing_printed s)) (Appends-nil w);
-      state = sym (nothing_changed s);
-      tally_is = ap (λ n. record { accepted = n; refused = tally.refused }) e ∙ ap (λ n. record { accepted = 0; refused = n }) f ∙ sym (nothing_counted s);
+      answers = (refl, refl);
+      written = subst (Appends w w) (sym nothing_printed) (Appends-nil w);
+      tally_is = ap (λ n. record { accepted = n; refused = tally.refused }) e ∙ ap (λ n. record { accepted = 0; refused = n }) f ∙ sym nothing_counted;
     }
 
 -- a line that no answer goes to
@@ -114,67 +102,74 @@ pub progress_skips : (s0 s : State) (w0 w b c : Option (List ℕ)) (text : List 
     → IfSome b (λ zs. ItemRead zs c found) → found ≡ [] → Progress s0 s w0 w c text tally
 progress_skips s0 s w0 w b c text tally found p read none =
     let (ys, now, items) = subst (λ o. IfSome o (λ zs. ItemRead zs c found)) p.now_is read in
-    record { done = p.done; left = ys; now_is = now; items = p.items ∙ ap (λ l. p.done ++ l) (items ∙ ap (λ l. l ++ items_of ys) none); written = p.written; state = p.state; tally_is = p.tally_is }
+    record {
+      done = p.done;
+      left = ys;
+      replies = p.replies;
+      now_is = now;
+      items = p.items ∙ ap (λ l. p.done ++ l) (items ∙ ap (λ l. l ++ items_of ys) none);
+      answers = p.answers;
+      written = p.written;
+      tally_is = p.tally_is;
+    }
 
 -- one more item is answered
 pub progress_answers : (s0 s s' : State) (w0 w w' b c : Option (List ℕ)) (text : List ℕ) (m n : Tally) (found : List Item) (item : Item) (met : Bool)
     → Progress s0 s w0 w b text m → IfSome b (λ zs. ItemRead zs c found) → found ≡ item ∷ []
-    → Appends w w' (printed (step s item).reply) → s' ≡ (step s item).state → met ≡ is_accepted (step s item).reply → not met ≡ is_refused (step s item).reply
+    → ((out : List ℕ) × Replied s s' item out met × Appends w w' out)
     → n.accepted ≡ u64_saturate (m.accepted + (if met then 1 else 0)) → n.refused ≡ u64_saturate (m.refused + (if met then 0 else 1))
     → Progress s0 s' w0 w' c text n
-progress_answers s0 s s' w0 w w' b c text m n found item met p read one written state accepted refused more_accepted more_refused =
+progress_answers s0 s s' w0 w w' b c text m n found item met p read one answered more_accepted more_refused =
     let (ys, now, items) = subst (λ o. IfSome o (λ zs. ItemRead zs c found)) p.now_is read in
-    let replies : replies_to s0 (p.done ++ item ∷ []) ≡ replies_to s0 p.done ++ (step s item).reply ∷ [] =
-    replies_to-append s0 p.done (item ∷ []) ∙ ap (λ l. replies_to s0 p.done ++ l) (ap (λ t. replies_to t (item ∷ [])) (sym p.state) ∙ reply_to-one s item) in
+    let (out, r, wrote) = answered in
     record {
       done = p.done ++ item ∷ [];
       left = ys;
+      replies = p.replies ++ r.reply ∷ [];
       now_is = now;
       items = p.items ∙ ap (λ l. p.done ++ l) (items ∙ ap (λ l. l ++ items_of ys) one) ∙ sym (append_assoc p.done (item ∷ []) (items_of ys));
-      written = subst (Appends w0 w') (sym (ap prints replies ∙ prints-append _ _ ∙ ap (λ l. prints (replies_to s0 p.done) ++ l) (prints-one _)))
-          (Appends-trans w0 w w' _ _ p.written written);
-      state = state ∙ sym (state_after-append s0 p.done (item ∷ []) ∙ ap (λ t. state_after t (item ∷ [])) (sym p.state) ∙ state_after-one s item);
-      tally_is = tally_of-more (replies_to s0 p.done) (step s item).reply met m n p.tally_is accepted refused more_accepted more_refused ∙ ap tally_of (sym replies);
+      answers = answers_more s0 s s' p.done p.replies item r.reply p.answers r.step;
+      written = subst (Appends w0 w') (sym (prints-append _ _ ∙ ap (λ l. prints p.replies ++ l) (prints-one _ ∙ sym r.text_is)))
+          (Appends-trans w0 w w' _ _ p.written wrote);
+      tally_is = tally_of-more p.replies r.reply met m n p.tally_is r.accepted_is r.refused_is more_accepted more_refused;
     }
 
 -- the stream has ended
 pub all_done : (s0 s : State) (w0 w b : Option (List ℕ)) (text : List ℕ) (tally : Tally) → Progress s0 s w0 w b text tally → IfSome b (λ zs. zs ≡ []) → items_of [] ≡ []
-    → Appends w0 w (output_of s0 text) × (s ≡ state_after s0 (items_of text)) × (tally ≡ tally_of (replies_to s0 (items_of text)))
-unfolding output_of
+    → Ran s0 s w0 w text tally
 all_done s0 s w0 w b text tally p end none =
     let last = subst (λ o. IfSome o (λ zs. zs ≡ [])) p.now_is end in
-    let all : p.done ≡ items_of text = sym (append-nil p.done) ∙ ap (λ l. p.done ++ l) (sym (ap items_of last ∙ none)) ∙ sym p.items in (
-      subst (λ items. Appends w0 w (prints (replies_to s0 items))) all p.written,
-      p.state ∙ ap (state_after s0) all,
-      p.tally_is ∙ ap (λ items. tally_of (replies_to s0 items)) all,
-    )
+    let all : p.done ≡ items_of text = sym (append-nil p.done) ∙ ap (λ l. p.done ++ l) (sym (ap items_of last ∙ none)) ∙ sym p.items in
+    record {
+      replies = p.replies;
+      answers = subst (λ items. Answers s0 items p.replies s) all p.answers;
+      written = p.written;
+      tally_is = p.tally_is;
+    }
 
 nothing_front : (ys : List ℕ) → IsFrontOf [] ys
 nothing_front ys = (0, omega arith, refl)
 
 -- a fault of reading tells no more than its line, and changes nothing
-pub read_tail : (f : ReadFault) (next : List ℕ) → TailIs (read_cause f) [] next []
-read_tail Reads.Memory next = nothing_front []
-read_tail Reads.Reader next = nothing_front []
-
-pub read_done : (f : ReadFault) (done rest : List Item) → items_done (read_cause f) done rest ≡ done
-read_done Reads.Memory done rest = refl
-read_done Reads.Reader done rest = refl
+pub read_ends : (f : ReadFault) (s : State) (rest : List Item) → EndsBy (read_cause f) [] s s rest []
+read_ends Reads.Memory s rest = (refl, nothing_front [])
+read_ends Reads.Reader s rest = (refl, nothing_front [])
 
 -- a fault between two items
 pub halts_between : (s0 s : State) (w0 w b : Option (List ℕ)) (text : List ℕ) (tally : Tally) (f : ReadFault) (fault : RunFault) → Progress s0 s w0 w b text tally
     → cause_of fault ≡ read_cause f → tally_in fault ≡ tally → Stopped (λ _. []) s0 s w0 w text fault
 halts_between s0 s w0 w b text tally f fault p e told =
-    let next = prints (replies_to (state_after s0 p.done) (take 1 (items_of p.left))) in
     record {
       done = p.done;
       rest = items_of p.left;
+      replies = p.replies;
+      between = s;
       tail = [];
       items = p.items;
+      answers = p.answers;
       written = subst (Appends w0 w) (sym (append-nil _)) p.written;
-      tail_is = subst (λ c. TailIs c [] next []) (sym e) (read_tail f next);
-      state = p.state ∙ ap (state_after s0) (sym (ap (λ c. items_done c p.done (items_of p.left)) e ∙ read_done f p.done (items_of p.left)));
-      tally = told ∙ p.tally_is;
+      ending = subst (λ c. EndsBy c [] s s (items_of p.left) []) (sym e) (read_ends f s (items_of p.left));
+      tally_is = told ∙ p.tally_is;
     }
 
 -- a fault in the answer to an item
@@ -186,43 +181,46 @@ halts_within s0 s s' w0 w w' b c text tally found item Memory fault p read one e
     record {
       done = p.done;
       rest = item ∷ items_of ys;
+      replies = p.replies;
+      between = s;
       tail = [];
       items = p.items ∙ ap (λ l. p.done ++ l) (items ∙ ap (λ l. l ++ items_of ys) one);
+      answers = p.answers;
       written = subst (Appends w0 w') (sym (append-nil _)) (Appends-kept w0 w w' _ p.written breaks.1);
-      tail_is = subst (λ c'. TailIs c' [] (prints (replies_to (state_after s0 p.done) (item ∷ []))) []) (sym e) (nothing_front []);
-      state = breaks.0 ∙ p.state ∙ ap (λ c'. state_after s0 (items_done c' p.done (item ∷ items_of ys))) (sym e);
-      tally = told ∙ p.tally_is;
+      ending = subst (λ c'. EndsBy c' [] s s' (item ∷ items_of ys) []) (sym e) (breaks.0, nothing_front []);
+      tally_is = told ∙ p.tally_is;
     }
 halts_within s0 s s' w0 w w' b c text tally found item (Device Store) fault p read one e told breaks = absurd breaks
 halts_within s0 s s' w0 w w' b c text tally found item (Device Reader) fault p read one e told breaks = absurd breaks
 halts_within s0 s s' w0 w w' b c text tally found item (Device Writer) fault p read one e told breaks =
     let (ys, now, items) = subst (λ o. IfSome o (λ zs. ItemRead zs c found)) p.now_is read in
-    let (tail, front, appended) = breaks.1 in
-    let next : printed (step s item).reply ≡ prints (replies_to (state_after s0 p.done) (item ∷ [])) =
-    sym (ap (λ t. prints (replies_to t (item ∷ []))) (sym p.state) ∙ ap prints (reply_to-one s item) ∙ prints-one _) in
+    let (tail, cut, appended) = breaks in
     record {
       done = p.done;
       rest = item ∷ items_of ys;
+      replies = p.replies;
+      between = s;
       tail = tail;
       items = p.items ∙ ap (λ l. p.done ++ l) (items ∙ ap (λ l. l ++ items_of ys) one);
+      answers = p.answers;
       written = Appends-trans w0 w w' _ _ p.written appended;
-      tail_is = subst (λ c'. TailIs c' [] (prints (replies_to (state_after s0 p.done) (item ∷ []))) tail) (sym e) (subst (IsFrontOf tail) next front);
-      state = breaks.0 ∙ sym (state_after-one s item) ∙ ap (λ t. state_after t (item ∷ [])) p.state ∙ sym (state_after-append s0 p.done (item ∷ []))
-          ∙ ap (λ c'. state_after s0 (items_done c' p.done (item ∷ items_of ys))) (sym e);
-      tally = told ∙ p.tally_is;
+      ending = subst (λ c'. EndsBy c' [] s s' (item ∷ items_of ys) tail) (sym e) (item, items_of ys, refl, cut);
+      tally_is = told ∙ p.tally_is;
     }
 
 -- a front of nothing is nothing
 front_of_nothing : (xs : List ℕ) → IsFrontOf xs [] → xs ≡ []
 front_of_nothing xs front = front.2 ∙ take_short front.0 [] (omega arith)
 
--- what stands after the answers once a front of the fault's line is written
-told_tail : (cause : Cause) (next tail : List ℕ) (n : ℕ) → n ≤ length (fault_line cause) → TailIs cause [] next tail → TailIs cause (fault_line cause) next (tail ++ take n (fault_line cause))
+-- how a run ended, once a front of the fault's line is written
+told_ending : (cause : Cause) (between t : State) (rest : List Item) (tail : List ℕ) (n : ℕ) → n ≤ length (fault_line cause)
+    → EndsBy cause [] between t rest tail → EndsBy cause (fault_line cause) between t rest (tail ++ take n (fault_line cause))
 unfolding fault_line
-told_tail Memory next tail n fits h = (n, fits, ap (λ l. l ++ take n (fault_line Memory)) (front_of_nothing tail h))
-told_tail (Device Store) next tail n fits h = (n, fits, ap (λ l. l ++ take n (fault_line (Device Store))) (front_of_nothing tail h))
-told_tail (Device Reader) next tail n fits h = (n, fits, ap (λ l. l ++ take n (fault_line (Device Reader))) (front_of_nothing tail h))
-told_tail (Device Writer) next tail n fits h = subst (λ l. IsFrontOf l next) (sym (ap (λ l. tail ++ l) (take_short n [] (omega arith)) ∙ append-nil tail)) h
+told_ending Memory between t rest tail n fits h = (h.0, (n, fits, ap (λ l. l ++ take n (fault_line Memory)) (front_of_nothing tail h.1)))
+told_ending (Device Store) between t rest tail n fits h = (h.0, (n, fits, ap (λ l. l ++ take n (fault_line (Device Store))) (front_of_nothing tail h.1)))
+told_ending (Device Reader) between t rest tail n fits h = (h.0, (n, fits, ap (λ l. l ++ take n (fault_line (Device Reader))) (front_of_nothing tail h.1)))
+told_ending (Device Writer) between t rest tail n fits h =
+    subst (EndsBy (Device Writer) [] between t rest) (sym (ap (λ l. tail ++ l) (take_short n [] (omega arith)) ∙ append-nil tail)) h
 
 -- a fault is told
 pub told : (s t : State) (w0 w w' : Option (List ℕ)) (text : List ℕ) (fault : RunFault) (cause : Cause) → Stopped (λ _. []) s t w0 w text fault → cause ≡ cause_of fault
@@ -233,10 +231,12 @@ told s t w0 w w' text fault cause p e appended =
     record {
       done = p.done;
       rest = p.rest;
+      replies = p.replies;
+      between = p.between;
       tail = p.tail ++ take n line;
       items = p.items;
-      written = subst (Appends w0 w') (append_assoc (prints (replies_to s p.done)) p.tail (take n line)) (Appends-trans w0 w w' _ _ p.written more);
-      tail_is = told_tail (cause_of fault) _ p.tail n fits p.tail_is;
-      state = p.state;
-      tally = p.tally;
+      answers = p.answers;
+      written = subst (Appends w0 w') (append_assoc (prints p.replies) p.tail (take n line)) (Appends-trans w0 w w' _ _ p.written more);
+      ending = told_ending (cause_of fault) p.between t p.rest p.tail n fits p.ending;
+      tally_is = p.tally_is;
     }

@@ -1,4 +1,5 @@
 -- What is known between two items, and what one item answers and changes.
+use Rattle.std.specs.Prelude.{◌≡◌}
 use Rattle.planner_cli.specs.Items.{Item}
 use Rattle.planner_cli.specs.Replies.{Reply, no_statement}
 use Rattle.planner_cli.specs.declared.desk.Desk.{Desk}
@@ -7,11 +8,7 @@ use Rattle.planner_cli.specs.declared.desk.Desk.{Desk}
 abbrev pub State : Type 0
 State = Desk
 
--- the answer to an item, and what is known after it
-pub record Answered : Type 0 where
-  pub reply : Reply
-  pub state : State
-
--- one step: no statement is known yet, so each is refused and changes nothing
-unfoldable pub step : State → Item → Answered
-step state item = record { reply = no_statement; state = state }
+-- one step of the planner: where s is known, the item gets this reply, and t is known after it. No statement is known yet,
+-- so each is refused and changes nothing
+abbrev pub Step : State → Item → Reply → State → Type 0
+Step s item reply t = (reply ≡ no_statement) × (t ≡ s)

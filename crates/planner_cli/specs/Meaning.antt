@@ -1,20 +1,17 @@
 -- The meaning of a text: what is answered to its items, in order, and what is known after them.
-use Rattle.std.specs.Prelude.{ℕ, List, [], ◌∷◌, ◌+◌, count_by}
+use Rattle.std.specs.Prelude.{◌≡◌, List, [], ◌∷◌, ◌+◌, count_by}
 use Rattle.std.specs.Io.Iter.{u64_saturate}
-use Rattle.planner_cli.specs.Items.{Item, items_of}
-use Rattle.planner_cli.specs.Replies.{Reply, prints, is_accepted, is_refused}
-use Rattle.planner_cli.specs.Desk.{State, step}
+use Rattle.planner_cli.specs.Items.{Item}
+use Rattle.planner_cli.specs.Replies.{Reply, is_accepted, is_refused}
+use Rattle.planner_cli.specs.Desk.{State, Step}
 use Rattle.planner_cli.specs.declared.tally.Tally.{Tally}
 
--- the answer to each item, in order
-unfoldable pub replies_to : State → List Item → List Reply
-replies_to state [] = []
-replies_to state (item ∷ items) = (step state item).reply ∷ replies_to (step state item).state items
-
--- what is known after them
-unfoldable pub state_after : State → List Item → State
-state_after state [] = state
-state_after state (item ∷ items) = state_after (step state item).state items
+-- where s is known, the items get these replies, one each and in order, and t is known after them
+abbrev pub Answers : State → List Item → List Reply → State → Type 0
+Answers s [] replies t = (replies ≡ []) × (t ≡ s)
+Answers s (item ∷ items) replies t =
+    (reply : Reply) × (rest : List Reply) × (between : State)
+    × (replies ≡ reply ∷ rest) × Step s item reply between × Answers between items rest t
 
 -- a tally after more replies; each count stays at the greatest number of 64 bits
 unfoldable pub tally_after : Tally → List Reply → Tally
@@ -26,7 +23,3 @@ tally_after t replies = record {
 -- the tally of these replies
 unfoldable pub tally_of : List Reply → Tally
 tally_of replies = tally_after (record { accepted = 0; refused = 0 }) replies
-
--- what a text prints
-unfoldable pub output_of : State → List ℕ → List ℕ
-output_of state text = prints (replies_to state (items_of text))

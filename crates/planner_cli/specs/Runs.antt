@@ -1,19 +1,39 @@
 -- What a run leaves: all answers, or those before a fault.
-use Rattle.std.specs.Prelude.{◌≡◌, ℕ, ◌≤◌, List, ◌++◌, Option, length, take}
+use Rattle.std.specs.Prelude.{◌≡◌, ℕ, ◌≤◌, Bool, not, List, ◌∷◌, ◌++◌, Option, length, take}
 use Rattle.std.specs.Io.KnownBytes.{Appends, Keeps}
 use Rattle.planner_cli.specs.Items.{Item, items_of}
-use Rattle.planner_cli.specs.Replies.{printed, prints}
-use Rattle.planner_cli.specs.Desk.{State, step}
-use Rattle.planner_cli.specs.Meaning.{replies_to, state_after, tally_of}
+use Rattle.planner_cli.specs.Replies.{Reply, printed, prints, is_accepted, is_refused}
+use Rattle.planner_cli.specs.Desk.{State, Step}
+use Rattle.planner_cli.specs.Meaning.{Answers, tally_of}
 use Rattle.planner_cli.specs.Faults.{cause_of, tally_in}
+use Rattle.planner_cli.specs.declared.tally.Tally.{Tally}
 use Rattle.planner_cli.specs.declared.faults.Part.TheVariants.{Store, Reader, Writer}
 use Rattle.planner_cli.specs.declared.faults.Cause.{Cause}
 use Rattle.planner_cli.specs.declared.faults.Cause.TheVariants.{Memory, Device}
 use Rattle.planner_cli.specs.declared.faults.RunFault.{RunFault}
 
+-- the item's reply prints these bytes, is accepted as told, and t is known after it
+pub record Replied (s t : State) (item : Item) (text : List ℕ) (accepted : Bool) : Type 0 where
+  pub reply : Reply
+  pub step : Step s item reply t
+  pub text_is : text ≡ printed reply
+  pub accepted_is : accepted ≡ is_accepted reply
+  pub refused_is : not accepted ≡ is_refused reply
+
+-- a run to the end of a text: all its items are answered and counted, and what their replies print is written
+pub record Ran (s t : State) (old new : Option (List ℕ)) (text : List ℕ) (tally : Tally) : Type 0 where
+  pub replies : List Reply
+  pub answers : Answers s (items_of text) replies t
+  pub written : Appends old new (prints replies)
+  pub tally_is : tally ≡ tally_of replies
+
 -- xs is a front of ys
 abbrev pub IsFrontOf : List ℕ → List ℕ → Type 0
 IsFrontOf xs ys = (n : ℕ) × (n ≤ length ys) × (xs ≡ take n ys)
+
+-- the item's change is made, and these bytes are a front of what its reply prints
+abbrev pub IsCutOff : State → Item → State → List ℕ → Type 0
+IsCutOff s item t tail = (reply : Reply) × Step s item reply t × IsFrontOf tail (printed reply)
 
 -- one item was not answered: want of memory changes nothing; a writer that fails has taken a front of
 -- the answer, and the change is made already
@@ -21,30 +41,26 @@ abbrev pub ItemBreaks : Cause → State → State → Option (List ℕ) → Opti
 ItemBreaks Memory s t old new item = (t ≡ s) × Keeps old new
 ItemBreaks (Device Store) s t old new item = ⊥
 ItemBreaks (Device Reader) s t old new item = ⊥
-ItemBreaks (Device Writer) s t old new item = (t ≡ (step s item).state) × ((tail : List ℕ) × IsFrontOf tail (printed (step s item).reply) × Appends old new tail)
+ItemBreaks (Device Writer) s t old new item = (tail : List ℕ) × IsCutOff s item t tail × Appends old new tail
 
--- what stands in the writer after the answers: a front of the line that tells the fault, and where
--- the writer failed, a front of the next answer
-abbrev pub TailIs : Cause → (line next tail : List ℕ) → Type 0
-TailIs Memory line next tail = IsFrontOf tail line
-TailIs (Device Store) line next tail = IsFrontOf tail line
-TailIs (Device Reader) line next tail = IsFrontOf tail line
-TailIs (Device Writer) line next tail = IsFrontOf tail next
-
--- how many items are done in what is known: all that were answered, and where the writer failed the next one too
-abbrev pub items_done : Cause → (done rest : List Item) → List Item
-items_done Memory done rest = done
-items_done (Device Store) done rest = done
-items_done (Device Reader) done rest = done
-items_done (Device Writer) done rest = done ++ take 1 rest
+-- how a run ended after the answers, where `between` was known and `rest` was to come: with a front of the line that
+-- tells the fault, and nothing changed; or, where the writer failed, with a front of the next answer, whose change is made
+abbrev pub EndsBy : Cause → (line : List ℕ) → (between t : State) → (rest : List Item) → (tail : List ℕ) → Type 0
+EndsBy Memory line between t rest tail = (t ≡ between) × IsFrontOf tail line
+EndsBy (Device Store) line between t rest tail = (t ≡ between) × IsFrontOf tail line
+EndsBy (Device Reader) line between t rest tail = (t ≡ between) × IsFrontOf tail line
+EndsBy (Device Writer) line between t rest tail =
+    (item : Item) × (later : List Item) × (rest ≡ item ∷ later) × IsCutOff between item t tail
 
 -- a run that a fault ended: the items in `done` are answered, and counted
 pub record Stopped (line : Cause → List ℕ) (s t : State) (old new : Option (List ℕ)) (text : List ℕ) (fault : RunFault) : Type 0 where
   pub done : List Item
   pub rest : List Item
+  pub replies : List Reply
+  pub between : State
   pub tail : List ℕ
   pub items : items_of text ≡ done ++ rest
-  pub written : Appends old new (prints (replies_to s done) ++ tail)
-  pub tail_is : TailIs (cause_of fault) (line (cause_of fault)) (prints (replies_to (state_after s done) (take 1 rest))) tail
-  pub state : t ≡ state_after s (items_done (cause_of fault) done rest)
-  pub tally : tally_in fault ≡ tally_of (replies_to s done)
+  pub answers : Answers s done replies between
+  pub written : Appends old new (prints replies ++ tail)
+  pub ending : EndsBy (cause_of fault) (line (cause_of fault)) between t rest tail
+  pub tally_is : tally_in fault ≡ tally_of replies

@@ -1,6 +1,5 @@
 //! What is known between two statements, and what one statement answers and changes.
-ghost use Rattle.std.specs.Prelude.{◌≡◌, ◌++◌, IfOk, OnOk, OnErr, not};
-ghost use Rattle.planner_cli.specs.Replies.{printed, is_accepted, is_refused};
+ghost use Rattle.std.specs.Prelude.{◌≡◌, IfOk, OnErr};
 ghost use Rattle.planner_cli.specs.Entries.{item_entered};
 
 use crate::entries::Entry;
@@ -20,7 +19,7 @@ pub struct Answer {
 }
 
 impl Desk {
-    ghost use Rattle.planner_cli.specs.Desk.{step};
+    ghost use Rattle.planner_cli.specs.Runs.{Replied};
 
     /// A desk on which nothing is known.
     pub fn new() -> Desk {
@@ -29,12 +28,9 @@ impl Desk {
 
     /// Answers an item. The answer is made before anything is changed; where memory for it is
     /// refused, nothing is.
-    #[tactic(auto, unfolding(crate::specs::Desk::step, crate::specs::Replies::printed, crate::specs::Replies::ended, crate::specs::Replies::no_statement, crate::specs::Replies::is_accepted, crate::specs::Replies::is_refused))]
+    #[tactic(auto, unfolding(crate::specs::Replies::printed, crate::specs::Replies::ended, crate::specs::Replies::no_statement, crate::specs::Replies::is_accepted, crate::specs::Replies::is_refused))]
     pub fn answer(&mut self, alloc: Global, item: Entry<'_>) -> Result<Answer, AllocError>
-        ensures text { IfOk result (λ answer. answer.text.items ≡ printed (step self.old (item_entered item.entry)).reply) }
-        ensures accepted { IfOk result (λ answer. answer.is_accepted ≡ is_accepted (step self.old (item_entered item.entry)).reply) }
-        ensures refused { IfOk result (λ answer. not answer.is_accepted ≡ is_refused (step self.old (item_entered item.entry)).reply) }
-        ensures state { OnOk result (self.new ≡ (step self.old (item_entered item.entry)).state) }
+        ensures answered { IfOk result (λ answer. Replied self.old self.new (item_entered item.entry) answer.text.items answer.is_accepted) }
         ensures err { OnErr result (self.new ≡ self.old) }
     {
         let _ = item;

@@ -1,13 +1,9 @@
 //! A run over a whole stream.
-ghost use Rattle.std.specs.Prelude.{◌≡◌, ◌≤◌, ℕ, [], not, length, take, IfOk, OnOk, IfErr, IfSome};
+ghost use Rattle.std.specs.Prelude.{◌≡◌, ◌≤◌, ℕ, List, [], length, take, IfOk, IfErr, IfSome};
 ghost use Rattle.std.specs.Io.KnownBytes.{Appends};
-ghost use Rattle.planner_cli.specs.Items.{items_of};
 ghost use Rattle.planner_cli.specs.Entries.{item_entered};
-ghost use Rattle.planner_cli.specs.Replies.{printed, is_accepted, is_refused};
-ghost use Rattle.planner_cli.specs.Desk.{step};
-ghost use Rattle.planner_cli.specs.Meaning.{replies_to, state_after, tally_of, output_of};
 ghost use Rattle.planner_cli.specs.Faults.{fault_line, status_of};
-ghost use Rattle.planner_cli.specs.Runs.{ItemBreaks, Stopped};
+ghost use Rattle.planner_cli.specs.Runs.{ItemBreaks, Ran, Replied, Stopped};
 
 use crate::desk::Desk;
 use crate::entries::{Entry, entry_of};
@@ -29,13 +25,9 @@ pub fn run<R: BufRead, W: Write>(
     reader: &mut R,
     writer: &mut W,
 ) -> Result<Tally, RunFault>
-    // Where the reader tells its bytes, what a text prints is what was written, and nothing else.
-    ensures written { OnOk result (IfSome (R.remaining reader.old) (λ text.
-        Appends (W.contents writer.old) (W.contents writer.new) (output_of desk.old text))) }
-    ensures state { OnOk result (IfSome (R.remaining reader.old) (λ text.
-        desk.new ≡ state_after desk.old (items_of text))) }
-    ensures tally { IfOk result (λ tally. IfSome (R.remaining reader.old) (λ text.
-        tally ≡ tally_of (replies_to desk.old (items_of text)))) }
+    // Where the reader tells its bytes, what the replies to them print is what was written, and nothing else.
+    ensures ran { IfOk result (λ tally. IfSome (R.remaining reader.old) (λ text.
+        Ran desk.old desk.new (W.contents writer.old) (W.contents writer.new) text tally)) }
     // After a fault the answers to the items before it stand in the writer.
     ensures fault { IfErr result (λ fault. IfSome (R.remaining reader.old) (λ text.
         Stopped fault_line desk.old desk.new (W.contents writer.old) (W.contents writer.new) text fault)) }
@@ -56,12 +48,8 @@ fn answer_all<R: BufRead, W: Write>(
     reader: &mut R,
     writer: &mut W,
 ) -> Result<Tally, RunFault>
-    ensures written { OnOk result (IfSome (R.remaining reader.old) (λ text.
-        Appends (W.contents writer.old) (W.contents writer.new) (output_of desk.old text))) }
-    ensures state { OnOk result (IfSome (R.remaining reader.old) (λ text.
-        desk.new ≡ state_after desk.old (items_of text))) }
-    ensures tally { IfOk result (λ tally. IfSome (R.remaining reader.old) (λ text.
-        tally ≡ tally_of (replies_to desk.old (items_of text)))) }
+    ensures ran { IfOk result (λ tally. IfSome (R.remaining reader.old) (λ text.
+        Ran desk.old desk.new (W.contents writer.old) (W.contents writer.new) text tally)) }
     ensures fault { IfErr result (λ fault. IfSome (R.remaining reader.old) (λ text.
         Stopped (λ _. []) desk.old desk.new (W.contents writer.old) (W.contents writer.new) text fault)) }
 {
@@ -92,11 +80,9 @@ fn answer_one<W: Write>(
     item: Entry<'_>,
     writer: &mut W,
 ) -> Result<bool, Cause>
-    ensures written { OnOk result (Appends (W.contents writer.old) (W.contents writer.new)
-        (printed (step desk.old (item_entered item.entry)).reply)) }
-    ensures state { OnOk result (desk.new ≡ (step desk.old (item_entered item.entry)).state) }
-    ensures accepted { IfOk result (λ yes. yes ≡ is_accepted (step desk.old (item_entered item.entry)).reply) }
-    ensures refused { IfOk result (λ yes. not yes ≡ is_refused (step desk.old (item_entered item.entry)).reply) }
+    ensures ok { IfOk result (λ accepted. (text : List ℕ)
+        × Replied desk.old desk.new (item_entered item.entry) text accepted
+        × Appends (W.contents writer.old) (W.contents writer.new) text) }
     ensures err { IfErr result (λ cause. ItemBreaks cause desk.old desk.new
         (W.contents writer.old) (W.contents writer.new) (item_entered item.entry)) }
 {

@@ -1,4 +1,4 @@
-use Rattle.std.proofs.Common.{◌≡◌, ℕ, List, sym, ap, subst, ◌∙◌, rules}
+use Rattle.std.proofs.Common.{◌≡◌, sym, ap, subst, ◌∙◌, rules}
 use Rattle.std.specs.Prelude.{IfSome, Ok}
 use Rattle.planner_cli.specs.declared.lines.ReadFault.TheVariants as Reads
 use Rattle.planner_cli.proofs.Kept.{if_some_weaken}
@@ -26,12 +26,8 @@ returns-then-eq g c =
     let a = g.R.Read.remaining c.args.reader.now in
     let at_end : c.in-Ok.found ≡ AtEnd = search rules in
     let end = c.in-Ok.ensures.end (ap Ok at_end) in
-    let all = λ (text : List ℕ) (p : Progress c.args.desk.now c.loop.desk (g.W.Write.contents c.args.writer.now) (g.W.Write.contents c.loop.writer) (g.R.Read.remaining c.loop.reader) text c.loop.tally).
-    all_done _ _ _ _ _ text _ p end items_of-nil in
     record {
-      written = if_some_weaken a _ _ (λ text p. (all text p).0) c.loop.invariant;
-      state = if_some_weaken a _ _ (λ text p. (all text p).1) c.loop.invariant;
-      tally = if_some_weaken a _ _ (λ text p. (all text p).2) c.loop.invariant;
+      ran = if_some_weaken a _ _ (λ text p. all_done _ _ _ _ _ text _ p end items_of-nil) c.loop.invariant;
       fault = tt;
     }
 
@@ -50,11 +46,10 @@ loop-preserved g c =
     elim c.match-entry_of.branch [
       | in-Some+in-Ok-answer_one w ↦
           let one = sym w.in-Some.ensures in
-          let did = w.in-Ok-answer_one.ensures in
           subst (λ d. IfSome a (λ text. Progress s0 d w0 (g.W.Write.contents c.match-entry_of.writer) now text c.match-entry_of.tally)) (sym w.desk-is)
           (subst (λ v. IfSome a (λ text. Progress s0 w.answer_one.new.desk w0 (g.W.Write.contents v) now text c.match-entry_of.tally)) (sym w.writer-is)
           (subst (λ t. IfSome a (λ text. Progress s0 w.answer_one.new.desk w0 (g.W.Write.contents w.answer_one.new.writer) now text t)) (sym w.tally-is)
-          (if_some_weaken a _ _ (λ text p. progress_answers _ _ _ _ _ _ _ _ text _ _ _ _ _ p c.in-Ok.ensures.items one did.written did.state did.accepted did.refused
+          (if_some_weaken a _ _ (λ text p. progress_answers _ _ _ _ _ _ _ _ text _ _ _ _ _ p c.in-Ok.ensures.items one w.in-Ok-answer_one.ensures.ok
           w.count.ensures.accepted w.count.ensures.refused) c.loop.invariant)))
       | in_default w ↦
           subst (λ d. IfSome a (λ text. Progress s0 d w0 (g.W.Write.contents c.match-entry_of.writer) now text c.match-entry_of.tally)) (sym w.desk-is)
