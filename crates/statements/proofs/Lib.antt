@@ -1,1 +1,2 @@
 pub mod JobNumberLemmas
+pub mod OneStatement

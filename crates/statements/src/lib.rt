@@ -3,6 +3,7 @@
 
 mod job_numbers;
 mod kinds;
+mod law;
 mod read;
 mod statements;
 mod values;
@@ -10,6 +11,7 @@ mod verbs;
 
 pub use job_numbers::JobNumber;
 pub use kinds::Kind;
+pub use law::one_statement_per_line;
 pub use read::read_statement;
 pub use statements::Statement;
 pub use verbs::Verb;
