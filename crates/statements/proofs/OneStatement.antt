@@ -5,9 +5,11 @@ use Rattle.std.specs.Str.{bytes_eq}
 use Rattle.std.proofs.lemmas.Fmt.{decimal_injective}
 use Rattle.statement_words.specs.Grammar.{Text, Use, reading_of}
 use Rattle.statement_words.specs.Line.{words_of}
+use Rattle.work_calendars.specs.Spelling.{SpellsDay}
+use Rattle.work_calendars.proofs.SpellingFacts.{SpellsDay-one_day}
 use Rattle.statements.specs.Kind.{kind_text}
 use Rattle.statements.specs.Statement.{HasValues, IsLineOf, IsWrittenIn, verb_of}
-use Rattle.statements.specs.Values.{HasJob, HasKind, HasNameOf, HasText}
+use Rattle.statements.specs.Values.{HasDay, HasJob, HasKind, HasNameOf, HasText}
 use Rattle.statements.specs.Verb.{layout_for, verb_text}
 use Rattle.statements.specs.declared.kinds.Kind.{Kind}
 use Rattle.statements.specs.declared.kinds.Kind.TheVariants as kind
@@ -23,11 +25,13 @@ or_else b x rest = cond b (Some x) rest
 
 abbrev verb_by : Text → Option Verb
 verb_by t = or_else (bytes_eq t (codes "define")) verb.Define
-    (or_else (bytes_eq t (codes "undefine")) verb.Undefine None)
+    (or_else (bytes_eq t (codes "undefine")) verb.Undefine
+    (or_else (bytes_eq t (codes "days")) verb.Days None))
 
 verb_by-text : (v : Verb) → verb_by (verb_text v) ≡ Some v
 verb_by-text verb.Define = refl
 verb_by-text verb.Undefine = refl
+verb_by-text verb.Days = refl
 
 same_verb : (v w : Verb) → verb_text v ≡ verb_text w → v ≡ w
 same_verb v w e = let same : Some v ≡ Some w = sym (verb_by-text v) ∙ ap verb_by e ∙ verb_by-text w in cc
@@ -68,6 +72,10 @@ one_job us m n p q =
 one_name : (us : List Use) (j k : Kind) (a b : Text) → HasNameOf us j a → HasNameOf us k b → a ≡ b
 one_name us j k a b p q = one_text us (codes "name") a b p.0 q.0
 
+one_day : (us : List Use) (key : Text) (c d : ℕ) → HasDay us key c → HasDay us key d → c ≡ d
+one_day us key c d p q =
+    SpellsDay-one_day p.0 c d p.2 (subst (λ t. SpellsDay t d) (sym (one_text us key p.0 q.0 p.1 q.1)) q.2)
+
 one_of_values : (us : List Use) (s t : Statement) → HasValues us s → HasValues us t → verb_of s ≡ verb_of t → s ≡ t
 one_of_values us (statement.Define k m) (statement.Define l n) p q e = ap₂ statement.Define (one_kind us k l p.0 q.0) (one_job us m n p.1 q.1)
 one_of_values us (statement.Undefine k a m) (statement.Undefine l b n) p q e =
@@ -75,8 +83,14 @@ one_of_values us (statement.Undefine k a m) (statement.Undefine l b n) p q e =
     let same_a = one_name us k l a b p.1 q.1 in
     let same_m = one_job us m n p.2 q.2 in
     cc
-one_of_values us (statement.Define k m) (statement.Undefine l b n) p q e = cc
-one_of_values us (statement.Undefine k a m) (statement.Define l n) p q e = cc
+one_of_values us (statement.Days a c d) (statement.Days b f g) p q e =
+    let same_a = one_text us (codes "app") a b p.0.0 q.0.0 in
+    let same_c = one_day us (codes "from") c f p.1 q.1 in
+    let same_d = one_day us (codes "to") d g p.2 q.2 in
+    cc
+one_of_values us (statement.Define k m) t p q e = cc
+one_of_values us (statement.Undefine k a m) t p q e = cc
+one_of_values us (statement.Days a c d) t p q e = cc
 
 one_written : (words : List Text) (s t : Statement) → IsWrittenIn words s → IsWrittenIn words t → s ≡ t
 one_written words s t p q =

@@ -1,9 +1,9 @@
 -- The grammar of statements: which lines a statement is written as.
-use Rattle.std.specs.Prelude.{◌≡◌, ◌∷◌, ℕ, List, Option, Some, None, true}
+use Rattle.std.specs.Prelude.{◌≡◌, ◌∷◌, ℕ, List, Option, Some, None, true, codes}
 use Rattle.std.specs.List.{list_all}
 use Rattle.statement_words.specs.Grammar.{Text, Use, reading_of}
 use Rattle.statement_words.specs.Line.{is_line_byte, words_of}
-use Rattle.statements.specs.Values.{HasJob, HasKind, HasNameOf}
+use Rattle.statements.specs.Values.{HasApp, HasDay, HasJob, HasKind, HasNameOf}
 use Rattle.statements.specs.Verb.{layout_for, verb_text}
 use Rattle.statements.specs.declared.statements.Statement.{Statement}
 use Rattle.statements.specs.declared.statements.Statement.TheVariants as statement
@@ -13,12 +13,15 @@ use Rattle.statements.specs.declared.verbs.Verb.TheVariants as verb
 abbrev pub verb_of : Statement → Verb
 verb_of (statement.Define kind job) = verb.Define
 verb_of (statement.Undefine kind name job) = verb.Undefine
+verb_of (statement.Days app from to) = verb.Days
 
 -- what the options and the word without one have as values
 abbrev pub HasValues : List Use → Statement → Type 0
 HasValues us (statement.Define kind job) = HasKind us kind × HasJob us job
 HasValues us (statement.Undefine kind name job) =
     HasKind us kind × HasNameOf us kind name × HasJob us job
+HasValues us (statement.Days app from to) =
+    HasApp us app × HasDay us (codes "from") from × HasDay us (codes "to") to
 
 -- the words are the statement's name and then words that are read as its values
 pub record IsWrittenIn (words : List Text) (s : Statement) : Type 0 where

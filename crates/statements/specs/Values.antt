@@ -3,6 +3,7 @@ use Rattle.std.specs.Prelude.{◌≡◌, ℕ, List, Some, codes}
 use Rattle.std.specs.Fmt.{decimal}
 use Rattle.statement_words.specs.Grammar.{Text, Use, value_in}
 use Rattle.work_calendars.specs.Name.{IsName, IsShort}
+use Rattle.work_calendars.specs.Spelling.{SpellsDay}
 use Rattle.statements.specs.JobNumber.{IsJobNumber}
 use Rattle.statements.specs.Kind.{kind_text}
 use Rattle.statements.specs.declared.kinds.Kind.{Kind}
@@ -15,6 +16,14 @@ HasText us key text = value_in us key ≡ Some text
 -- the value of `--job` is this number, in decimal digits without a leading zero
 abbrev pub HasJob : List Use → ℕ → Type 0
 HasJob us n = HasText us (codes "job") (decimal n) × IsJobNumber n
+
+-- the value of `--app` is this name of an application
+abbrev pub HasApp : List Use → Text → Type 0
+HasApp us name = HasText us (codes "app") name × IsName name
+
+-- the value of this option spells this day
+abbrev pub HasDay : List Use → Text → ℕ → Type 0
+HasDay us key day = (text : Text) × HasText us key text × SpellsDay text day
 
 -- the word without an option is that of this kind
 abbrev pub HasKind : List Use → Kind → Type 0

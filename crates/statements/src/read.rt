@@ -1,8 +1,8 @@
 ghost use Rattle.std.specs.Prelude.{IfOk};
 ghost use Rattle.statements.specs.Statement.{Reads, ReadsValues};
-ghost use Rattle.statements.specs.declared.verbs.Verb.TheVariants.{Define, Undefine};
+ghost use Rattle.statements.specs.declared.verbs.Verb.TheVariants.{Define, Undefine, Days};
 
-use crate::values::{job_in, kind_in, name_of_kind_in};
+use crate::values::{app_in, day_in, job_in, kind_in, name_of_kind_in};
 use crate::{Statement, Verb};
 use statement_words::{Values, is_line_text, words_in};
 use std::alloc::{AllocError, Global};
@@ -35,6 +35,7 @@ fn statement_in(verb: Verb, values: &Values<'_>) -> Option<Statement>
     match verb {
         Verb::Define => define_in(values),
         Verb::Undefine => undefine_in(values),
+        Verb::Days => days_in(values),
     }
 }
 
@@ -55,5 +56,15 @@ fn undefine_in(values: &Values<'_>) -> Option<Statement>
         kind,
         name: name_of_kind_in(values, kind)?,
         job: job_in(values)?,
+    })
+}
+
+fn days_in(values: &Values<'_>) -> Option<Statement>
+    ensures { ReadsValues Days values.now result }
+{
+    Some(Statement::Days {
+        app: app_in(values)?,
+        from: day_in(values, "from")?,
+        to: day_in(values, "to")?,
     })
 }

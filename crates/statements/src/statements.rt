@@ -1,5 +1,5 @@
 use crate::{JobNumber, Kind};
-use work_calendars::Name;
+use work_calendars::{App, Day, Name};
 
 /// A statement of a job stream.
 #[derive(Clone, Copy, Debug, PartialEq, Eq)]
@@ -16,5 +16,12 @@ pub enum Statement {
         kind: Kind,
         name: Name,
         job: JobNumber,
+    },
+
+    /// Asks for the days that the application's run cycles name, from `from` to `to`.
+    Days {
+        app: App,
+        from: Day,
+        to: Day,
     },
 }

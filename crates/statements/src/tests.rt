@@ -1,7 +1,7 @@
 //! Statements as they stand on lines, and lines that are no statement.
 use crate::{JobNumber, Kind, Statement, read_statement};
 use std::process::Abort;
-use work_calendars::Name;
+use work_calendars::{App, Day, Name};
 
 fn job(rt: &impl Abort, text: &str) -> JobNumber {
     JobNumber::from_text(text).expect(rt, "a job number")
@@ -83,6 +83,41 @@ fn reads_undefine(rt: HostRuntime) {
 }
 
 #[test]
+fn reads_days(rt: HostRuntime) {
+    let lines = [
+        (
+            "days --app PAY --from 2024-01-01 --to 2024-01-14",
+            19723,
+            19736,
+        ),
+        (
+            "days --to=2024-01-14 --app=PAY --from=2024-01-01",
+            19723,
+            19736,
+        ),
+        (
+            "\t days\t--from 2024-01-14 --to=2024-01-01 --app\tPAY ",
+            19736,
+            19723,
+        ),
+        (
+            "days --app PAY --from 1972-01-01 --to 2071-12-31",
+            730,
+            37254,
+        ),
+    ];
+    for (line, from, to) in lines {
+        let read = read_statement(rt.alloc(), line.as_bytes()).expect(&rt, "memory");
+        let want = Statement::Days {
+            app: App::from_text("PAY").expect(&rt, "a name"),
+            from: Day::from_number(from).expect(&rt, "a day"),
+            to: Day::from_number(to).expect(&rt, "a day"),
+        };
+        assert!(rt; read == Some(want), "{line}");
+    }
+}
+
+#[test]
 fn refuses_lines(rt: HostRuntime) {
     let lines = [
         "",
@@ -133,6 +168,24 @@ fn refuses_lines(rt: HostRuntime) {
         "undefine calendars --name --job 1",
         "undefine calendars --name=A=B --job 1",
         "undefine calendars --job 1",
+        "days",
+        "days --app PAY --from 2024-01-01",
+        "days --app PAY --from 2024-01-01 --to",
+        "days --app --from 2024-01-01 --to 2024-01-14",
+        "days --app= --from 2024-01-01 --to 2024-01-14",
+        "days --app pay --from 2024-01-01 --to 2024-01-14",
+        "days --app PAY --from 2024-1-1 --to 2024-01-14",
+        "days --app PAY --from 2024-02-30 --to 2024-03-14",
+        "days --app PAY --from 1971-12-31 --to 2024-01-14",
+        "days --app PAY --from 2024-01-01 --to 2072-01-01",
+        "days --app PAY --from 2024-01-01 --to 2024-01-14 --to=2024-01-14",
+        "days --app PAY --from 2024-01-01 --to 2024-01-14 --job 1",
+        "days PAY --app PAY --from 2024-01-01 --to 2024-01-14",
+        "days -- --app PAY --from 2024-01-01 --to 2024-01-14",
+        "days --app PAY --from 2024-01-01 --to 2024-01-14 --",
+        "days --app PAY --from -1 --to 2024-01-14",
+        "days --app PAY --from=-1 --to 2024-01-14",
+        "days --help",
         "define calendars --job 1\r",
         "define calendars --job 1\u{7f}",
     ];

@@ -5,6 +5,7 @@ use statement_words::Form;
 pub enum Verb {
     Define,
     Undefine,
+    Days,
 }
 
 impl Verb {
@@ -20,6 +21,7 @@ impl Verb {
         match text {
             "define" => Some(Verb::Define),
             "undefine" => Some(Verb::Undefine),
+            "days" => Some(Verb::Days),
             _ => None,
         }
     }
@@ -39,6 +41,11 @@ impl Verb {
                 optional: &[],
                 word: Some("KIND"),
             },
+            Verb::Days => Form {
+                required: APP_AND_DAYS.as_slice(),
+                optional: &[],
+                word: None,
+            },
         }
     }
 }
@@ -46,3 +53,5 @@ impl Verb {
 static JOB: [&str; 1] = ["job"];
 
 static NAME_AND_JOB: [&str; 2] = ["name", "job"];
+
+static APP_AND_DAYS: [&str; 3] = ["app", "from", "to"];
