@@ -1,9 +1,12 @@
-pub mod OrderLemmas
+mod GraphLemmas
+mod LawLemmas
+mod LinkLemmas
+mod LoopLemmas
+mod NearestLemmas
+mod OrderLemmas
+mod PairLemmas
+mod PlaceLemmas
+mod RingLemmas
+mod SearchLemmas
 mod VisitLemmas
 mod WalkLemmas
-mod SearchLemmas
-mod LinkLemmas
-mod PlaceLemmas
-mod GraphLemmas
-mod RingLemmas
-mod LoopLemmas

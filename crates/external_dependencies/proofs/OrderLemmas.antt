@@ -19,6 +19,16 @@ use Rattle.external_dependencies.specs.Rising.{IsRising}
 pub name_ties : IsAntisymmetric (slice_cmp nat_cmp)
 name_ties = slice_cmp-IsAntisymmetric nat_cmp-IsAntisymmetric
 
+-- the answers of a comparison differ
+pub less_not_equal : Less ≡ Equal → ⊥
+less_not_equal is = cc
+
+pub less_not_greater : Less ≡ Greater → ⊥
+less_not_greater is = cc
+
+pub equal_not_greater : Equal ≡ Greater → ⊥
+equal_not_greater is = cc
+
 -- both parts tie
 pub then_equal : (o p : Ordering) → ordering_then o p ≡ Equal → (o ≡ Equal) × (p ≡ Equal)
 then_equal Less p is = cc

@@ -1,6 +1,10 @@
-pub mod Walk
-pub mod Search
-pub mod Rising
+pub mod Arrival
+pub mod Laws
 pub mod Link
 pub mod Loop
+pub mod Nearest
+pub mod Pair
 pub mod Places
+pub mod Rising
+pub mod Search
+pub mod Walk

@@ -1,8 +1,12 @@
-use crate::{Link, Links, find_loop};
+use crate::{
+    Link, Links, Live, Pair, Pairs, PlacedRow, Rows, find_loop, nearest, nearest_arrives_last,
+    nearest_is_unique, pairs_depend_on_set, pairs_have_no_loop, resolve_all,
+};
+use occurrences::{Key, Origin, Place, Reason, Row, Serial, Status};
 use std::alloc::Global;
 use std::process::Abort;
 use std::test::Fail;
-use work_calendars::App;
+use work_calendars::{App, Moment};
 
 fn app(rt: &impl Abort, text: &str) -> App {
     App::from_text(text).expect(rt, "a name")
@@ -114,5 +118,175 @@ fn lists_are_kept_in_order_and_once(rt: HostRuntime) -> Result<(), Fail> {
     );
     assert_eq!(rt; links.list(&app(&rt, "C")).len(), 0);
     assert_eq!(rt; links.into_vec().len(), 3);
+    Ok(())
+}
+
+// The minutes from the first to 2024-01-01/00.00.
+const FIRST: u32 = 19723 * 1440;
+
+// A day after that, in minutes, and 08.00 on one.
+const DAY: u32 = 1440;
+
+const EIGHT: u32 = 480;
+
+fn serial(rt: &impl Abort, number: u32) -> Serial {
+    Serial::new(number).expect(rt, "a serial")
+}
+
+fn moment(rt: &impl Abort, minutes: u32) -> Moment {
+    assert!(rt; minutes < 10 * DAY);
+    Moment::from_number(FIRST + minutes).expect(rt, "a moment")
+}
+
+fn key(rt: &impl Abort, name: &str, minutes: u32) -> Key {
+    Key {
+        app: app(rt, name),
+        ia: moment(rt, minutes),
+    }
+}
+
+fn placed(rt: &impl Abort, number: u32, name: &str, minutes: u32, place: Place) -> PlacedRow {
+    let key = key(rt, name, minutes);
+    PlacedRow {
+        row: Row {
+            key,
+            serial: serial(rt, number),
+            deadline: key.ia,
+            origin: Origin::Added,
+        },
+        place,
+    }
+}
+
+fn pair(rt: &impl Abort, successor: u32, predecessor: u32) -> Pair {
+    Pair {
+        successor: serial(rt, successor),
+        predecessor: serial(rt, predecessor),
+    }
+}
+
+#[test]
+fn row13(rt: HostRuntime) -> Result<(), Fail> {
+    let alloc = rt.alloc();
+    let rows = [
+        placed(&rt, 1, "A", EIGHT, Place::LongTerm),
+        placed(&rt, 2, "B", EIGHT, Place::LongTerm),
+        placed(&rt, 3, "A", DAY + EIGHT, Place::LongTerm),
+        placed(&rt, 4, "B", DAY + EIGHT, Place::LongTerm),
+    ];
+    let rows = Rows::from_vec(Vec::from_slice(alloc, &rows)?);
+    let pairs = resolve_all(alloc, &rows, &lists(&rt, alloc, &[("A", &["B"])])?)?;
+    assert_eq!(rt;
+        pairs.as_slice(),
+        [pair(&rt, 1, 2), pair(&rt, 3, 4)].as_slice()
+    );
+    assert_eq!(rt; rows.as_slice().len(), 4);
+    assert_eq!(rt; rows.into_vec().len(), 4);
+    Ok(())
+}
+
+#[test]
+fn row14(rt: HostRuntime) -> Result<(), Fail> {
+    let alloc = rt.alloc();
+    let rows = [
+        placed(&rt, 4, "B", DAY + EIGHT, Place::LongTerm),
+        placed(&rt, 1, "A", EIGHT, Place::History),
+        placed(&rt, 3, "A", DAY + EIGHT, Place::LongTerm),
+        placed(&rt, 2, "B", EIGHT, Place::Current(Status::W)),
+    ];
+    let rows = Rows::from_vec(Vec::from_slice(alloc, &rows)?);
+    let pairs = resolve_all(
+        alloc,
+        &rows,
+        &lists(&rt, alloc, &[("A", &["A"]), ("B", &["A"])])?,
+    )?;
+    assert_eq!(rt;
+        pairs.as_slice(),
+        [pair(&rt, 2, 1), pair(&rt, 3, 1), pair(&rt, 4, 3)].as_slice()
+    );
+    Ok(())
+}
+
+#[test]
+fn a_deleted_predecessor_is_passed_over_and_an_added_one_found(
+    rt: HostRuntime,
+) -> Result<(), Fail> {
+    let alloc = rt.alloc();
+    let links = lists(&rt, alloc, &[("A", &["A"]), ("B", &["A"])])?;
+    let deleted = placed(&rt, 1, "A", EIGHT, Place::Deleted(Reason::Operator));
+    let second = placed(&rt, 2, "B", EIGHT, Place::LongTerm);
+    let third = placed(&rt, 3, "A", DAY + EIGHT, Place::LongTerm);
+    let fourth = placed(&rt, 4, "B", DAY + EIGHT, Place::LongTerm);
+    let rows = Rows::from_vec(Vec::from_slice(alloc, &[deleted, second, third, fourth])?);
+    let pairs = resolve_all(alloc, &rows, &links)?;
+    assert_eq!(rt; pairs.as_slice(), [pair(&rt, 4, 3)].as_slice());
+    let added = placed(&rt, 5, "A", EIGHT - 60, Place::LongTerm);
+    let rows = Rows::from_vec(Vec::from_slice(alloc, &[deleted, second, third, fourth, added])?);
+    let pairs = resolve_all(alloc, &rows, &links)?;
+    assert_eq!(rt;
+        pairs.as_slice(),
+        [pair(&rt, 2, 5), pair(&rt, 3, 5), pair(&rt, 4, 3)].as_slice()
+    );
+    Ok(())
+}
+
+#[test]
+fn finds_the_nearest_by_place_and_arrival(rt: HostRuntime) -> Result<(), Fail> {
+    let alloc = rt.alloc();
+    let rows = [
+        placed(&rt, 1, "A", EIGHT, Place::History),
+        placed(&rt, 2, "A", DAY, Place::Current(Status::D)),
+        placed(&rt, 3, "A", DAY + EIGHT, Place::Current(Status::E)),
+        placed(&rt, 4, "C", EIGHT, Place::Current(Status::D)),
+        placed(&rt, 5, "AB", EIGHT, Place::LongTerm),
+    ];
+    let live = Live::build(alloc, &Rows::from_vec(Vec::from_slice(alloc, &rows)?))?;
+    assert_eq!(rt; live.as_slice().len(), 3);
+    let cases = [
+        ("B", DAY + EIGHT, "A", 3),
+        ("B", DAY + EIGHT - 1, "A", 1),
+        ("B", EIGHT, "A", 1),
+        ("B", EIGHT - 1, "A", 0),
+        ("A", DAY + EIGHT, "A", 1),
+        ("A", DAY + EIGHT + 1, "A", 3),
+        ("A", EIGHT, "A", 0),
+        ("B", DAY, "C", 0),
+        ("B", DAY, "AB", 5),
+        ("B", DAY, "B", 0),
+    ];
+    for (name, minutes, predecessor, want) in cases {
+        let found = nearest(&live, &key(&rt, name, minutes), &app(&rt, predecessor));
+        assert_eq!(rt;
+            found,
+            Serial::new(want),
+            "of {name} at {minutes} in {predecessor}"
+        );
+    }
+    Ok(())
+}
+
+#[test]
+fn only_open_occurrences_get_pairs(rt: HostRuntime) -> Result<(), Fail> {
+    let alloc = rt.alloc();
+    let rows = [
+        placed(&rt, 1, "A", EIGHT, Place::History),
+        placed(&rt, 2, "B", EIGHT, Place::Current(Status::S)),
+        placed(&rt, 3, "B", EIGHT + 1, Place::Current(Status::E)),
+        placed(&rt, 4, "B", EIGHT + 2, Place::Current(Status::C)),
+        placed(&rt, 5, "B", EIGHT + 3, Place::Current(Status::D)),
+        placed(&rt, 6, "B", EIGHT + 4, Place::History),
+        placed(&rt, 7, "B", EIGHT + 5, Place::Deleted(Reason::Plan)),
+        placed(&rt, 8, "B", EIGHT + 6, Place::Current(Status::W)),
+    ];
+    let rows = Rows::from_vec(Vec::from_slice(alloc, &rows)?);
+    let pairs = resolve_all(alloc, &rows, &lists(&rt, alloc, &[("B", &["A", "NONE"])])?)?;
+    assert_eq!(rt; pairs.as_slice(), [pair(&rt, 8, 1)].as_slice());
+    assert_eq!(rt; pairs.into_vec().len(), 1);
+    let none = resolve_all(alloc, &Rows::new(alloc), &Links::new(alloc))?;
+    assert_eq!(rt; none.as_slice(), Pairs::new(alloc).as_slice());
+    nearest_is_unique();
+    nearest_arrives_last();
+    pairs_depend_on_set();
+    pairs_have_no_loop();
     Ok(())
 }

@@ -1,0 +1,176 @@
+-- Pairs, one link and one occurrence after another.
+use Rattle.std.proofs.Common.{◌≡◌, ◌↔◌, ◌⊎◌, ℕ, List, [], ◌∷◌, ◌++◌, refl, sym, ap, subst, ◌∙◌, inl, inr, Some, None}
+use Rattle.std.specs.List.{Contains}
+use Rattle.std.specs.Ordering.{nat_cmp}
+use Rattle.std.specs.FinMap.{IsAntisymmetric, nat_cmp-IsAntisymmetric}
+use Rattle.std.proofs.lemmas.List.Elements.{Contains-push, Contains-push_cases, Contains-append_left}
+use Rattle.occurrences.specs.declared.row.Row.{Row}
+use Rattle.occurrences.specs.Place.{IsLive, IsOpen}
+use Rattle.external_dependencies.specs.declared.links.Link.{Link}
+use Rattle.external_dependencies.specs.declared.live.Arrival.{Arrival}
+use Rattle.external_dependencies.specs.declared.rows.PlacedRow.{PlacedRow}
+use Rattle.external_dependencies.specs.declared.pairs.Pair.{Pair}
+use Rattle.external_dependencies.specs.Link.{Lists}
+use Rattle.external_dependencies.specs.Nearest.{arrival_of, IsLiveIn, IsNearest, IsNearestAnswer}
+use Rattle.external_dependencies.specs.Pair.{pair_cmp, IsPairAmong, IsPairFrom}
+use Rattle.external_dependencies.proofs.VisitLemmas.{contains_nil}
+use Rattle.external_dependencies.proofs.OrderLemmas.{then_equal}
+use Rattle.external_dependencies.proofs.NearestLemmas.{nearest_once, nearest_same}
+use Rattle.external_dependencies.proofs.GraphLemmas.{link_is}
+
+-- only equal pairs tie
+pub pair_ties : IsAntisymmetric pair_cmp
+pair_ties x y is =
+    let both = then_equal (nat_cmp x.successor y.successor) (nat_cmp x.predecessor y.predecessor) is in
+    let successors : x.successor ≡ y.successor = nat_cmp-IsAntisymmetric x.successor y.successor both.0 in
+    let predecessors : x.predecessor ≡ y.predecessor = nat_cmp-IsAntisymmetric x.predecessor y.predecessor both.1 in
+    λ i. record { successor = successors i; predecessor = predecessors i }
+
+pub pair_is : (pair : Pair) (successor predecessor : ℕ) → successor ≡ pair.successor → predecessor ≡ pair.predecessor → record { successor = successor; predecessor = predecessor } ≡ pair
+pair_is pair successor predecessor same_successor same_predecessor = λ i. record { successor = same_successor i; predecessor = same_predecessor i }
+
+-- the live arrivals of the rows so far
+pub live_none : (arrival : Arrival) → Contains [] arrival ↔ IsLiveIn [] arrival
+live_none arrival = ((λ here. absurd (contains_nil arrival here)), λ is. absurd (contains_nil is.0 is.1))
+
+module _ (rows : List PlacedRow) (arrivals : List Arrival) (so_far : (arrival : Arrival) → Contains arrivals arrival ↔ IsLiveIn rows arrival) (placed : PlacedRow) where
+  pub live_more : IsLive placed.place → (arrival : Arrival) → Contains (arrivals ++ arrival_of placed.row ∷ []) arrival ↔ IsLiveIn (rows ++ placed ∷ []) arrival
+  live_more is_live arrival = (forward, backward)
+    where
+      forward : Contains (arrivals ++ arrival_of placed.row ∷ []) arrival → IsLiveIn (rows ++ placed ∷ []) arrival
+      forward here = elim (Contains-push_cases arrivals (arrival_of placed.row) arrival here) [
+        | inl old ↦ let is = (so_far arrival).0 old in (is.0, Contains-append_left rows (placed ∷ []) is.0 is.1, is.2, is.3)
+        | inr same ↦ (placed, Contains-push rows placed, is_live, same)
+      ]
+
+      backward : IsLiveIn (rows ++ placed ∷ []) arrival → Contains (arrivals ++ arrival_of placed.row ∷ []) arrival
+      backward is = elim (Contains-push_cases rows placed is.0 is.1) [
+        | inl old ↦ Contains-append_left arrivals (arrival_of placed.row ∷ []) arrival ((so_far arrival).1 (is.0, old, is.2, is.3))
+        | inr same ↦ subst (Contains (arrivals ++ arrival_of placed.row ∷ [])) (ap (λ (p : PlacedRow). arrival_of p.row) same ∙ is.3) (Contains-push arrivals (arrival_of placed.row))
+      ]
+
+  pub live_skip : (IsLive placed.place → ⊥) → (arrival : Arrival) → Contains arrivals arrival ↔ IsLiveIn (rows ++ placed ∷ []) arrival
+  live_skip not_live arrival = (forward, backward)
+    where
+      forward : Contains arrivals arrival → IsLiveIn (rows ++ placed ∷ []) arrival
+      forward here = let is = (so_far arrival).0 here in (is.0, Contains-append_left rows (placed ∷ []) is.0 is.1, is.2, is.3)
+
+      backward : IsLiveIn (rows ++ placed ∷ []) arrival → Contains arrivals arrival
+      backward is = elim (Contains-push_cases rows placed is.0 is.1) [
+        | inl old ↦ (so_far arrival).1 (is.0, old, is.2, is.3)
+        | inr same ↦ absurd (not_live (subst (λ (p : PlacedRow). IsLive p.place) (sym same) is.2))
+      ]
+
+-- the pairs that were there, and those of one occurrence by the links so far
+abbrev pub ArePairs : List Arrival → Row → List Link → List Pair → List Pair → Type 0
+ArePairs live row list old now = (pair : Pair) → Contains now pair ↔ (Contains old pair ⊎ IsPairFrom live row list pair)
+
+pub pairs_none : (live : List Arrival) (row : Row) (old : List Pair) → ArePairs live row [] old old
+pairs_none live row old pair = ((λ here. inl here), λ is. elim is [ inl here ↦ here | inr from ↦ absurd (contains_nil from.link from.listed) ])
+
+module _ (live : List Arrival) (row : Row) (list : List Link) (old now : List Pair) (so_far : ArePairs live row list old now) (link : Link) where
+  -- a pair by the links so far is one by more links
+  pub pair_kept : (pair : Pair) → IsPairFrom live row list pair → IsPairFrom live row (list ++ link ∷ []) pair
+  pair_kept pair is = record { successor = is.successor; link = is.link; listed = Contains-append_left list (link ∷ []) is.link is.listed; near = is.near; nearest = is.nearest; predecessor = is.predecessor }
+
+  pub pairs_more : (serial : ℕ) → IsNearestAnswer (Contains live) row.key link.predecessor (Some serial) → ArePairs live row (list ++ link ∷ []) old (now ++ record { successor = row.serial; predecessor = serial } ∷ [])
+  pairs_more serial found pair = (forward, backward)
+    where
+      new : Pair
+      new = record { successor = row.serial; predecessor = serial }
+
+      forward : Contains (now ++ record { successor = row.serial; predecessor = serial } ∷ []) pair → Contains old pair ⊎ IsPairFrom live row (list ++ link ∷ []) pair
+      forward here = elim (Contains-push_cases now (record { successor = row.serial; predecessor = serial }) pair here) [
+        | inl before ↦ elim ((so_far pair).0 before) [ inl there ↦ inl there | inr from ↦ inr (pair_kept pair from) ]
+        | inr same ↦ inr (record { successor = ap (λ (p : Pair). p.successor) same; link = link; listed = Contains-push list link; near = found.0; nearest = found.1; predecessor = found.2 ∙ ap (λ (p : Pair). p.predecessor) same })
+      ]
+
+      backward : Contains old pair ⊎ IsPairFrom live row (list ++ link ∷ []) pair → Contains (now ++ record { successor = row.serial; predecessor = serial } ∷ []) pair
+      backward is = elim is [
+        | inl there ↦ Contains-append_left now (record { successor = row.serial; predecessor = serial } ∷ []) pair ((so_far pair).1 (inl there))
+        | inr from ↦ elim (Contains-push_cases list link from.link from.listed) [
+          | inl before ↦ Contains-append_left now (record { successor = row.serial; predecessor = serial } ∷ []) pair ((so_far pair).1 (inr (record { successor = from.successor; link = from.link; listed = before; near = from.near; nearest = from.nearest; predecessor = from.predecessor })))
+          | inr same ↦
+              let here : IsNearest (Contains live) row.key link.predecessor from.near = subst (λ (l : Link). IsNearest (Contains live) row.key l.predecessor from.near) (sym same) from.nearest in
+              let near_same = nearest_once (Contains live) row.key link.predecessor found.0 from.near found.1 here in
+              let serials : serial ≡ pair.predecessor = sym found.2 ∙ ap (λ (a : Arrival). a.serial) near_same ∙ from.predecessor in
+              subst (Contains (now ++ record { successor = row.serial; predecessor = serial } ∷ [])) (pair_is pair row.serial serial from.successor serials) (Contains-push now (record { successor = row.serial; predecessor = serial }))
+        ]
+      ]
+
+  pub pairs_skip : IsNearestAnswer (Contains live) row.key link.predecessor None → ArePairs live row (list ++ link ∷ []) old now
+  pairs_skip none pair = (forward, backward)
+    where
+      forward : Contains now pair → Contains old pair ⊎ IsPairFrom live row (list ++ link ∷ []) pair
+      forward here = elim ((so_far pair).0 here) [ inl there ↦ inl there | inr from ↦ inr (pair_kept pair from) ]
+
+      backward : Contains old pair ⊎ IsPairFrom live row (list ++ link ∷ []) pair → Contains now pair
+      backward is = elim is [
+        | inl there ↦ (so_far pair).1 (inl there)
+        | inr from ↦ elim (Contains-push_cases list link from.link from.listed) [
+          | inl before ↦ (so_far pair).1 (inr (record { successor = from.successor; link = from.link; listed = before; near = from.near; nearest = from.nearest; predecessor = from.predecessor }))
+          | inr same ↦
+              let here : IsNearest (Contains live) row.key link.predecessor from.near = subst (λ (l : Link). IsNearest (Contains live) row.key l.predecessor from.near) (sym same) from.nearest in
+              absurd (none from.near here.live here.candidate)
+        ]
+      ]
+
+-- the pairs from scratch of the rows so far, with the live ones of all rows
+abbrev pub AreAllPairs : List PlacedRow → List PlacedRow → List Link → List Pair → Type 0
+AreAllPairs all rows links pairs = (pair : Pair) → Contains pairs pair ↔ IsPairAmong all rows links pair
+
+pub all_none : (all : List PlacedRow) (links : List Link) → AreAllPairs all [] links []
+all_none all links pair = ((λ here. absurd (contains_nil pair here)), λ is. absurd (contains_nil is.placed is.stands))
+
+module _ (all rows : List PlacedRow) (links : List Link) (pairs : List Pair) (so_far : AreAllPairs all rows links pairs) (placed : PlacedRow) where
+  so_far_kept : (pair : Pair) → IsPairAmong all rows links pair → IsPairAmong all (rows ++ placed ∷ []) links pair
+  so_far_kept pair is = record { placed = is.placed; stands = Contains-append_left rows (placed ∷ []) is.placed is.stands; waits = is.waits; successor = is.successor; app = is.app; listed = is.listed; near = is.near; nearest = is.nearest; predecessor = is.predecessor }
+
+  pub all_skip : (IsOpen placed.place → ⊥) → AreAllPairs all (rows ++ placed ∷ []) links pairs
+  all_skip not_open pair = ((λ here. so_far_kept pair ((so_far pair).0 here)), backward)
+    where
+      backward : IsPairAmong all (rows ++ placed ∷ []) links pair → Contains pairs pair
+      backward is = elim (Contains-push_cases rows placed is.placed is.stands) [
+        | inl before ↦ (so_far pair).1 (record { placed = is.placed; stands = before; waits = is.waits; successor = is.successor; app = is.app; listed = is.listed; near = is.near; nearest = is.nearest; predecessor = is.predecessor })
+        | inr same ↦ absurd (not_open (subst (λ (p : PlacedRow). IsOpen p.place) (sym same) is.waits))
+      ]
+
+  module _ (live : List Arrival) (is_live : (arrival : Arrival) → Contains live arrival ↔ IsLiveIn all arrival) (list : List Link) (is_list : (link : Link) → Contains list link ↔ (Contains links link × (link.app ≡ placed.row.key.app))) where
+    pub all_more : IsOpen placed.place → (now : List Pair) → ArePairs live placed.row list pairs now → AreAllPairs all (rows ++ placed ∷ []) links now
+    all_more is_open now are pair = (forward, backward)
+      where
+        forward : Contains now pair → IsPairAmong all (rows ++ placed ∷ []) links pair
+        forward here = elim ((are pair).0 here) [
+          | inl before ↦ so_far_kept pair ((so_far pair).0 before)
+          | inr from ↦
+              let listed = (is_list from.link).0 from.listed in
+              record {
+                placed = placed;
+                stands = Contains-push rows placed;
+                waits = is_open;
+                successor = from.successor;
+                app = from.link.predecessor;
+                listed = subst (Contains links) (link_is from.link placed.row.key.app from.link.predecessor listed.1 refl) listed.0;
+                near = from.near;
+                nearest = nearest_same (Contains live) (IsLiveIn all) is_live placed.row.key from.link.predecessor from.near from.nearest;
+                predecessor = from.predecessor;
+              }
+        ]
+
+        backward : IsPairAmong all (rows ++ placed ∷ []) links pair → Contains now pair
+        backward is = elim (Contains-push_cases rows placed is.placed is.stands) [
+          | inl before ↦ (are pair).1 (inl ((so_far pair).1 (record { placed = is.placed; stands = before; waits = is.waits; successor = is.successor; app = is.app; listed = is.listed; near = is.near; nearest = is.nearest; predecessor = is.predecessor })))
+          | inr same ↦
+              let link : Link = record { app = placed.row.key.app; predecessor = is.app } in
+              let listed : Contains links link = subst (λ (p : PlacedRow). Lists links p.row.key.app is.app) (sym same) is.listed in
+              let nearest : IsNearest (IsLiveIn all) placed.row.key is.app is.near = subst (λ (p : PlacedRow). IsNearest (IsLiveIn all) p.row.key is.app is.near) (sym same) is.nearest in
+              let successor : placed.row.serial ≡ pair.successor = subst (λ (p : PlacedRow). p.row.serial ≡ pair.successor) (sym same) is.successor in
+              (are pair).1 (inr (record {
+                successor = successor;
+                link = link;
+                listed = (is_list link).1 (listed, refl);
+                near = is.near;
+                nearest = nearest_same (IsLiveIn all) (Contains live) (λ a. ((is_live a).1, (is_live a).0)) placed.row.key is.app is.near nearest;
+                predecessor = is.predecessor;
+              }))
+        ]

@@ -1,0 +1,9 @@
+-- Arrivals of live occurrences, and their order.
+use Rattle.std.specs.declared.cmp.Ordering.{Ordering}
+use Rattle.std.specs.Ordering.{nat_cmp, ordering_then}
+use Rattle.std.specs.Cmp.Lexicographic.{slice_cmp}
+use Rattle.external_dependencies.specs.declared.live.Arrival.{Arrival}
+
+-- by application in byte order, then by input arrival, then by serial
+abbrev pub arrival_cmp : Arrival → Arrival → Ordering
+arrival_cmp a b = ordering_then (slice_cmp nat_cmp a.app b.app) (ordering_then (nat_cmp a.ia b.ia) (nat_cmp a.serial b.serial))

@@ -1,0 +1,41 @@
+-- Pairs of occurrences: a successor and its predecessor.
+use Rattle.std.specs.Prelude.{◌≡◌, ℕ, List, Contains}
+use Rattle.std.specs.declared.cmp.Ordering.{Ordering}
+use Rattle.std.specs.Ordering.{nat_cmp, ordering_then}
+use Rattle.occurrences.specs.declared.row.Row.{Row}
+use Rattle.occurrences.specs.Place.{IsOpen}
+use Rattle.external_dependencies.specs.declared.links.Link.{Link}
+use Rattle.external_dependencies.specs.declared.live.Arrival.{Arrival}
+use Rattle.external_dependencies.specs.declared.rows.PlacedRow.{PlacedRow}
+use Rattle.external_dependencies.specs.declared.pairs.Pair.{Pair}
+use Rattle.external_dependencies.specs.Link.{Lists}
+use Rattle.external_dependencies.specs.Nearest.{IsLiveIn, IsNearest}
+
+-- by successor, then by predecessor
+abbrev pub pair_cmp : Pair → Pair → Ordering
+pair_cmp a b = ordering_then (nat_cmp a.successor b.successor) (nat_cmp a.predecessor b.predecessor)
+
+-- an open one of the rows, and its nearest predecessor among all rows in an application of its list
+pub record IsPairAmong (all rows : List PlacedRow) (links : List Link) (pair : Pair) : Type 0 where
+  pub placed : PlacedRow
+  pub stands : Contains rows placed
+  pub waits : IsOpen placed.place
+  pub successor : placed.row.serial ≡ pair.successor
+  pub app : List ℕ
+  pub listed : Lists links placed.row.key.app app
+  pub near : Arrival
+  pub nearest : IsNearest (IsLiveIn all) placed.row.key app near
+  pub predecessor : near.serial ≡ pair.predecessor
+
+-- a pair from scratch
+abbrev pub IsPairOf : List PlacedRow → List Link → Pair → Type 0
+IsPairOf rows links pair = IsPairAmong rows rows links pair
+
+-- a pair of one occurrence, by its list and the live arrivals
+pub record IsPairFrom (live : List Arrival) (row : Row) (list : List Link) (pair : Pair) : Type 0 where
+  pub successor : row.serial ≡ pair.successor
+  pub link : Link
+  pub listed : Contains list link
+  pub near : Arrival
+  pub nearest : IsNearest (Contains live) row.key link.predecessor near
+  pub predecessor : near.serial ≡ pair.predecessor
