@@ -1,0 +1,183 @@
+-- The map of definitions by name, as its entries change.
+use Rattle.std.proofs.Common.{◌≡◌, ◌≢◌, ◌∙◌, sym, refl, ap, subst, ℕ, List, [], ◌∷◌, ◌++◌, length, filter, Bool, true, false, cond, Option, Some, None, Result, Ok, Err, arith, rules, nat_eq, add-one}
+use Rattle.std.specs.Prelude.{IfOk, IfSome, IsSome, IsTrue, ◌↔◌, option_map, is_some}
+use Rattle.std.proofs.lemmas.Bool.{false≢true}
+use Rattle.std.proofs.lemmas.List.{append-nil}
+use Rattle.std.proofs.lemmas.List.Elements.{filter-append}
+use Rattle.std.specs.Ordering.{nat_cmp, eq_by_cmp}
+use Rattle.std.specs.Cmp.Lexicographic.{pointwise, slice_cmp, nat_list_cmp_total, nat_list_eq_equiv, texts_ties, bytes_decides}
+use Rattle.std.specs.FinMap as map
+use Rattle.std.specs.FinMap.{find, get-empty, len-empty, len-insert, get-from_entries, get-insert, get-remove, same_map, slice_cmp-IsAntisymmetric, nat_cmp-IsAntisymmetric}
+use Rattle.std.specs.Map.{lookup, keys_of, update_all}
+use Rattle.std.specs.Option.{option_or}
+use Rattle.std.specs.List.{IsDistinct, AllByRecursion}
+use Rattle.std.proofs.lemmas.Map.Made.{update_all_distinct}
+use Rattle.work_calendars.specs.Name.{IsName}
+use Rattle.app_definitions.specs.Fields.{field}
+use Rattle.app_definitions.specs.ByName.{records_of, FitsKind, IsDefinedBy, AreGivenBy, overlaid}
+
+-- definitions by name
+abbrev pub Definitions : Type 0 → Type 0
+Definitions X = map.FinMap (slice_cmp nat_cmp) X
+
+-- the definitions that a map's entries are seen as
+abbrev pub view_of : {X : Type 0} → List (List ℕ × X) → Definitions X
+view_of es = map.from_entries es
+
+find-lookup : {X : Type 0} (q : List ℕ) (es : List (List ℕ × X)) → find (slice_cmp nat_cmp) q es ≡ lookup (pointwise nat_eq q) es
+find-lookup q [] = refl
+find-lookup q (e ∷ es) = rw (texts_ties q e.0, find-lookup q es) refl
+
+-- a look-up in the definitions is one in the entries
+pub get-view_of : {X : Type 0} (es : List (List ℕ × X)) (q : List ℕ) → map.get (view_of es) q ≡ lookup (pointwise nat_eq q) es
+get-view_of es q = get-from_entries nat_list_cmp_total es q ∙ find-lookup q es
+
+-- definitions that answer alike are the same
+pub same_by_name : {X : Type 0} (m n : Definitions X) → ((q : List ℕ) → map.get m q ≡ map.get n q) → m ≡ n
+same_by_name m n is = same_map nat_list_cmp_total (slice_cmp-IsAntisymmetric nat_cmp-IsAntisymmetric) m n is
+
+-- names that compare equal are equal
+pub same_name : (a b : List ℕ) → pointwise nat_eq a b ≡ true → a ≡ b
+same_name a b e = (bytes_decides a b).0 e
+
+pub name_itself : (a : List ℕ) → pointwise nat_eq a a ≡ true
+name_itself a = (bytes_decides a a).1 refl
+
+-- what a definition is of, by whether there is one
+pub defined-some : {D : Type 0} (IsMadeOf : D → List (List (List ℕ)) → Type 0) (o : Option D) (d : D) (rows : List (List (List ℕ)))
+    → o ≡ Some d → IsDefinedBy IsMadeOf o rows → (rows ≢ []) × IsMadeOf d rows
+defined-some IsMadeOf None d rows e h = absurd (let x : ⊥ = cc in x)
+defined-some IsMadeOf (Some x) d rows e h = (h.0, let same : x ≡ d = cc in rw same at h.1)
+
+pub defined-none : {D : Type 0} (IsMadeOf : D → List (List (List ℕ)) → Type 0) (o : Option D) (rows : List (List (List ℕ)))
+    → o ≡ None → IsDefinedBy IsMadeOf o rows → rows ≡ []
+defined-none IsMadeOf None rows e h = h
+defined-none IsMadeOf (Some x) rows e h = absurd (let x : ⊥ = cc in x)
+
+-- a record more is one more about its name, and none about another
+records_of-more : (name : List ℕ) (before : List (List (List ℕ))) (row : List (List ℕ))
+    → records_of name (before ++ row ∷ []) ≡ records_of name before ++ cond (pointwise nat_eq (field row 0) name) (row ∷ []) []
+records_of-more name before row = filter-append (λ r. pointwise nat_eq (field r 0) name) before (row ∷ [])
+
+not_empty : {A : Type 0} (xs : List A) (x : A) → (xs ++ x ∷ []) ≢ []
+not_empty [] x e = absurd (let h : ⊥ = cc in h)
+not_empty (y ∷ ys) x e = absurd (let h : ⊥ = cc in h)
+
+-- one more record, of which the definition of its name is now made
+pub AreGivenBy-more : {D : Type 0} (IsMadeOf : D → List (List (List ℕ)) → Type 0) (old new : Definitions D) (k : List ℕ) (v : D) (before : List (List (List ℕ))) (row : List (List ℕ))
+    → k ≡ field row 0 → ((q : List ℕ) → map.get new q ≡ cond (pointwise nat_eq k q) (Some v) (map.get old q))
+    → AreGivenBy IsMadeOf old before → IsMadeOf v (records_of (field row 0) before ++ row ∷ [])
+    → AreGivenBy IsMadeOf new (before ++ row ∷ [])
+AreGivenBy-more IsMadeOf old new k v before row named written given made name = at_name (pointwise nat_eq k name) refl
+  where
+    at_name : (b : Bool) → pointwise nat_eq k name ≡ b → IsDefinedBy IsMadeOf (map.get new name) (records_of name (before ++ row ∷ []))
+    at_name true e =
+        let same : field row 0 ≡ name = sym named ∙ same_name k name e in
+        let of : records_of name (before ++ row ∷ []) ≡ records_of (field row 0) before ++ row ∷ [] =
+        rw (← same) (records_of-more (field row 0) before row ∙ ap (λ b. records_of (field row 0) before ++ cond b (row ∷ []) []) (name_itself (field row 0))) in
+        rw (written name, e, of) (not_empty (records_of (field row 0) before) row, made)
+    at_name false e =
+        let apart : pointwise nat_eq (field row 0) name ≡ false = rw (← named) e in
+        let of : records_of name (before ++ row ∷ []) ≡ records_of name before =
+        records_of-more name before row ∙ ap (λ b. records_of name before ++ cond b (row ∷ []) []) apart ∙ append-nil (records_of name before) in
+        rw (written name, e, of) (given name)
+
+-- a fact of what is Ok
+pub IfOk-map : {T E : Type 0} (r : Result T E) (P Q : T → Type 0) → ((x : T) → P x → Q x) → IfOk r P → IfOk r Q
+IfOk-map (Ok x) P Q f h = f x h
+IfOk-map (Err e) P Q f h = tt
+
+-- names compare alike from both sides
+name_sym : (a b : List ℕ) → pointwise nat_eq a b ≡ pointwise nat_eq b a
+name_sym a b = nat_list_eq_equiv.symm a b
+
+-- what the definitions are without a name
+pub get-removed : {X : Type 0} (m : Definitions X) (k q : List ℕ) → map.get (map.remove m k) q ≡ cond (pointwise nat_eq k q) None (map.get m q)
+get-removed m k q = get-remove nat_list_cmp_total m k q ∙ ap (λ b. cond b None (map.get m q)) (sym (texts_ties q k) ∙ name_sym q k)
+
+find-append-or : {X : Type 0} (q : List ℕ) (xs ys : List (List ℕ × X)) → find (slice_cmp nat_cmp) q (xs ++ ys) ≡ option_or (find (slice_cmp nat_cmp) q xs) (find (slice_cmp nat_cmp) q ys)
+find-append-or q [] ys = refl
+find-append-or q (x ∷ xs) ys =
+    elim (eq_by_cmp (slice_cmp nat_cmp) q x.0) as (λ b. cond b (Some x.1) (find (slice_cmp nat_cmp) q (xs ++ ys)) ≡ option_or (cond b (Some x.1) (find (slice_cmp nat_cmp) q xs)) (find (slice_cmp nat_cmp) q ys)) [
+      | true ↦ refl
+      | false ↦ find-append-or q xs ys
+    ]
+
+-- what the definitions are under others
+pub get-overlaid : {X : Type 0} (old more : Definitions X) (q : List ℕ) → map.get (overlaid old more) q ≡ option_or (map.get more q) (map.get old q)
+get-overlaid old more q =
+    get-from_entries nat_list_cmp_total (map.entries more ++ map.entries old) q
+    ∙ find-append-or q (map.entries more) (map.entries old)
+    ∙ cc (sym (map.get-entries more q), sym (map.get-entries old q))
+
+-- a name that no entry has is not found
+lookup-absent : {X : Type 0} (k : List ℕ) (es : List (List ℕ × X)) → AllByRecursion (λ y. pointwise nat_eq k y ≡ false) (keys_of es) → lookup (pointwise nat_eq k) es ≡ None
+lookup-absent k [] h = refl
+lookup-absent k (e ∷ es) h = rw (h.0) (lookup-absent k es h.1)
+
+-- there are as many definitions as entries
+pub len-view_of : {X : Type 0} (es : List (List ℕ × X)) → IsDistinct (pointwise nat_eq) (keys_of es) → map.len (view_of es) ≡ length es
+unfolding IsDistinct
+len-view_of [] h = len-empty (slice_cmp nat_cmp) _
+len-view_of (e ∷ es) h =
+    let absent : is_some (map.get (view_of es) e.0) ≡ false = ap is_some (get-view_of es e.0 ∙ lookup-absent e.0 es h.0) in
+    len-insert nat_list_cmp_total (view_of es) e.0 e.1 ∙ rw (absent, len-view_of es h.1) (add-one (length es))
+
+-- what the entries of others, put in one after the other, make of the definitions
+pub get-appended : {X : Type 0} (old more : List (List ℕ × X)) (q : List ℕ) → IsDistinct (pointwise nat_eq) (keys_of more)
+    → update_all (pointwise nat_eq) (λ k. lookup (pointwise nat_eq k) old) more q ≡ map.get (overlaid (view_of old) (view_of more)) q
+get-appended old more q apart =
+    update_all_distinct nat_list_eq_equiv (pointwise nat_eq) (λ x y. refl) (λ k. lookup (pointwise nat_eq k) old) more q apart
+    ∙ cc (sym (get-view_of more q), sym (get-view_of old q), sym (get-overlaid (view_of old) (view_of more) q))
+
+-- a further record about a name is good exactly where the definition takes it
+pub joined-taken : {D E : Type 0} (fields : ℕ) (FitsName : List (List (List ℕ)) → List (List ℕ) → Type 0) (IsMadeOf : D → List (List (List ℕ)) → Type 0)
+    (m : Definitions D) (k : List ℕ) (d : D) (before : List (List (List ℕ))) (row : List (List ℕ)) (r : Result Bool E)
+    → k ≡ field row 0 → length row ≡ fields → IsName k → map.get m k ≡ Some d → AreGivenBy IsMadeOf m before
+    → ((earlier : List (List (List ℕ))) → earlier ≢ [] → IsMadeOf d earlier → IfOk r (λ taken. IsTrue taken ↔ FitsName earlier row))
+    → IfOk r (λ taken. IsTrue taken ↔ FitsKind fields FitsName before row)
+joined-taken fields FitsName IsMadeOf m k d before row r e long named seen given tells =
+    let was = defined-some IsMadeOf _ d (records_of k before) seen (given k) in
+    IfOk-map r _ _ (λ taken told. (λ yes. (long, rw (← e) named, rw (← e) (told.0 yes)), λ fits. told.1 (rw e fits.2))) (tells (records_of k before) was.0 was.1)
+
+-- and the definitions are then those of the record too
+pub joined-gathered : {D E : Type 0} (IsMadeOf : D → List (List (List ℕ)) → Type 0)
+    (m n : Definitions D) (k : List ℕ) (d v : D) (before : List (List (List ℕ))) (row : List (List ℕ)) (r : Result Bool E)
+    → k ≡ field row 0 → map.get m k ≡ Some d → ((q : List ℕ) → map.get n q ≡ cond (pointwise nat_eq k q) (Some v) (map.get m q)) → AreGivenBy IsMadeOf m before
+    → ((earlier : List (List (List ℕ))) → earlier ≢ [] → IsMadeOf d earlier → IfOk r (λ taken. IsTrue taken → IsMadeOf v (earlier ++ row ∷ [])))
+    → IfOk r (λ taken. IsTrue taken → AreGivenBy IsMadeOf n (before ++ row ∷ []))
+joined-gathered IsMadeOf m n k d v before row r e seen written given makes =
+    let was = defined-some IsMadeOf _ d (records_of k before) seen (given k) in
+    IfOk-map r _ _ (λ taken made yes. AreGivenBy-more IsMadeOf m n k v before row e written given (rw (← e) (made yes))) (makes (records_of k before) was.0 was.1)
+
+-- the first record about a name is good exactly where it begins a definition
+pub begun-taken : {D : Type 0} (fields : ℕ) (FitsName : List (List (List ℕ)) → List (List ℕ) → Type 0) (IsMadeOf : D → List (List (List ℕ)) → Type 0)
+    (m : Definitions D) (k : List ℕ) (before : List (List (List ℕ))) (row : List (List ℕ)) (begun : Bool)
+    → k ≡ field row 0 → length row ≡ fields → IsName k → map.get m k ≡ None → AreGivenBy IsMadeOf m before
+    → (IsTrue begun ↔ FitsName [] row) → IsTrue begun ↔ FitsKind fields FitsName before row
+begun-taken fields FitsName IsMadeOf m k before row begun e long named none given told =
+    let first : records_of (field row 0) before ≡ [] = rw (← e) (defined-none IsMadeOf _ (records_of k before) none (given k)) in
+    rw first (λ yes. (long, rw (← e) named, told.0 yes), λ fits. told.1 fits.2)
+
+pub begun-gathered : {D : Type 0} (IsMadeOf : D → List (List (List ℕ)) → Type 0)
+    (m n : Definitions D) (k : List ℕ) (v : D) (before : List (List (List ℕ))) (row : List (List ℕ))
+    → k ≡ field row 0 → map.get m k ≡ None → ((q : List ℕ) → map.get n q ≡ cond (pointwise nat_eq k q) (Some v) (map.get m q)) → AreGivenBy IsMadeOf m before
+    → IsMadeOf v (row ∷ []) → AreGivenBy IsMadeOf n (before ++ row ∷ [])
+begun-gathered IsMadeOf m n k v before row e none written given made =
+    let first : records_of (field row 0) before ≡ [] = rw (← e) (defined-none IsMadeOf _ (records_of k before) none (given k)) in
+    AreGivenBy-more IsMadeOf m n k v before row e written given (rw first made)
+
+-- an update of the entries is one of the definitions
+pub written-view_of : {X : Type 0} (old new : List (List ℕ × X)) (m : Definitions X) (k : List ℕ) (v : X)
+    → view_of old ≡ m → ((q : List ℕ) → lookup (pointwise nat_eq q) new ≡ cond (pointwise nat_eq k q) (Some v) (lookup (pointwise nat_eq q) old))
+    → (q : List ℕ) → map.get (view_of new) q ≡ cond (pointwise nat_eq k q) (Some v) (map.get m q)
+written-view_of old new m k v e updates q =
+    get-view_of new q ∙ updates q ∙ ap (λ o. cond (pointwise nat_eq k q) (Some v) o) (sym (get-view_of old q) ∙ ap (λ x. map.get x q) e)
+
+-- what was looked up
+pub seen-view_of : {X : Type 0} (es : List (List ℕ × X)) (m : Definitions X) (k : List ℕ) (o : Option X) → view_of es ≡ m → o ≡ lookup (pointwise nat_eq k) es → map.get m k ≡ o
+seen-view_of es m k o e h = ap (λ x. map.get x k) (sym e) ∙ get-view_of es k ∙ sym h
+
+-- no records give no definitions
+pub AreGivenBy-none : {D : Type 0} (IsMadeOf : D → List (List (List ℕ)) → Type 0) (m : Definitions D) → m ≡ map.empty → AreGivenBy IsMadeOf m []
+AreGivenBy-none IsMadeOf m e name = rw (e, get-empty (slice_cmp nat_cmp) name) refl

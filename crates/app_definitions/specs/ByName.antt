@@ -1,0 +1,29 @@
+-- Definitions by name, as the records of a block give them.
+use Rattle.std.specs.Prelude.{◌≡◌, ◌≢◌, ℕ, ◌++◌, List, [], filter, length, Option, None, Some, nat_eq}
+use Rattle.std.specs.Cmp.Lexicographic.{pointwise, slice_cmp}
+use Rattle.std.specs.Ordering.{nat_cmp}
+use Rattle.std.specs.FinMap as map
+use Rattle.work_calendars.specs.Name.{IsName}
+use Rattle.app_definitions.specs.Fields.{field}
+
+-- the records about a name, which is their first field, in order
+abbrev pub records_of : List ℕ → List (List (List ℕ)) → List (List (List ℕ))
+records_of name rows = filter (λ row. pointwise nat_eq (field row 0) name) rows
+
+-- a record of a kind whose records have that many fields is good after the records before it: it has so many, the first
+-- is a name, and the rest is good after the earlier records about that name
+abbrev pub FitsKind : ℕ → (List (List (List ℕ)) → List (List ℕ) → Type 0) → List (List (List ℕ)) → List (List ℕ) → Type 0
+FitsKind fields FitsName before row = (length row ≡ fields) × IsName (field row 0) × FitsName (records_of (field row 0) before) row
+
+-- the definition of a name is the one that these records about it make, and there is none where there is no record
+abbrev pub IsDefinedBy : {D : Type 0} → (D → List (List (List ℕ)) → Type 0) → Option D → List (List (List ℕ)) → Type 0
+IsDefinedBy IsMadeOf None rows = rows ≡ []
+IsDefinedBy IsMadeOf (Some d) rows = (rows ≢ []) × IsMadeOf d rows
+
+-- the definitions are those that these records give, for each name those that its own records make
+abbrev pub AreGivenBy : {D : Type 0} → (D → List (List (List ℕ)) → Type 0) → map.FinMap (slice_cmp nat_cmp) D → List (List (List ℕ)) → Type 0
+AreGivenBy IsMadeOf definitions rows = (name : List ℕ) → IsDefinedBy IsMadeOf (map.get definitions name) (records_of name rows)
+
+-- the definitions of `more`, and for all other names those of `old`
+abbrev pub overlaid : {D : Type 0} → map.FinMap (slice_cmp nat_cmp) D → map.FinMap (slice_cmp nat_cmp) D → map.FinMap (slice_cmp nat_cmp) D
+overlaid old more = map.from_entries (map.entries more ++ map.entries old)

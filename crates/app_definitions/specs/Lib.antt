@@ -1,0 +1,7 @@
+pub mod Applications
+pub mod Blocks
+pub mod ByName
+pub mod Definitions
+pub mod Fields
+pub mod Predecessors
+pub mod Records

@@ -1,0 +1,17 @@
+-- The records of predecessors: application, predecessor.
+use Rattle.std.specs.Prelude.{◌≡◌, ℕ, List, map, Contains}
+use Rattle.work_calendars.specs.Name.{IsName}
+use Rattle.app_definitions.specs.Fields.{field}
+
+-- the predecessors that the records of an application name, in order
+abbrev pub predecessors_of : List (List (List ℕ)) → List (List ℕ)
+predecessors_of rows = map (λ row. field row 1) rows
+
+-- a record after the earlier ones of its application: its predecessor is a name, which may be the application's own, and no
+-- earlier record has it
+abbrev pub FitsPredecessors : List (List (List ℕ)) → List (List ℕ) → Type 0
+FitsPredecessors before row = IsName (field row 1) × ¬ (Contains (predecessors_of before) (field row 1))
+
+-- a list of predecessors is the one that these records of its application give
+abbrev pub ArePredecessorsOf : List (List ℕ) → List (List (List ℕ)) → Type 0
+ArePredecessorsOf names rows = names ≡ predecessors_of rows

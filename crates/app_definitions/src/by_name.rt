@@ -1,0 +1,135 @@
+// Definitions by name.
+
+ghost use Rattle.std.specs.Prelude.{◌≡◌, ◌≢◌, ◌↔◌, ℕ, List, [], ◌∷◌, ◌++◌, length, IsTrue, IsSome, IfOk, OnOk, OnErr, IfSome};
+ghost use Rattle.std.specs.Option.{option_copied};
+ghost use Rattle.std.specs.FinMap as map;
+ghost use Rattle.csv.specs.Records.{fields_of};
+ghost use Rattle.app_definitions.specs.ByName.{FitsKind, IsDefinedBy, AreGivenBy, overlaid};
+
+use crate::fields::{field_at, name_of};
+use crate::records::Gather;
+use csv::ByteRecord;
+use indexmap::IndexMap;
+use std::alloc::{AllocError, Global};
+use std::marker::Model;
+use work_calendars::Name;
+
+/// A definition of one name, which one record begins and further ones may join.
+pub trait Definition: Drop {
+    /// How many fields a record of this kind has.
+    ghost FIELDS: { ℕ };
+
+    const FIELDS: usize;
+
+    /// A record is good after the earlier records about its name.
+    ghost FitsName: { List (List (List ℕ)) → List (List ℕ) → Type 0 };
+
+    /// The definition is the one that these records make.
+    ghost IsMadeOf: { Self → List (List (List ℕ)) → Type 0 };
+
+    /// The definition that the first record about a name begins, or none where the record is faulty.
+    fn begin(alloc: Global, row: &ByteRecord) -> Result<Option<Self>, AllocError>
+        requires { length (fields_of row.now) ≡ FIELDS }
+        ensures begun { IfOk result (λ d. IsSome d ↔ FitsName [] (fields_of row.now)) }
+        ensures made { IfOk result (λ d. IfSome d (λ d. IsMadeOf d (fields_of row.now ∷ []))) };
+
+    /// Takes a further record about the name, or answers that it is faulty.
+    fn join(&mut self, row: &ByteRecord) -> Result<bool, AllocError>
+        requires { length (fields_of row.now) ≡ FIELDS }
+        ensures taken { (before : List (List (List ℕ))) → before ≢ [] → IsMadeOf self.old before → IfOk result (λ taken. IsTrue taken ↔ FitsName before (fields_of row.now)) }
+        ensures made { (before : List (List (List ℕ))) → before ≢ [] → IsMadeOf self.old before → IfOk result (λ taken. IsTrue taken → IsMadeOf self.new (before ++ fields_of row.now ∷ [])) };
+}
+
+/// Definitions of one kind by name. Contracts see the map from names to definitions.
+#[derive(Drop)]
+pub struct ByName<D> {
+    by_name: IndexMap<Name, D>,
+}
+
+impl<D> Model for ByName<D> {
+    ghost use Rattle.std.specs.Ordering.{nat_cmp};
+    ghost use Rattle.std.specs.Cmp.Lexicographic.{slice_cmp};
+    ghost use Rattle.std.specs.FinMap as map;
+    ghost use Rattle.std.specs.Coded.{coded_ℕ, coded_list};
+
+    ghost Value = { map.FinMap (slice_cmp nat_cmp) D };
+
+    ghost coded = { map.code (coded_list coded_ℕ) D.code };
+
+    ghost view = { λ a. map.from_entries a.by_name.entries };
+}
+
+impl<D> ByName<D> {
+    /// No definitions.
+    pub fn new(alloc: Global) -> Self
+        ensures { result ≡ map.empty }
+    {
+        ByName {
+            by_name: IndexMap::new(alloc),
+        }
+    }
+
+    /// The definition of this name.
+    pub fn get(&self, name: &Name) -> Option<&D>
+        ensures { option_copied result ≡ map.get self.now name.now }
+    {
+        self.by_name.get(name)
+    }
+
+    /// How many names have a definition.
+    pub fn len(&self) -> usize
+        ensures { result ≡ map.len self.now }
+    {
+        self.by_name.len()
+    }
+
+    /// Takes all definitions of another map in, in place of those of the same names, and answers how many they are.
+    pub fn append(&mut self, mut more: ByName<D>) -> Result<usize, AllocError>
+    where
+        D: Drop,
+        ensures ok { OnOk result (self.new ≡ overlaid self.old more) }
+        ensures counted { IfOk result (λ n. n ≡ map.len more) }
+        ensures err { OnErr result (self.new ≡ self.old) }
+    {
+        let count = more.by_name.len();
+        self.by_name.append(&mut more.by_name)?;
+        Ok(count)
+    }
+
+    /// Takes the definition of this name away, and answers whether there was one.
+    pub fn remove(&mut self, name: &Name) -> bool
+    where
+        D: Drop,
+        ensures found { IsTrue result ↔ IsSome (map.get self.old name.now) }
+        ensures removed { self.new ≡ map.remove self.old name.now }
+    {
+        self.by_name.swap_remove(name).is_some()
+    }
+}
+
+impl<D: Definition> Gather for ByName<D> {
+    ghost fields = { D.FIELDS };
+
+    ghost Fits = { FitsKind D.FIELDS D.FitsName };
+
+    ghost Holds = { AreGivenBy D.IsMadeOf };
+
+    ghost fixed = { λ before row fits. fits.0 };
+
+    fn gather(&mut self, alloc: Global, row: &ByteRecord) -> Result<bool, AllocError> {
+        if row.len() != D::FIELDS {
+            return Ok(false);
+        }
+        let Some(name) = name_of(field_at(row, 0)) else {
+            return Ok(false);
+        };
+        if let Some(definition) = self.by_name.get_mut(&name) {
+            return definition.join(row);
+        }
+        let Some(definition) = D::begin(alloc, row)? else {
+            return Ok(false);
+        };
+        self.by_name.insert(name, definition)?;
+        Ok(true)
+    }
+}

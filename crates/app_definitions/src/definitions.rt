@@ -1,0 +1,56 @@
+// All definitions.
+
+ghost use Rattle.std.specs.Prelude.{◌≡◌, ◌↔◌, IsTrue, IfOk, OnOk, OnErr};
+ghost use Rattle.app_definitions.specs.Definitions.{merged, names_given, without, IsDefined, no_definitions};
+
+use crate::applications::Application;
+use crate::blocks::{Block, Kind};
+use crate::by_name::ByName;
+use crate::predecessors::Predecessors;
+use std::alloc::{AllocError, Global};
+use work_calendars::Name;
+
+/// The definitions that the planner works from.
+#[derive(Drop)]
+pub struct Definitions {
+    /// Applications by name.
+    pub applications: ByName<Application>,
+    /// Lists of predecessors by application.
+    pub predecessors: ByName<Predecessors>,
+}
+
+impl Definitions {
+    /// No definitions.
+    pub fn new(alloc: Global) -> Definitions
+        ensures { result ≡ no_definitions }
+    {
+        Definitions {
+            applications: ByName::new(alloc),
+            predecessors: ByName::new(alloc),
+        }
+    }
+
+    /// Takes a block's definitions in, each in place of the one of its name, and answers how many names the block gave. A
+    /// merge that is refused for memory changes nothing.
+    pub fn merge(&mut self, block: Block) -> Result<usize, AllocError>
+        ensures ok { OnOk result (self.new ≡ merged self.old block) }
+        ensures counted { IfOk result (λ n. n ≡ names_given block) }
+        ensures err { OnErr result (self.new ≡ self.old) }
+    {
+        match block {
+            Block::Applications(applications) => self.applications.append(applications),
+            Block::Predecessors(predecessors) => self.predecessors.append(predecessors),
+        }
+    }
+
+    /// Takes the definition of one name and kind away, and answers whether there was one.
+    pub fn remove(&mut self, kind: Kind, name: &Name) -> bool
+        ensures found { IsTrue result ↔ IsDefined self.old kind name.now }
+        ensures removed { self.new ≡ without self.old kind name.now }
+    {
+        match kind {
+            Kind::Applications => self.applications.remove(name),
+            Kind::Predecessors => self.predecessors.remove(name),
+        }
+    }
+}

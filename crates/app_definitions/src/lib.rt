@@ -1,0 +1,21 @@
+//! The definitions that a planner works from, as data blocks give them: calendars, periods, applications, run cycles,
+//! lists of predecessors and options.
+#![tactic(auto)]
+
+mod applications;
+mod blocks;
+mod by_name;
+mod definitions;
+mod fields;
+mod predecessors;
+mod records;
+
+pub use applications::Application;
+pub use blocks::{Block, Kind, read_applications, read_predecessors};
+pub use by_name::ByName;
+pub use definitions::Definitions;
+pub use predecessors::Predecessors;
+pub use records::BlockFault;
+
+#[cfg(test)]
+mod tests;
