@@ -1,1 +1,3 @@
+pub mod Days
+pub mod Line
 pub mod Reply

@@ -1,7 +1,8 @@
-use crate::{refusal_line, reply_line};
+use crate::{days_line, refusal_line, reply_line};
 use occurrences::{Refusal, Reply, Serial, Status};
+use run_cycles::Named;
 use std::test::Fail;
-use work_calendars::App;
+use work_calendars::{App, Day, Minute, Moment, Short};
 
 fn serial(rt: &impl std::process::Abort, number: u32) -> Serial {
     Serial::new(number).expect(rt, "a serial")
@@ -76,5 +77,18 @@ fn refusals(rt: HostRuntime) -> Result<(), Fail> {
         let line = refusal_line(rt.alloc(), refusal)?;
         assert!(rt; line.as_slice() == text.as_bytes());
     }
+    Ok(())
+}
+
+#[test]
+fn days(rt: HostRuntime) -> Result<(), Fail> {
+    let named = Named {
+        day: Day::from_text("2024-01-01").ok_or("a day")?,
+        time: Minute::from_text("08.00").ok_or("a minute")?,
+        run_cycle: Short::from_text("ALPHA").ok_or("a name")?,
+        deadline: Moment::from_text("2024-01-02/06.00").ok_or("a moment")?,
+    };
+    let line = days_line(&named);
+    assert!(rt; line.as_slice() == b"2024-01-01 08.00 ALPHA    2024-01-02 06.00".as_slice());
     Ok(())
 }

@@ -1,0 +1,16 @@
+use Rattle.std.proofs.Common.{◌∙◌, ap, ◌++◌, append_assoc, arith, take}
+use Rattle.std.proofs.Math.ListN.{replicate}
+use Rattle.std.specs.Prelude.{◌-◌, ◌≤◌, length}
+use Rattle.std.proofs.lemmas.List.{take-replicate}
+use Rattle.plan_listings.proofs.line.append_left.Goals as goal
+
+pub returns-clause-items : goal.returns-clause-items
+returns-clause-items g c =
+    let fits = c.requires.fits in
+    let narrow = c.requires.narrow in
+    let places = c.args.width - length c.args.text.now in
+    let short : places ≤ 16 = omega arith in
+    c.append-2.ensures.items
+    ∙ ap (λ l. l ++ take places (replicate 16 32)) c.append.ensures.items
+    ∙ append_assoc c.args.line.now.items c.args.text.now (take places (replicate 16 32))
+    ∙ ap (λ l. c.args.line.now.items ++ (c.args.text.now ++ l)) (take-replicate places 16 32 short)

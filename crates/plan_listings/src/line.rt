@@ -1,0 +1,32 @@
+ghost use Rattle.std.specs.Prelude.{◌≡◌, ◌+◌, ◌≤◌, ◌<◌, ◌++◌, ◌∷◌, [], length};
+ghost use Rattle.arrayvec.specs.ArrayVec.{array_vec_len};
+ghost use Rattle.plan_listings.specs.Line.{left_in};
+
+use arrayvec::ArrayVec;
+
+// As many blanks as the widest name has places.
+const BLANKS: [u8; 16] = [b' '; 16];
+
+// Writes a part behind what stands in the line.
+pub(crate) fn append<const N: usize>(line: &mut ArrayVec<u8, N>, part: &[u8])
+    requires { array_vec_len line.old + length part.now ≤ N }
+    ensures items { line.new.items ≡ line.old.items ++ part.now }
+    ensures len { array_vec_len line.new ≡ array_vec_len line.old + length part.now }
+{
+    match line.try_extend_from_slice(part) {
+        Ok(()) => {}
+        Err(_) => unreachable!(),
+    }
+}
+
+// Writes a text left in so many places, filled up with blanks.
+pub(crate) fn append_left<const N: usize>(line: &mut ArrayVec<u8, N>, text: &[u8], width: usize)
+    requires fits { length text.now ≤ width }
+    requires room { array_vec_len line.old + width ≤ N }
+    requires narrow { width ≤ 16 }
+    ensures items { line.new.items ≡ line.old.items ++ left_in width text.now }
+    ensures len { array_vec_len line.new ≡ array_vec_len line.old + width }
+{
+    append(line, text);
+    append(line, &BLANKS[..width - text.len()]);
+}
