@@ -1,5 +1,6 @@
 ghost use Rattle.std.specs.Prelude.{◌≡◌, ◌↔◌, IsTrue, [], length};
 
+use std::alloc::AllocError;
 use std::marker::Model;
 use work_calendars::Day;
 
@@ -51,5 +52,15 @@ impl Origins {
         ensures { IsTrue result ↔ (self.now ≡ []) }
     {
         self.entries.is_empty()
+    }
+}
+
+impl Clone for Origins {
+    ghost is_clone = { λ old new. new ≡ old };
+
+    fn clone(&self) -> Result<Origins, AllocError> {
+        Ok(Origins {
+            entries: self.entries.clone()?,
+        })
     }
 }

@@ -5,6 +5,7 @@ ghost use Rattle.plan_periods.specs.Fault.{HasNoFault, IsLeastFault, IsLeastList
 ghost use Rattle.plan_periods.specs.declared.faults.PeriodFault.TheVariants.{IntervalOutOfRange};
 
 use crate::{Origins, PeriodFault};
+use std::alloc::AllocError;
 use work_calendars::Day;
 
 /// The greatest number of days, or work days, of an interval.
@@ -34,6 +35,24 @@ impl Period {
             Period::Work { interval, .. } => check_interval(*interval),
             Period::Listed(origins) => check_origins(origins.as_slice()),
         }
+    }
+}
+
+impl Clone for Period {
+    ghost is_clone = { λ old new. new ≡ old };
+
+    fn clone(&self) -> Result<Period, AllocError> {
+        Ok(match self {
+            Period::All { origin, interval } => Period::All {
+                origin: *origin,
+                interval: *interval,
+            },
+            Period::Work { origin, interval } => Period::Work {
+                origin: *origin,
+                interval: *interval,
+            },
+            Period::Listed(origins) => Period::Listed(origins.clone()?),
+        })
     }
 }
 

@@ -102,6 +102,32 @@ fn gives_origins_back(rt: HostRuntime) -> Result<(), Fail> {
     Ok(())
 }
 
+#[test]
+fn clones_periods(rt: HostRuntime) -> Result<(), Fail> {
+    let origin = day(NEW_YEAR);
+    let all = Period::All {
+        origin,
+        interval: 7,
+    }
+    .clone()?;
+    assert!(rt; matches!(&all, Period::All { interval: 7, .. }));
+    let work = Period::Work {
+        origin,
+        interval: 5,
+    }
+    .clone()?;
+    assert!(rt; matches!(&work, Period::Work { interval: 5, .. }));
+    let months = listed(rt.alloc(), &[(19723, None), (19754, Some(19760))])?.clone()?;
+    let Period::Listed(origins) = months else {
+        return Err(Fail::from("a list stays a list"));
+    };
+    assert_eq!(rt;
+        origins.as_slice(),
+        [(origin, None), (day(19754), Some(day(19760)))].as_slice()
+    );
+    Ok(())
+}
+
 // What a walk gives, by day numbers, and how many intervals it has looked at.
 fn assert_walk(
     rt: &impl Abort,
