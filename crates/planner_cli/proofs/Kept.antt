@@ -1,7 +1,7 @@
 -- Lemmas on fronts of lists: what a buffer with a limit holds.
-use Rattle.std.proofs.Common.{◌≡◌, ℕ, zero, suc, ◌-◌, ◌<◌, ◌≤◌, List, [], ◌∷◌, ◌++◌, length, length-append, take, refl, sym, ap, subst, ◌∙◌, arith, append_assoc, append-nil, take_all}
+use Rattle.std.proofs.Common.{◌≡◌, ℕ, zero, suc, ◌-◌, ◌<◌, ◌≤◌, List, [], ◌∷◌, ◌++◌, length, length-append, length-take, max, take, refl, sym, ap, subst, ◌∙◌, arith, append_assoc, append-nil, take_all}
 use Rattle.std.specs.Prelude.{Option, None, Some, IfSome, IsTrue, ◌↔◌, ◌==◌, Bool, true, false, if◌then◌else◌}
-use Rattle.std.specs.Io.BufRead.{take_through}
+use Rattle.std.specs.Io.BufRead.{take_through, strip_last, ends_with_byte}
 use Rattle.std.proofs.BufReadLemmas.{take_through_nonempty}
 use Rattle.planner_cli.specs.Lines.{kept}
 
@@ -53,3 +53,15 @@ pub some_taken : (known : Option (List ℕ)) (taken : List ℕ) (b : Bool) → (
 some_taken None taken b h e = tt
 some_taken (Some xs) taken b h e =
     (λ yes. take_through_nonempty 10 xs (subst (λ l. 0 < length l) e (h.0 yes)), λ some. h.1 (subst (λ l. 0 < length l) (sym e) (some_through xs some)))
+
+-- how much a buffer with a limit holds
+pub kept_bound : (limit : ℕ) (held bs : List ℕ) → length (kept limit held bs) ≤ max limit (length held)
+kept_bound limit held bs = omega (arith, length-append held (take (limit - length held) bs), length-take (limit - length held) bs)
+
+-- a list without its last byte
+pub strip_last_shorter : (byte : ℕ) (xs : List ℕ) → length (strip_last byte xs) ≤ length xs
+strip_last_shorter byte xs = at (ends_with_byte byte xs)
+  where
+    at : (b : Bool) → length (if b then take (length xs - 1) xs else xs) ≤ length xs
+    at true = omega (arith, length-take (length xs - 1) xs)
+    at false = omega arith

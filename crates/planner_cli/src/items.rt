@@ -1,5 +1,5 @@
 //! Items of a stream: a line that is no statement, a statement, a statement with its data.
-ghost use Rattle.std.specs.Prelude.{◌≡◌, ℕ, List, [], ◌++◌, true, false, Some, OnOk, IfOk, IfSome};
+ghost use Rattle.std.specs.Prelude.{◌≡◌, ◌≤◌, ℕ, List, [], ◌++◌, length, max, true, Some, IfOk, IfSome};
 ghost use Rattle.planner_cli.specs.Lines.{raw_lines};
 ghost use Rattle.planner_cli.specs.Items.{items_of, items_of_lines, bytes_before_end, block_of};
 ghost use Rattle.planner_cli.specs.Found.{block_found, items_found, found_alone, found_with_data, end_of_data};
@@ -47,12 +47,16 @@ pub enum Found {
     WithData(DataEnd),
 }
 
-/// The bytes of the item that was read last: the front of its line, and the front of its block.
+/// The bytes of the item that was read last: the front of its line, and the front of its block. It
+/// never holds more, however long they are.
 #[derive(Debug, Drop)]
 pub struct Page {
     pub line: Vec<u8>,
     pub block: Vec<u8>,
     end: Vec<u8>,
+    ghost line_bound: { length line.items ≤ 1026 },
+    ghost block_bound: { length block.items ≤ 262145 },
+    ghost end_bound: { length end.items ≤ 4 },
 }
 
 impl Page {
@@ -117,10 +121,13 @@ fn read_block<R: BufRead>(
     line: &mut Vec<u8>,
     block: &mut Vec<u8>,
 ) -> Result<DataEnd, ReadFault>
-    ensures { IfOk result (λ end. IfSome (R.remaining reader.old) (λ xs. (ys : List ℕ)
+    ensures read { IfOk result (λ end. IfSome (R.remaining reader.old) (λ xs. (ys : List ℕ)
         × (R.remaining reader.new ≡ Some ys)
         × (block_of (bytes_before_end (raw_lines xs)) ≡ block_found end block.new.items)
         × (items_of_lines true (raw_lines xs) ≡ items_of ys))) }
+    // At any reader, and also after a fault.
+    ensures line_bound { length line.new.items ≤ max 4 (length line.old.items) }
+    ensures block_bound { length block.new.items ≤ 262145 }
 {
     block.clear();
     for _ in 0..u64::MAX {

@@ -15,3 +15,6 @@ pub use desk::Desk;
 pub use faults::{Part, RunFault};
 pub use stream::{exit_status, run};
 pub use tally::Tally;
+
+#[cfg(test)]
+mod tests;

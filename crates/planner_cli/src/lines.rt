@@ -1,5 +1,5 @@
 //! Lines of a reader, of which only the first bytes are kept.
-ghost use Rattle.std.specs.Prelude.{◌≡◌, ◌≢◌, ◌↔◌, ℕ, List, true, ◌-◌, ◌<◌, ◌≤◌, length, take, All, IfOk, OnOk, OnErr, OnSome, IfSome, IsTrue};
+ghost use Rattle.std.specs.Prelude.{◌≡◌, ◌≢◌, ◌↔◌, ℕ, List, true, ◌-◌, ◌<◌, ◌≤◌, length, max, take, All, IfOk, OnOk, OnErr, OnSome, IfSome, IsTrue};
 ghost use Rattle.std.specs.Io.{StopsAt, IsEmptyOrEndsWith};
 ghost use Rattle.std.specs.Io.KnownBytes.{Consumes, IsAtEnd};
 ghost use Rattle.std.specs.Io.BufRead.{take_through, strip_last, DropsThrough};
@@ -33,9 +33,11 @@ fn len_through(bytes: &[u8]) -> usize
 }
 
 /// Appends `bytes` as far as there is room for them below `limit`.
+#[tactic(auto, using(crate::proofs::Kept::kept_bound))]
 fn keep(held: &mut Vec<u8>, limit: usize, bytes: &[u8]) -> Result<(), ReadFault>
     ensures ok { OnOk result (held.new.items ≡ kept limit held.old.items bytes.now) }
     ensures err { OnErr result (held.new.items ≡ held.old.items) }
+    ensures bound { length held.new.items ≤ max limit (length held.old.items) }
 {
     let room = limit.saturating_sub(held.len()).min(bytes.len());
     match held.extend_from_slice(&bytes[..room]) {
@@ -53,7 +55,7 @@ fn take_part<R: BufRead>(
     all: &mut Vec<u8>,
     all_limit: usize,
 ) -> Result<(usize, bool), ReadFault>
-    ensures { IfOk result (λ r. (bs : List ℕ) × (length bs ≡ r.0) × StopsAt bs 10
+    ensures part { IfOk result (λ r. (bs : List ℕ) × (length bs ≡ r.0) × StopsAt bs 10
         × Consumes (R.remaining reader.old) (R.remaining reader.new) bs
         × (r.1 ≢ true → All (λ x. x ≢ 10) bs)
         × (r.1 ≡ true → IsEmptyOrEndsWith bs 10)
@@ -61,6 +63,8 @@ fn take_part<R: BufRead>(
         → OnSome (R.remaining reader.old) (IsAtEnd (R.remaining reader.new)))
         × (head.new.items ≡ kept head_limit head.old.items bs)
         × (all.new.items ≡ kept all_limit all.old.items bs)) }
+    ensures head_bound { length head.new.items ≤ max head_limit (length head.old.items) }
+    ensures all_bound { length all.new.items ≤ max all_limit (length all.old.items) }
 {
     let available = match reader.fill_buf() {
         Ok(available) => available,
@@ -89,6 +93,9 @@ pub fn read_line<R: BufRead>(
         (λ xs. head.new.items ≡ kept head_limit head.old.items (take_through 10 xs))) }
     ensures all { OnOk result (IfSome (R.remaining reader.old)
         (λ xs. all.new.items ≡ kept all_limit all.old.items (take_through 10 xs))) }
+    // At any reader, and also after a fault.
+    ensures head_bound { length head.new.items ≤ max head_limit (length head.old.items) }
+    ensures all_bound { length all.new.items ≤ max all_limit (length all.old.items) }
 {
     let mut total = 0usize;
     for _ in 0..u64::MAX {
@@ -102,8 +109,10 @@ pub fn read_line<R: BufRead>(
 }
 
 /// Removes the last byte if it is `byte`.
+#[tactic(auto, using(crate::proofs::Kept::strip_last_shorter))]
 fn pop_if_last(bytes: &mut Vec<u8>, byte: u8)
-    ensures { bytes.new.items ≡ strip_last byte bytes.old.items }
+    ensures items { bytes.new.items ≡ strip_last byte bytes.old.items }
+    ensures shorter { length bytes.new.items ≤ length bytes.old.items }
 {
     let n = bytes.len();
     if n > 0 && bytes[n - 1] == byte {
@@ -114,7 +123,8 @@ fn pop_if_last(bytes: &mut Vec<u8>, byte: u8)
 /// Cuts off the line feed that ends a line, and then one carriage return.
 #[tactic(auto, unfolding(crate::specs::Lines::line_of))]
 pub fn trim_line_end(line: &mut Vec<u8>)
-    ensures { line.new.items ≡ line_of line.old.items }
+    ensures line { line.new.items ≡ line_of line.old.items }
+    ensures shorter { length line.new.items ≤ length line.old.items }
 {
     pop_if_last(line, b'\n');
     pop_if_last(line, b'\r');

@@ -76,7 +76,7 @@ fn first_word(line: &[u8]) -> &[u8]
 fn front(line: &[u8]) -> &[u8]
     ensures { result.now ≡ take longest_line line.now }
 {
-    if line.len() > LONGEST_LINE {
+    if LONGEST_LINE < line.len() {
         &line[..LONGEST_LINE]
     } else {
         line

@@ -10,24 +10,26 @@ use Rattle.std.proofs.lemmas.Bool.Decides.{nat_tests}
 use Rattle.planner_cli.proofs.lines.read_line.Goals as goal
 
 pub loop-init : goal.loop-init
-loop-init g c = ([], omega arith, All-nil (λ x. x ≢ 10), Consumes-nil _, kept_none _ _, kept_none _ _)
+loop-init g c = ([], omega arith, All-nil (λ x. x ≢ 10), Consumes-nil _, kept_none _ _, kept_none _ _, omega arith, omega arith)
 
 pub loop-preserved : goal.loop-preserved
 loop-preserved g c =
-    let (seen, count, none, read, head, all) = c.loop.invariant in
-    let (part, long, stops, read', none', ends, end, head', all') = c.in_ok-taken.ensures in (
+    let (seen, count, none, read, head, all, head_bound, all_bound) = c.loop.invariant in
+    let (part, long, stops, read', none', ends, end, head', all') = c.in_ok-taken.ensures.part in (
       seen ++ part,
       omega (arith, length-append seen part, c.saturating_add-total.ensures),
       All-append (λ x. x ≢ 10) seen part none (none' (λ e. true≢false (sym e ∙ c.if-is_done.false))),
       Consumes-trans _ _ _ _ _ read read',
       kept_grown c.args.head_limit c.args.head.now.items seen part _ _ head head',
       kept_grown c.args.all_limit c.args.all.now.items seen part _ _ all all',
+      omega (arith, c.in_ok-taken.ensures.head_bound),
+      omega (arith, c.in_ok-taken.ensures.all_bound),
     )
 
 pub returns-then-is_done : goal.returns-then-is_done
 returns-then-is_done g c =
-    let (seen, count, none, read, head, all) = c.loop.invariant in
-    let (part, long, stops, read', none', ends, end, head', all') = c.in_ok-taken.ensures in
+    let (seen, count, none, read, head, all, head_bound, all_bound) = c.loop.invariant in
+    let (part, long, stops, read', none', ends, end, head', all') = c.in_ok-taken.ensures.part in
     let whole = Consumes_through 10 _ _ _ seen part read none read' stops (ends c.if-is_done.true) (end c.if-is_done.true) in
     let known = g.R.Read.remaining c.args.reader.now in
     let head_is = kept_grown c.args.head_limit c.args.head.now.items seen part _ _ head head' in
@@ -38,4 +40,6 @@ returns-then-is_done g c =
       rest = whole.1;
       head = if_some_weaken known (λ xs. seen ++ part ≡ take_through 10 xs) _ (λ xs e. head_is ∙ ap (kept c.args.head_limit c.args.head.now.items) e) whole.0;
       all = if_some_weaken known (λ xs. seen ++ part ≡ take_through 10 xs) _ (λ xs e. all_is ∙ ap (kept c.args.all_limit c.args.all.now.items) e) whole.0;
+      head_bound = omega (arith, c.in_ok-taken.ensures.head_bound);
+      all_bound = omega (arith, c.in_ok-taken.ensures.all_bound);
     }

@@ -6,8 +6,8 @@ use Rattle.std.proofs.Transfers.{StopsAt-take}
 use Rattle.planner_cli.proofs.lines.take_part.Goals.{then-end-eq0, else-end-eq0}
 use Rattle.planner_cli.proofs.lines.take_part.Goals as goal
 
-pub returns : goal.returns
-returns g c =
+pub returns-clause-part : goal.returns-clause-part
+returns-clause-part g c =
     let shown = c.in-Ok.available.now in
     let end = c.len_through-end in
     let long = length-take-le end.result shown end.ensures.bound in

@@ -18,7 +18,7 @@ returns-else-opens_data-clause-items g c =
     let a = g.R.Read.remaining c.args.reader.now in
     let any : c.in_ok-read_line.field-0 ≡ true = search rules in
     let line = c.trim_line_end.new.line.items in
-    let first = front_line a 1026 _ _ _ _ any c.clear.ensures.items read.some read.head c.trim_line_end.ensures in
+    let first = front_line a 1026 _ _ _ _ any c.clear.ensures.items read.some read.head c.trim_line_end.ensures.line in
     let closed : opens_data line ≡ false = search rules in
     let kind : c.kind_of-kind.result ≡ kind_of line = search rules in
     let found : c.found_alone.result ≡ found_alone (kind_of line) = c.found_alone.ensures ∙ ap found_alone kind in
@@ -31,11 +31,11 @@ returns-in_ok-end-clause-items g c =
     let a = g.R.Read.remaining c.args.reader.now in
     let any : c.in_ok-read_line.field-0 ≡ true = search rules in
     let line = c.trim_line_end.new.line.items in
-    let first = front_line a 1026 _ _ _ _ any c.clear.ensures.items read.some read.head c.trim_line_end.ensures in
+    let first = front_line a 1026 _ _ _ _ any c.clear.ensures.items read.some read.head c.trim_line_end.ensures.line in
     let opened : opens_data line ≡ true = search rules in
     let kind : c.kind_of-kind.result ≡ kind_of line = search rules in
     let found : c.found_with_data.result ≡ found_with_data (kind_of line) c.in_ok-end.end = c.found_with_data.ensures ∙ ap (λ k. found_with_data k c.in_ok-end.end) kind in
     let left = g.R.Read.remaining c.read_block.new.reader in
     let block = c.read_block.new.block.items in
     subst (λ f. IfSome a (λ xs. ItemRead xs left (items_found f line block))) (sym found)
-    (item_with_data a (g.R.Read.remaining c.read_line.new.reader) left line block c.in_ok-end.end first read.rest opened c.in_ok-end.ensures)
+    (item_with_data a (g.R.Read.remaining c.read_line.new.reader) left line block c.in_ok-end.end first read.rest opened c.in_ok-end.ensures.read)
