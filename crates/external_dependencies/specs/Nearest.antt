@@ -21,13 +21,13 @@ pub record IsCandidate (key : Key) (app : List ℕ) (arrival : Arrival) : Type 0
   pub before_own : app ≡ key.app → arrival.ia < key.ia
 
 -- of all live candidates the one that arrives last; of several that arrive last together, the one of the greatest serial
-pub record IsNearest (IsLive : Arrival → Type 0) (key : Key) (app : List ℕ) (near : Arrival) : Type 0 where
-  pub live : IsLive near
+pub record IsNearest (LiveAt : Arrival → Type 0) (key : Key) (app : List ℕ) (near : Arrival) : Type 0 where
+  pub live : LiveAt near
   pub candidate : IsCandidate key app near
-  pub greatest : (other : Arrival) → IsLive other → IsCandidate key app other → other.ia ≤ near.ia
-  pub last : (other : Arrival) → IsLive other → IsCandidate key app other → other.ia ≡ near.ia → other.serial ≤ near.serial
+  pub greatest : (other : Arrival) → LiveAt other → IsCandidate key app other → other.ia ≤ near.ia
+  pub last : (other : Arrival) → LiveAt other → IsCandidate key app other → other.ia ≡ near.ia → other.serial ≤ near.serial
 
 -- the serial of the nearest, or none where there is no live candidate
 abbrev pub IsNearestAnswer : (Arrival → Type 0) → Key → List ℕ → Option ℕ → Type 0
-IsNearestAnswer IsLive key app None = (other : Arrival) → IsLive other → IsCandidate key app other → ⊥
-IsNearestAnswer IsLive key app (Some serial) = (near : Arrival) × IsNearest IsLive key app near × (near.serial ≡ serial)
+IsNearestAnswer LiveAt key app None = (other : Arrival) → LiveAt other → IsCandidate key app other → ⊥
+IsNearestAnswer LiveAt key app (Some serial) = (near : Arrival) × IsNearest LiveAt key app near × (near.serial ≡ serial)
