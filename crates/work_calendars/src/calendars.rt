@@ -13,7 +13,7 @@ use std::marker::Model;
 
 /// Which days are work days: a listed date has its own status, else its weekday's, and a weekday that is not listed is
 /// a work day. Contracts see the listed statuses.
-#[derive(Debug, Drop)]
+#[derive(Clone, Debug, Drop)]
 pub struct Calendar {
     weekdays: [Option<DayStatus>; 7],
     dates: BTreeMap<Day, DayStatus>,
@@ -49,7 +49,8 @@ impl Calendar {
     pub fn set_weekday(&mut self, weekday: Weekday, status: DayStatus)
         ensures { self.new ≡ with_weekday self.old (monday_zero weekday) status }
     {
-        self.weekdays[weekday.to_monday_zero_offset() as usize] = Some(status);
+        let place = weekday.to_monday_zero_offset() as usize;
+        self.weekdays[place] = Some(status);
     }
 
     /// Lists that date, in place of what was listed for it. Where memory is refused, nothing changes.

@@ -40,13 +40,12 @@ impl Day {
         ensures valid { IsSome result ↔ IsDay number }
         ensures value { IfSome result (λ d. d ≡ number) }
     {
-        if number >= 730 && number <= 37254 {
-            Some(Day {
-                number: number as u16,
-            })
-        } else {
-            None
+        if number < 730 || number > 37254 {
+            return None;
         }
+        Some(Day {
+            number: number as u16,
+        })
     }
 
     /// The days since 1970-01-01.

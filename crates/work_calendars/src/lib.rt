@@ -7,7 +7,10 @@ mod digits;
 mod minutes;
 mod moments;
 mod names;
+mod short_names;
 mod statuses;
+#[cfg(test)]
+mod tests;
 mod work_index;
 
 pub use calendars::Calendar;
@@ -15,7 +18,8 @@ pub use days::Day;
 pub use jiff::civil::Weekday;
 pub use minutes::Minute;
 pub use moments::Moment;
-pub use names::{App, Name, Short};
+pub use names::{App, Name};
+pub use short_names::Short;
 pub use statuses::DayStatus;
 pub use std::alloc::AllocError as Memory;
 pub use work_index::WorkIndex;

@@ -102,7 +102,8 @@ impl WorkIndex {
         ensures none { IsNone result ↔ HasNoWorkDayBefore (is_work_in self.now) day }
         ensures value { IfSome result (IsPreviousWorkDay (is_work_in self.now) day) }
     {
-        let count = self.count_before((day.number() - 730) as usize);
+        let days = (day.number() - 730) as usize;
+        let count = self.count_before(days);
         if count == 0 {
             return None;
         }

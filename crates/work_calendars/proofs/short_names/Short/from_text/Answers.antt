@@ -1,6 +1,6 @@
 use Rattle.std.proofs.Common.{refl}
 use Rattle.work_calendars.proofs.NameFacts.{HoldsName-copied}
-use Rattle.work_calendars.proofs.names.Short.from_text.Goals as goal
+use Rattle.work_calendars.proofs.short_names.Short.from_text.Goals as goal
 
 pub invariant_of-result : goal.invariant_of-result
 invariant_of-result c =
