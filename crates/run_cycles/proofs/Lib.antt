@@ -1,4 +1,11 @@
+pub mod AnyLemmas
+pub mod CountLemmas
+pub mod DayLemmas
 pub mod NameLemmas
+pub mod NamedDayLemmas
 pub mod OccurrenceLemmas
+pub mod OrderLemmas
+pub mod OwnNames
 pub mod PeriodsLemmas
 pub mod ShiftLemmas
+pub mod WalkLemmas

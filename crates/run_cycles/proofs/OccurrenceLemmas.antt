@@ -1,13 +1,23 @@
 -- The search for the run cycle of least name that names a day and time.
-use Rattle.std.proofs.Common.{◌≡◌, ℕ, ◌+◌, ◌<◌, ◌⊎◌, Bool, List, Option, Some, None, length, take, get_or, sym, subst, ap, refl, ⊎_elim}
-use Rattle.std.specs.Prelude.{All, Contains, IfSome, IsSomeAnd}
-use Rattle.std.proofs.lemmas.List.Elements.{All-more}
+use Rattle.std.proofs.Common.{◌≡◌, ℕ, ◌+◌, ◌<◌, ◌≤◌, ◌⊎◌, Bool, List, [], ◌∷◌, ◌++◌, Option, Some, None, length, take, get_or, sym, subst, ap, ◌∙◌, refl, ⊎_elim, arith}
+use Rattle.std.specs.Prelude.{All, Any, Contains, IfSome, IsSomeAnd}
+use Rattle.std.proofs.lemmas.List.{get_or_default, take_all, take_more}
+use Rattle.std.proofs.lemmas.List.Elements.{All-more, All-same, All-contains, Contains-append_left, Contains-push, Contains-push_cases}
 use Rattle.run_cycles.specs.declared.cycles.Deadline.{Deadline}
 use Rattle.run_cycles.specs.declared.cycles.Kind.{Kind}
 use Rattle.run_cycles.specs.declared.cycles.Kind.TheVariants.{Normal, Negative}
 use Rattle.run_cycles.specs.declared.cycles.RunCycle.{RunCycle}
-use Rattle.run_cycles.specs.Occurrence.{PeriodMap, HasDeadline, IsNegative, IsNameAtMost, NamesAt, GivesAt, TakesAt}
-use Rattle.run_cycles.proofs.NameLemmas.{at_most_chain}
+use Rattle.run_cycles.specs.declared.named.Named.{Named}
+use Rattle.run_cycles.specs.Occurrence.{PeriodMap, HasDeadline, IsNegative, IsNormal, IsNameAtMost, NamesAt, GivesAt, TakesAt, IsGivenBy, IsOccurrence, HaveOwnNames, deadline_of}
+use Rattle.run_cycles.proofs.NameLemmas.{at_most_itself, at_most_chain, at_most_both}
+
+deadline_of_kind : (kind : Kind) (a b : Deadline) → HasDeadline kind a → HasDeadline kind b → a ≡ b
+deadline_of_kind (Normal own) a b p q = p ∙ sym q
+deadline_of_kind (Negative own) a b p q = absurd p
+
+pub normal_of_deadline : (kind : Kind) (a : Deadline) → HasDeadline kind a → IsNormal kind
+normal_of_deadline (Normal own) a p = tt
+normal_of_deadline (Negative own) a p = absurd p
 
 module _ (cycles : List RunCycle) (periods : PeriodMap) (work : ℕ → Bool) (d t : ℕ) where
   -- the run cycle gives the day and time with this name and deadline
@@ -73,3 +83,76 @@ module _ (cycles : List RunCycle) (periods : PeriodMap) (work : ℕ → Bool) (d
     found = new_candidate n best c own b so within at normal names chosen;
     least = All-more (IsNoLess (Some b)) cycles n c within (λ k e in' h. at_most_new best b _ old (so.least k e in' h)) (subst (IsNoLess (Some b)) (sym at) (λ h. new));
   }
+
+module _ (cycles : List RunCycle) (periods : PeriodMap) (work : ℕ → Bool) (d t n : ℕ) (whole : length cycles ≤ n) where
+  -- a fact of each run cycle looked at, once all are
+  of_all : (P : RunCycle → Type 0) → All P (take n cycles) → All P cycles
+  of_all P h = All-same P cycles (take n cycles) (sym (take_all n cycles whole)) h
+
+  -- the search's answer is the occurrence
+  pub best_found : (name : List ℕ) (own : Deadline) (due : ℕ) → IsBestSoFar cycles periods work d t n (Some (name, own)) → due ≡ deadline_of d own → IsOccurrence cycles periods work (record { day = d; time = t; run_cycle = name; deadline = due })
+  best_found name own due so is-due =
+      let (c, candidate) = so.found in
+      let (k, in', at) = candidate.contained in
+      record {
+        given = (k, c, in', at, ((own, candidate.deadline, is-due), candidate.names, candidate.name));
+        least = of_all (IsNoLess cycles periods work d t (Some (name, own))) so.least;
+        kept = of_all (TakesNothing cycles periods work d t) so.kept;
+      }
+
+  -- where the search found none, there is no occurrence
+  pub none_found : (x : Named) → IsBestSoFar cycles periods work d t n None → x.day ≡ d → x.time ≡ t → ¬ (IsOccurrence cycles periods work x)
+  none_found x so is-day is-time h =
+      let (k, c, in', at, given) = h.given in
+      let (due, names, name) = given in
+      let At : ℕ → ℕ → Type 0 = λ e u. NamesAt periods work e u c in
+      let there : NamesAt periods work d t c = subst (λ e. At e t) is-day (subst (λ u. At x.day u) is-time names) in
+      All-contains (IsNoLess cycles periods work d t None) cycles c (of_all (IsNoLess cycles periods work d t None) so.least) (k, in', at)
+      (normal_of_deadline c.kind due.0 due.1, there)
+
+module _ (cycles : List RunCycle) (periods : PeriodMap) (work : ℕ → Bool) where
+  neither : (k j : ℕ) → (k < j → ⊥) → (j < k → ⊥) → k ≡ j
+  neither k j a b = grind arith
+
+  named_alike : (c e : RunCycle) (k j : ℕ) → HaveOwnNames cycles → k < length cycles → get_or cycles k c ≡ c → j < length cycles → get_or cycles j e ≡ e → c.name ≡ e.name → k ≡ j
+  named_alike c e k j own in-k at-k in-j at-j same =
+      let apart_k : k < j → ⊥ = λ h. own k j c h in-j (ap (λ x. x.name) at-k ∙ same ∙ ap (λ x. x.name) (sym at-j ∙ get_or_default cycles j e c in-j)) in
+      let apart_j : j < k → ⊥ = λ h. own j k e h in-k (ap (λ x. x.name) at-j ∙ sym same ∙ ap (λ x. x.name) (sym at-k ∙ get_or_default cycles k c e in-k)) in
+      neither k j apart_k apart_j
+
+  -- of two occurrences of one day and time, the one's name is not after the other's
+  name_at_most : (x y : Named) → IsOccurrence cycles periods work x → IsOccurrence cycles periods work y → x.day ≡ y.day → x.time ≡ y.time → IsNameAtMost x.run_cycle y.run_cycle
+  name_at_most x y at-x at-y same-day same-time =
+      let (k, e, in', at, given) = at-y.given in
+      let (own, names, name) = given in
+      let At : ℕ → ℕ → Type 0 = λ d t. NamesAt periods work d t e in
+      let there : NamesAt periods work x.day x.time e = subst (λ d. At d x.time) (sym same-day) (subst (λ t. At y.day t) (sym same-time) names) in
+      let least = at-x.least k e in' in
+      let P : RunCycle → Type 0 = λ c. GivesAt periods work x.day x.time c → IsNameAtMost x.run_cycle c.name in
+      subst (λ n. IsNameAtMost x.run_cycle n) (sym name) (subst P at least (normal_of_deadline e.kind own.0 own.1, there))
+
+  -- the run cycles name one occurrence at most at a day and time
+  pub one_occurrence : (x y : Named) → HaveOwnNames cycles → IsOccurrence cycles periods work x → IsOccurrence cycles periods work y → x.day ≡ y.day → x.time ≡ y.time → x ≡ y
+  one_occurrence x y own at-x at-y same-day same-time =
+      let (k, c, in-k, at-k, given-x) = at-x.given in
+      let (j, e, in-j, at-j, given-y) = at-y.given in
+      let (due-x, names-x, name-x) = given-x in
+      let (due-y, names-y, name-y) = given-y in
+      let same-name : x.run_cycle ≡ y.run_cycle = at_most_both x.run_cycle y.run_cycle (name_at_most x y at-x at-y same-day same-time) (name_at_most y x at-y at-x (sym same-day) (sym same-time)) in
+      let same-place : k ≡ j = named_alike c e k j own in-k at-k in-j at-j (sym name-x ∙ same-name ∙ name-y) in
+      let same-cycle : c ≡ e = sym at-k ∙ get_or_default cycles k c e in-k ∙ ap (λ n. get_or cycles n e) same-place ∙ at-j in
+      let (own-x, has-x, is-x) = due-x in
+      let (own-y, has-y, is-y) = due-y in
+      let same-own : own-x ≡ own-y = deadline_of_kind e.kind own-x own-y (let P : RunCycle → Type 0 = λ z. HasDeadline z.kind own-x in subst P same-cycle has-x) has-y in
+      let same-deadline : x.deadline ≡ y.deadline = is-x ∙ ap (λ n. deadline_of n own-x) same-day ∙ ap (λ o. deadline_of y.day o) same-own ∙ sym is-y in
+      λ i. record { day = same-day i; time = same-time i; run_cycle = same-name i; deadline = same-deadline i }
+
+-- the times so far have that of each run cycle so far, one more included
+pub times_grow : (cycles : List RunCycle) (n : ℕ) (c : RunCycle) (old new : List ℕ) → n < length cycles → get_or cycles n c ≡ c → new ≡ old ++ c.ia ∷ [] → ((x : RunCycle) → Contains (take n cycles) x → Contains old x.ia) → (x : RunCycle) → Contains (take (n + 1) cycles) x → Contains new x.ia
+times_grow cycles n c old new in' at grown so x h =
+    let e : take (n + 1) cycles ≡ take n cycles ++ c ∷ [] = take_more cycles n c in' ∙ ap (λ y. take n cycles ++ y ∷ []) at in
+    let P : List RunCycle → Type 0 = λ l. Contains l x in
+    let Q : List ℕ → Type 0 = λ l. Contains l x.ia in
+    let R : RunCycle → Type 0 = λ y. Contains (old ++ c.ia ∷ []) y.ia in
+    subst Q (sym grown)
+    (⊎_elim (λ a. Contains-append_left old (c.ia ∷ []) x.ia (so x a)) (λ b. subst R b (Contains-push old c.ia)) (Contains-push_cases (take n cycles) c x (subst P e h)))

@@ -1,7 +1,8 @@
 -- Which raw days become a given day.
-use Rattle.std.proofs.Common.{◌≡◌, ℕ, ◌<◌, ◌≤◌, ◌↔◌, Bool, true, false, MatchBool, IsTrue, IsFalse, refl, subst, arith}
+use Rattle.std.proofs.Common.{◌≡◌, ℕ, ◌<◌, ◌≤◌, ◌↔◌, Bool, true, false, MatchBool, IsTrue, IsFalse, refl, sym, subst, arith}
 use Rattle.work_calendars.specs.WorkDay.{IsNextWorkDay, IsPreviousWorkDay}
-use Rattle.run_cycles.specs.declared.rules.Rule.TheVariants.{Before, After}
+use Rattle.run_cycles.specs.declared.rules.Rule.{Rule}
+use Rattle.run_cycles.specs.declared.rules.Rule.TheVariants.{WorkDaysOnly, Before, After, Same, Skip}
 use Rattle.run_cycles.specs.Shift.{IsShifted}
 
 not_past : (d e x : ℕ) → (e ≡ x → e ≤ x → ⊥) → (e ≤ x → e < x → ⊥) → d < e → x < e
@@ -64,3 +65,42 @@ shifted_after work d e x on lt none ends =
             },
           )
     ] refl
+
+-- by rule 3 each day becomes itself
+pub shifted_same : (work : ℕ → Bool) (d x : ℕ) → (IsShifted Same work x d ↔ ((d ≤ x) × (x ≤ d)))
+shifted_same work d x =
+    elim (work x) as (λ b. MatchBool b (d ≡ x) (d ≡ x) ↔ ((d ≤ x) × (x ≤ d))) [
+      | true ↦ ((λ same. (omega arith, omega arith)), λ within. omega (arith, within.0, within.1))
+      | false ↦ ((λ same. (omega arith, omega arith)), λ within. omega (arith, within.0, within.1))
+    ]
+
+-- where free days give nothing, a work day becomes itself alone
+alone : (work : ℕ → Bool) (d x : ℕ) → IsTrue (work d) → (MatchBool (work x) (d ≡ x) ⊥ ↔ ((d ≤ x) × (x ≤ d)))
+alone work d x on =
+    elim (work x) as (λ b. work x ≡ b → (MatchBool b (d ≡ x) ⊥ ↔ ((d ≤ x) × (x ≤ d)))) [
+      | true ↦ λ is. ((λ same. (omega arith, omega arith)), λ within. omega (arith, within.0, within.1))
+      | false ↦ λ is.
+          let P : ℕ → Type 0 = λ n. IsTrue (work n) in
+          ((λ h. absurd h), λ within. clash (work x) (let same : d ≡ x = omega (arith, within.0, within.1) in subst P same on) is)
+    ] refl
+
+pub shifted_skip : (work : ℕ → Bool) (d x : ℕ) → IsTrue (work d) → (IsShifted Skip work x d ↔ ((d ≤ x) × (x ≤ d)))
+shifted_skip work d x on = alone work d x on
+
+pub shifted_work_days_only : (work : ℕ → Bool) (d x : ℕ) → IsTrue (work d) → (IsShifted WorkDaysOnly work x d ↔ ((d ≤ x) × (x ≤ d)))
+shifted_work_days_only work d x on = alone work d x on
+
+shifted_from_work : (work : ℕ → Bool) (d x : ℕ) (Moved : Type 0) → (Moved → IsTrue (work d)) → MatchBool (work x) (d ≡ x) Moved → IsTrue (work d)
+shifted_from_work work d x Moved moved =
+    elim (work x) as (λ b. work x ≡ b → MatchBool b (d ≡ x) Moved → IsTrue (work d)) [
+      | true ↦ λ is h. let P : ℕ → Type 0 = λ n. IsTrue (work n) in subst P (sym h) is
+      | false ↦ λ is h. moved h
+    ] refl
+
+-- by every other rule only work days are named
+pub shifted_is_work : (rule : Rule) (work : ℕ → Bool) (d x : ℕ) → ¬ (rule ≡ Same) → IsShifted rule work x d → IsTrue (work d)
+shifted_is_work WorkDaysOnly work d x other h = shifted_from_work work d x _ (λ m. absurd m) h
+shifted_is_work Before work d x other h = shifted_from_work work d x (IsPreviousWorkDay work x d) (λ m. m.is_work) h
+shifted_is_work After work d x other h = shifted_from_work work d x (IsNextWorkDay work x d) (λ m. m.is_work) h
+shifted_is_work Same work d x other h = absurd (other refl)
+shifted_is_work Skip work d x other h = shifted_from_work work d x _ (λ m. absurd m) h

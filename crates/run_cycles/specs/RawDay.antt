@@ -16,3 +16,12 @@ IsDayAt (negsuc m) first None x = ⊥
 abbrev pub IsRawDay : Period → ℤ → ℕ → Type 0
 IsRawDay period k x =
     IsDay x × ((first : ℕ) × (end : Option ℕ) × IsInterval period first end × IsDayAt k first end x)
+
+-- some day from `low` to `high` is at the offset of the interval
+abbrev pub IsDayAtWithin : ℕ → ℕ → ℤ → ℕ → Option ℕ → Type 0
+IsDayAtWithin low high k first end =
+    (x : ℕ) × (low ≤ x) × (x ≤ high) × IsDay x × IsDayAt k first end x
+
+-- some day from `low` to `high` is the raw day at the offset
+abbrev pub IsRawDayWithin : ℕ → ℕ → Period → ℤ → Type 0
+IsRawDayWithin low high period k = (x : ℕ) × (low ≤ x) × (x ≤ high) × IsRawDay period k x

@@ -1,51 +1,122 @@
-use crate::{MAX_OFFSETS, Offsets, Periods};
-use plan_periods::Period;
-use std::test::Fail;
-use work_calendars::{Day, Short};
+ghost use Rattle.std.specs.Prelude.{IsTrue};
+ghost use Rattle.run_cycles.specs.Occurrence.{HaveOwnNames};
 
-#[test]
-fn offsets_have_their_range(rt: HostRuntime) -> Result<(), Fail> {
-    for (offset, good) in [
-        (1, true),
-        (999, true),
-        (-1, true),
-        (-999, true),
-        (0, false),
-        (1000, false),
-        (-1000, false),
-        (i16::MIN, false),
-    ] {
-        let items = vec![in rt.alloc(); 5, offset]?;
-        assert_eq!(rt; Offsets::from_vec(items).is_some(), good, "at {offset}");
-    }
-    assert!(rt; Offsets::from_vec(Vec::new(rt.alloc())).is_none());
-    let full = vec![in rt.alloc(); 7i16; MAX_OFFSETS]?;
-    let offsets = Offsets::from_vec(full).ok_or("64 offsets")?;
-    let copy = offsets.clone()?;
-    assert_eq!(rt; copy.as_slice().len(), MAX_OFFSETS);
-    assert_eq!(rt; copy.into_vec().as_slice(), offsets.as_slice());
-    let over = vec![in rt.alloc(); 7i16; 65]?;
-    assert!(rt; Offsets::from_vec(over).is_none());
-    Ok(())
+use crate::{Deadline, Kind, Named, Offsets, Periods, Rule, RunCycle, generate};
+use plan_periods::{Origins, Period};
+use std::alloc::{AllocError, Global};
+use std::process::Abort;
+use std::test::Fail;
+use work_calendars::{Calendar, Day, DayStatus, Minute, Moment, Short, Weekday, WorkIndex};
+
+mod rows;
+mod types;
+
+fn day(rt: &impl Abort, text: &str) -> Day {
+    Day::from_text(text).expect(rt, "a day")
 }
 
-#[test]
-fn periods_are_found_by_name(rt: HostRuntime) -> Result<(), Fail> {
-    let week = Short::from_text("WEEK").ok_or("a name")?;
-    let day = Short::from_text("DAY").ok_or("a name")?;
-    let mut periods = Periods::new(rt.alloc());
-    assert!(rt; periods.get(&week).is_none());
-    for interval in [7, 14] {
-        let origin = Day::FIRST;
-        periods.insert(week, Period::All { origin, interval })?;
+fn short(rt: &impl Abort, text: &str) -> Short {
+    Short::from_text(text).expect(rt, "a short name")
+}
+
+// Every day is a work day.
+fn no_calendar(alloc: Global) -> Calendar {
+    Calendar::new(alloc)
+}
+
+// Saturdays and Sundays are free.
+fn weekdays(alloc: Global) -> Calendar {
+    let mut calendar = Calendar::new(alloc);
+    calendar.set_weekday(Weekday::Saturday, DayStatus::Free);
+    calendar.set_weekday(Weekday::Sunday, DayStatus::Free);
+    calendar
+}
+
+// No day is a work day.
+fn no_work(alloc: Global) -> Calendar {
+    let mut calendar = weekdays(alloc);
+    calendar.set_weekday(Weekday::Monday, DayStatus::Free);
+    calendar.set_weekday(Weekday::Tuesday, DayStatus::Free);
+    calendar.set_weekday(Weekday::Wednesday, DayStatus::Free);
+    calendar.set_weekday(Weekday::Thursday, DayStatus::Free);
+    calendar.set_weekday(Weekday::Friday, DayStatus::Free);
+    calendar
+}
+
+// The run cycle `PAY,RC,N,WEEK,RULE,OFFSETS,2024-01-01,,08.00,0,18.00`.
+fn pay(
+    rt: &impl Abort,
+    alloc: Global,
+    rule: Rule,
+    offsets: &[i16],
+) -> Result<RunCycle, AllocError> {
+    let time = Minute::from_text("18.00").expect(rt, "a time");
+    let offsets = Vec::from_slice(alloc, offsets)?;
+    Ok(RunCycle {
+        name: short(rt, "RC"),
+        kind: Kind::Normal(Deadline { days: 0, time }),
+        period: short(rt, "WEEK"),
+        rule,
+        offsets: Offsets::from_vec(offsets).expect(rt, "offsets"),
+        in_effect: day(rt, "2024-01-01"),
+        out_effect: None,
+        ia: Minute::from_text("08.00").expect(rt, "a time"),
+    })
+}
+
+// Seven days from 2024-01-01 on, again and again.
+fn week(rt: &impl Abort) -> Period {
+    Period::All {
+        origin: day(rt, "2024-01-01"),
+        interval: 7,
     }
-    match periods.get(&week) {
-        Some(Period::All { interval, .. }) => assert_eq!(rt; *interval, 14),
-        _ => assert!(rt; false, "the last one under a name stays"),
+}
+
+fn listed(
+    rt: &impl Abort,
+    alloc: Global,
+    entries: &[(&str, Option<&str>)],
+) -> Result<Period, AllocError> {
+    let mut origins = Vec::new(alloc);
+    for (origin, end) in entries {
+        let origin = day(rt, origin);
+        match end {
+            Some(end) => origins.push((origin, Some(day(rt, end))))?,
+            None => origins.push((origin, None))?,
+        }
     }
-    assert!(rt; periods.get(&day).is_none());
-    assert!(rt; !periods.remove(&day));
-    assert!(rt; periods.remove(&week));
-    assert!(rt; periods.get(&week).is_none());
-    Ok(())
+    Ok(Period::Listed(Origins::new(origins)))
+}
+
+fn have_own_names(cycles: &[RunCycle]) -> bool
+    ensures { IsTrue result → HaveOwnNames cycles.now }
+{
+    for i in 0..cycles.len() {
+        for j in 0..i {
+            if cycles[j].name == cycles[i].name {
+                return false;
+            }
+        }
+    }
+    true
+}
+
+// What the run cycles name, where the period `WEEK` is this.
+fn generated(
+    rt: &impl Abort,
+    alloc: Global,
+    calendar: &Calendar,
+    period: Period,
+    cycles: &[RunCycle],
+    from: &str,
+    to: &str,
+) -> Result<Vec<Named>, AllocError> {
+    assert!(rt; period.check().is_ok());
+    assert!(rt; have_own_names(cycles));
+    let index = WorkIndex::build(alloc, calendar)?;
+    let mut periods = Periods::new(alloc);
+    periods.insert(short(rt, "WEEK"), period)?;
+    let to = day(rt, to);
+    assert!(rt; to.number() <= 36159, "past the last planning day");
+    generate(alloc, cycles, &periods, &index, day(rt, from), to)
 }
