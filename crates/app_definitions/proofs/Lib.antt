@@ -1,2 +1,4 @@
 pub mod RecordLemmas
 pub mod ByNameLemmas
+pub mod FieldLemmas
+pub mod CalendarLemmas

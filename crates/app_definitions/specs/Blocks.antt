@@ -1,11 +1,38 @@
--- What a data block reads as.
+-- What a data block reads as, and at which record it is faulty.
 use Rattle.std.specs.Prelude.{◌≡◌, ℕ, List}
 use Rattle.std.specs.Ordering.{nat_cmp}
 use Rattle.std.specs.Cmp.Lexicographic.{slice_cmp}
 use Rattle.std.specs.FinMap as map
-use Rattle.app_definitions.specs.ByName.{AreGivenBy}
-use Rattle.app_definitions.specs.declared.blocks.Block.{Block}
+use Rattle.app_definitions.specs.Applications.{FitsApplication, IsApplicationOf}
+use Rattle.app_definitions.specs.ByName.{FitsKind, AreGivenBy}
+use Rattle.app_definitions.specs.Calendars.{FitsCalendar, IsCalendarOf}
+use Rattle.app_definitions.specs.Predecessors.{FitsPredecessors, ArePredecessorsOf}
+use Rattle.app_definitions.specs.Records.{block_records, AllGood, FirstFaulty}
+use Rattle.app_definitions.specs.declared.kinds.Block.{Block}
+use Rattle.app_definitions.specs.declared.kinds.Block.TheVariants as block
+use Rattle.app_definitions.specs.declared.kinds.Kind.{Kind}
+use Rattle.app_definitions.specs.declared.kinds.Kind.TheVariants as kind
+use Rattle.app_definitions.specs.declared.records.BlockFault.{BlockFault}
+use Rattle.app_definitions.specs.declared.records.BlockFault.TheVariants.{Faulty, Memory}
 
--- the block is of that kind, and its definitions are those that the records give
-abbrev pub Gives : {D : Type 0} → (map.FinMap (slice_cmp nat_cmp) D → Block) → (D → List (List (List ℕ)) → Type 0) → Block → List (List (List ℕ)) → Type 0
-Gives {D} kind IsMadeOf block rows = (definitions : map.FinMap (slice_cmp nat_cmp) D) × (block ≡ kind definitions) × AreGivenBy IsMadeOf definitions rows
+-- every record is good after those before it, and the block has the definitions that they give
+abbrev pub Gives : {D : Type 0} → (map.FinMap (slice_cmp nat_cmp) D → Block) → ℕ → (List (List (List ℕ)) → List (List ℕ) → Type 0) → (D → List (List (List ℕ)) → Type 0) → List (List (List ℕ)) → Block → Type 0
+Gives {D} of fields FitsName IsMadeOf rows b =
+    AllGood (FitsKind fields FitsName) rows × (definitions : map.FinMap (slice_cmp nat_cmp) D) × (b ≡ of definitions) × AreGivenBy IsMadeOf definitions rows
+
+-- a text of that kind reads as the block
+abbrev pub ReadsAs : Kind → List ℕ → Block → Type 0
+ReadsAs kind.Applications text b = Gives block.Applications 3 FitsApplication IsApplicationOf (block_records text) b
+ReadsAs kind.Calendars text b = Gives block.Calendars 3 FitsCalendar IsCalendarOf (block_records text) b
+ReadsAs kind.Predecessors text b = Gives block.Predecessors 2 FitsPredecessors ArePredecessorsOf (block_records text) b
+
+-- the record of that number is the first faulty one of a text of that kind
+abbrev pub IsFaultyAt : Kind → List ℕ → ℕ → Type 0
+IsFaultyAt kind.Applications text number = FirstFaulty (FitsKind 3 FitsApplication) (block_records text) number
+IsFaultyAt kind.Calendars text number = FirstFaulty (FitsKind 3 FitsCalendar) (block_records text) number
+IsFaultyAt kind.Predecessors text number = FirstFaulty (FitsKind 2 FitsPredecessors) (block_records text) number
+
+-- a fault of a text of that kind: its first faulty record, or want of memory
+abbrev pub IsFaultOf : Kind → List ℕ → BlockFault → Type 0
+IsFaultOf k text (Faulty number) = IsFaultyAt k text number
+IsFaultOf k text Memory = Unit {0}

@@ -1,5 +1,6 @@
 pub mod Applications
 pub mod Blocks
+pub mod Calendars
 pub mod ByName
 pub mod Definitions
 pub mod Fields

@@ -2,12 +2,10 @@
 
 ghost use Rattle.std.specs.Prelude.{◌≡◌, ◌↔◌, ℕ, List, [], ◌∷◌, ◌++◌, get_or, length, IsTrue, IsSome, IfSome, IfOk};
 ghost use Rattle.csv.specs.Records.{fields_of};
-ghost use Rattle.app_definitions.specs.Fields.{field, some_unless_empty, IsEmptyOr};
 ghost use Rattle.app_definitions.specs.Applications.{FitsApplication, IsApplicationOf};
-ghost use Rattle.work_calendars.specs.Name.{IsName};
 
 use crate::by_name::Definition;
-use crate::fields::{field_at, name_of};
+use crate::fields::{field_at, optional_name_of};
 use csv::ByteRecord;
 use std::alloc::{AllocError, Global};
 use work_calendars::Name;
@@ -33,17 +31,6 @@ fn application_of(row: &ByteRecord) -> Option<Application>
     };
     let calendar = optional_name_of(field_at(row, 2))?;
     Some(Application { active, calendar })
-}
-
-// The name that these bytes spell, or no name where there are none.
-fn optional_name_of(bytes: &[u8]) -> Option<Option<Name>>
-    ensures valid { IsSome result ↔ IsEmptyOr IsName bytes.now }
-    ensures value { IfSome result (λ o. o ≡ some_unless_empty bytes.now) }
-{
-    if bytes.is_empty() {
-        return Some(None);
-    }
-    Some(Some(name_of(bytes)?))
 }
 
 impl Definition for Application {

@@ -1,34 +1,27 @@
 // Data blocks, read whole or refused at the first faulty record.
 
 ghost use Rattle.std.specs.Prelude.{◌≡◌, ◌≤◌, length, OnOk, IfOk, IfErr};
-ghost use Rattle.app_definitions.specs.Applications.{FitsApplication, IsApplicationOf};
-ghost use Rattle.app_definitions.specs.Blocks.{Gives};
+ghost use Rattle.app_definitions.specs.Blocks.{ReadsAs, IsFaultOf};
 ghost use Rattle.app_definitions.specs.ByName.{FitsKind, AreGivenBy};
-ghost use Rattle.app_definitions.specs.Predecessors.{FitsPredecessors, ArePredecessorsOf};
+ghost use Rattle.app_definitions.specs.Definitions.{names_given};
 ghost use Rattle.app_definitions.specs.Records.{block_records, AllGood, IsFirstFaulty};
 
-use crate::applications::Application;
 use crate::by_name::{ByName, Definition};
-use crate::predecessors::Predecessors;
+use crate::kinds::{Block, Kind};
 use crate::records::{BlockFault, gather_all};
 use std::alloc::Global;
 
-/// A kind of definitions.
-#[derive(Clone, Copy, Debug, PartialEq, Eq)]
-pub enum Kind {
-    /// Applications.
-    Applications,
-    /// Lists of predecessors, by application.
-    Predecessors,
-}
-
-/// The definitions that a data block gives, all of one kind.
-#[derive(Drop)]
-pub enum Block {
-    /// Applications by name.
-    Applications(ByName<Application>),
-    /// Lists of predecessors by application.
-    Predecessors(ByName<Predecessors>),
+impl Block {
+    /// How many names the block gives.
+    pub fn len(&self) -> usize
+        ensures { result ≡ names_given self.now }
+    {
+        match self {
+            Block::Applications(applications) => applications.len(),
+            Block::Calendars(calendars) => calendars.len(),
+            Block::Predecessors(predecessors) => predecessors.len(),
+        }
+    }
 }
 
 // The definitions that a block of one kind gives.
@@ -46,19 +39,39 @@ fn read_kind<D: Definition>(alloc: Global, text: &[u8]) -> Result<ByName<D>, Blo
 /// Reads a block of applications.
 pub fn read_applications(alloc: Global, text: &[u8]) -> Result<Block, BlockFault>
     requires { length text.now ≤ 262144 }
-    ensures good { OnOk result (AllGood (FitsKind 3 FitsApplication) (block_records text.now)) }
-    ensures given { IfOk result (λ b. Gives Block.Applications IsApplicationOf b (block_records text.now)) }
-    ensures faulty { IfErr result (IsFirstFaulty (FitsKind 3 FitsApplication) (block_records text.now)) }
+    ensures reads { IfOk result (ReadsAs Kind.Applications text.now) }
+    ensures faulty { IfErr result (IsFaultOf Kind.Applications text.now) }
 {
     Ok(Block::Applications(read_kind(alloc, text)?))
+}
+
+/// Reads a block of calendars.
+pub fn read_calendars(alloc: Global, text: &[u8]) -> Result<Block, BlockFault>
+    requires { length text.now ≤ 262144 }
+    ensures reads { IfOk result (ReadsAs Kind.Calendars text.now) }
+    ensures faulty { IfErr result (IsFaultOf Kind.Calendars text.now) }
+{
+    Ok(Block::Calendars(read_kind(alloc, text)?))
 }
 
 /// Reads a block of predecessors.
 pub fn read_predecessors(alloc: Global, text: &[u8]) -> Result<Block, BlockFault>
     requires { length text.now ≤ 262144 }
-    ensures good { OnOk result (AllGood (FitsKind 2 FitsPredecessors) (block_records text.now)) }
-    ensures given { IfOk result (λ b. Gives Block.Predecessors ArePredecessorsOf b (block_records text.now)) }
-    ensures faulty { IfErr result (IsFirstFaulty (FitsKind 2 FitsPredecessors) (block_records text.now)) }
+    ensures reads { IfOk result (ReadsAs Kind.Predecessors text.now) }
+    ensures faulty { IfErr result (IsFaultOf Kind.Predecessors text.now) }
 {
     Ok(Block::Predecessors(read_kind(alloc, text)?))
+}
+
+/// Reads a block of that kind.
+pub fn read_block(alloc: Global, kind: Kind, text: &[u8]) -> Result<Block, BlockFault>
+    requires { length text.now ≤ 262144 }
+    ensures reads { IfOk result (ReadsAs kind text.now) }
+    ensures faulty { IfErr result (IsFaultOf kind text.now) }
+{
+    match kind {
+        Kind::Applications => read_applications(alloc, text),
+        Kind::Calendars => read_calendars(alloc, text),
+        Kind::Predecessors => read_predecessors(alloc, text),
+    }
 }

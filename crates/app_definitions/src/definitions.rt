@@ -4,17 +4,19 @@ ghost use Rattle.std.specs.Prelude.{◌≡◌, ◌↔◌, IsTrue, IfOk, OnOk, On
 ghost use Rattle.app_definitions.specs.Definitions.{merged, names_given, without, IsDefined, no_definitions};
 
 use crate::applications::Application;
-use crate::blocks::{Block, Kind};
 use crate::by_name::ByName;
+use crate::kinds::{Block, Kind};
 use crate::predecessors::Predecessors;
 use std::alloc::{AllocError, Global};
-use work_calendars::Name;
+use work_calendars::{Calendar, Name};
 
 /// The definitions that the planner works from.
 #[derive(Drop)]
 pub struct Definitions {
     /// Applications by name.
     pub applications: ByName<Application>,
+    /// Calendars by name.
+    pub calendars: ByName<Calendar>,
     /// Lists of predecessors by application.
     pub predecessors: ByName<Predecessors>,
 }
@@ -26,6 +28,7 @@ impl Definitions {
     {
         Definitions {
             applications: ByName::new(alloc),
+            calendars: ByName::new(alloc),
             predecessors: ByName::new(alloc),
         }
     }
@@ -39,6 +42,7 @@ impl Definitions {
     {
         match block {
             Block::Applications(applications) => self.applications.append(applications),
+            Block::Calendars(calendars) => self.calendars.append(calendars),
             Block::Predecessors(predecessors) => self.predecessors.append(predecessors),
         }
     }
@@ -50,6 +54,7 @@ impl Definitions {
     {
         match kind {
             Kind::Applications => self.applications.remove(name),
+            Kind::Calendars => self.calendars.remove(name),
             Kind::Predecessors => self.predecessors.remove(name),
         }
     }

@@ -5,15 +5,18 @@
 mod applications;
 mod blocks;
 mod by_name;
+mod calendars;
 mod definitions;
 mod fields;
+mod kinds;
 mod predecessors;
 mod records;
 
 pub use applications::Application;
-pub use blocks::{Block, Kind, read_applications, read_predecessors};
+pub use blocks::{read_applications, read_block, read_calendars, read_predecessors};
 pub use by_name::ByName;
 pub use definitions::Definitions;
+pub use kinds::{Block, Kind};
 pub use predecessors::Predecessors;
 pub use records::BlockFault;
 

@@ -1,5 +1,5 @@
 // Blocks, accepted and refused. What they give comes from the format's own words.
-use crate::{BlockFault, Kind, read_applications, read_predecessors};
+use crate::{BlockFault, Kind, read_block};
 use std::alloc::Global;
 
 // 0 where the block is accepted, the number of the faulty record where it isn't, 99 for want of memory, and 98 for a block
@@ -8,11 +8,7 @@ fn fault(alloc: Global, kind: Kind, text: &[u8]) -> usize {
     if text.len() > 262144 {
         return 98;
     }
-    let read = match kind {
-        Kind::Applications => read_applications(alloc, text),
-        Kind::Predecessors => read_predecessors(alloc, text),
-    };
-    match read {
+    match read_block(alloc, kind, text) {
         Ok(_) => 0,
         Err(BlockFault::Faulty { number }) => number,
         Err(BlockFault::Memory) => 99,
@@ -76,5 +72,31 @@ fn predecessors(rt: HostRuntime) {
             want,
             "{text:?}"
         );
+    }
+}
+
+#[test]
+fn calendars(rt: HostRuntime) {
+    let table: [(&[u8], usize); 14] = [
+        (b"", 0),
+        (b"DEFAULT,SAT,FREE\nDEFAULT,SUN,FREE\n", 0),
+        (b"DEFAULT,SAT,FREE\nB,SAT,FREE\nDEFAULT,MON,WORK\n", 0),
+        (
+            b"C,2024-01-10,FREE\nC,1972-01-01,WORK\nC,2071-12-31,WORK\n",
+            0,
+        ),
+        (b"C,SAT,FREE\nC,SAT,FREE\n", 2),
+        (b"C,2024-01-10,FREE\nC,SAT,FREE\nC,2024-01-10,WORK\n", 3),
+        (b"C,1971-12-31,FREE\n", 1),
+        (b"C,2072-01-01,FREE\n", 1),
+        (b"C,2023-02-29,FREE\n", 1),
+        (b"C,2024-1-10,FREE\n", 1),
+        (b"C,Sat,FREE\n", 1),
+        (b"C,SAT,Free\n", 1),
+        (b"C,SAT\n", 1),
+        (b"C,SAT,FREE\nC,XXX,FREE\nC,SAT,FREE\n", 2),
+    ];
+    for (text, want) in table {
+        assert_eq!(rt; fault(rt.alloc(), Kind::Calendars, text), want, "{text:?}");
     }
 }
