@@ -101,7 +101,7 @@ progress_starts s w (Some text) tally e f =
 pub progress_skips : (s0 s : State) (w0 w b c : Option (List ℕ)) (text : List ℕ) (tally : Tally) (found : List Item) → Progress s0 s w0 w b text tally
     → IfSome b (λ zs. ItemRead zs c found) → found ≡ [] → Progress s0 s w0 w c text tally
 progress_skips s0 s w0 w b c text tally found p read none =
-    let (ys, now, items) = subst (λ o. IfSome o (λ zs. ItemRead zs c found)) p.now_is read in
+    let (ys, now, items, shorter) = subst (λ o. IfSome o (λ zs. ItemRead zs c found)) p.now_is read in
     record {
       done = p.done;
       left = ys;
@@ -120,7 +120,7 @@ pub progress_answers : (s0 s s' : State) (w0 w w' b c : Option (List ℕ)) (text
     → n.accepted ≡ u64_saturate (m.accepted + (if met then 1 else 0)) → n.refused ≡ u64_saturate (m.refused + (if met then 0 else 1))
     → Progress s0 s' w0 w' c text n
 progress_answers s0 s s' w0 w w' b c text m n found item met p read one answered more_accepted more_refused =
-    let (ys, now, items) = subst (λ o. IfSome o (λ zs. ItemRead zs c found)) p.now_is read in
+    let (ys, now, items, shorter) = subst (λ o. IfSome o (λ zs. ItemRead zs c found)) p.now_is read in
     let (out, r, wrote) = answered in
     record {
       done = p.done ++ item ∷ [];
@@ -177,7 +177,7 @@ pub halts_within : (s0 s s' : State) (w0 w w' b c : Option (List ℕ)) (text : L
     → Progress s0 s w0 w b text tally → IfSome b (λ zs. ItemRead zs c found) → found ≡ item ∷ [] → cause_of fault ≡ cause → tally_in fault ≡ tally
     → ItemBreaks cause s s' w w' item → Stopped (λ _. []) s0 s' w0 w' text fault
 halts_within s0 s s' w0 w w' b c text tally found item Memory fault p read one e told breaks =
-    let (ys, now, items) = subst (λ o. IfSome o (λ zs. ItemRead zs c found)) p.now_is read in
+    let (ys, now, items, shorter) = subst (λ o. IfSome o (λ zs. ItemRead zs c found)) p.now_is read in
     record {
       done = p.done;
       rest = item ∷ items_of ys;
@@ -193,7 +193,7 @@ halts_within s0 s s' w0 w w' b c text tally found item Memory fault p read one e
 halts_within s0 s s' w0 w w' b c text tally found item (Device Store) fault p read one e told breaks = absurd breaks
 halts_within s0 s s' w0 w w' b c text tally found item (Device Reader) fault p read one e told breaks = absurd breaks
 halts_within s0 s s' w0 w w' b c text tally found item (Device Writer) fault p read one e told breaks =
-    let (ys, now, items) = subst (λ o. IfSome o (λ zs. ItemRead zs c found)) p.now_is read in
+    let (ys, now, items, shorter) = subst (λ o. IfSome o (λ zs. ItemRead zs c found)) p.now_is read in
     let (tail, cut, appended) = breaks in
     record {
       done = p.done;

@@ -1,8 +1,8 @@
 -- Lemmas on items that are read line by line.
-use Rattle.std.proofs.Common.{◌≡◌, ℕ, ◌+◌, ◌-◌, ◌<◌, inl, inr, List, [], ◌∷◌, ◌++◌, length, take, refl, sym, ap, subst, ◌∙◌, arith, append_assoc, append-nil, length-take-le, true≢false}
+use Rattle.std.proofs.Common.{◌≡◌, ℕ, ◌+◌, ◌-◌, ◌<◌, ◌≤◌, inl, inr, List, [], ◌∷◌, ◌++◌, length, take, refl, sym, ap, subst, ◌∙◌, arith, append_assoc, append-nil, length-take-le, true≢false}
 use Rattle.std.proofs.lemmas.Bool.{lt-leb}
 use Rattle.std.proofs.Math.Seq.{take-append_seam}
-use Rattle.std.specs.Prelude.{Option, None, Some, IfSome, IsTrue, ◌↔◌, Bool, true, false, not, nat_le, if◌then◌else◌}
+use Rattle.std.specs.Prelude.{Option, None, Some, IfSome, IsTrue, ◌↔◌, Bool, true, false, not, nat_le, ◌==◌, if◌then◌else◌}
 use Rattle.std.specs.Option.{option_map}
 use Rattle.std.specs.Io.BufRead.{take_through, drop_through, DropsThrough}
 use Rattle.planner_cli.specs.Lines.{raw_lines, line_of, kept, longest_line, opens_data, ends_data, kind_of}
@@ -38,6 +38,15 @@ option_map-nothing : (o : Option (List ℕ)) → o ≡ option_map (λ b. [] ++ b
 option_map-nothing None = refl
 option_map-nothing (Some b) = refl
 
+-- past its first line a text is shorter, if it has a byte
+pub drop_through_shorter : (xs : List ℕ) → length (drop_through 10 xs) ≤ length xs - 1
+drop_through_shorter [] = omega arith
+drop_through_shorter (x ∷ xs) = at (x == 10) (drop_through_shorter xs)
+  where
+    at : (b : Bool) → length (drop_through 10 xs) ≤ length xs - 1 → length (if b then xs else drop_through 10 xs) ≤ length (x ∷ xs) - 1
+    at true h = omega arith
+    at false h = omega arith
+
 -- how far data have been read: `seen` are their bytes so far, of which `held` are kept
 pub record Reading (xs : List ℕ) (now : Option (List ℕ)) (held : List ℕ) : Type 0 where
   pub seen : List ℕ
@@ -46,11 +55,12 @@ pub record Reading (xs : List ℕ) (now : Option (List ℕ)) (held : List ℕ) :
   pub held_is : held ≡ take (longest_block + 1) seen
   pub block : bytes_before_end (raw_lines xs) ≡ option_map (λ b. seen ++ b) (bytes_before_end (raw_lines left))
   pub items : items_of_lines true (raw_lines xs) ≡ items_of_lines true (raw_lines left)
+  pub shorter : length left ≤ length xs
 
 pub reading_starts : (a : Option (List ℕ)) (held : List ℕ) → held ≡ [] → IfSome a (λ xs. Reading xs a held)
 reading_starts None held e = tt
 reading_starts (Some xs) held e =
-    record { seen = []; left = xs; now_is = refl; held_is = e ∙ sym (take_short (longest_block + 1) [] (omega arith)); block = option_map-nothing _; items = refl }
+    record { seen = []; left = xs; now_is = refl; held_is = e ∙ sym (take_short (longest_block + 1) [] (omega arith)); block = option_map-nothing _; items = refl; shorter = omega arith }
 
 -- what is known of a line whose front of so many bytes is held
 pub record FrontLine (room : ℕ) (zs : List ℕ) (line : List ℕ) : Type 0 where
@@ -85,6 +95,7 @@ reading_on xs b c held held' line r here grown rest e =
           ∙ ap (λ h. kept (longest_block + 1) h raw) r.held_is ∙ sym (take_parts (longest_block + 1) r.seen raw);
       block = r.block ∙ ap (option_map (λ b. r.seen ++ b)) (ap bytes_before_end lines ∙ before_end-more _ _ more) ∙ option_map-parts r.seen raw _;
       items = r.items ∙ ap (items_of_lines true) lines ∙ items-in_data _ _ false more;
+      shorter = omega (arith, r.shorter, drop_through_shorter zs);
     }
 
 -- what a front of one byte more than n tells of all bytes
@@ -114,7 +125,7 @@ items_of-lines ys = refl
 
 -- what reading data up to their end gives
 abbrev pub DataRead : List ℕ → Option (List ℕ) → DataEnd → List ℕ → Type 0
-DataRead xs c end held = (ys : List ℕ) × (c ≡ Some ys) × (block_of (bytes_before_end (raw_lines xs)) ≡ block_found end held) × (items_of_lines true (raw_lines xs) ≡ items_of ys)
+DataRead xs c end held = (ys : List ℕ) × (c ≡ Some ys) × (block_of (bytes_before_end (raw_lines xs)) ≡ block_found end held) × (items_of_lines true (raw_lines xs) ≡ items_of ys) × (length ys ≤ length xs)
 
 pub reading_ends : (xs : List ℕ) (b c : Option (List ℕ)) (held held' line : List ℕ) → Reading xs b held → IfSome b (λ zs. FrontLine 4 zs line)
     → IfSome b (λ zs. held' ≡ kept (longest_block + 1) held (take_through 10 zs)) → DropsThrough b c 10 → ends_data line ≡ true
@@ -133,6 +144,7 @@ reading_ends xs b c held held' line r here grown rest e =
       subst (λ o. IfSome o (λ ys. c ≡ Some (drop_through 10 ys))) r.now_is rest,
       ap block_of before ∙ block_of-some r.seen ∙ whole_or_long longest_block r.seen held r.held_is ∙ ap (block_found (end_of_data (length held))) (sym back),
       r.items ∙ ap (items_of_lines true) lines ∙ items-in_data _ _ true last ∙ items_of-lines _,
+      omega (arith, r.shorter, drop_through_shorter zs),
     )
 
 no_end : block_of (bytes_before_end (raw_lines [])) ≡ Unended
@@ -166,11 +178,12 @@ reading_missing xs b c held held' any r some rest e =
       subst (λ o. IfSome o (λ ys. c ≡ Some (drop_through 10 ys))) r.now_is rest ∙ ap (λ ys. Some (drop_through 10 ys)) none,
       ap block_of (before ∙ sym no_block) ∙ no_end,
       r.items ∙ ap (λ ys. items_of_lines true (raw_lines ys)) none ∙ no_items true ∙ sym (no_items false) ∙ items_of-lines [],
+      omega arith,
     )
 
 -- what reading an item gives
 abbrev pub ItemRead : List ℕ → Option (List ℕ) → List Item → Type 0
-ItemRead xs c found = (ys : List ℕ) × (c ≡ Some ys) × (items_of xs ≡ found ++ items_of ys)
+ItemRead xs c found = (ys : List ℕ) × (c ≡ Some ys) × (items_of xs ≡ found ++ items_of ys) × (length ys ≤ length xs - 1)
 
 items_of-first : (xs : List ℕ) → 0 < length xs → let line = line_of (take_through 10 xs) in let rest = raw_lines (drop_through 10 xs) in
     items_of xs ≡ items_of_line (kind_of line) line rest ++ items_of_lines (opens_data line) rest
@@ -205,7 +218,7 @@ pub item_end : (a c : Option (List ℕ)) (any : Bool) → IfSome a (λ xs. IsTru
 item_end None c any some rest e = (tt, tt)
 item_end (Some xs) c any some rest e =
     let none = nothing_left xs any some e in
-    ((drop_through 10 xs, rest, ap items_of none ∙ sym (ap (λ ys. items_of (drop_through 10 ys)) none)), none)
+    ((drop_through 10 xs, rest, ap items_of none ∙ sym (ap (λ ys. items_of (drop_through 10 ys)) none), drop_through_shorter xs), none)
 
 holds_line : (xs line : List ℕ) → FrontLine 1026 xs line → Holds longest_line line (line_of (take_through 10 xs))
 holds_line xs line h = subst (λ l. Holds longest_line l (line_of (take_through 10 xs))) (sym h.line_is) (holds_front longest_line xs)
@@ -223,6 +236,7 @@ item_alone (Some xs) c line block first rest e =
       items_of-first xs first.some ∙ ap (λ l. l ++ items_of_lines (opens_data whole) (raw_lines (drop_through 10 xs))) (found ∙ ap (λ k. items_found (found_alone k) line block) (sym (kind_of-held line whole h)))
           ∙ ap (λ b. items_found (found_alone (kind_of line)) line block ++ items_of_lines b (raw_lines (drop_through 10 xs))) closed
           ∙ ap (λ l. items_found (found_alone (kind_of line)) line block ++ l) (items_of-lines (drop_through 10 xs)),
+      drop_through_shorter xs,
     )
 
 pub item_with_data : (a b c : Option (List ℕ)) (line block : List ℕ) (end : DataEnd) → IfSome a (λ xs. FrontLine 1026 xs line) → DropsThrough a b 10 → opens_data line ≡ true
@@ -232,11 +246,12 @@ item_with_data (Some xs) b c line block end first rest e read =
     let whole = line_of (take_through 10 xs) in
     let h = holds_line xs line first in
     let open' : opens_data whole ≡ true = sym (opens_data-held line whole h) ∙ e in
-    let (ys, now, same, items) = subst (λ o. IfSome o (λ zs. DataRead zs c end block)) rest read in
+    let (ys, now, same, items, shorter) = subst (λ o. IfSome o (λ zs. DataRead zs c end block)) rest read in
     let found = found-data (kind_of whole) line whole block end (raw_lines (drop_through 10 xs)) (statement-held line whole h) open' same in (
       ys,
       now,
       items_of-first xs first.some ∙ ap (λ l. l ++ items_of_lines (opens_data whole) (raw_lines (drop_through 10 xs))) (found ∙ ap (λ k. items_found (found_with_data k end) line block) (sym (kind_of-held line whole h)))
           ∙ ap (λ b. items_found (found_with_data (kind_of line) end) line block ++ items_of_lines b (raw_lines (drop_through 10 xs))) open'
           ∙ ap (λ l. items_found (found_with_data (kind_of line) end) line block ++ l) items,
+      omega (arith, shorter, drop_through_shorter xs),
     )

@@ -1,5 +1,5 @@
 //! Items of a stream: a line that is no statement, a statement, a statement with its data.
-ghost use Rattle.std.specs.Prelude.{◌≡◌, ◌≤◌, ℕ, List, [], ◌++◌, length, max, true, Some, IfOk, IfSome};
+ghost use Rattle.std.specs.Prelude.{◌≡◌, ◌-◌, ◌≤◌, ℕ, List, [], ◌++◌, length, max, true, Some, IfOk, IfSome};
 ghost use Rattle.planner_cli.specs.Lines.{raw_lines};
 ghost use Rattle.planner_cli.specs.Items.{items_of, items_of_lines, bytes_before_end, block_of};
 ghost use Rattle.planner_cli.specs.Found.{block_found, items_found, found_alone, found_with_data, end_of_data};
@@ -61,7 +61,10 @@ pub struct Page {
 
 impl Page {
     /// A page with nothing on it. It takes no memory.
-    pub fn new(alloc: Global) -> Page {
+    pub fn new(alloc: Global) -> Page
+        ensures line { result.line.items ≡ [] }
+        ensures block { result.block.items ≡ [] }
+    {
         Page {
             line: Vec::new(alloc),
             block: Vec::new(alloc),
@@ -69,12 +72,13 @@ impl Page {
         }
     }
 
-    /// Reads up to the end of the next line, and of the data after it. `line` then holds the line
+    /// Reads up to the end of the next line, and of the data after it: a byte at least, if there is one. `line` then holds the line
     /// without its end, `block` the bytes of its data, each as far as there is room.
     pub fn read_item<R: BufRead>(&mut self, reader: &mut R) -> Result<Found, ReadFault>
         ensures items { IfOk result (λ found. IfSome (R.remaining reader.old) (λ xs. (ys : List ℕ)
             × (R.remaining reader.new ≡ Some ys)
-            × (items_of xs ≡ items_found found self.new.line.items self.new.block.items ++ items_of ys))) }
+            × (items_of xs ≡ items_found found self.new.line.items self.new.block.items ++ items_of ys)
+            × (length ys ≤ length xs - 1))) }
         ensures end { result ≡ Ok Found.AtEnd → IfSome (R.remaining reader.old) (λ xs. xs ≡ []) }
     {
         self.line.clear();
@@ -124,7 +128,8 @@ fn read_block<R: BufRead>(
     ensures read { IfOk result (λ end. IfSome (R.remaining reader.old) (λ xs. (ys : List ℕ)
         × (R.remaining reader.new ≡ Some ys)
         × (block_of (bytes_before_end (raw_lines xs)) ≡ block_found end block.new.items)
-        × (items_of_lines true (raw_lines xs) ≡ items_of ys))) }
+        × (items_of_lines true (raw_lines xs) ≡ items_of ys)
+        × (length ys ≤ length xs))) }
     // At any reader, and also after a fault.
     ensures line_bound { length line.new.items ≤ max 4 (length line.old.items) }
     ensures block_bound { length block.new.items ≤ 262145 }
