@@ -2,3 +2,4 @@ pub mod RecordLemmas
 pub mod ByNameLemmas
 pub mod FieldLemmas
 pub mod CalendarLemmas
+pub mod PeriodLemmas

@@ -6,6 +6,7 @@ use Rattle.std.specs.FinMap as map
 use Rattle.app_definitions.specs.Applications.{FitsApplication, IsApplicationOf}
 use Rattle.app_definitions.specs.ByName.{FitsKind, AreGivenBy}
 use Rattle.app_definitions.specs.Calendars.{FitsCalendar, IsCalendarOf}
+use Rattle.app_definitions.specs.Periods.{FitsPeriod, IsPeriodOf}
 use Rattle.app_definitions.specs.Predecessors.{FitsPredecessors, ArePredecessorsOf}
 use Rattle.app_definitions.specs.Records.{block_records, AllGood, FirstFaulty}
 use Rattle.app_definitions.specs.declared.kinds.Block.{Block}
@@ -24,12 +25,14 @@ Gives {D} of fields FitsName IsMadeOf rows b =
 abbrev pub ReadsAs : Kind → List ℕ → Block → Type 0
 ReadsAs kind.Applications text b = Gives block.Applications 3 FitsApplication IsApplicationOf (block_records text) b
 ReadsAs kind.Calendars text b = Gives block.Calendars 3 FitsCalendar IsCalendarOf (block_records text) b
+ReadsAs kind.Periods text b = Gives block.Periods 4 FitsPeriod IsPeriodOf (block_records text) b
 ReadsAs kind.Predecessors text b = Gives block.Predecessors 2 FitsPredecessors ArePredecessorsOf (block_records text) b
 
 -- the record of that number is the first faulty one of a text of that kind
 abbrev pub IsFaultyAt : Kind → List ℕ → ℕ → Type 0
 IsFaultyAt kind.Applications text number = FirstFaulty (FitsKind 3 FitsApplication) (block_records text) number
 IsFaultyAt kind.Calendars text number = FirstFaulty (FitsKind 3 FitsCalendar) (block_records text) number
+IsFaultyAt kind.Periods text number = FirstFaulty (FitsKind 4 FitsPeriod) (block_records text) number
 IsFaultyAt kind.Predecessors text number = FirstFaulty (FitsKind 2 FitsPredecessors) (block_records text) number
 
 -- a fault of a text of that kind: its first faulty record, or want of memory

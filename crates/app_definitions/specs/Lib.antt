@@ -4,5 +4,7 @@ pub mod Calendars
 pub mod ByName
 pub mod Definitions
 pub mod Fields
+pub mod Divisions
+pub mod Periods
 pub mod Predecessors
 pub mod Records

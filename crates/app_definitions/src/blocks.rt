@@ -19,6 +19,7 @@ impl Block {
         match self {
             Block::Applications(applications) => applications.len(),
             Block::Calendars(calendars) => calendars.len(),
+            Block::Periods(periods) => periods.len(),
             Block::Predecessors(predecessors) => predecessors.len(),
         }
     }
@@ -54,6 +55,15 @@ pub fn read_calendars(alloc: Global, text: &[u8]) -> Result<Block, BlockFault>
     Ok(Block::Calendars(read_kind(alloc, text)?))
 }
 
+/// Reads a block of periods.
+pub fn read_periods(alloc: Global, text: &[u8]) -> Result<Block, BlockFault>
+    requires { length text.now ≤ 262144 }
+    ensures reads { IfOk result (ReadsAs Kind.Periods text.now) }
+    ensures faulty { IfErr result (IsFaultOf Kind.Periods text.now) }
+{
+    Ok(Block::Periods(read_kind(alloc, text)?))
+}
+
 /// Reads a block of predecessors.
 pub fn read_predecessors(alloc: Global, text: &[u8]) -> Result<Block, BlockFault>
     requires { length text.now ≤ 262144 }
@@ -72,6 +82,7 @@ pub fn read_block(alloc: Global, kind: Kind, text: &[u8]) -> Result<Block, Block
     match kind {
         Kind::Applications => read_applications(alloc, text),
         Kind::Calendars => read_calendars(alloc, text),
+        Kind::Periods => read_periods(alloc, text),
         Kind::Predecessors => read_predecessors(alloc, text),
     }
 }

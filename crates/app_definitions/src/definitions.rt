@@ -6,6 +6,7 @@ ghost use Rattle.app_definitions.specs.Definitions.{merged, names_given, without
 use crate::applications::Application;
 use crate::by_name::ByName;
 use crate::kinds::{Block, Kind};
+use crate::periods::DefinedPeriod;
 use crate::predecessors::Predecessors;
 use std::alloc::{AllocError, Global};
 use work_calendars::{Calendar, Name};
@@ -17,6 +18,8 @@ pub struct Definitions {
     pub applications: ByName<Application>,
     /// Calendars by name.
     pub calendars: ByName<Calendar>,
+    /// Periods by name.
+    pub periods: ByName<DefinedPeriod>,
     /// Lists of predecessors by application.
     pub predecessors: ByName<Predecessors>,
 }
@@ -29,6 +32,7 @@ impl Definitions {
         Definitions {
             applications: ByName::new(alloc),
             calendars: ByName::new(alloc),
+            periods: ByName::new(alloc),
             predecessors: ByName::new(alloc),
         }
     }
@@ -43,6 +47,7 @@ impl Definitions {
         match block {
             Block::Applications(applications) => self.applications.append(applications),
             Block::Calendars(calendars) => self.calendars.append(calendars),
+            Block::Periods(periods) => self.periods.append(periods),
             Block::Predecessors(predecessors) => self.predecessors.append(predecessors),
         }
     }
@@ -55,6 +60,7 @@ impl Definitions {
         match kind {
             Kind::Applications => self.applications.remove(name),
             Kind::Calendars => self.calendars.remove(name),
+            Kind::Periods => self.periods.remove(name),
             Kind::Predecessors => self.predecessors.remove(name),
         }
     }

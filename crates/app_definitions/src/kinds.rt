@@ -2,6 +2,7 @@
 
 use crate::applications::Application;
 use crate::by_name::ByName;
+use crate::periods::DefinedPeriod;
 use crate::predecessors::Predecessors;
 use work_calendars::Calendar;
 
@@ -12,6 +13,8 @@ pub enum Kind {
     Applications,
     /// Calendars.
     Calendars,
+    /// Periods.
+    Periods,
     /// Lists of predecessors, by application.
     Predecessors,
 }
@@ -23,6 +26,8 @@ pub enum Block {
     Applications(ByName<Application>),
     /// Calendars by name.
     Calendars(ByName<Calendar>),
+    /// Periods by name.
+    Periods(ByName<DefinedPeriod>),
     /// Lists of predecessors by application.
     Predecessors(ByName<Predecessors>),
 }

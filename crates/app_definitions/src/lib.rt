@@ -9,14 +9,16 @@ mod calendars;
 mod definitions;
 mod fields;
 mod kinds;
+mod periods;
 mod predecessors;
 mod records;
 
 pub use applications::Application;
-pub use blocks::{read_applications, read_block, read_calendars, read_predecessors};
+pub use blocks::{read_applications, read_block, read_calendars, read_periods, read_predecessors};
 pub use by_name::ByName;
 pub use definitions::Definitions;
 pub use kinds::{Block, Kind};
+pub use periods::DefinedPeriod;
 pub use predecessors::Predecessors;
 pub use records::BlockFault;
 
