@@ -2,4 +2,5 @@ pub mod RecordLemmas
 pub mod ByNameLemmas
 pub mod FieldLemmas
 pub mod CalendarLemmas
+pub mod CycleLemmas
 pub mod PeriodLemmas

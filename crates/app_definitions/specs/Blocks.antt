@@ -6,6 +6,7 @@ use Rattle.std.specs.FinMap as map
 use Rattle.app_definitions.specs.Applications.{FitsApplication, IsApplicationOf}
 use Rattle.app_definitions.specs.ByName.{FitsKind, AreGivenBy}
 use Rattle.app_definitions.specs.Calendars.{FitsCalendar, IsCalendarOf}
+use Rattle.app_definitions.specs.CycleRecords.{FitsRunCycle, AreRunCyclesOf}
 use Rattle.app_definitions.specs.Periods.{FitsPeriod, IsPeriodOf}
 use Rattle.app_definitions.specs.Predecessors.{FitsPredecessors, ArePredecessorsOf}
 use Rattle.app_definitions.specs.Records.{block_records, AllGood, FirstFaulty}
@@ -27,6 +28,7 @@ ReadsAs kind.Applications text b = Gives block.Applications 3 FitsApplication Is
 ReadsAs kind.Calendars text b = Gives block.Calendars 3 FitsCalendar IsCalendarOf (block_records text) b
 ReadsAs kind.Periods text b = Gives block.Periods 4 FitsPeriod IsPeriodOf (block_records text) b
 ReadsAs kind.Predecessors text b = Gives block.Predecessors 2 FitsPredecessors ArePredecessorsOf (block_records text) b
+ReadsAs kind.RunCycles text b = Gives block.RunCycles 11 FitsRunCycle AreRunCyclesOf (block_records text) b
 
 -- the record of that number is the first faulty one of a text of that kind
 abbrev pub IsFaultyAt : Kind → List ℕ → ℕ → Type 0
@@ -34,6 +36,7 @@ IsFaultyAt kind.Applications text number = FirstFaulty (FitsKind 3 FitsApplicati
 IsFaultyAt kind.Calendars text number = FirstFaulty (FitsKind 3 FitsCalendar) (block_records text) number
 IsFaultyAt kind.Periods text number = FirstFaulty (FitsKind 4 FitsPeriod) (block_records text) number
 IsFaultyAt kind.Predecessors text number = FirstFaulty (FitsKind 2 FitsPredecessors) (block_records text) number
+IsFaultyAt kind.RunCycles text number = FirstFaulty (FitsKind 11 FitsRunCycle) (block_records text) number
 
 -- a fault of a text of that kind: its first faulty record, or want of memory
 abbrev pub IsFaultOf : Kind → List ℕ → BlockFault → Type 0

@@ -10,7 +10,7 @@ use Rattle.app_definitions.specs.declared.definitions.Definitions.{Definitions}
 
 -- nothing is defined
 abbrev pub no_definitions : Definitions
-no_definitions = record { applications = map.empty; calendars = map.empty; periods = map.empty; predecessors = map.empty }
+no_definitions = record { applications = map.empty; calendars = map.empty; periods = map.empty; predecessors = map.empty; run_cycles = map.empty }
 
 -- the definitions of the block in place of those of the same kind and names, and all others as they were
 abbrev pub merged : Definitions → Block → Definitions
@@ -18,6 +18,7 @@ merged old (block.Applications more) = record old { applications = overlaid old.
 merged old (block.Calendars more) = record old { calendars = overlaid old.calendars more }
 merged old (block.Periods more) = record old { periods = overlaid old.periods more }
 merged old (block.Predecessors more) = record old { predecessors = overlaid old.predecessors more }
+merged old (block.RunCycles more) = record old { run_cycles = overlaid old.run_cycles more }
 
 -- how many names a block gives
 abbrev pub names_given : Block → ℕ
@@ -25,6 +26,7 @@ names_given (block.Applications more) = map.len more
 names_given (block.Calendars more) = map.len more
 names_given (block.Periods more) = map.len more
 names_given (block.Predecessors more) = map.len more
+names_given (block.RunCycles more) = map.len more
 
 -- there is a definition of this kind and name
 abbrev pub IsDefined : Definitions → Kind → List ℕ → Type 0
@@ -32,6 +34,7 @@ IsDefined all kind.Applications name = IsSome (map.get all.applications name)
 IsDefined all kind.Calendars name = IsSome (map.get all.calendars name)
 IsDefined all kind.Periods name = IsSome (map.get all.periods name)
 IsDefined all kind.Predecessors name = IsSome (map.get all.predecessors name)
+IsDefined all kind.RunCycles name = IsSome (map.get all.run_cycles name)
 
 -- the definitions without that of this kind and name
 abbrev pub without : Definitions → Kind → List ℕ → Definitions
@@ -39,3 +42,4 @@ without all kind.Applications name = record all { applications = map.remove all.
 without all kind.Calendars name = record all { calendars = map.remove all.calendars name }
 without all kind.Periods name = record all { periods = map.remove all.periods name }
 without all kind.Predecessors name = record all { predecessors = map.remove all.predecessors name }
+without all kind.RunCycles name = record all { run_cycles = map.remove all.run_cycles name }

@@ -2,6 +2,7 @@ pub mod Applications
 pub mod Blocks
 pub mod Calendars
 pub mod ByName
+pub mod CycleRecords
 pub mod Definitions
 pub mod Fields
 pub mod Divisions

@@ -21,6 +21,7 @@ impl Block {
             Block::Calendars(calendars) => calendars.len(),
             Block::Periods(periods) => periods.len(),
             Block::Predecessors(predecessors) => predecessors.len(),
+            Block::RunCycles(run_cycles) => run_cycles.len(),
         }
     }
 }
@@ -73,6 +74,15 @@ pub fn read_predecessors(alloc: Global, text: &[u8]) -> Result<Block, BlockFault
     Ok(Block::Predecessors(read_kind(alloc, text)?))
 }
 
+/// Reads a block of run cycles.
+pub fn read_run_cycles(alloc: Global, text: &[u8]) -> Result<Block, BlockFault>
+    requires { length text.now ≤ 262144 }
+    ensures reads { IfOk result (ReadsAs Kind.RunCycles text.now) }
+    ensures faulty { IfErr result (IsFaultOf Kind.RunCycles text.now) }
+{
+    Ok(Block::RunCycles(read_kind(alloc, text)?))
+}
+
 /// Reads a block of that kind.
 pub fn read_block(alloc: Global, kind: Kind, text: &[u8]) -> Result<Block, BlockFault>
     requires { length text.now ≤ 262144 }
@@ -84,5 +94,6 @@ pub fn read_block(alloc: Global, kind: Kind, text: &[u8]) -> Result<Block, Block
         Kind::Calendars => read_calendars(alloc, text),
         Kind::Periods => read_periods(alloc, text),
         Kind::Predecessors => read_predecessors(alloc, text),
+        Kind::RunCycles => read_run_cycles(alloc, text),
     }
 }

@@ -5,6 +5,7 @@ ghost use Rattle.app_definitions.specs.Definitions.{merged, names_given, without
 
 use crate::applications::Application;
 use crate::by_name::ByName;
+use crate::cycle_records::RunCycles;
 use crate::kinds::{Block, Kind};
 use crate::periods::DefinedPeriod;
 use crate::predecessors::Predecessors;
@@ -22,6 +23,8 @@ pub struct Definitions {
     pub periods: ByName<DefinedPeriod>,
     /// Lists of predecessors by application.
     pub predecessors: ByName<Predecessors>,
+    /// Run cycles by application.
+    pub run_cycles: ByName<RunCycles>,
 }
 
 impl Definitions {
@@ -34,6 +37,7 @@ impl Definitions {
             calendars: ByName::new(alloc),
             periods: ByName::new(alloc),
             predecessors: ByName::new(alloc),
+            run_cycles: ByName::new(alloc),
         }
     }
 
@@ -49,6 +53,7 @@ impl Definitions {
             Block::Calendars(calendars) => self.calendars.append(calendars),
             Block::Periods(periods) => self.periods.append(periods),
             Block::Predecessors(predecessors) => self.predecessors.append(predecessors),
+            Block::RunCycles(run_cycles) => self.run_cycles.append(run_cycles),
         }
     }
 
@@ -62,6 +67,7 @@ impl Definitions {
             Kind::Calendars => self.calendars.remove(name),
             Kind::Periods => self.periods.remove(name),
             Kind::Predecessors => self.predecessors.remove(name),
+            Kind::RunCycles => self.run_cycles.remove(name),
         }
     }
 }

@@ -2,6 +2,7 @@
 
 use crate::applications::Application;
 use crate::by_name::ByName;
+use crate::cycle_records::RunCycles;
 use crate::periods::DefinedPeriod;
 use crate::predecessors::Predecessors;
 use work_calendars::Calendar;
@@ -17,6 +18,8 @@ pub enum Kind {
     Periods,
     /// Lists of predecessors, by application.
     Predecessors,
+    /// Run cycles, by application.
+    RunCycles,
 }
 
 /// The definitions that a data block gives, all of one kind.
@@ -30,4 +33,6 @@ pub enum Block {
     Periods(ByName<DefinedPeriod>),
     /// Lists of predecessors by application.
     Predecessors(ByName<Predecessors>),
+    /// Run cycles by application.
+    RunCycles(ByName<RunCycles>),
 }

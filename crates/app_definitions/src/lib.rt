@@ -6,6 +6,7 @@ mod applications;
 mod blocks;
 mod by_name;
 mod calendars;
+mod cycle_records;
 mod definitions;
 mod fields;
 mod kinds;
@@ -14,13 +15,18 @@ mod predecessors;
 mod records;
 
 pub use applications::Application;
-pub use blocks::{read_applications, read_block, read_calendars, read_periods, read_predecessors};
+pub use blocks::{
+    read_applications, read_block, read_calendars, read_periods, read_predecessors, read_run_cycles,
+};
 pub use by_name::ByName;
+pub use cycle_records::RunCycles;
 pub use definitions::Definitions;
 pub use kinds::{Block, Kind};
 pub use periods::DefinedPeriod;
 pub use predecessors::Predecessors;
 pub use records::BlockFault;
 
+#[cfg(test)]
+mod cycle_tests;
 #[cfg(test)]
 mod tests;

@@ -1,0 +1,208 @@
+// Run cycles.
+
+ghost use Rattle.std.specs.Prelude.{◌≡◌, ◌↔◌, ◌≤ℤ◌, pos, ℕ, List, ℤ, [], ◌∷◌, ◌++◌, map, length, Any, IsTrue, IsSome, IfSome, IfOk};
+ghost use Rattle.csv.specs.Records.{fields_of};
+ghost use Rattle.run_cycles.specs.declared.offsets.TheConstants.{MAX_OFFSET};
+ghost use Rattle.run_cycles.specs.declared.cycles.Deadline.{Deadline as DeadlineValue};
+ghost use Rattle.run_cycles.specs.declared.cycles.Kind.{Kind as KindValue};
+ghost use Rattle.run_cycles.specs.declared.rules.Rule.{Rule as RuleValue};
+ghost use Rattle.app_definitions.specs.Fields.{field, number_value};
+ghost use Rattle.app_definitions.specs.CycleRecords.{rule_text, IsDistanceText, IsOffsetText, offset_value, pieces_of, SpellsOffsets, SpellsDeadline, SpellsKind, SpellsRunCycle, IsRunCycleText, FitsRunCycle, AreRunCyclesOf};
+
+use crate::by_name::Definition;
+use crate::fields::{day_of, field_at, minute_of, number_of, optional_day_of, short_of};
+use csv::ByteRecord;
+use run_cycles::{Deadline, Kind, MAX_DEADLINE_DAYS, MAX_OFFSET, Offsets, Rule, RunCycle};
+use std::alloc::{AllocError, Global};
+use std::marker::Model;
+use work_calendars::Short;
+
+/// The run cycles of an application in the order of their records, no two of one name. Contracts see the list.
+#[derive(Drop)]
+pub struct RunCycles {
+    cycles: Vec<RunCycle>,
+}
+
+impl Model for RunCycles {
+    ghost use Rattle.std.specs.Prelude.{List};
+    ghost use Rattle.run_cycles.specs.declared.cycles.RunCycle.{RunCycle as RunCycleValue};
+    ghost use Rattle.run_cycles.specs.Occurrence.{HaveOwnNames};
+
+    ghost Value = { List RunCycleValue };
+
+    ghost view = { λ r. r.cycles.items };
+
+    ghost invariant = { λ r. HaveOwnNames r.cycles.items };
+}
+
+impl RunCycles {
+    /// The run cycles, in order. No two have one name.
+    pub fn as_slice(&self) -> &[RunCycle]
+        ensures { result.now ≡ self.now }
+    {
+        &self.cycles
+    }
+}
+
+// The distance from 0 that these digits spell.
+fn distance_of(digits: &[u8]) -> Option<i16>
+    ensures valid { IsSome result ↔ IsDistanceText digits.now }
+    ensures value { IfSome result (λ k. k ≡ pos (number_value digits.now)) }
+    ensures within { IfSome result (λ k. k ≤ℤ pos MAX_OFFSET) }
+{
+    let distance = number_of(digits, MAX_OFFSET)?;
+    if distance == 0 {
+        return None;
+    }
+    Some(distance as i16)
+}
+
+// The offset that these bytes spell.
+fn offset_of(bytes: &[u8]) -> Option<i16>
+    ensures valid { IsSome result ↔ IsOffsetText bytes.now }
+    ensures value { IfSome result (λ k. k ≡ offset_value bytes.now) }
+{
+    match bytes {
+        [b'-', digits @ ..] => Some(-distance_of(digits)?),
+        _ => distance_of(bytes),
+    }
+}
+
+// The pieces between the blanks of a text.
+fn cut(alloc: Global, bytes: &[u8]) -> Result<Vec<&[u8]>, AllocError>
+    ensures { IfOk result (λ v. map (λ piece. piece.now) v.items ≡ pieces_of bytes.now) }
+{
+    bytes.split(|byte| *byte == b' ').collect(alloc)
+}
+
+// The offsets that these bytes spell, parted by one blank each.
+fn offsets_of(alloc: Global, bytes: &[u8]) -> Result<Option<Offsets>, AllocError>
+    ensures valid { IfOk result (λ o. IsSome o ↔ ((ks : List ℤ) × SpellsOffsets bytes.now ks)) }
+    ensures value { IfOk result (λ o. IfSome o (SpellsOffsets bytes.now)) }
+{
+    let pieces = cut(alloc, bytes)?;
+    let mut items = Vec::new(alloc);
+    for piece in &pieces {
+        match offset_of(piece) {
+            Some(offset) => items.push(offset)?,
+            None => return Ok(None),
+        }
+    }
+    Ok(Offsets::from_vec(items))
+}
+
+// The rule that this letter names.
+fn rule_of(letter: &[u8]) -> Option<Rule>
+    ensures valid { IsSome result ↔ ((rule : RuleValue) × (letter.now ≡ rule_text rule)) }
+    ensures value { IfSome result (λ rule. letter.now ≡ rule_text rule) }
+{
+    match letter {
+        b"E" => Some(Rule::WorkDaysOnly),
+        b"1" => Some(Rule::Before),
+        b"2" => Some(Rule::After),
+        b"3" => Some(Rule::Same),
+        b"4" => Some(Rule::Skip),
+        _ => None,
+    }
+}
+
+// The deadline that these two fields spell.
+fn deadline_of(day: &[u8], time: &[u8]) -> Option<Deadline>
+    ensures valid { IsSome result ↔ ((deadline : DeadlineValue) × SpellsDeadline day.now time.now deadline) }
+    ensures value { IfSome result (SpellsDeadline day.now time.now) }
+{
+    let days = number_of(day, MAX_DEADLINE_DAYS as u16)? as u8;
+    let time = minute_of(time)?;
+    Some(Deadline { days, time })
+}
+
+// The kind that this letter and the two fields of the deadline spell.
+fn kind_of(letter: &[u8], day: &[u8], time: &[u8]) -> Option<Kind>
+    ensures valid { IsSome result ↔ ((kind : KindValue) × SpellsKind letter.now day.now time.now kind) }
+    ensures value { IfSome result (SpellsKind letter.now day.now time.now) }
+{
+    if letter == b"N".as_slice() {
+        return Some(Kind::Normal(deadline_of(day, time)?));
+    }
+    if letter != b"X".as_slice() {
+        return None;
+    }
+    if day.is_empty() && time.is_empty() {
+        return Some(Kind::Negative(None));
+    }
+    Some(Kind::Negative(Some(deadline_of(day, time)?)))
+}
+
+// The run cycle that a record spells, with the offsets that it spells.
+fn run_cycle_with(row: &ByteRecord, offsets: Offsets) -> Option<RunCycle>
+    requires { SpellsOffsets (field (fields_of row.now) 5) offsets }
+    ensures valid { IsSome result ↔ IsRunCycleText (fields_of row.now) }
+    ensures value { IfSome result (SpellsRunCycle (fields_of row.now)) }
+{
+    let name = short_of(field_at(row, 1))?;
+    let kind = kind_of(field_at(row, 2), field_at(row, 9), field_at(row, 10))?;
+    let period = short_of(field_at(row, 3))?;
+    let rule = rule_of(field_at(row, 4))?;
+    let in_effect = day_of(field_at(row, 6))?;
+    let out_effect = optional_day_of(field_at(row, 7))?;
+    let ia = minute_of(field_at(row, 8))?;
+    Some(RunCycle {
+        name,
+        kind,
+        period,
+        rule,
+        offsets,
+        in_effect,
+        out_effect,
+        ia,
+    })
+}
+
+// The run cycle that a record spells, or none where it spells none.
+fn run_cycle_of(alloc: Global, row: &ByteRecord) -> Result<Option<RunCycle>, AllocError>
+    ensures valid { IfOk result (λ c. IsSome c ↔ IsRunCycleText (fields_of row.now)) }
+    ensures value { IfOk result (λ c. IfSome c (SpellsRunCycle (fields_of row.now))) }
+{
+    let Some(offsets) = offsets_of(alloc, field_at(row, 5))? else {
+        return Ok(None);
+    };
+    Ok(run_cycle_with(row, offsets))
+}
+
+// Whether one of the run cycles has this name.
+fn has_name(cycles: &[RunCycle], name: &Short) -> bool
+    ensures { IsTrue result ↔ Any (λ cycle. cycle.name ≡ name.now) cycles.now }
+{
+    cycles.iter().any(|cycle| cycle.name == *name)
+}
+
+impl Definition for RunCycles {
+    ghost FIELDS = { 11 };
+
+    ghost FitsName = { FitsRunCycle };
+
+    ghost IsMadeOf = { AreRunCyclesOf };
+
+    const FIELDS: usize = 11;
+
+    fn begin(alloc: Global, row: &ByteRecord) -> Result<Option<RunCycles>, AllocError> {
+        let Some(cycle) = run_cycle_of(alloc, row)? else {
+            return Ok(None);
+        };
+        let mut cycles = Vec::new(alloc);
+        cycles.push(cycle)?;
+        Ok(Some(RunCycles { cycles }))
+    }
+
+    fn join(&mut self, row: &ByteRecord) -> Result<bool, AllocError> {
+        let alloc = *self.cycles.allocator();
+        let Some(cycle) = run_cycle_of(alloc, row)? else {
+            return Ok(false);
+        };
+        if has_name(&self.cycles, &cycle.name) {
+            return Ok(false);
+        }
+        self.cycles.push(cycle)?;
+        Ok(true)
+    }
+}
