@@ -1,6 +1,7 @@
 // Blocks, accepted and refused. What they give comes from the format's own words.
 use crate::{BlockFault, Kind, read_block};
 use std::alloc::Global;
+use std::test::Fail;
 
 // 0 where the block is accepted, the number of the faulty record where it isn't, 99 for want of memory, and 98 for a block
 // that no caller may hand in.
@@ -133,4 +134,37 @@ fn periods(rt: HostRuntime) {
     for (text, want) in table {
         assert_eq!(rt; fault(rt.alloc(), Kind::Periods, text), want, "{text:?}");
     }
+}
+
+// 65,536 records, of which the second repeats the first.
+#[test]
+fn row_r11_2(rt: HostRuntime) -> Result<(), Fail> {
+    let mut text = Vec::new(rt.alloc());
+    for _ in 0..65536_u32 {
+        text.extend_from_slice(b"A,A\n")?;
+    }
+    assert_eq!(rt; fault(rt.alloc(), Kind::Predecessors, &text), 2);
+    Ok(())
+}
+
+// As many predecessors of one application as a block can well hold.
+#[test]
+fn long_block(rt: HostRuntime) -> Result<(), Fail> {
+    let mut text = Vec::new(rt.alloc());
+    for n in 0..32768_u32 {
+        text.extend_from_slice(b"A,A")?;
+        text.push(b'A' + (n / 676 % 26) as u8)?;
+        text.push(b'A' + (n / 26 % 26) as u8)?;
+        text.push(b'A' + (n % 26) as u8)?;
+        text.push(if n < 17576 {
+            b'A'
+        } else if n < 35152 {
+            b'B'
+        } else {
+            b'C'
+        })?;
+        text.push(b'\n')?;
+    }
+    assert_eq!(rt; fault(rt.alloc(), Kind::Predecessors, &text), 0);
+    Ok(())
 }
