@@ -1,5 +1,5 @@
 -- A search among offsets for one that has what is asked.
-use Rattle.std.proofs.Common.{◌≡◌, ℕ, ◌+◌, ◌<◌, ◌≤◌, ◌↔◌, Bool, true, false, ℤ, pos, negsuc, IsTrue, List, length, get_or, take, sym, subst, refl, ◌∙◌, to_z, of_z, arith}
+use Rattle.std.proofs.Common.{◌≡◌, ℕ, ◌+◌, ◌<◌, ◌≤◌, ◌↔◌, Bool, true, false, ℤ, pos, negsuc, IsTrue, List, length, get_or, take, sym, subst, to_z, of_z, arith}
 use Rattle.std.specs.Prelude.{All, Any}
 use Rattle.std.proofs.lemmas.Int.{to_z-of_z}
 use Rattle.std.proofs.lemmas.List.{get_or_default, take_all}

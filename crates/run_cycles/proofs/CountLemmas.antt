@@ -1,8 +1,7 @@
 -- Counts of work days in an interval.
-use Rattle.std.proofs.Common.{◌≡◌, ◌+◌, ◌-◌, ◌↔◌, ℕ, ℤ, Bool, true, Option, Some, None, IsTrue, option_map, ap, sym, subst, ◌∙◌, refl, arith}
-use Rattle.std.specs.Prelude.{Any}
+use Rattle.std.proofs.Common.{◌≡◌, ◌+◌, ◌-◌, ℕ, ℤ, Bool, Option, IsTrue, option_map, ap, sym, subst, ◌∙◌}
 use Rattle.std.specs.Prelude.{List}
-use Rattle.work_calendars.specs.WorkDay.{work_days_before, work_days_from}
+use Rattle.work_calendars.specs.WorkDay.{work_days_before}
 use Rattle.work_calendars.proofs.WorkDayFacts.{work_days_before-work}
 use Rattle.work_calendars.specs.WorkIndex.{is_work_in}
 use Rattle.run_cycles.specs.CountedDay.{IsCounted, IsCountedIn}

@@ -1,12 +1,12 @@
 -- The occurrences of one day, time by time.
-use Rattle.std.proofs.Common.{◌≡◌, ℕ, ◌+◌, ◌<◌, ◌≤◌, ◌⊎◌, ◌↔◌, Bool, List, [], ◌∷◌, ◌++◌, Option, Some, None, length, take, get_or, ap, sym, subst, ◌∙◌, refl, ⊎_elim, inl, inr, arith, length-take}
-use Rattle.std.specs.Prelude.{AllPairs, Contains, Any}
+use Rattle.std.proofs.Common.{◌≡◌, ℕ, ◌+◌, ◌<◌, ◌≤◌, ◌⊎◌, ◌↔◌, Bool, List, [], ◌∷◌, ◌++◌, length, take, get_or, sym, subst, ◌∙◌, ⊎_elim, inl, inr, arith, length-take}
+use Rattle.std.specs.Prelude.{AllPairs, Contains}
 use Rattle.std.proofs.lemmas.List.{take_more, take_all, get_or-take, get_or_default}
 use Rattle.std.proofs.lemmas.Bool.{cases_lt}
 use Rattle.std.proofs.lemmas.List.Elements.{Contains-append_left, Contains-push, Contains-push_cases}
 use Rattle.run_cycles.specs.declared.cycles.RunCycle.{RunCycle}
 use Rattle.run_cycles.specs.declared.named.Named.{Named}
-use Rattle.run_cycles.specs.Occurrence.{PeriodMap, IsOccurrence, IsOccurrenceBetween, IsEarlier, ListsInOrder}
+use Rattle.run_cycles.specs.Occurrence.{PeriodMap, IsOccurrence, IsOccurrenceBetween, ListsInOrder}
 use Rattle.run_cycles.proofs.OrderLemmas.{lists_none, lists_same, lists_push}
 
 before_or_on : (d day : ℕ) (P : Type 0) → d < day + 1 → P → (d < day) ⊎ ((d ≡ day) × P)

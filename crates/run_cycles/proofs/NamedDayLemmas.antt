@@ -1,5 +1,5 @@
 -- Which definition an offset's day goes by.
-use Rattle.std.proofs.Common.{◌≡◌, ◌≤◌, ◌↔◌, ℕ, ℤ, Bool, true, false, IsTrue, List, ap, sym, subst, refl}
+use Rattle.std.proofs.Common.{◌≡◌, ◌≤◌, ◌↔◌, ℕ, ℤ, Bool, List, sym, subst, refl}
 use Rattle.std.specs.Prelude.{Any}
 use Rattle.work_calendars.specs.Day.{IsDay}
 use Rattle.plan_periods.specs.declared.periods.Period.{Period}

@@ -1,6 +1,6 @@
 -- The search for the run cycle of least name that names a day and time.
 use Rattle.std.proofs.Common.{◌≡◌, ℕ, ◌+◌, ◌<◌, ◌≤◌, ◌⊎◌, Bool, List, [], ◌∷◌, ◌++◌, Option, Some, None, length, take, get_or, sym, subst, ap, ◌∙◌, refl, ⊎_elim, arith}
-use Rattle.std.specs.Prelude.{All, Any, Contains, IfSome, IsSomeAnd}
+use Rattle.std.specs.Prelude.{All, Contains, IfSome, IsSomeAnd}
 use Rattle.std.proofs.lemmas.List.{get_or_default, take_all, take_more}
 use Rattle.std.proofs.lemmas.List.Elements.{All-more, All-same, All-contains, Contains-append_left, Contains-push, Contains-push_cases}
 use Rattle.run_cycles.specs.declared.cycles.Deadline.{Deadline}
@@ -8,8 +8,8 @@ use Rattle.run_cycles.specs.declared.cycles.Kind.{Kind}
 use Rattle.run_cycles.specs.declared.cycles.Kind.TheVariants.{Normal, Negative}
 use Rattle.run_cycles.specs.declared.cycles.RunCycle.{RunCycle}
 use Rattle.run_cycles.specs.declared.named.Named.{Named}
-use Rattle.run_cycles.specs.Occurrence.{PeriodMap, HasDeadline, IsNegative, IsNormal, IsNameAtMost, NamesAt, GivesAt, TakesAt, IsGivenBy, IsOccurrence, HaveOwnNames, deadline_of}
-use Rattle.run_cycles.proofs.NameLemmas.{at_most_itself, at_most_chain, at_most_both}
+use Rattle.run_cycles.specs.Occurrence.{PeriodMap, HasDeadline, IsNegative, IsNormal, IsNameAtMost, NamesAt, GivesAt, TakesAt, IsOccurrence, HaveOwnNames, deadline_of}
+use Rattle.run_cycles.proofs.NameLemmas.{at_most_chain, at_most_both}
 
 deadline_of_kind : (kind : Kind) (a b : Deadline) → HasDeadline kind a → HasDeadline kind b → a ≡ b
 deadline_of_kind (Normal own) a b p q = p ∙ sym q

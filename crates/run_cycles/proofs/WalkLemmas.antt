@@ -1,5 +1,5 @@
 -- A walk over the intervals that meet a range of days, in search of one that has what is asked.
-use Rattle.std.proofs.Common.{◌≡◌, ℕ, zero, suc, ◌<◌, get_or, List, [], ◌∷◌, sym, subst, ap, arith, length, refl}
+use Rattle.std.proofs.Common.{◌≡◌, ℕ, zero, suc, ◌<◌, get_or, List, [], ◌∷◌, sym, subst, arith, length, refl}
 use Rattle.std.specs.Prelude.{Any, Contains, MatchOption}
 use Rattle.std.proofs.Common.{Option, Some, None, Bool, true, false, IsTrue, ℤ, pos, negsuc, ◌≤◌, ◌↔◌}
 use Rattle.plan_periods.specs.declared.intervals.Interval.{Interval}

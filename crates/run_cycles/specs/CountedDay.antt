@@ -1,8 +1,8 @@
 -- Counted days: the work days that offsets name where the work days of an interval count alone. `work` tells the work days.
-use Rattle.std.specs.Prelude.{◌≡◌, ℕ, ◌+◌, ◌%◌, ◌≤◌, ℤ, pos, negsuc, Bool, IsTrue, Option, Some, None, option_map}
+use Rattle.std.specs.Prelude.{◌≡◌, ℕ, ◌+◌, ◌%◌, ◌≤◌, ℤ, pos, negsuc, Bool, IsTrue, Option, Some, option_map}
 use Rattle.work_calendars.specs.WorkDay.{work_days_from}
 use Rattle.plan_periods.specs.declared.periods.Period.{Period}
-use Rattle.plan_periods.specs.declared.periods.Period.TheVariants.{All as AllDays, Work, Listed}
+use Rattle.plan_periods.specs.declared.periods.Period.TheVariants.{Work}
 use Rattle.plan_periods.specs.Interval.{IsInterval, HoldsDay}
 
 -- the offset is the count from an interval's first day, or for `negsuc m`, which is -(m + 1), the count to its last day is m + 1

@@ -1,6 +1,5 @@
-use Rattle.std.proofs.Common.{◌≡◌, ◌+◌, ap, sym, ◌∙◌, arith, true, false}
+use Rattle.std.proofs.Common.{sym, ◌∙◌, arith}
 use Rattle.work_calendars.specs.Day.{IsDay}
-use Rattle.work_calendars.specs.WorkDay.{work_days_before}
 use Rattle.work_calendars.specs.WorkIndex.{is_work_in}
 use Rattle.work_calendars.proofs.WorkDayFacts.{work_days_before-le, work_days_before-work, work_days_before-free}
 use Rattle.work_calendars.proofs.WorkIndexFacts.{IsDay-work_in}

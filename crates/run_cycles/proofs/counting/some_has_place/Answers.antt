@@ -1,4 +1,4 @@
-use Rattle.std.proofs.Common.{◌≡◌, ◌≤◌, ◌-◌, ℕ, sym, subst, ◌∙◌, arith}
+use Rattle.std.proofs.Common.{◌≡◌, ◌≤◌, ◌-◌, ℕ, subst, arith}
 use Rattle.work_calendars.specs.WorkDay.{work_days_before}
 use Rattle.run_cycles.specs.CountedDay.{HasPlace}
 use Rattle.run_cycles.proofs.AnyLemmas.{search_more, none_any}

@@ -1,4 +1,4 @@
-use Rattle.std.proofs.Common.{◌≡◌, refl, sym, ◌∙◌, true}
+use Rattle.std.proofs.Common.{refl, sym, ◌∙◌}
 use Rattle.std.specs.Prelude.{Any}
 use Rattle.work_calendars.specs.WorkIndex.{is_work_in}
 use Rattle.run_cycles.specs.CountedDay.{IsCountedIn}

@@ -1,11 +1,10 @@
-use Rattle.std.proofs.Common.{◌≡◌, ◌+◌, ◌-◌, ℕ, ℤ, Option, option_map, ap, sym, subst, refl, ◌∙◌, arith}
+use Rattle.std.proofs.Common.{refl, arith}
 use Rattle.work_calendars.specs.Day.{IsDay}
-use Rattle.work_calendars.specs.WorkDay.{work_days_before, work_days_from}
 use Rattle.work_calendars.specs.WorkIndex.{is_work_in}
-use Rattle.work_calendars.proofs.WorkDayFacts.{work_days_before-le, work_days_before-work}
+use Rattle.work_calendars.proofs.WorkDayFacts.{work_days_before-le}
 use Rattle.work_calendars.proofs.WorkIndexFacts.{IsDay-work_in}
-use Rattle.run_cycles.specs.CountedDay.{IsCounted, IsCountedIn}
-use Rattle.run_cycles.proofs.AnyLemmas.{IsOffset-read, search_more, found_any, none_any}
+use Rattle.run_cycles.specs.CountedDay.{IsCounted}
+use Rattle.run_cycles.proofs.AnyLemmas.{search_more, found_any, none_any}
 use Rattle.run_cycles.proofs.CountLemmas.{counts, coe_to, coe_from}
 use Rattle.run_cycles.proofs.counting.some_is_counted_in.Goals as goal
 

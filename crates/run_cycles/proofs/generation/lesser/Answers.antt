@@ -1,4 +1,4 @@
-use Rattle.std.proofs.Common.{sym, subst, ◌∙◌, ◌≡◌, Option, Some, List, ℕ, IfSome}
+use Rattle.std.proofs.Common.{sym, subst, Option, List, ℕ, IfSome}
 use Rattle.run_cycles.specs.declared.cycles.Deadline.{Deadline}
 use Rattle.run_cycles.specs.Occurrence.{IsNameAtMost}
 use Rattle.run_cycles.proofs.NameLemmas.{at_most_itself, at_most_turned}

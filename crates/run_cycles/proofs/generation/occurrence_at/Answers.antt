@@ -1,7 +1,6 @@
-use Rattle.std.proofs.Common.{◌≡◌, ◌+◌, ℕ, List, Option, Some, None, ap, sym, subst, ◌∙◌, refl, arith}
+use Rattle.std.proofs.Common.{◌+◌, ℕ, List, Option, Some, ap, sym, subst, refl}
 use Rattle.work_calendars.specs.WorkIndex.{is_work_in}
 use Rattle.run_cycles.specs.declared.cycles.Deadline.{Deadline}
-use Rattle.run_cycles.specs.declared.named.Named.{Named}
 use Rattle.run_cycles.specs.Occurrence.{IsOccurrence}
 use Rattle.run_cycles.proofs.WalkLemmas.{not_found}
 use Rattle.run_cycles.proofs.OccurrenceLemmas.{IsBestSoFar, best_passes_over, best_takes, best_found, none_found, one_occurrence}

@@ -1,4 +1,3 @@
-use Rattle.std.proofs.Common.{◌≡◌}
 use Rattle.run_cycles.specs.RawDay.{IsDayAtWithin}
 use Rattle.run_cycles.proofs.AnyLemmas.{search_more, none_any}
 use Rattle.run_cycles.proofs.raw.some_day_at.Goals as goal

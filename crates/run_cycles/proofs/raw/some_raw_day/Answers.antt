@@ -1,4 +1,4 @@
-use Rattle.std.proofs.Common.{◌≡◌, refl, true}
+use Rattle.std.proofs.Common.{refl}
 use Rattle.std.specs.Prelude.{Any}
 use Rattle.run_cycles.specs.RawDay.{IsDayAtWithin}
 use Rattle.run_cycles.proofs.WalkLemmas.{search_starts, search_goes_on, search_found, not_found, raw_found, raw_none}
