@@ -4,3 +4,4 @@ pub mod FieldLemmas
 pub mod CalendarLemmas
 pub mod CycleLemmas
 pub mod PeriodLemmas
+pub mod OptionLemmas

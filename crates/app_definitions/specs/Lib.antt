@@ -7,5 +7,6 @@ pub mod Definitions
 pub mod Fields
 pub mod Divisions
 pub mod Periods
+pub mod Options
 pub mod Predecessors
 pub mod Records
