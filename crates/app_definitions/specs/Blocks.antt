@@ -7,6 +7,7 @@ use Rattle.app_definitions.specs.Applications.{FitsApplication, IsApplicationOf}
 use Rattle.app_definitions.specs.ByName.{FitsKind, AreGivenBy}
 use Rattle.app_definitions.specs.Calendars.{FitsCalendar, IsCalendarOf}
 use Rattle.app_definitions.specs.CycleRecords.{FitsRunCycle, AreRunCyclesOf}
+use Rattle.app_definitions.specs.Options.{AreOptionsOf, IsFaultyOptions}
 use Rattle.app_definitions.specs.Periods.{FitsPeriod, IsPeriodOf}
 use Rattle.app_definitions.specs.Predecessors.{FitsPredecessors, ArePredecessorsOf}
 use Rattle.app_definitions.specs.Records.{block_records, AllGood, FirstFaulty}
@@ -14,6 +15,7 @@ use Rattle.app_definitions.specs.declared.kinds.Block.{Block}
 use Rattle.app_definitions.specs.declared.kinds.Block.TheVariants as block
 use Rattle.app_definitions.specs.declared.kinds.Kind.{Kind}
 use Rattle.app_definitions.specs.declared.kinds.Kind.TheVariants as kind
+use Rattle.app_definitions.specs.declared.options.Options.{Options}
 use Rattle.app_definitions.specs.declared.records.BlockFault.{BlockFault}
 use Rattle.app_definitions.specs.declared.records.BlockFault.TheVariants.{Faulty, Memory}
 
@@ -29,6 +31,7 @@ ReadsAs kind.Calendars text b = Gives block.Calendars 3 FitsCalendar IsCalendarO
 ReadsAs kind.Periods text b = Gives block.Periods 4 FitsPeriod IsPeriodOf (block_records text) b
 ReadsAs kind.Predecessors text b = Gives block.Predecessors 2 FitsPredecessors ArePredecessorsOf (block_records text) b
 ReadsAs kind.RunCycles text b = Gives block.RunCycles 11 FitsRunCycle AreRunCyclesOf (block_records text) b
+ReadsAs kind.Options text b = (o : Options) × (b ≡ block.Options o) × AreOptionsOf o text
 
 -- the record of that number is the first faulty one of a text of that kind
 abbrev pub IsFaultyAt : Kind → List ℕ → ℕ → Type 0
@@ -37,6 +40,7 @@ IsFaultyAt kind.Calendars text number = FirstFaulty (FitsKind 3 FitsCalendar) (b
 IsFaultyAt kind.Periods text number = FirstFaulty (FitsKind 4 FitsPeriod) (block_records text) number
 IsFaultyAt kind.Predecessors text number = FirstFaulty (FitsKind 2 FitsPredecessors) (block_records text) number
 IsFaultyAt kind.RunCycles text number = FirstFaulty (FitsKind 11 FitsRunCycle) (block_records text) number
+IsFaultyAt kind.Options text number = IsFaultyOptions text number
 
 -- a fault of a text of that kind: its first faulty record, or want of memory
 abbrev pub IsFaultOf : Kind → List ℕ → BlockFault → Type 0

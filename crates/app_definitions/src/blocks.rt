@@ -8,11 +8,12 @@ ghost use Rattle.app_definitions.specs.Records.{block_records, AllGood, IsFirstF
 
 use crate::by_name::{ByName, Definition};
 use crate::kinds::{Block, Kind};
+use crate::option_blocks::read_options;
 use crate::records::{BlockFault, gather_all};
 use std::alloc::Global;
 
 impl Block {
-    /// How many names the block gives.
+    /// How many names the block gives, which is 1 for options.
     pub fn len(&self) -> usize
         ensures { result ≡ names_given self.now }
     {
@@ -22,6 +23,7 @@ impl Block {
             Block::Periods(periods) => periods.len(),
             Block::Predecessors(predecessors) => predecessors.len(),
             Block::RunCycles(run_cycles) => run_cycles.len(),
+            Block::Options(_) => 1,
         }
     }
 }
@@ -95,5 +97,6 @@ pub fn read_block(alloc: Global, kind: Kind, text: &[u8]) -> Result<Block, Block
         Kind::Periods => read_periods(alloc, text),
         Kind::Predecessors => read_predecessors(alloc, text),
         Kind::RunCycles => read_run_cycles(alloc, text),
+        Kind::Options => read_options(alloc, text),
     }
 }

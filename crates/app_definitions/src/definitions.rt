@@ -7,6 +7,7 @@ use crate::applications::Application;
 use crate::by_name::ByName;
 use crate::cycle_records::RunCycles;
 use crate::kinds::{Block, Kind};
+use crate::options::Options;
 use crate::periods::DefinedPeriod;
 use crate::predecessors::Predecessors;
 use std::alloc::{AllocError, Global};
@@ -25,10 +26,12 @@ pub struct Definitions {
     pub predecessors: ByName<Predecessors>,
     /// Run cycles by application.
     pub run_cycles: ByName<RunCycles>,
+    /// The options.
+    pub options: Options,
 }
 
 impl Definitions {
-    /// No definitions.
+    /// No definitions, and the options as they are where none are given.
     pub fn new(alloc: Global) -> Definitions
         ensures { result ≡ no_definitions }
     {
@@ -38,6 +41,7 @@ impl Definitions {
             periods: ByName::new(alloc),
             predecessors: ByName::new(alloc),
             run_cycles: ByName::new(alloc),
+            options: Options::new(),
         }
     }
 
@@ -54,10 +58,14 @@ impl Definitions {
             Block::Periods(periods) => self.periods.append(periods),
             Block::Predecessors(predecessors) => self.predecessors.append(predecessors),
             Block::RunCycles(run_cycles) => self.run_cycles.append(run_cycles),
+            Block::Options(options) => {
+                self.options = options;
+                Ok(1)
+            }
         }
     }
 
-    /// Takes the definition of one name and kind away, and answers whether there was one.
+    /// Takes the definition of one name and kind away, and answers whether there was one. Options have no name.
     pub fn remove(&mut self, kind: Kind, name: &Name) -> bool
         ensures found { IsTrue result ↔ IsDefined self.old kind name.now }
         ensures removed { self.new ≡ without self.old kind name.now }
@@ -68,6 +76,7 @@ impl Definitions {
             Kind::Periods => self.periods.remove(name),
             Kind::Predecessors => self.predecessors.remove(name),
             Kind::RunCycles => self.run_cycles.remove(name),
+            Kind::Options => false,
         }
     }
 }

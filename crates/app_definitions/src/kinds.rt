@@ -3,6 +3,7 @@
 use crate::applications::Application;
 use crate::by_name::ByName;
 use crate::cycle_records::RunCycles;
+use crate::options::Options;
 use crate::periods::DefinedPeriod;
 use crate::predecessors::Predecessors;
 use work_calendars::Calendar;
@@ -20,6 +21,8 @@ pub enum Kind {
     Predecessors,
     /// Run cycles, by application.
     RunCycles,
+    /// The options.
+    Options,
 }
 
 /// The definitions that a data block gives, all of one kind.
@@ -35,4 +38,6 @@ pub enum Block {
     Predecessors(ByName<Predecessors>),
     /// Run cycles by application.
     RunCycles(ByName<RunCycles>),
+    /// The options.
+    Options(Options),
 }

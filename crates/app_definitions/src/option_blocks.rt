@@ -3,9 +3,11 @@
 ghost use Rattle.std.specs.Prelude.{◌↔◌, ℕ, List, Some, codes, IsTrue, IfSome, IfNone, IfOk, IfErr};
 ghost use Rattle.toml.specs.Data.{get_member};
 ghost use Rattle.toml.specs.View.{view, table_view};
+ghost use Rattle.app_definitions.specs.Blocks.{ReadsAs, IsFaultOf};
 ghost use Rattle.app_definitions.specs.Options.{GivesCalendar, GivesHours, HasOnlyOptions, AreOptionsIn, AreOptionsOf, IsOptionsFault};
 ghost use Rattle.app_definitions.specs.declared.options.Options.{Options};
 
+use crate::kinds::{Block, Kind};
 use crate::options::{MAX_EXTENSION_HOURS, Options};
 use crate::records::BlockFault;
 use std::alloc::Global;
@@ -98,4 +100,13 @@ fn options_of(alloc: Global, text: &[u8]) -> Result<Options, BlockFault>
         Err(_) => return Err(BlockFault::Faulty { number: 1 }),
     };
     options_in(&table).ok_or(BlockFault::Faulty { number: 1 })
+}
+
+/// Reads a block of options, one TOML document: an empty one gives the options where none are given. A document that
+/// gives none is faulty at record 1.
+pub fn read_options(alloc: Global, text: &[u8]) -> Result<Block, BlockFault>
+    ensures reads { IfOk result (ReadsAs Kind.Options text.now) }
+    ensures faulty { IfErr result (IsFaultOf Kind.Options text.now) }
+{
+    Ok(Block::Options(options_of(alloc, text)?))
 }
