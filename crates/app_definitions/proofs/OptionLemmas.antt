@@ -1,5 +1,5 @@
 -- The keys of a table of options, and the name of the default calendar.
-use Rattle.std.proofs.Common.{◌≡◌, sym, refl, ap, ◌∙◌, rules, ℕ, zero, suc, ◌<◌, List, [], ◌∷◌, ◌++◌, get_or, length, Bor, Option, Some, None, Ordering, Less, Equal, Greater, option_map, string_bytes, nat_cmp, arith, IsTrue, IsSome}
+use Rattle.std.proofs.Common.{◌≡◌, refl, ℕ, zero, suc, ◌<◌, List, [], ◌∷◌, ◌++◌, get_or, Option, Some, Ordering, Less, Equal, Greater, string_bytes, nat_cmp, arith, IsTrue, IsSome}
 use Rattle.std.specs.Prelude.{codes}
 use Rattle.std.specs.Cmp.{tied_itself}
 use Rattle.std.specs.Cmp.Lexicographic.{slice_cmp, nat_list_cmp_total}
@@ -34,9 +34,9 @@ pub only_members : (es : List Entry) → OnlyKeys es → HasOnlyOptions (members
 only_members [] all = λ key found. absurd (let x : ⊥ = cc in x)
 only_members (e ∷ es) all = λ key found.
     found_at (slice_cmp nat_cmp key (string_bytes e.0)) (view e.1) (get_member key (members_view es)) (IsOptionKey key)
-      (λ tie. rw (same_bytes key (string_bytes e.0) tie) all.0)
-      (λ later. only_members es all.1 key later)
-      found
+    (λ tie. rw (same_bytes key (string_bytes e.0) tie) all.0)
+    (λ later. only_members es all.1 key later)
+    found
 
 found_or : (o : Ordering) (d : Data) (rest : Option Data) → IsSome rest → IsSome (match_ordering o rest (Some d) rest)
 found_or Less d rest h = h

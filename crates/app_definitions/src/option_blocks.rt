@@ -31,7 +31,9 @@ fn hours_of(value: &Value) -> Option<u16>
     ensures refused { IfNone result ((n : ℕ) → ¬ (GivesHours (Some (view value.now)) n)) }
 {
     match value {
-        Value::Integer(hours) if *hours >= 1 && *hours <= MAX_EXTENSION_HOURS as i64 => Some(*hours as u16),
+        Value::Integer(hours) if *hours >= 1 && *hours <= MAX_EXTENSION_HOURS as i64 => Some(
+            *hours as u16,
+        ),
         _ => None,
     }
 }

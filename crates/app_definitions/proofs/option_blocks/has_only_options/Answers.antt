@@ -1,10 +1,10 @@
-use Rattle.std.proofs.Common.{◌≡◌, ◌≢◌, ◌∙◌, sym, ap, refl, rules, inl, inr, List, [], ◌∷◌, ◌++◌, append_assoc, string_bytes}
+use Rattle.std.proofs.Common.{◌≢◌, ◌∙◌, sym, ap, refl, rules, inl, inr, [], ◌∷◌, ◌++◌, append_assoc, string_bytes}
 use Rattle.std.specs.Prelude.{codes}
 use Rattle.std.proofs.lemmas.Bool.{false≢true}
 use Rattle.std.proofs.lemmas.List.{append-nil}
 use Rattle.toml.proofs.Views.{Entry}
 use Rattle.app_definitions.specs.Options.{IsOptionKey}
-use Rattle.app_definitions.proofs.OptionLemmas.{OnlyKeys, OnlyKeys-last, only_members, another_key}
+use Rattle.app_definitions.proofs.OptionLemmas.{OnlyKeys-last, only_members, another_key}
 use Rattle.app_definitions.proofs.option_blocks.has_only_options.Goals.{else-ne-via-then-ne+else-ne-2, else-ne-via-else-ne}
 use Rattle.app_definitions.proofs.option_blocks.has_only_options.Goals as goal
 

@@ -1,4 +1,4 @@
-use Rattle.std.proofs.Common.{refl, ap}
+use Rattle.std.proofs.Common.{refl}
 use Rattle.std.specs.Prelude.{codes}
 use Rattle.toml.proofs.Views.{table_get}
 use Rattle.app_definitions.proofs.option_blocks.hours_in.Goals as goal
