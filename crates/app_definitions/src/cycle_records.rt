@@ -36,9 +36,12 @@ impl Model for RunCycles {
 }
 
 impl RunCycles {
+    ghost use Rattle.run_cycles.specs.Occurrence.{HaveOwnNames};
+
     /// The run cycles, in order. No two have one name.
     pub fn as_slice(&self) -> &[RunCycle]
-        ensures { result.now ≡ self.now }
+        ensures value { result.now ≡ self.now }
+        ensures own_names { HaveOwnNames result.now }
     {
         &self.cycles
     }
