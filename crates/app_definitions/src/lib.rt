@@ -33,4 +33,6 @@ pub use records::BlockFault;
 #[cfg(test)]
 mod cycle_tests;
 #[cfg(test)]
+mod option_tests;
+#[cfg(test)]
 mod tests;
