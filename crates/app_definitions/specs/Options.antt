@@ -1,6 +1,6 @@
 -- The options, as one TOML document gives them.
 use Rattle.std.specs.Prelude.{◌≡◌, ◌⊎◌, ◌≤◌, ℕ, pos, List, codes, Option, Some, None, IsSome, IsUtf8}
-use Rattle.std.proofs.Common.{arith}
+use Rattle.std.proofs.Common.{lit≤}
 use Rattle.toml.specs.Data.{Data, Members, string, integer, get_member}
 use Rattle.toml.specs.Parse.{parse_document}
 use Rattle.work_calendars.specs.Name.{IsName}
@@ -11,7 +11,7 @@ use Rattle.app_definitions.specs.declared.records.BlockFault.TheVariants.{Faulty
 
 -- the options where none are given
 abbrev pub default_options : Options
-default_options = record { default_calendar = codes "DEFAULT"; max_extension_hours = MAX_EXTENSION_HOURS; some = omega arith; in_range = omega arith }
+default_options = record { default_calendar = codes "DEFAULT"; max_extension_hours = MAX_EXTENSION_HOURS; some = lit≤ tt; in_range = lit≤ tt }
 
 -- the default calendar that its key gives: the name that the string is, and DEFAULT where the key is missing
 abbrev pub GivesCalendar : Option Data → List ℕ → Type 0
