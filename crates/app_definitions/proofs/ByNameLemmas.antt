@@ -1,13 +1,12 @@
 -- The map of definitions by name, as its entries change.
-use Rattle.std.proofs.Common.{◌≡◌, ◌≢◌, ◌∙◌, sym, refl, ap, subst, ℕ, List, [], ◌∷◌, ◌++◌, length, filter, Bool, true, false, cond, Option, Some, None, Result, Ok, Err, arith, rules, nat_eq, add-one}
-use Rattle.std.specs.Prelude.{IfOk, IfSome, IsSome, IsTrue, ◌↔◌, option_map, is_some}
-use Rattle.std.proofs.lemmas.Bool.{false≢true}
+use Rattle.std.proofs.Common.{◌≡◌, ◌≢◌, ◌∙◌, sym, refl, ap, ℕ, List, [], ◌∷◌, ◌++◌, length, Bool, true, false, cond, Option, Some, None, Result, Ok, Err, nat_eq, add-one}
+use Rattle.std.specs.Prelude.{IfOk, IsTrue, ◌↔◌, is_some}
 use Rattle.std.proofs.lemmas.List.{append-nil}
 use Rattle.std.proofs.lemmas.List.Elements.{filter-append}
 use Rattle.std.specs.Ordering.{nat_cmp, eq_by_cmp}
 use Rattle.std.specs.Cmp.Lexicographic.{pointwise, slice_cmp, nat_list_cmp_total, nat_list_eq_equiv, texts_ties, bytes_decides}
 use Rattle.std.specs.FinMap as map
-use Rattle.std.specs.FinMap.{find, get-empty, len-empty, len-insert, get-from_entries, get-insert, get-remove, same_map, slice_cmp-IsAntisymmetric, nat_cmp-IsAntisymmetric}
+use Rattle.std.specs.FinMap.{find, get-empty, len-empty, len-insert, get-from_entries, get-remove, same_map, slice_cmp-IsAntisymmetric, nat_cmp-IsAntisymmetric}
 use Rattle.std.specs.Map.{lookup, keys_of, update_all}
 use Rattle.std.specs.Option.{option_or}
 use Rattle.std.specs.List.{IsDistinct, AllByRecursion}

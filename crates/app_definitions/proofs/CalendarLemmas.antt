@@ -1,6 +1,6 @@
 -- What a calendar lists after a record more.
-use Rattle.std.proofs.Common.{◌≡◌, ◌≢◌, ◌⊎◌, inl, inr, sym, ap, refl, ◌∙◌, ℕ, zero, suc, ◌<◌, List, [], ◌∷◌, ◌++◌, length, cond, true, false, Bool, Option, Some, None, arith, get_or}
-use Rattle.std.specs.Prelude.{Contains, slice_set, IsTrue, ◌↔◌, is_some, IsSome, nat_eq, not, codes}
+use Rattle.std.proofs.Common.{◌≡◌, ◌≢◌, inl, inr, sym, ap, refl, ◌∙◌, ℕ, zero, suc, ◌<◌, List, [], ◌∷◌, ◌++◌, length, cond, true, false, Bool, Option, Some, None, arith}
+use Rattle.std.specs.Prelude.{IsTrue, ◌↔◌, is_some, nat_eq, not, codes}
 use Rattle.std.specs.List.{slice_index_or}
 use Rattle.std.specs.FinMap as map
 use Rattle.std.specs.Cmp.{nat_cmp_total, unsigned_ties}

@@ -1,8 +1,8 @@
 -- What a period is after a record more.
-use Rattle.std.proofs.Common.{◌≡◌, ◌≢◌, ◌⊎◌, inl, inr, sym, ap, subst, refl, ◌∙◌, ℕ, zero, suc, ◌+◌, ◌-◌, ◌<◌, ◌≤◌, List, [], ◌∷◌, ◌++◌, length, Bool, true, false, Option, Some, None, Result, Ok, Err, arith, length-append, get_or}
-use Rattle.std.specs.Prelude.{IsTrue, ◌↔◌, IfSome, IfOk, OnErr, codes, All}
+use Rattle.std.proofs.Common.{◌≡◌, ◌≢◌, ◌⊎◌, inl, inr, ap, refl, ◌∙◌, ℕ, ◌+◌, ◌-◌, ◌<◌, ◌≤◌, List, [], ◌∷◌, ◌++◌, length, Bool, true, false, Option, Some, None, Result, Ok, Err, arith, length-append}
+use Rattle.std.specs.Prelude.{IsTrue, ◌↔◌, IfSome, IfOk, OnErr, codes}
 use Rattle.std.specs.List.{slice_index_or}
-use Rattle.std.proofs.lemmas.Bool.{cases_lt, false≢true}
+use Rattle.std.proofs.lemmas.Bool.{cases_lt}
 use Rattle.std.proofs.lemmas.List.{get_or_append_left, get_or_default}
 use Rattle.std.proofs.lemmas.List.Elements.{All-push}
 use Rattle.std.proofs.Math.Seq.{get_or-append_seam}
@@ -10,7 +10,7 @@ use Rattle.plan_periods.specs.Period.{Entry, EndsFromOrigin, HasRisingOrigins, I
 use Rattle.work_calendars.specs.Spelling.{SpellsDay}
 use Rattle.work_calendars.proofs.SpellingFacts.{SpellsDay-one_day, length-SpellsDay}
 use Rattle.app_definitions.specs.Fields.{field, SpellsOptionalDay}
-use Rattle.app_definitions.specs.Periods.{GivesEntry, GiveEntries, IsLaterThan, IsLater, GoesOnPeriod, FitsPeriod}
+use Rattle.app_definitions.specs.Periods.{GivesEntry, GiveEntries, IsLaterThan, IsLater, FitsPeriod}
 
 -- a field spells one end or none
 pub one_end : (text : List ℕ) (a b : Option ℕ) → SpellsOptionalDay text a → SpellsOptionalDay text b → a ≡ b

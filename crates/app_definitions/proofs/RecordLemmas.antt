@@ -1,11 +1,10 @@
 -- What the records that a reader has given are of all that the text has.
-use Rattle.std.proofs.Common.{◌≡◌, ◌∙◌, sym, refl, ap, subst, ℕ, zero, suc, ◌+◌, ◌-◌, ◌<◌, ◌≤◌, List, [], ◌∷◌, ◌++◌, length, take, get_or, Bool, true, false, Option, Some, None, arith, add-one, add-suc, length-append, zero-add, suc-add, inl, inr}
-use Rattle.std.specs.Prelude.{IfSome, if◌then◌else◌, ◌==◌, ◌&&◌}
+use Rattle.std.proofs.Common.{◌≡◌, ◌∙◌, sym, refl, ap, subst, ℕ, suc, ◌+◌, ◌-◌, ◌<◌, ◌≤◌, List, [], ◌∷◌, ◌++◌, length, Bool, true, false, Option, Some, None, arith, length-append, zero-add, suc-add, inl, inr}
+use Rattle.std.specs.Prelude.{IfSome, if◌then◌else◌, ◌==◌}
 use Rattle.std.proofs.lemmas.Bool.{false≢true, cases_lt}
-use Rattle.std.proofs.lemmas.Grind.{common_steps}
 use Rattle.std.proofs.lemmas.List.{take-append-le, get_or_append_left, append-nil}
 use Rattle.std.proofs.Math.Seq.{take-append_seam, get_or-append_seam}
-use Rattle.csv.specs.Machine.{Read, next_record, step, is_end, fields_after, field_after, ends_at_end, after_end, in_field, start_field, start_record, ends_with, is_byte, carriage_return, line_feed}
+use Rattle.csv.specs.Machine.{Read, next_record, step, is_end, fields_after, field_after, ends_at_end, after_end, in_field, start_field, start_record, ends_with, carriage_return}
 use Rattle.csv.specs.declared.parser.Config.{Config}
 use Rattle.csv.specs.declared.parser.State.{State}
 use Rattle.csv.specs.declared.parser.State.TheVariants as st
@@ -14,7 +13,7 @@ use Rattle.csv.specs.declared.parser.Action.TheVariants as act
 use Rattle.csv.specs.declared.parser.Terminator.{Terminator}
 use Rattle.csv.specs.declared.parser.Terminator.TheVariants as term
 use Rattle.csv.specs.declared.reader.Reader.{Reader}
-use Rattle.csv.specs.Reading.{Reached, records_from, records_next, records, default_config, strip_bom, is_bom, NextIs, ReadsNext, TookRecord, ExplainsRead, source_of, pending_of}
+use Rattle.csv.specs.Reading.{Reached, records_from, records, default_config, strip_bom, is_bom, NextIs, ReadsNext, TookRecord, ExplainsRead, source_of, pending_of}
 use Rattle.csv.specs.declared.error.ErrorKind.{ErrorKind}
 use Rattle.csv.specs.declared.error.ErrorKind.TheVariants as kind
 use Rattle.app_definitions.specs.Records.{IsGoodAt, AllGood, FirstFaulty, IsFirstFaulty, fault_of_kind}

@@ -1,5 +1,5 @@
 -- The records of periods: period, type, origin, second.
-use Rattle.std.specs.Prelude.{◌≡◌, ◌⊎◌, ℕ, ◌<◌, ◌≤◌, ◌-◌, List, [], ◌∷◌, length, Option, Some, None, codes, IfSome}
+use Rattle.std.specs.Prelude.{◌≡◌, ◌⊎◌, ℕ, ◌<◌, ◌≤◌, ◌-◌, List, [], ◌∷◌, length, None, codes}
 use Rattle.std.specs.List.{slice_index_or}
 use Rattle.plan_periods.specs.Period.{Entry, EndsFromOrigin}
 use Rattle.plan_periods.specs.declared.periods.TheConstants.{MAX_INTERVAL}

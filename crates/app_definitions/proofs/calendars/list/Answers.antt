@@ -1,11 +1,11 @@
-use Rattle.std.proofs.Common.{◌≡◌, ◌∙◌, sym, refl, ap, rules, true, false}
+use Rattle.std.proofs.Common.{◌∙◌, sym, refl, ap, true, false}
 use Rattle.std.specs.Prelude.{is_some}
 use Rattle.csv.specs.Records.{fields_of}
 use Rattle.jiff_core.specs.Weekday.{monday_zero}
 use Rattle.app_definitions.specs.Fields.{field}
 use Rattle.app_definitions.specs.Calendars.{IsWeekdayText, IsStatusText, status_of}
 use Rattle.work_calendars.specs.Spelling.{SpellsDay}
-use Rattle.app_definitions.proofs.CalendarLemmas.{weekday-more, date-more, weekday-taken, date-taken}
+use Rattle.app_definitions.proofs.CalendarLemmas.{weekday-more, date-more, date-taken}
 use Rattle.app_definitions.proofs.calendars.list.Goals as goal
 
 pub returns-in-Some-weekday_of-clause-made : goal.returns-in-Some-weekday_of-clause-made

@@ -1,4 +1,3 @@
-use Rattle.std.specs.Prelude.{IsSome, None}
 use Rattle.std.proofs.lemmas.Bool.{false≢true}
 use Rattle.work_calendars.proofs.NameFacts.{IsUtf8-name}
 use Rattle.app_definitions.proofs.fields.short_of.Goals as goal

@@ -1,5 +1,5 @@
-use Rattle.std.proofs.Common.{Bor, List, ℕ, ◌≡◌, ◌∙◌, sym, refl, rules, arith, length-append, ◌+◌, inl, inr, true, false, Some, ◌∷◌, [], ◌++◌}
-use Rattle.csv.specs.Reading.{Reached, default_config, strip_bom, source_of}
+use Rattle.std.proofs.Common.{Bor, List, ℕ, ◌≡◌, ◌∙◌, sym, refl, arith, length-append, ◌+◌, inl, inr, true, false, Some, ◌∷◌, [], ◌++◌}
+use Rattle.csv.specs.Reading.{Reached, default_config, strip_bom}
 use Rattle.csv.specs.Records.{fields_of}
 use Rattle.csv.specs.declared.parser.State.TheVariants as st
 use Rattle.std.proofs.lemmas.Bool.{false≢true}

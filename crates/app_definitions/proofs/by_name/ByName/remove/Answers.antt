@@ -1,8 +1,8 @@
-use Rattle.std.proofs.Common.{◌≡◌, ◌∙◌, sym, ap, subst, true, List, ℕ, cond, None, nat_eq}
-use Rattle.std.specs.Prelude.{is_some, IsSome}
+use Rattle.std.proofs.Common.{◌∙◌, sym, ap, cond, None, nat_eq}
+use Rattle.std.specs.Prelude.{is_some}
 use Rattle.std.specs.FinMap as map
 use Rattle.std.specs.Cmp.Lexicographic.{pointwise}
-use Rattle.app_definitions.proofs.ByNameLemmas.{get-view_of, get-removed, same_by_name, view_of}
+use Rattle.app_definitions.proofs.ByNameLemmas.{get-view_of, get-removed, same_by_name}
 use Rattle.app_definitions.proofs.by_name.ByName.remove.Goals as goal
 
 pub returns-clause-found : goal.returns-clause-found

@@ -1,10 +1,6 @@
-use Rattle.std.proofs.Common.{◌≡◌, ◌∙◌, sym, ap, refl, true, false, List, ℕ, [], Some, None, length, rules}
-use Rattle.std.specs.Prelude.{IsSome, is_some}
-use Rattle.std.specs.FinMap as map
-use Rattle.std.proofs.lemmas.Bool.{false≢true}
+use Rattle.std.proofs.Common.{◌≡◌, ◌∙◌, sym, ap, refl, true, false, Some, None, length, rules}
+use Rattle.std.specs.Prelude.{is_some}
 use Rattle.csv.specs.Records.{fields_of}
-use Rattle.work_calendars.specs.Name.{IsName}
-use Rattle.app_definitions.specs.Fields.{field}
 use Rattle.app_definitions.proofs.ByNameLemmas.{joined-taken, joined-gathered, begun-taken, begun-gathered, written-view_of, seen-view_of}
 use Rattle.app_definitions.proofs.by_name.ByNameGather.gather.Goals as goal
 

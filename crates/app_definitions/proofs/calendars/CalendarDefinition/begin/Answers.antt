@@ -1,4 +1,4 @@
-use Rattle.std.proofs.Common.{◌≡◌, ◌∙◌, sym, [], false, true, rules}
+use Rattle.std.proofs.Common.{◌≡◌, ◌∙◌, sym, [], true, rules}
 use Rattle.std.proofs.lemmas.Bool.{false≢true}
 use Rattle.app_definitions.specs.Calendars.{IsCalendarOf}
 use Rattle.app_definitions.proofs.CalendarLemmas.{IsCalendarOf-none}

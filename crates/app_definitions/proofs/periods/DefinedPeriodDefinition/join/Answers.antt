@@ -1,4 +1,4 @@
-use Rattle.std.proofs.Common.{◌≡◌, ◌∙◌, sym, refl, ap, rules, true, false, List, ℕ, Bool, not, nat_eq}
+use Rattle.std.proofs.Common.{◌≡◌, ◌∙◌, sym, refl, ap, true, false, List, ℕ, Bool, not, nat_eq}
 use Rattle.std.specs.Prelude.{codes}
 use Rattle.std.specs.Cmp.Lexicographic.{pointwise}
 use Rattle.std.proofs.lemmas.Bool.{false≢true}
@@ -8,7 +8,7 @@ use Rattle.app_definitions.specs.Divisions.{period_of}
 use Rattle.app_definitions.specs.Fields.{field}
 use Rattle.app_definitions.specs.Periods.{IsPeriodOf}
 use Rattle.app_definitions.proofs.ByNameLemmas.{IfOk-map, same_name}
-use Rattle.app_definitions.proofs.PeriodLemmas.{goes_on-taken, GiveEntries-push, first-kept, sound-pushed}
+use Rattle.app_definitions.proofs.PeriodLemmas.{goes_on-taken, GiveEntries-push, first-kept}
 use Rattle.app_definitions.proofs.periods.DefinedPeriodDefinition.join.Goals as goal
 
 letter_is : (a b : List ℕ) (r : Bool) → r ≡ false → r ≡ not (pointwise nat_eq a b) → b ≡ codes "N" → a ≡ codes "N"

@@ -1,4 +1,4 @@
-use Rattle.std.proofs.Common.{◌≡◌, ◌∙◌, sym, ap, not, refl, true, false, List, ℕ, Bool, nat_eq, rules}
+use Rattle.std.proofs.Common.{◌≡◌, ◌∙◌, sym, not, refl, true, false, List, ℕ, Bool, nat_eq}
 use Rattle.std.specs.Prelude.{Contains, IsTrue, ◌↔◌}
 use Rattle.std.specs.List.{list_any}
 use Rattle.std.specs.Cmp.Lexicographic.{pointwise, nat_list_eq_equiv}
