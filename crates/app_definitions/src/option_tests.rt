@@ -17,7 +17,7 @@ fn given(alloc: Global, text: &[u8]) -> Result<Options, usize> {
 
 #[test]
 fn accepted(rt: HostRuntime) {
-    let table: [(&[u8], &str, u16); 10] = [
+    let table: [(&[u8], &str, u16); 14] = [
         (b"", "DEFAULT", 504),
         (b"\n# nothing\n", "DEFAULT", 504),
         (b"max_extension_hours = 24\n", "DEFAULT", 24),
@@ -36,6 +36,14 @@ fn accepted(rt: HostRuntime) {
             24,
         ),
         (b"\xEF\xBB\xBFmax_extension_hours = 24\n", "DEFAULT", 24),
+        (b"max_extension_hours = +24\n", "DEFAULT", 24),
+        (b"max_extension_hours = 2_4\n", "DEFAULT", 24),
+        (
+            b"max_extension_hours=24#\n\ndefault_calendar=\"PL\\u0041NT\"\n",
+            "PLANT",
+            24,
+        ),
+        (b"default_calendar = \"\"\"PLANT\"\"\"\r\n", "PLANT", 504),
     ];
     for (text, calendar, hours) in table {
         match given(rt.alloc(), text) {
@@ -50,7 +58,7 @@ fn accepted(rt: HostRuntime) {
 
 #[test]
 fn refused(rt: HostRuntime) {
-    let table: [&[u8]; 20] = [
+    let table: [&[u8]; 46] = [
         b"max_extension_hours = 505\n",
         b"max_extension_hours = 0\n",
         b"max_extension_hours = -1\n",
@@ -71,6 +79,32 @@ fn refused(rt: HostRuntime) {
         b"[other]\nmax_extension_hours = 24\n",
         b"A,A,\n",
         b"# \xFF\n",
+        b"max_extension_hours = true\n",
+        b"max_extension_hours = 024\n",
+        b"max_extension_hours = 1e2\n",
+        b"max_extension_hours = {}\n",
+        b"max_extension_hours = 2024-01-01\n",
+        b"max_extension_hours = 9223372036854775808\n",
+        b"max_extension_hours = -9223372036854775808\n",
+        b"max_extension_hours =\n",
+        b"max_extension_hours\n",
+        b"max_extension_hours = 24 default_calendar = \"A\"\n",
+        b"Max_extension_hours = 24\n",
+        b"\"\" = 24\n",
+        b"max_extension_hours.x = 24\n",
+        b"[[max_extension_hours]]\n",
+        b"default_calendar = PLANT\n",
+        b"default_calendar = \"PLANT\n",
+        b"default_calendar = \" PLANT\"\n",
+        b"default_calendar = \"1PLANT\"\n",
+        b"default_calendar = [\"PLANT\"]\n",
+        b"default_calendar = 2024-01-01\n",
+        b"default_calendar = \"\xFF\"\n",
+        b"default_calendar = \"PLANT\\u0000\"\n",
+        b"default_calendar = \"A\"\n\"default_calendar\" = \"A\"\n",
+        b"default_calendar = \"A\"\nmax_extension_hours = 505\n",
+        b"\xFF",
+        b"max_extension_hours = 24\x00\n",
     ];
     for text in table {
         match given(rt.alloc(), text) {

@@ -18,7 +18,7 @@ fn fault(alloc: Global, kind: Kind, text: &[u8]) -> usize {
 
 #[test]
 fn applications(rt: HostRuntime) {
-    let table: [(&[u8], usize); 26] = [
+    let table: [(&[u8], usize); 60] = [
         (b"", 0),
         (b"A,A,\n", 0),
         (b"A,P,", 0),
@@ -45,6 +45,43 @@ fn applications(rt: HostRuntime) {
         (b"\xFF,A,\n", 1),
         (b"A,A,ABCDEFGHIJKLMNOP\nABCDEFGHIJKLMNOPQ,A,\nC,X,\n", 2),
         (b"\"A\"\"\",A,\n", 1),
+        (b"A,A,$@#9\n", 0),
+        (
+            b"@,A,\n$,A,\n#,A,\nABCDEFGHIJKLMNOP,P,ABCDEFGHIJKLMNOP\n",
+            0,
+        ),
+        (b"\xEF\xBB\xBF", 0),
+        (b"\r\n\n\r", 0),
+        (b"#A,A,\n#A,P,\n", 2),
+        (b"\"A\"B,A,\nAB,A,\n", 2),
+        (b"A,A,\r\nB,X,\r\n", 2),
+        (b"A,A,\rB,X,\r", 2),
+        (b"\n\nA,A,\n\n\nB,X,\n", 2),
+        (b"A,A,\n\xEF\xBB\xBFB,A,\n", 2),
+        (b"\xEF\xBB\xBF\xEF\xBB\xBFA,A,\n", 1),
+        (b"A,A,\n \n", 2),
+        (b"A\n", 1),
+        (b"A;A;\n", 1),
+        (b"A,A,\"\n", 1),
+        (b"\"A,A,\nB,A,\n", 1),
+        (b"\"A,A\",A,\n", 1),
+        (b"\"A\nB\",A,\n", 1),
+        (b"A\"B,A,\n", 1),
+        (b"A,AA,\n", 1),
+        (b"A,A ,\n", 1),
+        (b"A,\xFF,\n", 1),
+        (b"A,A,c\n", 1),
+        (b"A,A,9\n", 1),
+        (b"A,A,ABCDEFGHIJKLMNOPQ\n", 1),
+        (b"A,A,\xFF\n", 1),
+        (b"A\x00,A,\n", 1),
+        (b"A-B,A,\n", 1),
+        (b"\xC3\x84,A,\n", 1),
+        (b"a,A,\n", 1),
+        (b"A,X,\nB,A\n", 1),
+        (b"A,A\nB,X,\n", 1),
+        (b"A,A\nB,A\n", 1),
+        (b"A,A,\nA,X,\nA,A,\n", 2),
     ];
     for (text, want) in table {
         assert_eq!(rt;
@@ -57,7 +94,7 @@ fn applications(rt: HostRuntime) {
 
 #[test]
 fn predecessors(rt: HostRuntime) {
-    let table: [(&[u8], usize); 8] = [
+    let table: [(&[u8], usize); 26] = [
         (b"", 0),
         (b"A,B\nA,A\nB,A\n", 0),
         (b"A,B\nB,A\nA,B\n", 3),
@@ -66,6 +103,24 @@ fn predecessors(rt: HostRuntime) {
         (b"A,\n", 1),
         (b"A,b\n", 1),
         (b"A,B\nA,\xFF\nA,B\n", 2),
+        (b"ABCDEFGHIJKLMNOP,ABCDEFGHIJKLMNOP", 0),
+        (b"A,B\r\n\r\nA,C\r\n", 0),
+        (b"\xEF\xBB\xBF\"A\",\"B\"\nA,\"C", 0),
+        (b"\"A\",B\nA,\"B\"\n", 2),
+        (b"A,B\n\n\nA,B\n", 2),
+        (b"A,B\rA,B\r", 2),
+        (b"A,B\nB,B\nA,C\nA,B\nA\n", 4),
+        (b"A,B\nA\nA,B\n", 2),
+        (b"ABCDEFGHIJKLMNOPQ,A\n", 1),
+        (b"A,ABCDEFGHIJKLMNOPQ\n", 1),
+        (b",A\n", 1),
+        (b"a,A\n", 1),
+        (b"1,A\n", 1),
+        (b"A,1\n", 1),
+        (b"A, B\n", 1),
+        (b"A,B \n", 1),
+        (b"A,\"B\"\"\"\n", 1),
+        (b"\xFF,A\n", 1),
     ];
     for (text, want) in table {
         assert_eq!(rt;
@@ -78,7 +133,7 @@ fn predecessors(rt: HostRuntime) {
 
 #[test]
 fn calendars(rt: HostRuntime) {
-    let table: [(&[u8], usize); 14] = [
+    let table: [(&[u8], usize); 44] = [
         (b"", 0),
         (b"DEFAULT,SAT,FREE\nDEFAULT,SUN,FREE\n", 0),
         (b"DEFAULT,SAT,FREE\nB,SAT,FREE\nDEFAULT,MON,WORK\n", 0),
@@ -96,6 +151,45 @@ fn calendars(rt: HostRuntime) {
         (b"C,SAT,Free\n", 1),
         (b"C,SAT\n", 1),
         (b"C,SAT,FREE\nC,XXX,FREE\nC,SAT,FREE\n", 2),
+        (
+            b"C,MON,WORK\nC,TUE,WORK\nC,WED,WORK\nC,THU,FREE\nC,FRI,FREE\nC,SAT,FREE\nC,SUN,FREE\n",
+            0,
+        ),
+        (b"ABCDEFGHIJKLMNOP,2024-02-29,FREE", 0),
+        (
+            b"\xEF\xBB\xBFC,SAT,FREE\r\n\r\n\"C\",\"SUN\",\"WORK\"\r\n",
+            0,
+        ),
+        (b"C,SUN,FREE\nD,SUN,FREE\nC,SUN,WORK\n", 3),
+        (
+            b"C,2024-01-08,FREE\nC,MON,FREE\nC,2024-01-15,FREE\nC,2024-01-08,FREE\n",
+            4,
+        ),
+        (b"ABCDEFGHIJKLMNOPQ,SAT,FREE\n", 1),
+        (b",SAT,FREE\n", 1),
+        (b"c,SAT,FREE\n", 1),
+        (b"1C,SAT,FREE\n", 1),
+        (b"\xFF,SAT,FREE\n", 1),
+        (b"C,,FREE\n", 1),
+        (b"C,SATURDAY,FREE\n", 1),
+        (b"C,SA,FREE\n", 1),
+        (b"C, SAT,FREE\n", 1),
+        (b"C,7,FREE\n", 1),
+        (b"C,\xFF,FREE\n", 1),
+        (b"C,2024-13-01,FREE\n", 1),
+        (b"C,2024-04-31,FREE\n", 1),
+        (b"C,2024-00-10,FREE\n", 1),
+        (b"C,2024/01/10,FREE\n", 1),
+        (b"C,20240110,FREE\n", 1),
+        (b"C,2024-01-10 ,FREE\n", 1),
+        (b"C,+2024-01-10,FREE\n", 1),
+        (b"C,SAT,\n", 1),
+        (b"C,SAT,F\n", 1),
+        (b"C,SAT,FREE \n", 1),
+        (b"C,SAT,WORKFREE\n", 1),
+        (b"C,SAT,\xFF\n", 1),
+        (b"C,SAT,FREE,\n", 1),
+        (b"C,SAT,FREE\nC,SUN,FREE,\nC,SAT,FREE\n", 2),
     ];
     for (text, want) in table {
         assert_eq!(rt; fault(rt.alloc(), Kind::Calendars, text), want, "{text:?}");
@@ -104,7 +198,7 @@ fn calendars(rt: HostRuntime) {
 
 #[test]
 fn periods(rt: HostRuntime) {
-    let table: [(&[u8], usize); 22] = [
+    let table: [(&[u8], usize); 61] = [
         (b"", 0),
         (b"WEEK,A,2024-01-01,7\n", 0),
         (b"W,W,2024-01-01,1\nB,A,2024-01-01,999\n", 0),
@@ -130,6 +224,54 @@ fn periods(rt: HostRuntime) {
         (b"A,N,2024-01-02,\nA,N,2024-01-03,2024-01-02\n", 2),
         (b"A,N,2024-01-02,\nA,N,2024-01-01,\nA,N,2024-01-03,\n", 2),
         (b"A,N,2024-01-02\n", 1),
+        (b"ABCDEFGH,W,2071-12-31,999", 0),
+        (
+            b"\xEF\xBB\xBF\"A\",\"A\",\"2024-01-01\",\"7\"\r\n\r\nB,A,2024-01-01,10\r\n",
+            0,
+        ),
+        (
+            b"A,N,1972-01-01,2071-12-31\nA,N,1972-01-02,2071-12-31\nA,N,2071-12-31,2071-12-31\n",
+            0,
+        ),
+        (b"A,N,2024-01-01,\nA,N,2024-01-05,\nA,N,2024-01-03,\n", 3),
+        (b"A,N,2024-01-05,\nB,N,2024-01-01,\nA,N,2024-01-01,\n", 3),
+        (b"A,N,2024-01-01,\nA,W,2024-01-02,7\n", 2),
+        (b"A,W,2024-01-01,7\nA,N,2024-01-02,\n", 2),
+        (b"A,W,2024-01-01,7\nB,W,2024-01-01,7\nA,A,2024-02-01,7\n", 3),
+        (b"A,N,2024-01-01,\nA,X,2024-01-02,\n", 2),
+        (b"A,N,2024-01-01,\nA,N,2024-01-02\n", 2),
+        (
+            b"A,N,2024-01-01,\nA,N,2024-01-02,2024-01-01\nA,N,2024-01-02,\nB\n",
+            2,
+        ),
+        (b",A,2024-01-01,7\n", 1),
+        (b"a,A,2024-01-01,7\n", 1),
+        (b"1,A,2024-01-01,7\n", 1),
+        (b"ABCDEFGHI,N,2024-01-01,\n", 1),
+        (b"\xFF,A,2024-01-01,7\n", 1),
+        (b"A,,2024-01-01,7\n", 1),
+        (b"A,a,2024-01-01,7\n", 1),
+        (b"A,AA,2024-01-01,7\n", 1),
+        (b"A,A ,2024-01-01,7\n", 1),
+        (b"A,A,2024-02-30,7\n", 1),
+        (b"A,W,1971-12-31,7\n", 1),
+        (b"A,N,2072-01-01,\n", 1),
+        (b"A,N,,\n", 1),
+        (b"A,N,MON,\n", 1),
+        (b"A,A,2024-01-01,7 \n", 1),
+        (b"A,A,2024-01-01,7.0\n", 1),
+        (b"A,A,2024-01-01,0x7\n", 1),
+        (b"A,A,2024-01-01,007\n", 1),
+        (b"A,W,2024-01-01,65543\n", 1),
+        (b"A,W,2024-01-01,4294967303\n", 1),
+        (b"A,W,2024-01-01,18446744073709551623\n", 1),
+        (b"A,W,2024-01-01,0\n", 1),
+        (b"A,W,2024-01-01,1000\n", 1),
+        (b"A,W,2024-01-01,2024-01-31\n", 1),
+        (b"A,N,2024-01-01,7\n", 1),
+        (b"A,N,2024-01-01,2072-01-01\n", 1),
+        (b"A,N,2024-01-01, \n", 1),
+        (b"A,A,2024-01-01,7,\n", 1),
     ];
     for (text, want) in table {
         assert_eq!(rt; fault(rt.alloc(), Kind::Periods, text), want, "{text:?}");
