@@ -33,6 +33,8 @@ pub use records::BlockFault;
 #[cfg(test)]
 mod cycle_tests;
 #[cfg(test)]
+mod merge_tests;
+#[cfg(test)]
 mod option_tests;
 #[cfg(test)]
 mod tests;
