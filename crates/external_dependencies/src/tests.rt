@@ -213,10 +213,17 @@ fn a_deleted_predecessor_is_passed_over_and_an_added_one_found(
 ) -> Result<(), Fail> {
     let alloc = rt.alloc();
     let links = lists(&rt, alloc, &[("A", &["A"]), ("B", &["A"])])?;
+    let first = placed(&rt, 1, "A", EIGHT, Place::LongTerm);
     let deleted = placed(&rt, 1, "A", EIGHT, Place::Deleted(Reason::Operator));
     let second = placed(&rt, 2, "B", EIGHT, Place::LongTerm);
     let third = placed(&rt, 3, "A", DAY + EIGHT, Place::LongTerm);
     let fourth = placed(&rt, 4, "B", DAY + EIGHT, Place::LongTerm);
+    let rows = Rows::from_vec(Vec::from_slice(alloc, &[first, second, third, fourth])?);
+    let pairs = resolve_all(alloc, &rows, &links)?;
+    assert_eq!(rt;
+        pairs.as_slice(),
+        [pair(&rt, 2, 1), pair(&rt, 3, 1), pair(&rt, 4, 3)].as_slice()
+    );
     let rows = Rows::from_vec(Vec::from_slice(alloc, &[deleted, second, third, fourth])?);
     let pairs = resolve_all(alloc, &rows, &links)?;
     assert_eq!(rt; pairs.as_slice(), [pair(&rt, 4, 3)].as_slice());
@@ -288,5 +295,55 @@ fn only_open_occurrences_get_pairs(rt: HostRuntime) -> Result<(), Fail> {
     nearest_arrives_last();
     pairs_depend_on_set();
     pairs_have_no_loop();
+    Ok(())
+}
+
+#[test]
+fn a_ring_of_nine(rt: HostRuntime) -> Result<(), Fail> {
+    let alloc = rt.alloc();
+    let links = lists(
+        &rt,
+        alloc,
+        &[
+            ("A", &["B"]),
+            ("B", &["C"]),
+            ("C", &["D"]),
+            ("D", &["E"]),
+            ("E", &["F"]),
+            ("F", &["G"]),
+            ("G", &["H"]),
+            ("H", &["I"]),
+            ("I", &["A", "B", "C", "D", "E", "F", "G", "H", "I"]),
+        ],
+    )?;
+    assert_eq!(rt; find_loop(alloc, &links)?, Some(app(&rt, "A")));
+    let rows = [
+        placed(&rt, 1, "A", EIGHT, Place::LongTerm),
+        placed(&rt, 2, "B", EIGHT, Place::LongTerm),
+        placed(&rt, 3, "C", EIGHT, Place::LongTerm),
+        placed(&rt, 4, "D", EIGHT, Place::LongTerm),
+        placed(&rt, 5, "E", EIGHT, Place::LongTerm),
+        placed(&rt, 6, "F", EIGHT, Place::LongTerm),
+        placed(&rt, 7, "G", EIGHT, Place::LongTerm),
+        placed(&rt, 8, "H", EIGHT, Place::LongTerm),
+        placed(&rt, 9, "I", EIGHT, Place::LongTerm),
+    ];
+    let rows = Rows::from_vec(Vec::from_slice(alloc, &rows)?);
+    assert_eq!(rt; Live::build(alloc, &rows)?.as_slice().len(), 9);
+    let pairs = resolve_all(alloc, &rows, &links)?;
+    assert_eq!(rt; pairs.as_slice().len(), 16);
+    for (one, next) in [
+        (1, 2),
+        (2, 3),
+        (3, 4),
+        (4, 5),
+        (5, 6),
+        (6, 7),
+        (7, 8),
+        (8, 9),
+    ] {
+        assert!(rt; pairs.as_slice().contains(&pair(&rt, one, next)), "{one}");
+        assert!(rt; pairs.as_slice().contains(&pair(&rt, 9, one)), "{one}");
+    }
     Ok(())
 }
