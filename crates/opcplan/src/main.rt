@@ -17,7 +17,7 @@ fn answer_input<R: AllocGlobal + Input + Print>(rt: &R) -> u8 {
     let mut writer = io::writer(rt);
     match BufReader::new(alloc, rt.reader()) {
         Ok(mut reader) => {
-            let mut desk = Desk::new();
+            let mut desk = Desk::new(alloc);
             exit_status(&run(alloc, &mut desk, &mut reader, &mut writer))
         }
         Err(_) => memory_refused(rt),

@@ -129,9 +129,9 @@ progress_answers s0 s s' w0 w w' b c text m n found item met p read one answered
       now_is = now;
       items = p.items ∙ ap (λ l. p.done ++ l) (items ∙ ap (λ l. l ++ items_of ys) one) ∙ sym (append_assoc p.done (item ∷ []) (items_of ys));
       answers = answers_more s0 s s' p.done p.replies item r.reply p.answers r.step;
-      written = subst (Appends w0 w') (sym (prints-append _ _ ∙ ap (λ l. prints p.replies ++ l) (prints-one _ ∙ sym r.text_is)))
+      written = subst (Appends w0 w') (sym (prints-append _ _ ∙ ap (λ l. prints p.replies ++ l) (prints-one _ ∙ sym r.prints.text_is)))
           (Appends-trans w0 w w' _ _ p.written wrote);
-      tally_is = tally_of-more p.replies r.reply met m n p.tally_is r.accepted_is r.refused_is more_accepted more_refused;
+      tally_is = tally_of-more p.replies r.reply met m n p.tally_is r.prints.accepted_is r.prints.refused_is more_accepted more_refused;
     }
 
 -- the stream has ended

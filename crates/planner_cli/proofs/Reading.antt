@@ -11,6 +11,7 @@ use Rattle.planner_cli.specs.Found.{block_found, items_found, found_alone, found
 use Rattle.planner_cli.specs.declared.words.LineKind.{LineKind}
 use Rattle.planner_cli.specs.declared.words.LineKind.TheVariants.{Skipped, Faulty, Statement}
 use Rattle.planner_cli.specs.declared.items.DataEnd.{DataEnd}
+use Rattle.planner_cli.specs.declared.items.Found.TheVariants.{WithData}
 use Rattle.planner_cli.specs.declared.items.DataEnd.TheVariants.{Ended, Overlong, Missing}
 use Rattle.planner_cli.proofs.Kept.{take_short, take_parts}
 use Rattle.planner_cli.proofs.Text.{Holds, holds_front, raw_lines-first, ends_data-held, opens_data-held, kind_of-held, statement-held, le_or_lt}
@@ -255,3 +256,15 @@ item_with_data (Some xs) b c line block end first rest e read =
           ∙ ap (λ l. items_found (found_with_data (kind_of line) end) line block ++ l) items,
       omega (arith, shorter, drop_through_shorter xs),
     )
+
+-- a line after which no data follow has none
+pub alone_without_data : (kind : LineKind) (end : DataEnd) → found_alone kind ≡ WithData end → ⊥
+alone_without_data Skipped end e = cc
+alone_without_data Faulty end e = cc
+alone_without_data Statement end e = cc
+
+-- how the data of an item ended is how data ended
+pub found_end : (kind : LineKind) (end other : DataEnd) → found_with_data kind end ≡ WithData other → end ≡ other
+found_end Skipped end other e = cc
+found_end Faulty end other e = cc
+found_end Statement end other e = cc

@@ -1,10 +1,11 @@
 -- Lemmas on the lines of a text, and on lines of which only the front is held.
 use Rattle.std.proofs.Common.{◌≡◌, ◌≢◌, ℕ, zero, suc, ◌+◌, ◌-◌, ◌<◌, ◌≤◌, ◌⊎◌, inl, inr, List, [], ◌∷◌, length, take, get_or, refl, sym, ap, subst, ◌∙◌, arith, lt-ltb, All, ne_eqb, eq-eqb, true≢false, take_all, take-take, length-take-le}
-use Rattle.std.specs.Prelude.{◌==◌, ◌&&◌, Bool, true, false, if◌then◌else◌, nat_lt, bytes_eq, nat_eq, ◌||◌, codes}
+use Rattle.std.specs.Prelude.{◌==◌, ◌&&◌, Bool, true, false, if◌then◌else◌, nat_lt, bytes_eq, nat_eq, ◌||◌, is_none, codes}
 use Rattle.std.specs.List.{onto_first, list_all}
 use Rattle.std.proofs.lemmas.List.Elements.{All-nil, All-cons}
 use Rattle.std.specs.Io.BufRead.{take_through, drop_through, strip_last, ends_with_byte}
-use Rattle.planner_cli.specs.Lines.{raw_lines, line_of, longest_line, opens_data, ends_data, kind_of, first_word, is_comment, is_blank, is_plain}
+use Rattle.statement_words.specs.Line.{is_line_byte}
+use Rattle.planner_cli.specs.Lines.{raw_lines, line_of, longest_line, opens_data, ends_data, kind_of, first_word, is_comment, is_define}
 use Rattle.planner_cli.specs.declared.words.LineKind.TheVariants.{Skipped, Faulty, Statement}
 
 -- the lines of a text after a byte that is no line feed
@@ -116,14 +117,14 @@ ends_data-held held line h = elim h.or_long [
 pub opens_data-held : (held line : List ℕ) → Holds longest_line held line → opens_data held ≡ opens_data line
 unfolding opens_data
 opens_data-held held line h = elim h.or_long [
-  | inl same ↦ ap (λ l. bytes_eq (first_word (take longest_line l)) (codes "define")) same
-  | inr long ↦ ap (λ l. bytes_eq (first_word l) (codes "define")) long.2
+  | inl same ↦ ap (λ l. is_define (first_word (take longest_line l))) same
+  | inr long ↦ ap (λ l. is_define (first_word l)) long.2
 ]
 
 -- too long a line is no statement
 too_long : (line : List ℕ) → longest_line < length line → kind_of line ≡ Faulty
 unfolding kind_of
-too_long line long = ap (λ b. if b then Faulty else (if is_comment line || list_all is_blank line then Skipped else (if list_all is_plain line then Statement else Faulty))) (lt-ltb _ _ long)
+too_long line long = ap (λ b. if b then Faulty else (if is_comment line || is_none (first_word line) then Skipped else (if list_all is_line_byte line then Statement else Faulty))) (lt-ltb _ _ long)
 
 -- what a line is of which this is held
 pub kind_of-held : (held line : List ℕ) → Holds longest_line held line → kind_of held ≡ kind_of line

@@ -3,7 +3,11 @@ pub mod Items
 pub mod Found
 pub mod Entries
 pub mod Replies
+pub mod Outcomes
+pub mod Kinds
+pub mod Days
 pub mod Desk
 pub mod Meaning
 pub mod Faults
+pub mod Rows
 pub mod Runs

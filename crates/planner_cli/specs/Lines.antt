@@ -1,7 +1,9 @@
 -- The lines of a text, and what one line may hold.
-use Rattle.std.specs.Prelude.{ℕ, List, [], ◌∷◌, ◌-◌, ◌++◌, ◌==◌, ◌&&◌, ◌||◌, Bool, false, length, take, nat_le, nat_lt, bytes_eq, codes, if◌then◌else◌}
+use Rattle.std.specs.Prelude.{ℕ, List, [], ◌∷◌, ◌-◌, ◌++◌, ◌==◌, ◌||◌, Bool, false, Option, None, Some, is_none, length, take, nat_lt, slice_get, bytes_eq, codes, if◌then◌else◌}
 use Rattle.std.specs.List.{onto_first, list_all}
 use Rattle.std.specs.Io.BufRead.{strip_last}
+use Rattle.statement_words.specs.Grammar.{Text}
+use Rattle.statement_words.specs.Line.{is_line_byte, words_of}
 use Rattle.planner_cli.specs.declared.words.LineKind.{LineKind}
 use Rattle.planner_cli.specs.declared.words.LineKind.TheVariants.{Skipped, Faulty, Statement}
 
@@ -14,35 +16,22 @@ raw_lines (x ∷ xs) = if x == 10 then (x ∷ []) ∷ raw_lines xs else onto_fir
 unfoldable pub line_of : List ℕ → List ℕ
 line_of raw = strip_last 13 (strip_last 10 raw)
 
--- a blank or a tab
-unfoldable pub is_blank : ℕ → Bool
-is_blank b = b == 32 || b == 9
-
--- a byte that a statement may hold: 20 to 7E in hexadecimal, and the tab
-unfoldable pub is_plain : ℕ → Bool
-is_plain b = nat_le 32 b && nat_le b 126 || b == 9
-
--- the bytes from the first one on that is no blank
-unfoldable pub after_blanks : List ℕ → List ℕ
-after_blanks [] = []
-after_blanks (b ∷ bs) = if is_blank b then after_blanks bs else b ∷ bs
-
--- the bytes before the first blank
-unfoldable pub before_blank : List ℕ → List ℕ
-before_blank [] = []
-before_blank (b ∷ bs) = if is_blank b then [] else b ∷ before_blank bs
-
--- the first word of a line; nothing where it has none
-unfoldable pub first_word : List ℕ → List ℕ
-first_word line = before_blank (after_blanks line)
-
 -- the most bytes that a statement's line may have
 abbrev pub longest_line : ℕ
 longest_line = 1024
 
+-- whether the first word of a line, if it has one, is `define`
+abbrev pub is_define : Option Text → Bool
+is_define None = false
+is_define (Some word) = bytes_eq word (codes "define")
+
+-- the first word of a line, if it has one
+abbrev pub first_word : List ℕ → Option Text
+first_word line = slice_get (words_of line) 0
+
 -- data follow a line whose first 1,024 bytes have `define` as their first word, whatever else stands in it
 unfoldable pub opens_data : List ℕ → Bool
-opens_data line = bytes_eq (first_word (take longest_line line)) (codes "define")
+opens_data line = is_define (first_word (take longest_line line))
 
 -- the line that ends data
 unfoldable pub ends_data : List ℕ → Bool
@@ -53,11 +42,11 @@ unfoldable pub is_comment : List ℕ → Bool
 is_comment [] = false
 is_comment (b ∷ bs) = b == 42
 
--- what a line is: too long a line is no statement, whatever it holds
+-- what a line is: too long a line is no statement, whatever it holds; a line without words is blank
 unfoldable pub kind_of : List ℕ → LineKind
 kind_of line =
     if nat_lt longest_line (length line) then Faulty
-    else (if is_comment line || list_all is_blank line then Skipped else (if list_all is_plain line then Statement else Faulty))
+    else (if is_comment line || is_none (first_word line) then Skipped else (if list_all is_line_byte line then Statement else Faulty))
 
 -- what a buffer with room for `limit` bytes holds once bs came after what it held
 abbrev pub kept : ℕ → List ℕ → List ℕ → List ℕ

@@ -1,5 +1,5 @@
 -- What is answered to an item, and what the answers print.
-use Rattle.std.specs.Prelude.{ℕ, List, [], ◌∷◌, ◌++◌, Bool, codes, nat_eq, flat_map}
+use Rattle.std.specs.Prelude.{◌≡◌, ℕ, List, [], ◌∷◌, ◌++◌, Bool, not, codes, nat_eq, flat_map}
 use Rattle.std.specs.List.{starts_with}
 
 -- an answer: the rows that are printed first, and its reply line, each without its line feed
@@ -24,6 +24,8 @@ printed reply = flat_map ended reply.rows ++ ended reply.line
 unfoldable pub prints : List Reply → List ℕ
 prints replies = flat_map printed replies
 
--- the answer to what is no statement
-unfoldable pub no_statement : Reply
-no_statement = record { rows = []; line = codes "refused 10" }
+-- these bytes are what the reply prints, and this is whether it is accepted
+pub record Prints (reply : Reply) (text : List ℕ) (accepted : Bool) : Type 0 where
+  pub text_is : text ≡ printed reply
+  pub accepted_is : accepted ≡ is_accepted reply
+  pub refused_is : not accepted ≡ is_refused reply

@@ -1,8 +1,8 @@
 -- What a run leaves: all answers, or those before a fault.
-use Rattle.std.specs.Prelude.{◌≡◌, ℕ, ◌≤◌, Bool, not, List, ◌∷◌, ◌++◌, Option, length, take}
+use Rattle.std.specs.Prelude.{◌≡◌, ℕ, ◌≤◌, Bool, List, ◌∷◌, ◌++◌, Option, length, take}
 use Rattle.std.specs.Io.KnownBytes.{Appends, Keeps}
 use Rattle.planner_cli.specs.Items.{Item, items_of}
-use Rattle.planner_cli.specs.Replies.{Reply, printed, prints, is_accepted, is_refused}
+use Rattle.planner_cli.specs.Replies.{Reply, Prints, printed, prints}
 use Rattle.planner_cli.specs.Desk.{State, Step}
 use Rattle.planner_cli.specs.Meaning.{Answers, tally_of}
 use Rattle.planner_cli.specs.Faults.{cause_of, tally_in}
@@ -16,9 +16,7 @@ use Rattle.planner_cli.specs.declared.faults.RunFault.{RunFault}
 pub record Replied (s t : State) (item : Item) (text : List ℕ) (accepted : Bool) : Type 0 where
   pub reply : Reply
   pub step : Step s item reply t
-  pub text_is : text ≡ printed reply
-  pub accepted_is : accepted ≡ is_accepted reply
-  pub refused_is : not accepted ≡ is_refused reply
+  pub prints : Prints reply text accepted
 
 -- a run to the end of a text: all its items are answered and counted, and what their replies print is written
 pub record Ran (s t : State) (old new : Option (List ℕ)) (text : List ℕ) (tally : Tally) : Type 0 where

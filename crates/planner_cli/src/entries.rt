@@ -1,7 +1,7 @@
 //! An item as it is handed to the desk.
-ghost use Rattle.std.specs.Prelude.{◌≡◌, [], ◌∷◌, MatchOption};
+ghost use Rattle.std.specs.Prelude.{◌≡◌, ◌≤◌, length, IfSome};
 ghost use Rattle.planner_cli.specs.Found.{items_found};
-ghost use Rattle.planner_cli.specs.Entries.{items_entered};
+ghost use Rattle.planner_cli.specs.Entries.{items_entered, FitsBlock};
 
 use crate::items::{DataEnd, Found, Page};
 
@@ -22,7 +22,9 @@ pub enum Entry<'a> {
 
 /// The item that was read to a page; none where nothing is to be answered.
 pub fn entry_of(page: &Page, found: Found) -> Option<Entry<'_>>
-    ensures { items_entered result ≡ items_found found page.now.line.items page.now.block.items }
+    requires { found ≡ Found.WithData DataEnd.Ended → length page.now.block.items ≤ 262144 }
+    ensures items { items_entered result ≡ items_found found page.now.line.items page.now.block.items }
+    ensures fits { IfSome result FitsBlock }
 {
     match found {
         Found::AtEnd | Found::PassedOver => None,

@@ -80,6 +80,7 @@ impl Page {
             × (items_of xs ≡ items_found found self.new.line.items self.new.block.items ++ items_of ys)
             × (length ys ≤ length xs - 1))) }
         ensures end { result ≡ Ok Found.AtEnd → IfSome (R.remaining reader.old) (λ xs. xs ≡ []) }
+        ensures fits { result ≡ Ok (Found.WithData DataEnd.Ended) → length self.new.block.items ≤ 262144 }
     {
         self.line.clear();
         if !read_line(reader, &mut self.line, LINE_ROOM, &mut self.block, 0)? {
@@ -133,6 +134,7 @@ fn read_block<R: BufRead>(
     // At any reader, and also after a fault.
     ensures line_bound { length line.new.items ≤ max 4 (length line.old.items) }
     ensures block_bound { length block.new.items ≤ 262145 }
+    ensures fits { result ≡ Ok DataEnd.Ended → length block.new.items ≤ 262144 }
 {
     block.clear();
     for _ in 0..u64::MAX {
@@ -152,7 +154,8 @@ fn read_block<R: BufRead>(
 
 /// How data ended of which so many bytes were held.
 fn end_of_data(held: usize) -> DataEnd
-    ensures { result ≡ end_of_data held }
+    ensures value { result ≡ end_of_data held }
+    ensures fits { result ≡ DataEnd.Ended → held ≤ 262144 }
 {
     if held > LONGEST_BLOCK {
         DataEnd::Overlong

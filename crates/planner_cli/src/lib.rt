@@ -1,15 +1,18 @@
 //! The planner's job stream: its lines and items, and what is answered to them.
 #![tactic(auto)]
 
-pub mod desk;
-pub mod entries;
-pub mod faults;
-pub mod items;
-pub mod lines;
-pub mod stream;
-pub mod tally;
-pub mod words;
-pub mod writing;
+mod days;
+mod desk;
+mod entries;
+mod faults;
+mod items;
+mod kinds;
+mod lines;
+mod rows;
+mod stream;
+mod tally;
+mod words;
+mod writing;
 
 pub use desk::Desk;
 pub use faults::{Part, RunFault};

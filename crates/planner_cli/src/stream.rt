@@ -1,7 +1,7 @@
 //! A run over a whole stream.
 ghost use Rattle.std.specs.Prelude.{◌≡◌, ◌≤◌, ℕ, List, [], length, take, IfOk, IfErr, IfSome};
 ghost use Rattle.std.specs.Io.KnownBytes.{Appends};
-ghost use Rattle.planner_cli.specs.Entries.{item_entered};
+ghost use Rattle.planner_cli.specs.Entries.{item_entered, FitsBlock};
 ghost use Rattle.planner_cli.specs.Faults.{fault_line, status_of};
 ghost use Rattle.planner_cli.specs.Runs.{ItemBreaks, Ran, Replied, Stopped};
 
@@ -80,6 +80,7 @@ fn answer_one<W: Write>(
     item: Entry<'_>,
     writer: &mut W,
 ) -> Result<bool, Cause>
+    requires { FitsBlock item }
     ensures ok { IfOk result (λ accepted. (text : List ℕ)
         × Replied desk.old desk.new (item_entered item.entry) text accepted
         × Appends (W.contents writer.old) (W.contents writer.new) text) }

@@ -256,7 +256,7 @@ impl Write for Slow {
 }
 
 /// Three items: a statement, a statement with data, and a line that is no statement.
-const THREE: &[u8] = b"list cp\n\ndefine calendars --job 1\nDEFAULT,SAT,FREE\n/*\n* x\n\x01";
+const THREE: &[u8] = b"list cp\n\ndefine calendars --job 0\nDEFAULT,SAT,FREE\n/*\n* x\n\x01";
 
 const REPLIES: &[u8] = b"refused 10\nrefused 10\nrefused 10\n";
 
@@ -274,7 +274,7 @@ where
         calls,
         by,
     };
-    let mut desk = Desk::new();
+    let mut desk = Desk::new(alloc);
     let outcome = run(alloc, &mut desk, &mut reader, &mut writer);
     let Slow { got, .. } = writer;
     Ok((outcome, got))

@@ -39,7 +39,7 @@ returns-then-ends_data-clause-read g c =
     let held = c.loop.block.items in
     let size : c.len-held.result ≡ length held = search rules in
     let left = g.R.Read.remaining c.read_line.new.reader in
-    let end : c.end_of_data.result ≡ end_of_data (length held) = c.end_of_data.ensures ∙ ap end_of_data size in
+    let end : c.end_of_data.result ≡ end_of_data (length held) = c.end_of_data.ensures.value ∙ ap end_of_data size in
     let block : c.truncate.new.self.items ≡ take (length held) c.read_line.new.all.items = c.truncate.ensures.items ∙ ap (λ k. take k c.read_line.new.all.items) size in
     if_some_weaken (g.R.Read.remaining c.args.reader.now) (λ xs. Reading xs b held) (λ xs. DataRead xs left c.end_of_data.result c.truncate.new.self.items)
     (λ xs r. subst (λ e. DataRead xs left e c.truncate.new.self.items) (sym end) (subst (λ l. DataRead xs left (end_of_data (length held)) l) (sym block)

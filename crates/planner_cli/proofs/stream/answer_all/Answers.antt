@@ -33,7 +33,7 @@ returns-then-eq g c =
 
 pub returns-in-Err-answer_one-clause-fault : goal.returns-in-Err-answer_one-clause-fault
 returns-in-Err-answer_one-clause-fault g c =
-    let one = sym c.in-Some.ensures in
+    let one = sym c.in-Some.ensures.items in
     if_some_weaken (g.R.Read.remaining c.args.reader.now) _ _
     (λ text p. halts_within _ _ _ _ _ _ _ _ text _ _ _ c.in-Err-answer_one.cause _ p c.in-Ok.ensures.items one c.new-in-Err-answer_one.ensures.cause c.new-in-Err-answer_one.ensures.tally c.in-Err-answer_one.ensures.err) c.loop.invariant
 
@@ -45,7 +45,7 @@ loop-preserved g c =
     let w0 = g.W.Write.contents c.args.writer.now in
     elim c.match-entry_of.branch [
       | in-Some+in-Ok-answer_one w ↦
-          let one = sym w.in-Some.ensures in
+          let one = sym w.in-Some.ensures.items in
           subst (λ d. IfSome a (λ text. Progress s0 d w0 (g.W.Write.contents c.match-entry_of.writer) now text c.match-entry_of.tally)) (sym w.desk-is)
           (subst (λ v. IfSome a (λ text. Progress s0 w.answer_one.new.desk w0 (g.W.Write.contents v) now text c.match-entry_of.tally)) (sym w.writer-is)
           (subst (λ t. IfSome a (λ text. Progress s0 w.answer_one.new.desk w0 (g.W.Write.contents w.answer_one.new.writer) now text t)) (sym w.tally-is)
@@ -55,5 +55,5 @@ loop-preserved g c =
           subst (λ d. IfSome a (λ text. Progress s0 d w0 (g.W.Write.contents c.match-entry_of.writer) now text c.match-entry_of.tally)) (sym w.desk-is)
           (subst (λ v. IfSome a (λ text. Progress s0 c.loop.desk w0 (g.W.Write.contents v) now text c.match-entry_of.tally)) (sym w.writer-is)
           (subst (λ t. IfSome a (λ text. Progress s0 c.loop.desk w0 (g.W.Write.contents c.loop.writer) now text t)) (sym w.tally-is)
-          (if_some_weaken a _ _ (λ text p. progress_skips _ _ _ _ _ _ text _ _ p c.in-Ok.ensures.items (sym w.in_default.ensures)) c.loop.invariant)))
+          (if_some_weaken a _ _ (λ text p. progress_skips _ _ _ _ _ _ text _ _ p c.in-Ok.ensures.items (sym w.in_default.ensures.items)) c.loop.invariant)))
     ]

@@ -10,7 +10,7 @@ returns-then-not-branch g c =
     let read = c.in_ok-read_line.ensures in
     let none : c.in_ok-read_line.field-0 ≡ false = search rules in
     let end = item_end (g.R.Read.remaining c.args.reader.now) _ _ read.some read.rest none in
-    record { items = end.0; end = λ _. end.1 }
+    record { items = end.0; end = λ _. end.1; fits = λ e. cc }
 
 pub returns-else-opens_data-clause-items : goal.returns-else-opens_data-clause-items
 returns-else-opens_data-clause-items g c =
