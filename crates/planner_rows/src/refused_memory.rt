@@ -87,3 +87,45 @@ fn refused_on_the_way_to_the_first_days(rt: HostRuntime) -> Result<(), Fail> {
 fn refused_on_the_way_to_a_negative_run_cycle(rt: HostRuntime) -> Result<(), Fail> {
     stops_between(&rt, NEGATIVE, NEGATIVE_REPLIES)
 }
+
+// Of predecessors and options, and of statements that are refused for another cause.
+#[test]
+fn refused_between_other_answers(rt: HostRuntime) -> Result<(), Fail> {
+    let mut desk = Desk::new(rt.alloc());
+    let known = answered(
+        &rt,
+        &mut desk,
+        b"define predecessors --job 1\n\
+          B,A\n\
+          /*\n\
+          define options --job 2\n\
+          max_extension_hours = 24\n\
+          /*\n\
+          define options --job 3\n\
+          max_extension_hours = 505\n\
+          /*\n\
+          define calendars --job 4\n\
+          DEFAULT,SAT,FREE\n\
+          DEFAULT,2024-02-30,FREE\n\
+          /*\n\
+          days --app NONE --from 2024-01-01 --to 2024-01-01\n\
+          undefine calendars --name DEFAULT --job 5\n\
+          help\n",
+        b"ok defined 1\n\
+          ok defined 1\n\
+          refused 11 1\n\
+          refused 11 2\n\
+          refused 26\n\
+          refused 13\n\
+          refused 10\n",
+    )?;
+    let taken: &[u8] = if known == 0 {
+        b"refused 13\nrefused 13\n"
+    } else {
+        b"ok undefined\nrefused 13\n"
+    };
+    let lines: &[u8] = b"undefine predecessors --name B --job 6\n\
+      undefine calendars --name DEFAULT --job 7\n";
+    answered(&rt, &mut desk, lines, taken)?;
+    Ok(())
+}
