@@ -1,7 +1,7 @@
 -- What is known between two items, and what one item answers and changes.
 use Rattle.std.specs.Prelude.{◌≡◌, ◌⊎◌, ℕ, List, Option, None, Some}
 use Rattle.app_definitions.specs.Blocks.{ReadsAs, IsFaultyAt}
-use Rattle.app_definitions.specs.Definitions.{merged, names_given, without, IsDefined}
+use Rattle.app_definitions.specs.Definitions.{merged, names_given, no_definitions, without, IsDefined}
 use Rattle.app_definitions.specs.declared.kinds.Block.{Block as DefinitionBlock}
 use Rattle.app_definitions.specs.declared.kinds.Kind.{Kind}
 use Rattle.occurrences.specs.declared.refusal.Refusal.{Refusal}
@@ -20,6 +20,10 @@ use Rattle.planner_cli.specs.declared.desk.Desk.{Desk}
 -- what is known between two items: the definitions
 abbrev pub State : Type 0
 State = Desk
+
+-- nothing is defined
+abbrev pub nothing_known : State
+nothing_known = record { definitions = no_definitions }
 
 -- a refusal changes nothing
 abbrev pub IsRefused : State → Refusal → Reply → State → Type 0

@@ -1,6 +1,5 @@
 //! What is known between two statements, and what one statement answers and changes.
 ghost use Rattle.std.specs.Prelude.{◌≡◌, ◌≤◌, ℕ, List, length, Option, Some, flat_map, IfOk, OnErr};
-ghost use Rattle.app_definitions.specs.Definitions.{no_definitions};
 ghost use Rattle.plan_listings.specs.Reply.{reply_text};
 ghost use Rattle.statements.specs.Statement.{Reads};
 ghost use Rattle.statements.specs.declared.statements.Statement.{Statement as StatementValue};
@@ -74,12 +73,12 @@ fn kind_defined(alloc: Global, line: &[u8]) -> Result<Option<Kind>, AllocError>
 }
 
 impl Desk {
-    ghost use Rattle.planner_cli.specs.Desk.{AnswersLine, TakesAway, TakesBlock};
+    ghost use Rattle.planner_cli.specs.Desk.{AnswersLine, TakesAway, TakesBlock, nothing_known};
     ghost use Rattle.planner_cli.specs.Runs.{Replied};
 
     /// A desk on which nothing is defined.
     pub fn new(alloc: Global) -> Desk
-        ensures { result.definitions ≡ no_definitions }
+        ensures { result ≡ nothing_known }
     {
         Desk {
             definitions: Definitions::new(alloc),
