@@ -58,7 +58,7 @@ pub enum RunFault {
 
 impl RunFault {
     /// The fault of a cause, after what was answered.
-    pub fn new(cause: Cause, tally: Tally) -> RunFault
+    pub(crate) fn new(cause: Cause, tally: Tally) -> RunFault
         ensures cause { cause_of result ≡ cause }
         ensures tally { tally_in result ≡ tally }
     {
@@ -69,7 +69,7 @@ impl RunFault {
     }
 
     /// Why the run ended.
-    pub fn cause(&self) -> Cause
+    pub(crate) fn cause(&self) -> Cause
         ensures { result ≡ cause_of self.now }
     {
         match self {
