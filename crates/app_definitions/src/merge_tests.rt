@@ -1,6 +1,10 @@
 // What blocks make of the definitions, and what is left where names are taken away. A name's definition is the one that the
 // last block with the name gives, whole.
-use crate::{Application, DefinedPeriod, Definitions, Kind, Predecessors, RunCycles, read_block};
+use crate::tests::halves;
+use crate::{
+    Application, Block, BlockFault, DefinedPeriod, Definitions, Kind, Options, Predecessors,
+    RunCycles, read_block,
+};
 use plan_periods::Period;
 use run_cycles::{Deadline, Rule, RunCycle};
 use std::alloc::{AllocError, Global};
@@ -8,19 +12,32 @@ use std::process::Abort;
 use std::test::Fail;
 use work_calendars::{Calendar, Day, DayStatus, Name, Weekday};
 
-fn name(rt: &impl Abort, text: &str) -> Name {
+fn name(rt: &impl Abort, text: &[u8]) -> Name {
+    let text = std::str::from_utf8(text).expect(rt, "a text");
     Name::from_text(text).expect(rt, "a name")
 }
 
-// How many names the block gave, 97 where it isn't read, 98 where no caller may hand it in, and 99 where it isn't merged.
-fn take(alloc: Global, all: &mut Definitions, kind: Kind, text: &[u8]) -> usize {
-    if text.len() > 262144 {
-        return 98;
+// How many names the block gave, 97 where its own count is another, and 99 for want of memory.
+fn merge(all: &mut Definitions, block: Block) -> Result<usize, usize> {
+    let names = block.len();
+    match all.merge(block) {
+        Ok(merged) if merged == names => Ok(names),
+        Ok(_) => Err(97),
+        Err(_) => Err(99),
     }
-    let Ok(block) = read_block(alloc, kind, text) else {
-        return 97;
-    };
-    all.merge(block).unwrap_or(99)
+}
+
+// How many names the block gave, or the number of the faulty record, 98 where no caller may hand it in, and 99 for want of
+// memory.
+fn take(alloc: Global, all: &mut Definitions, kind: Kind, text: &[u8]) -> Result<usize, usize> {
+    if text.len() > 262144 {
+        return Err(98);
+    }
+    match read_block(alloc, kind, text) {
+        Ok(block) => merge(all, block),
+        Err(BlockFault::Faulty { number }) => Err(number),
+        Err(BlockFault::Memory) => Err(99),
+    }
 }
 
 // Status and calendar.
@@ -184,6 +201,13 @@ fn run_cycles_text(alloc: Global, cycles: Option<&RunCycles>) -> Result<String, 
     Ok(text)
 }
 
+// Calendar and hours.
+fn options_text(alloc: Global, options: &Options) -> Result<String, AllocError> {
+    let calendar = options.default_calendar.as_str();
+    let hours = options.max_extension_hours;
+    format!(in alloc; "{calendar} {hours}")
+}
+
 // What is defined for the name, and nothing where nothing is.
 fn text(
     rt: &impl Abort,
@@ -198,217 +222,222 @@ fn text(
         Kind::Periods => period_text(alloc, all.periods.get(name)),
         Kind::Predecessors => predecessors_text(alloc, all.predecessors.get(name)),
         Kind::RunCycles => run_cycles_text(alloc, all.run_cycles.get(name)),
-        Kind::Options => format!(in alloc; "{}", all.options.max_extension_hours),
+        Kind::Options => options_text(alloc, &all.options),
     }
+}
+
+fn kind_of(letter: u8) -> Option<Kind> {
+    match letter {
+        b'A' => Some(Kind::Applications),
+        b'C' => Some(Kind::Calendars),
+        b'P' => Some(Kind::Periods),
+        b'L' => Some(Kind::Predecessors),
+        b'R' => Some(Kind::RunCycles),
+        b'O' => Some(Kind::Options),
+        _ => None,
+    }
+}
+
+fn digit(yes: bool) -> char {
+    if yes { '1' } else { '0' }
+}
+
+// Whether the name has a definition, for each kind that has names.
+fn push_defined(text: &mut String, all: &Definitions, name: &Name) -> Result<(), AllocError> {
+    text.push(' ')?;
+    text.push(digit(all.applications.get(name).is_some()))?;
+    text.push(digit(all.calendars.get(name).is_some()))?;
+    text.push(digit(all.periods.get(name).is_some()))?;
+    text.push(digit(all.predecessors.get(name).is_some()))?;
+    text.push(digit(all.run_cycles.get(name).is_some()))
+}
+
+// Takes a name away, and says whether it was there and what is left of A and of B.
+fn removed_text(
+    rt: &impl Abort,
+    alloc: Global,
+    all: &mut Definitions,
+    kind: Kind,
+    name_there: &Name,
+) -> Result<String, AllocError> {
+    let mut text = String::new(alloc);
+    text.push(digit(all.remove(kind, name_there)))?;
+    push_defined(&mut text, all, &name(rt, b"A"))?;
+    push_defined(&mut text, all, &name(rt, b"B"))?;
+    Ok(text)
+}
+
+fn taken_text(
+    alloc: Global,
+    all: &mut Definitions,
+    kind: Kind,
+    block: &[u8],
+) -> Result<String, AllocError> {
+    match take(alloc, all, kind, block) {
+        Ok(names) => format!(in alloc; "{names}"),
+        Err(number) => format!(in alloc; "refused {number}"),
+    }
+}
+
+fn forget(alloc: Global, all: &mut Definitions) {
+    *all = Definitions::new(alloc);
+}
+
+// What comes of an act: + takes a block in, ! does so after all else is forgotten, = asks what is defined for a name, and -
+// takes a name away.
+fn done(
+    rt: &impl Abort,
+    alloc: Global,
+    all: &mut Definitions,
+    act: u8,
+    kind: Kind,
+    rest: &[u8],
+) -> Result<String, AllocError> {
+    match act {
+        b'+' => taken_text(alloc, all, kind, rest),
+        b'!' => {
+            forget(alloc, all);
+            taken_text(alloc, all, kind, rest)
+        }
+        b'=' => text(rt, alloc, all, kind, &name(rt, rest)),
+        b'-' => removed_text(rt, alloc, all, kind, &name(rt, rest)),
+        _ => format!(in alloc; "no act"),
+    }
+}
+
+// The same for an act, the letter of a kind, and a block or a name.
+fn answer(
+    rt: &impl Abort,
+    alloc: Global,
+    all: &mut Definitions,
+    row: &[u8],
+) -> Result<String, AllocError> {
+    if let [act, letter, rest @ ..] = row {
+        if let Some(kind) = kind_of(*letter) {
+            return done(rt, alloc, all, *act, kind, rest);
+        }
+    }
+    format!(in alloc; "no act")
+}
+
+// Goes over the rows of a table, which `|` parts, each with its answer after a `>`, and gives how many there are.
+fn go_over(
+    rt: &impl Abort,
+    alloc: Global,
+    all: &mut Definitions,
+    table: &[u8],
+) -> Result<usize, AllocError> {
+    let mut rows: usize = 0;
+    for row in table.split(|byte| *byte == b'|') {
+        let (act, want) = halves(row);
+        let found = answer(rt, alloc, all, act)?;
+        assert_eq!(rt; found.as_bytes(), want, "{row:?}");
+        rows = rows.wrapping_add(1);
+    }
+    Ok(rows)
+}
+
+pub fn play(rt: &impl Abort, alloc: Global, table: &[u8]) -> Result<usize, AllocError> {
+    let mut all = Definitions::new(alloc);
+    go_over(rt, alloc, &mut all, table)
 }
 
 #[test]
 fn merged(rt: HostRuntime) -> Result<(), Fail> {
-    let mut all = Definitions::new(rt.alloc());
-    let blocks: [(Kind, &[u8], usize); 18] = [
-        (Kind::Applications, b"A,A,C\nB,P,D\n", 2),
-        (
-            Kind::Calendars,
-            b"A,SAT,FREE\nB,SUN,WORK\nA,2024-01-10,FREE\nA,TUE,WORK\n",
-            2,
-        ),
-        (
-            Kind::Periods,
-            b"A,N,2024-01-01,\nB,W,2024-01-01,5\nA,N,2024-02-01,2024-02-10\nC,A,2024-05-05,9\n",
-            3,
-        ),
-        (Kind::Predecessors, b"A,X\nB,Z\nA,Y\n", 2),
-        (
-            Kind::RunCycles,
-            b"A,R,N,P,E,1,2024-01-01,,08.00,0,17.00\nA,S,X,P,E,1,2024-01-01,,08.00,,\nB,R,N,P,E,1,2024-01-01,,08.00,0,17.00\n",
-            2,
-        ),
-        (Kind::Options, b"max_extension_hours = 24\n", 1),
-        (Kind::Applications, b"A,P,\n", 1),
-        (Kind::Calendars, b"A,MON,FREE\n", 1),
-        (
-            Kind::Periods,
-            b"C,N,2024-03-01,\nC,N,2024-04-01,2024-04-02\nA,A,2024-03-01,7\n",
-            2,
-        ),
-        (Kind::Predecessors, b"A,Z\nC,A\nC,B\n", 2),
-        (
-            Kind::RunCycles,
-            b"A,T,X,P,3,7,2024-01-01,,08.00,1,00.59\n",
-            1,
-        ),
-        (Kind::Applications, b"", 0),
-        (Kind::Calendars, b"\n", 0),
-        (Kind::Periods, b"", 0),
-        (Kind::Predecessors, b"", 0),
-        (Kind::RunCycles, b"", 0),
-        (Kind::Applications, b"A,A,\nB\n", 97),
-        (Kind::Options, b"max_extension_hours = 505\n", 97),
-    ];
-    for (kind, block, want) in blocks {
-        assert_eq!(rt; take(rt.alloc(), &mut all, kind, block), want, "{block:?}");
-    }
-    let table: [(Kind, &str, &str); 16] = [
-        (Kind::Applications, "A", "false"),
-        (Kind::Applications, "B", "false D"),
-        (Kind::Applications, "C", ""),
-        (Kind::Calendars, "A", "F-------"),
-        (Kind::Calendars, "B", "------W-"),
-        (Kind::Calendars, "C", ""),
-        (Kind::Periods, "A", "A 7 2024-03-01"),
-        (Kind::Periods, "B", "W 5 2024-01-01"),
-        (Kind::Periods, "C", "2024-03-01/ 2024-04-01/2024-04-02 "),
-        (Kind::Predecessors, "A", "Z"),
-        (Kind::Predecessors, "B", "Z"),
-        (Kind::Predecessors, "C", "AB"),
-        (Kind::RunCycles, "A", "T P 3 X 1 59 7 2024-01-01/ 480;"),
-        (Kind::RunCycles, "B", "R P E N 0 1020 1 2024-01-01/ 480;"),
-        (Kind::RunCycles, "C", ""),
-        (Kind::Options, "A", "24"),
-    ];
-    for (kind, word, want) in table {
-        let found = text(&rt, rt.alloc(), &all, kind, &name(&rt, word))?;
-        assert_eq!(rt; found.as_str(), want, "{kind:?} {word}");
-    }
+    let rows = play(
+        &rt,
+        rt.alloc(),
+        b"+AA,A,C\nB,P,D\n>2|\
+          +CA,SAT,FREE\nB,SUN,WORK\nA,2024-01-10,FREE\nA,TUE,WORK\n>2|\
+          +PA,N,2024-01-01,\nB,W,2024-01-01,5\nA,N,2024-02-01,2024-02-10\nC,A,2024-05-05,9\n>3|\
+          +LA,X\nB,Z\nA,Y\n>2|\
+          +RA,R,N,P,E,1,2024-01-01,,08.00,0,17.00\nA,S,X,P,E,1,2024-01-01,,08.00,,\nB,R,N,P,E,1,2024-01-01,,08.00,0,17.00\n>2|\
+          +Omax_extension_hours = 24\n>1|\
+          +AA,P,\n>1|\
+          +CA,MON,FREE\n>1|\
+          +PC,N,2024-03-01,\nC,N,2024-04-01,2024-04-02\nA,A,2024-03-01,7\n>2|\
+          +LA,Z\nC,A\nC,B\n>2|\
+          +RA,T,X,P,3,7,2024-01-01,,08.00,1,00.59\n>1|\
+          +A>0|\
+          +C\n>0|\
+          +P>0|\
+          +L>0|\
+          +R>0|\
+          +AA,A,\nB\n>refused 2|\
+          +Omax_extension_hours = 505\n>refused 1|\
+          =AA>false|\
+          =AB>false D|\
+          =AC>|\
+          =CA>F-------|\
+          =CB>------W-|\
+          =CC>|\
+          =PA>A 7 2024-03-01|\
+          =PB>W 5 2024-01-01|\
+          =PC>2024-03-01/ 2024-04-01/2024-04-02 |\
+          =LA>Z|\
+          =LB>Z|\
+          =LC>AB|\
+          =RA>T P 3 X 1 59 7 2024-01-01/ 480;|\
+          =RB>R P E N 0 1020 1 2024-01-01/ 480;|\
+          =RC>|\
+          =OA>DEFAULT 24",
+    )?;
+    assert_eq!(rt; rows, 34);
     Ok(())
 }
 
 // What the first block of a kind gives, before another replaces it.
 #[test]
 fn read(rt: HostRuntime) -> Result<(), Fail> {
-    let table: [(Kind, &[u8], &str); 9] = [
-        (Kind::Applications, b"A,A,C\n", "true C"),
-        (Kind::Applications, b"A,A,\n", "true"),
-        (
-            Kind::Calendars,
-            b"A,SAT,FREE\nA,2024-01-10,FREE\nA,TUE,WORK\n",
-            "-W---F-F",
-        ),
-        (
-            Kind::Calendars,
-            b"A,2024-01-10,WORK\nA,SUN,FREE\n",
-            "------FW",
-        ),
-        (
-            Kind::Periods,
-            b"A,N,2024-01-01,\nA,N,2024-02-01,2024-02-10\n",
-            "2024-01-01/ 2024-02-01/2024-02-10 ",
-        ),
-        (Kind::Periods, b"A,W,2071-12-31,999\n", "W 999 2071-12-31"),
-        (Kind::Predecessors, b"A,Y\nA,X\nA,A\n", "YXA"),
-        (
-            Kind::RunCycles,
-            b"A,S,X,P,1,-1 999,2024-01-01,2023-02-03,00.00,,\nA,R,N,WEEK,2,1 1,2024-01-01,,23.59,99,17.00\n",
-            "S P 1 X -1 999 2024-01-01/2023-02-03 0;R WEEK 2 N 99 1020 1 1 2024-01-01/ 1439;",
-        ),
-        (
-            Kind::RunCycles,
-            b"A,R,N,P,4,1,2024-01-01,2024-01-01,10.00,0,00.00\n",
-            "R P 4 N 0 0 1 2024-01-01/2024-01-01 600;",
-        ),
-    ];
-    for (kind, block, want) in table {
-        let mut all = Definitions::new(rt.alloc());
-        assert_eq!(rt; take(rt.alloc(), &mut all, kind, block), 1, "{block:?}");
-        let found = text(&rt, rt.alloc(), &all, kind, &name(&rt, "A"))?;
-        assert_eq!(rt; found.as_str(), want, "{block:?}");
-    }
+    let rows = play(
+        &rt,
+        rt.alloc(),
+        b"!AA,A,C\n>1|\
+          =AA>true C|\
+          !AA,A,\n>1|\
+          =AA>true|\
+          !CA,SAT,FREE\nA,2024-01-10,FREE\nA,TUE,WORK\n>1|\
+          =CA>-W---F-F|\
+          !CA,2024-01-10,WORK\nA,SUN,FREE\n>1|\
+          =CA>------FW|\
+          !PA,N,2024-01-01,\nA,N,2024-02-01,2024-02-10\n>1|\
+          =PA>2024-01-01/ 2024-02-01/2024-02-10 |\
+          !PA,W,2071-12-31,999\n>1|\
+          =PA>W 999 2071-12-31|\
+          !LA,Y\nA,X\nA,A\n>1|\
+          =LA>YXA|\
+          !RA,S,X,P,1,-1 999,2024-01-01,2023-02-03,00.00,,\nA,R,N,WEEK,2,1 1,2024-01-01,,23.59,99,17.00\n>1|\
+          =RA>S P 1 X -1 999 2024-01-01/2023-02-03 0;R WEEK 2 N 99 1020 1 1 2024-01-01/ 1439;|\
+          !RA,R,N,P,4,1,2024-01-01,2024-01-01,10.00,0,00.00\n>1|\
+          =RA>R P 4 N 0 0 1 2024-01-01/2024-01-01 600;",
+    )?;
+    assert_eq!(rt; rows, 18);
     Ok(())
-}
-
-// Whether the name has a definition, for each kind that has names.
-fn defined(all: &Definitions, name: &Name) -> [bool; 5] {
-    [
-        all.applications.get(name).is_some(),
-        all.calendars.get(name).is_some(),
-        all.periods.get(name).is_some(),
-        all.predecessors.get(name).is_some(),
-        all.run_cycles.get(name).is_some(),
-    ]
 }
 
 #[test]
 fn removed(rt: HostRuntime) -> Result<(), Fail> {
-    let mut all = Definitions::new(rt.alloc());
-    let blocks: [(Kind, &[u8]); 5] = [
-        (Kind::Applications, b"A,A,\nB,A,\n"),
-        (Kind::Calendars, b"A,SAT,FREE\nB,SAT,FREE\n"),
-        (Kind::Periods, b"A,A,2024-01-01,7\nB,A,2024-01-01,7\n"),
-        (Kind::Predecessors, b"A,A\nA,B\nB,A\n"),
-        (
-            Kind::RunCycles,
-            b"A,R,N,P,E,1,2024-01-01,,08.00,0,17.00\nB,R,N,P,E,1,2024-01-01,,08.00,0,17.00\n",
-        ),
-    ];
-    for (kind, block) in blocks {
-        assert_eq!(rt; take(rt.alloc(), &mut all, kind, block), 2, "{kind:?}");
-    }
-    let steps: [(Kind, &str, bool, [bool; 5]); 12] = [
-        (
-            Kind::Applications,
-            "C",
-            false,
-            [true, true, true, true, true],
-        ),
-        (Kind::Options, "A", false, [true, true, true, true, true]),
-        (
-            Kind::Applications,
-            "A",
-            true,
-            [false, true, true, true, true],
-        ),
-        (
-            Kind::Applications,
-            "A",
-            false,
-            [false, true, true, true, true],
-        ),
-        (Kind::RunCycles, "A", true, [false, true, true, true, false]),
-        (
-            Kind::RunCycles,
-            "A",
-            false,
-            [false, true, true, true, false],
-        ),
-        (Kind::Periods, "A", true, [false, true, false, true, false]),
-        (Kind::Periods, "A", false, [false, true, false, true, false]),
-        (
-            Kind::Calendars,
-            "A",
-            true,
-            [false, false, false, true, false],
-        ),
-        (
-            Kind::Calendars,
-            "A",
-            false,
-            [false, false, false, true, false],
-        ),
-        (
-            Kind::Predecessors,
-            "A",
-            true,
-            [false, false, false, false, false],
-        ),
-        (
-            Kind::Predecessors,
-            "A",
-            false,
-            [false, false, false, false, false],
-        ),
-    ];
-    for (kind, word, was_there, left) in steps {
-        assert_eq!(rt;
-            all.remove(kind, &name(&rt, word)),
-            was_there,
-            "{kind:?} {word}"
-        );
-        assert_eq!(rt; defined(&all, &name(&rt, "A")), left, "{kind:?} {word}");
-        assert_eq!(rt;
-            defined(&all, &name(&rt, "B")),
-            [true; 5],
-            "{kind:?} {word}"
-        );
-    }
+    let rows = play(
+        &rt,
+        rt.alloc(),
+        b"+AA,A,\nB,A,\n>2|\
+          +CA,SAT,FREE\nB,SAT,FREE\n>2|\
+          +PA,A,2024-01-01,7\nB,A,2024-01-01,7\n>2|\
+          +LA,A\nA,B\nB,A\n>2|\
+          +RA,R,N,P,E,1,2024-01-01,,08.00,0,17.00\nB,R,N,P,E,1,2024-01-01,,08.00,0,17.00\n>2|\
+          -AC>0 11111 11111|\
+          -OA>0 11111 11111|\
+          -AA>1 01111 11111|\
+          -AA>0 01111 11111|\
+          -RA>1 01110 11111|\
+          -RA>0 01110 11111|\
+          -PA>1 01010 11111|\
+          -PA>0 01010 11111|\
+          -CA>1 00010 11111|\
+          -CA>0 00010 11111|\
+          -LA>1 00000 11111|\
+          -LA>0 00000 11111",
+    )?;
+    assert_eq!(rt; rows, 17);
     Ok(())
 }

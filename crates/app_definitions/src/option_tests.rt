@@ -1,155 +1,130 @@
 // Blocks of options, accepted and refused, and what they make of the definitions. What they give comes from the format's
 // own words.
-use crate::{Block, BlockFault, Definitions, Kind, Options, read_block, read_options};
-use std::alloc::Global;
+use crate::Kind;
+use crate::merge_tests::play;
+use crate::tests::pass;
 use std::test::Fail;
-use work_calendars::Name;
-
-// The options that a block gives, or the number of the faulty record, 99 for want of memory.
-fn given(alloc: Global, text: &[u8]) -> Result<Options, usize> {
-    match &read_options(alloc, text) {
-        Ok(Block::Options(options)) => Ok(*options),
-        Ok(_) => Err(98),
-        Err(BlockFault::Faulty { number }) => Err(*number),
-        Err(BlockFault::Memory) => Err(99),
-    }
-}
 
 #[test]
-fn accepted(rt: HostRuntime) {
-    let table: [(&[u8], &str, u16); 14] = [
-        (b"", "DEFAULT", 504),
-        (b"\n# nothing\n", "DEFAULT", 504),
-        (b"max_extension_hours = 24\n", "DEFAULT", 24),
-        (b"max_extension_hours = 1", "DEFAULT", 1),
-        (b"max_extension_hours = 504\r\n", "DEFAULT", 504),
-        (b"max_extension_hours = 0x18\n", "DEFAULT", 24),
-        (b"default_calendar = \"PLANT\"\n", "PLANT", 504),
-        (
-            b"default_calendar = 'A#1'\nmax_extension_hours = 24\n",
-            "A#1",
-            24,
-        ),
-        (
-            b"max_extension_hours = 24\n\"default_calendar\" = \"ABCDEFGHIJKLMNOP\"\n",
-            "ABCDEFGHIJKLMNOP",
-            24,
-        ),
-        (b"\xEF\xBB\xBFmax_extension_hours = 24\n", "DEFAULT", 24),
-        (b"max_extension_hours = +24\n", "DEFAULT", 24),
-        (b"max_extension_hours = 2_4\n", "DEFAULT", 24),
-        (
-            b"max_extension_hours=24#\n\ndefault_calendar=\"PL\\u0041NT\"\n",
-            "PLANT",
-            24,
-        ),
-        (b"default_calendar = \"\"\"PLANT\"\"\"\r\n", "PLANT", 504),
-    ];
-    for (text, calendar, hours) in table {
-        match given(rt.alloc(), text) {
-            Ok(options) => {
-                assert_eq!(rt; options.default_calendar.as_str(), calendar, "{text:?}");
-                assert_eq!(rt; options.max_extension_hours, hours, "{text:?}");
-            }
-            Err(number) => assert_eq!(rt; number, 0, "{text:?}"),
-        }
-    }
+fn accepted(rt: HostRuntime) -> Result<(), Fail> {
+    let rows = play(
+        &rt,
+        rt.alloc(),
+        b"!O>1|\
+          =OA>DEFAULT 504|\
+          !O\n# nothing\n>1|\
+          =OA>DEFAULT 504|\
+          !Omax_extension_hours = 24\n>1|\
+          =OA>DEFAULT 24|\
+          !Omax_extension_hours = 1>1|\
+          =OA>DEFAULT 1|\
+          !Omax_extension_hours = 504\r\n>1|\
+          =OA>DEFAULT 504|\
+          !Omax_extension_hours = 0x18\n>1|\
+          =OA>DEFAULT 24|\
+          !Odefault_calendar = \"PLANT\"\n>1|\
+          =OA>PLANT 504|\
+          !Odefault_calendar = 'A#1'\nmax_extension_hours = 24\n>1|\
+          =OA>A#1 24|\
+          !Omax_extension_hours = 24\n\"default_calendar\" = \"ABCDEFGHIJKLMNOP\"\n>1|\
+          =OA>ABCDEFGHIJKLMNOP 24|\
+          !O\xEF\xBB\xBFmax_extension_hours = 24\n>1|\
+          =OA>DEFAULT 24|\
+          !Omax_extension_hours = +24\n>1|\
+          =OA>DEFAULT 24|\
+          !Omax_extension_hours = 2_4\n>1|\
+          =OA>DEFAULT 24|\
+          !Omax_extension_hours=24#\n\ndefault_calendar=\"PL\\u0041NT\"\n>1|\
+          =OA>PLANT 24|\
+          !Odefault_calendar = \"\"\"PLANT\"\"\"\r\n>1|\
+          =OA>PLANT 504",
+    )?;
+    assert_eq!(rt; rows, 28);
+    Ok(())
 }
 
 #[test]
 fn refused(rt: HostRuntime) {
-    let table: [&[u8]; 46] = [
-        b"max_extension_hours = 505\n",
-        b"max_extension_hours = 0\n",
-        b"max_extension_hours = -1\n",
-        b"max_extension_hours = 65560\n",
-        b"max_extension_hours = 24.0\n",
-        b"max_extension_hours = \"24\"\n",
-        b"max_extension_hours = [24]\n",
-        b"max_extension_hours = 99999999999999999999\n",
-        b"max_extension_hours = 24\nmax_extension_hours = 24\n",
-        b"default_calendar = 1\n",
-        b"default_calendar = \"\"\n",
-        b"default_calendar = \"plant\"\n",
-        b"default_calendar = \"ABCDEFGHIJKLMNOPQ\"\n",
-        b"default_calendar = true\nmax_extension_hours = 24\n",
-        b"max_extension_hour = 24\n",
-        b"max_extension_hours = 24\nother = 1\n",
-        b"[default_calendar]\n",
-        b"[other]\nmax_extension_hours = 24\n",
-        b"A,A,\n",
-        b"# \xFF\n",
-        b"max_extension_hours = true\n",
-        b"max_extension_hours = 024\n",
-        b"max_extension_hours = 1e2\n",
-        b"max_extension_hours = {}\n",
-        b"max_extension_hours = 2024-01-01\n",
-        b"max_extension_hours = 9223372036854775808\n",
-        b"max_extension_hours = -9223372036854775808\n",
-        b"max_extension_hours =\n",
-        b"max_extension_hours\n",
-        b"max_extension_hours = 24 default_calendar = \"A\"\n",
-        b"Max_extension_hours = 24\n",
-        b"\"\" = 24\n",
-        b"max_extension_hours.x = 24\n",
-        b"[[max_extension_hours]]\n",
-        b"default_calendar = PLANT\n",
-        b"default_calendar = \"PLANT\n",
-        b"default_calendar = \" PLANT\"\n",
-        b"default_calendar = \"1PLANT\"\n",
-        b"default_calendar = [\"PLANT\"]\n",
-        b"default_calendar = 2024-01-01\n",
-        b"default_calendar = \"\xFF\"\n",
-        b"default_calendar = \"PLANT\\u0000\"\n",
-        b"default_calendar = \"A\"\n\"default_calendar\" = \"A\"\n",
-        b"default_calendar = \"A\"\nmax_extension_hours = 505\n",
-        b"\xFF",
-        b"max_extension_hours = 24\x00\n",
-    ];
-    for text in table {
-        match given(rt.alloc(), text) {
-            Ok(_) => assert!(rt; false, "{text:?}"),
-            Err(number) => assert_eq!(rt; number, 1, "{text:?}"),
-        }
-    }
+    let rows = pass(
+        &rt,
+        rt.alloc(),
+        Kind::Options,
+        b"1:max_extension_hours = 505\n|\
+          1:max_extension_hours = 0\n|\
+          1:max_extension_hours = -1\n|\
+          1:max_extension_hours = 65560\n|\
+          1:max_extension_hours = 24.0\n|\
+          1:max_extension_hours = \"24\"\n|\
+          1:max_extension_hours = [24]\n|\
+          1:max_extension_hours = 99999999999999999999\n|\
+          1:max_extension_hours = 24\nmax_extension_hours = 24\n|\
+          1:default_calendar = 1\n|\
+          1:default_calendar = \"\"\n|\
+          1:default_calendar = \"plant\"\n|\
+          1:default_calendar = \"ABCDEFGHIJKLMNOPQ\"\n|\
+          1:default_calendar = true\nmax_extension_hours = 24\n|\
+          1:max_extension_hour = 24\n|\
+          1:max_extension_hours = 24\nother = 1\n|\
+          1:[default_calendar]\n|\
+          1:[other]\nmax_extension_hours = 24\n|\
+          1:A,A,\n|\
+          1:# \xFF\n|\
+          1:max_extension_hours = true\n|\
+          1:max_extension_hours = 024\n|\
+          1:max_extension_hours = 1e2\n|\
+          1:max_extension_hours = {}\n|\
+          1:max_extension_hours = 2024-01-01\n|\
+          1:max_extension_hours = 9223372036854775808\n|\
+          1:max_extension_hours = -9223372036854775808\n|\
+          1:max_extension_hours =\n|\
+          1:max_extension_hours\n|\
+          1:max_extension_hours = 24 default_calendar = \"A\"\n|\
+          1:Max_extension_hours = 24\n|\
+          1:\"\" = 24\n|\
+          1:max_extension_hours.x = 24\n|\
+          1:[[max_extension_hours]]\n|\
+          1:default_calendar = PLANT\n|\
+          1:default_calendar = \"PLANT\n|\
+          1:default_calendar = \" PLANT\"\n|\
+          1:default_calendar = \"1PLANT\"\n|\
+          1:default_calendar = [\"PLANT\"]\n|\
+          1:default_calendar = 2024-01-01\n|\
+          1:default_calendar = \"\xFF\"\n|\
+          1:default_calendar = \"PLANT\\u0000\"\n|\
+          1:default_calendar = \"A\"\n\"default_calendar\" = \"A\"\n|\
+          1:default_calendar = \"A\"\nmax_extension_hours = 505\n|\
+          1:\xFF|\
+          1:max_extension_hours = 24\x00\n",
+    );
+    assert_eq!(rt; rows, 46);
 }
 
 #[test]
 fn row_r2_4(rt: HostRuntime) -> Result<(), Fail> {
-    let mut all = Definitions::new(rt.alloc());
-    assert_eq!(rt; all.options.max_extension_hours, 504);
-    let refused = read_block(rt.alloc(), Kind::Options, b"max_extension_hours = 505\n");
-    assert!(rt; matches!(refused, Err(BlockFault::Faulty { number: 1 })));
-    let Ok(block) = read_block(rt.alloc(), Kind::Options, b"max_extension_hours = 24\n") else {
-        return Err(Fail::from("a good block"));
-    };
-    assert_eq!(rt; block.len(), 1);
-    assert_eq!(rt; all.merge(block)?, 1);
-    assert_eq!(rt; all.options.max_extension_hours, 24);
+    let rows = play(
+        &rt,
+        rt.alloc(),
+        b"=OA>DEFAULT 504|\
+          +Omax_extension_hours = 505\n>refused 1|\
+          +Omax_extension_hours = 24\n>1|\
+          =OA>DEFAULT 24",
+    )?;
+    assert_eq!(rt; rows, 4);
     Ok(())
 }
 
 // A block puts both options in place, and no name takes options away.
 #[test]
 fn replaced(rt: HostRuntime) -> Result<(), Fail> {
-    let mut all = Definitions::new(rt.alloc());
-    let Ok(first) = read_options(
+    let rows = play(
+        &rt,
         rt.alloc(),
-        b"default_calendar = \"PLANT\"\nmax_extension_hours = 24\n",
-    ) else {
-        return Err(Fail::from("a good block"));
-    };
-    assert_eq!(rt; all.merge(first)?, 1);
-    let Some(name) = Name::from_text("PLANT") else {
-        return Err(Fail::from("a name"));
-    };
-    assert!(rt; !all.remove(Kind::Options, &name));
-    assert_eq!(rt; all.options.default_calendar.as_str(), "PLANT");
-    let Ok(second) = read_options(rt.alloc(), b"max_extension_hours = 48\n") else {
-        return Err(Fail::from("a good block"));
-    };
-    assert_eq!(rt; all.merge(second)?, 1);
-    assert_eq!(rt; all.options.default_calendar.as_str(), "DEFAULT");
-    assert_eq!(rt; all.options.max_extension_hours, 48);
+        b"+Odefault_calendar = \"PLANT\"\nmax_extension_hours = 24\n>1|\
+          -OPLANT>0 00000 00000|\
+          =OA>PLANT 24|\
+          +Omax_extension_hours = 48\n>1|\
+          =OA>DEFAULT 48",
+    )?;
+    assert_eq!(rt; rows, 5);
     Ok(())
 }
