@@ -100,7 +100,7 @@ fn refused(rt: HostRuntime) {
 }
 
 #[test]
-fn row_r2_4(rt: HostRuntime) -> Result<(), Fail> {
+fn a_refused_block_keeps_the_options(rt: HostRuntime) -> Result<(), Fail> {
     let rows = play(
         &rt,
         rt.alloc(),

@@ -283,7 +283,7 @@ fn periods(rt: HostRuntime) {
 
 // 65,536 records, of which the second repeats the first.
 #[test]
-fn row_r11_2(rt: HostRuntime) -> Result<(), Fail> {
+fn many_equal_records(rt: HostRuntime) -> Result<(), Fail> {
     let mut text = Vec::new(rt.alloc());
     for _ in 0..65536_u32 {
         text.extend_from_slice(b"A,A\n")?;

@@ -166,7 +166,7 @@ fn pair(rt: &impl Abort, successor: u32, predecessor: u32) -> Pair {
 }
 
 #[test]
-fn row13(rt: HostRuntime) -> Result<(), Fail> {
+fn two_applications_two_days(rt: HostRuntime) -> Result<(), Fail> {
     let alloc = rt.alloc();
     let rows = [
         placed(&rt, 1, "A", EIGHT, Place::LongTerm),
@@ -186,7 +186,7 @@ fn row13(rt: HostRuntime) -> Result<(), Fail> {
 }
 
 #[test]
-fn row14(rt: HostRuntime) -> Result<(), Fail> {
+fn predecessor_in_history(rt: HostRuntime) -> Result<(), Fail> {
     let alloc = rt.alloc();
     let rows = [
         placed(&rt, 4, "B", DAY + EIGHT, Place::LongTerm),

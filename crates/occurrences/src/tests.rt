@@ -106,7 +106,7 @@ fn keys_in_order(rt: HostRuntime) -> Result<(), Fail> {
 }
 
 #[test]
-fn row11_in_order(rt: HostRuntime) -> Result<(), Fail> {
+fn rows_in_order(rt: HostRuntime) -> Result<(), Fail> {
     let origin = Origin::Generated(Short::from_text("RC").ok_or("no name")?);
     let mut rows = [
         row(6, "B", 19724, origin)?,

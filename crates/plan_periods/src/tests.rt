@@ -155,7 +155,7 @@ fn assert_walk(
 }
 
 #[test]
-fn row01(rt: HostRuntime) {
+fn two_weeks(rt: HostRuntime) {
     let week = Period::All {
         origin: day(NEW_YEAR),
         interval: 7,
@@ -171,7 +171,7 @@ fn row01(rt: HostRuntime) {
 }
 
 #[test]
-fn row03(rt: HostRuntime) {
+fn two_days_of_two_weeks(rt: HostRuntime) {
     let week = Period::All {
         origin: day(NEW_YEAR),
         interval: 7,
@@ -187,7 +187,7 @@ fn row03(rt: HostRuntime) {
 }
 
 #[test]
-fn row04(rt: HostRuntime) {
+fn one_day_of_a_week(rt: HostRuntime) {
     let week = Period::All {
         origin: day(NEW_YEAR),
         interval: 7,
@@ -196,7 +196,7 @@ fn row04(rt: HostRuntime) {
 }
 
 #[test]
-fn row05(rt: HostRuntime) -> Result<(), Fail> {
+fn listed_months(rt: HostRuntime) -> Result<(), Fail> {
     let months = listed(rt.alloc(), &[(19723, None), (19754, None), (19783, None)])?;
     assert_walk(
         &rt,
@@ -220,7 +220,7 @@ fn row05(rt: HostRuntime) -> Result<(), Fail> {
 }
 
 #[test]
-fn row06(rt: HostRuntime) {
+fn work_days_have_no_intervals(rt: HostRuntime) {
     let five = Period::Work {
         origin: day(19728),
         interval: 5,
@@ -229,7 +229,7 @@ fn row06(rt: HostRuntime) {
 }
 
 #[test]
-fn row08(rt: HostRuntime) {
+fn longest_intervals(rt: HostRuntime) {
     let long = Period::All {
         origin: Day::FIRST,
         interval: 999,
@@ -249,7 +249,7 @@ fn row08(rt: HostRuntime) {
 }
 
 #[test]
-fn row_r2_2(rt: HostRuntime) -> Result<(), Fail> {
+fn overlapping_intervals(rt: HostRuntime) -> Result<(), Fail> {
     let overlapping = listed(rt.alloc(), &[(19723, Some(19732)), (19730, Some(19734))])?;
     let both = [(19723, Some(19732)), (19730, Some(19734))];
     assert_walk(&rt, &overlapping, 19723, 19753, &both, 2);

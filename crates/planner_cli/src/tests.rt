@@ -281,7 +281,7 @@ where
 }
 
 #[test]
-fn row20(rt: HostRuntime) -> Result<(), Fail> {
+fn words_that_are_no_statement(rt: HostRuntime) -> Result<(), Fail> {
     let text: &[u8] = b"list --help\nlist\nltp-modify-all\nhelp\n";
     let (outcome, got) = outcome_of(rt.alloc(), text, 0, Break::Never)?;
     assert_eq!(rt;

@@ -192,7 +192,7 @@ fn weekdays(alloc: Global) -> Calendar {
 }
 
 #[test]
-fn row01_calendar(rt: HostRuntime) -> Result<(), Fail> {
+fn calendar_of_free_weekdays(rt: HostRuntime) -> Result<(), Fail> {
     let calendar = weekdays(rt.alloc());
     let index = WorkIndex::build(rt.alloc(), &calendar)?;
     for (text, is_work) in [
@@ -225,7 +225,7 @@ fn row01_calendar(rt: HostRuntime) -> Result<(), Fail> {
 }
 
 #[test]
-fn row06_calendar(rt: HostRuntime) -> Result<(), Fail> {
+fn calendar_with_a_free_date(rt: HostRuntime) -> Result<(), Fail> {
     let mut calendar = weekdays(rt.alloc());
     calendar.set_date(day("2024-01-10")?, DayStatus::Free)?;
     let index = WorkIndex::build(rt.alloc(), &calendar)?;

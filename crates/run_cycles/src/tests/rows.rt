@@ -35,7 +35,7 @@ fn names_days(
 }
 
 #[test]
-fn row01(rt: HostRuntime) -> Result<(), Fail> {
+fn first_work_day_of_each_week(rt: HostRuntime) -> Result<(), Fail> {
     let calendar = weekdays(rt.alloc());
     let cycle = pay(&rt, rt.alloc(), Rule::WorkDaysOnly, &[1])?;
     let want = ["2024-01-01", "2024-01-08"];
@@ -52,7 +52,7 @@ fn row01(rt: HostRuntime) -> Result<(), Fail> {
 }
 
 #[test]
-fn row01_last(rt: HostRuntime) -> Result<(), Fail> {
+fn last_work_day_of_each_week(rt: HostRuntime) -> Result<(), Fail> {
     let calendar = weekdays(rt.alloc());
     let cycle = pay(&rt, rt.alloc(), Rule::WorkDaysOnly, &[-1])?;
     let want = ["2024-01-05", "2024-01-12"];
@@ -69,7 +69,7 @@ fn row01_last(rt: HostRuntime) -> Result<(), Fail> {
 }
 
 #[test]
-fn row02(rt: HostRuntime) -> Result<(), Fail> {
+fn sixth_day_by_each_rule(rt: HostRuntime) -> Result<(), Fail> {
     let calendar = weekdays(rt.alloc());
     let window = ("2024-01-01", "2024-01-08");
     for (rule, want) in [
@@ -86,7 +86,7 @@ fn row02(rt: HostRuntime) -> Result<(), Fail> {
 }
 
 #[test]
-fn row03(rt: HostRuntime) -> Result<(), Fail> {
+fn day_from_before_the_window(rt: HostRuntime) -> Result<(), Fail> {
     let calendar = weekdays(rt.alloc());
     let cycle = pay(&rt, rt.alloc(), Rule::After, &[6])?;
     let want = ["2024-01-08"];
@@ -103,7 +103,7 @@ fn row03(rt: HostRuntime) -> Result<(), Fail> {
 }
 
 #[test]
-fn row04(rt: HostRuntime) -> Result<(), Fail> {
+fn day_from_after_the_window(rt: HostRuntime) -> Result<(), Fail> {
     let calendar = weekdays(rt.alloc());
     let cycle = pay(&rt, rt.alloc(), Rule::Before, &[6])?;
     let want = ["2024-01-05"];
@@ -120,7 +120,7 @@ fn row04(rt: HostRuntime) -> Result<(), Fail> {
 }
 
 #[test]
-fn row05(rt: HostRuntime) -> Result<(), Fail> {
+fn last_days_of_months(rt: HostRuntime) -> Result<(), Fail> {
     let calendar = weekdays(rt.alloc());
     let entries = [
         ("2024-01-01", None),
@@ -157,7 +157,7 @@ fn fives(rt: &impl Abort, alloc: Global) -> Result<(Calendar, Period), AllocErro
 }
 
 #[test]
-fn row06(rt: HostRuntime) -> Result<(), Fail> {
+fn first_of_five_work_days(rt: HostRuntime) -> Result<(), Fail> {
     let (calendar, period) = fives(&rt, rt.alloc())?;
     let cycle = pay(&rt, rt.alloc(), Rule::WorkDaysOnly, &[1])?;
     let want = ["2024-01-08", "2024-01-16"];
@@ -174,7 +174,7 @@ fn row06(rt: HostRuntime) -> Result<(), Fail> {
 }
 
 #[test]
-fn row06_last(rt: HostRuntime) -> Result<(), Fail> {
+fn last_of_five_work_days(rt: HostRuntime) -> Result<(), Fail> {
     let (calendar, period) = fives(&rt, rt.alloc())?;
     let cycle = pay(&rt, rt.alloc(), Rule::WorkDaysOnly, &[-1])?;
     let want = ["2024-01-15"];
@@ -191,7 +191,7 @@ fn row06_last(rt: HostRuntime) -> Result<(), Fail> {
 }
 
 #[test]
-fn row07(rt: HostRuntime) -> Result<(), Fail> {
+fn negative_run_cycle(rt: HostRuntime) -> Result<(), Fail> {
     let alloc = rt.alloc();
     let calendar = weekdays(alloc);
     let mut cycles = Vec::new(alloc);
@@ -237,7 +237,7 @@ fn row07(rt: HostRuntime) -> Result<(), Fail> {
 }
 
 #[test]
-fn row08_days(rt: HostRuntime) -> Result<(), Fail> {
+fn both_ends_of_the_longest_interval(rt: HostRuntime) -> Result<(), Fail> {
     let calendar = no_calendar(rt.alloc());
     let origin = day(&rt, "1972-01-01");
     let long = Period::All {
@@ -261,7 +261,7 @@ fn row08_days(rt: HostRuntime) -> Result<(), Fail> {
 
 // Of two run cycles of one time the one of least name gives the deadline, in whichever order they stand.
 #[test]
-fn row09(rt: HostRuntime) -> Result<(), Fail> {
+fn least_name_gives_the_deadline(rt: HostRuntime) -> Result<(), Fail> {
     let alloc = rt.alloc();
     let calendar = weekdays(alloc);
     for turned in [false, true] {
