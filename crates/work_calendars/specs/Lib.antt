@@ -5,4 +5,5 @@ pub mod Name
 pub mod WorkDay
 pub mod WorkIndex
 pub mod Calendar
+pub mod CountedIndex
 pub mod Spelling

@@ -2,6 +2,7 @@
 #![tactic(auto)]
 
 mod calendars;
+mod counted_index;
 mod days;
 mod digits;
 mod minutes;
@@ -14,6 +15,7 @@ mod tests;
 mod work_index;
 
 pub use calendars::Calendar;
+pub use counted_index::CountedIndex;
 pub use days::Day;
 pub use jiff::civil::Weekday;
 pub use minutes::Minute;

@@ -1,4 +1,6 @@
-use crate::{Calendar, Day, DayStatus, Minute, Moment, Name, Short, Weekday, WorkIndex};
+use crate::{
+    Calendar, CountedIndex, Day, DayStatus, Minute, Moment, Name, Short, Weekday, WorkIndex,
+};
 use std::alloc::{AllocError, Global};
 use std::test::Fail;
 
@@ -303,6 +305,27 @@ fn every_day_or_none(rt: HostRuntime) -> Result<(), Fail> {
     assert_eq!(rt; none.rank(Day::LAST), 0);
     assert_eq!(rt; none.next_work(Day::FIRST), None);
     assert_eq!(rt; none.prev_work(Day::LAST), None);
+    Ok(())
+}
+
+// Saturdays and Sundays are free: 2024-01-01 is a Monday.
+#[test]
+fn questions_are_counted(rt: HostRuntime) -> Result<(), Fail> {
+    let index = WorkIndex::build(rt.alloc(), &weekdays(rt.alloc()))?;
+    let monday = day("2024-01-01")?;
+    let friday = day("2024-01-05")?;
+    let mut counted = CountedIndex::new(&index);
+    assert_eq!(rt; counted.asked(), 0);
+    assert!(rt; counted.is_work(friday));
+    assert_eq!(rt; counted.asked(), 1);
+    assert_eq!(rt; counted.next_work(friday), Some(day("2024-01-08")?));
+    assert_eq!(rt; counted.prev_work(day("2024-01-08")?), Some(friday));
+    assert_eq!(rt; counted.asked(), 3);
+    let before = counted.rank(monday);
+    assert_eq!(rt; counted.rank(friday), before.wrapping_add(4));
+    assert_eq!(rt; counted.nth(before), Some(monday));
+    assert_eq!(rt; counted.nth(36525), None);
+    assert_eq!(rt; counted.asked(), 7);
     Ok(())
 }
 
