@@ -1,0 +1,11 @@
+pub mod Content
+pub mod DailyPlan
+pub mod Decision
+pub mod Drafts
+pub mod Fate
+pub mod InForce
+pub mod Moves
+pub mod Named
+pub mod Pairs
+pub mod Plans
+pub mod Sound

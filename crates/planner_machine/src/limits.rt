@@ -1,0 +1,8 @@
+/// The most rows that the long-term plan and the current plan have together.
+pub const MOST_PLANNED_ROWS: usize = 200_000;
+
+/// The most days from the first to the last of a window; a question for days counts both ends.
+pub const LONGEST_WINDOW: u32 = 1461;
+
+/// The greatest number of a job.
+pub const GREATEST_JOB: u64 = 999_999_999;
