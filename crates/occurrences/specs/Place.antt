@@ -1,4 +1,6 @@
+-- Places of occurrences.
 use Rattle.std.specs.Prelude.{◌≡◌, ◌≢◌, ℕ}
+use Rattle.std.specs.Str.{byte}
 use Rattle.occurrences.specs.declared.place.Place.{Place}
 use Rattle.occurrences.specs.declared.place.Place.TheVariants.{LongTerm, Current, History, Deleted}
 use Rattle.occurrences.specs.declared.place.Reason.{Reason}
@@ -12,7 +14,8 @@ IsLive (Current status) = status ≢ D
 IsLive History = Unit {0}
 IsLive (Deleted _) = ⊥
 
--- the open occurrences, whose predecessors are looked up anew: those of the long-term plan, and the waiting ones of the current plan
+-- the open occurrences, whose predecessors are looked up anew: those of the long-term plan, and the waiting ones
+-- of the current plan
 abbrev pub IsOpen : Place → Type 0
 IsOpen LongTerm = Unit {0}
 IsOpen (Current status) = status ≡ W
@@ -28,6 +31,6 @@ IsComplete (Deleted _) = ⊥
 
 -- the letter that lists and tables show for a reason
 abbrev pub reason_letter : Reason → ℕ
-reason_letter Operator = 79
-reason_letter Withdrawn = 87
-reason_letter Plan = 80
+reason_letter Operator = byte "O"
+reason_letter Withdrawn = byte "W"
+reason_letter Plan = byte "P"

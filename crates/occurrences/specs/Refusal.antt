@@ -1,3 +1,4 @@
+-- Numbers of refusals.
 use Rattle.std.specs.Prelude.{ℕ}
 use Rattle.occurrences.specs.declared.refusal.Refusal.{Refusal}
 use Rattle.occurrences.specs.declared.refusal.Refusal.TheVariants.{NotAStatement, FaultyData, JobWithAnotherText, NotDefined, NoPlan, PlanExists, CalendarUndefined, PeriodUndefined, DatesOutOfRange, Loop, NoActiveApplication, KeyIsLive, NoSuchOccurrence, StatusForbids, PredecessorUncompleted, TooManyRows, PlanEndOutOfRange}

@@ -1,18 +1,18 @@
+-- Rows of the plans, and their order.
 use Rattle.std.specs.Prelude.{◌≡◌, ℕ, ◌<◌, ◌⊎◌, List, Option, Some, None}
-use Rattle.std.specs.Cmp.{IsTotalOrder, then_total, on_total, nat_cmp_total}
-use Rattle.std.specs.Cmp.Lexicographic.{slice_cmp, nat_list_cmp_total, options_total}
+use Rattle.std.specs.Cmp.Lexicographic.{slice_cmp}
 use Rattle.std.specs.declared.cmp.Ordering.{Ordering}
 use Rattle.std.specs.Option.{option_cmp}
 use Rattle.std.specs.Ordering.{nat_cmp, on, then_cmp}
-use Rattle.occurrences.specs.Key.{KeyBefore, key_cmp, key_cmp_total}
+use Rattle.occurrences.specs.Key.{KeyBefore, key_cmp}
 use Rattle.occurrences.specs.declared.row.Row.{Row}
 use Rattle.occurrences.specs.declared.row.Origin.{Origin}
-use Rattle.occurrences.specs.declared.row.Origin.TheVariants.{Generated, Added}
+use Rattle.occurrences.specs.declared.row.Origin.TheVariants.{Added, Generated}
 
 -- the run cycle that named an occurrence, if one did
 abbrev pub run_cycle_of : Origin → Option (List ℕ)
-run_cycle_of (Generated name) = Some name
 run_cycle_of Added = None
+run_cycle_of (Generated name) = Some name
 
 -- how two origins compare: what was added by hand comes first, then run cycles by name in byte order
 abbrev pub origin_cmp : Origin → Origin → Ordering
@@ -28,12 +28,3 @@ row_cmp =
     then_cmp (on (λ r. r.key) key_cmp)
     (then_cmp (on (λ r. r.serial) nat_cmp)
     (then_cmp (on (λ r. r.deadline) nat_cmp) (on (λ r. r.origin) origin_cmp)))
-
-pub origin_cmp_total : IsTotalOrder origin_cmp
-origin_cmp_total = on_total run_cycle_of (options_total nat_list_cmp_total)
-
-pub row_cmp_total : IsTotalOrder row_cmp
-row_cmp_total =
-    then_total (on_total (λ r. r.key) key_cmp_total)
-    (then_total (on_total (λ r. r.serial) nat_cmp_total)
-    (then_total (on_total (λ r. r.deadline) nat_cmp_total) (on_total (λ r. r.origin) origin_cmp_total)))

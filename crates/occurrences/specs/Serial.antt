@@ -1,3 +1,4 @@
+-- Serials of occurrences.
 use Rattle.std.specs.Prelude.{ℕ, ◌≤◌}
 use Rattle.occurrences.specs.declared.serial.TheConstants.{GREATEST_SERIAL}
 

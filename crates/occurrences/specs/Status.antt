@@ -1,4 +1,6 @@
+-- Statuses of the current plan.
 use Rattle.std.specs.Prelude.{ℕ, Option, Some, None, List, [], ◌∷◌, unwrap_or}
+use Rattle.std.specs.Str.{byte}
 use Rattle.occurrences.specs.declared.status.Status.{Status}
 use Rattle.occurrences.specs.declared.status.Status.TheVariants.{W, S, E, C, D}
 use Rattle.occurrences.specs.declared.status.Action.{Action}
@@ -17,11 +19,11 @@ changed_status _ _ = None
 
 -- the letter that lists and tables show for a status
 abbrev pub status_letter : Status → ℕ
-status_letter W = 87
-status_letter S = 83
-status_letter E = 69
-status_letter C = 67
-status_letter D = 68
+status_letter W = byte "W"
+status_letter S = byte "S"
+status_letter E = byte "E"
+status_letter C = byte "C"
+status_letter D = byte "D"
 
 -- the status after some actions were tried in turn: one that the status doesn't allow leaves it
 abbrev pub status_after : Status → List Action → Status

@@ -1,8 +1,8 @@
 // Laws of this crate's definitions: each function has no body, and its contract is the law.
-ghost use Rattle.std.specs.Prelude.{◌≡◌, ◌≢◌, ◌↔◌, ◌⊎◌, List, true};
+ghost use Rattle.std.specs.Prelude.{◌≡◌, ◌≢◌, ◌↔◌, ◌⊎◌, List, IsTrue, true};
 ghost use Rattle.std.specs.Cmp.{IsTotalOrder};
 ghost use Rattle.std.specs.Ordering.{MatchOrdering};
-ghost use Rattle.occurrences.specs.Key.{KeyBefore, key_cmp};
+ghost use Rattle.occurrences.specs.Key.{KeyBefore, key_cmp, key_eq};
 ghost use Rattle.occurrences.specs.Order.{IsStrictOrder, Ranks};
 ghost use Rattle.occurrences.specs.Row.{RowBefore, row_cmp};
 ghost use Rattle.occurrences.specs.Place.{IsLive, IsOpen, IsComplete};
@@ -21,6 +21,7 @@ pub fn key_order()
     ensures ranks { Ranks key_cmp KeyBefore }
     ensures compared { (a b : Key) → ⟦<Key as Ord>⟧.cmp a b ≡ key_cmp a b }
     ensures equal { (a b : Key) → (⟦<Key as PartialEq>⟧.eq a b ≡ true) ↔ (a ≡ b) }
+    ensures tested { (a b : Key) → IsTrue (key_eq a b) ↔ (a ≡ b) }
 {}
 
 /// Law: rows are ordered by key, then by serial. That is a strict order, rows of two serials compare by it, and rows
@@ -34,8 +35,8 @@ pub fn row_order()
     ensures equal { (a b : Row) → (⟦<Row as PartialEq>⟧.eq a b ≡ true) ↔ (a ≡ b) }
 {}
 
-/// Law: the ways into each status. S is entered by a start of W alone, E by a failure of S, C by a completion of S
-/// or E, W by a reset of E, and D by a deletion of W or E. So what is complete or deleted stays so, whatever is tried.
+/// Law: the ways into each status. S is entered by a start of W alone, E by a failure of S, C by a completion of S or E,
+/// W by a reset of E, and D by a deletion of W or E. So what is complete or deleted stays so, whatever is tried.
 pub fn status_changes()
     ensures into_w { (s : Status) (a : Action) →
         (changed_status s a ≡ Some Status.W) ↔ ((s ≡ Status.E) × (a ≡ Action.Reset)) }
@@ -44,9 +45,11 @@ pub fn status_changes()
     ensures into_e { (s : Status) (a : Action) →
         (changed_status s a ≡ Some Status.E) ↔ ((s ≡ Status.S) × (a ≡ Action.Fail)) }
     ensures into_c { (s : Status) (a : Action) →
-        (changed_status s a ≡ Some Status.C) ↔ (((s ≡ Status.S) ⊎ (s ≡ Status.E)) × (a ≡ Action.Complete)) }
+        (changed_status s a ≡ Some Status.C)
+        ↔ (((s ≡ Status.S) ⊎ (s ≡ Status.E)) × (a ≡ Action.Complete)) }
     ensures into_d { (s : Status) (a : Action) →
-        (changed_status s a ≡ Some Status.D) ↔ (((s ≡ Status.W) ⊎ (s ≡ Status.E)) × (a ≡ Action.Delete)) }
+        (changed_status s a ≡ Some Status.D)
+        ↔ (((s ≡ Status.W) ⊎ (s ≡ Status.E)) × (a ≡ Action.Delete)) }
     ensures stays_complete { (tried : List Action) → status_after Status.C tried ≡ Status.C }
     ensures stays_deleted { (tried : List Action) → status_after Status.D tried ≡ Status.D }
 {}

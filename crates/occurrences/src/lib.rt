@@ -1,5 +1,14 @@
 //! Occurrences of applications: their serials, keys and rows, the places and statuses that they go through,
 //! and what a statement answers.
+//!
+//! A [`Row`] is one run of an application that the plans know of. It stands in one [`Place`] at a time, in the current
+//! plan with a [`Status`], which changes by the table of [`next_status`] alone:
+//!
+//! ```text
+//! assert!(rt; Place::Current(Status::W).is_open());
+//! assert_eq!(rt; next_status(Status::W, Action::Start), Some(Status::S));
+//! assert_eq!(rt; next_status(Status::S, Action::Delete), None);
+//! ```
 #![tactic(auto)]
 
 mod key;
@@ -15,7 +24,7 @@ mod tests;
 
 pub use key::Key;
 pub use laws::{key_order, places, row_order, status_changes};
-pub use place::{Deletion, Place, Reason};
+pub use place::{CurrentRow, Deletion, Place, Reason};
 pub use refusal::Refusal;
 pub use reply::Reply;
 pub use row::{Origin, Row};

@@ -15,6 +15,15 @@ pub enum Reason {
     Plan,
 }
 
+/// A row that stands in the current plan.
+#[derive(Clone, Copy, Debug, PartialEq, Eq, PartialOrd, Ord, Hash)]
+pub struct CurrentRow {
+    /// The row.
+    pub row: Row,
+    /// How far it is.
+    pub status: Status,
+}
+
 /// A row that stands in the deletions.
 #[derive(Clone, Copy, Debug, PartialEq, Eq, PartialOrd, Ord, Hash)]
 pub struct Deletion {

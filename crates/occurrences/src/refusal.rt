@@ -14,7 +14,10 @@ pub enum Refusal {
     NotAStatement,
     /// 11: a record of the block is faulty, the first of them by number; 0 where the block has no end or is too long.
     #[error("faulty data, record {record}")]
-    FaultyData { record: usize },
+    FaultyData {
+        /// The record's number, or 0.
+        record: usize,
+    },
     /// 12: the job number was used with another text.
     #[error("the job number belongs to another text")]
     JobWithAnotherText,
@@ -29,16 +32,25 @@ pub enum Refusal {
     PlanExists,
     /// 22: an application names a calendar that isn't defined, the least such application.
     #[error("the calendar of {} is not defined", app.as_str())]
-    CalendarUndefined { app: App },
+    CalendarUndefined {
+        /// The application that names the calendar.
+        app: App,
+    },
     /// 23: a run cycle of an application names a period that isn't defined, the least such application.
     #[error("a period of {} is not defined", app.as_str())]
-    PeriodUndefined { app: App },
+    PeriodUndefined {
+        /// The application whose run cycle names the period.
+        app: App,
+    },
     /// 24: dates out of order or past a limit.
     #[error("dates out of order or past a limit")]
     DatesOutOfRange,
     /// 25: the lists that would be in force have a loop, the least application on one.
     #[error("{} stands on a loop of predecessors", app.as_str())]
-    Loop { app: App },
+    Loop {
+        /// The least application on a loop.
+        app: App,
+    },
     /// 26: the application is unknown or pending.
     #[error("the application is unknown or pending")]
     NoActiveApplication,
@@ -53,7 +65,10 @@ pub enum Refusal {
     StatusForbids,
     /// 30: a predecessor isn't complete, the least such serial.
     #[error("predecessor {} is not complete", serial.get())]
-    PredecessorUncompleted { serial: Serial },
+    PredecessorUncompleted {
+        /// The least serial of such a predecessor.
+        serial: Serial,
+    },
     /// 31: too many rows in the plans, or no serials left.
     #[error("too many rows, or no serials left")]
     TooManyRows,

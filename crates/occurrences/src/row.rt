@@ -2,16 +2,15 @@ ghost use Rattle.std.specs.Prelude.{◌≡◌};
 
 use crate::key::Key;
 use crate::serial::Serial;
-use std::cmp::Ordering;
 use work_calendars::{Moment, Short};
 
-/// Where an occurrence comes from.
-#[derive(Clone, Copy, Debug, PartialEq, Eq, Hash)]
+/// Where an occurrence comes from. Added ones come first, then generated ones by name in byte order.
+#[derive(Clone, Copy, Debug, PartialEq, Eq, PartialOrd, Ord, Hash)]
 pub enum Origin {
-    /// Named by the run cycle of this name.
-    Generated(Short),
     /// Added by hand.
     Added,
+    /// Named by the run cycle of this name.
+    Generated(Short),
 }
 
 impl Origin {
@@ -28,44 +27,11 @@ impl Origin {
     }
 }
 
-impl Ord for Origin {
-    ghost use Rattle.std.specs.Prelude.{refl};
-    ghost use Rattle.occurrences.specs.Row.{origin_cmp, origin_cmp_total};
-    ghost use Rattle.occurrences.specs.Ties.{origin_ties};
-
-    ghost cmp = { origin_cmp };
-
-    ghost total = { origin_cmp_total };
-
-    ghost matches_partial_cmp = { λ a b. refl };
-
-    ghost matches_eq = { origin_ties };
-
-    fn cmp(&self, other: &Origin) -> Ordering {
-        self.run_cycle().cmp(&other.run_cycle())
-    }
-}
-
-impl PartialOrd for Origin {
-    ghost use Rattle.std.specs.Cmp.{partial_order_from_total, partial_order_from_own_ties};
-    ghost use Rattle.std.specs.Ordering.{as_partial_cmp};
-    ghost use Rattle.occurrences.specs.Row.{origin_cmp, origin_cmp_total};
-    ghost use Rattle.occurrences.specs.Ties.{origin_ties};
-
-    ghost partial_cmp = { as_partial_cmp origin_cmp };
-
-    ghost laws = { partial_order_from_own_ties (partial_order_from_total origin_cmp_total) origin_ties };
-
-    fn partial_cmp(&self, other: &Origin) -> Option<Ordering> {
-        Some(self.cmp(other))
-    }
-}
-
 /// An occurrence, as the plans keep it.
 /// Rows are ordered by key, then by serial; rows of one key and one serial by deadline and origin.
-#[derive(Clone, Copy, Debug, PartialEq, Eq, Hash)]
+#[derive(Clone, Copy, Debug, PartialEq, Eq, PartialOrd, Ord, Hash)]
 pub struct Row {
-    /// Its application and its input arrival.
+    /// Its input arrival and its application.
     pub key: Key,
     /// Its number.
     pub serial: Serial,
@@ -73,41 +39,4 @@ pub struct Row {
     pub deadline: Moment,
     /// The run cycle that named it, or that it was added.
     pub origin: Origin,
-}
-
-impl Ord for Row {
-    ghost use Rattle.std.specs.Prelude.{refl};
-    ghost use Rattle.occurrences.specs.Row.{row_cmp, row_cmp_total};
-    ghost use Rattle.occurrences.specs.Ties.{row_ties};
-
-    ghost cmp = { row_cmp };
-
-    ghost total = { row_cmp_total };
-
-    ghost matches_partial_cmp = { λ a b. refl };
-
-    ghost matches_eq = { row_ties };
-
-    fn cmp(&self, other: &Row) -> Ordering {
-        self.key
-            .cmp(&other.key)
-            .then(self.serial.cmp(&other.serial))
-            .then(self.deadline.cmp(&other.deadline))
-            .then(self.origin.cmp(&other.origin))
-    }
-}
-
-impl PartialOrd for Row {
-    ghost use Rattle.std.specs.Cmp.{partial_order_from_total, partial_order_from_own_ties};
-    ghost use Rattle.std.specs.Ordering.{as_partial_cmp};
-    ghost use Rattle.occurrences.specs.Row.{row_cmp, row_cmp_total};
-    ghost use Rattle.occurrences.specs.Ties.{row_ties};
-
-    ghost partial_cmp = { as_partial_cmp row_cmp };
-
-    ghost laws = { partial_order_from_own_ties (partial_order_from_total row_cmp_total) row_ties };
-
-    fn partial_cmp(&self, other: &Row) -> Option<Ordering> {
-        Some(self.cmp(other))
-    }
 }

@@ -19,10 +19,15 @@ pub enum Status {
 /// What can be done to an occurrence of the current plan.
 #[derive(Clone, Copy, Debug, PartialEq, Eq, PartialOrd, Ord, Hash)]
 pub enum Action {
+    /// It begins.
     Start,
+    /// It ends, all done.
     Complete,
+    /// It ends in error.
     Fail,
+    /// It waits again.
     Reset,
+    /// It is not to be done.
     Delete,
 }
 

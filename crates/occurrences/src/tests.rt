@@ -1,31 +1,30 @@
 use super::*;
+use std::fmt::Write;
 use std::test::Fail;
 use work_calendars::{App, Day, Minute, Moment, Short};
 
-fn moment(day: u32, minute: u32) -> Result<Moment, Fail> {
-    let day = Day::from_number(day).ok_or("no day")?;
-    let minute = Minute::from_number(minute).ok_or("no minute")?;
-    Ok(Moment::new(day, minute))
+fn moment(day: u32, minute: u32) -> Option<Moment> {
+    Some(Moment::new(Day::from_number(day)?, Minute::from_number(minute)?))
 }
 
-fn key(app: &str, day: u32, minute: u32) -> Result<Key, Fail> {
-    Ok(Key {
+fn key(app: &str, day: u32, minute: u32) -> Option<Key> {
+    Some(Key {
         ia: moment(day, minute)?,
-        app: App::from_text(app).ok_or("no name")?,
+        app: App::from_text(app)?,
     })
 }
 
-fn row(serial: u32, app: &str, day: u32, origin: Origin) -> Result<Row, Fail> {
-    Ok(Row {
+fn row(serial: u32, app: &str, day: u32, origin: Origin) -> Option<Row> {
+    Some(Row {
         key: key(app, day, 480)?,
-        serial: Serial::new(serial).ok_or("no serial")?,
+        serial: Serial::new(serial)?,
         deadline: moment(day, 1080)?,
         origin,
     })
 }
 
 #[test]
-fn serials(rt: HostRuntime) -> Result<(), Fail> {
+fn serials(rt: HostRuntime) {
     for (number, is_serial) in [
         (0, false),
         (1, true),
@@ -34,32 +33,31 @@ fn serials(rt: HostRuntime) -> Result<(), Fail> {
     ] {
         assert_eq!(rt; Serial::new(number).is_some(), is_serial, "at {number}");
     }
-    assert_eq!(rt; Serial::new(17).ok_or("no serial")?.get(), 17);
-    Ok(())
+    assert_eq!(rt; Serial::new(17).map(|serial| serial.get()), Some(17));
 }
 
-// The table, a row for each status: start, complete, fail, reset, delete.
+// The letter of the status that an action leads to, from the status of a letter; `.` where it is not allowed.
+fn led_to(from: u8, action: Action) -> Option<u8> {
+    let status = Status::from_letter(from)?;
+    Some(next_status(status, action).map_or(b'.', |next| next.letter()))
+}
+
+// Each row: a status, and where start, complete, fail, reset and delete lead.
 #[test]
 fn table_of_statuses(rt: HostRuntime) {
-    use Status::{C, D, E, S, W};
-    let table = [
-        (W, [Some(S), None, None, None, Some(D)]),
-        (S, [None, Some(C), Some(E), None, None]),
-        (E, [None, Some(C), None, Some(W), Some(D)]),
-        (C, [None, None, None, None, None]),
-        (D, [None, None, None, None, None]),
-    ];
-    for (status, [start, complete, fail, reset, delete]) in table {
-        assert_eq!(rt; next_status(status, Action::Start), start);
-        assert_eq!(rt; next_status(status, Action::Complete), complete);
-        assert_eq!(rt; next_status(status, Action::Fail), fail);
-        assert_eq!(rt; next_status(status, Action::Reset), reset);
-        assert_eq!(rt; next_status(status, Action::Delete), delete);
+    for [from, start, complete, fail, reset, delete] in [
+        *b"WS...D", *b"S.CE..", *b"E.C.WD", *b"C.....", *b"D.....",
+    ] {
+        assert_eq!(rt; led_to(from, Action::Start), Some(start));
+        assert_eq!(rt; led_to(from, Action::Complete), Some(complete));
+        assert_eq!(rt; led_to(from, Action::Fail), Some(fail));
+        assert_eq!(rt; led_to(from, Action::Reset), Some(reset));
+        assert_eq!(rt; led_to(from, Action::Delete), Some(delete));
     }
 }
 
 #[test]
-fn letters(rt: HostRuntime) {
+fn letters_of_statuses(rt: HostRuntime) {
     for (status, letter) in [
         (Status::W, b'W'),
         (Status::S, b'S'),
@@ -70,6 +68,11 @@ fn letters(rt: HostRuntime) {
         assert_eq!(rt; status.letter(), letter);
         assert_eq!(rt; Status::from_letter(letter), Some(status));
     }
+    assert_eq!(rt; Status::from_letter(b'w'), None);
+}
+
+#[test]
+fn letters_of_reasons(rt: HostRuntime) {
     for (reason, letter) in [
         (Reason::Operator, b'O'),
         (Reason::Withdrawn, b'W'),
@@ -78,136 +81,137 @@ fn letters(rt: HostRuntime) {
         assert_eq!(rt; reason.letter(), letter);
         assert_eq!(rt; Reason::from_letter(letter), Some(reason));
     }
-    assert_eq!(rt; Status::from_letter(b'w'), None);
     assert_eq!(rt; Reason::from_letter(b'X'), None);
 }
 
+// Keys in rising order: an application, a day and a minute. 2024-01-01 is day 19723.
+const RISING: [(&str, u32, u32); 9] = [
+    ("ZED", 19722, 1439),
+    ("#A", 19723, 480),
+    ("$A", 19723, 480),
+    ("@A", 19723, 480),
+    ("A", 19723, 480),
+    ("A1", 19723, 480),
+    ("AA", 19723, 480),
+    ("B", 19723, 480),
+    ("A", 19723, 481),
+];
+
+fn key_at(place: usize) -> Option<Key> {
+    let (app, day, minute) = *RISING.get(place)?;
+    key(app, day, minute)
+}
+
+// Whether the key at one place is below that at another, and whether they are equal.
+fn compared(one: usize, other: usize) -> Option<(bool, bool)> {
+    let one = key_at(one)?;
+    let other = key_at(other)?;
+    Some((one < other, one == other))
+}
+
 #[test]
-fn keys_in_order(rt: HostRuntime) -> Result<(), Fail> {
-    // 2024-01-01 is day 19723.
-    let rising = [
-        key("ZED", 19722, 1439)?,
-        key("#A", 19723, 480)?,
-        key("$A", 19723, 480)?,
-        key("@A", 19723, 480)?,
-        key("A", 19723, 480)?,
-        key("A1", 19723, 480)?,
-        key("AA", 19723, 480)?,
-        key("B", 19723, 480)?,
-        key("A", 19723, 481)?,
-    ];
-    for (i, a) in rising.iter().enumerate() {
-        for (j, b) in rising.iter().enumerate() {
-            assert_eq!(rt; a < b, i < j);
-            assert_eq!(rt; a == b, i == j);
+fn keys_in_order(rt: HostRuntime) {
+    for i in 0..9 {
+        for j in 0..9 {
+            assert_eq!(rt; compared(i, j), Some((i < j, i == j)));
         }
     }
-    Ok(())
 }
 
 #[test]
 fn rows_in_order(rt: HostRuntime) -> Result<(), Fail> {
-    let origin = Origin::Generated(Short::from_text("RC").ok_or("no name")?);
-    let mut rows = [
-        row(6, "B", 19724, origin)?,
-        row(3, "A", 19724, origin)?,
-        row(5, "A", 19724, Origin::Added)?,
-        row(2, "B", 19723, origin)?,
-        row(4, "B", 19724, origin)?,
-        row(1, "A", 19723, origin)?,
-    ]
-    .to_vec(rt.alloc())?;
+    let named = Origin::Generated(Short::from_text("RC").ok_or("no name")?);
+    let mut rows = Vec::new(rt.alloc());
+    for (serial, app, day, origin) in [
+        (6, "B", 19724, named),
+        (3, "A", 19724, named),
+        (5, "A", 19724, Origin::Added),
+        (2, "B", 19723, named),
+        (4, "B", 19724, named),
+        (1, "A", 19723, named),
+    ] {
+        rows.push(row(serial, app, day, origin).ok_or("no row")?)?;
+    }
     rows.sort()?;
     let listed: Vec<u32> = rows.iter().map(|r| r.serial.get()).collect(rt.alloc())?;
     assert_eq!(rt; listed.as_slice(), [1, 2, 3, 5, 4, 6].as_slice());
     Ok(())
 }
 
+// Each place, and whether an occurrence there is live, open and complete.
 #[test]
 fn places_of_an_occurrence(rt: HostRuntime) {
-    for (place, live, open, complete) in [
-        (Place::LongTerm, true, true, false),
-        (Place::Current(Status::W), true, true, false),
-        (Place::Current(Status::S), true, false, false),
-        (Place::Current(Status::E), true, false, false),
-        (Place::Current(Status::C), true, false, true),
-        (Place::Current(Status::D), false, false, false),
-        (Place::History, true, false, true),
-        (Place::Deleted(Reason::Plan), false, false, false),
+    for (place, shown) in [
+        (Place::LongTerm, (true, true, false)),
+        (Place::Current(Status::W), (true, true, false)),
+        (Place::Current(Status::S), (true, false, false)),
+        (Place::Current(Status::E), (true, false, false)),
+        (Place::Current(Status::C), (true, false, true)),
+        (Place::Current(Status::D), (false, false, false)),
+        (Place::History, (true, false, true)),
+        (Place::Deleted(Reason::Plan), (false, false, false)),
     ] {
-        assert_eq!(rt; place.is_live(), live);
-        assert_eq!(rt; place.is_open(), open);
-        assert_eq!(rt; place.is_complete(), complete);
+        assert_eq!(rt;
+            (place.is_live(), place.is_open(), place.is_complete()),
+            shown
+        );
     }
 }
 
+// Each refusal, in the order of the text below.
+fn refusals(app: App, serial: Serial) -> [Refusal; 17] {
+    [
+        Refusal::NotAStatement,
+        Refusal::FaultyData { record: 2 },
+        Refusal::JobWithAnotherText,
+        Refusal::NotDefined,
+        Refusal::NoPlan,
+        Refusal::PlanExists,
+        Refusal::CalendarUndefined { app },
+        Refusal::PeriodUndefined { app },
+        Refusal::DatesOutOfRange,
+        Refusal::Loop { app },
+        Refusal::NoActiveApplication,
+        Refusal::KeyIsLive,
+        Refusal::NoSuchOccurrence,
+        Refusal::StatusForbids,
+        Refusal::PredecessorUncompleted { serial },
+        Refusal::TooManyRows,
+        Refusal::PlanEndOutOfRange,
+    ]
+}
+
+// The number of each refusal, whether a job keeps it, and what it shows.
+const REFUSALS: &str = "\
+10 false not a statement
+11 false faulty data, record 2
+12 false the job number belongs to another text
+13 true the name is not defined
+20 true there is no long-term plan
+21 true there is a long-term plan already
+22 true the calendar of PAY is not defined
+23 true a period of PAY is not defined
+24 true dates out of order or past a limit
+25 true PAY stands on a loop of predecessors
+26 true the application is unknown or pending
+27 true a live occurrence has this key
+28 true no such occurrence
+29 true the status does not allow it
+30 true predecessor 1 is not complete
+31 true too many rows, or no serials left
+32 true the new plan end is out of range
+";
+
 #[test]
-fn refusals(rt: HostRuntime) -> Result<(), Fail> {
+fn numbers_and_texts_of_refusals(rt: HostRuntime) -> Result<(), Fail> {
     let app = App::from_text("PAY").ok_or("no name")?;
     let serial = Serial::new(1).ok_or("no serial")?;
-    for (refusal, number, text) in [
-        (Refusal::NotAStatement, 10, "not a statement"),
-        (
-            Refusal::FaultyData { record: 2 },
-            11,
-            "faulty data, record 2",
-        ),
-        (
-            Refusal::JobWithAnotherText,
-            12,
-            "the job number belongs to another text",
-        ),
-        (Refusal::NotDefined, 13, "the name is not defined"),
-        (Refusal::NoPlan, 20, "there is no long-term plan"),
-        (Refusal::PlanExists, 21, "there is a long-term plan already"),
-        (
-            Refusal::CalendarUndefined { app },
-            22,
-            "the calendar of PAY is not defined",
-        ),
-        (
-            Refusal::PeriodUndefined { app },
-            23,
-            "a period of PAY is not defined",
-        ),
-        (
-            Refusal::DatesOutOfRange,
-            24,
-            "dates out of order or past a limit",
-        ),
-        (
-            Refusal::Loop { app },
-            25,
-            "PAY stands on a loop of predecessors",
-        ),
-        (
-            Refusal::NoActiveApplication,
-            26,
-            "the application is unknown or pending",
-        ),
-        (Refusal::KeyIsLive, 27, "a live occurrence has this key"),
-        (Refusal::NoSuchOccurrence, 28, "no such occurrence"),
-        (Refusal::StatusForbids, 29, "the status does not allow it"),
-        (
-            Refusal::PredecessorUncompleted { serial },
-            30,
-            "predecessor 1 is not complete",
-        ),
-        (
-            Refusal::TooManyRows,
-            31,
-            "too many rows, or no serials left",
-        ),
-        (
-            Refusal::PlanEndOutOfRange,
-            32,
-            "the new plan end is out of range",
-        ),
-    ] {
-        assert_eq!(rt; refusal.number(), number);
-        assert_eq!(rt; refusal.is_kept(), number >= 13);
-        let shown = format!(in rt.alloc(); "{refusal}")?;
-        assert_eq!(rt; shown.as_str(), text);
+    let mut shown = String::new(rt.alloc());
+    for refusal in refusals(app, serial) {
+        let number = refusal.number();
+        let is_kept = refusal.is_kept();
+        writeln!(shown, "{number} {is_kept} {refusal}")?;
     }
+    assert_eq!(rt; shown.as_str(), REFUSALS);
     Ok(())
 }

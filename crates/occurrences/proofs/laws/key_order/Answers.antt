@@ -1,9 +1,4 @@
-use Rattle.std.specs.Cmp.{Equal-is}
-use Rattle.std.proofs.Common.{◌∙◌, sym, ap}
-use Rattle.std.specs.Cmp.{tied_itself}
-use Rattle.occurrences.specs.Order.{key_strict, key_ranks, key_equal}
-use Rattle.occurrences.specs.Key.{key_cmp, key_cmp_total}
-use Rattle.occurrences.specs.Key.{key_ties}
+use Rattle.occurrences.proofs.KeyLemmas.{key_cmp_total, key_ranks, key_strict, key_same, same_key}
 use Rattle.occurrences.proofs.laws.key_order.Goals as goal
 
 pub returns-clause-strict : goal.returns-clause-strict
@@ -15,8 +10,5 @@ returns-clause-total c = key_cmp_total
 pub returns-clause-ranks : goal.returns-clause-ranks
 returns-clause-ranks c = key_ranks
 
-pub returns-clause-equal : goal.returns-clause-equal
-returns-clause-equal c a b = (
-  λ e. key_equal a b ((Equal-is (key_cmp a b)).0 (sym (key_ties a b) ∙ e)),
-  λ p. key_ties a b ∙ (Equal-is (key_cmp a b)).1 (ap (λ x. key_cmp a x) (sym p) ∙ tied_itself key_cmp_total a),
-)
+pub returns-clause-tested : goal.returns-clause-tested
+returns-clause-tested c a b = (same_key a b, key_same a b)
