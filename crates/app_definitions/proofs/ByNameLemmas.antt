@@ -6,7 +6,7 @@ use Rattle.std.proofs.lemmas.List.Elements.{filter-append}
 use Rattle.std.specs.Ordering.{nat_cmp, eq_by_cmp}
 use Rattle.std.specs.Cmp.Lexicographic.{pointwise, slice_cmp, nat_list_cmp_total, nat_list_eq_equiv, texts_ties, bytes_decides}
 use Rattle.std.specs.FinMap as map
-use Rattle.std.specs.FinMap.{find, get-empty, len-empty, len-insert, get-from_entries, get-remove, same_map, slice_cmp-IsAntisymmetric, nat_cmp-IsAntisymmetric}
+use Rattle.std.specs.FinMap.{find, get-empty, len-empty, len-insert, get-from_entries, get-insert, get-remove, same_map, slice_cmp-IsAntisymmetric, nat_cmp-IsAntisymmetric}
 use Rattle.std.specs.Map.{lookup, keys_of, update_all}
 use Rattle.std.specs.Option.{option_or}
 use Rattle.std.specs.List.{IsDistinct, AllByRecursion}
@@ -93,6 +93,10 @@ name_sym a b = nat_list_eq_equiv.symm a b
 -- what the definitions are without a name
 pub get-removed : {X : Type 0} (m : Definitions X) (k q : List ℕ) → map.get (map.remove m k) q ≡ cond (pointwise nat_eq k q) None (map.get m q)
 get-removed m k q = get-remove nat_list_cmp_total m k q ∙ ap (λ b. cond b None (map.get m q)) (sym (texts_ties q k) ∙ name_sym q k)
+
+-- what they are with a definition more
+pub get-inserted : {X : Type 0} (m : Definitions X) (k : List ℕ) (v : X) (q : List ℕ) → map.get (map.insert m k v) q ≡ cond (pointwise nat_eq k q) (Some v) (map.get m q)
+get-inserted m k v q = get-insert nat_list_cmp_total m k v q ∙ ap (λ b. cond b (Some v) (map.get m q)) (sym (texts_ties q k) ∙ name_sym q k)
 
 find-append-or : {X : Type 0} (q : List ℕ) (xs ys : List (List ℕ × X)) → find (slice_cmp nat_cmp) q (xs ++ ys) ≡ option_or (find (slice_cmp nat_cmp) q xs) (find (slice_cmp nat_cmp) q ys)
 find-append-or q [] ys = refl

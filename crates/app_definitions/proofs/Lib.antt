@@ -5,3 +5,4 @@ pub mod CalendarLemmas
 pub mod CycleLemmas
 pub mod PeriodLemmas
 pub mod OptionLemmas
+pub mod NamedLemmas

@@ -1,3 +1,4 @@
+pub mod Active
 pub mod Applications
 pub mod Blocks
 pub mod Calendars
@@ -7,6 +8,7 @@ pub mod Definitions
 pub mod Fields
 pub mod Divisions
 pub mod Periods
+pub mod NamedOccurrences
 pub mod Options
 pub mod Predecessors
 pub mod Records

@@ -76,6 +76,17 @@ impl<D> ByName<D> {
         self.by_name.get(name)
     }
 
+    /// Puts the definition under the name, in place of the one that is there.
+    pub fn insert(&mut self, name: Name, definition: D) -> Result<(), AllocError>
+    where
+        D: Drop,
+        ensures ok { OnOk result (self.new ≡ map.insert self.old name definition) }
+        ensures err { OnErr result (self.new ≡ self.old) }
+    {
+        let _replaced = self.by_name.insert(name, definition)?;
+        Ok(())
+    }
+
     /// How many names have a definition.
     pub fn len(&self) -> usize
         ensures { result ≡ map.len self.now }

@@ -2,6 +2,7 @@
 //! lists of predecessors and options.
 #![tactic(auto)]
 
+mod active;
 mod applications;
 mod blocks;
 mod by_name;
@@ -10,11 +11,13 @@ mod cycle_records;
 mod definitions;
 mod fields;
 mod kinds;
+mod named_occurrences;
 mod option_blocks;
 mod options;
 mod periods;
 mod predecessors;
 mod records;
+mod work_indexes;
 
 pub use applications::Application;
 pub use blocks::{
@@ -29,6 +32,7 @@ pub use options::{MAX_EXTENSION_HOURS, Options};
 pub use periods::DefinedPeriod;
 pub use predecessors::Predecessors;
 pub use records::BlockFault;
+pub use work_indexes::WorkIndexes;
 
 #[cfg(test)]
 mod cycle_tests;

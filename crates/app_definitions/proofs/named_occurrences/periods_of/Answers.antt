@@ -2,9 +2,9 @@ use Rattle.std.proofs.Common.{◌≡◌, ◌+◌, sym, subst, ◌∙◌, arith, 
 use Rattle.std.specs.Prelude.{Some, None}
 use Rattle.std.specs.FinMap as map
 use Rattle.run_cycles.specs.Occurrence.{PeriodMap}
-use Rattle.planner_cli.proofs.DaysLemmas.{AgreeBefore, IsWithin, nothing_yet, agree_more, absent_stays, agree_inserted, within_inserted, same_inserted}
-use Rattle.planner_cli.proofs.days.periods_of.Goals.{in-Some+in_ok-to_period+in_ok-insert, in_default}
-use Rattle.planner_cli.proofs.days.periods_of.Goals as goal
+use Rattle.app_definitions.proofs.NamedLemmas.{AgreeBefore, IsWithin, nothing_yet, agree_more, absent_stays, agree_inserted, within_inserted, same_inserted}
+use Rattle.app_definitions.proofs.named_occurrences.periods_of.Goals.{in-Some+in_ok-to_period+in_ok-insert, in_default}
+use Rattle.app_definitions.proofs.named_occurrences.periods_of.Goals as goal
 
 pub loop-cycle-init : goal.loop-cycle-init
 loop-cycle-init c =

@@ -4,7 +4,7 @@ use Rattle.std.specs.Prelude.{Some, slice_index_or}
 use Rattle.std.specs.FinMap as map
 use Rattle.plan_periods.specs.declared.periods.Period.{Period}
 use Rattle.run_cycles.specs.declared.cycles.RunCycle.{RunCycle}
-use Rattle.planner_cli.proofs.days.periods_of.Given as goal
+use Rattle.app_definitions.proofs.named_occurrences.periods_of.Given as goal
 
 abbrev pub invariant-loop-cycle : goal.invariant-loop-cycle
 invariant-loop-cycle l =
