@@ -1,0 +1,71 @@
+//! Tries worked job streams: each is run over memory, and all that it prints, and the exit status,
+//! is compared with what its files say. A line tells of each whether it holds.
+#![tactic(auto)]
+
+mod differences;
+mod listed;
+mod pieces;
+mod trials;
+
+use listed::Listed;
+use std::process::ExitCode;
+use std::rt::Files;
+use std::{fs, io};
+use trials::{Expected, show_wrong, try_stream};
+
+/// The list of streams, in the folder where the program runs.
+const LIST: &str = "streams.txt";
+
+/// Tries each stream of the list, prints a line for each, and tells whether all hold.
+fn try_all<R: AllocGlobal + Files + Print>(rt: &R) -> io::Result<bool> {
+    let list = fs::read_to_string(rt, LIST)?;
+    let mut all_hold = true;
+    for line in list.lines() {
+        if listed::is_remark(line) {
+            continue;
+        }
+        let holds = match Listed::from_line(line) {
+            Some(stream) => try_one(rt, &stream)?,
+            None => {
+                println!(rt; "{LIST}: no stream is listed by: {line}")?;
+                false
+            }
+        };
+        all_hold = all_hold && holds;
+    }
+    Ok(all_hold)
+}
+
+/// Reads the files of a stream, tries it, and prints the line that tells whether it holds.
+fn try_one<R: AllocGlobal + Files + Print>(rt: &R, stream: &Listed<'_>) -> io::Result<bool> {
+    let alloc = rt.alloc();
+    let name = stream.name;
+    let text = fs::read(rt, format!(in alloc; "{name}.in")?)?;
+    let replies = fs::read(rt, format!(in alloc; "{name}.out")?)?;
+    let expected = Expected {
+        replies: &replies,
+        status: stream.status,
+    };
+    match try_stream(alloc, &text, stream.ends, &expected)? {
+        None => {
+            println!(rt; "{name} holds")?;
+            Ok(true)
+        }
+        Some(wrong) => {
+            show_wrong(&mut io::writer(rt), name, &wrong, &expected)?;
+            Ok(false)
+        }
+    }
+}
+
+/// 0 where all streams hold, 1 where one doesn't, 2 where a file can't be read.
+fn main(rt: HostRuntime) -> ExitCode {
+    ExitCode::from(match try_all(&rt) {
+        Ok(true) => 0,
+        Ok(false) => 1,
+        Err(error) => {
+            let _ = eprintln!(rt; "planner_rows: {error}");
+            2
+        }
+    })
+}
