@@ -1,0 +1,20 @@
+-- `dp-replan`: a daily plan to the plan end as it is, which takes nothing from the long-term plan.
+use Rattle.std.specs.Prelude.{◌≡◌, None, Some}
+use Rattle.occurrences.specs.declared.refusal.Refusal.{Refusal}
+use Rattle.occurrences.specs.declared.refusal.Refusal.TheVariants.{NoPlan}
+use Rattle.planner_machine.specs.declared.content.Bounds.{Bounds}
+use Rattle.planner_machine.specs.Content.{Content}
+use Rattle.planner_machine.specs.DailyPlan.{PlansDaily}
+use Rattle.planner_machine.specs.Decision.{Decision}
+use Rattle.planner_machine.specs.InForce.{PutsNone}
+use Rattle.planner_machine.specs.Plans.{ChangesPlans, MakesOfRows}
+
+abbrev pub Replans : MakesOfRows
+Replans all s reply s' = (b : Bounds) × (s.bounds ≡ Some b) × PlansDaily b.plan_end s reply s'
+
+abbrev pub ReplanRefused : Content → Refusal → Type 0
+ReplanRefused c NoPlan = c.sets.bounds ≡ None
+ReplanRefused c _ = ⊥
+
+abbrev pub dp_replan : Decision Content
+dp_replan = record { Refuses = ReplanRefused; Does = ChangesPlans Replans PutsNone }

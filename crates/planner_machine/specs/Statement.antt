@@ -1,0 +1,131 @@
+-- All statements: for each its decision, the fate that it gives an occurrence, and the occurrences that it makes.
+use Rattle.std.specs.Prelude.{◌≡◌, ◌⊎◌, ℕ, List, [], ◌∷◌, Option, Some, None, Result, Err}
+use Rattle.app_definitions.specs.Blocks.{IsFaultyAt, ReadsAs}
+use Rattle.app_definitions.specs.declared.definitions.Definitions.{Definitions}
+use Rattle.app_definitions.specs.declared.kinds.Block.{Block}
+use Rattle.app_definitions.specs.declared.kinds.Kind.{Kind}
+use Rattle.occurrences.specs.declared.key.Key.{Key}
+use Rattle.occurrences.specs.declared.place.Place.{Place}
+use Rattle.occurrences.specs.declared.place.Place.TheVariants.{Current, LongTerm}
+use Rattle.occurrences.specs.declared.refusal.Refusal.{Refusal}
+use Rattle.occurrences.specs.declared.refusal.Refusal.TheVariants.{FaultyData}
+use Rattle.occurrences.specs.declared.reply.Reply.{Reply}
+use Rattle.occurrences.specs.declared.status.Action.{Action}
+use Rattle.occurrences.specs.declared.status.Status.TheVariants.{W}
+use Rattle.planner_machine.specs.declared.content.Bounds.{Bounds}
+use Rattle.planner_machine.specs.declared.content.Draft.{Draft}
+use Rattle.planner_machine.specs.Act.{cp_action}
+use Rattle.planner_machine.specs.Add.{cp_add, ltp_add}
+use Rattle.planner_machine.specs.Content.{Content, Sets}
+use Rattle.planner_machine.specs.Create.{IsCreated, create}
+use Rattle.planner_machine.specs.DailyExtend.{dp_extend}
+use Rattle.planner_machine.specs.Days.{days}
+use Rattle.planner_machine.specs.Decision.{Decides, Decision, trial}
+use Rattle.planner_machine.specs.Define.{define, undefine}
+use Rattle.planner_machine.specs.Delete.{ltp_delete}
+use Rattle.planner_machine.specs.Drafts.{AreDrafts, IsMade, added}
+use Rattle.planner_machine.specs.Extend.{IsAddedByExtension, extend}
+use Rattle.planner_machine.specs.Fate.{ActionFate, DailyFate, DeletionFate, Fate, ModifyFate, Stays}
+use Rattle.planner_machine.specs.Jobs.{AnswersJob}
+use Rattle.planner_machine.specs.Modify.{NamesAhead}
+use Rattle.planner_machine.specs.ModifyAll.{IsAnyApp, modify_all}
+use Rattle.planner_machine.specs.ModifyOne.{IsThatApp, modify_one}
+use Rattle.planner_machine.specs.Replan.{dp_replan}
+use Rattle.planner_machine.specs.Shown.{Listed, list_pairs, list_rows}
+
+-- the statements that change something
+pub data Change : Type 0 where
+  Define : Block → Change
+  Undefine : Kind → List ℕ → Change
+  Create : (from to : ℕ) → Change
+  Extend : (to : ℕ) → Change
+  ModifyAll : Change
+  ModifyOne : List ℕ → Change
+  Add : Key → Change
+  Delete : Key → Change
+  DailyExtend : (to : ℕ) → Change
+  Replan : Change
+  AddCurrent : Key → Change
+  Act : Action → Key → Change
+
+abbrev pub decision_of : Change → Decision Content
+decision_of (Define block) = define block
+decision_of (Undefine kind name) = undefine kind name
+decision_of (Create from to) = create from to
+decision_of (Extend to) = extend to
+decision_of ModifyAll = modify_all
+decision_of (ModifyOne app) = modify_one app
+decision_of (Add key) = ltp_add key
+decision_of (Delete key) = ltp_delete key
+decision_of (DailyExtend to) = dp_extend to
+decision_of Replan = dp_replan
+decision_of (AddCurrent key) = cp_add key
+decision_of (Act action key) = cp_action key action
+
+-- a daily plan to the plan end; before creation there is none
+abbrev pub replan_fate : Option Bounds → Fate
+replan_fate None = Stays
+replan_fate (Some b) = DailyFate b.plan_end
+
+-- the fate of an occurrence at an accepted statement, by the definitions and bounds of that moment
+abbrev pub fate_of : Change → Definitions → Option Bounds → Fate
+fate_of ModifyAll all bounds = ModifyFate IsAnyApp all
+fate_of (ModifyOne app) all bounds = ModifyFate (IsThatApp app) all
+fate_of (Delete key) all bounds = DeletionFate key
+fate_of (DailyExtend to) all bounds = DailyFate to
+fate_of Replan all bounds = replan_fate bounds
+fate_of (Act action key) all bounds = ActionFate key action
+fate_of change all bounds = Stays
+
+-- the occurrences that an accepted statement makes, as drafts in the order of their serials
+abbrev pub MakesDrafts : Change → Definitions → Sets → List Draft → Type 0
+MakesDrafts (Create from to) all s drafts = AreDrafts (IsCreated from to all s) drafts
+MakesDrafts (Extend to) all s drafts = (b : Bounds) × (s.bounds ≡ Some b) × AreDrafts (IsAddedByExtension b to all s) drafts
+MakesDrafts ModifyAll all s drafts = AreDrafts (IsMade (NamesAhead IsAnyApp all s.bounds) s) drafts
+MakesDrafts (ModifyOne app) all s drafts = AreDrafts (IsMade (NamesAhead (IsThatApp app) all s.bounds) s) drafts
+MakesDrafts (Add key) all s drafts = drafts ≡ added key ∷ []
+MakesDrafts (AddCurrent key) all s drafts = drafts ≡ added key ∷ []
+MakesDrafts change all s drafts = drafts ≡ []
+
+-- where they are made
+abbrev pub place_of_made : Change → Place
+place_of_made (AddCurrent key) = Current W
+place_of_made change = LongTerm
+
+-- the statements of a stream, each with its values. `define` has the bytes of its block, or none where the block is too long
+-- or has no end; a trial is one of the statements that plan
+pub data Statement : Type 0 where
+  DefineJob : (number : ℕ) (text : List ℕ) (kind : Kind) (data_of : Option (List ℕ)) → Statement
+  Job : (number : ℕ) (text : List ℕ) → Change → Statement
+  Days : (app : List ℕ) (from to : ℕ) → Statement
+  Trial : Change → Statement
+  ListRows : Listed → Option (List ℕ) → Statement
+  ListPairs : Option (List ℕ) → Statement
+
+abbrev pub Answer : Type 0
+Answer = Result Reply Refusal
+
+-- the data are faulty at that record, or are no block
+abbrev pub IsFaulty : Kind → Option (List ℕ) → ℕ → Type 0
+IsFaulty kind None number = number ≡ 0
+IsFaulty kind (Some text) number = IsFaultyAt kind text number
+
+-- the data are read as the block
+abbrev pub AreRead : Kind → Option (List ℕ) → Block → Type 0
+AreRead kind None block = ⊥
+AreRead kind (Some text) block = ReadsAs kind text block
+
+-- data are read before the job number is looked up: faulty data are refused, and nothing is kept
+abbrev pub AnswersDefine : ℕ → List ℕ → Kind → Option (List ℕ) → Content → Answer → Content → Type 0
+AnswersDefine number text kind given c answer c' =
+    ((record_number : ℕ) × IsFaulty kind given record_number × (answer ≡ Err (FaultyData record_number)) × (c' ≡ c))
+    ⊎ ((block : Block) × AreRead kind given block × AnswersJob number text (define block) c answer c')
+
+-- one step: where the content is c, the statement gets the answer, and leaves c'
+abbrev pub Steps : Statement → Content → Answer → Content → Type 0
+Steps (DefineJob number text kind given) c answer c' = AnswersDefine number text kind given c answer c'
+Steps (Job number text change) c answer c' = AnswersJob number text (decision_of change) c answer c'
+Steps (Days app from to) c answer c' = Decides (days app from to) c answer c'
+Steps (Trial change) c answer c' = Decides (trial (decision_of change)) c answer c'
+Steps (ListRows listed app) c answer c' = Decides (list_rows listed app) c answer c'
+Steps (ListPairs app) c answer c' = Decides (list_pairs app) c answer c'
