@@ -1,0 +1,3 @@
+mod EditLemmas
+mod MergeLemmas
+pub mod KeyLemmas

@@ -1,0 +1,11 @@
+//! Lists in rising order of a key, each key once: found by binary search, and changed in place.
+#![tactic(auto)]
+
+mod changes;
+mod keyed;
+mod merging;
+mod search;
+
+pub use changes::{insert_all, remove_all, replace_all};
+pub use keyed::Keyed;
+pub use search::{find, has_key, sort};
