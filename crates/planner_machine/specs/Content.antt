@@ -10,7 +10,7 @@ use Rattle.external_dependencies.specs.declared.pairs.Pair.{Pair}
 use Rattle.external_dependencies.specs.declared.rows.PlacedRow.{PlacedRow}
 use Rattle.app_definitions.specs.declared.definitions.Definitions.{Definitions}
 use Rattle.planner_machine.specs.declared.content.Bounds.{Bounds}
-use Rattle.planner_machine.specs.declared.content.CurrentRow.{CurrentRow}
+use Rattle.occurrences.specs.declared.place.CurrentRow.{CurrentRow}
 use Rattle.planner_machine.specs.declared.job.Job.{Job}
 
 -- the rows: how far the plans reach, which nothing says before the long-term plan is created; how many serials are issued;

@@ -8,7 +8,7 @@ use Rattle.occurrences.specs.declared.row.Row.{Row}
 use Rattle.occurrences.specs.declared.status.Status.{Status}
 use Rattle.occurrences.specs.declared.status.Status.TheVariants.{W, S, E, C, D}
 use Rattle.planner_machine.specs.declared.content.Bounds.{Bounds}
-use Rattle.planner_machine.specs.declared.content.CurrentRow.{CurrentRow}
+use Rattle.occurrences.specs.declared.place.CurrentRow.{CurrentRow}
 use Rattle.planner_machine.specs.Content.{Seat, Sets}
 use Rattle.planner_machine.specs.Moves.{each, keep, or_else, size}
 

@@ -10,7 +10,7 @@ use Rattle.occurrences.specs.declared.reply.Reply.TheVariants.{Rows}
 use Rattle.planner_machine.specs.declared.limits.TheConstants.{LONGEST_WINDOW}
 use Rattle.planner_machine.specs.Content.{Content}
 use Rattle.planner_machine.specs.Decision.{Decision}
-use Rattle.planner_machine.specs.Named.{IsNamed}
+use Rattle.planner_machine.specs.Drafts.{IsNamed}
 use Rattle.planner_machine.specs.Plans.{HasNoCalendar, HasNoPeriod, IsPlannedApp}
 
 -- the days are out of order, past the last planning day, or too many, both ends counted

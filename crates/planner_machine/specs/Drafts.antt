@@ -4,6 +4,10 @@ use Rattle.std.specs.List.{AllPairs}
 use Rattle.work_calendars.specs.Minute.{minutes_per_day}
 use Rattle.work_calendars.specs.Moment.{moment_of}
 use Rattle.run_cycles.specs.declared.named.Named.{Named}
+use Rattle.run_cycles.specs.Occurrence.{IsOccurrence}
+use Rattle.app_definitions.specs.Active.{IsActive, cycles_of}
+use Rattle.app_definitions.specs.NamedOccurrences.{work_of}
+use Rattle.app_definitions.specs.declared.applications.Application.{Application}
 use Rattle.app_definitions.specs.declared.definitions.Definitions.{Definitions}
 use Rattle.occurrences.specs.Key.{KeyBefore}
 use Rattle.occurrences.specs.declared.key.Key.{Key}
@@ -13,7 +17,10 @@ use Rattle.occurrences.specs.declared.row.Origin.TheVariants.{Added, Generated}
 use Rattle.occurrences.specs.declared.row.Row.{Row}
 use Rattle.planner_machine.specs.declared.content.Draft.{Draft}
 use Rattle.planner_machine.specs.Content.{Sets}
-use Rattle.planner_machine.specs.Named.{IsNamed}
+
+-- the application is active, and its run cycles name the occurrence
+abbrev pub IsNamed : Definitions → List ℕ → Named → Type 0
+IsNamed all app x = (a : Application) × IsActive all app a × IsOccurrence (cycles_of all app) all.periods (work_of all a) x
 
 -- the draft of a named occurrence of an application
 abbrev pub draft_of : List ℕ → Named → Draft

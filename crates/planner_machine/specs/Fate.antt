@@ -1,9 +1,8 @@
 -- The fate of one occurrence: where a statement that is accepted leaves it. A fate reads that occurrence, the statement, and
 -- the definitions and bounds of that moment. It reads no table and no other occurrence.
 use Rattle.std.specs.Prelude.{◌≡◌, ◌≢◌, ◌⊎◌, ℕ, List, nat_lt, if◌then◌else◌, unwrap_or}
-use Rattle.std.specs.Ordering.{is_eq}
 use Rattle.app_definitions.specs.declared.definitions.Definitions.{Definitions}
-use Rattle.occurrences.specs.Key.{key_cmp}
+use Rattle.occurrences.specs.Key.{key_eq}
 use Rattle.occurrences.specs.Status.{changed_status}
 use Rattle.occurrences.specs.declared.key.Key.{Key}
 use Rattle.occurrences.specs.declared.place.Place.{Place}
@@ -39,7 +38,7 @@ DailyFate t p q = q ≡ record { row = p.row; place = place_after_daily_plan t p
 
 -- an action on its key: in the current plan it takes the status that the action leads to, where its status allows it
 abbrev pub place_after_action : Key → Action → Row → Place → Place
-place_after_action key action row (Current status) = Current (if is_eq (key_cmp row.key key) then unwrap_or (changed_status status action) status else status)
+place_after_action key action row (Current status) = Current (if key_eq row.key key then unwrap_or (changed_status status action) status else status)
 place_after_action key action row place = place
 
 abbrev pub ActionFate : Key → Action → Fate
@@ -47,7 +46,7 @@ ActionFate key action p q = q ≡ record { row = p.row; place = place_after_acti
 
 -- a deletion of its key from the long-term plan
 abbrev pub place_after_deletion : Key → Row → Place → Place
-place_after_deletion key row LongTerm = if is_eq (key_cmp row.key key) then Deleted Operator else LongTerm
+place_after_deletion key row LongTerm = if key_eq row.key key then Deleted Operator else LongTerm
 place_after_deletion key row place = place
 
 abbrev pub DeletionFate : Key → Fate

@@ -17,7 +17,6 @@ pub mod Modify
 pub mod ModifyAll
 pub mod ModifyOne
 pub mod Moves
-pub mod Named
 pub mod Pairs
 pub mod Plans
 pub mod Replan

@@ -2,9 +2,8 @@
 -- what is named now, and what is newly named is made.
 use Rattle.std.specs.Prelude.{◌≡◌, ℕ, ◌+◌, Bool, false, true, ◌&&◌, List, length, Option, Some, None, option_map, is_none, find, if◌then◌else◌}
 use Rattle.std.specs.Option.{option_and_then}
-use Rattle.std.specs.Ordering.{is_eq}
 use Rattle.app_definitions.specs.declared.definitions.Definitions.{Definitions}
-use Rattle.occurrences.specs.Key.{key_cmp}
+use Rattle.occurrences.specs.Key.{key_eq}
 use Rattle.occurrences.specs.declared.key.Key.{Key}
 use Rattle.occurrences.specs.declared.place.Deletion.{Deletion}
 use Rattle.occurrences.specs.declared.place.Reason.TheVariants.{Withdrawn}
@@ -35,7 +34,7 @@ NamesAhead Looks all (Some b) draft = NamesWithin all b.plan_end (midnight (b.la
 
 -- the draft of that key among these, if there is one
 abbrev pub draft_with : Key → List Draft → Option Draft
-draft_with key named = find (λ draft. is_eq (key_cmp draft.key key)) named
+draft_with key named = find (λ draft. key_eq draft.key key) named
 
 -- the row takes the run cycle and the deadline of the draft
 abbrev pub stamped : Draft → Row → Row

@@ -1,7 +1,6 @@
 -- What statements make of the rows: each seat is changed by itself, and rows are put under new serials.
 use Rattle.std.specs.Prelude.{ℕ, zero, suc, ◌+◌, ◌-◌, Bool, List, length, slice_get, Option, Some, None, option_map, nat_lt, if◌then◌else◌}
-use Rattle.std.specs.Ordering.{is_eq}
-use Rattle.occurrences.specs.Key.{key_cmp}
+use Rattle.occurrences.specs.Key.{key_eq}
 use Rattle.occurrences.specs.declared.key.Key.{Key}
 use Rattle.occurrences.specs.declared.place.Place.{Place}
 use Rattle.occurrences.specs.declared.row.Row.{Row}
@@ -21,7 +20,7 @@ keep passes (Some x) = if passes x then Some x else None
 
 -- the row has the key
 abbrev pub has_key : Key → Row → Bool
-has_key key row = is_eq (key_cmp row.key key)
+has_key key row = key_eq row.key key
 
 -- the four sets, changed serial by serial
 abbrev pub each : (Seat → Seat) → Sets → Sets

@@ -13,7 +13,7 @@ use Rattle.planner_machine.specs.declared.limits.TheConstants.{MOST_PLANNED_ROWS
 use Rattle.planner_machine.specs.Content.{Content, Sets}
 use Rattle.planner_machine.specs.InForce.{PutsLists}
 use Rattle.planner_machine.specs.Moves.{size}
-use Rattle.planner_machine.specs.Named.{IsActive, LacksCalendar, LacksPeriod, cycles_of}
+use Rattle.app_definitions.specs.Active.{IsActive, LacksCalendar, LacksPeriod}
 use Rattle.planner_machine.specs.Pairs.{ArePairs}
 
 -- what a statement answers and makes of the rows, by the definitions
@@ -39,7 +39,7 @@ HasNoCalendar all app = (a : Application) × IsActive all app a × LacksCalendar
 
 -- the application is active, and one of its run cycles names a period that isn't defined
 abbrev pub HasNoPeriod : Definitions → List ℕ → Type 0
-HasNoPeriod all app = (a : Application) × IsActive all app a × LacksPeriod all (cycles_of all app)
+HasNoPeriod all app = (a : Application) × IsActive all app a × LacksPeriod all app
 
 -- the application is defined and active
 abbrev pub IsPlannedApp : Definitions → List ℕ → Type 0

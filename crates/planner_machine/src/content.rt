@@ -1,4 +1,4 @@
-use occurrences::{Key, Origin, Row, Status};
+use occurrences::{Key, Origin};
 use work_calendars::{Day, Moment};
 
 /// How far the plans reach.
@@ -10,15 +10,6 @@ pub struct Bounds {
     pub last_day: Day,
     /// Where the current plan ends and the rows of the long-term plan begin.
     pub plan_end: Moment,
-}
-
-/// An occurrence of the current plan, with its status.
-#[derive(Clone, Copy, Debug, PartialEq, Eq, PartialOrd, Ord, Hash)]
-pub struct CurrentRow {
-    /// The occurrence.
-    pub row: Row,
-    /// How far it is.
-    pub status: Status,
 }
 
 /// An occurrence that is still to be made: a row without its serial.

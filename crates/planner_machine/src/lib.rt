@@ -6,6 +6,6 @@ mod content;
 mod job;
 mod limits;
 
-pub use content::{Bounds, CurrentRow, Draft};
+pub use content::{Bounds, Draft};
 pub use job::{Answer, Job, JobText};
 pub use limits::{GREATEST_JOB, LONGEST_WINDOW, MOST_PLANNED_ROWS};
