@@ -1,6 +1,3 @@
-pub mod Kept
-pub mod Text
-pub mod Reading
 pub mod Progress
 pub mod RowLemmas
 pub mod DaysLemmas

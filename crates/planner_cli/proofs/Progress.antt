@@ -5,21 +5,21 @@ use Rattle.std.specs.Io.KnownBytes.{Appends}
 use Rattle.std.specs.Io.Iter.{u64_saturate}
 use Rattle.std.proofs.lemmas.List.Sums.{sum_by-append}
 use Rattle.std.proofs.KnownBytes.{Appends-nil, Appends-trans, Appends-kept}
-use Rattle.planner_cli.specs.Items.{Item, items_of}
+use Rattle.stream_items.specs.Items.{Item, items_of}
+use Rattle.stream_items.specs.Pages.{ItemRead}
 use Rattle.planner_cli.specs.Replies.{Reply, printed, prints, is_accepted, is_refused}
 use Rattle.planner_cli.specs.Desk.{State, Step}
 use Rattle.planner_cli.specs.Meaning.{Answers, tally_after, tally_of}
 use Rattle.planner_cli.specs.Faults.{cause_of, read_cause, tally_in, fault_line}
 use Rattle.planner_cli.specs.Runs.{EndsBy, IsFrontOf, ItemBreaks, Ran, Replied, Stopped}
 use Rattle.planner_cli.specs.declared.tally.Tally.{Tally}
-use Rattle.planner_cli.specs.declared.lines.ReadFault.{ReadFault}
-use Rattle.planner_cli.specs.declared.lines.ReadFault.TheVariants as Reads
+use Rattle.stream_items.specs.declared.lines.ReadFault.{ReadFault}
+use Rattle.stream_items.specs.declared.lines.ReadFault.TheVariants as Reads
 use Rattle.planner_cli.specs.declared.faults.Part.TheVariants.{Store, Reader, Writer}
 use Rattle.planner_cli.specs.declared.faults.Cause.{Cause}
 use Rattle.planner_cli.specs.declared.faults.Cause.TheVariants.{Memory, Device}
 use Rattle.planner_cli.specs.declared.faults.RunFault.{RunFault}
-use Rattle.planner_cli.proofs.Kept.{take_short}
-use Rattle.planner_cli.proofs.Reading.{ItemRead}
+use Rattle.stream_items.proofs.Kept.{take_short}
 
 -- more items are answered after the first ones
 pub answers_more : (s m t : State) (xs : List Item) (rs : List Reply) (y : Item) (r : Reply) → Answers s xs rs m → Step m y r t → Answers s (xs ++ y ∷ []) (rs ++ r ∷ []) t
@@ -97,37 +97,21 @@ progress_starts s w (Some text) tally e f =
       tally_is = ap (λ n. record { accepted = n; refused = tally.refused }) e ∙ ap (λ n. record { accepted = 0; refused = n }) f ∙ sym nothing_counted;
     }
 
--- a line that no answer goes to
-pub progress_skips : (s0 s : State) (w0 w b c : Option (List ℕ)) (text : List ℕ) (tally : Tally) (found : List Item) → Progress s0 s w0 w b text tally
-    → IfSome b (λ zs. ItemRead zs c found) → found ≡ [] → Progress s0 s w0 w c text tally
-progress_skips s0 s w0 w b c text tally found p read none =
-    let (ys, now, items, shorter) = subst (λ o. IfSome o (λ zs. ItemRead zs c found)) p.now_is read in
-    record {
-      done = p.done;
-      left = ys;
-      replies = p.replies;
-      now_is = now;
-      items = p.items ∙ ap (λ l. p.done ++ l) (items ∙ ap (λ l. l ++ items_of ys) none);
-      answers = p.answers;
-      written = p.written;
-      tally_is = p.tally_is;
-    }
-
 -- one more item is answered
-pub progress_answers : (s0 s s' : State) (w0 w w' b c : Option (List ℕ)) (text : List ℕ) (m n : Tally) (found : List Item) (item : Item) (met : Bool)
-    → Progress s0 s w0 w b text m → IfSome b (λ zs. ItemRead zs c found) → found ≡ item ∷ []
+pub progress_answers : (s0 s s' : State) (w0 w w' b c : Option (List ℕ)) (text : List ℕ) (m n : Tally) (one : Option Item) (item : Item) (met : Bool)
+    → Progress s0 s w0 w b text m → IfSome b (λ zs. ItemRead zs one c) → one ≡ Some item
     → ((out : List ℕ) × Replied s s' item out met × Appends w w' out)
     → n.accepted ≡ u64_saturate (m.accepted + (if met then 1 else 0)) → n.refused ≡ u64_saturate (m.refused + (if met then 0 else 1))
     → Progress s0 s' w0 w' c text n
-progress_answers s0 s s' w0 w w' b c text m n found item met p read one answered more_accepted more_refused =
-    let (ys, now, items, shorter) = subst (λ o. IfSome o (λ zs. ItemRead zs c found)) p.now_is read in
+progress_answers s0 s s' w0 w w' b c text m n one item met p read met_it answered more_accepted more_refused =
+    let (ys, now, items) = subst (λ o. ItemRead p.left o c) met_it (subst (λ o. IfSome o (λ zs. ItemRead zs one c)) p.now_is read) in
     let (out, r, wrote) = answered in
     record {
       done = p.done ++ item ∷ [];
       left = ys;
       replies = p.replies ++ r.reply ∷ [];
       now_is = now;
-      items = p.items ∙ ap (λ l. p.done ++ l) (items ∙ ap (λ l. l ++ items_of ys) one) ∙ sym (append_assoc p.done (item ∷ []) (items_of ys));
+      items = p.items ∙ ap (λ l. p.done ++ l) items ∙ sym (append_assoc p.done (item ∷ []) (items_of ys));
       answers = answers_more s0 s s' p.done p.replies item r.reply p.answers r.step;
       written = subst (Appends w0 w') (sym (prints-append _ _ ∙ ap (λ l. prints p.replies ++ l) (prints-one _ ∙ sym r.prints.text_is)))
           (Appends-trans w0 w w' _ _ p.written wrote);
@@ -135,11 +119,11 @@ progress_answers s0 s s' w0 w w' b c text m n found item met p read one answered
     }
 
 -- the stream has ended
-pub all_done : (s0 s : State) (w0 w b : Option (List ℕ)) (text : List ℕ) (tally : Tally) → Progress s0 s w0 w b text tally → IfSome b (λ zs. zs ≡ []) → items_of [] ≡ []
+pub all_done : (s0 s : State) (w0 w b c : Option (List ℕ)) (text : List ℕ) (tally : Tally) (one : Option Item) → Progress s0 s w0 w b text tally → IfSome b (λ zs. ItemRead zs one c) → one ≡ None
     → Ran s0 s w0 w text tally
-all_done s0 s w0 w b text tally p end none =
-    let last = subst (λ o. IfSome o (λ zs. zs ≡ [])) p.now_is end in
-    let all : p.done ≡ items_of text = sym (append-nil p.done) ∙ ap (λ l. p.done ++ l) (sym (ap items_of last ∙ none)) ∙ sym p.items in
+all_done s0 s w0 w b c text tally one p read none =
+    let last = subst (λ o. ItemRead p.left o c) none (subst (λ o. IfSome o (λ zs. ItemRead zs one c)) p.now_is read) in
+    let all : p.done ≡ items_of text = sym (append-nil p.done) ∙ ap (λ l. p.done ++ l) (sym last.0) ∙ sym p.items in
     record {
       replies = p.replies;
       answers = subst (λ items. Answers s0 items p.replies s) all p.answers;
@@ -173,27 +157,27 @@ halts_between s0 s w0 w b text tally f fault p e told =
     }
 
 -- a fault in the answer to an item
-pub halts_within : (s0 s s' : State) (w0 w w' b c : Option (List ℕ)) (text : List ℕ) (tally : Tally) (found : List Item) (item : Item) (cause : Cause) (fault : RunFault)
-    → Progress s0 s w0 w b text tally → IfSome b (λ zs. ItemRead zs c found) → found ≡ item ∷ [] → cause_of fault ≡ cause → tally_in fault ≡ tally
+pub halts_within : (s0 s s' : State) (w0 w w' b c : Option (List ℕ)) (text : List ℕ) (tally : Tally) (one : Option Item) (item : Item) (cause : Cause) (fault : RunFault)
+    → Progress s0 s w0 w b text tally → IfSome b (λ zs. ItemRead zs one c) → one ≡ Some item → cause_of fault ≡ cause → tally_in fault ≡ tally
     → ItemBreaks cause s s' w w' item → Stopped (λ _. []) s0 s' w0 w' text fault
-halts_within s0 s s' w0 w w' b c text tally found item Memory fault p read one e told breaks =
-    let (ys, now, items, shorter) = subst (λ o. IfSome o (λ zs. ItemRead zs c found)) p.now_is read in
+halts_within s0 s s' w0 w w' b c text tally one item Memory fault p read met_it e told breaks =
+    let (ys, now, items) = subst (λ o. ItemRead p.left o c) met_it (subst (λ o. IfSome o (λ zs. ItemRead zs one c)) p.now_is read) in
     record {
       done = p.done;
       rest = item ∷ items_of ys;
       replies = p.replies;
       between = s;
       tail = [];
-      items = p.items ∙ ap (λ l. p.done ++ l) (items ∙ ap (λ l. l ++ items_of ys) one);
+      items = p.items ∙ ap (λ l. p.done ++ l) items;
       answers = p.answers;
       written = subst (Appends w0 w') (sym (append-nil _)) (Appends-kept w0 w w' _ p.written breaks.1);
       ending = subst (λ c'. EndsBy c' [] s s' (item ∷ items_of ys) []) (sym e) (breaks.0, nothing_front []);
       tally_is = told ∙ p.tally_is;
     }
-halts_within s0 s s' w0 w w' b c text tally found item (Device Store) fault p read one e told breaks = absurd breaks
-halts_within s0 s s' w0 w w' b c text tally found item (Device Reader) fault p read one e told breaks = absurd breaks
-halts_within s0 s s' w0 w w' b c text tally found item (Device Writer) fault p read one e told breaks =
-    let (ys, now, items, shorter) = subst (λ o. IfSome o (λ zs. ItemRead zs c found)) p.now_is read in
+halts_within s0 s s' w0 w w' b c text tally one item (Device Store) fault p read met_it e told breaks = absurd breaks
+halts_within s0 s s' w0 w w' b c text tally one item (Device Reader) fault p read met_it e told breaks = absurd breaks
+halts_within s0 s s' w0 w w' b c text tally one item (Device Writer) fault p read met_it e told breaks =
+    let (ys, now, items) = subst (λ o. ItemRead p.left o c) met_it (subst (λ o. IfSome o (λ zs. ItemRead zs one c)) p.now_is read) in
     let (tail, cut, appended) = breaks in
     record {
       done = p.done;
@@ -201,7 +185,7 @@ halts_within s0 s s' w0 w w' b c text tally found item (Device Writer) fault p r
       replies = p.replies;
       between = s;
       tail = tail;
-      items = p.items ∙ ap (λ l. p.done ++ l) (items ∙ ap (λ l. l ++ items_of ys) one);
+      items = p.items ∙ ap (λ l. p.done ++ l) items;
       answers = p.answers;
       written = Appends-trans w0 w w' _ _ p.written appended;
       ending = subst (λ c'. EndsBy c' [] s s' (item ∷ items_of ys) tail) (sym e) (item, items_of ys, refl, cut);

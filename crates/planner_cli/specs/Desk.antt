@@ -11,7 +11,7 @@ use Rattle.statements.specs.Statement.{Reads}
 use Rattle.statements.specs.declared.statements.Statement.{Statement}
 use Rattle.statements.specs.declared.statements.Statement.TheVariants as statement
 use Rattle.planner_cli.specs.Days.{AnswersDays}
-use Rattle.planner_cli.specs.Items.{Item, NoStatement, Line, Define, Block, Whole, TooLong, Unended}
+use Rattle.stream_items.specs.Items.{Item, NoStatement, Alone, WithBlock, Block, Whole, TooLong, Unended}
 use Rattle.planner_cli.specs.Kinds.{definitions_kind}
 use Rattle.planner_cli.specs.Outcomes.{accepting, refusing}
 use Rattle.planner_cli.specs.Replies.{Reply}
@@ -64,5 +64,5 @@ AnswersData s None block reply t = IsRefused s NotAStatement reply t
 -- one step of the planner: where s is known, the item gets this reply, and t is known after it
 abbrev pub Step : State → Item → Reply → State → Type 0
 Step s NoStatement reply t = IsRefused s NotAStatement reply t
-Step s (Line line) reply t = (read : Option Statement) × Reads line read × AnswersLine s read reply t
-Step s (Define line block) reply t = (read : Option Statement) × Reads line read × AnswersData s (kind_defined read) block reply t
+Step s (Alone line) reply t = (read : Option Statement) × Reads line read × AnswersLine s read reply t
+Step s (WithBlock line block) reply t = (read : Option Statement) × Reads line read × AnswersData s (kind_defined read) block reply t

@@ -1,7 +1,3 @@
-pub mod Lines
-pub mod Items
-pub mod Found
-pub mod Entries
 pub mod Replies
 pub mod Outcomes
 pub mod Kinds

@@ -1,7 +1,7 @@
 -- The meaning of a text: what is answered to its items, in order, and what is known after them.
 use Rattle.std.specs.Prelude.{◌≡◌, List, [], ◌∷◌, ◌+◌, count_by}
 use Rattle.std.specs.Io.Iter.{u64_saturate}
-use Rattle.planner_cli.specs.Items.{Item}
+use Rattle.stream_items.specs.Items.{Item}
 use Rattle.planner_cli.specs.Replies.{Reply, is_accepted, is_refused}
 use Rattle.planner_cli.specs.Desk.{State, Step}
 use Rattle.planner_cli.specs.declared.tally.Tally.{Tally}

@@ -1,7 +1,7 @@
 -- What a run leaves: all answers, or those before a fault.
 use Rattle.std.specs.Prelude.{◌≡◌, ℕ, ◌≤◌, Bool, List, ◌∷◌, ◌++◌, Option, length, take}
 use Rattle.std.specs.Io.KnownBytes.{Appends, Keeps}
-use Rattle.planner_cli.specs.Items.{Item, items_of}
+use Rattle.stream_items.specs.Items.{Item, items_of}
 use Rattle.planner_cli.specs.Replies.{Reply, Prints, printed, prints}
 use Rattle.planner_cli.specs.Desk.{State, Step}
 use Rattle.planner_cli.specs.Meaning.{Answers, tally_of}

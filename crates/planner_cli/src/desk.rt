@@ -1,17 +1,15 @@
 //! What is known between two statements, and what one statement answers and changes.
-ghost use Rattle.std.specs.Prelude.{◌≡◌, ◌≤◌, ℕ, List, length, Option, Some, flat_map, IfOk, OnErr};
+ghost use Rattle.std.specs.Prelude.{◌≡◌, ℕ, List, Option, Some, flat_map, IfOk, OnErr};
 ghost use Rattle.plan_listings.specs.Reply.{reply_text};
 ghost use Rattle.statements.specs.Statement.{Reads};
+ghost use Rattle.stream_items.specs.Pages.{block_shown, item_of, Fits, FitsBlock};
 ghost use Rattle.statements.specs.declared.statements.Statement.{Statement as StatementValue};
 ghost use Rattle.planner_cli.specs.Days.{AnswersDays};
 ghost use Rattle.planner_cli.specs.Desk.{kind_defined};
-ghost use Rattle.planner_cli.specs.Entries.{item_entered, FitsBlock};
-ghost use Rattle.planner_cli.specs.Items.{longest_block, Whole};
 ghost use Rattle.planner_cli.specs.Outcomes.{refusing};
 ghost use Rattle.planner_cli.specs.Replies.{ended, Prints, Reply as ReplyValue};
 
 use crate::days::named_days;
-use crate::entries::Entry;
 use crate::kinds::definitions_kind;
 use crate::rows::{append_line, days_rows};
 use app_definitions::{BlockFault, Definitions, Kind, read_block};
@@ -19,6 +17,7 @@ use occurrences::{Refusal, Reply};
 use plan_listings::{refusal_line, reply_line};
 use statements::{Statement, read_statement};
 use std::alloc::{AllocError, Global};
+use stream_items::{Block, Item};
 use work_calendars::{App, Day, Name};
 
 /// What is known between two statements: what is defined.
@@ -87,23 +86,19 @@ impl Desk {
 
     /// Answers an item. The answer is made before anything is changed; where memory for it is
     /// refused, nothing is.
-    pub(crate) fn answer(&mut self, alloc: Global, item: Entry<'_>) -> Result<Answer, AllocError>
+    pub(crate) fn answer(&mut self, alloc: Global, item: Item<'_>) -> Result<Answer, AllocError>
         requires { FitsBlock item }
-        ensures answered { IfOk result (λ answer. Replied self.old self.new (item_entered item.entry) answer.text.items answer.is_accepted) }
+        ensures answered { IfOk result (λ answer. Replied self.old self.new (item_of item.entry) answer.text.items answer.is_accepted) }
         ensures err { OnErr result (self.new ≡ self.old) }
     {
         match item {
-            Entry::Unreadable => refused(alloc, Refusal::NotAStatement),
-            Entry::Alone(line) => match read_statement(alloc, line)? {
+            Item::NoStatement => refused(alloc, Refusal::NotAStatement),
+            Item::Alone(line) => match read_statement(alloc, line)? {
                 Some(statement) => self.answer_statement(alloc, &statement),
                 None => refused(alloc, Refusal::NotAStatement),
             },
-            Entry::WithBlock(line, block) => match kind_defined(alloc, line)? {
+            Item::WithBlock(line, block) => match kind_defined(alloc, line)? {
                 Some(kind) => self.define(alloc, kind, block),
-                None => refused(alloc, Refusal::NotAStatement),
-            },
-            Entry::Overlong(line) | Entry::Unended(line) => match kind_defined(alloc, line)? {
-                Some(_) => refused(alloc, Refusal::FaultyData { record: 0 }),
                 None => refused(alloc, Refusal::NotAStatement),
             },
         }
@@ -128,12 +123,15 @@ impl Desk {
     }
 
     /// Takes in what a block of that kind defines.
-    fn define(&mut self, alloc: Global, kind: Kind, block: &[u8]) -> Result<Answer, AllocError>
-        requires { length block.now ≤ longest_block }
-        ensures answered { IfOk result (λ answer. (reply : ReplyValue) × TakesBlock self.old kind (Whole block.now) reply self.new × Prints reply answer.text.items answer.is_accepted) }
+    fn define(&mut self, alloc: Global, kind: Kind, block: Block<'_>) -> Result<Answer, AllocError>
+        requires { Fits block }
+        ensures answered { IfOk result (λ answer. (reply : ReplyValue) × TakesBlock self.old kind (block_shown block.entry) reply self.new × Prints reply answer.text.items answer.is_accepted) }
         ensures err { OnErr result (self.new ≡ self.old) }
     {
-        match read_block(alloc, kind, block) {
+        let Block::Whole(bytes) = block else {
+            return refused(alloc, Refusal::FaultyData { record: 0 });
+        };
+        match read_block(alloc, kind, bytes) {
             Ok(definitions) => {
                 let names = definitions.len();
                 let answer = accepted(alloc, Vec::new(alloc), Reply::Defined { names })?;

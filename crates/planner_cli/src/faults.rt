@@ -2,9 +2,9 @@
 ghost use Rattle.std.specs.Prelude.{◌≡◌};
 ghost use Rattle.planner_cli.specs.Faults.{cause_of, read_cause, tally_in, fault_number};
 
-use crate::lines::ReadFault;
 use crate::tally::Tally;
 use std::fmt;
+use stream_items::ReadFault;
 use thiserror::Error;
 
 /// What a device fault blames.

@@ -3,15 +3,11 @@
 
 mod days;
 mod desk;
-mod entries;
 mod faults;
-mod items;
 mod kinds;
-mod lines;
 mod rows;
 mod stream;
 mod tally;
-mod words;
 mod writing;
 
 pub use desk::Desk;

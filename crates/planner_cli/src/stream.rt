@@ -1,18 +1,17 @@
 //! A run over a whole stream.
 ghost use Rattle.std.specs.Prelude.{◌≡◌, ◌≤◌, ℕ, List, [], length, take, IfOk, IfErr, IfSome};
 ghost use Rattle.std.specs.Io.KnownBytes.{Appends};
-ghost use Rattle.planner_cli.specs.Entries.{item_entered, FitsBlock};
+ghost use Rattle.stream_items.specs.Pages.{item_of, FitsBlock};
 ghost use Rattle.planner_cli.specs.Faults.{fault_line, status_of};
 ghost use Rattle.planner_cli.specs.Runs.{ItemBreaks, Ran, Replied, Stopped};
 
 use crate::desk::Desk;
-use crate::entries::{Entry, entry_of};
 use crate::faults::{Cause, Part, RunFault, cause_of_read};
-use crate::items::{Found, Page};
 use crate::tally::Tally;
 use crate::writing::write_out;
 use std::alloc::Global;
 use std::io::{BufRead, Write};
+use stream_items::{Item, Page};
 
 /// Answers the items of a stream in order, each by the bytes that its answer prints, and ends with
 /// the stream or at the first fault. A fault of memory, of the store or of the reader is told by a
@@ -56,18 +55,15 @@ fn answer_all<R: BufRead, W: Write>(
     let mut page = Page::new(alloc);
     let mut tally = Tally::new();
     for _ in 0..u64::MAX {
-        let found = match page.read_item(reader) {
-            Ok(found) => found,
-            Err(fault) => return Err(RunFault::new(cause_of_read(fault), tally)),
-        };
-        if found == Found::AtEnd {
-            return Ok(tally);
+        if let Err(fault) = page.read_item(reader) {
+            return Err(RunFault::new(cause_of_read(fault), tally));
         }
-        if let Some(entry) = entry_of(&page, found) {
-            match answer_one(alloc, desk, entry, writer) {
-                Ok(is_accepted) => tally.count(is_accepted),
-                Err(cause) => return Err(RunFault::new(cause, tally)),
-            }
+        let Some(item) = page.item() else {
+            return Ok(tally);
+        };
+        match answer_one(alloc, desk, item, writer) {
+            Ok(is_accepted) => tally.count(is_accepted),
+            Err(cause) => return Err(RunFault::new(cause, tally)),
         }
     }
     Err(RunFault::new(Cause::Device(Part::Reader), tally))
@@ -77,15 +73,15 @@ fn answer_all<R: BufRead, W: Write>(
 fn answer_one<W: Write>(
     alloc: Global,
     desk: &mut Desk,
-    item: Entry<'_>,
+    item: Item<'_>,
     writer: &mut W,
 ) -> Result<bool, Cause>
     requires { FitsBlock item }
     ensures ok { IfOk result (λ accepted. (text : List ℕ)
-        × Replied desk.old desk.new (item_entered item.entry) text accepted
+        × Replied desk.old desk.new (item_of item.entry) text accepted
         × Appends (W.contents writer.old) (W.contents writer.new) text) }
     ensures err { IfErr result (λ cause. ItemBreaks cause desk.old desk.new
-        (W.contents writer.old) (W.contents writer.new) (item_entered item.entry)) }
+        (W.contents writer.old) (W.contents writer.new) (item_of item.entry)) }
 {
     let answer = match desk.answer(alloc, item) {
         Ok(answer) => answer,

@@ -1,4 +1,4 @@
-use Rattle.planner_cli.proofs.Kept.{if_some_weaken}
+use Rattle.stream_items.proofs.Kept.{if_some_weaken}
 use Rattle.planner_cli.proofs.Progress.{told}
 use Rattle.planner_cli.proofs.stream.run.Goals as goal
 

@@ -1,0 +1,5 @@
+pub mod Buffers
+pub mod Lines
+pub mod Items
+pub mod Blocks
+pub mod Pages

@@ -1,0 +1,26 @@
+//! The items of a job stream: a line that is no statement, a statement's line, or such a line with its data block.
+//! They are read one at a time from a [`std::io::BufRead`], however it cuts its bytes.
+//!
+//! ```text
+//! let mut page = Page::new(alloc);
+//! page.read_item(&mut reader)?;
+//! match page.item() {
+//!     Some(Item::Alone(line)) => ..
+//! ```
+#![tactic(auto)]
+
+mod blocks;
+mod items;
+mod line_kinds;
+mod lines;
+mod pages;
+mod reading;
+
+pub use blocks::LONGEST_BLOCK;
+pub use items::{Block, Item};
+pub use line_kinds::LONGEST_LINE;
+pub use lines::ReadFault;
+pub use pages::Page;
+
+#[cfg(test)]
+mod tests;
