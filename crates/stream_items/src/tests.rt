@@ -1,6 +1,7 @@
 //! Texts and the items that they read as.
 use crate::{Block, Item, Page};
 use std::alloc::{AllocError, Global};
+use std::process::Abort;
 use std::test::Fail;
 
 /// `front`, then a byte so many times, and then `back`.
@@ -12,7 +13,7 @@ fn filled(
     back: &[u8],
 ) -> Result<Vec<u8>, AllocError> {
     let mut text = Vec::from_slice(alloc, front)?;
-    text.resize(front.len() + count, byte)?;
+    text.resize(front.len().saturating_add(count), byte)?;
     text.extend_from_slice(back)?;
     Ok(text)
 }
@@ -51,8 +52,14 @@ fn items(alloc: Global, text: &[u8]) -> Result<(String, Vec<u8>), Fail> {
 }
 
 /// The letters of a text's items are these, and its last whole block has these bytes.
-fn reads_as(rt: &HostRuntime, text: &[u8], letters: &str, block: &[u8]) -> Result<(), Fail> {
-    let (got, bytes) = items(rt.alloc(), text)?;
+fn reads_as(
+    rt: &impl Abort,
+    alloc: Global,
+    text: &[u8],
+    letters: &str,
+    block: &[u8],
+) -> Result<(), Fail> {
+    let (got, bytes) = items(alloc, text)?;
     assert_eq!(rt; got.as_str(), letters, "{text:?}");
     assert_eq!(rt; bytes.as_slice(), block, "{text:?}");
     Ok(())
@@ -77,7 +84,7 @@ fn short_lines(rt: HostRuntime) -> Result<(), Fail> {
         (b"a\r\r\n", "-"),
     ];
     for (text, letters) in table {
-        reads_as(&rt, text, letters, b"")?;
+        reads_as(&rt, rt.alloc(), text, letters, b"")?;
     }
     Ok(())
 }
@@ -97,7 +104,7 @@ fn long_lines(rt: HostRuntime) -> Result<(), Fail> {
     ];
     for (front, byte, count, back, letters) in table {
         let text = filled(rt.alloc(), front, byte, count, back)?;
-        reads_as(&rt, &text, letters, b"")?;
+        reads_as(&rt, rt.alloc(), &text, letters, b"")?;
     }
     Ok(())
 }
@@ -125,7 +132,7 @@ fn lines_with_data(rt: HostRuntime) -> Result<(), Fail> {
     ];
     for (blanks, back, letters, block) in table {
         let text = filled(rt.alloc(), b"", b' ', blanks, back)?;
-        reads_as(&rt, &text, letters, block)?;
+        reads_as(&rt, rt.alloc(), &text, letters, block)?;
     }
     Ok(())
 }
