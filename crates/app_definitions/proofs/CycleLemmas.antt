@@ -1,16 +1,17 @@
 -- What the records of run cycles spell.
-use Rattle.std.proofs.Common.{◌≡◌, ◌≢◌, ◌∙◌, sym, refl, ap, subst, ℕ, zero, suc, ◌+◌, ◌<◌, ◌≤◌, ℤ, pos, List, [], ◌∷◌, ◌++◌, length, get_or, take, map, Bool, true, false, Option, Some, None, Bor, arith}
-use Rattle.std.specs.Prelude.{All, Any, Contains, IsSome, IfSome, IsTrue, ◌↔◌, ◌==◌, neg_ℤ, if◌then◌else◌}
-use Rattle.std.proofs.lemmas.Bool.{false≢true}
-use Rattle.std.proofs.lemmas.List.{get_or-map, get_or_default, length-map, map_more, take_all, take_more}
-use Rattle.std.proofs.lemmas.List.Elements.{All-map, All-push}
-use Rattle.std.proofs.lemmas.List.Quantifiers.{all_pairs_push}
+use Rattle.std.proofs.Common.{◌≡◌, ◌∙◌, sym, refl, ap, subst, inl, inr, ℕ, zero, suc, ◌+◌, ◌<◌, ◌≤◌, ℤ, pos, List, [], ◌∷◌, ◌++◌, length, get_or, take, map, Bool, true, false, Option, Some, None, Bor, arith, length-append}
+use Rattle.std.specs.Prelude.{All, Any, Contains, IsSome, IfSome, ◌↔◌, ◌==◌, neg_ℤ, if◌then◌else◌}
+use Rattle.std.proofs.lemmas.List.{get_or-map, get_or_append_left, length-map, map_more, take_all, take_more}
+use Rattle.std.proofs.lemmas.List.Elements.{All-contains, All-map, All-push, Contains-get_or, Contains-push_cases}
+use Rattle.std.proofs.lemmas.List.Quantifiers.{Any-push}
 use Rattle.std.proofs.lemmas.List.Splits.{length-slice_split}
 use Rattle.run_cycles.specs.declared.cycles.RunCycle.{RunCycle}
 use Rattle.run_cycles.specs.declared.offsets.TheConstants.{MAX_OFFSET}
-use Rattle.run_cycles.specs.Occurrence.{HaveOwnNames}
 use Rattle.run_cycles.specs.Offset.{IsOffset, IsOffsets}
+use Rattle.std.specs.List.{HoldsAt, insert}
 use Rattle.app_definitions.specs.Fields.{field, number_value}
+use Rattle.app_definitions.specs.Rising.{IsPlaceFor}
+use Rattle.app_definitions.proofs.RisingLemmas.{none_named, only, rising-insert, Contains-insert_cases, Contains-insert_new, Contains-insert_old, Contains-map, Contains-map_back}
 use Rattle.app_definitions.specs.CycleRecords.{has_minus, offset_digits, offset_value, pieces_of, IsOffsetText, SpellsOffsets, SpellsRunCycle, cycle_names_of, FitsRunCycle, AreRunCyclesOf}
 
 -- an offset that is spelled is in range
@@ -68,61 +69,61 @@ pub some-spelled : (o : Option (List ℤ)) (items : List ℤ) (P : List ℤ → 
 some-spelled None items P told is f = tt
 some-spelled (Some ks) items P told is f = subst P (sym is) (f (told.0 refl))
 
--- the names of run cycles are those in their records
-names-same : (cycles : List RunCycle) (rows : List (List (List ℕ))) → AreRunCyclesOf cycles rows → map (λ cycle. cycle.name) cycles ≡ cycle_names_of rows
-names-same [] [] h = refl
-names-same [] (row ∷ rows) h = absurd h
-names-same (cycle ∷ cycles) [] h = absurd h
-names-same (cycle ∷ cycles) (row ∷ rows) h =
-    ap (λ n. n ∷ map (λ c. c.name) cycles) h.0.name ∙ ap (λ l. field row 1 ∷ l) (names-same cycles rows h.1)
+-- ---- the run cycles of an application, with one record more
 
--- a record more
-pub run_cycles-more : (cycles : List RunCycle) (rows : List (List (List ℕ))) (cycle : RunCycle) (row : List (List ℕ))
-    → AreRunCyclesOf cycles rows → SpellsRunCycle row cycle → AreRunCyclesOf (cycles ++ cycle ∷ []) (rows ++ row ∷ [])
-run_cycles-more [] [] cycle row h s = (s, tt)
-run_cycles-more [] (r ∷ rows) cycle row h s = absurd h
-run_cycles-more (c ∷ cycles) [] cycle row h s = absurd h
-run_cycles-more (c ∷ cycles) (r ∷ rows) cycle row h s = (h.0, run_cycles-more cycles rows cycle row h.1 s)
+any_more : {X : Type 0} (P : X → Type 0) (xs ys : List X) → Any P xs → Any P (xs ++ ys)
+any_more P xs ys (k, x, lt, is, holds) = (k, x, omega (arith, lt, length-append xs ys), get_or_append_left xs ys x k lt ∙ is, holds)
 
-element_at : {X : Type 0} (xs : List X) (k : ℕ) → k < length xs → (x : X) × (get_or xs k x ≡ x)
-element_at [] k h = absurd (omega (arith, h))
-element_at (x ∷ xs) zero h = (x, refl)
-element_at (x ∷ xs) (suc k) h = element_at xs k (omega (arith, h))
+any_of : {X : Type 0} (P : X → Type 0) (xs : List X) (x : X) → Contains xs x → P x → Any P xs
+any_of P xs x (k, lt, is) holds = (k, x, lt, is, holds)
 
--- a run cycle has the name exactly where the names have it
-named-contains : (cycles : List RunCycle) (name : List ℕ) → Any (λ cycle. cycle.name ≡ name) cycles → Contains (map (λ cycle. cycle.name) cycles) name
-named-contains cycles name any =
-    let mapped : length (map (λ cycle. cycle.name) cycles) ≡ length cycles = length-map cycles (λ cycle. cycle.name) in
-    (any.0, omega (arith, mapped, any.2), get_or-map (λ cycle. cycle.name) cycles any.0 any.1 name any.2 ∙ ap (λ cycle. cycle.name) any.3 ∙ any.4)
+all_of : {X : Type 0} (P : X → Type 0) (xs : List X) → ((x : X) → Contains xs x → P x) → All P xs
+all_of P xs f k d lt = f (get_or xs k d) (Contains-get_or xs k d lt)
 
-contains-named : (cycles : List RunCycle) (name : List ℕ) → Contains (map (λ cycle. cycle.name) cycles) name → Any (λ cycle. cycle.name ≡ name) cycles
-contains-named cycles name has =
-    let mapped : length (map (λ cycle. cycle.name) cycles) ≡ length cycles = length-map cycles (λ cycle. cycle.name) in
-    let within : has.0 < length cycles = omega (arith, mapped, has.1) in
-    let at = element_at cycles has.0 within in
-    (has.0, at.0, within, at.1, sym (get_or-map (λ cycle. cycle.name) cycles has.0 at.0 name within ∙ ap (λ cycle. cycle.name) at.1) ∙ has.2)
+-- the first record
+pub run_cycles-one : (row : List (List ℕ)) (cycle : RunCycle) → SpellsRunCycle row cycle → AreRunCyclesOf (cycle ∷ []) (row ∷ [])
+run_cycles-one row cycle s =
+    record {
+      rising = λ i j d lt within. absurd (omega (arith, lt, within));
+      each = all_of (λ c. Any (λ r. SpellsRunCycle r c) (row ∷ [])) (cycle ∷ []) (λ c has. (0, row, omega arith, refl, subst (SpellsRunCycle row) (only cycle c has) s));
+      all = all_of (λ r. Any (SpellsRunCycle r) (cycle ∷ [])) (row ∷ []) (λ r has. (0, cycle, omega arith, refl, subst (λ x. SpellsRunCycle x cycle) (only row r has) s));
+    }
 
--- no run cycle of the name is there
-pub own_names-more : (cycles : List RunCycle) (cycle : RunCycle) (b : Bool) → b ≡ false → (IsTrue b ↔ Any (λ c. c.name ≡ cycle.name) cycles)
-    → HaveOwnNames cycles → HaveOwnNames (cycles ++ cycle ∷ [])
-own_names-more cycles cycle b none told own =
-    all_pairs_push (λ a b. a.name ≢ b.name) cycles cycle own
-    (λ k d h e. false≢true (sym none ∙ told.1 (k, get_or cycles k d, h, get_or_default cycles k (get_or cycles k d) d h, e)))
+-- a further record at its place
+pub run_cycles-more : (cycles : List RunCycle) (rows : List (List (List ℕ))) (cycle : RunCycle) (row : List (List ℕ)) (place : ℕ)
+    → IsPlaceFor (λ c. c.name) cycles cycle.name place → AreRunCyclesOf cycles rows → SpellsRunCycle row cycle → AreRunCyclesOf (insert cycles place cycle) (rows ++ row ∷ [])
+run_cycles-more cycles rows cycle row place free are s =
+    record {
+      rising = rising-insert (λ c. c.name) cycles cycle place free are.rising;
+      each = all_of (λ c. Any (λ r. SpellsRunCycle r c) (rows ++ row ∷ [])) (insert cycles place cycle) (λ c has. elim (Contains-insert_cases cycles place cycle c has) [
+        | inl old ↦ any_more (λ r. SpellsRunCycle r c) rows (row ∷ []) (All-contains (λ x. Any (λ r. SpellsRunCycle r x) rows) cycles c are.each old)
+        | inr new ↦ Any-push (λ r. SpellsRunCycle r c) rows row (subst (SpellsRunCycle row) (sym new) s)
+      ]);
+      all = all_of (λ r. Any (SpellsRunCycle r) (insert cycles place cycle)) (rows ++ row ∷ []) (λ r has. elim (Contains-push_cases rows row r has) [
+        | inl old ↦ let (k, x, lt, is, spelled) = All-contains (λ y. Any (SpellsRunCycle y) cycles) rows r are.all old in any_of (SpellsRunCycle r) (insert cycles place cycle) x (Contains-insert_old cycles place cycle x (k, lt, is)) spelled
+        | inr new ↦ any_of (SpellsRunCycle r) (insert cycles place cycle) cycle (Contains-insert_new cycles place cycle) (subst (λ x. SpellsRunCycle x cycle) new s)
+      ]);
+    }
 
-pub new-fits : (cycles : List RunCycle) (before : List (List (List ℕ))) (cycle : RunCycle) (row : List (List ℕ)) (b : Bool) → b ≡ false → (IsTrue b ↔ Any (λ c. c.name ≡ cycle.name) cycles)
-    → AreRunCyclesOf cycles before → SpellsRunCycle row cycle → FitsRunCycle before row
-new-fits cycles before cycle row b none told are s =
-    let P : List (List ℕ) → Type 0 = λ l. Contains l cycle.name in
-    let Q : List ℕ → Type 0 = λ n. Contains (cycle_names_of before) n in
-    ((cycle, s), λ has. false≢true (sym none ∙ told.1 (contains-named cycles cycle.name (subst P (sym (names-same cycles before are)) (subst Q (sym s.name) has)))))
+-- a record with a new name is good
+pub new-fits : (cycles : List RunCycle) (before : List (List (List ℕ))) (cycle : RunCycle) (row : List (List ℕ)) (place : ℕ)
+    → IsPlaceFor (λ c. c.name) cycles cycle.name place → AreRunCyclesOf cycles before → SpellsRunCycle row cycle → FitsRunCycle before row
+new-fits cycles before cycle row place free are s = ((cycle, s), λ has. none_named (λ c. c.name) cycles cycle.name place free (named has))
+  where
+    named : Contains (cycle_names_of before) (field row 1) → Any (λ c. c.name ≡ cycle.name) cycles
+    named has =
+        let (r, there, same) = Contains-map_back (λ r. field r 1) before (field row 1) has in
+        let (k, c, lt, is, spelled) = All-contains (λ y. Any (SpellsRunCycle y) cycles) before r are.all there in
+        (k, c, lt, is, spelled.name ∙ same ∙ sym s.name)
 
--- one is there
-pub old-no_fit : (cycles : List RunCycle) (before : List (List (List ℕ))) (cycle : RunCycle) (row : List (List ℕ)) (b : Bool) → b ≡ true → (IsTrue b ↔ Any (λ c. c.name ≡ cycle.name) cycles)
+-- one with a name that is there is not
+pub old-no_fit : (cycles : List RunCycle) (before : List (List (List ℕ))) (cycle : RunCycle) (row : List (List ℕ)) (k : ℕ) → k < length cycles → HoldsAt (λ c. c.name ≡ cycle.name) cycles k
     → AreRunCyclesOf cycles before → SpellsRunCycle row cycle → FitsRunCycle before row → ⊥
-old-no_fit cycles before cycle row b is told are s fits =
-    let P : List (List ℕ) → Type 0 = λ l. Contains l cycle.name in
-    let Q : List ℕ → Type 0 = λ n. Contains (cycle_names_of before) n in
-    fits.1 (subst Q s.name (subst P (names-same cycles before are) (named-contains cycles cycle.name (told.0 is))))
+old-no_fit cycles before cycle row k lt named are s fits =
+    let other = get_or cycles k cycle in
+    let (j, r, below, is, spelled) = are.each k cycle lt in
+    let same : field r 1 ≡ field row 1 = sym spelled.name ∙ named cycle ∙ s.name in
+    fits.1 (subst (Contains (cycle_names_of before)) same (Contains-map (λ r. field r 1) before r (j, below, is)))
 
 pub no_bytes : (bytes : List ℕ) → length bytes ≡ 0 → bytes ≡ []
 no_bytes [] h = refl

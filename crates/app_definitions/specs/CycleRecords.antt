@@ -1,6 +1,6 @@
 -- The records of run cycles: application, name, type, period, rule, offsets, in effect, out of effect, input arrival,
 -- deadline day, deadline time.
-use Rattle.std.specs.Prelude.{◌≡◌, ◌≤◌, ◌==◌, ℕ, ℤ, pos, neg_ℤ, Bool, false, List, [], ◌∷◌, drop, length, map, All, Contains, Some, None, codes, if◌then◌else◌}
+use Rattle.std.specs.Prelude.{◌≡◌, ◌≤◌, ◌==◌, ℕ, ℤ, pos, neg_ℤ, Bool, false, List, [], ◌∷◌, drop, length, map, All, Any, Contains, Some, None, codes, if◌then◌else◌}
 use Rattle.std.specs.List.{slice_split}
 use Rattle.run_cycles.specs.declared.cycles.Deadline.{Deadline}
 use Rattle.run_cycles.specs.declared.cycles.Kind.{Kind}
@@ -13,6 +13,7 @@ use Rattle.run_cycles.specs.declared.rules.Rule.TheVariants.{WorkDaysOnly, Befor
 use Rattle.work_calendars.specs.Name.{IsShort}
 use Rattle.work_calendars.specs.Spelling.{SpellsDay, SpellsMinute}
 use Rattle.app_definitions.specs.Fields.{field, IsNumberUpTo, number_value, SpellsOptionalDay}
+use Rattle.app_definitions.specs.Rising.{AreRising}
 
 -- the letter of each rule
 abbrev pub rule_text : Rule → List ℕ
@@ -90,9 +91,8 @@ cycle_names_of rows = map (λ row. field row 1) rows
 abbrev pub FitsRunCycle : List (List (List ℕ)) → List (List ℕ) → Type 0
 FitsRunCycle before row = IsRunCycleText row × ¬ (Contains (cycle_names_of before) (field row 1))
 
--- the run cycles of an application are those that its records spell, in order
-abbrev pub AreRunCyclesOf : List RunCycle → List (List (List ℕ)) → Type 0
-AreRunCyclesOf [] [] = Unit {0}
-AreRunCyclesOf [] (row ∷ rows) = ⊥
-AreRunCyclesOf (cycle ∷ cycles) [] = ⊥
-AreRunCyclesOf (cycle ∷ cycles) (row ∷ rows) = SpellsRunCycle row cycle × AreRunCyclesOf cycles rows
+-- the run cycles of an application are those that its records spell, in byte order of their names
+pub record AreRunCyclesOf (cycles : List RunCycle) (rows : List (List (List ℕ))) : Type 0 where
+  pub rising : AreRising (λ cycle. cycle.name) cycles
+  pub each : All (λ cycle. Any (λ row. SpellsRunCycle row cycle) rows) cycles
+  pub all : All (λ row. Any (SpellsRunCycle row) cycles) rows

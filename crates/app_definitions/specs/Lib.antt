@@ -12,3 +12,4 @@ pub mod NamedOccurrences
 pub mod Options
 pub mod Predecessors
 pub mod Records
+pub mod Rising

@@ -1,9 +1,10 @@
 -- The records of predecessors: application, predecessor.
-use Rattle.std.specs.Prelude.{◌≡◌, ℕ, List, map, Contains}
+use Rattle.std.specs.Prelude.{◌↔◌, ℕ, List, map, Contains}
 use Rattle.work_calendars.specs.Name.{IsName}
 use Rattle.app_definitions.specs.Fields.{field}
+use Rattle.app_definitions.specs.Rising.{AreRising}
 
--- the predecessors that the records of an application name, in order
+-- the predecessors that the records of an application name, in their order
 abbrev pub predecessors_of : List (List (List ℕ)) → List (List ℕ)
 predecessors_of rows = map (λ row. field row 1) rows
 
@@ -12,6 +13,7 @@ predecessors_of rows = map (λ row. field row 1) rows
 abbrev pub FitsPredecessors : List (List (List ℕ)) → List (List ℕ) → Type 0
 FitsPredecessors before row = IsName (field row 1) × ¬ (Contains (predecessors_of before) (field row 1))
 
--- a list of predecessors is the one that these records of its application give
-abbrev pub ArePredecessorsOf : List (List ℕ) → List (List (List ℕ)) → Type 0
-ArePredecessorsOf names rows = names ≡ predecessors_of rows
+-- a list of predecessors has the names that these records of its application give, in byte order
+pub record ArePredecessorsOf (names : List (List ℕ)) (rows : List (List (List ℕ))) : Type 0 where
+  pub rising : AreRising (λ name. name) names
+  pub exactly : (name : List ℕ) → Contains names name ↔ Contains (predecessors_of rows) name

@@ -1,6 +1,7 @@
 // Run cycles.
 
-ghost use Rattle.std.specs.Prelude.{◌≡◌, ◌↔◌, ◌≤ℤ◌, pos, ℕ, List, ℤ, [], ◌∷◌, ◌++◌, map, length, Any, IsTrue, IsSome, IfSome, IfOk};
+ghost use Rattle.std.specs.Prelude.{◌≡◌, ◌↔◌, ◌<◌, ◌≤ℤ◌, pos, ℕ, List, ℤ, [], ◌∷◌, ◌++◌, map, length, IsTrue, IsSome, IfSome, IfOk, IfErr};
+ghost use Rattle.std.specs.List.{HoldsAt};
 ghost use Rattle.csv.specs.Records.{fields_of};
 ghost use Rattle.run_cycles.specs.declared.offsets.TheConstants.{MAX_OFFSET};
 ghost use Rattle.run_cycles.specs.declared.cycles.Deadline.{Deadline as DeadlineValue};
@@ -8,6 +9,7 @@ ghost use Rattle.run_cycles.specs.declared.cycles.Kind.{Kind as KindValue};
 ghost use Rattle.run_cycles.specs.declared.rules.Rule.{Rule as RuleValue};
 ghost use Rattle.app_definitions.specs.Fields.{field, number_value};
 ghost use Rattle.app_definitions.specs.CycleRecords.{rule_text, IsDistanceText, IsOffsetText, offset_value, pieces_of, SpellsOffsets, SpellsDeadline, SpellsKind, SpellsRunCycle, IsRunCycleText, FitsRunCycle, AreRunCyclesOf};
+ghost use Rattle.app_definitions.specs.Rising.{AreRising, IsPlaceFor};
 
 use crate::by_name::Definition;
 use crate::fields::{day_of, field_at, minute_of, number_of, optional_day_of, short_of};
@@ -17,7 +19,7 @@ use std::alloc::{AllocError, Global};
 use std::marker::Model;
 use work_calendars::Short;
 
-/// The run cycles of an application in the order of their records, no two of one name. Contracts see the list.
+/// The run cycles of an application in byte order of their names, no two of one name. Contracts see the list.
 #[derive(Drop)]
 pub struct RunCycles {
     cycles: Vec<RunCycle>,
@@ -26,21 +28,23 @@ pub struct RunCycles {
 impl Model for RunCycles {
     ghost use Rattle.std.specs.Prelude.{List};
     ghost use Rattle.run_cycles.specs.declared.cycles.RunCycle.{RunCycle as RunCycleValue};
-    ghost use Rattle.run_cycles.specs.Occurrence.{HaveOwnNames};
+    ghost use Rattle.app_definitions.specs.Rising.{AreRising};
 
     ghost Value = { List RunCycleValue };
 
     ghost view = { λ r. r.cycles.items };
 
-    ghost invariant = { λ r. HaveOwnNames r.cycles.items };
+    ghost invariant = { λ r. AreRising (λ cycle. cycle.name) r.cycles.items };
 }
 
 impl RunCycles {
     ghost use Rattle.run_cycles.specs.Occurrence.{HaveOwnNames};
+    ghost use Rattle.app_definitions.specs.Rising.{AreRising};
 
-    /// The run cycles, in order. No two have one name.
+    /// The run cycles, in byte order of their names, no two of one name.
     pub fn as_slice(&self) -> &[RunCycle]
         ensures value { result.now ≡ self.now }
+        ensures rising { AreRising (λ cycle. cycle.name) result.now }
         ensures own_names { HaveOwnNames result.now }
     {
         &self.cycles
@@ -172,11 +176,13 @@ fn run_cycle_of(alloc: Global, row: &ByteRecord) -> Result<Option<RunCycle>, All
     Ok(run_cycle_with(row, offsets))
 }
 
-// Whether one of the run cycles has this name.
-fn has_name(cycles: &[RunCycle], name: &Short) -> bool
-    ensures { IsTrue result ↔ Any (λ cycle. cycle.name ≡ name.now) cycles.now }
+// Where the run cycle of this name stands, or else the place where one of this name would stand.
+fn place_of(cycles: &[RunCycle], name: &Short) -> Result<usize, usize>
+    requires { AreRising (λ cycle. cycle.name) cycles.now }
+    ensures found { IfOk result (λ k. (k < length cycles.now) × HoldsAt (λ cycle. cycle.name ≡ name.now) cycles.now k) }
+    ensures free { IfErr result (IsPlaceFor (λ cycle. cycle.name) cycles.now name.now) }
 {
-    cycles.iter().any(|cycle| cycle.name == *name)
+    cycles.binary_search_by_key(name, |cycle| cycle.name)
 }
 
 impl Definition for RunCycles {
@@ -202,10 +208,12 @@ impl Definition for RunCycles {
         let Some(cycle) = run_cycle_of(alloc, row)? else {
             return Ok(false);
         };
-        if has_name(&self.cycles, &cycle.name) {
-            return Ok(false);
+        match place_of(&self.cycles, &cycle.name) {
+            Ok(_) => Ok(false),
+            Err(place) => {
+                self.cycles.insert(place, cycle)?;
+                Ok(true)
+            }
         }
-        self.cycles.push(cycle)?;
-        Ok(true)
     }
 }

@@ -1,38 +1,52 @@
 // The predecessors of applications.
 
-ghost use Rattle.std.specs.Prelude.{◌≡◌, ◌↔◌, ℕ, List, [], ◌∷◌, ◌++◌, map, length, IsTrue, IsSome, IfOk};
+ghost use Rattle.std.specs.Prelude.{◌≡◌, ◌↔◌, ◌<◌, ℕ, List, [], ◌∷◌, ◌++◌, map, length, IsTrue, IsSome, IfOk, IfErr};
+ghost use Rattle.std.specs.List.{HoldsAt};
 ghost use Rattle.csv.specs.Records.{fields_of};
 ghost use Rattle.app_definitions.specs.Predecessors.{FitsPredecessors, ArePredecessorsOf};
+ghost use Rattle.app_definitions.specs.Rising.{AreRising, IsPlaceFor};
 
 use crate::by_name::Definition;
 use crate::fields::{field_at, name_of};
 use csv::ByteRecord;
-use indexmap::IndexSet;
 use std::alloc::{AllocError, Global};
 use std::marker::Model;
 use work_calendars::Name;
 
-/// The predecessors of an application, each once, in the order of their records. Contracts see the list of their names.
+/// The predecessors of an application, in byte order, each once. Contracts see the list of their names.
 #[derive(Drop)]
 pub struct Predecessors {
-    names: IndexSet<Name>,
+    names: Vec<Name>,
 }
 
 impl Model for Predecessors {
     ghost use Rattle.std.specs.Prelude.{ℕ, List};
+    ghost use Rattle.app_definitions.specs.Rising.{AreRising};
 
     ghost Value = { List (List ℕ) };
 
-    ghost view = { λ p. p.names.keys };
+    ghost view = { λ p. p.names.items };
+
+    ghost invariant = { λ p. AreRising (λ name. name) p.names.items };
 }
 
 impl Predecessors {
-    /// The names, in order.
+    /// The names, in byte order, each once.
     pub fn as_slice(&self) -> &[Name]
-        ensures { result.now ≡ self.now }
+        ensures value { result.now ≡ self.now }
+        ensures rising { AreRising (λ name. name) result.now }
     {
-        self.names.as_slice()
+        &self.names
     }
+}
+
+// Where this name stands, or else the place where it would stand.
+fn place_of(names: &[Name], name: &Name) -> Result<usize, usize>
+    requires { AreRising (λ n. n) names.now }
+    ensures found { IfOk result (λ k. (k < length names.now) × HoldsAt (λ n. n ≡ name.now) names.now k) }
+    ensures free { IfErr result (IsPlaceFor (λ n. n) names.now name.now) }
+{
+    names.binary_search(name)
 }
 
 impl Definition for Predecessors {
@@ -48,8 +62,8 @@ impl Definition for Predecessors {
         let Some(name) = name_of(field_at(row, 1)) else {
             return Ok(None);
         };
-        let mut names = IndexSet::new(alloc);
-        names.insert(name)?;
+        let mut names = Vec::new(alloc);
+        names.push(name)?;
         Ok(Some(Predecessors { names }))
     }
 
@@ -57,6 +71,12 @@ impl Definition for Predecessors {
         let Some(name) = name_of(field_at(row, 1)) else {
             return Ok(false);
         };
-        Ok(self.names.insert(name)?)
+        match place_of(&self.names, &name) {
+            Ok(_) => Ok(false),
+            Err(place) => {
+                self.names.insert(place, name)?;
+                Ok(true)
+            }
+        }
     }
 }

@@ -1,32 +1,32 @@
-use Rattle.std.proofs.Common.{◌≡◌, ◌∙◌, sym, not, refl, true, false, List, ℕ, Bool, nat_eq}
-use Rattle.std.specs.Prelude.{Contains, IsTrue, ◌↔◌}
-use Rattle.std.specs.List.{list_any}
-use Rattle.std.specs.Cmp.Lexicographic.{pointwise, nat_list_eq_equiv}
+use Rattle.std.proofs.Common.{◌≡◌, ◌∙◌, ℕ, List, refl, subst}
 use Rattle.std.proofs.lemmas.Bool.{false≢true}
-use Rattle.std.proofs.lemmas.Map.Views.{list_any-from_Contains, Contains-from_any}
 use Rattle.csv.specs.Records.{fields_of}
 use Rattle.work_calendars.specs.Name.{IsName}
 use Rattle.app_definitions.specs.Fields.{field}
-use Rattle.app_definitions.specs.Predecessors.{predecessors_of, FitsPredecessors}
-use Rattle.app_definitions.proofs.ByNameLemmas.{same_name}
+use Rattle.app_definitions.specs.Predecessors.{ArePredecessorsOf}
+use Rattle.app_definitions.specs.Rising.{IsPlaceFor}
+use Rattle.app_definitions.proofs.PredecessorLemmas.{predecessors-more, predecessors-fit, predecessors-no_fit}
 use Rattle.app_definitions.proofs.predecessors.PredecessorsDefinition.join.Goals as goal
 
--- a name is added exactly where the list doesn't have it
-added : (names : List (List ℕ)) (name : List ℕ) (b : Bool) → b ≡ not (list_any (pointwise nat_eq name) names)
-    → IsTrue b ↔ ¬ (Contains names name)
-added names name b e =
-    elim (list_any (pointwise nat_eq name) names) as (λ t. list_any (pointwise nat_eq name) names ≡ t → b ≡ not t → IsTrue b ↔ ¬ (Contains names name)) [
-      | true ↦ λ any is. (λ yes. absurd (false≢true (sym is ∙ yes)), λ new. absurd (new (Contains-from_any same_name name names any)))
-      | false ↦ λ any is. (λ yes has. false≢true (sym any ∙ list_any-from_Contains nat_list_eq_equiv name names has), λ new. is)
-    ] refl e
-
-taken : (names : List (List ℕ)) (before : List (List (List ℕ))) (name : List ℕ) (row : List (List ℕ)) (b : Bool)
-    → names ≡ predecessors_of before → name ≡ field row 1 → IsName name → (IsTrue b ↔ ¬ (Contains names name)) → IsTrue b ↔ FitsPredecessors before row
-taken names before name row b e of named told =
-    (λ yes. (rw (← of) named, rw (← e, ← of) (told.0 yes)), λ fits. told.1 (rw (e, of) fits.1))
-
-pub returns-clause-taken : goal.returns-clause-taken
-returns-clause-taken c = λ before some made.
-    let told = added c.self.inside.names.keys c.in-Some.name c.in_ok-insert.field-0 c.in_ok-insert.ensures.added in
+pub returns-in-Ok-clause-taken : goal.returns-in-Ok-clause-taken
+returns-in-Ok-clause-taken c = λ before some made.
     let of : c.in-Some.name ≡ field (fields_of c.args.row.now) 1 = c.in-Some.ensures.value ∙ c.field_at.ensures in
-    taken c.self.inside.names.keys before c.in-Some.name (fields_of c.args.row.now) c.in_ok-insert.field-0 (c.self.view_is ∙ made) of (rw c.in-Some.ensures.value (c.in-Some.ensures.valid.0 refl)) told
+    let are : ArePredecessorsOf c.deref.result.now before = rw (c.deref.ensures.value, c.self.view_is) made in (
+      λ no. absurd (false≢true no),
+      λ fits. absurd (predecessors-no_fit c.deref.result.now before c.in-Some.name (fields_of c.args.row.now) c.in-Ok.field-0 of c.in-Ok.ensures.found.0 c.in-Ok.ensures.found.1 are fits),
+    )
+
+pub returns-in_ok-insert-in-Err-clause-taken : goal.returns-in_ok-insert-in-Err-clause-taken
+returns-in_ok-insert-in-Err-clause-taken c = λ before some made.
+    let of : c.in-Some.name ≡ field (fields_of c.args.row.now) 1 = c.in-Some.ensures.value ∙ c.field_at.ensures in
+    let are : ArePredecessorsOf c.deref.result.now before = rw (c.deref.ensures.value, c.self.view_is) made in
+    let named : IsName (field (fields_of c.args.row.now) 1) = rw (← c.field_at.ensures) (c.in-Some.ensures.valid.0 refl) in
+    let fits = predecessors-fit c.deref.result.now before c.in-Some.name (fields_of c.args.row.now) c.in-Err.place named of c.in-Err.ensures.free are in
+    (λ yes. fits, λ f. refl)
+
+pub returns-in_ok-insert-in-Err-clause-made : goal.returns-in_ok-insert-in-Err-clause-made
+returns-in_ok-insert-in-Err-clause-made c = λ before some made yes.
+    let of : c.in-Some.name ≡ field (fields_of c.args.row.now) 1 = c.in-Some.ensures.value ∙ c.field_at.ensures in
+    let free : IsPlaceFor (λ (n : List ℕ). n) c.self.inside.names.items c.in-Some.name c.in-Err.place = subst (λ xs. IsPlaceFor (λ (n : List ℕ). n) xs c.in-Some.name c.in-Err.place) c.deref.ensures.value c.in-Err.ensures.free in
+    let are : ArePredecessorsOf c.self.inside.names.items before = rw c.self.view_is made in
+    rw c.in_ok-insert-in-Err.ensures.items (predecessors-more c.self.inside.names.items before c.in-Some.name (fields_of c.args.row.now) c.in-Err.place of free are)
