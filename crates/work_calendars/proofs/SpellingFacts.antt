@@ -10,7 +10,7 @@ use Rattle.jiff_core.proofs.CalendarLemmas.{days_in_month_bounds}
 use Rattle.jiff_core.proofs.SignedLemmas.{signed_arith}
 use Rattle.jiff_core.proofs.StandardFacts.{known_days}
 use Rattle.jiff_core.proofs.DateLemmas.{epoch_day-lt, epoch_day_injective, epoch_day_same}
-use Rattle.work_calendars.specs.Day.{IsDay}
+use Rattle.work_calendars.specs.Day.{IsDay, first_day, last_day}
 use Rattle.std.proofs.Common.{length-append}
 use Rattle.std.proofs.Common.{append_assoc, slice_set, length-drop}
 use Rattle.std.proofs.Math.ListN.{drop_of_length-le}
@@ -33,12 +33,12 @@ natural_year date day e =
     absurd (omega (arith, signed_arith))) (λ ge. ge)
 
 -- a number of the range is a day number
-pub day_number : (z : ℤ) → pos 730 ≤ℤ z → z ≤ℤ pos 37254 → (d : ℕ) × IsDay d × (z ≡ pos d)
+pub day_number : (z : ℤ) → pos first_day ≤ℤ z → z ≤ℤ pos last_day → (d : ℕ) × IsDay d × (z ≡ pos d)
 day_number (pos n) a b =
     (n, (omega (arith, signed_arith), omega (arith, signed_arith)), refl)
 day_number (negsuc n) a b = absurd (omega (arith, signed_arith))
 
-pub day_number-epoch_day : (date : Date) (z : ℤ) → pos 730 ≤ℤ z → z ≤ℤ pos 37254 → z ≡ epoch_day date → (d : ℕ) × IsDay d × (epoch_day date ≡ pos d)
+pub day_number-epoch_day : (date : Date) (z : ℤ) → pos first_day ≤ℤ z → z ≤ℤ pos last_day → z ≡ epoch_day date → (d : ℕ) × IsDay d × (epoch_day date ≡ pos d)
 day_number-epoch_day date z a b e =
     let n = day_number z a b in
     (n.0, n.1, sym e ∙ n.2)

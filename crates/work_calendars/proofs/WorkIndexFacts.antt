@@ -9,7 +9,8 @@ use Rattle.std.proofs.lemmas.List.{append-nil}
 use Rattle.work_calendars.specs.Day.{IsDay, is_day, first_day, last_day}
 use Rattle.work_calendars.specs.Calendar.{CalendarEntries, is_work_day}
 use Rattle.work_calendars.specs.WorkDay.{work_days_before, IsNthWorkDay, IsNextWorkDay, IsPreviousWorkDay, HasNoWorkDayAfter, HasNoWorkDayBefore}
-use Rattle.work_calendars.specs.WorkIndex.{is_work_in, TablesUpTo, IsIndex}
+use Rattle.work_calendars.specs.WorkIndex.{is_work_in, AreStatuses, IsIndex}
+use Rattle.work_calendars.proofs.Tables.{CountsUpTo}
 use Rattle.work_calendars.proofs.CalendarFacts.{is_day-in_range}
 use Rattle.work_calendars.proofs.WorkDayFacts.{work_days_before-none, work_days_before-same, work_days_before-work, work_days_before-free, work_days_before-mono, IsNthWorkDay-same, IsNextWorkDay-from_nth, IsPreviousWorkDay-from_nth, HasNoWorkDayAfter-from_count, IsNthWorkDay-none, not_true}
 
@@ -30,7 +31,7 @@ pub IsDay-work_day : (c : CalendarEntries) (d : ℕ) → IsTrue (is_work_day c d
 unfolding is_work_day
 IsDay-work_day c d h = IsDay-is_day d (first_true (is_day d) _ h)
 
-pub is_work_in-past : (statuses : List Bool) (d : ℕ) → 37255 ≤ d → IsFalse (is_work_in statuses d)
+pub is_work_in-past : (statuses : List Bool) (d : ℕ) → (last_day + 1) ≤ d → IsFalse (is_work_in statuses d)
 is_work_in-past statuses d h =
     not_true (is_work_in statuses d) (λ w. let r : IsDay d = IsDay-work_in statuses d w in omega arith)
 
@@ -42,7 +43,7 @@ is_work_in-at statuses d h =
 -- ---- filling the tables
 
 -- what holds of each item and of one more holds of each with that one pushed
-pushed : {X : Type 0} (P : ℕ → X → Type 0) (xs : List X) (x d : X) → ((k : ℕ) → k < length xs → P k (slice_index_or xs k d)) → P (length xs) x → (k : ℕ) → k < length (xs ++ x ∷ []) → P k (slice_index_or (xs ++ x ∷ []) k d)
+pub pushed : {X : Type 0} (P : ℕ → X → Type 0) (xs : List X) (x d : X) → ((k : ℕ) → k < length xs → P k (slice_index_or xs k d)) → P (length xs) x → (k : ℕ) → k < length (xs ++ x ∷ []) → P k (slice_index_or (xs ++ x ∷ []) k d)
 pushed {X} P xs x d all here k h = by (cases_lt k (length xs))
   where
     by : (k < length xs) ⊎ (length xs ≤ k) → P k (slice_index_or (xs ++ x ∷ []) k d)
@@ -52,13 +53,13 @@ pushed {X} P xs x d all here k h = by (cases_lt k (length xs))
         let e : length xs ≡ k = omega arith in
         subst (λ j. P j (slice_index_or (xs ++ x ∷ []) j d)) e (subst (P (length xs)) (sym (get_or-append_seam xs x [] d)) here)
 
-pub TablesUpTo-start : (work : ℕ → Bool) → ((x : ℕ) → IsTrue (work x) → IsDay x) → TablesUpTo work first_day [] [] []
-TablesUpTo-start work range = record {
-  statuses_len = refl;
-  statuses_are = λ i h. absurd (omega arith);
+pub CountsUpTo-start : (work : ℕ → Bool) → ((x : ℕ) → IsTrue (work x) → IsDay x) → CountsUpTo work first_day [] []
+CountsUpTo-start work range = record {
   ranks_len = refl;
   ranks_are = λ i h. absurd (omega arith);
-  days_len = sym (work_days_before-none work first_day (λ x h. not_true (work x) (λ w. let r : IsDay x = range x w in omega arith)));
+  days_len = sym (work_days_before-none work first_day (λ x h. not_true (work x) (λ w.
+      let r : IsDay x = range x w in
+      omega arith)));
   days_are = λ k h. absurd (omega arith);
 }
 
@@ -76,27 +77,21 @@ days_more work end days false len are is =
     let same : days ≡ days ++ [] = sym (append-nil days) in
     subst (λ xs. (length xs ≡ work_days_before work (end + 1)) × ((k : ℕ) → k < length xs → IsNthWorkDay work k (slice_index xs k))) same (len ∙ sym next, are)
 
-pub TablesUpTo-more : (work : ℕ → Bool) (end : ℕ) (statuses : List Bool) (ranks days : List ℕ) (b : Bool) (n : ℕ) → TablesUpTo work end statuses ranks days → b ≡ work end → n ≡ length days → TablesUpTo work (end + 1) (statuses ++ b ∷ []) (ranks ++ n ∷ []) (days ++ cond b (end ∷ []) [])
+pub CountsUpTo-more : (work : ℕ → Bool) (end : ℕ) (ranks days : List ℕ) (b : Bool) (n : ℕ) → CountsUpTo work end ranks days → b ≡ work end → n ≡ length days → CountsUpTo work (end + 1) (ranks ++ n ∷ []) (days ++ cond b (end ∷ []) [])
 unfolding DaysUpTo
-TablesUpTo-more work end statuses ranks days b n t is count =
-    let s : first_day + length statuses ≡ end = t.statuses_len in
-    let r : length ranks ≡ length statuses = t.ranks_len in
-    let s' : length (statuses ++ b ∷ []) ≡ length statuses + 1 = length-append statuses (b ∷ []) in
+CountsUpTo-more work end ranks days b n t is count =
+    let r : first_day + length ranks ≡ end = t.ranks_len in
     let r' : length (ranks ++ n ∷ []) ≡ length ranks + 1 = length-append ranks (n ∷ []) in
-    let r-end : first_day + length ranks ≡ end = omega arith in
     let d = days_more work end days b t.days_len t.days_are is in
     record {
-      statuses_len = omega arith;
-      statuses_are = pushed (λ i v. v ≡ work (first_day + i)) statuses b false t.statuses_are (is ∙ ap work (sym s));
       ranks_len = omega arith;
-      ranks_are = pushed (λ i v. v ≡ work_days_before work (first_day + i)) ranks n 0 t.ranks_are (count ∙ t.days_len ∙ ap (work_days_before work) (sym r-end));
+      ranks_are = pushed (λ i v. v ≡ work_days_before work (first_day + i)) ranks n 0 t.ranks_are (count ∙ t.days_len ∙ ap (work_days_before work) (sym r));
       days_len = d.0;
       days_are = d.1;
     }
 
-pub is_work_in-tables : (work : ℕ → Bool) (statuses : List Bool) (ranks days : List ℕ) → ((x : ℕ) → IsTrue (work x) → IsDay x) → TablesUpTo work 37255 statuses ranks days → (d : ℕ) → is_work_in statuses d ≡ work d
-is_work_in-tables work statuses ranks days range t d =
-    by (cases_lt d first_day) (cases_lt last_day d)
+pub is_work_in-statuses : (work : ℕ → Bool) (statuses : List Bool) → ((x : ℕ) → IsTrue (work x) → IsDay x) → AreStatuses work statuses → (d : ℕ) → is_work_in statuses d ≡ work d
+is_work_in-statuses work statuses range t d = by (cases_lt d first_day) (cases_lt last_day d)
   where
     outside : (IsDay d → ⊥) → is_work_in statuses d ≡ work d
     outside out =
@@ -106,25 +101,20 @@ is_work_in-tables work statuses ranks days range t d =
     by : (d < first_day) ⊎ (first_day ≤ d) → (last_day < d) ⊎ (d ≤ last_day) → is_work_in statuses d ≡ work d
     by (inl l) _ = outside (λ r. omega arith)
     by (inr l) (inl g) = outside (λ r. omega arith)
-    by (inr l) (inr g) =
-        let s : first_day + length statuses ≡ 37255 = t.statuses_len in
-        let within : d - first_day < length statuses = omega arith in
-        let e : first_day + (d - first_day) ≡ d = omega arith in
-        is_work_in-at statuses d (l, g) ∙ t.statuses_are (d - first_day) within ∙ ap work e
+    by (inr l) (inr g) = is_work_in-at statuses d (l, g) ∙ t.are d (l, g)
 
-pub IsIndex-from_tables : (work : ℕ → Bool) (statuses : List Bool) (ranks days : List ℕ) (n : ℕ) → ((x : ℕ) → IsTrue (work x) → IsDay x) → TablesUpTo work 37255 statuses ranks days → n ≡ length days → IsIndex statuses (ranks ++ n ∷ []) days
-IsIndex-from_tables work statuses ranks days n range t count =
-    let same = is_work_in-tables work statuses ranks days range t in
+pub IsIndex-from_counts : (work : ℕ → Bool) (statuses : List Bool) (ranks days : List ℕ) (n : ℕ) → ((x : ℕ) → IsTrue (work x) → IsDay x) → AreStatuses work statuses → CountsUpTo work (last_day + 1) ranks days → n ≡ length days → IsIndex statuses (ranks ++ n ∷ []) days
+IsIndex-from_counts work statuses ranks days n range s t count =
+    let same = is_work_in-statuses work statuses range s in
     let counts = work_days_before-same work (is_work_in statuses) (λ d. sym (same d)) in
-    let s : first_day + length statuses ≡ 37255 = t.statuses_len in
-    let r : length ranks ≡ length statuses = t.ranks_len in
+    let len : first_day + length statuses ≡ last_day + 1 = s.len in
+    let r : first_day + length ranks ≡ last_day + 1 = t.ranks_len in
     let r' : length (ranks ++ n ∷ []) ≡ length ranks + 1 = length-append ranks (n ∷ []) in
-    let r-end : 37255 ≡ first_day + length ranks = omega arith in
     record {
-      statuses_len = omega arith;
+      statuses_len = len;
       ranks_len = omega arith;
-      ranks_are = pushed (λ i v. v ≡ work_days_before (is_work_in statuses) (first_day + i)) ranks n 0 (λ i h. t.ranks_are i h ∙ counts (first_day + i)) (count ∙ t.days_len ∙ counts 37255 ∙ ap (work_days_before (is_work_in statuses)) r-end);
-      days_len = t.days_len ∙ counts 37255;
+      ranks_are = pushed (λ i v. v ≡ work_days_before (is_work_in statuses) (first_day + i)) ranks n 0 (λ i h. t.ranks_are i h ∙ counts (first_day + i)) (count ∙ t.days_len ∙ counts (last_day + 1) ∙ ap (work_days_before (is_work_in statuses)) (sym r));
+      days_len = t.days_len ∙ counts (last_day + 1);
       days_are = λ k h. IsNthWorkDay-same work (is_work_in statuses) (λ d. sym (same d)) k _ (t.days_are k h);
     }
 

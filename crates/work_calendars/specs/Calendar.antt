@@ -23,10 +23,13 @@ abbrev pub is_work_status : DayStatus → Bool
 is_work_status Work = true
 is_work_status Free = false
 
--- a listed date goes before its weekday, and a weekday that is not listed is a work day
+-- a weekday that is not listed is one of work days
+abbrev pub weekday_status : CalendarEntries → ℕ → DayStatus
+weekday_status c weekday = unwrap_or (slice_index_or c.weekdays weekday None) Work
+
+-- a listed date goes before its weekday
 unfoldable pub status_of_day : CalendarEntries → ℕ → DayStatus
-status_of_day c d =
-    unwrap_or (map.get c.dates d) (unwrap_or (slice_index_or c.weekdays (weekday_of_day d) None) Work)
+status_of_day c d = unwrap_or (map.get c.dates d) (weekday_status c (weekday_of_day d))
 
 -- the test of a calendar: whether the day is a work day of the range
 unfoldable pub is_work_day : CalendarEntries → ℕ → Bool
@@ -45,3 +48,7 @@ with_weekday c weekday status =
 -- the entries, with that status for the date
 abbrev pub with_date : CalendarEntries → ℕ → DayStatus → CalendarEntries
 with_date c day status = record c { dates = map.insert c.dates day status }
+
+-- the entries without those for dates
+abbrev pub without_dates : CalendarEntries → CalendarEntries
+without_dates c = record c { dates = map.empty }

@@ -1,17 +1,18 @@
 -- Days, as day numbers: days since 1970-01-01.
 use Rattle.std.specs.Prelude.{ℕ, ◌+◌, ◌%◌, ◌≤◌, Bool, ◌&&◌, nat_le}
+use Rattle.work_calendars.specs.declared.days.TheConstants.{FIRST_NUMBER, LAST_NUMBER, LAST_PLANNING_NUMBER}
 
--- 1972-01-01
+-- the first day that calendars know
 abbrev pub first_day : ℕ
-first_day = 730
+first_day = FIRST_NUMBER
 
--- 2071-12-31
+-- the last day that calendars know
 abbrev pub last_day : ℕ
-last_day = 37254
+last_day = LAST_NUMBER
 
--- 2068-12-31, the last day that a plan may reach
+-- the last day that a plan may reach
 abbrev pub last_planning_day : ℕ
-last_planning_day = 36159
+last_planning_day = LAST_PLANNING_NUMBER
 
 -- a day of the range that calendars know
 abbrev pub IsDay : ℕ → Type 0

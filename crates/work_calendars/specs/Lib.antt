@@ -1,4 +1,5 @@
 pub mod Day
+pub mod Limits
 pub mod Minute
 pub mod Moment
 pub mod Name

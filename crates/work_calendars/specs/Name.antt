@@ -1,15 +1,16 @@
 -- Names: how they are spelled, and how one is kept in an array.
-use Rattle.std.specs.Prelude.{◌≡◌, ℕ, ◌-◌, ◌<◌, ◌≤◌, Bool, not, ◌||◌, ◌==◌, IsTrue, List, ◌++◌, length, take, slice_index}
+use Rattle.std.specs.Prelude.{◌≡◌, ℕ, ◌-◌, ◌<◌, ◌≤◌, Bool, not, ◌||◌, ◌==◌, IsTrue, List, ◌++◌, length, take, slice_index, codes}
 use Rattle.std.specs.Char.{is_ascii_digit, is_ascii_uppercase}
-use Rattle.std.specs.List.{All}
+use Rattle.std.specs.List.{All, list_any}
 use Rattle.std.proofs.Common.{sym, ap, subst, ◌∙◌}
 use Rattle.std.proofs.Math.ListN.{replicate}
 use Rattle.std.proofs.lemmas.List.{length-take-le}
+use Rattle.work_calendars.specs.declared.names.TheConstants.{LONGEST_NAME, LONGEST_SHORT_NAME}
 
--- A to Z, 0 to 9, '@' (64), '#' (35) and '$' (36)
+-- A to Z, 0 to 9, '@', '#' and '$'
 unfoldable pub is_name_byte : ℕ → Bool
 is_name_byte b =
-    is_ascii_uppercase b || is_ascii_digit b || (b == 64) || (b == 35) || (b == 36)
+    is_ascii_uppercase b || is_ascii_digit b || list_any (λ c. b == c) (codes "@#$")
 
 -- a name of at most that many characters, of which the first is no digit
 pub record IsNameWithin (longest : ℕ) (name : List ℕ) : Type 0 where
@@ -20,11 +21,11 @@ pub record IsNameWithin (longest : ℕ) (name : List ℕ) : Type 0 where
 
 -- a name of an application or a calendar
 abbrev pub IsName : List ℕ → Type 0
-IsName name = IsNameWithin 16 name
+IsName name = IsNameWithin LONGEST_NAME name
 
 -- a short name, of a period or a run cycle
 abbrev pub IsShort : List ℕ → Type 0
-IsShort name = IsNameWithin 8 name
+IsShort name = IsNameWithin LONGEST_SHORT_NAME name
 
 -- an array of that size that holds a name in its first bytes, and zeros after it
 pub record HoldsName (size : ℕ) (bytes : List ℕ) (len : ℕ) : Type 0 where

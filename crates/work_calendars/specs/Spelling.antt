@@ -1,5 +1,5 @@
 -- How days, minutes and moments are spelled: YYYY-MM-DD, HH.MM, and YYYY-MM-DD/HH.MM, with all digits present.
-use Rattle.std.specs.Prelude.{◌≡◌, ℕ, ◌+◌, ◌/◌, ◌%◌, List, [], ◌∷◌, ◌++◌, pos}
+use Rattle.std.specs.Prelude.{◌≡◌, ℕ, ◌+◌, ◌/◌, ◌%◌, List, [], ◌∷◌, ◌++◌, pos, codes}
 use Rattle.jiff_core.specs.declared.civil.date.Date.{Date}
 use Rattle.jiff_core.specs.Date.{epoch_day}
 use Rattle.work_calendars.specs.Day.{IsDay}
@@ -19,13 +19,13 @@ abbrev pub four_digits : ℕ → List ℕ
 four_digits n =
     digit (n / 1000) ∷ digit (n / 100 % 10) ∷ digit (n / 10 % 10) ∷ digit (n % 10) ∷ []
 
--- a year, a month and a day of the month, with '-' (45) between them
+-- a year, a month and a day of the month, with '-' between them
 abbrev pub date_spelling : ℕ → ℕ → ℕ → List ℕ
-date_spelling year month day = four_digits year ++ 45 ∷ two_digits month ++ 45 ∷ two_digits day
+date_spelling year month day = four_digits year ++ codes "-" ++ two_digits month ++ codes "-" ++ two_digits day
 
--- an hour and a minute of the hour, with '.' (46) between them
+-- an hour and a minute of the hour, with '.' between them
 abbrev pub clock_spelling : ℕ → ℕ → List ℕ
-clock_spelling hour minute = two_digits hour ++ 46 ∷ two_digits minute
+clock_spelling hour minute = two_digits hour ++ codes "." ++ two_digits minute
 
 -- the text spells the date of the calendar that has that day number, which is one of the range
 pub record SpellsDay (text : List ℕ) (day : ℕ) : Type 0 where
@@ -41,10 +41,10 @@ pub record SpellsMinute (text : List ℕ) (minute : ℕ) : Type 0 where
   pub in_range : IsMinute minute
   pub text_is : text ≡ clock_spelling (minute / 60) (minute % 60)
 
--- the text spells the moment's day and its minute, with '/' (47) between them
+-- the text spells the moment's day and its minute, with '/' between them
 pub record SpellsMoment (text : List ℕ) (moment : ℕ) : Type 0 where
   pub day_text : List ℕ
   pub minute_text : List ℕ
   pub spells_day : SpellsDay day_text (day_of_moment moment)
   pub spells_minute : SpellsMinute minute_text (minute_of_moment moment)
-  pub text_is : text ≡ day_text ++ 47 ∷ minute_text
+  pub text_is : text ≡ day_text ++ (codes "/" ++ minute_text)

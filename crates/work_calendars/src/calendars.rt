@@ -1,10 +1,12 @@
-ghost use Rattle.std.specs.Prelude.{◌≡◌, ℕ, Bool, OnOk, OnErr};
+ghost use Rattle.std.specs.Prelude.{◌≡◌, ℕ, ◌<◌, Bool, false, OnOk, OnErr, IfOk};
 ghost use Rattle.std.specs.FinMap as map;
 ghost use Rattle.std.specs.List.{slice_index_or};
 ghost use Rattle.std.specs.Prelude.{None};
-ghost use Rattle.work_calendars.specs.Calendar.{CalendarEntries, is_work_day, no_entries, with_weekday, with_date};
+ghost use Rattle.work_calendars.specs.Calendar.{CalendarEntries, is_work_day, is_work_status, weekday_status, no_entries, with_weekday, with_date, without_dates};
+ghost use Rattle.work_calendars.specs.WorkIndex.{AreStatuses};
 ghost use Rattle.jiff.specs.Words.{monday_zero};
 
+use crate::days::{DAYS, FIRST_NUMBER, LAST_NUMBER};
 use crate::{Day, DayStatus};
 use jiff::civil::Weekday;
 use std::alloc::{AllocError, Global};
@@ -82,5 +84,37 @@ impl Calendar {
     {
         let of_weekday = self.weekdays[day.weekday() as usize].unwrap_or(DayStatus::Work);
         self.date_status(day).unwrap_or(of_weekday).is_work()
+    }
+
+    /// Of each day of the range, whether it is a work day: as its weekday says, and then as its date does where that is
+    /// listed.
+    pub(crate) fn statuses(&self, alloc: Global) -> Result<Vec<bool>, AllocError>
+        ensures { IfOk result (λ statuses. AreStatuses (is_work_day self.now) statuses.items) }
+    {
+        let mut statuses = self.weekday_statuses(alloc)?;
+        for (day, status) in self.dates.iter() {
+            statuses[day.place()] = status.is_work();
+        }
+        Ok(statuses)
+    }
+
+    // The same, as if no date were listed.
+    fn weekday_statuses(&self, alloc: Global) -> Result<Vec<bool>, AllocError>
+        ensures { IfOk result (λ statuses. AreStatuses (is_work_day (without_dates self.now)) statuses.items) }
+    {
+        let week = self.week();
+        let mut statuses = Vec::with_capacity(alloc, DAYS)?;
+        for number in FIRST_NUMBER..LAST_NUMBER + 1 {
+            statuses.push(week[Day { number }.weekday() as usize])?;
+        }
+        Ok(statuses)
+    }
+
+    // Of each weekday, whether it is one of work days.
+    fn week(&self) -> [bool; 7]
+        ensures { (w : ℕ) → w < 7 → slice_index_or result w false ≡ is_work_status (weekday_status self.now w) }
+    {
+        self.weekdays
+            .map(|status| status.unwrap_or(DayStatus::Work).is_work())
     }
 }

@@ -1,13 +1,24 @@
-ghost use Rattle.std.specs.Prelude.{◌≡◌, ℕ, ◌<◌, ◌≤◌, ◌↔◌, IsSome, IfSome};
+ghost use Rattle.std.specs.Prelude.{◌≡◌, ℕ, ◌+◌, ◌<◌, ◌≤◌, ◌↔◌, IsSome, IfSome};
 ghost use Rattle.std.specs.Prelude.{pos, ◌≤ℤ◌, List};
 ghost use Rattle.jiff_core.specs.Calendar.{IsDate};
 ghost use Rattle.jiff_core.specs.Date.{epoch_day, IsYmd};
-ghost use Rattle.work_calendars.specs.Day.{IsDay, weekday_of_day};
+ghost use Rattle.work_calendars.specs.Day.{IsDay, first_day, last_day, weekday_of_day};
 ghost use Rattle.work_calendars.specs.Spelling.{SpellsDay};
 
 use crate::digits::{digit, two_digits_value};
 use jiff::civil::Date;
 use std::marker::Model;
+
+// The numbers of the first and the last day, and of the last day that a plan may reach: 1972-01-01, 2071-12-31 and
+// 2068-12-31. The definitions cite them, and `specs/Limits.antt` states their values once more.
+pub(crate) const FIRST_NUMBER: u16 = 730;
+
+pub(crate) const LAST_NUMBER: u16 = 37254;
+
+pub(crate) const LAST_PLANNING_NUMBER: u16 = 36159;
+
+/// How many days there are.
+pub(crate) const DAYS: usize = LAST_NUMBER as usize + 1 - FIRST_NUMBER as usize;
 
 /// A day from 1972-01-01 to 2071-12-31. Contracts see its number: the days since 1970-01-01.
 #[derive(Clone, Copy, Debug, PartialEq, Eq, PartialOrd, Ord, Hash)]
@@ -27,20 +38,26 @@ impl Model for Day {
 
 impl Day {
     /// 1972-01-01, the first day.
-    pub const FIRST: Day = Day { number: 730 };
+    pub const FIRST: Day = Day {
+        number: FIRST_NUMBER,
+    };
 
     /// 2071-12-31, the last day.
-    pub const LAST: Day = Day { number: 37254 };
+    pub const LAST: Day = Day {
+        number: LAST_NUMBER,
+    };
 
     /// 2068-12-31, the last day that a plan may reach.
-    pub const LAST_PLANNING: Day = Day { number: 36159 };
+    pub const LAST_PLANNING: Day = Day {
+        number: LAST_PLANNING_NUMBER,
+    };
 
     /// The day with this number, if it is in range.
     pub fn from_number(number: u32) -> Option<Day>
         ensures valid { IsSome result ↔ IsDay number }
         ensures value { IfSome result (λ d. d ≡ number) }
     {
-        if number < 730 || number > 37254 {
+        if number < FIRST_NUMBER as u32 || number > LAST_NUMBER as u32 {
             return None;
         }
         Some(Day {
@@ -54,6 +71,46 @@ impl Day {
         ensures in_range { IsDay result }
     {
         self.number as u32
+    }
+
+    /// The day after it, if that is in range.
+    pub fn next(self) -> Option<Day>
+        ensures valid { IsSome result ↔ (self < last_day) }
+        ensures value { IfSome result (λ d. d ≡ self + 1) }
+    {
+        self.plus(1)
+    }
+
+    /// The day before it, if that is in range.
+    pub fn previous(self) -> Option<Day>
+        ensures valid { IsSome result ↔ (first_day < self) }
+        ensures value { IfSome result (λ d. d + 1 ≡ self) }
+    {
+        self.minus(1)
+    }
+
+    /// The day that comes that many days after it, if that is in range.
+    pub fn plus(self, days: u32) -> Option<Day>
+        ensures valid { IsSome result ↔ (self + days ≤ last_day) }
+        ensures value { IfSome result (λ d. d ≡ self + days) }
+    {
+        Day::from_number(self.number().checked_add(days)?)
+    }
+
+    /// The day that comes that many days before it, if that is in range.
+    pub fn minus(self, days: u32) -> Option<Day>
+        ensures valid { IsSome result ↔ (first_day + days ≤ self) }
+        ensures value { IfSome result (λ d. d + days ≡ self) }
+    {
+        Day::from_number(self.number().checked_sub(days)?)
+    }
+
+    /// How many days it comes after the first day.
+    pub(crate) fn place(self) -> usize
+        ensures value { first_day + result ≡ self }
+        ensures in_range { IsDay self }
+    {
+        (self.number - FIRST_NUMBER) as usize
     }
 
     /// The weekday, from 0 for Monday to 6 for Sunday.
@@ -83,7 +140,7 @@ impl Day {
         ensures value { IfSome result (λ d. IsDay d × (epoch_day date ≡ pos d)) }
     {
         let number = date.to_plain().to_unix_epoch_day();
-        if number >= 730 && number <= 37254 {
+        if number >= FIRST_NUMBER as i32 && number <= LAST_NUMBER as i32 {
             Some(Day {
                 number: number as u16,
             })

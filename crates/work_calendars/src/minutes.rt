@@ -6,7 +6,10 @@ ghost use Rattle.work_calendars.specs.Spelling.{SpellsMinute};
 use crate::digits::{digit, two_digits_value};
 use std::marker::Model;
 
-/// A minute of the day, from 00.00 to 23.59. Contracts see its number, 0 to 1439.
+// The definitions cite it, and `specs/Limits.antt` states its value once more.
+pub(crate) const MINUTES_PER_DAY: u32 = 1440;
+
+/// A minute of the day, from 00.00 to 23.59. Contracts see its number, the minutes since 00.00.
 #[derive(Clone, Copy, Debug, PartialEq, Eq, PartialOrd, Ord, Hash)]
 pub struct Minute {
     pub(crate) number: u16,
@@ -27,14 +30,16 @@ impl Minute {
     pub const FIRST: Minute = Minute { number: 0 };
 
     /// 23.59, the last minute of a day.
-    pub const LAST: Minute = Minute { number: 1439 };
+    pub const LAST: Minute = Minute {
+        number: MINUTES_PER_DAY as u16 - 1,
+    };
 
     /// The minute with this number, if there is one.
     pub fn from_number(number: u32) -> Option<Minute>
         ensures valid { IsSome result ↔ IsMinute number }
         ensures value { IfSome result (λ m. m ≡ number) }
     {
-        if number < 1440 {
+        if number < MINUTES_PER_DAY {
             Some(Minute {
                 number: number as u16,
             })

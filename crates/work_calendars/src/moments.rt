@@ -5,10 +5,11 @@ ghost use Rattle.work_calendars.specs.Minute.{IsMinute};
 ghost use Rattle.work_calendars.specs.Moment.{IsMoment, moment_of, day_of_moment, minute_of_moment};
 ghost use Rattle.work_calendars.specs.Spelling.{SpellsMoment};
 
+use crate::minutes::MINUTES_PER_DAY;
 use crate::{Day, Minute};
 use std::marker::Model;
 
-/// A minute of a day. Contracts see its number: the day's number times 1440, plus the minute.
+/// A minute of a day. Contracts see its number: the minutes since 1970-01-01 00.00.
 #[derive(Clone, Copy, Debug, PartialEq, Eq, PartialOrd, Ord, Hash)]
 pub struct Moment {
     number: u32,
@@ -33,7 +34,7 @@ impl Moment {
         ensures minute { minute_of_moment result ≡ minute }
     {
         Moment {
-            number: day.number() * 1440 + minute.number(),
+            number: day.number() * MINUTES_PER_DAY + minute.number(),
         }
     }
 
@@ -42,11 +43,8 @@ impl Moment {
         ensures valid { IsSome result ↔ IsMoment number }
         ensures value { IfSome result (λ m. m ≡ number) }
     {
-        if number >= 730 * 1440 && number < 37255 * 1440 {
-            Some(Moment { number })
-        } else {
-            None
-        }
+        let _day = Day::from_number(number / MINUTES_PER_DAY)?;
+        Some(Moment { number })
     }
 
     /// The minutes since 1970-01-01 00.00.
@@ -63,7 +61,7 @@ impl Moment {
         ensures in_range { IsDay result }
     {
         Day {
-            number: (self.number / 1440) as u16,
+            number: (self.number / MINUTES_PER_DAY) as u16,
         }
     }
 
@@ -73,7 +71,7 @@ impl Moment {
         ensures in_range { IsMinute result }
     {
         Minute {
-            number: (self.number % 1440) as u16,
+            number: (self.number % MINUTES_PER_DAY) as u16,
         }
     }
 

@@ -5,11 +5,46 @@ ghost use Rattle.std.specs.Cmp.Rules.{hashing};
 ghost use Rattle.std.specs.Ordering.{nat_cmp};
 ghost use Rattle.std.specs.Hash as fed;
 ghost use Rattle.std.proofs.Common.{rules};
-ghost use Rattle.work_calendars.specs.Name.{is_name_byte, IsNameWithin, IsName, HoldsName, padded_name, padded_name-held, length-held};
+ghost use Rattle.work_calendars.specs.Name.{is_name_byte, IsNameWithin, HoldsName, padded_name, padded_name-held, length-held};
 
 use std::cmp::Ordering;
 use std::hash::{Hash, Hasher};
 use std::marker::Model;
+
+/// The greatest number of characters of a name.
+pub const LONGEST_NAME: usize = 16;
+
+/// The greatest number of characters of a short name.
+pub const LONGEST_SHORT_NAME: usize = 8;
+
+/// A name of an application or a calendar.
+pub type Name = NameWithin<LONGEST_NAME>;
+
+/// The name of an application.
+pub type App = Name;
+
+/// A short name, of a period or a run cycle.
+pub type Short = NameWithin<LONGEST_SHORT_NAME>;
+
+/// A name of 1 to `LONGEST` of the characters `A` to `Z`, `0` to `9`, `@`, `#` and `$`, the first one no digit.
+/// Contracts see its bytes. Names compare and hash by their bytes.
+#[derive(Clone, Copy, Debug)]
+pub struct NameWithin<const LONGEST: usize> {
+    bytes: [u8; LONGEST],
+    len: usize,
+}
+
+impl<const LONGEST: usize> Model for NameWithin<LONGEST> {
+    ghost Value = { List ℕ };
+
+    ghost view = { λ n. take n.len n.bytes };
+
+    ghost invariant = { λ n. HoldsName LONGEST n.bytes n.len };
+
+    ghost inverse = { λ s. record { bytes = padded_name LONGEST s; len = length s } };
+
+    ghost inverse_ok = { λ n h i. record { bytes = padded_name-held LONGEST n.bytes n.len h i; len = length-held LONGEST n.bytes n.len h i } };
+}
 
 #[tactic(auto, unfolding(crate::specs::Name::is_name_byte))]
 fn is_name_byte(byte: u8) -> bool
@@ -18,74 +53,46 @@ fn is_name_byte(byte: u8) -> bool
     matches!(byte, b'A'..=b'Z' | b'0'..=b'9' | b'@' | b'#' | b'$')
 }
 
-/// Whether the text is a name of at most that many characters.
-pub(crate) fn is_name(text: &[u8], longest: usize) -> bool
+// Whether the text is a name of at most that many characters.
+fn is_name(text: &[u8], longest: usize) -> bool
     ensures { IsTrue result ↔ IsNameWithin longest text.now }
 {
-    if text.is_empty() || text.len() > longest || text[0].is_ascii_digit() {
-        return false;
-    }
-    for &byte in text {
-        if !is_name_byte(byte) {
-            return false;
-        }
-    }
-    true
+    !text.is_empty()
+        && text.len() <= longest
+        && !text[0].is_ascii_digit()
+        && text.iter().all(|&byte| is_name_byte(byte))
 }
 
-/// A name of an application or a calendar: 1 to 16 of the characters `A` to `Z`, `0` to `9`, `@`, `#` and `$`, the
-/// first one no digit. Contracts see its bytes. Names compare and hash by their bytes.
-#[derive(Clone, Copy, Debug)]
-pub struct Name {
-    bytes: [u8; 16],
-    len: u8,
-}
-
-/// The name of an application.
-pub type App = Name;
-
-impl Model for Name {
-    ghost Value = { List ℕ };
-
-    ghost view = { λ n. take n.len n.bytes };
-
-    ghost invariant = { λ n. HoldsName 16 n.bytes n.len };
-
-    ghost inverse = { λ s. record { bytes = padded_name 16 s; len = length s } };
-
-    ghost inverse_ok = { λ n h i. record { bytes = padded_name-held 16 n.bytes n.len h i; len = length-held 16 n.bytes n.len h i } };
-}
-
-impl Name {
+impl<const LONGEST: usize> NameWithin<LONGEST> {
     /// The name that the text spells.
-    pub fn from_text(text: &str) -> Option<Name>
-        ensures valid { IsSome result ↔ IsName text.now }
+    pub fn from_text(text: &str) -> Option<NameWithin<LONGEST>>
+        ensures valid { IsSome result ↔ IsNameWithin LONGEST text.now }
         ensures value { IfSome result (λ n. n ≡ text.now) }
     {
         let text = text.as_bytes();
-        if !is_name(text, 16) {
+        if !is_name(text, LONGEST) {
             return None;
         }
-        let mut bytes = [0; 16];
+        let mut bytes = [0; LONGEST];
         bytes[..text.len()].copy_from_slice(text);
-        Some(Name {
+        Some(NameWithin {
             bytes,
-            len: text.len() as u8,
+            len: text.len(),
         })
     }
 
     /// The name's bytes, all of them ASCII.
     pub fn as_bytes(&self) -> &[u8]
         ensures value { result.now ≡ self.now }
-        ensures named { IsName result.now }
+        ensures named { IsNameWithin LONGEST result.now }
     {
-        &self.bytes[..self.len as usize]
+        &self.bytes[..self.len]
     }
 
     /// The name's text.
     pub fn as_str(&self) -> &str
         ensures value { result.now ≡ self.now }
-        ensures named { IsName result.now }
+        ensures named { IsNameWithin LONGEST result.now }
     {
         match std::str::from_utf8(self.as_bytes()) {
             Ok(text) => text,
@@ -94,31 +101,31 @@ impl Name {
     }
 }
 
-impl PartialEq for Name {
+impl<const LONGEST: usize> PartialEq for NameWithin<LONGEST> {
     ghost eq = { pointwise nat_eq };
 
     ghost laws = { partial_equiv_from_equiv nat_list_eq_equiv };
 
-    fn eq(&self, other: &Name) -> bool {
+    fn eq(&self, other: &NameWithin<LONGEST>) -> bool {
         self.as_bytes() == other.as_bytes()
     }
 }
 
-impl Eq for Name {
+impl<const LONGEST: usize> Eq for NameWithin<LONGEST> {
     ghost laws = { nat_list_eq_equiv };
 }
 
-impl PartialOrd for Name {
+impl<const LONGEST: usize> PartialOrd for NameWithin<LONGEST> {
     ghost partial_cmp = { λ x y. Some (slice_cmp nat_cmp x y) };
 
     ghost laws = { texts_po };
 
-    fn partial_cmp(&self, other: &Name) -> Option<Ordering> {
+    fn partial_cmp(&self, other: &NameWithin<LONGEST>) -> Option<Ordering> {
         Some(self.cmp(other))
     }
 }
 
-impl Ord for Name {
+impl<const LONGEST: usize> Ord for NameWithin<LONGEST> {
     ghost cmp = { slice_cmp nat_cmp };
 
     ghost total = { nat_list_cmp_total };
@@ -127,12 +134,12 @@ impl Ord for Name {
 
     ghost matches_eq = { texts_ties };
 
-    fn cmp(&self, other: &Name) -> Ordering {
+    fn cmp(&self, other: &NameWithin<LONGEST>) -> Ordering {
         self.as_str().cmp(other.as_str())
     }
 }
 
-impl Hash for Name {
+impl<const LONGEST: usize> Hash for NameWithin<LONGEST> {
     ghost hash_input = { fed.str };
 
     ghost respects_eq = { Prim.search (hashing, rules) };

@@ -3,7 +3,9 @@ ghost use Rattle.std.specs.Prelude.{◌≡◌};
 /// Whether a calendar says that a day is a work day or a free day.
 #[derive(Clone, Copy, Debug, PartialEq, Eq, Hash)]
 pub enum DayStatus {
+    /// A work day.
     Work,
+    /// A free day.
     Free,
 }
 

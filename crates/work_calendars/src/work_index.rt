@@ -1,9 +1,10 @@
-ghost use Rattle.std.specs.Prelude.{◌≡◌, ℕ, ◌↔◌, ◌+◌, ◌<◌, Bool, IsNone, IsSome, IfSome, IfOk, List, [], ◌∷◌, ◌++◌, cond};
+ghost use Rattle.std.specs.Prelude.{◌≡◌, ℕ, ◌↔◌, ◌+◌, ◌<◌, ◌≤◌, Bool, IsNone, IsSome, IfSome, IfOk, List, [], ◌∷◌, ◌++◌, cond};
 ghost use Rattle.work_calendars.specs.Calendar.{is_work_day};
 ghost use Rattle.work_calendars.specs.Day.{first_day, last_day};
 ghost use Rattle.work_calendars.specs.WorkDay.{work_days_before, IsNthWorkDay, IsNextWorkDay, IsPreviousWorkDay, HasNoWorkDayAfter, HasNoWorkDayBefore};
 ghost use Rattle.work_calendars.specs.WorkIndex.{is_work_in};
 
+use crate::days::{DAYS, FIRST_NUMBER, LAST_NUMBER};
 use crate::{Calendar, Day};
 use std::alloc::{AllocError, Global};
 use std::marker::Model;
@@ -36,15 +37,13 @@ impl WorkIndex {
     pub fn build(alloc: Global, calendar: &Calendar) -> Result<WorkIndex, AllocError>
         ensures { IfOk result (λ index. (d : ℕ) → is_work_in index d ≡ is_work_day calendar.now d) }
     {
-        let mut statuses = Vec::new(alloc);
-        let mut ranks = Vec::new(alloc);
-        let mut days = Vec::new(alloc);
-        for number in 730..37255u16 {
+        let statuses = calendar.statuses(alloc)?;
+        let mut ranks = Vec::with_capacity(alloc, DAYS + 1)?;
+        let mut days = Vec::with_capacity(alloc, DAYS)?;
+        for number in FIRST_NUMBER..LAST_NUMBER + 1 {
             let day = Day { number };
-            let is_work = calendar.is_work(day);
             ranks.push(days.len() as u16)?;
-            statuses.push(is_work)?;
-            push_work_day(&mut days, day, is_work)?;
+            push_work_day(&mut days, day, statuses[day.place()])?;
         }
         ranks.push(days.len() as u16)?;
         Ok(WorkIndex {
@@ -58,19 +57,19 @@ impl WorkIndex {
     pub fn is_work(&self, day: Day) -> bool
         ensures { result ≡ is_work_in self.now day }
     {
-        self.statuses[(day.number() - 730) as usize]
+        self.statuses[day.place()]
     }
 
     /// How many work days come before the day.
     pub fn rank(&self, day: Day) -> usize
         ensures { result ≡ work_days_before (is_work_in self.now) day }
     {
-        self.count_before((day.number() - 730) as usize)
+        self.count_before(day.place())
     }
 
     // How many work days come before the day that lies that many days after the first.
     fn count_before(&self, days: usize) -> usize
-        requires { days < 36526 }
+        requires { first_day + days ≤ last_day + 1 }
         ensures { result ≡ work_days_before (is_work_in self.now) (first_day + days) }
     {
         self.ranks[days] as usize
@@ -82,11 +81,7 @@ impl WorkIndex {
         ensures value { IfSome result (IsNthWorkDay (is_work_in self.now) place) }
         ensures found { IsSome result ↔ (place < work_days_before (is_work_in self.now) (last_day + 1)) }
     {
-        if place < self.days.len() {
-            Some(self.days[place])
-        } else {
-            None
-        }
+        self.days.get(place).copied()
     }
 
     /// The first work day after the day.
@@ -94,7 +89,7 @@ impl WorkIndex {
         ensures none { IsNone result ↔ HasNoWorkDayAfter (is_work_in self.now) day }
         ensures value { IfSome result (IsNextWorkDay (is_work_in self.now) day) }
     {
-        self.nth(self.count_before((day.number() - 729) as usize))
+        self.nth(self.count_before(day.place() + 1))
     }
 
     /// The last work day before the day.
@@ -102,7 +97,7 @@ impl WorkIndex {
         ensures none { IsNone result ↔ HasNoWorkDayBefore (is_work_in self.now) day }
         ensures value { IfSome result (IsPreviousWorkDay (is_work_in self.now) day) }
     {
-        let days = (day.number() - 730) as usize;
+        let days = day.place();
         let count = self.count_before(days);
         if count == 0 {
             return None;
