@@ -17,7 +17,7 @@ use Rattle.app_definitions.specs.CycleRecords.{has_minus, offset_digits, offset_
 -- an offset that is spelled is in range
 signed-in_range : (b : Bool) (n : ℕ) → 1 ≤ n → n ≤ MAX_OFFSET → IsOffset (if b then neg_ℤ (pos n) else pos n)
 signed-in_range true zero l u = absurd (omega (arith, l))
-signed-in_range true (suc m) l u = omega (arith, u)
+signed-in_range true (suc m) l u = (omega arith, omega (arith, u))
 signed-in_range false n l u = (l, u)
 
 offset-in_range : (text : List ℕ) → IsOffsetText text → IsOffset (offset_value text)

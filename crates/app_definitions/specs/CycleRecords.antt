@@ -3,8 +3,8 @@
 use Rattle.std.specs.Prelude.{◌≡◌, ◌≤◌, ◌==◌, ℕ, ℤ, pos, neg_ℤ, Bool, false, List, [], ◌∷◌, drop, length, map, All, Any, Contains, Some, None, codes, if◌then◌else◌}
 use Rattle.std.specs.List.{slice_split}
 use Rattle.run_cycles.specs.declared.cycles.Deadline.{Deadline}
-use Rattle.run_cycles.specs.declared.cycles.Kind.{Kind}
-use Rattle.run_cycles.specs.declared.cycles.Kind.TheVariants.{Normal, Negative}
+use Rattle.run_cycles.specs.declared.cycles.CycleType.{CycleType}
+use Rattle.run_cycles.specs.declared.cycles.CycleType.TheVariants.{Normal, Negative}
 use Rattle.run_cycles.specs.declared.cycles.RunCycle.{RunCycle}
 use Rattle.run_cycles.specs.declared.cycles.TheConstants.{MAX_DEADLINE_DAYS}
 use Rattle.run_cycles.specs.declared.offsets.TheConstants.{MAX_OFFSET, MAX_OFFSETS}
@@ -61,7 +61,7 @@ pub record SpellsDeadline (day : List ℕ) (time : List ℕ) (deadline : Deadlin
   pub clock : SpellsMinute time deadline.time
 
 -- the letter and the two fields of the deadline spell a kind: N needs a deadline, X may have both fields empty
-abbrev pub SpellsKind : List ℕ → List ℕ → List ℕ → Kind → Type 0
+abbrev pub SpellsKind : List ℕ → List ℕ → List ℕ → CycleType → Type 0
 SpellsKind letter day time (Normal deadline) = (letter ≡ codes "N") × SpellsDeadline day time deadline
 SpellsKind letter day time (Negative (Some deadline)) = (letter ≡ codes "X") × SpellsDeadline day time deadline
 SpellsKind letter day time (Negative None) = (letter ≡ codes "X") × (day ≡ []) × (time ≡ [])

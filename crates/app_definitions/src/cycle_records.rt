@@ -5,7 +5,7 @@ ghost use Rattle.std.specs.List.{HoldsAt};
 ghost use Rattle.csv.specs.Records.{fields_of};
 ghost use Rattle.run_cycles.specs.declared.offsets.TheConstants.{MAX_OFFSET};
 ghost use Rattle.run_cycles.specs.declared.cycles.Deadline.{Deadline as DeadlineValue};
-ghost use Rattle.run_cycles.specs.declared.cycles.Kind.{Kind as KindValue};
+ghost use Rattle.run_cycles.specs.declared.cycles.CycleType.{CycleType as CycleTypeValue};
 ghost use Rattle.run_cycles.specs.declared.rules.Rule.{Rule as RuleValue};
 ghost use Rattle.app_definitions.specs.Fields.{field, number_value};
 ghost use Rattle.app_definitions.specs.CycleRecords.{rule_text, IsDistanceText, IsOffsetText, offset_value, pieces_of, SpellsOffsets, SpellsDeadline, SpellsKind, SpellsRunCycle, IsRunCycleText, FitsRunCycle, AreRunCyclesOf};
@@ -14,7 +14,7 @@ ghost use Rattle.app_definitions.specs.Rising.{AreRising, IsPlaceFor};
 use crate::by_name::Definition;
 use crate::fields::{day_of, field_at, minute_of, number_of, optional_day_of, short_of};
 use csv::ByteRecord;
-use run_cycles::{Deadline, Kind, MAX_DEADLINE_DAYS, MAX_OFFSET, Offsets, Rule, RunCycle};
+use run_cycles::{CycleType, Deadline, MAX_DEADLINE_DAYS, MAX_OFFSET, Offsets, Rule, RunCycle};
 use std::alloc::{AllocError, Global};
 use std::marker::Model;
 use work_calendars::Short;
@@ -124,20 +124,20 @@ fn deadline_of(day: &[u8], time: &[u8]) -> Option<Deadline>
 }
 
 // The kind that this letter and the two fields of the deadline spell.
-fn kind_of(letter: &[u8], day: &[u8], time: &[u8]) -> Option<Kind>
-    ensures valid { IsSome result ↔ ((kind : KindValue) × SpellsKind letter.now day.now time.now kind) }
+fn kind_of(letter: &[u8], day: &[u8], time: &[u8]) -> Option<CycleType>
+    ensures valid { IsSome result ↔ ((kind : CycleTypeValue) × SpellsKind letter.now day.now time.now kind) }
     ensures value { IfSome result (SpellsKind letter.now day.now time.now) }
 {
     if letter == b"N".as_slice() {
-        return Some(Kind::Normal(deadline_of(day, time)?));
+        return Some(CycleType::Normal(deadline_of(day, time)?));
     }
     if letter != b"X".as_slice() {
         return None;
     }
     if day.is_empty() && time.is_empty() {
-        return Some(Kind::Negative(None));
+        return Some(CycleType::Negative(None));
     }
-    Some(Kind::Negative(Some(deadline_of(day, time)?)))
+    Some(CycleType::Negative(Some(deadline_of(day, time)?)))
 }
 
 // The run cycle that a record spells, with the offsets that it spells.

@@ -161,11 +161,11 @@ fn deadline_text(alloc: Global, letter: char, deadline: Deadline) -> Result<Stri
     format!(in alloc; "{letter} {days} {minutes}")
 }
 
-fn kind_text(alloc: Global, kind: run_cycles::Kind) -> Result<String, AllocError> {
+fn kind_text(alloc: Global, kind: run_cycles::CycleType) -> Result<String, AllocError> {
     match kind {
-        run_cycles::Kind::Normal(deadline) => deadline_text(alloc, 'N', deadline),
-        run_cycles::Kind::Negative(Some(deadline)) => deadline_text(alloc, 'X', deadline),
-        run_cycles::Kind::Negative(None) => format!(in alloc; "X"),
+        run_cycles::CycleType::Normal(deadline) => deadline_text(alloc, 'N', deadline),
+        run_cycles::CycleType::Negative(Some(deadline)) => deadline_text(alloc, 'X', deadline),
+        run_cycles::CycleType::Negative(None) => format!(in alloc; "X"),
     }
 }
 

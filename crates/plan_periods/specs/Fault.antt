@@ -5,7 +5,8 @@ use Rattle.plan_periods.specs.Period.{Entry, IsIntervalLength, EndsBeforeOrigin,
 use Rattle.plan_periods.specs.declared.periods.Period.{Period}
 use Rattle.plan_periods.specs.declared.periods.Period.TheVariants.{All as AllDays, Work, Listed}
 use Rattle.plan_periods.specs.declared.faults.PeriodFault.{PeriodFault}
-use Rattle.plan_periods.specs.declared.faults.PeriodFault.TheVariants.{IntervalOutOfRange, EndBeforeOrigin, OriginsNotRising, NoOrigin}
+use Rattle.plan_periods.specs.declared.faults.PeriodFault.TheVariants.{IntervalOutOfRange, EndBeforeOrigin}
+use Rattle.plan_periods.specs.declared.faults.PeriodFault.TheVariants.{OriginsNotRising, NoOrigin}
 
 -- the number of a fault
 abbrev pub number_of_fault : PeriodFault → ℕ
@@ -31,10 +32,13 @@ HasFault (Listed entries) f = HasListFault entries f
 
 -- the fault holds, and none of a lesser number does
 abbrev pub IsLeastFault : Period → PeriodFault → Type 0
-IsLeastFault p f = HasFault p f × ((g : PeriodFault) → HasFault p g → number_of_fault f ≤ number_of_fault g)
+IsLeastFault p f =
+    HasFault p f × ((g : PeriodFault) → HasFault p g → number_of_fault f ≤ number_of_fault g)
 
 abbrev pub IsLeastListFault : List Entry → PeriodFault → Type 0
-IsLeastListFault entries f = HasListFault entries f × ((g : PeriodFault) → HasListFault entries g → number_of_fault f ≤ number_of_fault g)
+IsLeastListFault entries f =
+    HasListFault entries f
+    × ((g : PeriodFault) → HasListFault entries g → number_of_fault f ≤ number_of_fault g)
 
 -- no fault holds
 abbrev pub HasNoFault : Period → Type 0

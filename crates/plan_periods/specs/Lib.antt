@@ -1,5 +1,6 @@
 pub mod Fault
 pub mod Interval
+pub mod Limits
 pub mod Period
 pub mod Places
 pub mod Walk

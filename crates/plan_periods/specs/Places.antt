@@ -1,5 +1,7 @@
--- How a walk keeps what is left: by the places of the period's intervals, from the next one on.
-use Rattle.std.specs.Prelude.{◌≡◌, ℕ, ◌+◌, ◌-◌, ◌*◌, ◌/◌, ◌≤◌, ◌<◌, ◌&&◌, zero, suc, Bool, true, nat_le, Option, Some, None, List, [], ◌∷◌, length, drop, slice_get}
+-- How the code of a walk keeps what is left: by the places of the period's intervals, from the next one on.
+-- Words of private contracts alone; what a period's intervals are stands in Interval.antt.
+use Rattle.std.specs.Prelude.{◌≡◌, ℕ, ◌+◌, ◌-◌, ◌*◌, ◌/◌, ◌≤◌, ◌<◌, ◌&&◌, zero, suc, Bool, true, nat_le}
+use Rattle.std.specs.Prelude.{Option, Some, None, List, [], ◌∷◌, length, drop, slice_get}
 use Rattle.std.specs.List.{filter}
 use Rattle.work_calendars.specs.Day.{last_day}
 use Rattle.plan_periods.specs.Period.{Entry, IsIntervalLength, HasRisingOrigins}
@@ -40,10 +42,12 @@ meets_range from to x = nat_le from to && nat_le x.first to && ends_from from x.
 abbrev pub met_from : List Entry → ℕ → ℕ → ℕ → List Interval
 met_from entries from to next = filter (meets_range from to) (listed (drop next entries))
 
--- the first interval from place `next` on that meets the range, and the place after it, which is the end where there is none
+-- the first interval from place `next` on that meets the range, and the place after it, which is the end
+-- where there is none
 abbrev pub FindsNext : List Entry → ℕ → ℕ → ℕ → Option Interval → ℕ → Type 0
 FindsNext entries from to next None after = (met_from entries from to next ≡ []) × (after ≡ length entries)
-FindsNext entries from to next (Some x) after = (met_from entries from to next ≡ x ∷ met_from entries from to after) × (next < after)
+FindsNext entries from to next (Some x) after =
+    (met_from entries from to next ≡ x ∷ met_from entries from to after) × (next < after)
 
 -- what is left where the places from `next` to before `end` are still to be looked at
 abbrev pub left_of : Period → ℕ → ℕ → ℕ → ℕ → List Interval
@@ -67,6 +71,7 @@ pub record StepsMeet (origin n from to start end : ℕ) : Type 0 where
 
 -- the places of a walk over this period and range
 abbrev pub IsWalkState : Period → ℕ → ℕ → ℕ → ℕ → ℕ → Type 0
-IsWalkState (AllDays origin n) from to start next end = IsIntervalLength n × (start ≤ next) × (next ≤ end) × StepsMeet origin n from to start end
+IsWalkState (AllDays origin n) from to start next end =
+    IsIntervalLength n × (start ≤ next) × (next ≤ end) × StepsMeet origin n from to start end
 IsWalkState (Work _ _) from to start next end = (start ≡ 0) × (next ≡ 0)
 IsWalkState (Listed entries) from to start next end = (start ≡ 0) × (next ≤ length entries) × HasRisingOrigins entries

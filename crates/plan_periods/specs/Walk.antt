@@ -1,4 +1,5 @@
--- A walk over the intervals of a period that meet a range of days: what is left of it, and how many intervals it has looked at.
+-- A walk over the intervals of a period that meet a range of days: what is left of it, and how many
+-- intervals it has looked at.
 use Rattle.std.specs.Prelude.{◌≡◌, ℕ, ◌+◌, ◌-◌, ◌/◌, ◌≤◌, ◌<◌, ◌↔◌, Option, List, length, IsNone}
 use Rattle.std.specs.Option.{option_to_list}
 use Rattle.std.specs.List.{Contains, AllPairs}
@@ -7,7 +8,8 @@ use Rattle.plan_periods.specs.declared.intervals.Interval.{Interval}
 use Rattle.plan_periods.specs.declared.periods.Period.{Period}
 use Rattle.plan_periods.specs.declared.periods.Period.TheVariants.{All as AllDays, Work, Listed}
 
--- the intervals of `period` that meet the days from `from` to `to`, of which `left` are still to come after `visited` intervals were looked at
+-- the intervals of `period` that meet the days from `from` to `to`, of which `left` are still to come after
+-- `visited` intervals were looked at
 pub record Walk : Type 0 where
   pub period : Period
   pub from : ℕ
@@ -30,11 +32,13 @@ VisitsFew (AllDays _ n) from to visited = visited ≤ days_of_range from to / n 
 VisitsFew (Work _ _) _ _ visited = visited ≡ 0
 VisitsFew (Listed entries) _ _ visited = visited ≤ length entries
 
--- how many intervals were looked at before and after a call that gave this: each one given, and of a list those that were passed over, at its end all
+-- how many intervals were looked at before and after a call that gave this: each one given, and of a list
+-- those that were passed over, at its end all
 abbrev pub CountsVisits : Period → Option Interval → ℕ → ℕ → Type 0
 CountsVisits (AllDays _ _) given before after = after ≡ before + length (option_to_list given)
 CountsVisits (Work _ _) _ before after = after ≡ before
-CountsVisits (Listed entries) given before after = (before + length (option_to_list given) ≤ after) × (IsNone given → after ≡ length entries)
+CountsVisits (Listed entries) given before after =
+    (before + length (option_to_list given) ≤ after) × (IsNone given → after ≡ length entries)
 
 -- a call that gave this went on with the walk over the same period and range
 pub record GoesOn (old : Walk) (given : Option Interval) (new : Walk) : Type 0 where

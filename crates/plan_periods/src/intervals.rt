@@ -6,7 +6,9 @@ use work_calendars::Day;
 /// An interval of a period: its first day, and its last day, or none where the interval is open.
 #[derive(Clone, Copy, Debug, PartialEq, Eq, Hash)]
 pub struct Interval {
+    /// Its first day.
     pub first: Day,
+    /// Its last day, or none where it is open.
     pub last: Option<Day>,
 }
 
@@ -24,8 +26,8 @@ impl Interval {
     }
 }
 
-/// The intervals of a period that meet a range of days, each once, by rising first day. A period of work days has none here, since its intervals depend on
-/// a calendar.
+/// The intervals of a period that meet a range of days, each once, by rising first day. A period of work days has
+/// none here, since its intervals depend on a calendar.
 #[derive(Debug, Drop)]
 pub struct Intervals<'a> {
     period: &'a Period,
@@ -44,7 +46,13 @@ impl<'a> Model for Intervals<'a> {
 
     ghost use Rattle.plan_periods.specs.Places.{left_of, IsWalkState};
 
-    ghost view = { λ a. record { period = a.period.now; from = a.from; to = a.to; left = left_of a.period.now a.from a.to a.next a.end; visited = a.next - a.start } };
+    ghost view = { λ a. record {
+      period = a.period.now;
+      from = a.from;
+      to = a.to;
+      left = left_of a.period.now a.from a.to a.next a.end;
+      visited = a.next - a.start;
+    } };
 
     ghost invariant = { λ a. IsWalkState a.period.now a.from a.to a.start a.next a.end };
 }
@@ -54,7 +62,8 @@ impl<'a> Intervals<'a> {
     ghost use Rattle.plan_periods.specs.Period.{IsSoundPeriod};
     ghost use Rattle.plan_periods.specs.Walk.{ListsMeeting, VisitsFew};
 
-    /// A walk over the intervals that meet the days from `from` to `to`, both included. None does where `to` is before `from`.
+    /// A walk over the intervals that meet the days from `from` to `to`, both included. None does where `to` is
+    /// before `from`.
     pub fn new(period: &'a Period, from: Day, to: Day) -> Intervals<'a>
         requires { IsSoundPeriod period.now }
         ensures period { result.period ≡ period.now }
@@ -78,7 +87,8 @@ impl<'a> Intervals<'a> {
         }
     }
 
-    /// How many intervals the walk has looked at. Over a period of days those are the ones that it gave: no more than fit into the range, and two.
+    /// How many intervals the walk has looked at. Over a period of days those are the ones that it gave: no more
+    /// than fit into the range, and two.
     pub fn visited(&self) -> usize
         ensures value { result ≡ self.now.visited }
         ensures few { VisitsFew self.now.period self.now.from self.now.to result }

@@ -4,7 +4,8 @@ use std::alloc::AllocError;
 use std::marker::Model;
 use work_calendars::Day;
 
-/// The origins of a period that lists its intervals, each with the last day of its interval or none. Contracts see the list.
+/// The origins of a period that lists its intervals, each with the last day of its interval or none. Contracts see
+/// the list.
 #[derive(Debug, Drop)]
 pub struct Origins {
     entries: Vec<(Day, Option<Day>)>,

@@ -1,6 +1,7 @@
 ghost use Rattle.std.specs.Prelude.{◌≡◌, IsOk, IfErr, OnOk, IsTrue, ◌↔◌};
 ghost use Rattle.std.specs.List.{Any};
-ghost use Rattle.plan_periods.specs.Period.{IsSoundPeriod, IsIntervalLength, IsSoundList, EndsBeforeOrigin, HasRisingOrigins};
+ghost use Rattle.plan_periods.specs.Period.{IsSoundPeriod, IsIntervalLength, IsSoundList};
+ghost use Rattle.plan_periods.specs.Period.{EndsBeforeOrigin, HasRisingOrigins};
 ghost use Rattle.plan_periods.specs.Fault.{HasNoFault, IsLeastFault, IsLeastListFault};
 ghost use Rattle.plan_periods.specs.declared.faults.PeriodFault.TheVariants.{IntervalOutOfRange};
 
@@ -23,8 +24,8 @@ pub enum Period {
 }
 
 impl Period {
-    /// Whether the period is sound: an interval in 1 to `MAX_INTERVAL`, or at least one origin, each later than the one before it, with no end before its
-    /// origin. Where several faults hold, the answer is the one of least number.
+    /// Whether the period is sound: an interval in 1 to `MAX_INTERVAL`, or at least one origin, each later than the
+    /// one before it, with no end before its origin. Where several faults hold, the answer is the one of least number.
     pub fn check(&self) -> Result<(), PeriodFault>
         ensures sound { IsOk result ↔ IsSoundPeriod self.now }
         ensures no_fault { IsOk result ↔ HasNoFault self.now }
@@ -70,7 +71,7 @@ fn check_origins(entries: &[(Day, Option<Day>)]) -> Result<(), PeriodFault>
     ensures ok { OnOk result (IsSoundList entries.now) }
     ensures err { IfErr result (IsLeastListFault entries.now) }
 {
-    if some_end_before_origin(entries) {
+    if any_end_before_origin(entries) {
         return Err(PeriodFault::EndBeforeOrigin);
     }
     if !has_rising_origins(entries) {
@@ -82,7 +83,7 @@ fn check_origins(entries: &[(Day, Option<Day>)]) -> Result<(), PeriodFault>
     Ok(())
 }
 
-fn some_end_before_origin(entries: &[(Day, Option<Day>)]) -> bool
+fn any_end_before_origin(entries: &[(Day, Option<Day>)]) -> bool
     ensures { IsTrue result ↔ Any EndsBeforeOrigin entries.now }
 {
     entries.iter().any(ends_before_origin)

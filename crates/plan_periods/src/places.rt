@@ -6,8 +6,8 @@ ghost use Rattle.plan_periods.specs.Places.{StepsMeet, FindsNext, listed};
 use crate::Interval;
 use work_calendars::Day;
 
-/// The places of the intervals of `interval` days that meet the range: from the first one to before the second one. Only intervals that end by the last day
-/// of all are there.
+/// The places of the intervals of `interval` days that meet the range: from the first one to before the second one.
+/// Only intervals that end by the last day of all are there.
 pub fn steps_meeting(origin: Day, interval: u16, from: Day, to: Day) -> (usize, usize)
     requires { IsIntervalLength interval }
     ensures { StepsMeet origin interval from to result.0 result.1 }
@@ -18,6 +18,7 @@ pub fn steps_meeting(origin: Day, interval: u16, from: Day, to: Day) -> (usize, 
     if to < from || latest < origin {
         return (0, 0);
     }
+    // a range that begins before the origin meets the intervals from the first on
     let start = from.saturating_sub(origin) / days;
     let end = (latest - origin) / days + 1;
     (start as usize, end as usize)

@@ -1,26 +1,68 @@
--- Counts of work days in an interval.
-use Rattle.std.proofs.Common.{◌≡◌, ◌+◌, ◌-◌, ℕ, ℤ, Bool, Option, IsTrue, option_map, ap, sym, subst, ◌∙◌}
-use Rattle.std.specs.Prelude.{List}
+-- Counts of work days, by how many come before a day.
+use Rattle.std.proofs.Common.{◌≡◌, ◌+◌, ◌-◌, ◌<◌, ◌≤◌, ◌↔◌, ℕ, ℤ, zero, suc, Bool, List, Option, Some, None, IsTrue, cond, option_map, ap, sym, subst, ◌∙◌, refl, arith}
+use Rattle.std.specs.Prelude.{Any}
+use Rattle.plan_periods.specs.Interval.{HoldsDay}
 use Rattle.work_calendars.specs.WorkDay.{work_days_before}
-use Rattle.work_calendars.proofs.WorkDayFacts.{work_days_before-work}
-use Rattle.work_calendars.specs.WorkIndex.{is_work_in}
-use Rattle.run_cycles.specs.CountedDay.{IsCounted, IsCountedIn}
+use Rattle.work_calendars.proofs.WorkDayFacts.{work_days_before-suc, work_days_before-work}
+use Rattle.run_cycles.specs.CountedDay.{work_days_among, work_days_from_to, IsWorkDayAt}
+use Rattle.run_cycles.specs.Offset.{Offset, FromFirst, FromLast, offset_of}
+use Rattle.run_cycles.specs.Searches.{HasCount}
+use Rattle.run_cycles.proofs.Iff.{Any-weaker}
 
--- the counts that the program makes are those of the interval
-pub counted_in : (k : ℤ) (work : ℕ → Bool) (first d before from_first : ℕ) (last to_last : Option ℕ) → IsTrue (work d) → before ≡ work_days_before work d → from_first ≡ before + 1 - work_days_before work first → to_last ≡ option_map (λ l. work_days_before work (l + 1) - before) last → IsCounted k from_first to_last ≡ IsCountedIn k work first last d
-counted_in k work first d before from_first last to_last on is-before is-first is-last =
-    let one : work_days_before work (d + 1) ≡ work_days_before work d + 1 = work_days_before-work work d on in
-    let e : from_first ≡ work_days_before work (d + 1) - work_days_before work first = is-first ∙ ap (λ n. n - work_days_before work first) (ap (λ n. n + 1) is-before ∙ sym one) in
-    let f : to_last ≡ option_map (λ l. work_days_before work (l + 1) - work_days_before work d) last = is-last ∙ ap (λ n. option_map (λ l. work_days_before work (l + 1) - n) last) is-before in
-    λ i. IsCounted k (e i) (f i)
+among-zero : (work : ℕ → Bool) (first : ℕ) → work_days_among work first 0 ≡ 0
+unfolding work_days_among
+among-zero work first = refl
 
-pub coe_to : {A B : Type 0} → A ≡ B → A → B
-coe_to e x = let P : Type 0 → Type 0 = λ T. T in subst P e x
+among-suc : (work : ℕ → Bool) (first n : ℕ) → work_days_among work first (suc n) ≡ work_days_among work first n + cond (work (first + n)) 1 0
+unfolding work_days_among
+among-suc work first n = refl
 
-pub coe_from : {A B : Type 0} → A ≡ B → B → A
-coe_from e x = let P : Type 0 → Type 0 = λ T. T in subst P (sym e) x
+-- the work days among n days are those before the end without those before the first
+pub among_before : (work : ℕ → Bool) (first n : ℕ) → work_days_before work first + work_days_among work first n ≡ work_days_before work (first + n)
+among_before work first zero =
+    let none = among-zero work first in
+    let e : first + 0 ≡ first = omega arith in
+    rw e (omega arith)
+among_before work first (suc n) =
+    let here = among-suc work first n in
+    let so = among_before work first n in
+    let e : first + suc n ≡ suc (first + n) = omega arith in
+    let next = work_days_before-suc work (first + n) in
+    rw e (omega arith)
 
--- the same, at what the program reads of an index
-pub counts : (index : List Bool) (d : ℕ) → IsTrue (is_work_in index d) → (before rank-first from_first : ℕ) (first : ℕ) (last to_last : Option ℕ) → before ≡ work_days_before (is_work_in index) d → rank-first ≡ work_days_before (is_work_in index) first → from_first ≡ before + 1 - rank-first → to_last ≡ option_map (λ l. work_days_before (is_work_in index) (l + 1) - before) last → (k : ℤ) → IsCounted k from_first to_last ≡ IsCountedIn k (is_work_in index) first last d
-counts index d on before rank-first from_first first last to_last is-before is-rank is-first is-last k =
-    counted_in k (is_work_in index) first d before from_first last to_last on is-before (is-first ∙ ap (λ n. before + 1 - n) is-rank) is-last
+-- the same from one day to another
+pub from_to_before : (work : ℕ → Bool) (first last : ℕ) → first ≤ last + 1 → work_days_before work first + work_days_from_to work first last ≡ work_days_before work (last + 1)
+from_to_before work first last within =
+    let e : first + (last + 1 - first) ≡ last + 1 = omega arith in
+    among_before work first (last + 1 - first) ∙ ap (work_days_before work) e
+
+-- the work days from the origin to the day before d
+pub among_origin : (work : ℕ → Bool) (origin d : ℕ) → origin ≤ d → work_days_among work origin (d - origin) ≡ work_days_before work d - work_days_before work origin
+among_origin work origin d from =
+    let e : origin + (d - origin) ≡ d = omega arith in
+    let so : work_days_before work origin + work_days_among work origin (d - origin) ≡ work_days_before work d = among_before work origin (d - origin) ∙ ap (work_days_before work) e in
+    omega arith
+
+module _ (work : ℕ → Bool) (first d : ℕ) (on : IsTrue (work d)) where
+  -- numbers of work days say at which offsets a work day of an interval is
+  pub count_is : (k : Offset) (end : Option ℕ) → HoldsDay first end d → HasCount k (work_days_before work d) (work_days_before work first) (option_map (λ last. work_days_before work (last + 1)) end) ↔ IsWorkDayAt work k first end d
+  count_is (FromFirst k) end holds =
+      let low : first ≤ d = holds.0 in
+      let here = work_days_before-work work d on in
+      let counted = from_to_before work first d (omega arith) in
+      ((λ h. (on, holds, omega (arith, h))), λ h. omega (arith, h.2))
+  count_is (FromLast k) None holds = ((λ h. absurd h), λ h. absurd h)
+  count_is (FromLast k) (Some last) holds =
+      let high : d ≤ last = holds.1 in
+      let counted = from_to_before work d last (omega arith) in
+      ((λ h. (on, holds, omega (arith, h))), λ h. omega (arith, h.2))
+
+  -- the same for any of the offsets, at the numbers that the program reads
+  pub any_count_is : (offsets : List ℤ) (before before_first : ℕ) (end up : Option ℕ) → HoldsDay first end d → before ≡ work_days_before work d → before_first ≡ work_days_before work first → up ≡ option_map (λ last. work_days_before work (last + 1)) end → Any (λ k. HasCount (offset_of k) before before_first up) offsets ↔ Any (λ k. IsWorkDayAt work (offset_of k) first end d) offsets
+  any_count_is offsets before before_first end up holds is-before is-first is-up =
+      let same : (k : ℤ) → HasCount (offset_of k) before before_first up ≡ HasCount (offset_of k) (work_days_before work d) (work_days_before work first) (option_map (λ last. work_days_before work (last + 1)) end)
+      = λ k i. HasCount (offset_of k) (is-before i) (is-first i) (is-up i) in
+      let P : Type 0 → Type 0 = λ T. T in (
+        Any-weaker (λ k. HasCount (offset_of k) before before_first up) (λ k. IsWorkDayAt work (offset_of k) first end d) offsets (λ k h. (count_is (offset_of k) end holds).0 (subst P (same k) h)),
+        Any-weaker (λ k. IsWorkDayAt work (offset_of k) first end d) (λ k. HasCount (offset_of k) before before_first up) offsets (λ k h. subst P (sym (same k)) ((count_is (offset_of k) end holds).1 h)),
+      )

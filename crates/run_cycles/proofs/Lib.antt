@@ -1,11 +1,12 @@
-pub mod AnyLemmas
 pub mod CountLemmas
 pub mod DayLemmas
+pub mod Iff
 pub mod NameLemmas
 pub mod NamedDayLemmas
 pub mod OccurrenceLemmas
 pub mod OrderLemmas
 pub mod OwnNames
 pub mod PeriodsLemmas
+pub mod PlaceLemmas
 pub mod ShiftLemmas
 pub mod WalkLemmas

@@ -4,18 +4,18 @@ use Rattle.std.specs.Prelude.{All, Contains, IfSome, IsSomeAnd}
 use Rattle.std.proofs.lemmas.List.{get_or_default, take_all, take_more}
 use Rattle.std.proofs.lemmas.List.Elements.{All-more, All-same, All-contains, Contains-append_left, Contains-push, Contains-push_cases}
 use Rattle.run_cycles.specs.declared.cycles.Deadline.{Deadline}
-use Rattle.run_cycles.specs.declared.cycles.Kind.{Kind}
-use Rattle.run_cycles.specs.declared.cycles.Kind.TheVariants.{Normal, Negative}
+use Rattle.run_cycles.specs.declared.cycles.CycleType.{CycleType}
+use Rattle.run_cycles.specs.declared.cycles.CycleType.TheVariants.{Normal, Negative}
 use Rattle.run_cycles.specs.declared.cycles.RunCycle.{RunCycle}
 use Rattle.run_cycles.specs.declared.named.Named.{Named}
 use Rattle.run_cycles.specs.Occurrence.{PeriodMap, HasDeadline, IsNegative, IsNormal, IsNameAtMost, NamesAt, GivesAt, TakesAt, IsOccurrence, HaveOwnNames, deadline_of}
 use Rattle.run_cycles.proofs.NameLemmas.{at_most_chain, at_most_both}
 
-deadline_of_kind : (kind : Kind) (a b : Deadline) → HasDeadline kind a → HasDeadline kind b → a ≡ b
+deadline_of_kind : (kind : CycleType) (a b : Deadline) → HasDeadline kind a → HasDeadline kind b → a ≡ b
 deadline_of_kind (Normal own) a b p q = p ∙ sym q
 deadline_of_kind (Negative own) a b p q = absurd p
 
-pub normal_of_deadline : (kind : Kind) (a : Deadline) → HasDeadline kind a → IsNormal kind
+pub normal_of_deadline : (kind : CycleType) (a : Deadline) → HasDeadline kind a → IsNormal kind
 normal_of_deadline (Normal own) a p = tt
 normal_of_deadline (Negative own) a p = absurd p
 
@@ -55,12 +55,12 @@ module _ (cycles : List RunCycle) (periods : PeriodMap) (work : ℕ → Bool) (d
   candidate_kept : (best : Option (List ℕ × Deadline)) (b : List ℕ × Deadline) → best ≡ Some b → IfSome best (λ o. (c : RunCycle) × IsCandidate o c) → (c : RunCycle) × IsCandidate b c
   candidate_kept best b e h = let P : Option (List ℕ × Deadline) → Type 0 = λ o. IfSome o (λ o. (c : RunCycle) × IsCandidate o c) in subst P e h
 
-  not_negative : (kind : Kind) (own : Deadline) → kind ≡ Normal own → ¬ (IsNegative kind)
+  not_negative : (kind : CycleType) (own : Deadline) → kind ≡ Normal own → ¬ (IsNegative kind)
   not_negative (Normal own') own e h = h
-  not_negative (Negative own') own e h = absurd (let P : Kind → Type 0 = λ k. IsNegative k in subst P e tt)
+  not_negative (Negative own') own e h = absurd (let P : CycleType → Type 0 = λ k. IsNegative k in subst P e tt)
 
-  own_deadline : (kind : Kind) (own : Deadline) → kind ≡ Normal own → HasDeadline kind own
-  own_deadline kind own e = let P : Kind → Type 0 = λ k. HasDeadline k own in subst P (sym e) refl
+  own_deadline : (kind : CycleType) (own : Deadline) → kind ≡ Normal own → HasDeadline kind own
+  own_deadline kind own e = let P : CycleType → Type 0 = λ k. HasDeadline k own in subst P (sym e) refl
 
   new_candidate : (n : ℕ) (best : Option (List ℕ × Deadline)) (c : RunCycle) (own : Deadline) (b : List ℕ × Deadline) → IsBestSoFar n best → n < length cycles → get_or cycles n c ≡ c → c.kind ≡ Normal own → NamesAt periods work d t c → ((b ≡ (c.name, own)) ⊎ (best ≡ Some b)) → (x : RunCycle) × IsCandidate b x
   new_candidate n best c own b so within at normal names chosen =

@@ -6,8 +6,8 @@ use Rattle.std.specs.FinMap as map
 use Rattle.work_calendars.specs.Moment.{moment_of}
 use Rattle.plan_periods.specs.declared.periods.Period.{Period}
 use Rattle.run_cycles.specs.declared.cycles.Deadline.{Deadline}
-use Rattle.run_cycles.specs.declared.cycles.Kind.{Kind}
-use Rattle.run_cycles.specs.declared.cycles.Kind.TheVariants.{Normal, Negative}
+use Rattle.run_cycles.specs.declared.cycles.CycleType.{CycleType}
+use Rattle.run_cycles.specs.declared.cycles.CycleType.TheVariants.{Normal, Negative}
 use Rattle.run_cycles.specs.declared.cycles.RunCycle.{RunCycle}
 use Rattle.run_cycles.specs.declared.named.Named.{Named}
 use Rattle.run_cycles.specs.NamedDay.{NamesDay}
@@ -17,17 +17,17 @@ abbrev pub PeriodMap : Type 0
 PeriodMap = map.FinMap (slice_cmp nat_cmp) Period
 
 -- a run cycle of type N, and its deadline
-abbrev pub HasDeadline : Kind → Deadline → Type 0
+abbrev pub HasDeadline : CycleType → Deadline → Type 0
 HasDeadline (Normal own) deadline = deadline ≡ own
 HasDeadline (Negative _) deadline = ⊥
 
 -- the run cycle is of type X
-abbrev pub IsNegative : Kind → Type 0
+abbrev pub IsNegative : CycleType → Type 0
 IsNegative (Normal _) = ⊥
 IsNegative (Negative _) = Unit {0}
 
 -- the run cycle is of type N
-abbrev pub IsNormal : Kind → Type 0
+abbrev pub IsNormal : CycleType → Type 0
 IsNormal (Normal _) = Unit {0}
 IsNormal (Negative _) = ⊥
 

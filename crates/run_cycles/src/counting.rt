@@ -1,49 +1,51 @@
-ghost use Rattle.std.specs.Prelude.{◌≡◌, ℕ, ℤ, ◌↔◌, ◌+◌, ◌-◌, ◌<◌, ◌≤◌, All, Any, IsTrue, option_map};
+ghost use Rattle.std.specs.Prelude.{◌≡◌, ◌↔◌, ◌+◌, ◌^◌, ◌<◌, Any, IsTrue, option_map};
 ghost use Rattle.work_calendars.specs.WorkDay.{work_days_before};
 ghost use Rattle.work_calendars.specs.WorkIndex.{is_work_in};
-ghost use Rattle.plan_periods.specs.Period.{IsSoundPeriod, IsIntervalLength};
+ghost use Rattle.plan_periods.specs.Interval.{HoldsDay};
+ghost use Rattle.plan_periods.specs.Period.{IsIntervalLength, IsSoundPeriod};
 ghost use Rattle.plan_periods.specs.declared.periods.Period.TheVariants.{Work};
-ghost use Rattle.run_cycles.specs.CountedDay.{HasPlace, IsCounted, IsCountedDay, IsCountedIn, IsCountedInSome};
-ghost use Rattle.run_cycles.specs.Offset.{IsOffset};
+ghost use Rattle.run_cycles.specs.CountedDay.{HasPlace, IsCountedDay, IsWorkDayAt};
+ghost use Rattle.run_cycles.specs.Offset.{offset_of};
+ghost use Rattle.run_cycles.specs.Searches.{HasCount, IsCountedInInterval};
 
-use crate::walk::next_interval;
 use plan_periods::{Interval, Intervals, Period};
 use work_calendars::{Day, WorkIndex};
 
 /// Whether one of the offsets counts the day by its place among the intervals of a period of work days.
-pub(crate) fn some_has_place(
+pub(crate) fn any_offset_has_place(
     offsets: &[i16],
     origin: Day,
     interval: u16,
     index: &WorkIndex,
     day: Day,
 ) -> bool
-    requires sound { IsIntervalLength interval }
-    requires offsets { All IsOffset offsets.now }
+    requires { IsIntervalLength interval }
     ensures { IsTrue result
-        ↔ Any (λ k. IsCountedDay (Work origin interval) k (is_work_in index.now) day) offsets.now }
+        ↔ Any (λ k. IsCountedDay (Work origin interval) (offset_of k) (is_work_in index.now) day) offsets.now }
 {
     if !index.is_work(day) || day < origin {
         return false;
     }
-    let before = index.rank(day) - index.rank(origin);
-    for offset in offsets {
-        if has_place(*offset, interval, before) {
-            return true;
-        }
-    }
-    false
+    any_has_place(offsets, interval, index.rank(day) - index.rank(origin))
 }
 
-// Whether a work day with that many work days between the origin and it has the place that the offset asks for.
+// Whether a day with that many work days between the origin and it has the place of one of the offsets.
+fn any_has_place(offsets: &[i16], interval: u16, before: usize) -> bool
+    requires { 0 < interval }
+    ensures { IsTrue result ↔ Any (λ k. HasPlace (offset_of k) interval before) offsets.now }
+{
+    offsets
+        .iter()
+        .any(|offset| has_place(*offset, interval, before))
+}
+
 fn has_place(offset: i16, interval: u16, before: usize) -> bool
-    requires offset { IsOffset offset }
-    requires sound { 0 < interval }
-    ensures { IsTrue result ↔ HasPlace offset interval before }
+    requires { 0 < interval }
+    ensures { IsTrue result ↔ HasPlace (offset_of offset) interval before }
 {
     let interval = usize::from(interval);
     let place = before % interval;
-    let count = offset.unsigned_abs() as usize;
+    let count = usize::from(offset.unsigned_abs());
     if offset > 0 {
         place + 1 == count
     } else {
@@ -52,49 +54,64 @@ fn has_place(offset: i16, interval: u16, before: usize) -> bool
 }
 
 /// Whether one of the offsets counts the day among the work days of an interval.
-pub(crate) fn some_is_counted(offsets: &[i16], period: &Period, index: &WorkIndex, day: Day) -> bool
-    requires sound { IsSoundPeriod period.now }
-    requires offsets { All IsOffset offsets.now }
+pub(crate) fn any_offset_counts(
+    offsets: &[i16],
+    period: &Period,
+    index: &WorkIndex,
+    day: Day,
+) -> bool
+    requires { IsSoundPeriod period.now }
     ensures { IsTrue result
-        ↔ Any (λ k. IsCountedInSome period.now k (is_work_in index.now) day) offsets.now }
+        ↔ Any (λ k. IsCountedInInterval period.now (offset_of k) (is_work_in index.now) day) offsets.now }
 {
-    if !index.is_work(day) {
+    any_interval_counts(Intervals::new(period, day, day), offsets, index, day)
+}
+
+// Whether one of the offsets counts the day among the work days of one of the intervals.
+fn any_interval_counts(
+    mut intervals: Intervals,
+    offsets: &[i16],
+    index: &WorkIndex,
+    day: Day,
+) -> bool
+    ensures { IsTrue result
+        ↔ Any (λ i. Any (λ k. IsWorkDayAt (is_work_in index.now) (offset_of k) i.first i.last day) offsets.now)
+        intervals.entry.left }
+{
+    intervals.any(|interval| any_counts_in(offsets, &interval, index, day))
+}
+
+// Whether one of the offsets counts the day among the work days of the interval.
+fn any_counts_in(offsets: &[i16], interval: &Interval, index: &WorkIndex, day: Day) -> bool
+    ensures { IsTrue result
+        ↔ Any (λ k. IsWorkDayAt (is_work_in index.now) (offset_of k) interval.now.first interval.now.last day)
+        offsets.now }
+{
+    if !index.is_work(day) || !holds(interval, day) {
         return false;
     }
-    let mut intervals = Intervals::new(period, day, day);
-    while let Some(interval) = next_interval(&mut intervals) {
-        if some_is_counted_in(offsets, &interval, index, day) {
-            return true;
-        }
-    }
-    false
+    let up_to_last = up_to(index, interval.last);
+    any_has_count(
+        offsets,
+        index.rank(day),
+        index.rank(interval.first),
+        up_to_last,
+    )
 }
 
-// Whether one of the offsets counts the work day in the interval.
-fn some_is_counted_in(offsets: &[i16], interval: &Interval, index: &WorkIndex, day: Day) -> bool
-    requires work { IsTrue (is_work_in index.now day) }
-    requires offsets { All IsOffset offsets.now }
-    ensures { IsTrue result
-        ↔ Any (λ k. IsCountedIn k (is_work_in index.now) interval.now.first interval.now.last day) offsets.now }
+// Whether the day lies in the interval.
+fn holds(interval: &Interval, day: Day) -> bool
+    ensures { IsTrue result ↔ HoldsDay interval.now.first interval.now.last day }
 {
-    let before = index.rank(day);
-    let from_first = (before + 1).saturating_sub(index.rank(interval.first));
-    let to_last = count_to_last(index, before, interval.last);
-    for offset in offsets {
-        if is_counted(*offset, from_first, to_last) {
-            return true;
-        }
-    }
-    false
+    interval.first <= day && interval.last.is_none_or(|last| day <= last)
 }
 
-// How many work days there are up to the last day, if there is one, where that many come before the first to be counted.
-fn count_to_last(index: &WorkIndex, before: usize, last: Option<Day>) -> Option<usize>
-    ensures { result
-        ≡ option_map (λ last. work_days_before (is_work_in index.now) (last + 1) - before) last }
+// How many work days there are up to the last day, if there is one.
+fn up_to(index: &WorkIndex, last: Option<Day>) -> Option<usize>
+    ensures { result ≡ option_map (λ last. work_days_before (is_work_in index.now) (last + 1)) last }
 {
     match last {
-        Some(last) => Some(rank_after(index, last).saturating_sub(before)),
+        Some(last) => Some(rank_after(index, last)),
         None => None,
     }
 }
@@ -111,15 +128,30 @@ fn rank_after(index: &WorkIndex, day: Day) -> usize
     }
 }
 
-// Whether the offset is that many work days from an interval's first day, or to its last.
-fn is_counted(offset: i16, from_first: usize, to_last: Option<usize>) -> bool
-    requires { IsOffset offset }
-    ensures { IsTrue result ↔ IsCounted offset from_first to_last }
+// Whether one of the offsets is a work day's, by how many work days come before it, before the first day of an
+// interval, and up to its last.
+fn any_has_count(
+    offsets: &[i16],
+    before: usize,
+    before_first: usize,
+    up_to_last: Option<usize>,
+) -> bool
+    requires before { before < 2 ^ 32 }
+    requires before_first { before_first < 2 ^ 32 }
+    ensures { IsTrue result ↔ Any (λ k. HasCount (offset_of k) before before_first up_to_last) offsets.now }
 {
-    let count = offset.unsigned_abs() as usize;
-    if offset > 0 {
-        from_first == count
+    offsets.iter().any(|offset| has_count(*offset, before, before_first, up_to_last))
+}
+
+fn has_count(offset: i16, before: usize, before_first: usize, up_to_last: Option<usize>) -> bool
+    requires before { before < 2 ^ 32 }
+    requires before_first { before_first < 2 ^ 32 }
+    ensures { IsTrue result ↔ HasCount (offset_of offset) before before_first up_to_last }
+{
+    let count = usize::from(offset.unsigned_abs());
+    if offset >= 0 {
+        before + 1 == before_first + count
     } else {
-        to_last == Some(count)
+        up_to_last == Some(before + count)
     }
 }

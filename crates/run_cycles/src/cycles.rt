@@ -6,29 +6,35 @@ use work_calendars::{Day, Minute, Short};
 pub struct Deadline {
     /// From 0 to `MAX_DEADLINE_DAYS` in all that is defined.
     pub days: u8,
+    /// The time of that day.
     pub time: Minute,
 }
 
 /// The greatest number of days between input arrival date and deadline.
 pub const MAX_DEADLINE_DAYS: u8 = 99;
 
-/// Whether a run cycle gives occurrences or takes them away.
+/// The type of a run cycle: whether it gives occurrences or takes them away.
 #[derive(Clone, Copy, Debug, PartialEq, Eq, Hash)]
-pub enum Kind {
+pub enum CycleType {
     /// Type N: gives an occurrence at its input arrival time on each day that it names.
     Normal(Deadline),
-    /// Type X: takes away what others give at its input arrival time on the days that it names. Its deadline is not used.
+    /// Type X: takes away what others give at its input arrival time on the days that it names. Its deadline is not
+    /// used.
     Negative(Option<Deadline>),
 }
 
 /// Names days of a period, counted by offsets, for an application.
 #[derive(Clone, Debug, Drop)]
 pub struct RunCycle {
+    /// Its name, which no other run cycle of its application has.
     pub name: Short,
-    pub kind: Kind,
+    /// Its type, with its deadline.
+    pub kind: CycleType,
     /// The name of its period.
     pub period: Short,
+    /// What its offsets count, and where a free day goes.
     pub rule: Rule,
+    /// The places that it names in each interval of its period.
     pub offsets: Offsets,
     /// The first day that it may name.
     pub in_effect: Day,

@@ -6,7 +6,7 @@ ghost use Rattle.run_cycles.specs.declared.named.Named.{Named};
 ghost use Rattle.run_cycles.specs.Occurrence.{HaveOwnNames, IsNameAtMost, IsOccurrence, IsOccurrenceBetween, ListsInOrder, ListsOccurrences, NamesAt, deadline_of};
 
 use crate::naming::names;
-use crate::{Deadline, Kind, Named, Periods, RunCycle};
+use crate::{CycleType, Deadline, Named, Periods, RunCycle};
 use std::alloc::{AllocError, Global};
 use work_calendars::{Day, Minute, Moment, Short, WorkIndex};
 
@@ -67,8 +67,8 @@ fn occurrence_at(
     for cycle in cycles {
         if names_at(cycle, periods, index, day, time) {
             match cycle.kind {
-                Kind::Negative(_) => return None,
-                Kind::Normal(deadline) => best = Some(lesser(best, cycle.name, deadline)),
+                CycleType::Negative(_) => return None,
+                CycleType::Normal(deadline) => best = Some(lesser(best, cycle.name, deadline)),
             }
         }
     }

@@ -1,4 +1,12 @@
 //! Run cycles: the days that they name, and the occurrences that an application's run cycles give.
+//!
+//! ```
+//! // a run cycle with offset 6 of weeks from Monday 2024-01-01 on, whose Saturdays are free, by rule 1
+//! let cycles = vec![in alloc; pay(&rt, alloc, Rule::Before, &[6])?]?;
+//! let named = generate(alloc, &cycles, &periods, &index, monday, sunday)?;
+//! // the closest work day before the Saturday
+//! assert_eq!(rt; named[0].day, friday);
+//! ```
 #![tactic(auto)]
 
 mod counting;
@@ -10,9 +18,8 @@ mod offsets;
 mod periods;
 mod raw;
 mod rules;
-mod walk;
 
-pub use cycles::{Deadline, Kind, MAX_DEADLINE_DAYS, RunCycle};
+pub use cycles::{CycleType, Deadline, MAX_DEADLINE_DAYS, RunCycle};
 pub use generation::generate;
 pub use named::Named;
 pub use naming::names;

@@ -1,4 +1,4 @@
-ghost use Rattle.std.specs.Prelude.{◌≡◌, ◌↔◌, IsSome, IfSome, IfOk};
+ghost use Rattle.std.specs.Prelude.{◌≡◌, ◌↔◌, IsSome, IfSome};
 ghost use Rattle.run_cycles.specs.Offset.{IsOffsets};
 
 use std::alloc::AllocError;
@@ -10,7 +10,7 @@ pub const MAX_OFFSET: u16 = 999;
 /// The greatest number of offsets of a run cycle.
 pub const MAX_OFFSETS: usize = 64;
 
-/// The offsets of a run cycle, 1 to 64 of them, each from 1 to 999 or from -1 to -999.
+/// The offsets of a run cycle, 1 to `MAX_OFFSETS` of them, each from 1 to `MAX_OFFSET` or from -1 to `-MAX_OFFSET`.
 /// Offset 1 is the first day of an interval, -1 its last. Contracts see the list.
 #[derive(Debug, Drop)]
 pub struct Offsets {
@@ -30,7 +30,7 @@ impl Model for Offsets {
 }
 
 impl Offsets {
-    /// The offsets in this vector, if it has 1 to 64 and each is one.
+    /// The offsets in this vector, if it has 1 to `MAX_OFFSETS` and each is one.
     pub fn from_vec(items: Vec<i16>) -> Option<Offsets>
         ensures valid { IsSome result ↔ IsOffsets items.items }
         ensures value { IfSome result (λ o. o ≡ items.items) }
@@ -66,9 +66,9 @@ impl Offsets {
 }
 
 impl Clone for Offsets {
-    fn clone(&self) -> Result<Offsets, AllocError>
-        ensures { IfOk result (λ o. o ≡ self.now) }
-    {
+    ghost is_clone = { λ old new. new ≡ old };
+
+    fn clone(&self) -> Result<Offsets, AllocError> {
         Ok(Offsets {
             items: self.items.clone()?,
         })

@@ -1,13 +1,12 @@
-ghost use Rattle.std.specs.Prelude.{◌≡◌, ℕ, ℤ, ◌↔◌, ◌+◌, ◌^◌, ◌<◌, ◌≤◌, Some, All, Any, IsTrue, IsFalse, IfNone, IfSome};
+ghost use Rattle.std.specs.Prelude.{◌≡◌, ℕ, ◌↔◌, ◌+◌, ◌^◌, ◌<◌, ◌≤◌, Some, Any, IsTrue, IsFalse, IfNone, IfSome, option_map};
 ghost use Rattle.work_calendars.specs.Day.{IsDay};
 ghost use Rattle.work_calendars.specs.WorkIndex.{is_work_in};
 ghost use Rattle.plan_periods.specs.Period.{IsSoundPeriod};
-ghost use Rattle.run_cycles.specs.Offset.{IsOffset};
-ghost use Rattle.run_cycles.specs.RawDay.{IsDayAt, IsDayAtWithin, IsRawDayWithin};
+ghost use Rattle.run_cycles.specs.Offset.{offset_of};
+ghost use Rattle.run_cycles.specs.Searches.{IsDayAtWithin, IsPlaceAt, IsRawDayWithin};
 ghost use Rattle.run_cycles.specs.Shift.{IsShifted};
 
 use crate::Rule;
-use crate::walk::next_interval;
 use plan_periods::{Interval, Intervals, Period};
 use work_calendars::{Day, WorkIndex};
 
@@ -26,7 +25,7 @@ pub(crate) fn raw_days_of(rule: Rule, index: &WorkIndex, day: Day) -> Option<(Da
     match rule {
         Rule::Before => Some((day, day_before_next_work(index, day))),
         Rule::After => Some((day_after_last_work(index, day), day)),
-        _ => Some((day, day)),
+        Rule::WorkDaysOnly | Rule::Same | Rule::Skip => Some((day, day)),
     }
 }
 
@@ -55,67 +54,70 @@ fn day_after_last_work(index: &WorkIndex, day: Day) -> Day
 }
 
 /// Whether some day from `low` to `high` is the raw day of one of the offsets.
-pub(crate) fn some_raw_day(offsets: &[i16], period: &Period, low: Day, high: Day) -> bool
-    requires sound { IsSoundPeriod period.now }
-    requires offsets { All IsOffset offsets.now }
-    ensures { IsTrue result
-        ↔ Any (IsRawDayWithin low high period.now) offsets.now }
+pub(crate) fn any_raw_day(offsets: &[i16], period: &Period, low: Day, high: Day) -> bool
+    requires { IsSoundPeriod period.now }
+    ensures { IsTrue result ↔ Any (λ k. IsRawDayWithin low high period.now (offset_of k)) offsets.now }
 {
-    let mut intervals = Intervals::new(period, low, high);
-    while let Some(interval) = next_interval(&mut intervals) {
-        if some_day_at(offsets, &interval, low, high) {
-            return true;
-        }
-    }
-    false
+    any_interval_has_day(Intervals::new(period, low, high), offsets, low, high)
+}
+
+// Whether some day from `low` to `high` is at one of the offsets of one of the intervals.
+fn any_interval_has_day(mut intervals: Intervals, offsets: &[i16], low: Day, high: Day) -> bool
+    ensures { IsTrue result
+        ↔ Any (λ i. Any (λ k. IsDayAtWithin low high (offset_of k) i.first i.last) offsets.now) intervals.entry.left }
+{
+    intervals.any(|interval| any_day_at(offsets, interval, low, high))
 }
 
 // Whether some day from `low` to `high` is at one of the offsets of the interval.
-fn some_day_at(offsets: &[i16], interval: &Interval, low: Day, high: Day) -> bool
-    requires { All IsOffset offsets.now }
+fn any_day_at(offsets: &[i16], interval: Interval, low: Day, high: Day) -> bool
     ensures { IsTrue result
-        ↔ Any (λ k. IsDayAtWithin low high k interval.now.first interval.now.last) offsets.now }
+        ↔ Any (λ k. IsDayAtWithin low high (offset_of k) interval.first interval.last) offsets.now }
 {
-    for offset in offsets {
-        if is_day_at_within(*offset, interval, low, high) {
-            return true;
-        }
-    }
-    false
+    offsets
+        .iter()
+        .any(|offset| is_day_at_within(*offset, interval, low, high))
 }
 
 // Whether some day from `low` to `high` is at the offset of the interval.
-fn is_day_at_within(offset: i16, interval: &Interval, low: Day, high: Day) -> bool
-    requires { IsOffset offset }
-    ensures { IsTrue result
-        ↔ IsDayAtWithin low high offset interval.now.first interval.now.last }
+fn is_day_at_within(offset: i16, interval: Interval, low: Day, high: Day) -> bool
+    ensures { IsTrue result ↔ IsDayAtWithin low high (offset_of offset) interval.first interval.last }
 {
-    let last = match interval.last {
-        Some(last) => Some(last.number()),
-        None => None,
-    };
-    match day_at(offset, interval.first.number(), last) {
-        Some(x) => low.number() <= x && x <= high.number(),
+    match place_at(
+        offset,
+        interval.first.number() as usize,
+        end_of(interval.last),
+    ) {
+        Some(x) => low.number() as usize <= x && x <= high.number() as usize,
         None => false,
     }
 }
 
-// The day at the offset of the interval from `first` to `last`, all days counted, if there is one.
-fn day_at(offset: i16, first: u32, last: Option<u32>) -> Option<u32>
-    requires offset { IsOffset offset }
-    requires fits { first < 2 ^ 31 }
-    ensures found { IfSome result (λ x. IsDayAt offset first last x) }
-    ensures only { (x : ℕ) → IsDayAt offset first last x → result ≡ Some x }
+/// The number of the day after the last one, if there is one.
+pub(crate) fn end_of(last: Option<Day>) -> Option<usize>
+    ensures { result ≡ option_map (λ last. last + 1) last }
 {
-    let places = u32::from(offset.unsigned_abs()) - 1;
+    match last {
+        Some(last) => Some(last.number() as usize + 1),
+        None => None,
+    }
+}
+
+/// The number at the offset among those from `start` to before `end`, if there is one.
+pub(crate) fn place_at(offset: i16, start: usize, end: Option<usize>) -> Option<usize>
+    requires { start < 2 ^ 32 }
+    ensures found { IfSome result (λ x. IsPlaceAt (offset_of offset) start end x) }
+    ensures only { (x : ℕ) → IsPlaceAt (offset_of offset) start end x → result ≡ Some x }
+{
+    let count = usize::from(offset.unsigned_abs());
     if offset > 0 {
-        match last {
-            Some(last) if first + places > last => None,
-            _ => Some(first + places),
+        match end {
+            Some(end) if start + count > end => None,
+            _ => Some(start + count - 1),
         }
     } else {
-        match last {
-            Some(last) if first + places <= last => Some(last - places),
+        match end {
+            Some(end) if count > 0 && start + count <= end => Some(end - count),
             _ => None,
         }
     }

@@ -1,7 +1,7 @@
 ghost use Rattle.std.specs.Prelude.{IsTrue};
 ghost use Rattle.run_cycles.specs.Occurrence.{HaveOwnNames};
 
-use crate::{Deadline, Kind, Named, Offsets, Periods, Rule, RunCycle, generate};
+use crate::{CycleType, Deadline, Named, Offsets, Periods, Rule, RunCycle, generate};
 use plan_periods::{Origins, Period};
 use std::alloc::{AllocError, Global};
 use std::process::Abort;
@@ -55,7 +55,7 @@ fn pay(
     let offsets = Vec::from_slice(alloc, offsets)?;
     Ok(RunCycle {
         name: short(rt, "RC"),
-        kind: Kind::Normal(Deadline { days: 0, time }),
+        kind: CycleType::Normal(Deadline { days: 0, time }),
         period: short(rt, "WEEK"),
         rule,
         offsets: Offsets::from_vec(offsets).expect(rt, "offsets"),

@@ -1,5 +1,5 @@
 use crate::tests::{day, generated, listed, no_calendar, no_work, pay, short, week, weekdays};
-use crate::{Deadline, Kind, Named, Rule, RunCycle};
+use crate::{CycleType, Deadline, Named, Rule, RunCycle};
 use plan_periods::Period;
 use std::alloc::{AllocError, Global};
 use std::process::Abort;
@@ -204,7 +204,7 @@ fn negative_run_cycle(rt: HostRuntime) -> Result<(), Fail> {
     }
     let mut off = pay(&rt, alloc, Rule::WorkDaysOnly, &[3])?;
     off.name = short(&rt, "OFF");
-    off.kind = Kind::Negative(None);
+    off.kind = CycleType::Negative(None);
     cycles.push(off)?;
     let list = generated(
         &rt,
@@ -268,7 +268,7 @@ fn least_name_gives_the_deadline(rt: HostRuntime) -> Result<(), Fail> {
         let mut alpha = pay(&rt, alloc, Rule::WorkDaysOnly, &[1])?;
         alpha.name = short(&rt, "ALPHA");
         let time = minute(&rt, "06.00");
-        alpha.kind = Kind::Normal(Deadline { days: 1, time });
+        alpha.kind = CycleType::Normal(Deadline { days: 1, time });
         let mut beta = pay(&rt, alloc, Rule::WorkDaysOnly, &[1])?;
         beta.name = short(&rt, "BETA");
         let mut cycles = Vec::new(alloc);
@@ -384,7 +384,7 @@ fn nothing_named(rt: HostRuntime) -> Result<(), Fail> {
         &[],
     )?;
     let mut cycle = pay(&rt, rt.alloc(), Rule::Same, &[1, 2, 3])?;
-    cycle.kind = Kind::Negative(None);
+    cycle.kind = CycleType::Negative(None);
     names_days(
         &rt,
         rt.alloc(),

@@ -1,5 +1,9 @@
-use crate::{MAX_OFFSETS, Offsets, Periods};
+ghost use Rattle.std.specs.Prelude.{◌≡◌, IfOk};
+
+use super::pay;
+use crate::{MAX_OFFSETS, Offsets, Periods, Rule, RunCycle};
 use plan_periods::Period;
+use std::alloc::AllocError;
 use std::test::Fail;
 use work_calendars::{Day, Short};
 
@@ -47,5 +51,21 @@ fn periods_are_found_by_name(rt: HostRuntime) -> Result<(), Fail> {
     assert!(rt; !periods.remove(&day));
     assert!(rt; periods.remove(&week));
     assert!(rt; periods.get(&week).is_none());
+    Ok(())
+}
+
+// A copy equals what it was made of.
+fn copied(cycle: &RunCycle) -> Result<RunCycle, AllocError>
+    ensures { IfOk result (λ copy. copy ≡ cycle.now) }
+{
+    cycle.clone()
+}
+
+#[test]
+fn run_cycles_are_copied(rt: HostRuntime) -> Result<(), Fail> {
+    let cycle = pay(&rt, rt.alloc(), Rule::After, &[1, -1])?;
+    let copy = copied(&cycle)?;
+    assert_eq!(rt; copy.name, cycle.name);
+    assert_eq!(rt; copy.offsets.as_slice(), [1, -1].as_slice());
     Ok(())
 }

@@ -1,6 +1,6 @@
 use Rattle.std.proofs.Common.{◌≡◌, refl, rules, length, None, Some}
 use Rattle.std.specs.Prelude.{codes}
-use Rattle.run_cycles.specs.declared.cycles.Kind.TheVariants.{Normal, Negative}
+use Rattle.run_cycles.specs.declared.cycles.CycleType.TheVariants.{Normal, Negative}
 use Rattle.app_definitions.proofs.CycleLemmas.{no_bytes}
 use Rattle.app_definitions.proofs.cycle_records.kind_of.Goals as goal
 
