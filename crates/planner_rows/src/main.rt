@@ -40,8 +40,12 @@ fn try_all<R: AllocGlobal + Files + Print>(rt: &R) -> io::Result<bool> {
 fn try_one<R: AllocGlobal + Files + Print>(rt: &R, stream: &Listed<'_>) -> io::Result<bool> {
     let alloc = rt.alloc();
     let name = stream.name;
-    let text = fs::read(rt, format!(in alloc; "{name}.in")?)?;
-    let replies = fs::read(rt, format!(in alloc; "{name}.out")?)?;
+    let text = fs::read(rt, format!(in alloc; "{name}.in")?);
+    let replies = fs::read(rt, format!(in alloc; "{name}.out")?);
+    let (Ok(text), Ok(replies)) = (text, replies) else {
+        println!(rt; "{name} GOES WRONG: its files can't be read")?;
+        return Ok(false);
+    };
     let expected = Expected {
         replies: &replies,
         status: stream.status,
@@ -58,7 +62,7 @@ fn try_one<R: AllocGlobal + Files + Print>(rt: &R, stream: &Listed<'_>) -> io::R
     }
 }
 
-/// 0 where all streams hold, 1 where one doesn't, 2 where a file can't be read.
+/// 0 where all streams hold, 1 where one doesn't, 2 where the list can't be read.
 fn main(rt: HostRuntime) -> ExitCode {
     ExitCode::from(match try_all(&rt) {
         Ok(true) => 0,

@@ -113,10 +113,13 @@ pub fn show_wrong<W: io::Write>(
 ) -> io::Result<()> {
     let (ends, pieces) = (wrong.ends, wrong.pieces);
     let (ended, wanted) = (wrong.answered.status, expected.status);
-    writeln!(
-        writer,
-        "{name} GOES WRONG, {ends}, {pieces}: it ended with {ended}, {wanted} is wanted"
-    )?;
+    writeln!(writer, "{name} GOES WRONG, {ends}, {pieces}")?;
+    if ended != wanted {
+        writeln!(
+            writer,
+            "  it ended with status {ended}, and {wanted} is wanted"
+        )?;
+    }
     if let Some(first) = first_difference(&wrong.answered.replies, expected.replies) {
         let line = first.line;
         writeln!(writer, "  the first line that differs is line {line}")?;
