@@ -7,11 +7,10 @@ use Rattle.std.proofs.lemmas.List.Sums.{sum_by-append}
 use Rattle.std.proofs.KnownBytes.{Appends-nil, Appends-trans, Appends-kept}
 use Rattle.stream_items.specs.Items.{Item, items_of}
 use Rattle.stream_items.specs.Pages.{ItemRead}
-use Rattle.planner_cli.specs.Replies.{Reply, printed, prints, is_accepted, is_refused}
-use Rattle.planner_cli.specs.Desk.{State, Step}
-use Rattle.planner_cli.specs.Meaning.{Answers, tally_after, tally_of}
+use Rattle.planner_cli.specs.Replies.{Answered, Reply, printed, prints, is_accepted, is_refused}
+use Rattle.planner_cli.specs.Meaning.{Answers, StepOf, tally_after, tally_of}
 use Rattle.planner_cli.specs.Faults.{cause_of, read_cause, tally_in, fault_line}
-use Rattle.planner_cli.specs.Runs.{EndsBy, IsFrontOf, ItemBreaks, Ran, Replied, Stopped}
+use Rattle.planner_cli.specs.Runs.{EndsBy, IsFrontOf, ItemBreaks, Ran, Stopped}
 use Rattle.planner_cli.specs.declared.tally.Tally.{Tally}
 use Rattle.stream_items.specs.declared.lines.ReadFault.{ReadFault}
 use Rattle.stream_items.specs.declared.lines.ReadFault.TheVariants as Reads
@@ -22,12 +21,12 @@ use Rattle.planner_cli.specs.declared.faults.RunFault.{RunFault}
 use Rattle.stream_items.proofs.Kept.{take_short}
 
 -- more items are answered after the first ones
-pub answers_more : (s m t : State) (xs : List Item) (rs : List Reply) (y : Item) (r : Reply) → Answers s xs rs m → Step m y r t → Answers s (xs ++ y ∷ []) (rs ++ r ∷ []) t
-answers_more s m t [] rs y r a step =
+pub answers_more : {S : Type 0} (Step : StepOf S) (s m t : S) (xs : List Item) (rs : List Reply) (y : Item) (r : Reply) → Answers Step s xs rs m → Step m y r t → Answers Step s (xs ++ y ∷ []) (rs ++ r ∷ []) t
+answers_more Step s m t [] rs y r a step =
     (r, [], t, ap (λ l. l ++ r ∷ []) a.0, subst (λ s'. Step s' y r t) a.1 step, (refl, refl))
-answers_more s m t (x ∷ xs) rs y r a step =
+answers_more Step s m t (x ∷ xs) rs y r a step =
     let (reply, rest, between, e, first, later) = a in
-    (reply, rest ++ r ∷ [], between, ap (λ l. l ++ r ∷ []) e, first, answers_more between m t xs rest y r later step)
+    (reply, rest ++ r ∷ [], between, ap (λ l. l ++ r ∷ []) e, first, answers_more Step between m t xs rest y r later step)
 
 pub prints-append : (xs ys : List Reply) → prints (xs ++ ys) ≡ prints xs ++ prints ys
 unfolding prints
@@ -73,19 +72,19 @@ tally_of-more rs r met m n e accepted refused more_accepted more_refused =
     (count_by-more is_refused rs r ∙ ap (λ b. count_by is_refused rs + (if b then 1 else 0)) (sym refused) ∙ ap (λ k. count_by is_refused rs + k) (sym (other_way met))))
 
 -- how far a run has come: the items in `done` are answered, and the reader has `left`
-pub record Progress (s0 s : State) (w0 w now : Option (List ℕ)) (text : List ℕ) (tally : Tally) : Type 0 where
+pub record Progress {S : Type 0} (Step : StepOf S) (s0 s : S) (w0 w now : Option (List ℕ)) (text : List ℕ) (tally : Tally) : Type 0 where
   pub done : List Item
   pub left : List ℕ
   pub replies : List Reply
   pub now_is : now ≡ Some left
   pub items : items_of text ≡ done ++ items_of left
-  pub answers : Answers s0 done replies s
+  pub answers : Answers Step s0 done replies s
   pub written : Appends w0 w (prints replies)
   pub tally_is : tally ≡ tally_of replies
 
-pub progress_starts : (s : State) (w a : Option (List ℕ)) (tally : Tally) → tally.accepted ≡ 0 → tally.refused ≡ 0 → IfSome a (λ text. Progress s s w w a text tally)
-progress_starts s w None tally e f = tt
-progress_starts s w (Some text) tally e f =
+pub progress_starts : {S : Type 0} (Step : StepOf S) (s : S) (w a : Option (List ℕ)) (tally : Tally) → tally.accepted ≡ 0 → tally.refused ≡ 0 → IfSome a (λ text. Progress Step s s w w a text tally)
+progress_starts Step s w None tally e f = tt
+progress_starts Step s w (Some text) tally e f =
     record {
       done = [];
       left = text;
@@ -98,12 +97,12 @@ progress_starts s w (Some text) tally e f =
     }
 
 -- one more item is answered
-pub progress_answers : (s0 s s' : State) (w0 w w' b c : Option (List ℕ)) (text : List ℕ) (m n : Tally) (one : Option Item) (item : Item) (met : Bool)
-    → Progress s0 s w0 w b text m → IfSome b (λ zs. ItemRead zs one c) → one ≡ Some item
-    → ((out : List ℕ) × Replied s s' item out met × Appends w w' out)
+pub progress_answers : {S : Type 0} (Step : StepOf S) (s0 s s' : S) (w0 w w' b c : Option (List ℕ)) (text : List ℕ) (m n : Tally) (one : Option Item) (item : Item) (met : Bool)
+    → Progress Step s0 s w0 w b text m → IfSome b (λ zs. ItemRead zs one c) → one ≡ Some item
+    → ((out : List ℕ) × Answered (Step s item) s' out met × Appends w w' out)
     → n.accepted ≡ u64_saturate (m.accepted + (if met then 1 else 0)) → n.refused ≡ u64_saturate (m.refused + (if met then 0 else 1))
-    → Progress s0 s' w0 w' c text n
-progress_answers s0 s s' w0 w w' b c text m n one item met p read met_it answered more_accepted more_refused =
+    → Progress Step s0 s' w0 w' c text n
+progress_answers Step s0 s s' w0 w w' b c text m n one item met p read met_it answered more_accepted more_refused =
     let (ys, now, items) = subst (λ o. ItemRead p.left o c) met_it (subst (λ o. IfSome o (λ zs. ItemRead zs one c)) p.now_is read) in
     let (out, r, wrote) = answered in
     record {
@@ -112,21 +111,21 @@ progress_answers s0 s s' w0 w w' b c text m n one item met p read met_it answere
       replies = p.replies ++ r.reply ∷ [];
       now_is = now;
       items = p.items ∙ ap (λ l. p.done ++ l) items ∙ sym (append_assoc p.done (item ∷ []) (items_of ys));
-      answers = answers_more s0 s s' p.done p.replies item r.reply p.answers r.step;
+      answers = answers_more Step s0 s s' p.done p.replies item r.reply p.answers r.gives;
       written = subst (Appends w0 w') (sym (prints-append _ _ ∙ ap (λ l. prints p.replies ++ l) (prints-one _ ∙ sym r.prints.text_is)))
           (Appends-trans w0 w w' _ _ p.written wrote);
       tally_is = tally_of-more p.replies r.reply met m n p.tally_is r.prints.accepted_is r.prints.refused_is more_accepted more_refused;
     }
 
 -- the stream has ended
-pub all_done : (s0 s : State) (w0 w b c : Option (List ℕ)) (text : List ℕ) (tally : Tally) (one : Option Item) → Progress s0 s w0 w b text tally → IfSome b (λ zs. ItemRead zs one c) → one ≡ None
-    → Ran s0 s w0 w text tally
-all_done s0 s w0 w b c text tally one p read none =
+pub all_done : {S : Type 0} (Step : StepOf S) (s0 s : S) (w0 w b c : Option (List ℕ)) (text : List ℕ) (tally : Tally) (one : Option Item) → Progress Step s0 s w0 w b text tally → IfSome b (λ zs. ItemRead zs one c) → one ≡ None
+    → Ran Step s0 s w0 w text tally
+all_done Step s0 s w0 w b c text tally one p read none =
     let last = subst (λ o. ItemRead p.left o c) none (subst (λ o. IfSome o (λ zs. ItemRead zs one c)) p.now_is read) in
     let all : p.done ≡ items_of text = sym (append-nil p.done) ∙ ap (λ l. p.done ++ l) (sym last.0) ∙ sym p.items in
     record {
       replies = p.replies;
-      answers = subst (λ items. Answers s0 items p.replies s) all p.answers;
+      answers = subst (λ items. Answers Step s0 items p.replies s) all p.answers;
       written = p.written;
       tally_is = p.tally_is;
     }
@@ -135,14 +134,14 @@ nothing_front : (ys : List ℕ) → IsFrontOf [] ys
 nothing_front ys = (0, omega arith, refl)
 
 -- a fault of reading tells no more than its line, and changes nothing
-pub read_ends : (f : ReadFault) (s : State) (rest : List Item) → EndsBy (read_cause f) [] s s rest []
-read_ends Reads.Memory s rest = (refl, nothing_front [])
-read_ends Reads.Reader s rest = (refl, nothing_front [])
+pub read_ends : {S : Type 0} (Step : StepOf S) (f : ReadFault) (s : S) (rest : List Item) → EndsBy Step (read_cause f) [] s s rest []
+read_ends Step Reads.Memory s rest = (refl, nothing_front [])
+read_ends Step Reads.Reader s rest = (refl, nothing_front [])
 
 -- a fault between two items
-pub halts_between : (s0 s : State) (w0 w b : Option (List ℕ)) (text : List ℕ) (tally : Tally) (f : ReadFault) (fault : RunFault) → Progress s0 s w0 w b text tally
-    → cause_of fault ≡ read_cause f → tally_in fault ≡ tally → Stopped (λ _. []) s0 s w0 w text fault
-halts_between s0 s w0 w b text tally f fault p e told =
+pub halts_between : {S : Type 0} (Step : StepOf S) (s0 s : S) (w0 w b : Option (List ℕ)) (text : List ℕ) (tally : Tally) (f : ReadFault) (fault : RunFault) → Progress Step s0 s w0 w b text tally
+    → cause_of fault ≡ read_cause f → tally_in fault ≡ tally → Stopped Step (λ _. []) s0 s w0 w text fault
+halts_between Step s0 s w0 w b text tally f fault p e told =
     record {
       done = p.done;
       rest = items_of p.left;
@@ -152,15 +151,15 @@ halts_between s0 s w0 w b text tally f fault p e told =
       items = p.items;
       answers = p.answers;
       written = subst (Appends w0 w) (sym (append-nil _)) p.written;
-      ending = subst (λ c. EndsBy c [] s s (items_of p.left) []) (sym e) (read_ends f s (items_of p.left));
+      ending = subst (λ c. EndsBy Step c [] s s (items_of p.left) []) (sym e) (read_ends Step f s (items_of p.left));
       tally_is = told ∙ p.tally_is;
     }
 
 -- a fault in the answer to an item
-pub halts_within : (s0 s s' : State) (w0 w w' b c : Option (List ℕ)) (text : List ℕ) (tally : Tally) (one : Option Item) (item : Item) (cause : Cause) (fault : RunFault)
-    → Progress s0 s w0 w b text tally → IfSome b (λ zs. ItemRead zs one c) → one ≡ Some item → cause_of fault ≡ cause → tally_in fault ≡ tally
-    → ItemBreaks cause s s' w w' item → Stopped (λ _. []) s0 s' w0 w' text fault
-halts_within s0 s s' w0 w w' b c text tally one item Memory fault p read met_it e told breaks =
+pub halts_within : {S : Type 0} (Step : StepOf S) (s0 s s' : S) (w0 w w' b c : Option (List ℕ)) (text : List ℕ) (tally : Tally) (one : Option Item) (item : Item) (cause : Cause) (fault : RunFault)
+    → Progress Step s0 s w0 w b text tally → IfSome b (λ zs. ItemRead zs one c) → one ≡ Some item → cause_of fault ≡ cause → tally_in fault ≡ tally
+    → ItemBreaks Step cause s s' w w' item → Stopped Step (λ _. []) s0 s' w0 w' text fault
+halts_within Step s0 s s' w0 w w' b c text tally one item Memory fault p read met_it e told breaks =
     let (ys, now, items) = subst (λ o. ItemRead p.left o c) met_it (subst (λ o. IfSome o (λ zs. ItemRead zs one c)) p.now_is read) in
     record {
       done = p.done;
@@ -171,12 +170,12 @@ halts_within s0 s s' w0 w w' b c text tally one item Memory fault p read met_it 
       items = p.items ∙ ap (λ l. p.done ++ l) items;
       answers = p.answers;
       written = subst (Appends w0 w') (sym (append-nil _)) (Appends-kept w0 w w' _ p.written breaks.1);
-      ending = subst (λ c'. EndsBy c' [] s s' (item ∷ items_of ys) []) (sym e) (breaks.0, nothing_front []);
+      ending = subst (λ c'. EndsBy Step c' [] s s' (item ∷ items_of ys) []) (sym e) (breaks.0, nothing_front []);
       tally_is = told ∙ p.tally_is;
     }
-halts_within s0 s s' w0 w w' b c text tally one item (Device Store) fault p read met_it e told breaks = absurd breaks
-halts_within s0 s s' w0 w w' b c text tally one item (Device Reader) fault p read met_it e told breaks = absurd breaks
-halts_within s0 s s' w0 w w' b c text tally one item (Device Writer) fault p read met_it e told breaks =
+halts_within Step s0 s s' w0 w w' b c text tally one item (Device Store) fault p read met_it e told breaks = absurd breaks
+halts_within Step s0 s s' w0 w w' b c text tally one item (Device Reader) fault p read met_it e told breaks = absurd breaks
+halts_within Step s0 s s' w0 w w' b c text tally one item (Device Writer) fault p read met_it e told breaks =
     let (ys, now, items) = subst (λ o. ItemRead p.left o c) met_it (subst (λ o. IfSome o (λ zs. ItemRead zs one c)) p.now_is read) in
     let (tail, cut, appended) = breaks in
     record {
@@ -188,7 +187,7 @@ halts_within s0 s s' w0 w w' b c text tally one item (Device Writer) fault p rea
       items = p.items ∙ ap (λ l. p.done ++ l) items;
       answers = p.answers;
       written = Appends-trans w0 w w' _ _ p.written appended;
-      ending = subst (λ c'. EndsBy c' [] s s' (item ∷ items_of ys) tail) (sym e) (item, items_of ys, refl, cut);
+      ending = subst (λ c'. EndsBy Step c' [] s s' (item ∷ items_of ys) tail) (sym e) (item, items_of ys, refl, cut);
       tally_is = told ∙ p.tally_is;
     }
 
@@ -197,19 +196,19 @@ front_of_nothing : (xs : List ℕ) → IsFrontOf xs [] → xs ≡ []
 front_of_nothing xs front = front.2 ∙ take_short front.0 [] (omega arith)
 
 -- how a run ended, once a front of the fault's line is written
-told_ending : (cause : Cause) (between t : State) (rest : List Item) (tail : List ℕ) (n : ℕ) → n ≤ length (fault_line cause)
-    → EndsBy cause [] between t rest tail → EndsBy cause (fault_line cause) between t rest (tail ++ take n (fault_line cause))
+told_ending : {S : Type 0} (Step : StepOf S) (cause : Cause) (between t : S) (rest : List Item) (tail : List ℕ) (n : ℕ) → n ≤ length (fault_line cause)
+    → EndsBy Step cause [] between t rest tail → EndsBy Step cause (fault_line cause) between t rest (tail ++ take n (fault_line cause))
 unfolding fault_line
-told_ending Memory between t rest tail n fits h = (h.0, (n, fits, ap (λ l. l ++ take n (fault_line Memory)) (front_of_nothing tail h.1)))
-told_ending (Device Store) between t rest tail n fits h = (h.0, (n, fits, ap (λ l. l ++ take n (fault_line (Device Store))) (front_of_nothing tail h.1)))
-told_ending (Device Reader) between t rest tail n fits h = (h.0, (n, fits, ap (λ l. l ++ take n (fault_line (Device Reader))) (front_of_nothing tail h.1)))
-told_ending (Device Writer) between t rest tail n fits h =
-    subst (EndsBy (Device Writer) [] between t rest) (sym (ap (λ l. tail ++ l) (take_short n [] (omega arith)) ∙ append-nil tail)) h
+told_ending Step Memory between t rest tail n fits h = (h.0, (n, fits, ap (λ l. l ++ take n (fault_line Memory)) (front_of_nothing tail h.1)))
+told_ending Step (Device Store) between t rest tail n fits h = (h.0, (n, fits, ap (λ l. l ++ take n (fault_line (Device Store))) (front_of_nothing tail h.1)))
+told_ending Step (Device Reader) between t rest tail n fits h = (h.0, (n, fits, ap (λ l. l ++ take n (fault_line (Device Reader))) (front_of_nothing tail h.1)))
+told_ending Step (Device Writer) between t rest tail n fits h =
+    subst (EndsBy Step (Device Writer) [] between t rest) (sym (ap (λ l. tail ++ l) (take_short n [] (omega arith)) ∙ append-nil tail)) h
 
 -- a fault is told
-pub told : (s t : State) (w0 w w' : Option (List ℕ)) (text : List ℕ) (fault : RunFault) (cause : Cause) → Stopped (λ _. []) s t w0 w text fault → cause ≡ cause_of fault
-    → ((n : ℕ) × (n ≤ length (fault_line cause)) × Appends w w' (take n (fault_line cause))) → Stopped fault_line s t w0 w' text fault
-told s t w0 w w' text fault cause p e appended =
+pub told : {S : Type 0} (Step : StepOf S) (s t : S) (w0 w w' : Option (List ℕ)) (text : List ℕ) (fault : RunFault) (cause : Cause) → Stopped Step (λ _. []) s t w0 w text fault → cause ≡ cause_of fault
+    → ((n : ℕ) × (n ≤ length (fault_line cause)) × Appends w w' (take n (fault_line cause))) → Stopped Step fault_line s t w0 w' text fault
+told Step s t w0 w w' text fault cause p e appended =
     let (n, fits, more) = subst (λ c. (n : ℕ) × (n ≤ length (fault_line c)) × Appends w w' (take n (fault_line c))) e appended in
     let line = fault_line (cause_of fault) in
     record {
@@ -221,6 +220,6 @@ told s t w0 w w' text fault cause p e appended =
       items = p.items;
       answers = p.answers;
       written = subst (Appends w0 w') (append_assoc (prints p.replies) p.tail (take n line)) (Appends-trans w0 w w' _ _ p.written more);
-      ending = told_ending (cause_of fault) p.between t p.rest p.tail n fits p.ending;
+      ending = told_ending Step (cause_of fault) p.between t p.rest p.tail n fits p.ending;
       tally_is = p.tally_is;
     }

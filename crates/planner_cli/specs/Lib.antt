@@ -1,9 +1,12 @@
 pub mod Replies
 pub mod Outcomes
+pub mod Rows
 pub mod Kinds
+pub mod State
+pub mod Define
+pub mod Undefine
 pub mod Days
-pub mod Desk
+pub mod Steps
 pub mod Meaning
 pub mod Faults
-pub mod Rows
 pub mod Runs

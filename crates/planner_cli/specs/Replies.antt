@@ -29,3 +29,9 @@ pub record Prints (reply : Reply) (text : List ℕ) (accepted : Bool) : Type 0 w
   pub text_is : text ≡ printed reply
   pub accepted_is : accepted ≡ is_accepted reply
   pub refused_is : not accepted ≡ is_refused reply
+
+-- what a step answers: a reply that it may give, with what is known after it, and the bytes that the reply prints
+pub record Answered {S : Type 0} (Gives : Reply → S → Type 0) (after : S) (text : List ℕ) (accepted : Bool) : Type 0 where
+  pub reply : Reply
+  pub gives : Gives reply after
+  pub prints : Prints reply text accepted

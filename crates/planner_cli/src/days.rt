@@ -1,13 +1,16 @@
-//! The days that an application's run cycles name.
+//! `days`: the days that an application's run cycles name.
 ghost use Rattle.std.specs.Prelude.{◌≡◌, ◌↔◌, ◌≤◌, ℕ, IsTrue, IfErr, IfNone, IfOk, IfSome, OnOk};
 ghost use Rattle.work_calendars.specs.Day.{last_planning_day};
 ghost use Rattle.app_definitions.specs.Active.{IsActive, LacksCalendar, LacksPeriod};
 ghost use Rattle.occurrences.specs.declared.refusal.Refusal.{Refusal as RefusalValue};
-ghost use Rattle.planner_cli.specs.Days.{AreBadDates, DaysRefused, ListsDays};
+ghost use Rattle.planner_cli.specs.Days.{AnswersDays, AreBadDates, DaysRefused, ListsDays};
 ghost use Rattle.planner_cli.specs.Outcomes.{IsLeastRefusal};
+ghost use Rattle.planner_cli.specs.Replies.{Prints, Reply as ReplyValue};
 
+use crate::answers::{Answer, accepted, refused};
+use crate::rows::days_rows;
 use app_definitions::{Application, Definitions, WorkIndexes};
-use occurrences::Refusal;
+use occurrences::{Refusal, Reply};
 use run_cycles::Named;
 use std::alloc::{AllocError, Global};
 use work_calendars::{App, Day};
@@ -66,7 +69,7 @@ fn application_for(all: &Definitions, app: &App, from: Day, to: Day) -> Result<A
 
 /// The occurrences that an application's run cycles name from `from` to `to`, by day and time, or the refusal of the
 /// least number that holds. Errs for want of memory alone.
-pub fn named_days(
+fn named_days(
     alloc: Global,
     all: &Definitions,
     app: &App,
@@ -84,4 +87,23 @@ pub fn named_days(
     let mut indexes = WorkIndexes::new(alloc);
     let list = all.named_occurrences(alloc, &mut indexes, app, &application, from, to)?;
     Ok(Ok(list))
+}
+
+/// Lists the days that an application's run cycles name.
+pub(crate) fn days(
+    alloc: Global,
+    all: &Definitions,
+    app: &App,
+    from: Day,
+    to: Day,
+) -> Result<Answer, AllocError>
+    ensures { IfOk result (λ answer. (reply : ReplyValue) × AnswersDays all.now app.now from to reply × Prints reply answer.text.items answer.is_accepted) }
+{
+    match named_days(alloc, all, app, from, to)? {
+        Ok(named) => {
+            let rows = days_rows(alloc, &named)?;
+            accepted(alloc, rows, Reply::Rows { rows: named.len() })
+        }
+        Err(refusal) => refused(alloc, refusal),
+    }
 }

@@ -3,7 +3,9 @@ ghost use Rattle.std.specs.Prelude.{◌≡◌, ◌≤◌, ℕ, List, [], length,
 ghost use Rattle.std.specs.Io.KnownBytes.{Appends};
 ghost use Rattle.stream_items.specs.Pages.{item_of, FitsBlock};
 ghost use Rattle.planner_cli.specs.Faults.{fault_line, status_of};
-ghost use Rattle.planner_cli.specs.Runs.{ItemBreaks, Ran, Replied, Stopped};
+ghost use Rattle.planner_cli.specs.Replies.{Answered};
+ghost use Rattle.planner_cli.specs.Runs.{ItemBreaks, Ran, Stopped};
+ghost use Rattle.planner_cli.specs.Steps.{Step};
 
 use crate::desk::Desk;
 use crate::faults::{Cause, Part, RunFault, cause_of_read};
@@ -26,10 +28,10 @@ pub fn run<R: BufRead, W: Write>(
 ) -> Result<Tally, RunFault>
     // Where the reader tells its bytes, what the replies to them print is what was written, and nothing else.
     ensures ran { IfOk result (λ tally. IfSome (R.remaining reader.old) (λ text.
-        Ran desk.old desk.new (W.contents writer.old) (W.contents writer.new) text tally)) }
+        Ran Step desk.old desk.new (W.contents writer.old) (W.contents writer.new) text tally)) }
     // After a fault the answers to the items before it stand in the writer.
     ensures fault { IfErr result (λ fault. IfSome (R.remaining reader.old) (λ text.
-        Stopped fault_line desk.old desk.new (W.contents writer.old) (W.contents writer.new) text fault)) }
+        Stopped Step fault_line desk.old desk.new (W.contents writer.old) (W.contents writer.new) text fault)) }
 {
     match answer_all(alloc, desk, reader, writer) {
         Ok(tally) => Ok(tally),
@@ -48,9 +50,9 @@ fn answer_all<R: BufRead, W: Write>(
     writer: &mut W,
 ) -> Result<Tally, RunFault>
     ensures ran { IfOk result (λ tally. IfSome (R.remaining reader.old) (λ text.
-        Ran desk.old desk.new (W.contents writer.old) (W.contents writer.new) text tally)) }
+        Ran Step desk.old desk.new (W.contents writer.old) (W.contents writer.new) text tally)) }
     ensures fault { IfErr result (λ fault. IfSome (R.remaining reader.old) (λ text.
-        Stopped (λ _. []) desk.old desk.new (W.contents writer.old) (W.contents writer.new) text fault)) }
+        Stopped Step (λ _. []) desk.old desk.new (W.contents writer.old) (W.contents writer.new) text fault)) }
 {
     let mut page = Page::new(alloc);
     let mut tally = Tally::new();
@@ -78,9 +80,9 @@ fn answer_one<W: Write>(
 ) -> Result<bool, Cause>
     requires { FitsBlock item }
     ensures ok { IfOk result (λ accepted. (text : List ℕ)
-        × Replied desk.old desk.new (item_of item.entry) text accepted
+        × Answered (Step desk.old (item_of item.entry)) desk.new text accepted
         × Appends (W.contents writer.old) (W.contents writer.new) text) }
-    ensures err { IfErr result (λ cause. ItemBreaks cause desk.old desk.new
+    ensures err { IfErr result (λ cause. ItemBreaks Step cause desk.old desk.new
         (W.contents writer.old) (W.contents writer.new) (item_of item.entry)) }
 {
     let answer = match desk.answer(alloc, item) {

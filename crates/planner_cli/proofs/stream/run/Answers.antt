@@ -5,4 +5,4 @@ use Rattle.planner_cli.proofs.stream.run.Goals as goal
 pub returns-in-Err-clause-fault : goal.returns-in-Err-clause-fault
 returns-in-Err-clause-fault g c =
     if_some_weaken (g.R.Read.remaining c.args.reader.now) _ _
-    (λ text p. told _ _ _ _ _ text _ _ p c.cause.ensures c.tell_fault.ensures) c.in-Err.ensures.fault
+    (λ text p. told _ _ _ _ _ _ text _ _ p c.cause.ensures c.tell_fault.ensures) c.in-Err.ensures.fault

@@ -2,7 +2,7 @@ use Rattle.std.proofs.Common.{◌++◌, ◌∙◌, ap}
 use Rattle.plan_listings.specs.Reply.{reply_text}
 use Rattle.planner_cli.specs.Replies.{ended}
 use Rattle.planner_cli.proofs.OutcomeLemmas.{accepted_prints}
-use Rattle.planner_cli.proofs.desk.accepted.Goals as goal
+use Rattle.planner_cli.proofs.answers.accepted.Goals as goal
 
 pub returns : goal.returns
 returns c lines e =
