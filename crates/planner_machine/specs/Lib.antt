@@ -13,6 +13,7 @@ pub mod Extend
 pub mod Fate
 pub mod InForce
 pub mod Jobs
+pub mod Laws
 pub mod Modify
 pub mod ModifyAll
 pub mod ModifyOne

@@ -4,8 +4,10 @@
 
 mod content;
 mod job;
+mod laws;
 mod limits;
 
 pub use content::{Bounds, Draft};
 pub use job::{Answer, Job, JobText};
+pub use laws::{fate_is_followed, one_answer, refusal_changes_nothing};
 pub use limits::{GREATEST_JOB, LONGEST_WINDOW, MOST_PLANNED_ROWS};

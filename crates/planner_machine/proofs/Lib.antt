@@ -1,0 +1,17 @@
+mod DecisionLemmas
+mod RisingLemmas
+mod RowsSound
+mod SeatLemmas
+mod MadeLemmas
+mod DailyLemmas
+mod ActionLemmas
+mod DraftLemmas
+mod ModifyLemmas
+mod AddLemmas
+mod DeleteLemmas
+mod CreateLemmas
+mod LinkLemmas
+mod PairLemmas
+mod SoundLemmas
+mod OneAnswerLemmas
+mod FateLemmas
