@@ -12,7 +12,7 @@ use Rattle.external_dependencies.specs.Loop.{OnRing, OnLoop}
 use Rattle.external_dependencies.specs.Walk.{IsWalk, Reaches}
 use Rattle.external_dependencies.specs.Nearest.{arrival_of, IsLiveIn}
 use Rattle.external_dependencies.specs.Pair.{IsPairOf}
-use Rattle.external_dependencies.specs.Laws.{SerialsDiffer, PairEdge, NearestIsUnique, NearestArrivesLast, PairsDependOnSet, PairsHaveNoLoop}
+use Rattle.external_dependencies.specs.Laws.{SerialsDiffer, PairEdge, NearestIsUnique, NearestArrivesLast, PairsDependOnSet, PairsHaveNoLoop, NoRowPrecedesItself}
 use Rattle.external_dependencies.proofs.WalkLemmas.{reaches-trans}
 use Rattle.external_dependencies.proofs.RingLemmas.{returns_on_ring, on_ring}
 use Rattle.external_dependencies.proofs.LoopLemmas.{decide_names}
@@ -124,3 +124,15 @@ module _ (rows : List PlacedRow) (links : List Link) (differ : SerialsDiffer row
 
 pub pairs_without_loop : PairsHaveNoLoop
 pairs_without_loop rows links differ = no_loop rows links differ
+
+-- a row that preceded itself would arrive before itself
+pub none_itself : NoRowPrecedesItself
+none_itself rows links differ serial is =
+    let here = is.nearest.live in
+    let may = is.nearest.candidate in
+    let number : here.0.row.serial ≡ serial = ap (λ (a : Arrival). a.serial) here.3 ∙ is.predecessor in
+    let one : here.0.row.key ≡ is.placed.row.key = differ here.0 is.placed here.1 is.stands (number ∙ sym is.successor) in
+    let moments : is.near.ia ≡ is.placed.row.key.ia = ap (λ (a : Arrival). a.ia) (sym here.3) ∙ ap (λ (k : Key). k.ia) one in
+    let apps : is.near.app ≡ is.placed.row.key.app = ap (λ (a : Arrival). a.app) (sym here.3) ∙ ap (λ (k : Key). k.app) one in
+    let before = may.before_own (sym may.of_app ∙ apps) in
+    omega arith

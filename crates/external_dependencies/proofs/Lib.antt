@@ -1,12 +1,15 @@
+mod FallingLemmas
 mod GraphLemmas
 mod LawLemmas
-mod LinkLemmas
+pub mod LexLemmas
 mod LoopLemmas
 mod NearestLemmas
 mod OrderLemmas
 mod PairLemmas
+mod PartLemmas
 mod PlaceLemmas
 mod RingLemmas
+pub mod RisingLemmas
 mod SearchLemmas
 mod VisitLemmas
 mod WalkLemmas

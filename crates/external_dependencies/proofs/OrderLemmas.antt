@@ -7,11 +7,10 @@ use Rattle.std.specs.Cmp.{IsTotalOrder}
 use Rattle.std.specs.Cmp.Lexicographic.{slice_cmp}
 use Rattle.std.specs.Ordering.{nat_cmp, ordering_then, ordering_index, is_lt, is_le, ordering_reverse}
 use Rattle.std.specs.FinMap.{IsAntisymmetric, nat_cmp-IsAntisymmetric, slice_cmp-IsAntisymmetric}
-use Rattle.std.proofs.lemmas.Cmp.{nat_list_cmp_total, on_total, then_total, tied_itself, alike_right}
+use Rattle.std.proofs.lemmas.Cmp.{tied_itself, alike_right}
 use Rattle.std.proofs.lemmas.List.{get_or-take, get_or-drop, length-drop, length-take-le}
 use Rattle.std.proofs.lemmas.List.Sorted.{searchable_from_sorted}
 use Rattle.std.proofs.lemmas.Bool.{cases_lt, cases_order, false≢true}
-use Rattle.external_dependencies.specs.declared.links.Link.{Link}
 use Rattle.external_dependencies.specs.Link.{link_cmp}
 use Rattle.external_dependencies.specs.Rising.{IsRising}
 
@@ -47,9 +46,6 @@ link_ties x y is =
     let apps : x.app ≡ y.app = name_ties x.app y.app both.0 in
     let predecessors : x.predecessor ≡ y.predecessor = name_ties x.predecessor y.predecessor both.1 in
     λ i. record { app = apps i; predecessor = predecessors i }
-
-pub link_total : IsTotalOrder link_cmp
-link_total = then_total (on_total (λ (l : Link). l.app) nat_list_cmp_total) (on_total (λ (l : Link). l.predecessor) nat_list_cmp_total)
 
 module _ {K : Type 0} {R : K → K → Ordering} (o : IsTotalOrder R) where
   -- at most

@@ -1,9 +1,11 @@
 -- Pairs, one link and one occurrence after another.
-use Rattle.std.proofs.Common.{◌≡◌, ◌↔◌, ◌⊎◌, ℕ, List, [], ◌∷◌, ◌++◌, refl, sym, ap, subst, ◌∙◌, inl, inr, Some, None}
+use Rattle.std.proofs.Common.{zero, suc, ◌≡◌, ◌↔◌, ◌⊎◌, ℕ, ◌<◌, Bool, true, false, cond, List, [], ◌∷◌, ◌++◌, length, map, filter, refl, sym, ap, subst, ◌∙◌, inl, inr, arith, Some, None}
+use Rattle.std.proofs.lemmas.Bool.{false≢true}
+use Rattle.std.proofs.lemmas.List.{get_or-map, length-map}
 use Rattle.std.specs.List.{Contains}
 use Rattle.std.specs.Ordering.{nat_cmp}
 use Rattle.std.specs.FinMap.{IsAntisymmetric, nat_cmp-IsAntisymmetric}
-use Rattle.std.proofs.lemmas.List.Elements.{Contains-push, Contains-push_cases, Contains-append_left}
+use Rattle.std.proofs.lemmas.List.Elements.{All-filter, Contains-get_or, Contains-push, Contains-push_cases, Contains-append_left, filter_passes}
 use Rattle.occurrences.specs.declared.row.Row.{Row}
 use Rattle.occurrences.specs.Place.{IsLive, IsOpen}
 use Rattle.external_dependencies.specs.declared.links.Link.{Link}
@@ -12,7 +14,8 @@ use Rattle.external_dependencies.specs.declared.rows.PlacedRow.{PlacedRow}
 use Rattle.external_dependencies.specs.declared.pairs.Pair.{Pair}
 use Rattle.external_dependencies.specs.Link.{Lists}
 use Rattle.external_dependencies.specs.Nearest.{arrival_of, IsLiveIn, IsNearest, IsNearestAnswer}
-use Rattle.external_dependencies.specs.Pair.{pair_cmp, IsPairAmong, IsPairFrom}
+use Rattle.external_dependencies.specs.Pair.{pair_cmp, follower_of, pair_of, IsPairAmong, IsPairFrom}
+use Rattle.external_dependencies.specs.declared.followers.Follower.{Follower}
 use Rattle.external_dependencies.proofs.VisitLemmas.{contains_nil}
 use Rattle.external_dependencies.proofs.OrderLemmas.{then_equal}
 use Rattle.external_dependencies.proofs.NearestLemmas.{nearest_once, nearest_same}
@@ -174,3 +177,68 @@ module _ (all rows : List PlacedRow) (links : List Link) (pairs : List Pair) (so
                 predecessor = is.predecessor;
               }))
         ]
+
+-- what a filter keeps
+filter_head : {X : Type 0} (p : X → Bool) (y : X) (ys : List X) (x : X) → p x ≡ true → (Contains ys x → Contains (filter p ys) x)
+    → Contains (y ∷ ys) x → (b : Bool) → p y ≡ b → Contains (cond b (y ∷ filter p ys) (filter p ys)) x
+filter_head p y ys x is rest (zero, lt, at) true same = (zero, omega arith, at)
+filter_head p y ys x is rest (zero, lt, at) false same = absurd (false≢true (sym same ∙ ap p at ∙ is))
+filter_head p y ys x is rest (suc k, lt, at) true same = let here = rest (k, omega arith, at) in (suc here.0, omega (arith, here.1), here.2)
+filter_head p y ys x is rest (suc k, lt, at) false same = rest (k, omega arith, at)
+
+filter_has : {X : Type 0} (p : X → Bool) (xs : List X) (x : X) → p x ≡ true → Contains xs x → Contains (filter p xs) x
+filter_has p [] x is here = absurd (contains_nil x here)
+filter_has p (y ∷ ys) x is here = filter_head p y ys x is (filter_has p ys x is) here (p y) refl
+
+pub Contains-filter : {X : Type 0} (p : X → Bool) (xs : List X) (x : X) → Contains (filter p xs) x ↔ (Contains xs x × (p x ≡ true))
+Contains-filter {X} p xs x = (forward, λ facts. filter_has p xs x facts.1 facts.0)
+  where
+    forward : Contains (filter p xs) x → Contains xs x × (p x ≡ true)
+    forward (k, lt, at) = (
+      subst (Contains xs) at (All-filter p (Contains xs) xs (λ i d in_range. Contains-get_or xs i d in_range) k x lt),
+      subst (λ y. p y ≡ true) at (filter_passes p xs k x lt),
+    )
+
+-- a pair, its predecessor first
+pub turned_has : (pairs : List Pair) (follower : Follower) → Contains (map follower_of pairs) follower ↔ Contains pairs (pair_of follower)
+turned_has pairs follower = (forward, backward)
+  where
+    forward : Contains (map follower_of pairs) follower → Contains pairs (pair_of follower)
+    forward (k, lt, at) =
+        let in_range : k < length pairs = omega (arith, length-map pairs follower_of) in
+        (k, in_range, ap pair_of (sym (get_or-map follower_of pairs k (pair_of follower) follower in_range) ∙ at))
+
+    backward : Contains pairs (pair_of follower) → Contains (map follower_of pairs) follower
+    backward (k, lt, at) = (k, omega (arith, length-map pairs follower_of), get_or-map follower_of pairs k (pair_of follower) follower lt ∙ ap follower_of at)
+
+-- the ones of some pairs that the others lack
+abbrev pub AreLeft : List Pair → List Pair → List Pair → Type 0
+AreLeft pairs others left = (pair : Pair) → Contains left pair ↔ (Contains pairs pair × (Contains others pair → ⊥))
+
+module _ (pairs others left : List Pair) (so_far : AreLeft pairs others left) (next : Pair) where
+  pub left_more : (Contains others next → ⊥) → AreLeft (pairs ++ next ∷ []) others (left ++ next ∷ [])
+  left_more absent pair = (forward, backward)
+    where
+      forward : Contains (left ++ next ∷ []) pair → Contains (pairs ++ next ∷ []) pair × (Contains others pair → ⊥)
+      forward here = elim (Contains-push_cases left next pair here) [
+        | inl old ↦ let facts = (so_far pair).0 old in (Contains-append_left pairs (next ∷ []) pair facts.0, facts.1)
+        | inr same ↦ (subst (Contains (pairs ++ next ∷ [])) same (Contains-push pairs next), subst (λ x. Contains others x → ⊥) same absent)
+      ]
+
+      backward : Contains (pairs ++ next ∷ []) pair × (Contains others pair → ⊥) → Contains (left ++ next ∷ []) pair
+      backward (here, lacks) = elim (Contains-push_cases pairs next pair here) [
+        | inl old ↦ Contains-append_left left (next ∷ []) pair ((so_far pair).1 (old, lacks))
+        | inr same ↦ subst (Contains (left ++ next ∷ [])) same (Contains-push left next)
+      ]
+
+  pub left_skip : Contains others next → AreLeft (pairs ++ next ∷ []) others left
+  left_skip present pair = (forward, backward)
+    where
+      forward : Contains left pair → Contains (pairs ++ next ∷ []) pair × (Contains others pair → ⊥)
+      forward here = let facts = (so_far pair).0 here in (Contains-append_left pairs (next ∷ []) pair facts.0, facts.1)
+
+      backward : Contains (pairs ++ next ∷ []) pair × (Contains others pair → ⊥) → Contains left pair
+      backward (here, lacks) = elim (Contains-push_cases pairs next pair here) [
+        | inl old ↦ (so_far pair).1 (old, lacks)
+        | inr same ↦ absurd (lacks (subst (Contains others) same present))
+      ]

@@ -1,17 +1,21 @@
 -- Places of predecessors among names, and the graph that they make.
-use Rattle.std.proofs.Common.{◌≡◌, ℕ, ◌<◌, List, [], ◌∷◌, ◌++◌, length, get_or, sym, ap, subst, ◌∙◌, inl, inr, arith, Ok, Err}
-use Rattle.std.specs.declared.cmp.Ordering.TheVariants.{Less, Equal, Greater}
+use Rattle.std.proofs.Common.{◌≡◌, ◌↔◌, ℕ, ◌<◌, List, [], ◌∷◌, ◌++◌, length, get_or, refl, sym, ap, subst, ◌∙◌, inl, inr, arith, Ok, Err, Ordering, Result}
+use Rattle.std.specs.Bool.{IsTrue}
+use Rattle.std.specs.Result.{is_ok}
+use Rattle.std.specs.Cmp.{IsTotalOrder}
+use Rattle.std.specs.FinMap.{IsAntisymmetric}
+use Rattle.std.specs.declared.cmp.Ordering.TheVariants.{Equal}
 use Rattle.std.specs.List.{Contains}
-use Rattle.std.specs.List.Sorted.{IsBinarySearchResult}
+use Rattle.std.specs.List.Sorted.{IsBinarySearchResult, IsSearchInRange}
 use Rattle.std.specs.Cmp.Lexicographic.{slice_cmp}
 use Rattle.std.specs.Ordering.{nat_cmp}
 use Rattle.std.proofs.lemmas.Cmp.{nat_list_cmp_total, tied_itself}
 use Rattle.std.proofs.lemmas.List.Elements.{Contains-push, Contains-push_cases, Contains-append_left}
-use Rattle.std.proofs.lemmas.Bool.{cases_lt}
+use Rattle.std.proofs.lemmas.Bool.{cases_lt, false≢true}
 use Rattle.external_dependencies.specs.declared.links.Link.{Link}
 use Rattle.external_dependencies.specs.Rising.{IsRising}
 use Rattle.external_dependencies.specs.Places.{ArePlaces}
-use Rattle.external_dependencies.proofs.OrderLemmas.{rising_once, rising_searchable, name_ties}
+use Rattle.external_dependencies.proofs.OrderLemmas.{equal_not_greater, less_not_equal, rising_once, rising_searchable, name_ties}
 use Rattle.external_dependencies.proofs.VisitLemmas.{contains_nil}
 
 -- before the first link
@@ -63,11 +67,22 @@ module _ (names : List (List ℕ)) (rising : IsRising (slice_cmp nat_cmp) names)
       let tied : slice_cmp nat_cmp (get_or names place []) name ≡ Equal = subst (λ n. slice_cmp nat_cmp n name ≡ Equal) is (tied_itself nat_list_cmp_total name) in
       elim (cases_lt place at) [
         | inl below ↦ less_not_equal (sym (point.0 place [] (omega arith) below) ∙ tied)
-        | inr above ↦ greater_not_equal (sym (point.1 place [] above lt) ∙ tied)
+        | inr above ↦ equal_not_greater (sym tied ∙ point.1 place [] above lt)
       ]
-    where
-      less_not_equal : Less ≡ Equal → ⊥
-      less_not_equal e = cc
 
-      greater_not_equal : Greater ≡ Equal → ⊥
-      greater_not_equal e = cc
+-- a binary search of a list in rising order tells whether it has an element
+module _ {X : Type 0} {R : X → X → Ordering} (total : IsTotalOrder R) (ties : IsAntisymmetric R) (xs : List X)
+    (rising : IsRising R xs) (x : X) where
+  search_absent : (at : ℕ) → IsBinarySearchResult (λ y. R y x) xs (Err at) → Contains xs x → ⊥
+  search_absent at parted (place, lt, is) =
+      let point = parted (rising_searchable total xs rising x) in
+      let tied : R (get_or xs place x) x ≡ Equal = subst (λ y. R y x ≡ Equal) (sym is) (tied_itself total x) in
+      elim (cases_lt place at) [
+        | inl below ↦ less_not_equal (sym (point.0 place x (omega arith) below) ∙ tied)
+        | inr above ↦ equal_not_greater (sym tied ∙ point.1 place x above lt)
+      ]
+
+  pub search_tells : (r : Result ℕ ℕ) → IsSearchInRange r (length xs) → IsBinarySearchResult (λ y. R y x) xs r
+      → IsTrue (is_ok r) ↔ Contains xs x
+  search_tells (Ok at) bound is = ((λ _. (at, bound, ties (get_or xs at x) x (is x))), λ _. refl)
+  search_tells (Err at) bound parted = ((λ no. absurd (false≢true no)), λ here. absurd (search_absent at parted here))

@@ -1,6 +1,9 @@
 -- What the definitions of predecessors and pairs imply.
 use Rattle.std.specs.Prelude.{◌≡◌, ◌<◌, ◌⊎◌, ◌↔◌, ℕ, List, Contains}
+use Rattle.std.specs.Cmp.{IsTotalOrder}
+use Rattle.std.specs.declared.cmp.Ordering.{Ordering}
 use Rattle.occurrences.specs.declared.key.Key.{Key}
+use Rattle.occurrences.specs.Order.{IsStrictOrder, Ranks}
 use Rattle.occurrences.specs.Place.{IsLive}
 use Rattle.external_dependencies.specs.declared.links.Link.{Link}
 use Rattle.external_dependencies.specs.declared.live.Arrival.{Arrival}
@@ -32,4 +35,16 @@ abbrev pub PairsDependOnSet : Type 0
 PairsDependOnSet = (rows rows' : List PlacedRow) (links links' : List Link) → ((placed : PlacedRow) → Contains rows placed ↔ Contains rows' placed) → ((link : Link) → Contains links link ↔ Contains links' link) → (pair : Pair) → IsPairOf rows links pair ↔ IsPairOf rows' links' pair
 
 abbrev pub PairsHaveNoLoop : Type 0
-PairsHaveNoLoop = (rows : List PlacedRow) (links : List Link) → SerialsDiffer rows → ((app : List ℕ) → OnLoop links app → ⊥) → (serial : ℕ) → OnRing (PairEdge rows links) serial → ⊥
+PairsHaveNoLoop =
+    (rows : List PlacedRow) (links : List Link) → SerialsDiffer rows → ((app : List ℕ) → OnLoop links app → ⊥)
+    → (serial : ℕ) → OnRing (PairEdge rows links) serial → ⊥
+
+abbrev pub NoRowPrecedesItself : Type 0
+NoRowPrecedesItself =
+    (rows : List PlacedRow) (links : List Link) → SerialsDiffer rows → (serial : ℕ) → PairEdge rows links serial serial → ⊥
+
+-- a comparison is the order that a relation tells, in which only equal values tie, and tests agree with it
+pub record IsOrderBy {X : Type 0} (cmp : X → X → Ordering) (Before : X → X → Type 0) : Type 0 where
+  pub strict : IsStrictOrder Before
+  pub total : IsTotalOrder cmp
+  pub ranks : Ranks cmp Before

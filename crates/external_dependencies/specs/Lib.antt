@@ -1,4 +1,6 @@
 pub mod Arrival
+pub mod Change
+pub mod Falling
 pub mod Laws
 pub mod Link
 pub mod Loop

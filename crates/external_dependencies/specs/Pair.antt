@@ -1,9 +1,10 @@
 -- Pairs of occurrences: a successor and its predecessor.
-use Rattle.std.specs.Prelude.{◌≡◌, ℕ, List, Contains}
+use Rattle.std.specs.Prelude.{◌≡◌, ◌<◌, ◌⊎◌, ℕ, List, Contains}
 use Rattle.std.specs.declared.cmp.Ordering.{Ordering}
 use Rattle.std.specs.Ordering.{nat_cmp, ordering_then}
 use Rattle.occurrences.specs.declared.row.Row.{Row}
 use Rattle.occurrences.specs.Place.{IsOpen}
+use Rattle.external_dependencies.specs.declared.followers.Follower.{Follower}
 use Rattle.external_dependencies.specs.declared.links.Link.{Link}
 use Rattle.external_dependencies.specs.declared.live.Arrival.{Arrival}
 use Rattle.external_dependencies.specs.declared.rows.PlacedRow.{PlacedRow}
@@ -14,6 +15,21 @@ use Rattle.external_dependencies.specs.Nearest.{IsLiveIn, IsNearest}
 -- by successor, then by predecessor
 abbrev pub pair_cmp : Pair → Pair → Ordering
 pair_cmp a b = ordering_then (nat_cmp a.successor b.successor) (nat_cmp a.predecessor b.predecessor)
+
+-- a pair with its predecessor first, and back
+abbrev pub follower_of : Pair → Follower
+follower_of pair = record { predecessor = pair.predecessor; successor = pair.successor }
+
+abbrev pub pair_of : Follower → Pair
+pair_of follower = record { successor = follower.successor; predecessor = follower.predecessor }
+
+-- by predecessor, then by successor
+abbrev pub follower_cmp : Follower → Follower → Ordering
+follower_cmp a b = ordering_then (nat_cmp a.predecessor b.predecessor) (nat_cmp a.successor b.successor)
+
+-- the first pair comes before the second: by successor, or with the same successor by predecessor
+abbrev pub PairBefore : Pair → Pair → Type 0
+PairBefore a b = (a.successor < b.successor) ⊎ ((a.successor ≡ b.successor) × (a.predecessor < b.predecessor))
 
 -- an open one of the rows, and its nearest predecessor among all rows in an application of its list
 pub record IsPairAmong (all rows : List PlacedRow) (links : List Link) (pair : Pair) : Type 0 where

@@ -1,11 +1,14 @@
-ghost use Rattle.std.specs.Prelude.{◌≡◌, ◌≢◌, ◌<◌, ◌↔◌, length, IfOk, IsTrue, MatchBool, Contains, All};
+ghost use Rattle.std.specs.Prelude.{◌≡◌, ◌≢◌, ℕ, ◌<◌, ◌↔◌, length, IfOk, IsTrue, MatchBool, Contains, All};
 ghost use Rattle.external_dependencies.specs.Walk.{ReturnsTo};
+ghost use Rattle.external_dependencies.specs.Falling.{FallAlong, IsLeastReturning};
 ghost use Rattle.external_dependencies.specs.Search.{Visits};
 ghost use Rattle.std.specs.Ordering.{nat_cmp};
 ghost use Rattle.std.specs.Cmp.Lexicographic.{slice_cmp};
 ghost use Rattle.external_dependencies.specs.Rising.{IsRising};
 ghost use Rattle.external_dependencies.specs.Places.{ArePlaces, IsGraphOf};
 
+use crate::components::components;
+use crate::falling::{lone, none_above};
 use crate::links::{Link, Links};
 use std::alloc::{AllocError, Global};
 use std::marker::Model;
@@ -60,6 +63,48 @@ impl Graph {
             done += 1;
         }
         Ok(false)
+    }
+
+    /// The least node from which a walk along edges between different nodes leads back to it.
+    pub(crate) fn least_returning(&self, alloc: Global) -> Result<Option<usize>, AllocError>
+        ensures { IfOk result (IsLeastReturning self.now) }
+    {
+        let numbers = components(alloc, &self.targets)?;
+        for node in self.settled(alloc, &numbers)?..self.targets.len() {
+            if self.returns_to(alloc, node)? {
+                return Ok(Some(node));
+            }
+        }
+        Ok(None)
+    }
+
+    // How many nodes from the first on surely don't return to themselves: where the numbers fall along the edges, a
+    // node that returns shares its number. 0 where they don't.
+    fn settled(&self, alloc: Global, numbers: &[usize]) -> Result<usize, AllocError>
+        ensures { IfOk result (λ count. (node : ℕ) → node < count → node < length self.now →
+            ReturnsTo self.now node → ⊥) }
+    {
+        if self.fall_along(numbers) {
+            lone(alloc, numbers)
+        } else {
+            Ok(0)
+        }
+    }
+
+    // Whether each node has a number, and no edge leads to a greater one.
+    fn fall_along(&self, numbers: &[usize]) -> bool
+        ensures { IsTrue result → FallAlong self.now numbers.now }
+    {
+        if numbers.len() != self.targets.len() {
+            return false;
+        }
+        for (node, targets) in self.targets.iter().enumerate() {
+            let number = numbers[node];
+            if number >= numbers.len() || !none_above(targets, numbers, number) {
+                return false;
+            }
+        }
+        true
     }
 }
 

@@ -1,6 +1,19 @@
 //! The nearest predecessors of occurrences, the pairs that they make, and loops in predecessor lists.
+//!
+//! [`Links`] are the lists of predecessors in force, and [`Rows`] the occurrences. [`find_loop`] tells whether the lists
+//! have a loop, and [`resolve_all`] gives the [`Pairs`] of each open occurrence with its [`nearest`] predecessors:
+//!
+//! ```text
+//! let links = Links::from_vec(vec![in alloc; Link { app: a, predecessor: b }]?);
+//! let pairs = resolve_all(alloc, &rows, &links)?;
+//! assert_eq!(rt; pairs.of_successor(fourth), [Pair { successor: fourth, predecessor: third }].as_slice());
+//! ```
 #![tactic(auto)]
 
+mod change;
+mod components;
+mod falling;
+mod followers;
 mod graph;
 mod laws;
 mod links;
@@ -10,7 +23,12 @@ mod pairs;
 mod rising;
 mod rows;
 
-pub use laws::{nearest_arrives_last, nearest_is_unique, pairs_depend_on_set, pairs_have_no_loop};
+pub use change::PairChange;
+pub use followers::{Follower, Followers};
+pub use laws::{
+    arrival_order, link_order, nearest_arrives_last, nearest_is_unique, pair_order,
+    pairs_depend_on_set, pairs_have_no_loop, rising_is_unique,
+};
 pub use links::{Link, Links};
 pub use live::{Arrival, Live, nearest};
 pub use loops::find_loop;

@@ -1,9 +1,11 @@
-ghost use Rattle.std.specs.Prelude.{◌≡◌, [], ◌↔◌, List, Contains};
+ghost use Rattle.std.specs.Prelude.{◌≡◌, [], ◌↔◌, Contains, IfOk, filter};
+ghost use Rattle.std.specs.Str.{bytes_eq};
 ghost use Rattle.external_dependencies.specs.Rising.{IsRising};
 ghost use Rattle.external_dependencies.specs.Link.{link_cmp};
+ghost use Rattle.external_dependencies.specs.declared.links.Link.{Link};
 
 use crate::rising::into_rising;
-use std::alloc::Global;
+use std::alloc::{AllocError, Global};
 use std::marker::Model;
 use work_calendars::App;
 
@@ -35,6 +37,16 @@ impl Model for Links {
     ghost view = { λ s. s.links.items };
 
     ghost invariant = { λ s. IsRising link_cmp s.links.items };
+}
+
+impl Clone for Links {
+    ghost is_clone = { λ old new. new ≡ old };
+
+    fn clone(&self) -> Result<Links, AllocError> {
+        Ok(Links {
+            links: self.links.clone()?,
+        })
+    }
 }
 
 impl Links {
@@ -75,11 +87,32 @@ impl Links {
 
     /// The list of an application.
     pub fn list(&self, app: &App) -> &[Link]
-        ensures { (link : Link) → Contains result.now link ↔ (Contains self.now link × (link.app ≡ app.now)) }
+        ensures rising { IsRising link_cmp result.now }
+        ensures all { (link : Link) → Contains result.now link ↔ (Contains self.now link × (link.app ≡ app.now)) }
     {
         let start = self.links.partition_point(|link| link.app < *app);
         let rest = &self.links[start..];
         let count = rest.partition_point(|link| link.app <= *app);
         &rest[..count]
     }
+
+    /// The links that name an application as predecessor, in rising order. Looks at each link once.
+    pub fn naming(&self, alloc: Global, predecessor: &App) -> Result<Vec<Link>, AllocError>
+        ensures rising { IfOk result (λ found. IsRising link_cmp found.items) }
+        ensures all { IfOk result (λ found. (link : Link) →
+            Contains found.items link ↔ (Contains self.now link × (link.predecessor ≡ predecessor.now))) }
+    {
+        links_naming(alloc, self.links.as_slice(), predecessor)
+    }
+}
+
+// Those of the links that name the predecessor.
+fn links_naming(alloc: Global, links: &[Link], predecessor: &App) -> Result<Vec<Link>, AllocError>
+    ensures { IfOk result (λ found. found.items ≡ filter (λ (l : Link). bytes_eq l.predecessor predecessor.now) links.now) }
+{
+    links
+        .iter()
+        .copied()
+        .filter(|link| link.predecessor == *predecessor)
+        .collect(alloc)
 }

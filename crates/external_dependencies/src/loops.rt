@@ -15,12 +15,10 @@ pub fn find_loop(alloc: Global, links: &Links) -> Result<Option<App>, AllocError
 {
     let names = applications(alloc, links)?;
     let graph = Graph::new(alloc, links, &names)?;
-    for (place, name) in names.iter().enumerate() {
-        if graph.returns_to(alloc, place)? {
-            return Ok(Some(*name));
-        }
+    match graph.least_returning(alloc)? {
+        Some(place) => Ok(Some(names[place])),
+        None => Ok(None),
     }
-    Ok(None)
 }
 
 // The applications that have a list, in byte order, each once.

@@ -1,4 +1,4 @@
-ghost use Rattle.std.specs.Prelude.{◌≡◌, [], ◌↔◌, ◌⊎◌, Contains, IfOk, OnOk};
+ghost use Rattle.std.specs.Prelude.{◌≡◌, [], ◌↔◌, ◌⊎◌, Contains, IfOk, OnOk, IsTrue};
 ghost use Rattle.external_dependencies.specs.Rising.{IsRising};
 ghost use Rattle.external_dependencies.specs.Pair.{pair_cmp, IsPairOf, IsPairFrom};
 ghost use Rattle.external_dependencies.specs.declared.pairs.Pair.{Pair};
@@ -41,6 +41,16 @@ impl Model for Pairs {
     ghost invariant = { λ s. IsRising pair_cmp s.pairs.items };
 }
 
+impl Clone for Pairs {
+    ghost is_clone = { λ old new. new ≡ old };
+
+    fn clone(&self) -> Result<Pairs, AllocError> {
+        Ok(Pairs {
+            pairs: self.pairs.clone()?,
+        })
+    }
+}
+
 impl Pairs {
     /// No pairs.
     pub fn new(alloc: Global) -> Pairs
@@ -75,6 +85,41 @@ impl Pairs {
     {
         let Pairs { pairs } = self;
         pairs
+    }
+
+    /// Whether the pair is one of these.
+    pub fn contains(&self, pair: &Pair) -> bool
+        ensures { IsTrue result ↔ Contains self.now pair.now }
+    {
+        self.pairs.binary_search(pair).is_ok()
+    }
+
+    /// The pairs of one successor.
+    pub fn of_successor(&self, successor: Serial) -> &[Pair]
+        ensures rising { IsRising pair_cmp result.now }
+        ensures all { (pair : Pair) →
+            Contains result.now pair ↔ (Contains self.now pair × (pair.successor ≡ successor)) }
+    {
+        let start = self
+            .pairs
+            .partition_point(|pair| pair.successor < successor);
+        let rest = &self.pairs[start..];
+        let count = rest.partition_point(|pair| pair.successor <= successor);
+        &rest[..count]
+    }
+
+    /// The pairs that are not among the others.
+    pub fn without(&self, alloc: Global, others: &Pairs) -> Result<Pairs, AllocError>
+        ensures { IfOk result (λ left. (pair : Pair) →
+            Contains left pair ↔ (Contains self.now pair × (Contains others.now pair → ⊥))) }
+    {
+        let mut left = Vec::new(alloc);
+        for pair in self.pairs.as_slice() {
+            if !others.contains(pair) {
+                left.push(*pair)?;
+            }
+        }
+        Ok(Pairs::from_vec(left))
     }
 }
 

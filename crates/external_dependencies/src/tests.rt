@@ -1,6 +1,7 @@
 use crate::{
-    Link, Links, Live, Pair, Pairs, PlacedRow, Rows, find_loop, nearest, nearest_arrives_last,
-    nearest_is_unique, pairs_depend_on_set, pairs_have_no_loop, resolve_all,
+    Followers, Link, Links, Live, Pair, PairChange, Pairs, PlacedRow, Rows, arrival_order,
+    find_loop, link_order, nearest, nearest_arrives_last, nearest_is_unique, pair_order,
+    pairs_depend_on_set, pairs_have_no_loop, resolve_all, rising_is_unique,
 };
 use occurrences::{Key, Origin, Place, Reason, Row, Serial, Status};
 use std::alloc::Global;
@@ -295,6 +296,77 @@ fn only_open_occurrences_get_pairs(rt: HostRuntime) -> Result<(), Fail> {
     nearest_arrives_last();
     pairs_depend_on_set();
     pairs_have_no_loop();
+    rising_is_unique();
+    pair_order();
+    link_order();
+    arrival_order();
+    Ok(())
+}
+
+#[test]
+fn links_that_name_an_application(rt: HostRuntime) -> Result<(), Fail> {
+    let alloc = rt.alloc();
+    let links = lists(
+        &rt,
+        alloc,
+        &[("B", &["C", "A"]), ("A", &["B"]), ("D", &["A"])],
+    )?;
+    let found = links.naming(alloc, &app(&rt, "A"))?;
+    let named: Vec<App> = found.iter().map(|link| link.app).collect(alloc)?;
+    assert_eq!(rt; named.as_slice(), [app(&rt, "B"), app(&rt, "D")].as_slice());
+    assert_eq!(rt; links.clone()?.as_slice(), links.as_slice());
+    Ok(())
+}
+
+// The pairs of these successors and predecessors.
+fn pairs_of(rt: &impl Abort, alloc: Global, numbers: &[(u32, u32)]) -> Result<Pairs, Fail> {
+    let mut pairs = Vec::new(alloc);
+    for (successor, predecessor) in numbers {
+        pairs.push(pair(rt, *successor, *predecessor))?;
+    }
+    Ok(Pairs::from_vec(pairs))
+}
+
+#[test]
+fn pairs_by_either_side(rt: HostRuntime) -> Result<(), Fail> {
+    let alloc = rt.alloc();
+    let pairs = pairs_of(&rt, alloc, &[(3, 1), (2, 1), (4, 3), (4, 1)])?;
+    assert_eq!(rt;
+        pairs.of_successor(serial(&rt, 4)),
+        [pair(&rt, 4, 1), pair(&rt, 4, 3)].as_slice()
+    );
+    assert_eq!(rt; pairs.of_successor(serial(&rt, 1)).len(), 0);
+    assert!(rt; pairs.contains(&pair(&rt, 3, 1)));
+    assert!(rt; !pairs.contains(&pair(&rt, 1, 3)));
+    let followers = Followers::build(alloc, &pairs)?;
+    let of_one = followers.of_predecessor(serial(&rt, 1));
+    let following: Vec<u32> = of_one.iter().map(|f| f.successor.get()).collect(alloc)?;
+    assert_eq!(rt; following.as_slice(), [2, 3, 4].as_slice());
+    assert_eq!(rt; followers.of_predecessor(serial(&rt, 2)).len(), 0);
+    Ok(())
+}
+
+// A row is deleted, and one that arrives earlier is added in its place.
+#[test]
+fn pairs_that_go_and_come(rt: HostRuntime) -> Result<(), Fail> {
+    let alloc = rt.alloc();
+    let old = pairs_of(&rt, alloc, &[(2, 1), (3, 1), (4, 3)])?;
+    let new = pairs_of(&rt, alloc, &[(2, 5), (3, 5), (4, 3)])?;
+    let change = PairChange::between(alloc, &old, &new)?;
+    assert_eq!(rt;
+        change.removed.as_slice(),
+        [pair(&rt, 2, 1), pair(&rt, 3, 1)].as_slice()
+    );
+    assert_eq!(rt;
+        change.added.as_slice(),
+        [pair(&rt, 2, 5), pair(&rt, 3, 5)].as_slice()
+    );
+    assert_eq!(rt; old.without(alloc, &new)?.as_slice().len(), 2);
+    let none = PairChange::between(alloc, &old, &old.clone()?)?;
+    assert_eq!(rt;
+        none.removed.as_slice().len() + none.added.as_slice().len(),
+        0
+    );
     Ok(())
 }
 

@@ -17,7 +17,7 @@ loop-placed-preserved c =
     let index = c.loop-placed.placed-index in
     let front : take (index + 1) rows ≡ take index rows ++ placed ∷ [] = take_more rows index placed c.loop-placed-test.true ∙ ap (λ x. take index rows ++ x ∷ []) (sym c.placed-item.is) in
     let more : AreAllPairs all (take index rows ++ placed ∷ []) links c.if-is_open.pairs.items = elim c.if-is_open.branch [
-      | then-is_open+in_ok-push_pairs w ↦ rw w.pairs-is (all_more all (take index rows) links c.loop-placed.pairs.items c.loop-placed.invariant placed c.in_ok-live.live c.in_ok-live.ensures w.list-list.result.now w.list-list.ensures (c.is_open.ensures.0 w.if-is_open.true) w.push_pairs.new.pairs.items w.in_ok-push_pairs.ensures)
+      | then-is_open+in_ok-push_pairs w ↦ rw w.pairs-is (all_more all (take index rows) links c.loop-placed.pairs.items c.loop-placed.invariant placed c.in_ok-live.live c.in_ok-live.ensures w.list-list.result.now w.list-list.ensures.all (c.is_open.ensures.0 w.if-is_open.true) w.push_pairs.new.pairs.items w.in_ok-push_pairs.ensures)
       | else-is_open w ↦ rw w.pairs-is (all_skip all (take index rows) links c.loop-placed.pairs.items c.loop-placed.invariant placed (λ is_open. false≢true (sym w.if-is_open.false ∙ c.is_open.ensures.1 is_open)))
     ] in
     subst (λ rs. AreAllPairs all rs links c.if-is_open.pairs.items) (sym front) more

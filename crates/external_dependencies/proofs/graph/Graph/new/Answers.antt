@@ -13,7 +13,7 @@ loop-name-preserved c =
     let graph = map items_of c.loop-name.targets.items in
     let found = c.in_ok-places.field-0.items in
     let named : c.name-item.result ≡ get_or names c.loop-name.name-index [] = c.name-item.is ∙ get_or_default names c.loop-name.name-index c.name-item.result [] c.loop-name-test.true in
-    let more = graph_more links names c.loop-name.name-index graph c.loop-name.invariant c.name-item.result named c.list.result.now c.list.ensures found c.in_ok-places.ensures in
+    let more = graph_more links names c.loop-name.name-index graph c.loop-name.invariant c.name-item.result named c.list.result.now c.list.ensures.all found c.in_ok-places.ensures in
     let pushed : map items_of c.push.new.self.items ≡ graph ++ found ∷ [] = ap (map items_of) c.in_ok-push.ensures.items ∙ map-append items_of c.loop-name.targets.items (c.in_ok-places.field-0 ∷ []) in
     subst (IsGraphOf links names (c.loop-name.name-index + 1)) (sym pushed) more
 
