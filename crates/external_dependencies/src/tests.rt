@@ -5,293 +5,255 @@ use crate::{
 };
 use occurrences::{Key, Origin, Place, Reason, Row, Serial, Status};
 use std::alloc::Global;
-use std::process::Abort;
+use std::fmt::Write;
 use std::test::Fail;
 use work_calendars::{App, Moment};
 
-fn app(rt: &impl Abort, text: &str) -> App {
-    App::from_text(text).expect(rt, "a name")
+// One list of predecessors: an application, and the names in its list.
+fn push_list(links: &mut Vec<Link>, text: &str) -> Result<(), Fail> {
+    let mut names = text.split_whitespace();
+    let app = names.next().ok_or("no list")?;
+    for predecessor in names {
+        links.push(Link {
+            app: App::from_text(app).ok_or("no name")?,
+            predecessor: App::from_text(predecessor).ok_or("no name")?,
+        })?;
+    }
+    Ok(())
 }
 
-// The lists that the lines give, each as an application and the names in its list.
-fn lists(rt: &impl Abort, alloc: Global, lines: &[(&str, &[&str])]) -> Result<Links, Fail> {
+// The lists of a text, parted by `;`.
+fn lists(alloc: Global, text: &str) -> Result<Links, Fail> {
     let mut links = Vec::new(alloc);
-    for (name, predecessors) in lines {
-        for predecessor in *predecessors {
-            links.push(Link {
-                app: app(rt, name),
-                predecessor: app(rt, predecessor),
-            })?;
-        }
+    for list in text.split(';') {
+        push_list(&mut links, list)?;
     }
     Ok(Links::from_vec(links))
 }
 
+// The answer of `find_loop`; `-` for none.
+fn loop_in(alloc: Global, text: &str) -> Result<String, Fail> {
+    let links = lists(alloc, text)?;
+    match find_loop(alloc, &links)? {
+        Some(app) => Ok(String::from_str(alloc, app.as_str())?),
+        None => Ok(String::from_str(alloc, "-")?),
+    }
+}
+
+// Lists, and the least application on a loop of them.
 #[test]
-fn finds_the_least_application_on_a_loop(rt: HostRuntime) -> Result<(), Fail> {
-    let alloc = rt.alloc();
-    let found = find_loop(
-        alloc,
-        &lists(&rt, alloc, &[("A", &["B"]), ("B", &["C"]), ("C", &["B"])])?,
-    )?;
-    assert_eq!(rt; found, Some(app(&rt, "B")));
+fn loops_of_lists(rt: HostRuntime) -> Result<(), Fail> {
+    for (text, least) in [
+        ("A B; B C; C B", "B"),
+        ("A A", "-"),
+        ("A A B; B B A", "A"),
+        ("A Q; P Q Z; Q R; R S; S P A2; Z S", "P"),
+        ("Y Z; Z Y; A Y N; M N; N O; O M", "M"),
+        ("A B GONE; B GONE", "-"),
+        (
+            "A B; B C; C D; D E; E F; F G; G H; H I; I A B C D E F G H I",
+            "A",
+        ),
+        ("A B C; B D; C D; D E; E E", "-"),
+        ("A C; B C; C D; D E C; E F; F E", "C"),
+    ] {
+        let found = loop_in(rt.alloc(), text)?;
+        assert_eq!(rt; found.as_str(), least, "in {text}");
+    }
     Ok(())
 }
 
 #[test]
-fn an_application_that_names_itself_makes_no_loop(rt: HostRuntime) -> Result<(), Fail> {
-    let alloc = rt.alloc();
-    assert_eq!(rt;
-        find_loop(alloc, &lists(&rt, alloc, &[("A", &["A"])])?)?,
-        None
-    );
-    let beside = lists(&rt, alloc, &[("A", &["A", "B"]), ("B", &["B", "A"])])?;
-    assert_eq!(rt; find_loop(alloc, &beside)?, Some(app(&rt, "A")));
+fn no_lists_have_no_loop(rt: HostRuntime) -> Result<(), Fail> {
+    let links = Links::new(rt.alloc());
+    assert_eq!(rt; find_loop(rt.alloc(), &links)?, None);
     Ok(())
 }
 
-#[test]
-fn finds_a_ring_of_five_that_is_reached_from_outside(rt: HostRuntime) -> Result<(), Fail> {
-    let alloc = rt.alloc();
-    let links = lists(
-        &rt,
-        alloc,
-        &[
-            ("A", &["Q"]),
-            ("P", &["Q", "Z"]),
-            ("Q", &["R"]),
-            ("R", &["S"]),
-            ("S", &["P", "A2"]),
-            ("Z", &["S"]),
-        ],
-    )?;
-    assert_eq!(rt; find_loop(alloc, &links)?, Some(app(&rt, "P")));
-    Ok(())
-}
-
-#[test]
-fn finds_the_lesser_of_two_rings(rt: HostRuntime) -> Result<(), Fail> {
-    let alloc = rt.alloc();
-    let links = lists(
-        &rt,
-        alloc,
-        &[
-            ("Y", &["Z"]),
-            ("Z", &["Y"]),
-            ("A", &["Y", "N"]),
-            ("M", &["N"]),
-            ("N", &["O"]),
-            ("O", &["M"]),
-        ],
-    )?;
-    assert_eq!(rt; find_loop(alloc, &links)?, Some(app(&rt, "M")));
-    Ok(())
-}
-
-#[test]
-fn a_predecessor_without_a_list_ends_a_walk(rt: HostRuntime) -> Result<(), Fail> {
-    let alloc = rt.alloc();
-    assert_eq!(rt; find_loop(alloc, &Links::new(alloc))?, None);
-    let links = lists(&rt, alloc, &[("A", &["B", "GONE"]), ("B", &["GONE"])])?;
-    assert_eq!(rt; find_loop(alloc, &links)?, None);
-    Ok(())
+// The links, as `APP PREDECESSOR;`.
+fn shown_links(alloc: Global, links: &[Link]) -> Result<String, Fail> {
+    let mut text = String::new(alloc);
+    for link in links {
+        let app = link.app.as_str();
+        let predecessor = link.predecessor.as_str();
+        write!(text, "{app} {predecessor};")?;
+    }
+    Ok(text)
 }
 
 #[test]
 fn lists_are_kept_in_order_and_once(rt: HostRuntime) -> Result<(), Fail> {
     let alloc = rt.alloc();
-    let links = lists(
-        &rt,
-        alloc,
-        &[("B", &["C", "A"]), ("A", &["B"]), ("B", &["A"])],
-    )?;
-    let link = |name: &str, predecessor: &str| Link {
-        app: app(&rt, name),
-        predecessor: app(&rt, predecessor),
-    };
-    assert_eq!(rt;
-        links.as_slice(),
-        [link("A", "B"), link("B", "A"), link("B", "C")].as_slice()
-    );
-    assert_eq!(rt;
-        links.list(&app(&rt, "B")),
-        [link("B", "A"), link("B", "C")].as_slice()
-    );
-    assert_eq!(rt; links.list(&app(&rt, "C")).len(), 0);
+    let links = lists(alloc, "B C A; A B; B A")?;
+    let shown = shown_links(alloc, links.as_slice())?;
+    assert_eq!(rt; shown.as_str(), "A B;B A;B C;");
+    let copied = shown_links(alloc, links.clone()?.as_slice())?;
+    assert_eq!(rt; copied.as_str(), "A B;B A;B C;");
     assert_eq!(rt; links.into_vec().len(), 3);
+    Ok(())
+}
+
+// The list of an application, and the links that name it, of these lists.
+fn both_sides(alloc: Global, app: &str) -> Result<String, Fail> {
+    let links = lists(alloc, "B C A; A B; D A")?;
+    let app = App::from_text(app).ok_or("no name")?;
+    let mut text = shown_links(alloc, links.list(&app))?;
+    let naming = links.naming(alloc, &app)?;
+    text.push_str("<")?;
+    text.push_str(shown_links(alloc, naming.as_slice())?.as_str())?;
+    Ok(text)
+}
+
+#[test]
+fn links_of_an_application(rt: HostRuntime) -> Result<(), Fail> {
+    for (app, sides) in [
+        ("A", "A B;<B A;D A;"),
+        ("B", "B A;B C;<A B;"),
+        ("C", "<B C;"),
+        ("E", "<"),
+    ] {
+        let found = both_sides(rt.alloc(), app)?;
+        assert_eq!(rt; found.as_str(), sides);
+    }
     Ok(())
 }
 
 // The minutes from the first to 2024-01-01/00.00.
 const FIRST: u32 = 19723 * 1440;
 
-// A day after that, in minutes, and 08.00 on one.
-const DAY: u32 = 1440;
-
-const EIGHT: u32 = 480;
-
-fn serial(rt: &impl Abort, number: u32) -> Serial {
-    Serial::new(number).expect(rt, "a serial")
-}
-
-fn moment(rt: &impl Abort, minutes: u32) -> Moment {
-    assert!(rt; minutes < 10 * DAY);
-    Moment::from_number(FIRST + minutes).expect(rt, "a moment")
-}
-
-fn key(rt: &impl Abort, name: &str, minutes: u32) -> Key {
-    Key {
-        app: app(rt, name),
-        ia: moment(rt, minutes),
+// L and H are the long-term plan and history, O and P the deletions by an operator and by a plan, and any other
+// letter is a status of the current plan.
+fn place(letter: &str) -> Option<Place> {
+    match letter {
+        "L" => Some(Place::LongTerm),
+        "H" => Some(Place::History),
+        "O" => Some(Place::Deleted(Reason::Operator)),
+        "P" => Some(Place::Deleted(Reason::Plan)),
+        _ => Some(Place::Current(Status::from_letter(*letter.as_bytes().first()?)?)),
     }
 }
 
-fn placed(rt: &impl Abort, number: u32, name: &str, minutes: u32, place: Place) -> PlacedRow {
-    let key = key(rt, name, minutes);
-    PlacedRow {
+// An application and the minutes from 2024-01-01/00.00 on.
+fn key(app: &str, minutes: &str) -> Option<Key> {
+    let minutes: u32 = minutes.parse().ok()?;
+    Some(Key {
+        ia: Moment::from_number(minutes.checked_add(FIRST)?)?,
+        app: App::from_text(app)?,
+    })
+}
+
+// A row: its serial, application, minutes and place.
+fn row(text: &str) -> Option<PlacedRow> {
+    let mut words = text.split_whitespace();
+    let number: u32 = words.next()?.parse().ok()?;
+    let key = key(words.next()?, words.next()?)?;
+    Some(PlacedRow {
         row: Row {
             key,
-            serial: serial(rt, number),
+            serial: Serial::new(number)?,
             deadline: key.ia,
             origin: Origin::Added,
         },
-        place,
+        place: place(words.next()?)?,
+    })
+}
+
+// The rows of a text, parted by `;`.
+fn rows(alloc: Global, text: &str) -> Result<Rows, Fail> {
+    let mut rows = Vec::new(alloc);
+    for part in text.split(';') {
+        rows.push(row(part).ok_or("no row")?)?;
     }
+    Ok(Rows::from_vec(rows))
 }
 
-fn pair(rt: &impl Abort, successor: u32, predecessor: u32) -> Pair {
-    Pair {
-        successor: serial(rt, successor),
-        predecessor: serial(rt, predecessor),
+// The pairs, as `SUCCESSOR-PREDECESSOR;`.
+fn shown(alloc: Global, pairs: &[Pair]) -> Result<String, Fail> {
+    let mut text = String::new(alloc);
+    for pair in pairs {
+        let successor = pair.successor.get();
+        let predecessor = pair.predecessor.get();
+        write!(text, "{successor}-{predecessor};")?;
     }
+    Ok(text)
 }
 
-#[test]
-fn two_applications_two_days(rt: HostRuntime) -> Result<(), Fail> {
-    let alloc = rt.alloc();
-    let rows = [
-        placed(&rt, 1, "A", EIGHT, Place::LongTerm),
-        placed(&rt, 2, "B", EIGHT, Place::LongTerm),
-        placed(&rt, 3, "A", DAY + EIGHT, Place::LongTerm),
-        placed(&rt, 4, "B", DAY + EIGHT, Place::LongTerm),
-    ];
-    let rows = Rows::from_vec(Vec::from_slice(alloc, &rows)?);
-    let pairs = resolve_all(alloc, &rows, &lists(&rt, alloc, &[("A", &["B"])])?)?;
-    assert_eq!(rt;
-        pairs.as_slice(),
-        [pair(&rt, 1, 2), pair(&rt, 3, 4)].as_slice()
-    );
-    assert_eq!(rt; rows.as_slice().len(), 4);
-    assert_eq!(rt; rows.into_vec().len(), 4);
-    Ok(())
-}
-
-#[test]
-fn predecessor_in_history(rt: HostRuntime) -> Result<(), Fail> {
-    let alloc = rt.alloc();
-    let rows = [
-        placed(&rt, 4, "B", DAY + EIGHT, Place::LongTerm),
-        placed(&rt, 1, "A", EIGHT, Place::History),
-        placed(&rt, 3, "A", DAY + EIGHT, Place::LongTerm),
-        placed(&rt, 2, "B", EIGHT, Place::Current(Status::W)),
-    ];
-    let rows = Rows::from_vec(Vec::from_slice(alloc, &rows)?);
-    let pairs = resolve_all(
-        alloc,
-        &rows,
-        &lists(&rt, alloc, &[("A", &["A"]), ("B", &["A"])])?,
-    )?;
-    assert_eq!(rt;
-        pairs.as_slice(),
-        [pair(&rt, 2, 1), pair(&rt, 3, 1), pair(&rt, 4, 3)].as_slice()
-    );
-    Ok(())
-}
-
-#[test]
-fn a_deleted_predecessor_is_passed_over_and_an_added_one_found(
-    rt: HostRuntime,
-) -> Result<(), Fail> {
-    let alloc = rt.alloc();
-    let links = lists(&rt, alloc, &[("A", &["A"]), ("B", &["A"])])?;
-    let first = placed(&rt, 1, "A", EIGHT, Place::LongTerm);
-    let deleted = placed(&rt, 1, "A", EIGHT, Place::Deleted(Reason::Operator));
-    let second = placed(&rt, 2, "B", EIGHT, Place::LongTerm);
-    let third = placed(&rt, 3, "A", DAY + EIGHT, Place::LongTerm);
-    let fourth = placed(&rt, 4, "B", DAY + EIGHT, Place::LongTerm);
-    let rows = Rows::from_vec(Vec::from_slice(alloc, &[first, second, third, fourth])?);
+// The pairs from scratch of rows and lists.
+fn resolved(alloc: Global, row_text: &str, list_text: &str) -> Result<String, Fail> {
+    let rows = rows(alloc, row_text)?;
+    let links = lists(alloc, list_text)?;
     let pairs = resolve_all(alloc, &rows, &links)?;
-    assert_eq!(rt;
-        pairs.as_slice(),
-        [pair(&rt, 2, 1), pair(&rt, 3, 1), pair(&rt, 4, 3)].as_slice()
-    );
-    let rows = Rows::from_vec(Vec::from_slice(alloc, &[deleted, second, third, fourth])?);
-    let pairs = resolve_all(alloc, &rows, &links)?;
-    assert_eq!(rt; pairs.as_slice(), [pair(&rt, 4, 3)].as_slice());
-    let added = placed(&rt, 5, "A", EIGHT - 60, Place::LongTerm);
-    let rows = Rows::from_vec(Vec::from_slice(alloc, &[deleted, second, third, fourth, added])?);
-    let pairs = resolve_all(alloc, &rows, &links)?;
-    assert_eq!(rt;
-        pairs.as_slice(),
-        [pair(&rt, 2, 5), pair(&rt, 3, 5), pair(&rt, 4, 3)].as_slice()
-    );
-    Ok(())
+    shown(alloc, pairs.as_slice())
 }
 
+// Rows, lists and the pairs that they make: two days of two applications, a predecessor in history, a predecessor
+// before it is deleted, after, and with another added; who is open; and a ring of nine.
 #[test]
-fn finds_the_nearest_by_place_and_arrival(rt: HostRuntime) -> Result<(), Fail> {
-    let alloc = rt.alloc();
-    let rows = [
-        placed(&rt, 1, "A", EIGHT, Place::History),
-        placed(&rt, 2, "A", DAY, Place::Current(Status::D)),
-        placed(&rt, 3, "A", DAY + EIGHT, Place::Current(Status::E)),
-        placed(&rt, 4, "C", EIGHT, Place::Current(Status::D)),
-        placed(&rt, 5, "AB", EIGHT, Place::LongTerm),
-    ];
-    let live = Live::build(alloc, &Rows::from_vec(Vec::from_slice(alloc, &rows)?))?;
-    assert_eq!(rt; live.as_slice().len(), 3);
-    let cases = [
-        ("B", DAY + EIGHT, "A", 3),
-        ("B", DAY + EIGHT - 1, "A", 1),
-        ("B", EIGHT, "A", 1),
-        ("B", EIGHT - 1, "A", 0),
-        ("A", DAY + EIGHT, "A", 1),
-        ("A", DAY + EIGHT + 1, "A", 3),
-        ("A", EIGHT, "A", 0),
-        ("B", DAY, "C", 0),
-        ("B", DAY, "AB", 5),
-        ("B", DAY, "B", 0),
-    ];
-    for (name, minutes, predecessor, want) in cases {
-        let found = nearest(&live, &key(&rt, name, minutes), &app(&rt, predecessor));
-        assert_eq!(rt;
-            found,
-            Serial::new(want),
-            "of {name} at {minutes} in {predecessor}"
-        );
+fn pairs_from_scratch(rt: HostRuntime) -> Result<(), Fail> {
+    for (rows, lists, pairs) in [
+        (
+            "1 A 480 L; 2 B 480 L; 3 A 1920 L; 4 B 1920 L",
+            "A B",
+            "1-2;3-4;",
+        ),
+        (
+            "4 B 1920 L; 1 A 480 H; 3 A 1920 L; 2 B 480 W",
+            "A A; B A",
+            "2-1;3-1;4-3;",
+        ),
+        (
+            "1 A 480 L; 2 B 480 L; 3 A 1920 L; 4 B 1920 L",
+            "A A; B A",
+            "2-1;3-1;4-3;",
+        ),
+        (
+            "1 A 480 O; 2 B 480 L; 3 A 1920 L; 4 B 1920 L",
+            "A A; B A",
+            "4-3;",
+        ),
+        (
+            "1 A 480 O; 2 B 480 L; 3 A 1920 L; 4 B 1920 L; 5 A 420 L",
+            "A A; B A",
+            "2-5;3-5;4-3;",
+        ),
+        (
+            "1 A 480 H; 2 B 480 S; 3 B 481 E; 4 B 482 C; 5 B 483 D; 6 B 484 H; 7 B 485 P; 8 B 486 W",
+            "B A NONE",
+            "8-1;",
+        ),
+        (
+            "1 A 480 L; 2 B 480 L; 3 C 480 L; 4 D 480 L; 5 E 480 L; 6 F 480 L; 7 G 480 L; 8 H 480 L; 9 I 480 L",
+            "A B; B C; C D; D E; E F; F G; G H; H I; I A B C D E F G H I",
+            "1-2;2-3;3-4;4-5;5-6;6-7;7-8;8-9;9-1;9-2;9-3;9-4;9-5;9-6;9-7;9-8;",
+        ),
+    ] {
+        let found = resolved(rt.alloc(), rows, lists)?;
+        assert_eq!(rt; found.as_str(), pairs, "of {rows} by {lists}");
     }
     Ok(())
 }
 
 #[test]
-fn only_open_occurrences_get_pairs(rt: HostRuntime) -> Result<(), Fail> {
+fn rows_in_and_out(rt: HostRuntime) -> Result<(), Fail> {
     let alloc = rt.alloc();
-    let rows = [
-        placed(&rt, 1, "A", EIGHT, Place::History),
-        placed(&rt, 2, "B", EIGHT, Place::Current(Status::S)),
-        placed(&rt, 3, "B", EIGHT + 1, Place::Current(Status::E)),
-        placed(&rt, 4, "B", EIGHT + 2, Place::Current(Status::C)),
-        placed(&rt, 5, "B", EIGHT + 3, Place::Current(Status::D)),
-        placed(&rt, 6, "B", EIGHT + 4, Place::History),
-        placed(&rt, 7, "B", EIGHT + 5, Place::Deleted(Reason::Plan)),
-        placed(&rt, 8, "B", EIGHT + 6, Place::Current(Status::W)),
-    ];
-    let rows = Rows::from_vec(Vec::from_slice(alloc, &rows)?);
-    let pairs = resolve_all(alloc, &rows, &lists(&rt, alloc, &[("B", &["A", "NONE"])])?)?;
-    assert_eq!(rt; pairs.as_slice(), [pair(&rt, 8, 1)].as_slice());
-    assert_eq!(rt; pairs.into_vec().len(), 1);
+    let rows = rows(alloc, "1 A 480 L; 2 B 480 L; 3 A 1920 D")?;
+    assert_eq!(rt; rows.as_slice().len(), 3);
+    assert_eq!(rt; Live::build(alloc, &rows)?.as_slice().len(), 2);
+    assert_eq!(rt; rows.into_vec().len(), 3);
+    Ok(())
+}
+
+#[test]
+fn nothing_makes_no_pairs(rt: HostRuntime) -> Result<(), Fail> {
+    let alloc = rt.alloc();
     let none = resolve_all(alloc, &Rows::new(alloc), &Links::new(alloc))?;
     assert_eq!(rt; none.as_slice(), Pairs::new(alloc).as_slice());
+    assert_eq!(rt; none.into_vec().len(), 0);
+    Ok(())
+}
+
+#[test]
+fn laws_may_be_called(_rt: HostRuntime) {
     nearest_is_unique();
     nearest_arrives_last();
     pairs_depend_on_set();
@@ -300,122 +262,99 @@ fn only_open_occurrences_get_pairs(rt: HostRuntime) -> Result<(), Fail> {
     pair_order();
     link_order();
     arrival_order();
-    Ok(())
+}
+
+// The nearest predecessor of an application's occurrence in another; 0 where there is none.
+fn nearest_of(live: &Live, text: &str) -> Option<u32> {
+    let mut words = text.split_whitespace();
+    let key = key(words.next()?, words.next()?)?;
+    let app = App::from_text(words.next()?)?;
+    Some(nearest(live, &key, &app).map_or(0, |serial| serial.get()))
 }
 
 #[test]
-fn links_that_name_an_application(rt: HostRuntime) -> Result<(), Fail> {
-    let alloc = rt.alloc();
-    let links = lists(
-        &rt,
-        alloc,
-        &[("B", &["C", "A"]), ("A", &["B"]), ("D", &["A"])],
-    )?;
-    let found = links.naming(alloc, &app(&rt, "A"))?;
-    let named: Vec<App> = found.iter().map(|link| link.app).collect(alloc)?;
-    assert_eq!(rt; named.as_slice(), [app(&rt, "B"), app(&rt, "D")].as_slice());
-    assert_eq!(rt; links.clone()?.as_slice(), links.as_slice());
+fn nearest_by_place_and_arrival(rt: HostRuntime) -> Result<(), Fail> {
+    let text = "1 A 480 H; 2 A 1440 D; 3 A 1920 E; 4 C 480 D; 5 AB 480 L";
+    let live = Live::build(rt.alloc(), &rows(rt.alloc(), text)?)?;
+    assert_eq!(rt; live.as_slice().len(), 3);
+    for (asked, serial) in [
+        ("B 1920 A", 3),
+        ("B 1919 A", 1),
+        ("B 480 A", 1),
+        ("B 479 A", 0),
+        ("A 1920 A", 1),
+        ("A 1921 A", 3),
+        ("A 480 A", 0),
+        ("B 1440 C", 0),
+        ("B 1440 AB", 5),
+        ("B 1440 B", 0),
+    ] {
+        assert_eq!(rt; nearest_of(&live, asked), Some(serial), "of {asked}");
+    }
     Ok(())
 }
 
 // The pairs of these successors and predecessors.
-fn pairs_of(rt: &impl Abort, alloc: Global, numbers: &[(u32, u32)]) -> Result<Pairs, Fail> {
+fn pairs(alloc: Global, numbers: &[(u32, u32)]) -> Result<Pairs, Fail> {
     let mut pairs = Vec::new(alloc);
     for (successor, predecessor) in numbers {
-        pairs.push(pair(rt, *successor, *predecessor))?;
+        pairs.push(Pair {
+            successor: Serial::new(*successor).ok_or("no serial")?,
+            predecessor: Serial::new(*predecessor).ok_or("no serial")?,
+        })?;
     }
     Ok(Pairs::from_vec(pairs))
 }
 
 #[test]
-fn pairs_by_either_side(rt: HostRuntime) -> Result<(), Fail> {
+fn pairs_of_one_successor(rt: HostRuntime) -> Result<(), Fail> {
     let alloc = rt.alloc();
-    let pairs = pairs_of(&rt, alloc, &[(3, 1), (2, 1), (4, 3), (4, 1)])?;
-    assert_eq!(rt;
-        pairs.of_successor(serial(&rt, 4)),
-        [pair(&rt, 4, 1), pair(&rt, 4, 3)].as_slice()
-    );
-    assert_eq!(rt; pairs.of_successor(serial(&rt, 1)).len(), 0);
-    assert!(rt; pairs.contains(&pair(&rt, 3, 1)));
-    assert!(rt; !pairs.contains(&pair(&rt, 1, 3)));
-    let followers = Followers::build(alloc, &pairs)?;
-    let of_one = followers.of_predecessor(serial(&rt, 1));
-    let following: Vec<u32> = of_one.iter().map(|f| f.successor.get()).collect(alloc)?;
-    assert_eq!(rt; following.as_slice(), [2, 3, 4].as_slice());
-    assert_eq!(rt; followers.of_predecessor(serial(&rt, 2)).len(), 0);
+    let pairs = pairs(alloc, &[(3, 1), (2, 1), (4, 3), (4, 1)])?;
+    for (successor, wanted) in [(1, ""), (2, "2-1;"), (3, "3-1;"), (4, "4-1;4-3;")] {
+        let serial = Serial::new(successor).ok_or("no serial")?;
+        let found = shown(alloc, pairs.of_successor(serial))?;
+        assert_eq!(rt; found.as_str(), wanted);
+    }
     Ok(())
+}
+
+// How many follow one predecessor, and the least of them; 0 where there is none.
+fn following(followers: &Followers, predecessor: u32) -> Option<(usize, u32)> {
+    let found = followers.of_predecessor(Serial::new(predecessor)?);
+    Some((
+        found.len(),
+        found.first().map_or(0, |one| one.successor.get()),
+    ))
+}
+
+#[test]
+fn pairs_of_one_predecessor(rt: HostRuntime) -> Result<(), Fail> {
+    let alloc = rt.alloc();
+    let followers = Followers::build(alloc, &pairs(alloc, &[(3, 1), (2, 1), (4, 3), (4, 1)])?)?;
+    for (predecessor, wanted) in [(1, (3, 2)), (2, (0, 0)), (3, (1, 4)), (4, (0, 0))] {
+        assert_eq!(rt; following(&followers, predecessor), Some(wanted));
+    }
+    Ok(())
+}
+
+// What goes from the first pairs to the second, and what comes.
+fn changed(alloc: Global, old: &Pairs, new: &Pairs) -> Result<String, Fail> {
+    let change = PairChange::between(alloc, old, new)?;
+    let mut text = shown(alloc, change.removed.as_slice())?;
+    text.push_str("+")?;
+    text.push_str(shown(alloc, change.added.as_slice())?.as_str())?;
+    Ok(text)
 }
 
 // A row is deleted, and one that arrives earlier is added in its place.
 #[test]
 fn pairs_that_go_and_come(rt: HostRuntime) -> Result<(), Fail> {
     let alloc = rt.alloc();
-    let old = pairs_of(&rt, alloc, &[(2, 1), (3, 1), (4, 3)])?;
-    let new = pairs_of(&rt, alloc, &[(2, 5), (3, 5), (4, 3)])?;
-    let change = PairChange::between(alloc, &old, &new)?;
-    assert_eq!(rt;
-        change.removed.as_slice(),
-        [pair(&rt, 2, 1), pair(&rt, 3, 1)].as_slice()
-    );
-    assert_eq!(rt;
-        change.added.as_slice(),
-        [pair(&rt, 2, 5), pair(&rt, 3, 5)].as_slice()
-    );
-    assert_eq!(rt; old.without(alloc, &new)?.as_slice().len(), 2);
-    let none = PairChange::between(alloc, &old, &old.clone()?)?;
-    assert_eq!(rt;
-        none.removed.as_slice().len() + none.added.as_slice().len(),
-        0
-    );
-    Ok(())
-}
-
-#[test]
-fn a_ring_of_nine(rt: HostRuntime) -> Result<(), Fail> {
-    let alloc = rt.alloc();
-    let links = lists(
-        &rt,
-        alloc,
-        &[
-            ("A", &["B"]),
-            ("B", &["C"]),
-            ("C", &["D"]),
-            ("D", &["E"]),
-            ("E", &["F"]),
-            ("F", &["G"]),
-            ("G", &["H"]),
-            ("H", &["I"]),
-            ("I", &["A", "B", "C", "D", "E", "F", "G", "H", "I"]),
-        ],
-    )?;
-    assert_eq!(rt; find_loop(alloc, &links)?, Some(app(&rt, "A")));
-    let rows = [
-        placed(&rt, 1, "A", EIGHT, Place::LongTerm),
-        placed(&rt, 2, "B", EIGHT, Place::LongTerm),
-        placed(&rt, 3, "C", EIGHT, Place::LongTerm),
-        placed(&rt, 4, "D", EIGHT, Place::LongTerm),
-        placed(&rt, 5, "E", EIGHT, Place::LongTerm),
-        placed(&rt, 6, "F", EIGHT, Place::LongTerm),
-        placed(&rt, 7, "G", EIGHT, Place::LongTerm),
-        placed(&rt, 8, "H", EIGHT, Place::LongTerm),
-        placed(&rt, 9, "I", EIGHT, Place::LongTerm),
-    ];
-    let rows = Rows::from_vec(Vec::from_slice(alloc, &rows)?);
-    assert_eq!(rt; Live::build(alloc, &rows)?.as_slice().len(), 9);
-    let pairs = resolve_all(alloc, &rows, &links)?;
-    assert_eq!(rt; pairs.as_slice().len(), 16);
-    for (one, next) in [
-        (1, 2),
-        (2, 3),
-        (3, 4),
-        (4, 5),
-        (5, 6),
-        (6, 7),
-        (7, 8),
-        (8, 9),
-    ] {
-        assert!(rt; pairs.as_slice().contains(&pair(&rt, one, next)), "{one}");
-        assert!(rt; pairs.as_slice().contains(&pair(&rt, 9, one)), "{one}");
-    }
+    let old = pairs(alloc, &[(2, 1), (3, 1), (4, 3)])?;
+    let new = pairs(alloc, &[(2, 5), (3, 5), (4, 3)])?;
+    let change = changed(alloc, &old, &new)?;
+    assert_eq!(rt; change.as_str(), "2-1;3-1;+2-5;3-5;");
+    let none = changed(alloc, &old, &old.clone()?)?;
+    assert_eq!(rt; none.as_str(), "+");
     Ok(())
 }

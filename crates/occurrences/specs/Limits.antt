@@ -1,6 +1,7 @@
--- The limits of this crate, each with its number. A number changes here and in the code together.
-use Rattle.std.specs.Prelude.{◌≡◌, refl}
+-- The limits that this crate's definitions cite, each with its value once more. The law `limits_hold` has this record
+-- for its contract, so a limit that is changed is refused until its line here changes too.
+use Rattle.std.specs.Prelude.{◌≡◌}
 use Rattle.occurrences.specs.declared.serial.TheConstants.{GREATEST_SERIAL}
 
-pub greatest_serial : GREATEST_SERIAL ≡ 999999999
-greatest_serial = refl
+pub record AreLimits : Type 0 where
+  pub serial : GREATEST_SERIAL ≡ 999999999

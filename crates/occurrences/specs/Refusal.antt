@@ -1,7 +1,12 @@
 -- Numbers of refusals.
 use Rattle.std.specs.Prelude.{ℕ}
 use Rattle.occurrences.specs.declared.refusal.Refusal.{Refusal}
-use Rattle.occurrences.specs.declared.refusal.Refusal.TheVariants.{NotAStatement, FaultyData, JobWithAnotherText, NotDefined, NoPlan, PlanExists, CalendarUndefined, PeriodUndefined, DatesOutOfRange, Loop, NoActiveApplication, KeyIsLive, NoSuchOccurrence, StatusForbids, PredecessorUncompleted, TooManyRows, PlanEndOutOfRange}
+use Rattle.occurrences.specs.declared.refusal.Refusal.TheVariants.{NotAStatement, FaultyData, JobWithAnotherText}
+use Rattle.occurrences.specs.declared.refusal.Refusal.TheVariants.{NotDefined, NoPlan, PlanExists, CalendarUndefined}
+use Rattle.occurrences.specs.declared.refusal.Refusal.TheVariants.{PeriodUndefined, DatesOutOfRange, Loop}
+use Rattle.occurrences.specs.declared.refusal.Refusal.TheVariants.{NoActiveApplication, KeyIsLive, NoSuchOccurrence}
+use Rattle.occurrences.specs.declared.refusal.Refusal.TheVariants.{StatusForbids, PredecessorUncompleted, TooManyRows}
+use Rattle.occurrences.specs.declared.refusal.Refusal.TheVariants.{PlanEndOutOfRange}
 
 -- the number of a refusal
 abbrev pub refusal_number : Refusal → ℕ

@@ -13,6 +13,7 @@
 
 mod key;
 mod laws;
+mod limits;
 mod place;
 mod refusal;
 mod reply;
@@ -24,6 +25,7 @@ mod tests;
 
 pub use key::Key;
 pub use laws::{key_order, places, row_order, status_changes};
+pub use limits::limits_hold;
 pub use place::{CurrentRow, Deletion, Place, Reason};
 pub use refusal::Refusal;
 pub use reply::Reply;

@@ -1,4 +1,5 @@
 use super::*;
+use std::alloc::{AllocError, Global};
 use std::fmt::Write;
 use std::test::Fail;
 use work_calendars::{App, Day, Minute, Moment, Short};
@@ -36,24 +37,35 @@ fn serials(rt: HostRuntime) {
     assert_eq!(rt; Serial::new(17).map(|serial| serial.get()), Some(17));
 }
 
-// The letter of the status that an action leads to, from the status of a letter; `.` where it is not allowed.
-fn led_to(from: u8, action: Action) -> Option<u8> {
+// Where start, complete, fail, reset and delete lead from a status, by letters; `.` where it is not allowed.
+fn changes(from: u8) -> Option<[u8; 5]> {
     let status = Status::from_letter(from)?;
-    Some(next_status(status, action).map_or(b'.', |next| next.letter()))
+    let led_to = |action| next_status(status, action).map_or(b'.', |next| next.letter());
+    Some([
+        led_to(Action::Start),
+        led_to(Action::Complete),
+        led_to(Action::Fail),
+        led_to(Action::Reset),
+        led_to(Action::Delete),
+    ])
 }
 
-// Each row: a status, and where start, complete, fail, reset and delete lead.
 #[test]
 fn table_of_statuses(rt: HostRuntime) {
-    for [from, start, complete, fail, reset, delete] in [
-        *b"WS...D", *b"S.CE..", *b"E.C.WD", *b"C.....", *b"D.....",
+    for (from, wanted) in [
+        (b'W', *b"S...D"),
+        (b'S', *b".CE.."),
+        (b'E', *b".C.WD"),
+        (b'C', *b"....."),
+        (b'D', *b"....."),
     ] {
-        assert_eq!(rt; led_to(from, Action::Start), Some(start));
-        assert_eq!(rt; led_to(from, Action::Complete), Some(complete));
-        assert_eq!(rt; led_to(from, Action::Fail), Some(fail));
-        assert_eq!(rt; led_to(from, Action::Reset), Some(reset));
-        assert_eq!(rt; led_to(from, Action::Delete), Some(delete));
+        assert_eq!(rt; changes(from), Some(wanted));
     }
+}
+
+// Whether the letter is that of the status, both ways.
+fn is_letter(status: Status, letter: u8) -> bool {
+    status.letter() == letter && Status::from_letter(letter) == Some(status)
 }
 
 #[test]
@@ -65,10 +77,14 @@ fn letters_of_statuses(rt: HostRuntime) {
         (Status::C, b'C'),
         (Status::D, b'D'),
     ] {
-        assert_eq!(rt; status.letter(), letter);
-        assert_eq!(rt; Status::from_letter(letter), Some(status));
+        assert!(rt; is_letter(status, letter));
     }
     assert_eq!(rt; Status::from_letter(b'w'), None);
+}
+
+// Whether the letter is that of the reason, both ways.
+fn is_letter_of_reason(reason: Reason, letter: u8) -> bool {
+    reason.letter() == letter && Reason::from_letter(letter) == Some(reason)
 }
 
 #[test]
@@ -78,8 +94,7 @@ fn letters_of_reasons(rt: HostRuntime) {
         (Reason::Withdrawn, b'W'),
         (Reason::Plan, b'P'),
     ] {
-        assert_eq!(rt; reason.letter(), letter);
-        assert_eq!(rt; Reason::from_letter(letter), Some(reason));
+        assert!(rt; is_letter_of_reason(reason, letter));
     }
     assert_eq!(rt; Reason::from_letter(b'X'), None);
 }
@@ -118,10 +133,15 @@ fn keys_in_order(rt: HostRuntime) {
     }
 }
 
-#[test]
-fn rows_in_order(rt: HostRuntime) -> Result<(), Fail> {
+// The serials of these rows in order.
+fn listed(alloc: Global, mut rows: Vec<Row>) -> Result<Vec<u32>, AllocError> {
+    rows.sort_unstable();
+    rows.iter().map(|row| row.serial.get()).collect(alloc)
+}
+
+fn rows(alloc: Global) -> Result<Vec<Row>, Fail> {
     let named = Origin::Generated(Short::from_text("RC").ok_or("no name")?);
-    let mut rows = Vec::new(rt.alloc());
+    let mut rows = Vec::new(alloc);
     for (serial, app, day, origin) in [
         (6, "B", 19724, named),
         (3, "A", 19724, named),
@@ -132,9 +152,13 @@ fn rows_in_order(rt: HostRuntime) -> Result<(), Fail> {
     ] {
         rows.push(row(serial, app, day, origin).ok_or("no row")?)?;
     }
-    rows.sort()?;
-    let listed: Vec<u32> = rows.iter().map(|r| r.serial.get()).collect(rt.alloc())?;
-    assert_eq!(rt; listed.as_slice(), [1, 2, 3, 5, 4, 6].as_slice());
+    Ok(rows)
+}
+
+#[test]
+fn rows_in_order(rt: HostRuntime) -> Result<(), Fail> {
+    let serials = listed(rt.alloc(), rows(rt.alloc())?)?;
+    assert_eq!(rt; serials.as_slice(), [1, 2, 3, 5, 4, 6].as_slice());
     Ok(())
 }
 
