@@ -1,5 +1,5 @@
 -- Filling the statuses of an index: weekday by weekday, and then the listed dates.
-use Rattle.std.proofs.Common.{◌≡◌, ◌≢◌, ◌⊎◌, inl, inr, sym, ap, ◌∙◌, refl, ℕ, ◌+◌, ◌-◌, ◌<◌, Bool, false, cond, List, [], ◌∷◌, ◌++◌, length, slice_set, Some, None, arith, length-append}
+use Rattle.std.proofs.Common.{◌≡◌, ◌≢◌, ◌⊎◌, inl, inr, sym, ap, ◌∙◌, refl, ℕ, ◌+◌, ◌-◌, ◌<◌, Bool, false, cond, List, [], ◌∷◌, length, slice_set, Some, None, arith}
 use Rattle.std.specs.List.{slice_index_or}
 use Rattle.std.specs.Map.{lookup}
 use Rattle.std.specs.BTreeMap.{is_at}
@@ -10,15 +10,14 @@ use Rattle.std.proofs.Math.ListN.{set, length-set}
 use Rattle.std.proofs.lemmas.Bool.{cases_eq}
 use Rattle.std.proofs.lemmas.Bool.Decides.{nat_tests}
 use Rattle.std.proofs.lemmas.List.{get_or-set_same, get_or-set_other}
-use Rattle.work_calendars.specs.Calendar.{CalendarEntries, is_work_status, weekday_status, status_of_day, is_work_day, without_dates}
-use Rattle.work_calendars.specs.Day.{IsDay, first_day, last_day, weekday_of_day}
+use Rattle.work_calendars.specs.Calendar.{CalendarEntries, is_work_status, is_work_weekday, status_of_day, is_work_day, without_dates}
+use Rattle.work_calendars.specs.Day.{IsDay, first_day, last_day}
 use Rattle.work_calendars.specs.WorkIndex.{AreStatuses}
 use Rattle.work_calendars.specs.declared.statuses.DayStatus.{DayStatus}
 use Rattle.work_calendars.proofs.CalendarFacts.{is_day-in_range, lookup-listed}
 use Rattle.work_calendars.proofs.Tables.{StatusesUpTo, StatusesBut}
-use Rattle.work_calendars.proofs.WorkIndexFacts.{pushed}
 
-is_work_day-not_listed : (c : CalendarEntries) (d : ℕ) → IsDay d → map.get c.dates d ≡ None → is_work_day c d ≡ is_work_status (weekday_status c (weekday_of_day d))
+is_work_day-not_listed : (c : CalendarEntries) (d : ℕ) → IsDay d → map.get c.dates d ≡ None → is_work_day c d ≡ is_work_weekday c d
 unfolding is_work_day status_of_day
 is_work_day-not_listed c d h none = rw (is_day-in_range d h, none)
 
@@ -26,30 +25,20 @@ is_work_day-listed : (c : CalendarEntries) (d : ℕ) (s : DayStatus) → IsDay d
 unfolding is_work_day status_of_day
 is_work_day-listed c d s h listed = rw (is_day-in_range d h, listed)
 
-pub is_work_day-without_dates : (c : CalendarEntries) (d : ℕ) → IsDay d → is_work_day (without_dates c) d ≡ is_work_status (weekday_status c (weekday_of_day d))
+pub is_work_day-without_dates : (c : CalendarEntries) (d : ℕ) → IsDay d → is_work_day (without_dates c) d ≡ is_work_weekday c d
 is_work_day-without_dates c d h =
     is_work_day-not_listed (without_dates c) d h (get-empty nat_cmp d)
 
-pub StatusesUpTo-start : (work : ℕ → Bool) → StatusesUpTo work first_day []
-StatusesUpTo-start work = record { len = refl; are = λ i h. absurd (omega arith) }
-
-pub StatusesUpTo-more : (work : ℕ → Bool) (end : ℕ) (statuses : List Bool) (b : Bool) → StatusesUpTo work end statuses → b ≡ work end → StatusesUpTo work (end + 1) (statuses ++ b ∷ [])
-StatusesUpTo-more work end statuses b t is =
-    let s : first_day + length statuses ≡ end = t.len in
-    let s' : length (statuses ++ b ∷ []) ≡ length statuses + 1 = length-append statuses (b ∷ []) in
-    record {
-      len = omega arith;
-      are = pushed (λ i v. v ≡ work (first_day + i)) statuses b false t.are (is ∙ ap work (sym s));
-    }
-
-pub AreStatuses-filled : (work : ℕ → Bool) (statuses : List Bool) → StatusesUpTo work (last_day + 1) statuses → AreStatuses work statuses
-AreStatuses-filled work statuses t = record {
-  len = t.len;
+pub AreStatuses-first : (c : CalendarEntries) (end : ℕ) (statuses first : List Bool) → StatusesUpTo (is_work_weekday c) end statuses → last_day < end → first_day + length first ≡ last_day + 1 → ((i : ℕ) → i < length first → slice_index_or first i false ≡ slice_index_or statuses i false) → AreStatuses (is_work_day (without_dates c)) first
+AreStatuses-first c end statuses first t past len same = record {
+  len = len;
   are = λ d h.
-      let s : first_day + length statuses ≡ last_day + 1 = t.len in
-      let within : d - first_day < length statuses = omega arith in
+      let s : first_day + length statuses ≡ end = t.len in
+      let within : d - first_day < length first = omega arith in
+      let before : d - first_day < length statuses = omega arith in
       let e : first_day + (d - first_day) ≡ d = omega arith in
-      t.are (d - first_day) within ∙ ap work e;
+      same (d - first_day) within ∙ t.are (d - first_day) before ∙ ap (is_work_weekday c) e
+      ∙ sym (is_work_day-without_dates c d h);
 }
 
 pub StatusesBut-start : (c : CalendarEntries) (entries : List (ℕ × DayStatus)) (statuses : List Bool) → c.dates ≡ map.from_entries entries → AreStatuses (is_work_day (without_dates c)) statuses → StatusesBut c entries statuses

@@ -31,6 +31,10 @@ weekday_status c weekday = unwrap_or (slice_index_or c.weekdays weekday None) Wo
 unfoldable pub status_of_day : CalendarEntries → ℕ → DayStatus
 status_of_day c d = unwrap_or (map.get c.dates d) (weekday_status c (weekday_of_day d))
 
+-- the weekday of the day is one of work days
+abbrev pub is_work_weekday : CalendarEntries → ℕ → Bool
+is_work_weekday c d = is_work_status (weekday_status c (weekday_of_day d))
+
 -- the test of a calendar: whether the day is a work day of the range
 unfoldable pub is_work_day : CalendarEntries → ℕ → Bool
 is_work_day c d = is_day d && is_work_status (status_of_day c d)

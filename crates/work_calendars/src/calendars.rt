@@ -1,17 +1,21 @@
-ghost use Rattle.std.specs.Prelude.{◌≡◌, ℕ, ◌<◌, Bool, false, OnOk, OnErr, IfOk};
+ghost use Rattle.std.specs.Prelude.{◌≡◌, ℕ, ◌+◌, ◌<◌, Bool, false, OnOk, OnErr, IfOk};
 ghost use Rattle.std.specs.FinMap as map;
 ghost use Rattle.std.specs.List.{slice_index_or};
 ghost use Rattle.std.specs.Prelude.{None};
-ghost use Rattle.work_calendars.specs.Calendar.{CalendarEntries, is_work_day, is_work_status, weekday_status, no_entries, with_weekday, with_date, without_dates};
+ghost use Rattle.work_calendars.specs.Calendar.{CalendarEntries, is_work_day, is_work_status, is_work_weekday, weekday_status, no_entries, with_weekday, with_date, without_dates};
+ghost use Rattle.work_calendars.specs.Day.{first_day};
 ghost use Rattle.work_calendars.specs.WorkIndex.{AreStatuses};
 ghost use Rattle.jiff.specs.Words.{monday_zero};
 
-use crate::days::{DAYS, FIRST_NUMBER, LAST_NUMBER};
+use crate::days::DAYS;
 use crate::{Day, DayStatus};
 use jiff::civil::Weekday;
 use std::alloc::{AllocError, Global};
 use std::collections::BTreeMap;
 use std::marker::Model;
+
+// So many weeks, from the first day on, hold each day.
+const WEEKS: usize = DAYS / 7 + 1;
 
 /// Which days are work days: a listed date has its own status, else its weekday's, and a weekday that is not listed is
 /// a work day. Contracts see the listed statuses.
@@ -98,16 +102,26 @@ impl Calendar {
         Ok(statuses)
     }
 
-    // The same, as if no date were listed.
+    // The same, as if no date were listed: week after week, up to the last day.
     fn weekday_statuses(&self, alloc: Global) -> Result<Vec<bool>, AllocError>
         ensures { IfOk result (λ statuses. AreStatuses (is_work_day (without_dates self.now)) statuses.items) }
     {
-        let week = self.week();
-        let mut statuses = Vec::with_capacity(alloc, DAYS)?;
-        for number in FIRST_NUMBER..LAST_NUMBER + 1 {
-            statuses.push(week[Day { number }.weekday() as usize])?;
+        let week = self.first_week();
+        let mut statuses = Vec::with_capacity(alloc, WEEKS * 7)?;
+        'weeks: for _week in 0..WEEKS {
+            statuses.extend_from_slice(&week)?;
         }
+        statuses.truncate(DAYS);
         Ok(statuses)
+    }
+
+    // Of each of the seven days from the first day on, whether its weekday is one of work days.
+    fn first_week(&self) -> [bool; 7]
+        ensures { (i : ℕ) → i < 7 → slice_index_or result i false ≡ is_work_weekday self.now (first_day + i) }
+    {
+        let mut week = self.week();
+        week.rotate_left(Day::FIRST.weekday() as usize);
+        week
     }
 
     // Of each weekday, whether it is one of work days.
