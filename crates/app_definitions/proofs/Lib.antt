@@ -7,4 +7,5 @@ pub mod CycleLemmas
 pub mod PeriodLemmas
 pub mod PredecessorLemmas
 pub mod OptionLemmas
+pub mod OneBlock
 pub mod NamedLemmas

@@ -62,7 +62,7 @@ none_named name_of xs name i place (k, x, lt, is, named) =
     ]
 
 -- a place before, at or after another
-three : (k i : ℕ) → (k < i) ⊎ ((k ≡ i) ⊎ (i < k))
+pub three : (k i : ℕ) → (k < i) ⊎ ((k ≡ i) ⊎ (i < k))
 three k i = elim (cases_lt k i) [ inl less ↦ inl less | inr more ↦ inr (elim (eq-or-lt_of_le {n = i} {m = k} more) [ inl e ↦ inl (sym e) | inr less ↦ inr less ]) ]
 
 -- with one more at its place the list rises
@@ -129,3 +129,48 @@ Contains-map_back f xs y (k, lt, is) =
     let within : k < length xs = omega (arith, lt, length-map xs f) in
     let at = element_at xs k within in
     (at.0, (k, within, at.1), ap f (sym at.1) ∙ sym (get_or-map f xs k at.0 y within) ∙ is)
+
+-- ---- rising lists of the same elements are the same
+
+head_below : {X : Type 0} (name_of : X → List ℕ) (x : X) (xs : List X) → AreRising name_of (x ∷ xs) → (y : X) → Contains xs y → IsBelow (name_of x) (name_of y)
+head_below name_of x xs rising y (k, lt, is) =
+    subst (λ z. IsBelow (name_of x) (name_of z)) is (rising zero (suc k) y (omega arith) (omega (arith, lt)))
+
+tail_rising : {X : Type 0} (name_of : X → List ℕ) (x : X) (xs : List X) → AreRising name_of (x ∷ xs) → AreRising name_of xs
+tail_rising name_of x xs rising i j d lt within = rising (suc i) (suc j) d (omega (arith, lt)) (omega (arith, within))
+
+-- what a list has behind its first element
+pub behind : {X : Type 0} (x : X) (xs : List X) (y : X) → Contains (x ∷ xs) y → (x ≡ y) ⊎ Contains xs y
+behind x xs y (zero, lt, is) = inl is
+behind x xs y (suc k, lt, is) = inr (k, omega (arith, lt), is)
+
+pub first_of_list : {X : Type 0} (x : X) (xs : List X) → Contains (x ∷ xs) x
+first_of_list x xs = (zero, omega arith, refl)
+
+pub later_of_list : {X : Type 0} (x : X) (xs : List X) (y : X) → Contains xs y → Contains (x ∷ xs) y
+later_of_list x xs y (k, lt, is) = (suc k, omega (arith, lt), is)
+
+both_below : (a b : List ℕ) → IsBelow a b → IsBelow b a → ⊥
+both_below a b p q = let r = above a b p in let no : ⊥ = cc in no
+
+same_first : {X : Type 0} (name_of : X → List ℕ) (x y : X) (xs ys : List X) → AreRising name_of (x ∷ xs) → AreRising name_of (y ∷ ys)
+    → (x ≡ y) ⊎ Contains xs y → (y ≡ x) ⊎ Contains ys x → x ≡ y
+same_first name_of x y xs ys up vp (inl e) there = e
+same_first name_of x y xs ys up vp (inr a) (inl e) = sym e
+same_first name_of x y xs ys up vp (inr a) (inr b) = absurd (both_below (name_of x) (name_of y) (head_below name_of x xs up y a) (head_below name_of y ys vp x b))
+
+peeled : {X : Type 0} (name_of : X → List ℕ) (x y : X) (xs ys : List X) → x ≡ y → AreRising name_of (x ∷ xs)
+    → ((z : X) → Contains (x ∷ xs) z → Contains (y ∷ ys) z) → (z : X) → Contains xs z → Contains ys z
+peeled name_of x y xs ys e up into z has = elim (behind y ys z (into z (later_of_list x xs z has))) [
+  | inl same ↦ absurd (not_itself (name_of z) (subst (λ n. IsBelow (name_of n) (name_of z)) (e ∙ same) (head_below name_of x xs up z has)))
+  | inr there ↦ there
+]
+
+pub same_rising : {X : Type 0} (name_of : X → List ℕ) (xs ys : List X) → AreRising name_of xs → AreRising name_of ys
+    → ((x : X) → Contains xs x → Contains ys x) → ((x : X) → Contains ys x → Contains xs x) → xs ≡ ys
+same_rising name_of [] [] up vp into back = refl
+same_rising name_of [] (y ∷ ys) up vp into back = let (k, lt, is) = back y (first_of_list y ys) in absurd (omega (arith, lt))
+same_rising name_of (x ∷ xs) [] up vp into back = let (k, lt, is) = into x (first_of_list x xs) in absurd (omega (arith, lt))
+same_rising name_of (x ∷ xs) (y ∷ ys) up vp into back =
+    let e = same_first name_of x y xs ys up vp (behind x xs y (back y (first_of_list y ys))) (behind y ys x (into x (first_of_list x xs))) in
+    ap (λ z. z ∷ xs) e ∙ ap (λ zs. y ∷ zs) (same_rising name_of xs ys (tail_rising name_of x xs up) (tail_rising name_of y ys vp) (peeled name_of x y xs ys e up into) (peeled name_of y x ys xs (sym e) vp back))

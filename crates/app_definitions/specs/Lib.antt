@@ -8,6 +8,7 @@ pub mod Definitions
 pub mod Fields
 pub mod Divisions
 pub mod Periods
+pub mod Laws
 pub mod NamedOccurrences
 pub mod Options
 pub mod Predecessors

@@ -1,0 +1,17 @@
+-- What the definitions of blocks imply.
+use Rattle.std.specs.Prelude.{◌≡◌, ℕ, List}
+use Rattle.app_definitions.specs.Blocks.{ReadsAs, IsFaultyAt}
+use Rattle.app_definitions.specs.declared.kinds.Block.{Block}
+use Rattle.app_definitions.specs.declared.kinds.Kind.{Kind}
+
+-- a text reads as one block of a kind at most
+abbrev pub ReadsAsOne : Type 0
+ReadsAsOne = (kind : Kind) (text : List ℕ) (a b : Block) → ReadsAs kind text a → ReadsAs kind text b → a ≡ b
+
+-- no text reads as a block and is faulty
+abbrev pub ReadsOrIsFaulty : Type 0
+ReadsOrIsFaulty = (kind : Kind) (text : List ℕ) (b : Block) (number : ℕ) → ReadsAs kind text b → IsFaultyAt kind text number → ⊥
+
+-- a text is faulty at one record at most
+abbrev pub IsFaultyOnce : Type 0
+IsFaultyOnce = (kind : Kind) (text : List ℕ) (m n : ℕ) → IsFaultyAt kind text m → IsFaultyAt kind text n → m ≡ n

@@ -1,0 +1,18 @@
+//! Laws of the definitions: each is the contract of a function that does nothing.
+
+ghost use Rattle.app_definitions.specs.Laws.{IsFaultyOnce, ReadsAsOne, ReadsOrIsFaulty};
+
+/// A text reads as one block of a kind at most.
+pub fn reads_as_one()
+    ensures { ReadsAsOne }
+{}
+
+/// No text reads as a block and is faulty.
+pub fn reads_or_is_faulty()
+    ensures { ReadsOrIsFaulty }
+{}
+
+/// A text is faulty at one record at most.
+pub fn is_faulty_once()
+    ensures { IsFaultyOnce }
+{}
