@@ -1,5 +1,5 @@
 -- The steps of a search from a node along the edges of a graph.
-use Rattle.std.proofs.Common.{◌≡◌, ◌≢◌, ℕ, ◌+◌, ◌<◌, ◌≤◌, Bool, false, List, [], ◌∷◌, length, get_or, replicate, map, refl, sym, ap, subst, ◌∙◌, inl, inr, arith}
+use Rattle.std.proofs.Common.{◌≡◌, ◌≢◌, ℕ, ◌+◌, ◌<◌, ◌≤◌, ◌⊎◌, Bool, false, List, [], ◌∷◌, length, get_or, replicate, map, refl, sym, ap, subst, ◌∙◌, inl, inr, arith}
 use Rattle.std.specs.List.{All, Contains}
 use Rattle.std.proofs.lemmas.List.{get_or_default, length-replicate, get_or-replicate, get_or_past, get_or-map}
 use Rattle.std.proofs.lemmas.List.Elements.{Contains-push_cases, Contains-get_or}
@@ -7,9 +7,22 @@ use Rattle.std.proofs.lemmas.Bool.{cases_lt, cases_order, false≢true}
 use Rattle.std.specs.Prelude.{Vec}
 use Rattle.std.specs.declared.alloc.Global.{Global}
 use Rattle.external_dependencies.specs.Walk.{items_of, IsGraph, Edge, Step, IsWalk, Reaches, ReturnsTo}
-use Rattle.external_dependencies.specs.Search.{IsReached, Visits, IsSearch}
+use Rattle.external_dependencies.specs.Search.{IsReached, Visits}
 use Rattle.external_dependencies.proofs.VisitLemmas.{contains_nil}
 use Rattle.external_dependencies.proofs.WalkLemmas.{reaches-trans}
+
+-- a search that has visited the first `done` nodes of its order
+pub record IsSearch (g : List (List ℕ)) (start : ℕ) (reached : List Bool) (order : List ℕ) (done : ℕ) : Type 0 where
+  pub same_length : length reached ≡ length g
+  pub begun : 0 < length order
+  pub at_start : get_or order 0 0 ≡ start
+  pub within : done ≤ length order
+  pub in_range : (w : ℕ) → Contains order w → w < length g
+  pub known : (w : ℕ) → Contains order w → (w ≡ start) ⊎ IsReached reached w
+  pub walked : (w : ℕ) → IsReached reached w → Reaches (Edge g) start w × (w ≢ start)
+  pub listed : (w : ℕ) → IsReached reached w → Contains order w
+  pub closed : (j : ℕ) → j < done → (w : ℕ) → Edge g (get_or order j 0) w → get_or order j 0 ≢ w
+      → IsReached reached w
 
 -- nothing is marked at first
 nothing_reached : (n w : ℕ) → IsReached (replicate n false) w → ⊥

@@ -1,5 +1,6 @@
 -- Numbers of nodes that fall along the edges of a graph.
-use Rattle.std.specs.Prelude.{◌≡◌, ℕ, ◌<◌, ◌≤◌, Bool, true, false, List, length, slice_index, slice_index_or, Option, Some, None}
+use Rattle.std.specs.Prelude.{◌≡◌, ℕ, ◌<◌, ◌≤◌, Bool, true, false, List, Option, Some, None}
+use Rattle.std.specs.Prelude.{length, slice_index, slice_index_or}
 use Rattle.external_dependencies.specs.Walk.{Edge, ReturnsTo}
 
 -- each number is below how many there are
@@ -23,7 +24,8 @@ IsMarked marks number = slice_index_or marks number false ≡ true
 -- a number that two of the first `done` nodes have is marked
 pub record AreShared (numbers : List ℕ) (done : ℕ) (shared : List Bool) : Type 0 where
   pub same_length : length shared ≡ length numbers
-  pub twice : (i j : ℕ) → i < j → j < done → slice_index numbers i ≡ slice_index numbers j → IsMarked shared (slice_index numbers i)
+  pub twice : (i j : ℕ) → i < j → j < done → slice_index numbers i ≡ slice_index numbers j
+      → IsMarked shared (slice_index numbers i)
 
 -- the least node from which a walk leads back, or none where there is no such node
 abbrev pub IsLeastReturning : List (List ℕ) → Option ℕ → Type 0

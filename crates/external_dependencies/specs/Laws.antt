@@ -12,27 +12,39 @@ use Rattle.external_dependencies.specs.declared.pairs.Pair.{Pair}
 use Rattle.external_dependencies.specs.Loop.{OnRing, OnLoop}
 use Rattle.external_dependencies.specs.Nearest.{IsLiveIn, IsCandidate, IsNearest}
 use Rattle.external_dependencies.specs.Pair.{IsPairOf}
+use Rattle.external_dependencies.specs.Rising.{HaveSame}
 
 -- no two live rows have one key
 abbrev pub LiveKeysDiffer : List PlacedRow → Type 0
-LiveKeysDiffer rows = (p q : PlacedRow) → Contains rows p → Contains rows q → IsLive p.place → IsLive q.place → p.row.key ≡ q.row.key → p.row ≡ q.row
+LiveKeysDiffer rows =
+    (p q : PlacedRow) → Contains rows p → Contains rows q → IsLive p.place → IsLive q.place
+    → p.row.key ≡ q.row.key → p.row ≡ q.row
 
 -- rows of one serial have one key
 abbrev pub SerialsDiffer : List PlacedRow → Type 0
-SerialsDiffer rows = (p q : PlacedRow) → Contains rows p → Contains rows q → p.row.serial ≡ q.row.serial → p.row.key ≡ q.row.key
+SerialsDiffer rows =
+    (p q : PlacedRow) → Contains rows p → Contains rows q → p.row.serial ≡ q.row.serial → p.row.key ≡ q.row.key
 
 -- a pair from scratch, as an edge from a successor to its predecessor
 abbrev pub PairEdge : List PlacedRow → List Link → ℕ → ℕ → Type 0
-PairEdge rows links successor predecessor = IsPairOf rows links (record { successor = successor; predecessor = predecessor })
+PairEdge rows links successor predecessor =
+    IsPairOf rows links (record { successor = successor; predecessor = predecessor })
 
 abbrev pub NearestIsUnique : Type 0
-NearestIsUnique = (rows : List PlacedRow) (key : Key) (app : List ℕ) (x y : Arrival) → IsNearest (IsLiveIn rows) key app x → IsNearest (IsLiveIn rows) key app y → x ≡ y
+NearestIsUnique =
+    (rows : List PlacedRow) (key : Key) (app : List ℕ) (x y : Arrival) → IsNearest (IsLiveIn rows) key app x
+    → IsNearest (IsLiveIn rows) key app y → x ≡ y
 
 abbrev pub NearestArrivesLast : Type 0
-NearestArrivesLast = (rows : List PlacedRow) → LiveKeysDiffer rows → (key : Key) (app : List ℕ) (near other : Arrival) → IsNearest (IsLiveIn rows) key app near → IsLiveIn rows other → IsCandidate key app other → (other ≡ near) ⊎ (other.ia < near.ia)
+NearestArrivesLast =
+    (rows : List PlacedRow) → LiveKeysDiffer rows → (key : Key) (app : List ℕ) (near other : Arrival)
+    → IsNearest (IsLiveIn rows) key app near → IsLiveIn rows other → IsCandidate key app other
+    → (other ≡ near) ⊎ (other.ia < near.ia)
 
 abbrev pub PairsDependOnSet : Type 0
-PairsDependOnSet = (rows rows' : List PlacedRow) (links links' : List Link) → ((placed : PlacedRow) → Contains rows placed ↔ Contains rows' placed) → ((link : Link) → Contains links link ↔ Contains links' link) → (pair : Pair) → IsPairOf rows links pair ↔ IsPairOf rows' links' pair
+PairsDependOnSet =
+    (rows rows' : List PlacedRow) (links links' : List Link) → HaveSame rows rows' → HaveSame links links'
+    → (pair : Pair) → IsPairOf rows links pair ↔ IsPairOf rows' links' pair
 
 abbrev pub PairsHaveNoLoop : Type 0
 PairsHaveNoLoop =
@@ -41,7 +53,8 @@ PairsHaveNoLoop =
 
 abbrev pub NoRowPrecedesItself : Type 0
 NoRowPrecedesItself =
-    (rows : List PlacedRow) (links : List Link) → SerialsDiffer rows → (serial : ℕ) → PairEdge rows links serial serial → ⊥
+    (rows : List PlacedRow) (links : List Link) → SerialsDiffer rows → (serial : ℕ)
+    → PairEdge rows links serial serial → ⊥
 
 -- a comparison is the order that a relation tells, in which only equal values tie, and tests agree with it
 pub record IsOrderBy {X : Type 0} (cmp : X → X → Ordering) (Before : X → X → Type 0) : Type 0 where

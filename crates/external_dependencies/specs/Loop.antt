@@ -26,7 +26,8 @@ OnLoop links app = OnRing (Lists links) app
 -- the least application on a loop, or none where no application stands on one
 abbrev pub IsLeastOnLoop : List Link → Option (List ℕ) → Type 0
 IsLeastOnLoop links None = (app : List ℕ) → OnLoop links app → ⊥
-IsLeastOnLoop links (Some least) = OnLoop links least × ((app : List ℕ) → OnLoop links app → slice_cmp nat_cmp least app ≢ Greater)
+IsLeastOnLoop links (Some least) =
+    OnLoop links least × ((app : List ℕ) → OnLoop links app → slice_cmp nat_cmp least app ≢ Greater)
 
 -- the applications that have a list, in byte order, each once
 pub record AreApplications (links : List Link) (names : List (List ℕ)) : Type 0 where

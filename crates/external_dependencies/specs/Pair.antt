@@ -1,5 +1,5 @@
 -- Pairs of occurrences: a successor and its predecessor.
-use Rattle.std.specs.Prelude.{◌≡◌, ◌<◌, ◌⊎◌, ℕ, List, Contains}
+use Rattle.std.specs.Prelude.{◌≡◌, ◌<◌, ◌⊎◌, ◌↔◌, ℕ, List, Contains}
 use Rattle.std.specs.declared.cmp.Ordering.{Ordering}
 use Rattle.std.specs.Ordering.{nat_cmp, ordering_then}
 use Rattle.occurrences.specs.declared.row.Row.{Row}
@@ -55,3 +55,12 @@ pub record IsPairFrom (live : List Arrival) (row : Row) (list : List Link) (pair
   pub near : Arrival
   pub nearest : IsNearest (Contains live) row.key link.predecessor near
   pub predecessor : near.serial ≡ pair.predecessor
+
+-- exactly the pairs from scratch
+abbrev pub ArePairsOf : List PlacedRow → List Link → List Pair → Type 0
+ArePairsOf rows links pairs = (pair : Pair) → Contains pairs pair ↔ IsPairOf rows links pair
+
+-- the new pairs are the old ones with those of one occurrence
+abbrev pub AddsPairsOf : List Arrival → Row → List Link → List Pair → List Pair → Type 0
+AddsPairsOf live row list old new =
+    (pair : Pair) → Contains new pair ↔ (Contains old pair ⊎ IsPairFrom live row list pair)

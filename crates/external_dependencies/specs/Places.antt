@@ -7,9 +7,11 @@ use Rattle.external_dependencies.specs.Walk.{Edge}
 -- the places of the names that stand as predecessors in the links
 abbrev pub ArePlaces : List (List ℕ) → List Link → List ℕ → Type 0
 ArePlaces names list found =
-    (place : ℕ) → Contains found place ↔ ((place < length names) × ((link : Link) × Contains list link × (link.predecessor ≡ slice_index_or names place [])))
+    (place : ℕ) → Contains found place
+    ↔ ((place < length names) × ((link : Link) × Contains list link × (link.predecessor ≡ slice_index_or names place [])))
 
 -- the graph of the lists over the first `done` names
 pub record IsGraphOf (links : List Link) (names : List (List ℕ)) (done : ℕ) (graph : List (List ℕ)) : Type 0 where
   pub same_length : length graph ≡ done
-  pub edges : (from to : ℕ) → from < done → Edge graph from to ↔ ((to < length names) × Lists links (slice_index_or names from []) (slice_index_or names to []))
+  pub edges : (from to : ℕ) → from < done → Edge graph from to
+      ↔ ((to < length names) × Lists links (slice_index_or names from []) (slice_index_or names to []))

@@ -1,6 +1,6 @@
 -- What a search through a graph has seen.
-use Rattle.std.specs.Prelude.{◌≡◌, ◌≢◌, ℕ, ◌+◌, ◌<◌, ◌≤◌, ◌⊎◌, Bool, true, false, not, List, length, slice_index, slice_index_or, Contains, count_by}
-use Rattle.external_dependencies.specs.Walk.{Edge, Reaches}
+use Rattle.std.specs.Prelude.{◌≡◌, ◌≢◌, ℕ, ◌+◌, ◌<◌, ◌≤◌, ◌⊎◌, Bool, true, false, not, List, Contains}
+use Rattle.std.specs.Prelude.{count_by, length, slice_index, slice_index_or}
 
 -- the node is marked as reached
 abbrev pub IsReached : List Bool → ℕ → Type 0
@@ -11,26 +11,16 @@ abbrev pub unreached : List Bool → ℕ
 unreached reached = count_by not reached
 
 -- the marks and the order of visits, before and after a visit to a node with these targets
-pub record Visits (targets : List ℕ) (node start : ℕ) (reached : List Bool) (order : List ℕ) (reached' : List Bool) (order' : List ℕ) : Type 0 where
+pub record Visits (targets : List ℕ) (node start : ℕ) (reached : List Bool) (order : List ℕ)
+    (reached' : List Bool) (order' : List ℕ) : Type 0 where
   pub same_length : length reached' ≡ length reached
   pub longer : length order ≤ length order'
   pub same_front : (j : ℕ) → j < length order → slice_index order' j ≡ slice_index order j
   pub all_reached : (w : ℕ) → Contains targets w → w ≢ node → IsReached reached' w
   pub grows : (w : ℕ) → IsReached reached w → IsReached reached' w
-  pub are_targets : (w : ℕ) → IsReached reached' w → IsReached reached w ⊎ (Contains targets w × (w ≢ node) × (w ≢ start))
+  pub are_targets : (w : ℕ) → IsReached reached' w
+      → IsReached reached w ⊎ (Contains targets w × (w ≢ node) × (w ≢ start))
   pub are_listed : (w : ℕ) → IsReached reached' w → IsReached reached w ⊎ Contains order' w
   pub are_reached : (w : ℕ) → Contains order' w → Contains order w ⊎ (IsReached reached' w × (w < length reached))
   pub listed_grows : (w : ℕ) → Contains order w → Contains order' w
   pub work_left : unreached reached' + length order' ≡ unreached reached + length order
-
--- a search that has visited the first `done` nodes of its order
-pub record IsSearch (g : List (List ℕ)) (start : ℕ) (reached : List Bool) (order : List ℕ) (done : ℕ) : Type 0 where
-  pub same_length : length reached ≡ length g
-  pub begun : 0 < length order
-  pub at_start : slice_index order 0 ≡ start
-  pub within : done ≤ length order
-  pub in_range : (w : ℕ) → Contains order w → w < length g
-  pub known : (w : ℕ) → Contains order w → (w ≡ start) ⊎ IsReached reached w
-  pub walked : (w : ℕ) → IsReached reached w → Reaches (Edge g) start w × (w ≢ start)
-  pub listed : (w : ℕ) → IsReached reached w → Contains order w
-  pub closed : (j : ℕ) → j < done → (w : ℕ) → Edge g (slice_index order j) w → slice_index order j ≢ w → IsReached reached w

@@ -32,8 +32,8 @@ impl Model for Graph {
 }
 
 impl Graph {
-    /// The graph of the lists over their applications, by their places in `names`: an edge leads from an application to
-    /// each in its list. A predecessor that has no list is left out.
+    /// The graph of the lists over their applications, by their places in `names`: an edge leads from an application
+    /// to each in its list. A predecessor that has no list is left out.
     pub(crate) fn new(alloc: Global, links: &Links, names: &[App]) -> Result<Graph, AllocError>
         requires { IsRising (slice_cmp nat_cmp) names.now }
         ensures { IfOk result (λ graph. IsGraphOf links.now names.now (length names.now) graph) }
@@ -131,7 +131,9 @@ fn visit(
     order: &mut Vec<usize>,
 ) -> Result<bool, AllocError>
     requires { All (λ w. w < length reached.old.items) targets.now }
-    ensures { IfOk result (λ b. MatchBool b (Contains targets.now start × (start ≢ node)) (Visits targets.now node start reached.old.items order.old.items reached.new.items order.new.items)) }
+    ensures { IfOk result (λ found. MatchBool found (Contains targets.now start × (start ≢ node))
+        (Visits targets.now node start
+        reached.old.items order.old.items reached.new.items order.new.items)) }
 {
     for &next in targets {
         if next == node || reached[next] {

@@ -1,7 +1,8 @@
 //! Laws of the definitions: each is the contract of a function that does nothing.
 
 ghost use Rattle.std.specs.Prelude.{◌≡◌, ◌↔◌, true};
-ghost use Rattle.external_dependencies.specs.Laws.{NearestIsUnique, NearestArrivesLast, PairsDependOnSet, PairsHaveNoLoop, NoRowPrecedesItself, IsOrderBy};
+ghost use Rattle.external_dependencies.specs.Laws.{NearestIsUnique, NearestArrivesLast, PairsDependOnSet};
+ghost use Rattle.external_dependencies.specs.Laws.{PairsHaveNoLoop, NoRowPrecedesItself, IsOrderBy};
 ghost use Rattle.external_dependencies.specs.Arrival.{arrival_cmp, ArrivalBefore};
 ghost use Rattle.external_dependencies.specs.Link.{link_cmp, LinkBefore};
 ghost use Rattle.external_dependencies.specs.Pair.{pair_cmp, PairBefore};

@@ -108,7 +108,8 @@ impl Links {
 
 // Those of the links that name the predecessor.
 fn links_naming(alloc: Global, links: &[Link], predecessor: &App) -> Result<Vec<Link>, AllocError>
-    ensures { IfOk result (λ found. found.items ≡ filter (λ (l : Link). bytes_eq l.predecessor predecessor.now) links.now) }
+    ensures { IfOk result (λ found.
+        found.items ≡ filter (λ (l : Link). bytes_eq l.predecessor predecessor.now) links.now) }
 {
     links
         .iter()

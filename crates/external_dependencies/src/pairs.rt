@@ -1,6 +1,6 @@
-ghost use Rattle.std.specs.Prelude.{◌≡◌, [], ◌↔◌, ◌⊎◌, Contains, IfOk, OnOk, IsTrue};
+ghost use Rattle.std.specs.Prelude.{◌≡◌, [], ◌↔◌, Contains, IfOk, OnOk, IsTrue};
 ghost use Rattle.external_dependencies.specs.Rising.{IsRising};
-ghost use Rattle.external_dependencies.specs.Pair.{pair_cmp, IsPairOf, IsPairFrom};
+ghost use Rattle.external_dependencies.specs.Pair.{pair_cmp, AddsPairsOf, ArePairsOf};
 ghost use Rattle.external_dependencies.specs.declared.pairs.Pair.{Pair};
 
 use crate::links::{Link, Links};
@@ -126,7 +126,7 @@ impl Pairs {
 /// The pairs from scratch: each open occurrence with its nearest predecessor in each application of its list, where
 /// there is one. An occurrence is open in the long-term plan, and in the current plan while it waits.
 pub fn resolve_all(alloc: Global, rows: &Rows, links: &Links) -> Result<Pairs, AllocError>
-    ensures { IfOk result (λ pairs. (pair : Pair) → Contains pairs pair ↔ IsPairOf rows.now links.now pair) }
+    ensures { IfOk result (ArePairsOf rows.now links.now) }
 {
     let live = Live::build(alloc, rows)?;
     let mut pairs = Vec::new(alloc);
@@ -146,7 +146,7 @@ fn push_pairs(
     list: &[Link],
     pairs: &mut Vec<Pair>,
 ) -> Result<(), AllocError>
-    ensures { OnOk result ((pair : Pair) → Contains pairs.new.items pair ↔ (Contains pairs.old.items pair ⊎ IsPairFrom live.now row.now list.now pair)) }
+    ensures { OnOk result (AddsPairsOf live.now row.now list.now pairs.old.items pairs.new.items) }
 {
     for link in list {
         if let Some(predecessor) = nearest(live, &row.key, &link.predecessor) {

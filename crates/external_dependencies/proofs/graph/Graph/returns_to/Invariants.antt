@@ -1,5 +1,6 @@
 use Rattle.std.proofs.Common.{◌+◌, ◌-◌, length}
-use Rattle.external_dependencies.specs.Search.{IsSearch, unreached}
+use Rattle.external_dependencies.specs.Search.{unreached}
+use Rattle.external_dependencies.proofs.SearchLemmas.{IsSearch}
 use Rattle.external_dependencies.proofs.graph.Graph.returns_to.Given as goal
 
 -- the first nodes of the order are visited
