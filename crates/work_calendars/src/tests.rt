@@ -1,16 +1,31 @@
+ghost use Rattle.std.specs.Prelude.{◌≡◌, IfOk};
+
 use crate::{
     Calendar, CountedIndex, Day, DayStatus, Minute, Moment, Name, Short, Weekday, WorkIndex,
 };
 use std::alloc::{AllocError, Global};
+use std::cmp::Ordering;
 use std::test::Fail;
 
 fn day(text: &str) -> Result<Day, Fail> {
     Ok(Day::from_text(text).ok_or("no day")?)
 }
 
+// The number, the weekday and the text of the day that the text spells; zeros where it spells none.
+fn day_of(text: &str) -> (u32, u8, [u8; 10]) {
+    let mut spelled = [0; 10];
+    match Day::from_text(text) {
+        Some(day) => {
+            day.write_text(&mut spelled);
+            (day.number(), day.weekday(), spelled)
+        }
+        None => (0, 0, spelled),
+    }
+}
+
 // Day numbers and weekdays from an almanac, Monday 0.
 #[test]
-fn days_are_spelled(rt: HostRuntime) -> Result<(), Fail> {
+fn days_are_spelled(rt: HostRuntime) {
     let almanac = [
         ("1972-01-01", 730, 5),
         ("1972-02-29", 789, 1),
@@ -24,21 +39,44 @@ fn days_are_spelled(rt: HostRuntime) -> Result<(), Fail> {
         ("2071-12-31", 37254, 3),
     ];
     for (text, number, weekday) in almanac {
-        let day = day(text)?;
-        assert_eq!(rt; day.number(), number, "{text}");
-        assert_eq!(rt; day.weekday(), weekday, "{text}");
-        let mut spelled = [0; 10];
-        day.write_text(&mut spelled);
-        assert_eq!(rt; spelled.as_slice(), text.as_bytes());
+        let (found, on, spelled) = day_of(text);
+        assert!(rt;
+            found == number && on == weekday && spelled.as_slice() == text.as_bytes(),
+            "{text}"
+        );
     }
-    assert_eq!(rt; Day::FIRST, day("1972-01-01")?);
-    assert_eq!(rt; Day::LAST, day("2071-12-31")?);
-    assert_eq!(rt; Day::LAST_PLANNING, day("2068-12-31")?);
-    assert_eq!(rt; Day::from_number(729), None);
-    assert_eq!(rt; Day::from_number(730), Some(Day::FIRST));
-    assert_eq!(rt; Day::from_number(37254), Some(Day::LAST));
-    assert_eq!(rt; Day::from_number(37255), None);
-    Ok(())
+}
+
+fn number_of(day: Option<Day>) -> u32 {
+    match day {
+        Some(day) => day.number(),
+        None => 0,
+    }
+}
+
+#[test]
+fn days_have_a_first_and_a_last(rt: HostRuntime) {
+    let found = [
+        Day::FIRST.number(),
+        Day::LAST.number(),
+        Day::LAST_PLANNING.number(),
+        number_of(Day::from_number(729)),
+        number_of(Day::from_number(730)),
+        number_of(Day::from_number(37254)),
+        number_of(Day::from_number(37255)),
+        number_of(Day::FIRST.previous()),
+        number_of(Day::FIRST.next()),
+        number_of(Day::LAST.previous()),
+        number_of(Day::LAST.next()),
+        number_of(Day::FIRST.plus(36524)),
+        number_of(Day::FIRST.plus(u32::MAX)),
+        number_of(Day::LAST.minus(36524)),
+        number_of(Day::LAST.minus(36525)),
+    ];
+    let wanted = [
+        730, 37254, 36159, 0, 730, 37254, 0, 0, 731, 37253, 0, 37254, 0, 730, 0,
+    ];
+    assert_eq!(rt; found, wanted);
 }
 
 #[test]
@@ -74,8 +112,20 @@ fn other_texts_are_no_days(rt: HostRuntime) {
     }
 }
 
+// The number and the text of the minute that the text spells; 9999 where it spells none.
+fn minute_of(text: &str) -> (u32, [u8; 5]) {
+    let mut spelled = [0; 5];
+    match Minute::from_text(text) {
+        Some(minute) => {
+            minute.write_text(&mut spelled);
+            (minute.number(), spelled)
+        }
+        None => (9999, spelled),
+    }
+}
+
 #[test]
-fn minutes_are_spelled(rt: HostRuntime) -> Result<(), Fail> {
+fn minutes_are_spelled(rt: HostRuntime) {
     for (text, number) in [
         ("00.00", 0),
         ("00.59", 59),
@@ -83,42 +133,58 @@ fn minutes_are_spelled(rt: HostRuntime) -> Result<(), Fail> {
         ("08.05", 485),
         ("23.59", 1439),
     ] {
-        let minute = Minute::from_text(text).ok_or("no minute")?;
-        assert_eq!(rt; minute.number(), number, "{text}");
-        let mut spelled = [0; 5];
-        minute.write_text(&mut spelled);
-        assert_eq!(rt; spelled.as_slice(), text.as_bytes());
+        let (found, spelled) = minute_of(text);
+        assert!(rt;
+            found == number && spelled.as_slice() == text.as_bytes(),
+            "{text}"
+        );
     }
+}
+
+#[test]
+fn other_texts_are_no_minutes(rt: HostRuntime) {
     for text in [
         "", "24.00", "23.60", "8.00", "08.0", "08:00", "0800", " 8.00", "+8.00", "08.000",
         "08.00 ", "0a.00", "08.é",
     ] {
-        assert_eq!(rt; Minute::from_text(text), None, "{text}");
+        assert!(rt; Minute::from_text(text).is_none(), "{text}");
     }
     assert_eq!(rt; Minute::from_number(1439), Some(Minute::LAST));
     assert_eq!(rt; Minute::from_number(1440), None);
-    Ok(())
+}
+
+// The number and the text of the moment that the text spells, and whether its day and minute, and its number, make it
+// again; 0 where it spells none.
+fn moment_of(text: &str) -> (u32, [u8; 16], bool) {
+    let mut spelled = [0; 16];
+    match Moment::from_text(text) {
+        Some(moment) => {
+            moment.write_text(&mut spelled);
+            let again = Moment::new(moment.day(), moment.minute()) == moment
+                && Moment::from_number(moment.number()) == Some(moment);
+            (moment.number(), spelled, again)
+        }
+        None => (0, spelled, false),
+    }
 }
 
 #[test]
-fn moments_are_spelled(rt: HostRuntime) -> Result<(), Fail> {
+fn moments_are_spelled(rt: HostRuntime) {
     for (text, number) in [
         ("1972-01-01/00.00", 1_051_200),
         ("2024-01-01/08.00", 28_401_600),
         ("2071-12-31/23.59", 53_647_199),
     ] {
-        let moment = Moment::from_text(text).ok_or("no moment")?;
-        assert_eq!(rt; moment.number(), number, "{text}");
-        assert_eq!(rt;
-            Moment::new(moment.day(), moment.minute()),
-            moment,
+        let (found, spelled, again) = moment_of(text);
+        assert!(rt;
+            found == number && again && spelled.as_slice() == text.as_bytes(),
             "{text}"
         );
-        assert_eq!(rt; Moment::from_number(number), Some(moment), "{text}");
-        let mut spelled = [0; 16];
-        moment.write_text(&mut spelled);
-        assert_eq!(rt; spelled.as_slice(), text.as_bytes());
     }
+}
+
+#[test]
+fn other_texts_are_no_moments(rt: HostRuntime) {
     let wrong = [
         "",
         "2024-01-01",
@@ -132,17 +198,30 @@ fn moments_are_spelled(rt: HostRuntime) -> Result<(), Fail> {
         "2024-01-01/08.000",
     ];
     for text in wrong {
-        assert_eq!(rt; Moment::from_text(text), None, "{text}");
+        assert!(rt; Moment::from_text(text).is_none(), "{text}");
     }
     assert_eq!(rt; Moment::from_number(1_051_199), None);
     assert_eq!(rt; Moment::from_number(53_647_200), None);
-    Ok(())
+}
+
+fn is_name(text: &str) -> bool {
+    match Name::from_text(text) {
+        Some(name) => name.as_str() == text,
+        None => false,
+    }
+}
+
+fn is_short(text: &str) -> bool {
+    match Short::from_text(text) {
+        Some(name) => name.as_str() == text,
+        None => false,
+    }
 }
 
 #[test]
-fn names_are_spelled(rt: HostRuntime) -> Result<(), Fail> {
+fn names_are_spelled(rt: HostRuntime) {
     for text in ["A", "PAY", "Z9", "@#$", "$0", "A234567890123456"] {
-        assert_eq!(rt; Name::from_text(text).ok_or("no name")?.as_str(), text);
+        assert!(rt; is_name(text), "{text}");
     }
     for text in [
         "",
@@ -156,34 +235,32 @@ fn names_are_spelled(rt: HostRuntime) -> Result<(), Fail> {
         "É",
         "A2345678901234567",
     ] {
-        assert_eq!(rt; Name::from_text(text), None, "{text}");
+        assert!(rt; Name::from_text(text).is_none(), "{text}");
     }
-    assert_eq!(rt;
-        Short::from_text("MORNING8").ok_or("no name")?.as_str(),
-        "MORNING8"
-    );
+    assert!(rt; is_short("MORNING8"));
     for text in ["", "9", "MORNING89", "noon"] {
-        assert_eq!(rt; Short::from_text(text), None, "{text}");
+        assert!(rt; Short::from_text(text).is_none(), "{text}");
     }
-    // in the order of ASCII: # $ 0 9 @ A Z, and a name before those that it begins
+}
+
+// How the names of two texts compare, and whether their short names are equal; none where a text is no name.
+fn compare(text: &str, other: &str) -> Option<(Ordering, bool)> {
+    let order = Name::from_text(text)?.cmp(&Name::from_text(other)?);
+    Some((order, Short::from_text(text)? == Short::from_text(other)?))
+}
+
+// In the order of ASCII: # $ 0 9 @ A Z, and a name before those that it begins.
+#[test]
+fn names_have_an_order(rt: HostRuntime) {
     let rising = ["#", "$", "$0", "@", "A", "A#", "A0", "A@", "AA", "AB", "B"];
     for (at, text) in rising.iter().enumerate() {
-        let name = Name::from_text(text).ok_or("no name")?;
-        let short = Short::from_text(text).ok_or("no name")?;
         for (later, other) in rising.iter().enumerate() {
-            assert_eq!(rt;
-                name.cmp(&Name::from_text(other).ok_or("no name")?),
-                at.cmp(&later),
-                "{text} {other}"
-            );
-            assert_eq!(rt;
-                short == Short::from_text(other).ok_or("no name")?,
-                at == later,
+            assert!(rt;
+                compare(text, other) == Some((at.cmp(&later), at == later)),
                 "{text} {other}"
             );
         }
     }
-    Ok(())
 }
 
 fn weekdays(alloc: Global) -> Calendar {
@@ -191,6 +268,13 @@ fn weekdays(alloc: Global) -> Calendar {
     calendar.set_weekday(Weekday::Saturday, DayStatus::Free);
     calendar.set_weekday(Weekday::Sunday, DayStatus::Free);
     calendar
+}
+
+// A copy equals what it was copied from.
+fn copied(calendar: &Calendar) -> Result<Calendar, AllocError>
+    ensures { IfOk result (λ copy. copy ≡ calendar.now) }
+{
+    calendar.clone()
 }
 
 #[test]
@@ -272,7 +356,7 @@ fn a_date_goes_before_its_weekday(rt: HostRuntime) -> Result<(), Fail> {
     assert_eq!(rt; calendar.weekday_status(Weekday::Monday), None);
     calendar.set_weekday(Weekday::Saturday, DayStatus::Work);
     assert!(rt; calendar.is_work(day("2024-01-13")?));
-    let copy = calendar.clone()?;
+    let copy = copied(&calendar)?;
     assert!(rt; copy.is_work(day("2024-01-13")?));
     assert!(rt; !copy.is_work(day("2024-01-14")?));
     Ok(())
