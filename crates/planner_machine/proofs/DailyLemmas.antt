@@ -33,7 +33,7 @@ daily_alone t row (Deleted reason) = refl
 pub daily_is_move : (t : ℕ) → IsMove (daily_move t) (going (place_after_daily_plan t))
 daily_is_move t = record { empty = refl; alone = λ p. daily_alone t p.row p.place; serial = λ p. refl; key = λ p. refl }
 
-daily_live : (t : ℕ) (row : Row) (was : Place) → IsLive (place_after_daily_plan t row was) → IsLive was
+pub daily_live : (t : ℕ) (row : Row) (was : Place) → IsLive (place_after_daily_plan t row was) → IsLive was
 daily_live t row LongTerm live = tt
 daily_live t row (Current W) live = live
 daily_live t row (Current S) live = live

@@ -33,7 +33,7 @@ delete_alone key row (Deleted reason) = refl
 delete_is_move : (key : Key) → IsMove (delete_move key) (going (place_after_deletion key))
 delete_is_move key = record { empty = refl; alone = λ p. delete_alone key p.row p.place; serial = λ p. refl; key = λ p. refl }
 
-delete_live : (key : Key) (row : Row) (was : Place) → IsLive (place_after_deletion key row was) → IsLive was
+pub delete_live : (key : Key) (row : Row) (was : Place) → IsLive (place_after_deletion key row was) → IsLive was
 delete_live key row LongTerm live = tt
 delete_live key row (Current status) live = live
 delete_live key row History live = live

@@ -15,3 +15,14 @@ mod PairLemmas
 mod SoundLemmas
 mod OneAnswerLemmas
 mod FateLemmas
+mod FollowLemmas
+mod LoopLemmas
+mod PlannedLemmas
+mod ClosedLemmas
+mod RangeLemmas
+mod AssembleLemmas
+mod StartLemmas
+mod StaysSoundLemmas
+mod OwesLemmas
+mod DefineLemmas
+mod ChangeSoundLemmas

@@ -1,5 +1,8 @@
 -- Laws of the machine, as statements: the contracts of this crate's functions say that they hold.
 use Rattle.std.specs.Prelude.{◌≡◌, ℕ, ◌+◌, List, length, Ok, Some, slice_get}
+use Rattle.work_calendars.specs.Day.{IsDay}
+use Rattle.app_definitions.specs.Blocks.{ReadsAs}
+use Rattle.app_definitions.specs.declared.kinds.Kind.{Kind}
 use Rattle.occurrences.specs.declared.place.Place.{Place}
 use Rattle.occurrences.specs.declared.reply.Reply.{Reply}
 use Rattle.external_dependencies.specs.declared.rows.PlacedRow.{PlacedRow}
@@ -9,7 +12,7 @@ use Rattle.planner_machine.specs.Decision.{Decides, DecidesOne, KeepsSound, Refu
 use Rattle.planner_machine.specs.Fate.{Fate}
 use Rattle.planner_machine.specs.Moves.{numbered_row}
 use Rattle.planner_machine.specs.Sound.{IsSound}
-use Rattle.planner_machine.specs.Statement.{Change, MakesDrafts, decision_of, fate_of, place_of_made}
+use Rattle.planner_machine.specs.Statement.{Change, Create, Define, MakesDrafts, decision_of, fate_of, place_of_made}
 
 -- each serial that stood somewhere stands where its fate puts it; and the new serials, from issued + 1 on, are those of the
 -- drafts in their order, each with its row in the place where it is made
@@ -32,6 +35,12 @@ AnswersOnce change = DecidesOne IsSound (decision_of change)
 -- a refusal leaves the content
 abbrev pub LeavesRefused : Change → Type 0
 LeavesRefused change = RefusalLeaves (decision_of change)
+
+-- the values of a statement are such as a line and a block can give: a first day is a day, and a block was read from some text
+abbrev pub IsWellFormed : Change → Type 0
+IsWellFormed (Define block) = (kind : Kind) × (text : List ℕ) × ReadsAs kind text block
+IsWellFormed (Create from to) = IsDay from
+IsWellFormed change = Unit {0}
 
 -- sound content stays sound
 abbrev pub StaysSound : Change → Type 0
