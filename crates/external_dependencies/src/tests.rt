@@ -1,10 +1,11 @@
+use crate::components::components;
 use crate::{
     Followers, Link, Links, Live, Pair, PairChange, Pairs, PlacedRow, Rows, arrival_order,
     find_loop, link_order, nearest, nearest_arrives_last, nearest_is_unique, pair_order,
     pairs_depend_on_set, pairs_have_no_loop, resolve_all, rising_is_unique,
 };
 use occurrences::{Key, Origin, Place, Reason, Row, Serial, Status};
-use std::alloc::Global;
+use std::alloc::{AllocError, Global};
 use std::fmt::Write;
 use std::test::Fail;
 use work_calendars::{App, Moment};
@@ -67,6 +68,25 @@ fn loops_of_lists(rt: HostRuntime) -> Result<(), Fail> {
 fn no_lists_have_no_loop(rt: HostRuntime) -> Result<(), Fail> {
     let links = Links::new(rt.alloc());
     assert_eq!(rt; find_loop(rt.alloc(), &links)?, None);
+    Ok(())
+}
+
+// The edges of a graph of four nodes: from the first to the second, and the second and the third to one another and
+// on to the fourth.
+fn edges(alloc: Global) -> Result<Vec<Vec<usize>>, AllocError> {
+    let mut edges = Vec::new(alloc);
+    edges.push(vec![in alloc; 1]?)?;
+    edges.push(vec![in alloc; 2]?)?;
+    edges.push(vec![in alloc; 1, 3]?)?;
+    edges.push(Vec::new(alloc))?;
+    Ok(edges)
+}
+
+// Answers don't rest on these numbers, but the time of `find_loop` does: components are closed from the end on.
+#[test]
+fn numbers_of_components(rt: HostRuntime) -> Result<(), Fail> {
+    let numbers = components(rt.alloc(), edges(rt.alloc())?.as_slice())?;
+    assert_eq!(rt; numbers.as_slice(), [3, 1, 1, 0].as_slice());
     Ok(())
 }
 
