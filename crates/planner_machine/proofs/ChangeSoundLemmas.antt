@@ -19,7 +19,7 @@ use Rattle.planner_machine.proofs.OwesLemmas.{action_owes, add_owes, create_owes
 use Rattle.planner_machine.proofs.StaysSoundLemmas.{links_all, links_one, loops_put, plan_of}
 
 pub change_sound : (change : Change) → IsWellFormed change → StaysSound change
-change_sound (Define block) (kind, text, reads) = keeps_sound IsSound (define block) (λ c reply c' sound none d.
+change_sound (Define block) (few, (kind, text, reads)) = keeps_sound IsSound (define block) (λ c reply c' sound none d.
     subst IsSound (sym d.1) (definitions_sound c _ sound (define_are kind text block c.definitions sound.ranges.definitions reads)))
 change_sound (Undefine kind name) fine = keeps_sound IsSound (undefine kind name) (λ c reply c' sound none d.
     subst IsSound (sym d.1) (definitions_sound c _ sound (undefine_are kind name c.definitions sound.ranges.definitions)))

@@ -22,7 +22,7 @@ use Rattle.planner_machine.proofs.MadeLemmas.{made_follows}
 use Rattle.planner_machine.proofs.ModifyLemmas.{any_tests, between, modify_follows, that_tests}
 use Rattle.planner_machine.proofs.SoundLemmas.{rows_sound}
 
-stay_follow : (place : Place) (s : Sets) → Follows place Stays [] s s
+pub stay_follow : (place : Place) (s : Sets) → Follows place Stays [] s s
 stay_follow place s = record {
   issues = omega arith;
   old = λ serial p there. (p, refl, there);

@@ -26,3 +26,8 @@ mod StaysSoundLemmas
 mod OwesLemmas
 mod DefineLemmas
 mod ChangeSoundLemmas
+mod JobLemmas
+mod KeptLemmas
+mod StepLemmas
+mod StreamLemmas
+mod PlanLawLemmas

@@ -71,7 +71,7 @@ has_list links app predecessor (k, lt, is) = (
   get_or-map (λ (l : Link). l.app) links k (record { app = app; predecessor = predecessor }) app lt ∙ ap (λ (l : Link). l.app) is,
 )
 
-on_loop_listed : (links : List Link) (app : List ℕ) → OnLoop links app → (predecessor : List ℕ) × Lists links app predecessor
+pub on_loop_listed : (links : List Link) (app : List ℕ) → OnLoop links app → (predecessor : List ℕ) × Lists links app predecessor
 on_loop_listed links app (ring, is, at) = by_place ring is at
   where
     by_place : (ring : List (List ℕ)) → IsRing (Lists links) ring → Contains ring app → (predecessor : List ℕ) × Lists links app predecessor

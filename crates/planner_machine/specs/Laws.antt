@@ -1,17 +1,24 @@
 -- Laws of the machine, as statements: the contracts of this crate's functions say that they hold.
-use Rattle.std.specs.Prelude.{◌≡◌, ℕ, ◌+◌, List, length, Ok, Some, slice_get}
+use Rattle.std.specs.Prelude.{◌≡◌, ◌↔◌, ℕ, ◌+◌, List, length, Contains, Ok, Option, Some, slice_get}
 use Rattle.work_calendars.specs.Day.{IsDay}
 use Rattle.app_definitions.specs.Blocks.{ReadsAs}
+use Rattle.app_definitions.specs.Definitions.{names_given}
 use Rattle.app_definitions.specs.declared.kinds.Kind.{Kind}
 use Rattle.occurrences.specs.declared.place.Place.{Place}
 use Rattle.occurrences.specs.declared.reply.Reply.{Reply}
 use Rattle.external_dependencies.specs.declared.rows.PlacedRow.{PlacedRow}
+use Rattle.external_dependencies.specs.Loop.{OnRing}
+use Rattle.external_dependencies.specs.declared.pairs.Pair.{Pair}
+use Rattle.app_definitions.specs.declared.definitions.Definitions.{Definitions}
+use Rattle.planner_machine.specs.declared.content.Bounds.{Bounds}
 use Rattle.planner_machine.specs.declared.content.Draft.{Draft}
 use Rattle.planner_machine.specs.Content.{Content, Sets, StandsAt}
 use Rattle.planner_machine.specs.Decision.{Decides, DecidesOne, KeepsSound, RefusalLeaves}
-use Rattle.planner_machine.specs.Fate.{Fate}
+use Rattle.planner_machine.specs.DailyPlan.{daily}
+use Rattle.planner_machine.specs.Fate.{DailyFate, Fate, IsGenerated}
+use Rattle.planner_machine.specs.Pairs.{IsClosedAt, IsCompleteAt, pair_of}
 use Rattle.planner_machine.specs.Moves.{numbered_row}
-use Rattle.planner_machine.specs.Sound.{IsSound}
+use Rattle.planner_machine.specs.Sound.{IsShown, IsSound}
 use Rattle.planner_machine.specs.Statement.{Change, Create, Define, MakesDrafts, decision_of, fate_of, place_of_made}
 
 -- each serial that stood somewhere stands where its fate puts it; and the new serials, from issued + 1 on, are those of the
@@ -37,11 +44,42 @@ abbrev pub LeavesRefused : Change → Type 0
 LeavesRefused change = RefusalLeaves (decision_of change)
 
 -- the values of a statement are such as a line and a block can give: a first day is a day, and a block was read from some text
+-- and gives no more names than a reply can show
 abbrev pub IsWellFormed : Change → Type 0
-IsWellFormed (Define block) = (kind : Kind) × (text : List ℕ) × ReadsAs kind text block
+IsWellFormed (Define block) = IsShown (names_given block) × ((kind : Kind) × (text : List ℕ) × ReadsAs kind text block)
 IsWellFormed (Create from to) = IsDay from
 IsWellFormed change = Unit {0}
 
 -- sound content stays sound
 abbrev pub StaysSound : Change → Type 0
 StaysSound change = KeepsSound IsSound (decision_of change)
+
+-- under every fate an occurrence keeps its key and its serial, and stays generated or added by hand
+pub record IsItself (p q : PlacedRow) : Type 0 where
+  pub key : q.row.key ≡ p.row.key
+  pub serial : q.row.serial ≡ p.row.serial
+  pub generated : IsGenerated q.row.origin ↔ IsGenerated p.row.origin
+
+abbrev pub KeepsItself : Change → Type 0
+KeepsItself change = (all : Definitions) (bounds : Option Bounds) (p q : PlacedRow) → fate_of change all bounds p q → IsItself p q
+
+-- a daily plan on whole sets is the fates of all rows together: what stands somewhere after it is what stood under that serial, by
+-- its fate
+abbrev pub DailyIsFates : Type 0
+DailyIsFates =
+    (t : ℕ) (c : Content) → IsSound c → (serial : ℕ) (q : PlacedRow)
+    → StandsAt (daily t c.sets) serial q ↔ ((p : PlacedRow) × StandsAt c.sets serial p × DailyFate t p q)
+
+-- an accepted statement leaves the pairs as they are
+abbrev pub KeepsPairs : Change → Type 0
+KeepsPairs change = (c : Content) (reply : Reply) (c' : Content) → IsSound c → Decides (decision_of change) c (Ok reply) c' → c'.pairs ≡ c.pairs
+
+-- each occurrence that is started, in error, complete or in history has only predecessors that are complete
+abbrev pub PredecessorsAreComplete : Type 0
+PredecessorsAreComplete =
+    (c : Content) → IsSound c → (pair : Pair) → Contains c.pairs pair → IsClosedAt c.sets pair.successor → IsCompleteAt c.sets pair.predecessor
+
+-- the stored pairs have no loop
+abbrev pub PairsHaveNoLoop : Type 0
+PairsHaveNoLoop =
+    (c : Content) → IsSound c → (serial : ℕ) → OnRing (λ successor predecessor. Contains c.pairs (pair_of successor predecessor)) serial → ⊥

@@ -24,3 +24,4 @@ pub mod Replan
 pub mod Shown
 pub mod Sound
 pub mod Statement
+pub mod Stream

@@ -1,6 +1,8 @@
 // Laws of the machine: each function has no body, and its contract is the law.
-ghost use Rattle.planner_machine.specs.Laws.{AnswersOnce, FollowsFate, IsWellFormed, LeavesRefused, StaysSound};
-ghost use Rattle.planner_machine.specs.Statement.{Change};
+ghost use Rattle.std.specs.Prelude.{ℕ};
+ghost use Rattle.planner_machine.specs.Laws.{AnswersOnce, DailyIsFates, FollowsFate, IsWellFormed, KeepsItself, KeepsPairs, LeavesRefused, PredecessorsAreComplete, StaysSound};
+ghost use Rattle.planner_machine.specs.Statement.{Change, DailyExtend, Replan};
+ghost use Rattle.planner_machine.specs.Stream.{RunsByFate, RunsOneWay, RunsSound};
 
 /// Law: on sound content a statement has one answer, and leaves one content.
 pub fn one_answer()
@@ -21,4 +23,30 @@ pub fn fate_is_followed()
 /// Law: sound content stays sound, whatever a statement of well-formed values is answered.
 pub fn sound_content_stays_sound()
     ensures { (change : Change) → IsWellFormed change → StaysSound change }
+{}
+
+/// Law: under every fate an occurrence keeps its key and its serial, and stays generated or added by hand.
+pub fn occurrence_stays_itself()
+    ensures { (change : Change) → KeepsItself change }
+{}
+
+/// Law: a daily plan on whole sets is the fates of all occurrences together, and changes no pair.
+pub fn daily_plans()
+    ensures fates { DailyIsFates }
+    ensures extend_keeps_pairs { (t : ℕ) → KeepsPairs (DailyExtend t) }
+    ensures replan_keeps_pairs { KeepsPairs Replan }
+{}
+
+/// Law: in sound content what has started, ended in error or is complete, in the current plan or in history, has only
+/// predecessors that are complete.
+pub fn predecessors_are_complete()
+    ensures { PredecessorsAreComplete }
+{}
+
+/// Law: a stream over sound content is answered in one way and leaves one content, which is sound; and each serial issued
+/// by then stands in exactly one place, where its fates put it, from where it stood or from where it was made on the way.
+pub fn streams()
+    ensures one_way { RunsOneWay }
+    ensures sound { RunsSound }
+    ensures by_fate { RunsByFate }
 {}
