@@ -1,5 +1,5 @@
 -- The map of definitions by name, as its entries change.
-use Rattle.std.proofs.Common.{◌≡◌, ◌≢◌, ◌∙◌, sym, refl, ap, ℕ, List, [], ◌∷◌, ◌++◌, length, Bool, true, false, cond, Option, Some, None, Result, Ok, Err, nat_eq, add-one}
+use Rattle.std.proofs.Common.{◌≡◌, ◌≢◌, ◌∙◌, sym, refl, ap, subst, append_assoc, ℕ, List, [], ◌∷◌, ◌++◌, length, Bool, true, false, cond, Option, Some, None, Result, Ok, Err, nat_eq, add-one}
 use Rattle.std.specs.Prelude.{IfOk, IsTrue, ◌↔◌, is_some}
 use Rattle.std.proofs.lemmas.List.{append-nil}
 use Rattle.std.proofs.lemmas.List.Elements.{filter-append}
@@ -13,7 +13,7 @@ use Rattle.std.specs.List.{IsDistinct, AllByRecursion}
 use Rattle.std.proofs.lemmas.Map.Made.{update_all_distinct}
 use Rattle.work_calendars.specs.Name.{IsName}
 use Rattle.app_definitions.specs.Fields.{field}
-use Rattle.app_definitions.specs.ByName.{records_of, FitsKind, IsDefinedBy, AreGivenBy, overlaid}
+use Rattle.app_definitions.specs.ByName.{records_of, FitsKind, IsDefinedBy, AreEntriesOf, AreGivenBy, overlaid}
 
 -- definitions by name
 abbrev pub Definitions : Type 0 → Type 0
@@ -117,6 +117,30 @@ get-overlaid old more q =
 lookup-absent : {X : Type 0} (k : List ℕ) (es : List (List ℕ × X)) → AllByRecursion (λ y. pointwise nat_eq k y ≡ false) (keys_of es) → lookup (pointwise nat_eq k) es ≡ None
 lookup-absent k [] h = refl
 lookup-absent k (e ∷ es) h = rw (h.0) (lookup-absent k es h.1)
+
+-- a name has no entry before its own
+apart_from : {X : Type 0} (k : List ℕ) (es : List (List ℕ × X)) (v : X) (rest : List (List ℕ × X)) (n : List ℕ) → AllByRecursion (λ y. pointwise nat_eq n y ≡ false) (keys_of (es ++ (k, v) ∷ rest)) → pointwise nat_eq n k ≡ false
+apart_from k [] v rest n all = all.0
+apart_from k (e ∷ es) v rest n all = apart_from k es v rest n all.1
+
+pub lookup-before : {X : Type 0} (es : List (List ℕ × X)) (k : List ℕ) (v : X) (rest : List (List ℕ × X)) → IsDistinct (pointwise nat_eq) (keys_of (es ++ (k, v) ∷ rest)) → lookup (pointwise nat_eq k) es ≡ None
+unfolding IsDistinct
+lookup-before [] k v rest h = refl
+lookup-before (e ∷ es) k v rest h =
+    let apart : pointwise nat_eq k e.0 ≡ false = name_sym k e.0 ∙ apart_from k es v rest e.0 h.0 in
+    rw apart (lookup-before es k v rest h.1)
+
+-- one entry more, of those that were left
+pub entries-more : {X : Type 0} (es new it rest : List (List ℕ × X)) (k : List ℕ) (v w : X) (m : Definitions X) → AreEntriesOf (es ++ it) m → it ≡ (k, v) ∷ rest → w ≡ v
+    → (lookup (pointwise nat_eq k) es ≡ None → new ≡ es ++ (k, w) ∷ []) → AreEntriesOf (new ++ rest) m
+entries-more {X} es new it rest k v w m are steps same put =
+    let all : AreEntriesOf (es ++ (k, v) ∷ rest) m = subst (λ l. AreEntriesOf (es ++ l) m) steps are in
+    let is : new ≡ es ++ (k, v) ∷ [] = put (lookup-before es k v rest all.own_names) ∙ ap (λ x. es ++ (k, x) ∷ []) same in
+    subst (λ l. AreEntriesOf l m) (sym (ap (λ l. l ++ rest) is ∙ append_assoc es ((k, v) ∷ []) rest)) all
+
+-- none is left
+pub entries-all : {X : Type 0} (es it : List (List ℕ × X)) (m : Definitions X) → AreEntriesOf (es ++ it) m → it ≡ [] → view_of es ≡ m
+entries-all es it m are none = let all : AreEntriesOf (es ++ []) m = subst (λ l. AreEntriesOf (es ++ l) m) none are in ap view_of (sym (append-nil es)) ∙ all.are
 
 -- there are as many definitions as entries
 pub len-view_of : {X : Type 0} (es : List (List ℕ × X)) → IsDistinct (pointwise nat_eq) (keys_of es) → map.len (view_of es) ≡ length es

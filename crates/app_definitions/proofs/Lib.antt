@@ -8,4 +8,5 @@ pub mod PeriodLemmas
 pub mod PredecessorLemmas
 pub mod OptionLemmas
 pub mod OneBlock
+pub mod LinkLemmas
 pub mod NamedLemmas

@@ -1,6 +1,8 @@
 -- Definitions by name, as the records of a block give them.
 use Rattle.std.specs.Prelude.{◌≡◌, ◌≢◌, ℕ, ◌++◌, List, [], filter, length, Option, None, Some, nat_eq}
 use Rattle.std.specs.Cmp.Lexicographic.{pointwise, slice_cmp}
+use Rattle.std.specs.List.{IsDistinct}
+use Rattle.std.specs.Map.{keys_of}
 use Rattle.std.specs.Ordering.{nat_cmp}
 use Rattle.std.specs.FinMap as map
 use Rattle.work_calendars.specs.Name.{IsName}
@@ -23,6 +25,11 @@ IsDefinedBy IsMadeOf (Some d) rows = (rows ≢ []) × IsMadeOf d rows
 -- the definitions are those that these records give, for each name those that its own records make
 abbrev pub AreGivenBy : {D : Type 0} → (D → List (List (List ℕ)) → Type 0) → map.FinMap (slice_cmp nat_cmp) D → List (List (List ℕ)) → Type 0
 AreGivenBy IsMadeOf definitions rows = (name : List ℕ) → IsDefinedBy IsMadeOf (map.get definitions name) (records_of name rows)
+
+-- the entries are those of the definitions, in some order, and no two have one name
+pub record AreEntriesOf {D : Type 0} (entries : List (List ℕ × D)) (definitions : map.FinMap (slice_cmp nat_cmp) D) : Type 0 where
+  pub are : map.from_entries entries ≡ definitions
+  pub own_names : IsDistinct (pointwise nat_eq) (keys_of entries)
 
 -- the definitions of `more`, and for all other names those of `old`
 abbrev pub overlaid : {D : Type 0} → map.FinMap (slice_cmp nat_cmp) D → map.FinMap (slice_cmp nat_cmp) D → map.FinMap (slice_cmp nat_cmp) D

@@ -9,6 +9,8 @@ pub mod Fields
 pub mod Divisions
 pub mod Periods
 pub mod Laws
+pub mod Limits
+pub mod Links
 pub mod NamedOccurrences
 pub mod Options
 pub mod Predecessors

@@ -46,6 +46,10 @@ impl Definition for Application {
         Ok(application_of(row))
     }
 
+    fn copy(&self) -> Result<Application, AllocError> {
+        Ok(*self)
+    }
+
     fn join(&mut self, _row: &ByteRecord) -> Result<bool, AllocError> {
         Ok(false)
     }

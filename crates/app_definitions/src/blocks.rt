@@ -9,7 +9,7 @@ ghost use Rattle.app_definitions.specs.Records.{block_records, AllGood, IsFirstF
 use crate::by_name::{ByName, Definition};
 use crate::kinds::{Block, Kind};
 use crate::option_blocks::read_options;
-use crate::records::{BlockFault, gather_all};
+use crate::records::{BlockFault, LONGEST_BLOCK, gather_all};
 use std::alloc::Global;
 
 impl Block {
@@ -30,7 +30,7 @@ impl Block {
 
 // The definitions that a block of one kind gives.
 fn read_kind<D: Definition>(alloc: Global, text: &[u8]) -> Result<ByName<D>, BlockFault>
-    requires { length text.now ≤ 262144 }
+    requires { length text.now ≤ LONGEST_BLOCK }
     ensures good { OnOk result (AllGood (FitsKind D.FIELDS D.FitsName) (block_records text.now)) }
     ensures given { IfOk result (λ d. AreGivenBy D.IsMadeOf d (block_records text.now)) }
     ensures faulty { IfErr result (IsFirstFaulty (FitsKind D.FIELDS D.FitsName) (block_records text.now)) }
@@ -42,7 +42,7 @@ fn read_kind<D: Definition>(alloc: Global, text: &[u8]) -> Result<ByName<D>, Blo
 
 /// Reads a block of applications.
 pub fn read_applications(alloc: Global, text: &[u8]) -> Result<Block, BlockFault>
-    requires { length text.now ≤ 262144 }
+    requires { length text.now ≤ LONGEST_BLOCK }
     ensures reads { IfOk result (ReadsAs Kind.Applications text.now) }
     ensures faulty { IfErr result (IsFaultOf Kind.Applications text.now) }
 {
@@ -51,7 +51,7 @@ pub fn read_applications(alloc: Global, text: &[u8]) -> Result<Block, BlockFault
 
 /// Reads a block of calendars.
 pub fn read_calendars(alloc: Global, text: &[u8]) -> Result<Block, BlockFault>
-    requires { length text.now ≤ 262144 }
+    requires { length text.now ≤ LONGEST_BLOCK }
     ensures reads { IfOk result (ReadsAs Kind.Calendars text.now) }
     ensures faulty { IfErr result (IsFaultOf Kind.Calendars text.now) }
 {
@@ -60,7 +60,7 @@ pub fn read_calendars(alloc: Global, text: &[u8]) -> Result<Block, BlockFault>
 
 /// Reads a block of periods.
 pub fn read_periods(alloc: Global, text: &[u8]) -> Result<Block, BlockFault>
-    requires { length text.now ≤ 262144 }
+    requires { length text.now ≤ LONGEST_BLOCK }
     ensures reads { IfOk result (ReadsAs Kind.Periods text.now) }
     ensures faulty { IfErr result (IsFaultOf Kind.Periods text.now) }
 {
@@ -69,7 +69,7 @@ pub fn read_periods(alloc: Global, text: &[u8]) -> Result<Block, BlockFault>
 
 /// Reads a block of predecessors.
 pub fn read_predecessors(alloc: Global, text: &[u8]) -> Result<Block, BlockFault>
-    requires { length text.now ≤ 262144 }
+    requires { length text.now ≤ LONGEST_BLOCK }
     ensures reads { IfOk result (ReadsAs Kind.Predecessors text.now) }
     ensures faulty { IfErr result (IsFaultOf Kind.Predecessors text.now) }
 {
@@ -78,7 +78,7 @@ pub fn read_predecessors(alloc: Global, text: &[u8]) -> Result<Block, BlockFault
 
 /// Reads a block of run cycles.
 pub fn read_run_cycles(alloc: Global, text: &[u8]) -> Result<Block, BlockFault>
-    requires { length text.now ≤ 262144 }
+    requires { length text.now ≤ LONGEST_BLOCK }
     ensures reads { IfOk result (ReadsAs Kind.RunCycles text.now) }
     ensures faulty { IfErr result (IsFaultOf Kind.RunCycles text.now) }
 {
@@ -87,7 +87,7 @@ pub fn read_run_cycles(alloc: Global, text: &[u8]) -> Result<Block, BlockFault>
 
 /// Reads a block of that kind.
 pub fn read_block(alloc: Global, kind: Kind, text: &[u8]) -> Result<Block, BlockFault>
-    requires { length text.now ≤ 262144 }
+    requires { length text.now ≤ LONGEST_BLOCK }
     ensures reads { IfOk result (ReadsAs kind text.now) }
     ensures faulty { IfErr result (IsFaultOf kind text.now) }
 {

@@ -4,12 +4,13 @@ ghost use Rattle.std.specs.Prelude.{◌≡◌, ◌≢◌, ◌↔◌, ℕ, List, 
 ghost use Rattle.std.specs.Option.{option_copied};
 ghost use Rattle.std.specs.FinMap as map;
 ghost use Rattle.csv.specs.Records.{fields_of};
-ghost use Rattle.app_definitions.specs.ByName.{FitsKind, IsDefinedBy, AreGivenBy, overlaid};
+ghost use Rattle.app_definitions.specs.ByName.{AreEntriesOf, FitsKind, IsDefinedBy, AreGivenBy, overlaid};
 
 use crate::fields::{field_at, name_of};
 use crate::records::Gather;
 use csv::ByteRecord;
 use indexmap::IndexMap;
+use indexmap::map::Iter;
 use std::alloc::{AllocError, Global};
 use std::marker::Model;
 use work_calendars::Name;
@@ -32,6 +33,10 @@ pub trait Definition: Drop {
         requires { length (fields_of row.now) ≡ FIELDS }
         ensures begun { IfOk result (λ d. IsSome d ↔ FitsName [] (fields_of row.now)) }
         ensures made { IfOk result (λ d. IfSome d (λ d. IsMadeOf d (fields_of row.now ∷ []))) };
+
+    /// An owned copy.
+    fn copy(&self) -> Result<Self, AllocError>
+        ensures copied { IfOk result (λ d. d ≡ self.now) };
 
     /// Takes a further record about the name, or answers that it is faulty.
     fn join(&mut self, row: &ByteRecord) -> Result<bool, AllocError>
@@ -87,6 +92,13 @@ impl<D> ByName<D> {
         Ok(())
     }
 
+    // The definitions with their names, in no order.
+    pub(crate) fn iter(&self) -> Iter<'_, Name, D>
+        ensures { AreEntriesOf result self.now }
+    {
+        self.by_name.iter()
+    }
+
     /// How many names have a definition.
     pub fn len(&self) -> usize
         ensures { result ≡ map.len self.now }
@@ -115,6 +127,18 @@ impl<D> ByName<D> {
         ensures removed { self.new ≡ map.remove self.old name.now }
     {
         self.by_name.swap_remove(name).is_some()
+    }
+}
+
+impl<D: Definition> Clone for ByName<D> {
+    ghost is_clone = { λ old new. new ≡ old };
+
+    fn clone(&self) -> Result<ByName<D>, AllocError> {
+        let mut by_name = IndexMap::new(*self.by_name.allocator());
+        for (name, definition) in self.iter() {
+            by_name.insert(*name, definition.copy()?)?;
+        }
+        Ok(ByName { by_name })
     }
 }
 

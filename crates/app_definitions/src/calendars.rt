@@ -96,6 +96,10 @@ impl Definition for Calendar {
         }
     }
 
+    fn copy(&self) -> Result<Calendar, AllocError> {
+        self.clone()
+    }
+
     fn join(&mut self, row: &ByteRecord) -> Result<bool, AllocError> {
         list(self, row)
     }

@@ -51,6 +51,16 @@ impl RunCycles {
     }
 }
 
+impl Clone for RunCycles {
+    ghost is_clone = { λ old new. new ≡ old };
+
+    fn clone(&self) -> Result<RunCycles, AllocError> {
+        Ok(RunCycles {
+            cycles: self.cycles.clone()?,
+        })
+    }
+}
+
 // The distance from 0 that these digits spell.
 fn distance_of(digits: &[u8]) -> Option<i16>
     ensures valid { IsSome result ↔ IsDistanceText digits.now }
@@ -201,6 +211,10 @@ impl Definition for RunCycles {
         let mut cycles = Vec::new(alloc);
         cycles.push(cycle)?;
         Ok(Some(RunCycles { cycles }))
+    }
+
+    fn copy(&self) -> Result<RunCycles, AllocError> {
+        self.clone()
     }
 
     fn join(&mut self, row: &ByteRecord) -> Result<bool, AllocError> {

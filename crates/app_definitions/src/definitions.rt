@@ -45,6 +45,20 @@ impl Definitions {
         }
     }
 
+    /// An owned copy.
+    pub fn clone(&self) -> Result<Definitions, AllocError>
+        ensures { IfOk result (λ copy. copy ≡ self.now) }
+    {
+        Ok(Definitions {
+            applications: self.applications.clone()?,
+            calendars: self.calendars.clone()?,
+            periods: self.periods.clone()?,
+            predecessors: self.predecessors.clone()?,
+            run_cycles: self.run_cycles.clone()?,
+            options: self.options,
+        })
+    }
+
     /// Takes a block's definitions in, each in place of the one of its name, and answers how many names the block gave. A
     /// merge that is refused for memory changes nothing.
     pub fn merge(&mut self, block: Block) -> Result<usize, AllocError>

@@ -12,6 +12,7 @@ mod definitions;
 mod fields;
 mod kinds;
 mod laws;
+mod links;
 mod named_occurrences;
 mod option_blocks;
 mod options;
@@ -33,7 +34,7 @@ pub use option_blocks::read_options;
 pub use options::{MAX_EXTENSION_HOURS, Options};
 pub use periods::DefinedPeriod;
 pub use predecessors::Predecessors;
-pub use records::BlockFault;
+pub use records::{BlockFault, LONGEST_BLOCK};
 pub use work_indexes::WorkIndexes;
 
 #[cfg(test)]

@@ -2,8 +2,8 @@
 // last block with the name gives, whole.
 use crate::tests::halves;
 use crate::{
-    Application, Block, BlockFault, DefinedPeriod, Definitions, Kind, Options, Predecessors,
-    RunCycles, read_block,
+    Application, Block, BlockFault, DefinedPeriod, Definitions, Kind, LONGEST_BLOCK, Options,
+    Predecessors, RunCycles, read_block,
 };
 use plan_periods::Period;
 use run_cycles::{Deadline, Rule, RunCycle};
@@ -30,7 +30,7 @@ fn merge(all: &mut Definitions, block: Block) -> Result<usize, usize> {
 // How many names the block gave, or the number of the faulty record, 98 where no caller may hand it in, and 99 for want of
 // memory.
 fn take(alloc: Global, all: &mut Definitions, kind: Kind, text: &[u8]) -> Result<usize, usize> {
-    if text.len() > 262144 {
+    if text.len() > LONGEST_BLOCK {
         return Err(98);
     }
     match read_block(alloc, kind, text) {

@@ -67,6 +67,25 @@ impl DefinedPeriod {
     }
 }
 
+impl Clone for DefinedPeriod {
+    ghost is_clone = { λ old new. new ≡ old };
+
+    fn clone(&self) -> Result<DefinedPeriod, AllocError> {
+        let division = match &self.division {
+            Division::Days { origin, interval } => Division::Days {
+                origin: *origin,
+                interval: *interval,
+            },
+            Division::WorkDays { origin, interval } => Division::WorkDays {
+                origin: *origin,
+                interval: *interval,
+            },
+            Division::Listed(entries) => Division::Listed(entries.clone()?),
+        };
+        Ok(DefinedPeriod { division })
+    }
+}
+
 // The origin and the interval that a record of type A or W gives.
 fn interval_of(row: &ByteRecord) -> Option<(Day, u16)>
     ensures valid { IsSome result ↔ (IsDayText (field (fields_of row.now) 2) × HasInterval (fields_of row.now)) }
@@ -149,6 +168,10 @@ impl Definition for DefinedPeriod {
             }
             None => Ok(None),
         }
+    }
+
+    fn copy(&self) -> Result<DefinedPeriod, AllocError> {
+        self.clone()
     }
 
     fn join(&mut self, row: &ByteRecord) -> Result<bool, AllocError> {

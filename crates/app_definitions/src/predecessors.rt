@@ -40,6 +40,16 @@ impl Predecessors {
     }
 }
 
+impl Clone for Predecessors {
+    ghost is_clone = { λ old new. new ≡ old };
+
+    fn clone(&self) -> Result<Predecessors, AllocError> {
+        Ok(Predecessors {
+            names: self.names.clone()?,
+        })
+    }
+}
+
 // Where this name stands, or else the place where it would stand.
 fn place_of(names: &[Name], name: &Name) -> Result<usize, usize>
     requires { AreRising (λ n. n) names.now }
@@ -65,6 +75,10 @@ impl Definition for Predecessors {
         let mut names = Vec::new(alloc);
         names.push(name)?;
         Ok(Some(Predecessors { names }))
+    }
+
+    fn copy(&self) -> Result<Predecessors, AllocError> {
+        self.clone()
     }
 
     fn join(&mut self, row: &ByteRecord) -> Result<bool, AllocError> {

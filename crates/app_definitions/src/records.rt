@@ -8,6 +8,9 @@ ghost use Rattle.app_definitions.specs.Records.{block_records, AllGood, IsFirstF
 use csv::{ByteRecord, Error, ErrorKind, ReaderBuilder};
 use std::alloc::{AllocError, Global};
 
+/// The most bytes that a block has.
+pub const LONGEST_BLOCK: usize = 262_144;
+
 /// Why a block is not read.
 #[derive(Debug, Drop, thiserror::Error)]
 pub enum BlockFault {
@@ -55,7 +58,7 @@ fn fault_of(error: &Error, number: usize) -> BlockFault
 
 /// Gathers the records of a block.
 pub fn gather_all<G: Gather>(alloc: Global, text: &[u8], into: &mut G) -> Result<(), BlockFault>
-    requires short { length text.now ≤ 262144 }
+    requires short { length text.now ≤ LONGEST_BLOCK }
     requires starts { G.Holds into.old [] }
     ensures good { OnOk result (AllGood G.Fits (block_records text.now)) }
     ensures gathered { OnOk result (G.Holds into.new (block_records text.now)) }

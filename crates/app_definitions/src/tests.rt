@@ -1,5 +1,5 @@
 // Blocks, accepted and refused. What they give comes from the format's own words.
-use crate::{BlockFault, Kind, read_block, read_options, read_run_cycles};
+use crate::{BlockFault, Kind, LONGEST_BLOCK, read_block, read_options, read_run_cycles};
 use std::alloc::Global;
 use std::process::Abort;
 use std::test::Fail;
@@ -7,7 +7,7 @@ use std::test::Fail;
 // 0 where the block is accepted, the number of the faulty record where it isn't, 99 for want of memory, and 98 for a block
 // that no caller may hand in.
 fn fault(alloc: Global, kind: Kind, text: &[u8]) -> usize {
-    if text.len() > 262144 {
+    if text.len() > LONGEST_BLOCK {
         return 98;
     }
     let block = match kind {
