@@ -1,5 +1,5 @@
 -- Counts of work days, by how many come before a day.
-use Rattle.std.proofs.Common.{◌≡◌, ◌+◌, ◌-◌, ◌<◌, ◌≤◌, ◌↔◌, ℕ, ℤ, zero, suc, Bool, List, Option, Some, None, IsTrue, cond, option_map, ap, sym, subst, ◌∙◌, refl, arith}
+use Rattle.std.proofs.Common.{◌≡◌, ◌+◌, ◌-◌, ◌≤◌, ◌↔◌, ℕ, ℤ, zero, suc, Bool, List, Option, Some, None, IsTrue, cond, option_map, ap, sym, subst, ◌∙◌, refl, arith}
 use Rattle.std.specs.Prelude.{Any}
 use Rattle.plan_periods.specs.Interval.{HoldsDay}
 use Rattle.work_calendars.specs.WorkDay.{work_days_before}

@@ -1,8 +1,13 @@
+pub mod AddLemmas
+pub mod BlockLemmas
 pub mod CountLemmas
 pub mod DayLemmas
+pub mod GatherLemmas
 pub mod Iff
+pub mod JumpLemmas
 pub mod NameLemmas
 pub mod NamedDayLemmas
+pub mod NamedLemmas
 pub mod OccurrenceLemmas
 pub mod OrderLemmas
 pub mod OwnNames

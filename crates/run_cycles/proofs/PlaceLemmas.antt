@@ -1,5 +1,5 @@
 -- Days at offsets, as numbers before an end.
-use Rattle.std.proofs.Common.{◌≡◌, ◌≢◌, ℕ, ◌+◌, ◌<◌, ◌≤◌, ◌↔◌, Bool, true, false, IsTrue, Option, Some, None, IfSome, option_map, sym, subst, ◌∙◌, refl, arith}
+use Rattle.std.proofs.Common.{◌≡◌, ℕ, ◌+◌, ◌<◌, ◌≤◌, ◌↔◌, Bool, IsTrue, Option, Some, None, IfSome, option_map, sym, subst, ◌∙◌, arith}
 use Rattle.work_calendars.specs.Day.{IsDay}
 use Rattle.run_cycles.specs.Offset.{Offset, FromFirst, FromLast}
 use Rattle.run_cycles.specs.RawDay.{IsDayAt}

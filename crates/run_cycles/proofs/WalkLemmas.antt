@@ -1,10 +1,9 @@
 -- What a walk over the intervals that meet a range finds.
-use Rattle.std.proofs.Common.{◌≡◌, ℕ, ◌+◌, ◌<◌, ◌≤◌, ◌↔◌, List, Bool, Option, Some, None, ℤ, IsTrue, true, false, length, get_or, subst, arith, refl}
-use Rattle.std.specs.Prelude.{Any, Contains}
-use Rattle.std.proofs.lemmas.List.{get_or_default}
+use Rattle.std.proofs.Common.{◌≡◌, ℕ, ◌≤◌, ◌↔◌, List, Bool, Option, Some, None, ℤ, IsTrue, true, false, arith}
+use Rattle.std.specs.Prelude.{Any}
 use Rattle.plan_periods.specs.declared.intervals.Interval.{Interval}
 use Rattle.plan_periods.specs.declared.periods.Period.{Period}
-use Rattle.plan_periods.specs.Interval.{IsInterval, HoldsDay, MeetsRange}
+use Rattle.plan_periods.specs.Interval.{HoldsDay}
 use Rattle.plan_periods.specs.Walk.{ListsMeeting}
 use Rattle.run_cycles.specs.CountedDay.{IsWorkDayAt}
 use Rattle.run_cycles.specs.Offset.{Offset, FromFirst, FromLast, offset_of}

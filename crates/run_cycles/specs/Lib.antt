@@ -1,4 +1,5 @@
 pub mod CountedDay
+pub mod Jump
 pub mod Limits
 pub mod NamedDay
 pub mod Occurrence

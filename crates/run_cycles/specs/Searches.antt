@@ -1,11 +1,16 @@
 -- Words of private contracts alone, for the searches among offsets: what a number has to be, and what lies in a range.
-use Rattle.std.specs.Prelude.{◌≡◌, ℕ, ◌+◌, ◌≤◌, ◌<◌, Bool, Option, Some, None, IfSome}
+use Rattle.std.specs.Prelude.{◌≡◌, ℕ, ◌+◌, ◌≤◌, ◌<◌, ◌⊎◌, ◌↔◌, Bool, ℤ, List, Any, Contains, Option, Some, None, IfSome}
+use Rattle.work_calendars.specs.CountedIndex.{CountedStatuses}
 use Rattle.work_calendars.specs.Day.{IsDay}
+use Rattle.work_calendars.specs.WorkDay.{IsNthWorkDay}
 use Rattle.plan_periods.specs.declared.periods.Period.{Period}
-use Rattle.plan_periods.specs.Interval.{IsInterval}
-use Rattle.run_cycles.specs.Offset.{Offset, FromFirst, FromLast}
+use Rattle.plan_periods.specs.Interval.{IsInterval, MeetsRange}
+use Rattle.run_cycles.specs.declared.rules.Rule.{Rule}
+use Rattle.run_cycles.specs.declared.rules.Rule.TheVariants.{WorkDaysOnly, Before, After, Same, Skip}
+use Rattle.run_cycles.specs.Offset.{Offset, FromFirst, FromLast, offset_of}
 use Rattle.run_cycles.specs.RawDay.{IsDayAt, IsRawDay}
 use Rattle.run_cycles.specs.CountedDay.{IsWorkDayAt}
+use Rattle.run_cycles.specs.Shift.{IsShifted}
 
 -- x is the number at the offset among those from `start` to before an end, or with none
 abbrev pub IsPlaceAt : Offset → ℕ → Option ℕ → ℕ → Type 0
@@ -32,3 +37,49 @@ HasCount (FromLast k) before before_first None = ⊥
 abbrev pub IsCountedInInterval : Period → Offset → (ℕ → Bool) → ℕ → Type 0
 IsCountedInInterval period k work d =
     (first : ℕ) × (end : Option ℕ) × IsInterval period first end × IsWorkDayAt work k first end d
+
+-- a number gives the day d: as the place of a work day where work days count alone, else as a raw day that becomes d
+abbrev pub GivesPlace : Rule → (ℕ → Bool) → ℕ → ℕ → Type 0
+GivesPlace WorkDaysOnly work x d = IsNthWorkDay work x d
+GivesPlace Before work x d = IsDay x × IsShifted Before work x d
+GivesPlace After work x d = IsDay x × IsShifted After work x d
+GivesPlace Same work x d = IsDay x × IsShifted Same work x d
+GivesPlace Skip work x d = IsDay x × IsShifted Skip work x d
+
+-- how many questions a number takes at most
+abbrev pub questions_of : Rule → ℕ
+questions_of WorkDaysOnly = 1
+questions_of Before = 2
+questions_of After = 2
+questions_of Same = 2
+questions_of Skip = 2
+
+-- the number at the offset gives d
+abbrev pub IsGivenAt : Rule → (ℕ → Bool) → ℕ → Option ℕ → Offset → ℕ → Type 0
+IsGivenAt rule work start end k d = (x : ℕ) × IsPlaceAt k start end x × GivesPlace rule work x d
+
+-- d is given at the offset by the interval from `first` to an end, or with none
+abbrev pub GivesIn : Rule → (ℕ → Bool) → ℕ → Option ℕ → Offset → ℕ → Type 0
+GivesIn WorkDaysOnly work first end k d = IsWorkDayAt work k first end d
+GivesIn Before work first end k d = (x : ℕ) × IsDay x × IsDayAt k first end x × IsShifted Before work x d
+GivesIn After work first end k d = (x : ℕ) × IsDay x × IsDayAt k first end x × IsShifted After work x d
+GivesIn Same work first end k d = (x : ℕ) × IsDay x × IsDayAt k first end x × IsShifted Same work x d
+GivesIn Skip work first end k d = (x : ℕ) × IsDay x × IsDayAt k first end x × IsShifted Skip work x d
+
+-- d is given at the offset by an interval of the period that meets the days from `from` to `to`
+abbrev pub GivesInMet : Period → Rule → (ℕ → Bool) → ℕ → ℕ → Offset → ℕ → Type 0
+GivesInMet period rule work from to k d =
+    (first : ℕ) × (end : Option ℕ) × IsInterval period first end × MeetsRange first end from to
+    × GivesIn rule work first end k d
+
+-- d is one of the days from `low` to before `high`, and P holds of it at one of the offsets
+abbrev pub IsInWindow : ℕ → ℕ → (Offset → ℕ → Type 0) → List ℤ → ℕ → Type 0
+IsInWindow low high P offsets d = (low ≤ d) × (d < high) × Any (λ k. P (offset_of k) d) offsets
+
+-- the list has got the days that P holds of, and no others
+abbrev pub AddsDays : (ℕ → Type 0) → List ℕ → List ℕ → Type 0
+AddsDays P old new = (d : ℕ) → Contains new d ↔ (Contains old d ⊎ P d)
+
+-- the index was asked so many questions at most
+abbrev pub AsksAtMost : ℕ → CountedStatuses → CountedStatuses → Type 0
+AsksAtMost n old new = (new.statuses ≡ old.statuses) × (new.asked ≤ old.asked + n)

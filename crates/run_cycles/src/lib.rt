@@ -12,6 +12,7 @@
 mod counting;
 mod cycles;
 mod generation;
+mod jump;
 mod named;
 mod naming;
 mod offsets;
@@ -21,6 +22,7 @@ mod rules;
 
 pub use cycles::{CycleType, Deadline, MAX_DEADLINE_DAYS, RunCycle};
 pub use generation::generate;
+pub use jump::JumpDays;
 pub use named::Named;
 pub use naming::names;
 pub use offsets::{MAX_OFFSET, MAX_OFFSETS, Offsets};

@@ -1,4 +1,4 @@
-use Rattle.std.proofs.Common.{◌≤◌, ◌<◌, ◌^◌, sym, ◌∙◌, arith}
+use Rattle.std.proofs.Common.{sym, ◌∙◌, arith}
 use Rattle.plan_periods.specs.Interval.{HoldsDay}
 use Rattle.work_calendars.specs.Day.{IsDay}
 use Rattle.work_calendars.specs.WorkIndex.{is_work_in}

@@ -1,4 +1,4 @@
-use Rattle.std.proofs.Common.{Option, ℕ, ℤ, Some, None, subst, option_map, ◌+◌, ◌≡◌, to_z, of_z}
+use Rattle.std.proofs.Common.{Option, ℕ, ℤ, Some, subst, option_map, ◌+◌, ◌≡◌, to_z, of_z}
 use Rattle.std.proofs.lemmas.Int.{to_z-of_z}
 use mir.Syntax.{w16}
 use Rattle.run_cycles.specs.Searches.{IsPlaceAt}
