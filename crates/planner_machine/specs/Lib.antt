@@ -14,6 +14,7 @@ pub mod Fate
 pub mod InForce
 pub mod Jobs
 pub mod Laws
+pub mod Limits
 pub mod Modify
 pub mod ModifyAll
 pub mod ModifyOne

@@ -13,4 +13,4 @@ pub use laws::{
     daily_plans, fate_is_followed, occurrence_stays_itself, one_answer, predecessors_are_complete,
     refusal_changes_nothing, sound_content_stays_sound, streams,
 };
-pub use limits::{GREATEST_JOB, LONGEST_WINDOW, MOST_PLANNED_ROWS};
+pub use limits::{GREATEST_JOB, LONGEST_WINDOW, MOST_PLANNED_ROWS, limits_hold};
