@@ -1,3 +1,0 @@
-mod EditLemmas
-mod MergeLemmas
-pub mod KeyLemmas

@@ -1,0 +1,6 @@
+mod LookLemmas
+mod MoveLemmas
+mod OrderLemmas
+mod PlaceLemmas
+mod SliceLemmas
+mod ViewLemmas

@@ -1,0 +1,14 @@
+//! What a planner keeps between two statements, the window through which a decision sees it, the change that a
+//! decision makes, and the stores that keep it.
+#![tactic(auto)]
+
+mod changes;
+mod contents;
+mod slices;
+mod stores;
+mod views;
+
+pub use changes::{Change, DefinitionChange, Moves, Verdict};
+pub use contents::Content;
+pub use stores::{Need, PlanStore, StoreFault};
+pub use views::View;

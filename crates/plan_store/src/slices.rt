@@ -1,0 +1,80 @@
+ghost use Rattle.std.specs.Prelude.{◌≡◌, ◌≢◌, ◌↔◌, Contains, MatchOption, IsTrue, IfOk, filter};
+ghost use Rattle.occurrences.specs.declared.place.CurrentRow.{CurrentRow as CurrentValue};
+ghost use Rattle.occurrences.specs.declared.place.Deletion.{Deletion as DeletionValue};
+ghost use Rattle.planner_machine.specs.DailyPlan.{arrives_before};
+ghost use Rattle.plan_lists.specs.Keyed.{IsKeyed};
+ghost use Rattle.external_dependencies.specs.Arrival.{arrival_cmp};
+ghost use Rattle.external_dependencies.specs.Nearest.{arrival_of};
+
+use occurrences::{CurrentRow, Deletion, Key, Reason, Row, Serial, Status};
+use plan_lists::PlanRow;
+use std::alloc::{AllocError, Global};
+use work_calendars::{App, Moment};
+
+// The rows of an application.
+pub(crate) fn of_app<'a, T: PlanRow>(list: &'a [T], app: &App) -> &'a [T]
+    ensures keyed { IsKeyed arrival_cmp (λ x. arrival_of (T.row_of x)) list.now → IsKeyed arrival_cmp (λ x. arrival_of (T.row_of x)) result.now }
+    ensures all { IsKeyed arrival_cmp (λ x. arrival_of (T.row_of x)) list.now → (x : T) → Contains result.now x ↔ (Contains list.now x × ((T.row_of x).key.app ≡ app.now)) }
+{
+    let start = list.partition_point(|x| x.row().key.app < *app);
+    let rest = &list[start..];
+    let count = rest.partition_point(|x| x.row().key.app <= *app);
+    &rest[..count]
+}
+
+// The rows of a key.
+pub(crate) fn of_key<'a, T: PlanRow>(list: &'a [T], key: &Key) -> &'a [T]
+    ensures keyed { IsKeyed arrival_cmp (λ x. arrival_of (T.row_of x)) list.now → IsKeyed arrival_cmp (λ x. arrival_of (T.row_of x)) result.now }
+    ensures all { IsKeyed arrival_cmp (λ x. arrival_of (T.row_of x)) list.now → (x : T) → Contains result.now x ↔ (Contains list.now x × ((T.row_of x).key ≡ key.now)) }
+{
+    let rows = of_app(list, &key.app);
+    let start = rows.partition_point(|x| x.row().key.ia < key.ia);
+    let rest = &rows[start..];
+    let count = rest.partition_point(|x| x.row().key.ia <= key.ia);
+    &rest[..count]
+}
+
+// The row of a serial.
+pub(crate) fn of_serial<T: PlanRow>(list: &[T], serial: Serial) -> Option<T>
+    ensures { MatchOption result ((x : T) → Contains list.now x → (T.row_of x).serial ≢ serial) (λ x. Contains list.now x × ((T.row_of x).serial ≡ serial)) }
+{
+    list.iter().copied().find(|x| x.row().serial == serial)
+}
+
+// The first of some rows.
+pub(crate) fn first_of<T: Copy>(rows: &[T]) -> Option<T>
+    ensures { MatchOption result ((x : T) → Contains rows.now x → ⊥) (λ x. Contains rows.now x) }
+{
+    rows.first().copied()
+}
+
+// The first of some rows that is not deleted.
+pub(crate) fn first_live(rows: &[CurrentRow]) -> Option<CurrentRow>
+    ensures { MatchOption result ((x : CurrentValue) → Contains rows.now x → x.status ≡ Status.D) (λ x. Contains rows.now x × (x.status ≢ Status.D)) }
+{
+    rows.iter()
+        .copied()
+        .find(|current| current.status != Status::D)
+}
+
+// Whether an operator deleted one of these.
+pub(crate) fn has_operator(rows: &[Deletion]) -> bool
+    ensures { IsTrue result ↔ ((x : DeletionValue) × Contains rows.now x × (x.reason ≡ Reason.Operator)) }
+{
+    rows.iter()
+        .any(|deletion| deletion.reason == Reason::Operator)
+}
+
+// The rows that arrive before the moment.
+pub(crate) fn arriving_before(
+    alloc: Global,
+    rows: &[Row],
+    moment: Moment,
+) -> Result<Vec<Row>, AllocError>
+    ensures { IfOk result (λ found. found.items ≡ filter (arrives_before moment) rows.now) }
+{
+    rows.iter()
+        .copied()
+        .filter(|row| row.key.ia < moment)
+        .collect(alloc)
+}

@@ -1,0 +1,79 @@
+ghost use Rattle.std.specs.Prelude.{◌≡◌, ◌⊎◌, ℕ, ◌<◌, ◌≤◌, OnOk, OnErr, IfErr, ⊤, option_copied};
+ghost use Rattle.std.specs.Borrow.{sem, follows_so};
+ghost use mathlib.Core.Option.{none};
+ghost use Rattle.planner_machine.specs.Content.{Content as ContentValue};
+ghost use Rattle.plan_store.specs.Changes.{Fits, after};
+ghost use Rattle.plan_store.specs.Faults.{MoreFailures};
+ghost use Rattle.plan_store.specs.Stores.{Reads};
+ghost use Rattle.plan_store.specs.Views.{Shows};
+
+use crate::changes::Change;
+use crate::views::View;
+use occurrences::Key;
+use planner_machine::Job;
+use std::alloc::Global;
+use thiserror::Error;
+use work_calendars::Moment;
+
+/// What a decision has to see.
+#[derive(Clone, Copy, Debug, PartialEq, Eq)]
+pub enum Need {
+    /// What a statement on one key asks.
+    Key(Key),
+    /// What a statement on the long-term plan asks.
+    LongTerm,
+    /// What a daily plan to that moment asks.
+    Daily(Moment),
+}
+
+/// Why a call of a store failed.
+#[derive(Clone, Copy, Debug, PartialEq, Eq, Error)]
+pub enum StoreFault {
+    /// Memory was refused; the content is as it was.
+    #[error("out of memory")]
+    Memory,
+    /// The device failed. The store answers so until it is opened again.
+    #[error("the device failed")]
+    Device,
+}
+
+/// What keeps a planner's content.
+pub trait PlanStore {
+    // the content
+    ghost content: { Self → ContentValue };
+
+    // what the store reads is what it wrote
+    ghost is_honest: { Self → Type 0 };
+
+    // how often its device failed, up to the greatest number that is counted
+    ghost failures: { Self → ℕ };
+
+    // a crash now may leave this content
+    ghost may_leave: { Self → ContentValue → Type 0 };
+
+    /// Lends a window that shows what the need names.
+    fn read_window<'a>(&'a mut self, need: Need) -> Result<View<'a>, StoreFault>
+        ensures* { sem 𝓛 (follows_so Self.row Self.row self.entry.ghost_name none (λ _ _. ⊤)
+            (λ now. Reads is_honest content failures may_leave self.old now result (λ view. Shows need view (content self.old)))) };
+
+    /// Lends the job that is kept under the number, if there is one.
+    fn job<'a>(&'a mut self, number: u64) -> Result<Option<&'a Job>, StoreFault>
+        ensures* { sem 𝓛 (follows_so Self.row Self.row self.entry.ghost_name none (λ _ _. ⊤)
+            (λ now. Reads is_honest content failures may_leave self.old now result (λ job. option_copied job ≡ (content self.old).jobs number))) };
+
+    /// Makes the change, whole or not at all.
+    fn apply(&mut self, alloc: Global, change: Change) -> Result<(), StoreFault>
+        requires { is_honest self.old → Fits change (content self.old) }
+
+        ensures done { is_honest self.new → OnOk result (content self.new ≡ after change (content self.old)) }
+        ensures unchanged { is_honest self.new → IfErr result (λ fault. fault ≡ StoreFault.Memory → content self.new ≡ content self.old) }
+        ensures whole { is_honest self.new → OnErr result ((content self.new ≡ content self.old) ⊎ (content self.new ≡ after change (content self.old))) }
+
+        // What a crash may leave: after `Ok` the content alone, and else at most the new content beside what it might have left before.
+        ensures settled { is_honest self.new → OnOk result ((c : ContentValue) → may_leave self.new c → c ≡ content self.new) }
+        ensures crash { is_honest self.new → (c : ContentValue) → may_leave self.new c → may_leave self.old c ⊎ (c ≡ content self.old) ⊎ (c ≡ after change (content self.old)) }
+
+        ensures blames { IfErr result (λ fault. fault ≡ StoreFault.Device → MoreFailures (failures self.old) (failures self.new) ⊎ (0 < failures self.old)) }
+        ensures counts { failures self.old ≤ failures self.new }
+        ensures honest { is_honest self.new → is_honest self.old };
+}

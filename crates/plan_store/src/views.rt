@@ -1,0 +1,186 @@
+ghost use Rattle.std.specs.Prelude.{◌≡◌, ◌↔◌, ◌<◌, length, IsTrue, IfOk};
+ghost use Rattle.planner_machine.specs.DailyPlan.{moved};
+ghost use Rattle.planner_machine.specs.Moves.{size};
+ghost use Rattle.planner_machine.specs.Sound.{AreNumbered};
+
+use crate::contents::Content;
+use crate::slices::{
+    arriving_before, first_live, first_of, has_operator, of_app, of_key, of_serial,
+};
+use app_definitions::Definitions;
+use external_dependencies::{Links, Pairs, PlacedRow};
+use occurrences::{CurrentRow, Key, Place, Row, Serial};
+use planner_machine::Bounds;
+use std::alloc::{AllocError, Global};
+use work_calendars::{App, Moment};
+
+/// What a decision sees of a content. It is lent by a store, and holds no copy.
+#[derive(Clone, Copy)]
+pub struct View<'a> {
+    pub(crate) content: &'a Content,
+}
+
+impl<'a> View<'a> {
+    ghost use Rattle.plan_lists.specs.Rows.{of_current, of_deletion, of_row};
+    ghost use Rattle.plan_store.specs.Views.{IsAny, IsCurrentRow, IsDeletedKey, IsLiveRow, IsPlacedAt, IsPlannedRow, ListsSet, shown};
+
+    /// The definitions.
+    pub fn definitions(&self) -> &'a Definitions
+        ensures { result.now ≡ (shown self.now).definitions }
+    {
+        &self.content.definitions
+    }
+
+    /// How far the plans reach; `None` before the long-term plan is created.
+    pub fn bounds(&self) -> Option<Bounds>
+        ensures { result ≡ (shown self.now).sets.bounds }
+    {
+        self.content.bounds
+    }
+
+    /// How many serials are issued.
+    pub fn issued(&self) -> u32
+        ensures { result ≡ (shown self.now).sets.issued }
+    {
+        self.content.issued
+    }
+
+    /// The lists in force.
+    pub fn in_force(&self) -> &'a Links
+        ensures { result.now ≡ (shown self.now).in_force }
+    {
+        &self.content.in_force
+    }
+
+    /// The pairs of successors and predecessors.
+    pub fn pairs(&self) -> &'a Pairs
+        ensures { result.now ≡ (shown self.now).pairs }
+    {
+        &self.content.pairs
+    }
+
+    /// The rows of the long-term plan.
+    pub fn ltp(&self) -> &'a [Row]
+        ensures rows { ListsSet of_row (shown self.now).sets.ltp IsAny result.now }
+        ensures count { AreNumbered (shown self.now).sets → length result.now ≡ size (shown self.now).sets.ltp (shown self.now).sets.issued }
+    {
+        self.content.ltp.as_slice()
+    }
+
+    /// The rows of the current plan.
+    pub fn cp(&self) -> &'a [CurrentRow]
+        ensures rows { ListsSet of_current (shown self.now).sets.cp IsAny result.now }
+        ensures count { AreNumbered (shown self.now).sets → length result.now ≡ size (shown self.now).sets.cp (shown self.now).sets.issued }
+    {
+        self.content.cp.as_slice()
+    }
+
+    /// The rows of history.
+    pub fn history(&self) -> &'a [Row]
+        ensures { ListsSet of_row (shown self.now).sets.history IsAny result.now }
+    {
+        self.content.history.as_slice()
+    }
+
+    /// The rows of an application in the long-term plan.
+    pub fn ltp_of(&self, app: &App) -> &'a [Row]
+        ensures { ListsSet of_row (shown self.now).sets.ltp (λ row. row.key.app ≡ app.now) result.now }
+    {
+        of_app(&self.content.ltp, app)
+    }
+
+    /// The rows of an application in the current plan.
+    pub fn cp_of(&self, app: &App) -> &'a [CurrentRow]
+        ensures { ListsSet of_current (shown self.now).sets.cp (λ current. current.row.key.app ≡ app.now) result.now }
+    {
+        of_app(&self.content.cp, app)
+    }
+
+    /// The rows of an application in history.
+    pub fn history_of(&self, app: &App) -> &'a [Row]
+        ensures { ListsSet of_row (shown self.now).sets.history (λ row. row.key.app ≡ app.now) result.now }
+    {
+        of_app(&self.content.history, app)
+    }
+
+    /// The rows of the long-term plan that arrive before the moment.
+    pub fn ltp_before(&self, alloc: Global, moment: Moment) -> Result<Vec<Row>, AllocError>
+        ensures rows { IfOk result (λ rows. ListsSet of_row (shown self.now).sets.ltp (λ row. row.key.ia < moment) rows.items) }
+        ensures count { AreNumbered (shown self.now).sets → IfOk result (λ rows. length rows.items ≡ size (λ serial. moved moment ((shown self.now).sets.ltp serial)) (shown self.now).sets.issued) }
+    {
+        arriving_before(alloc, &self.content.ltp, moment)
+    }
+
+    /// The row of the long-term plan that has the key.
+    pub fn ltp_row(&self, key: &Key) -> Option<Row>
+        ensures { IsPlannedRow (shown self.now).sets key.now result }
+    {
+        first_of(of_key(&self.content.ltp, key))
+    }
+
+    /// The row of the current plan that has the key and is not deleted.
+    pub fn cp_row(&self, key: &Key) -> Option<CurrentRow>
+        ensures { IsCurrentRow (shown self.now).sets key.now result }
+    {
+        first_live(of_key(&self.content.cp, key))
+    }
+
+    /// The live occurrence that has the key, and where it stands.
+    pub fn live_row(&self, key: &Key) -> Option<PlacedRow>
+        ensures { AreNumbered (shown self.now).sets → IsLiveRow (shown self.now).sets key.now result }
+    {
+        if let Some(row) = self.ltp_row(key) {
+            return Some(PlacedRow {
+                row,
+                place: Place::LongTerm,
+            });
+        }
+        if let Some(current) = self.cp_row(key) {
+            return Some(PlacedRow {
+                row: current.row,
+                place: Place::Current(current.status),
+            });
+        }
+        let row = first_of(of_key(&self.content.history, key))?;
+        Some(PlacedRow {
+            row,
+            place: Place::History,
+        })
+    }
+
+    /// Whether an operator deleted an occurrence of the key.
+    pub fn is_deleted_by_operator(&self, key: &Key) -> bool
+        ensures { IsTrue result ↔ IsDeletedKey (shown self.now).sets key.now }
+    {
+        has_operator(of_key(&self.content.deletions, key))
+    }
+
+    /// The occurrence of the serial, and where it stands.
+    pub fn placed(&self, serial: Serial) -> Option<PlacedRow>
+        ensures { AreNumbered (shown self.now).sets → IsPlacedAt (shown self.now).sets serial result }
+    {
+        if let Some(row) = of_serial(&self.content.ltp, serial) {
+            return Some(PlacedRow {
+                row,
+                place: Place::LongTerm,
+            });
+        }
+        if let Some(current) = of_serial(&self.content.cp, serial) {
+            return Some(PlacedRow {
+                row: current.row,
+                place: Place::Current(current.status),
+            });
+        }
+        if let Some(row) = of_serial(&self.content.history, serial) {
+            return Some(PlacedRow {
+                row,
+                place: Place::History,
+            });
+        }
+        let deletion = of_serial(&self.content.deletions, serial)?;
+        Some(PlacedRow {
+            row: deletion.row,
+            place: Place::Deleted(deletion.reason),
+        })
+    }
+}
