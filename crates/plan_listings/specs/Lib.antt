@@ -1,3 +1,4 @@
-pub mod Days
 pub mod Line
+pub mod Days
+pub mod Row
 pub mod Reply

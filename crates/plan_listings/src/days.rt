@@ -1,3 +1,4 @@
+//! The line of a named occurrence.
 ghost use Rattle.std.specs.Prelude.{◌≡◌, ◌+◌, ◌≤◌, ◌++◌, ℕ, List};
 ghost use Rattle.arrayvec.specs.ArrayVec.{array_vec_len};
 ghost use Rattle.work_calendars.specs.Spelling.{SpellsDay, SpellsMinute};
@@ -8,7 +9,8 @@ use arrayvec::ArrayVec;
 use run_cycles::Named;
 use work_calendars::{Day, Minute};
 
-fn append_day<const N: usize>(line: &mut ArrayVec<u8, N>, day: Day)
+/// Appends a date.
+pub(crate) fn append_day<const N: usize>(line: &mut ArrayVec<u8, N>, day: Day)
     requires { array_vec_len line.old + 10 ≤ N }
     ensures items { (text : List ℕ) × SpellsDay text day × (line.new.items ≡ line.old.items ++ text) }
     ensures len { array_vec_len line.new ≡ array_vec_len line.old + 10 }
@@ -18,7 +20,8 @@ fn append_day<const N: usize>(line: &mut ArrayVec<u8, N>, day: Day)
     append(line, &text);
 }
 
-fn append_minute<const N: usize>(line: &mut ArrayVec<u8, N>, minute: Minute)
+/// Appends a time.
+pub(crate) fn append_minute<const N: usize>(line: &mut ArrayVec<u8, N>, minute: Minute)
     requires { array_vec_len line.old + 5 ≤ N }
     ensures items { (text : List ℕ) × SpellsMinute text minute × (line.new.items ≡ line.old.items ++ text) }
     ensures len { array_vec_len line.new ≡ array_vec_len line.old + 5 }

@@ -1,12 +1,18 @@
-//! Printed lines, byte for byte. Each is answered without its line feed.
+//! Printed lines, byte for byte: replies, refusals, rows of lists. Each is answered without its line feed.
+//!
+//! ```text
+//! let line = days_line(&named); // 2024-01-01 08.00 ALPHA    2024-01-02 06.00
+//! ```
 #![tactic(auto)]
 
 mod days;
 mod line;
 mod replies;
+mod rows;
 
 pub use days::days_line;
 pub use replies::{refusal_line, reply_line};
+pub use rows::{marked_line, pair_line, row_line};
 
 #[cfg(test)]
 mod tests;
