@@ -29,12 +29,12 @@ complete_closed (Current status) is = ((λ d. let no : C ≡ D = sym is ∙ d in
 complete_closed History is = (tt, λ h. h)
 complete_closed (Deleted reason) is = absurd is
 
-complete_at : (s : Sets) (n : ℕ) → IsCompleteAt s n → IsClosedAt s n
+pub complete_at : (s : Sets) (n : ℕ) → IsCompleteAt s n → IsClosedAt s n
 complete_at s n (p, there, is) = let closed = complete_closed p.place is in (p, there, closed.0, closed.1)
 
 -- each node of a ring has an edge from another one
 module _ {V : Type 0} (E : V → V → Type 0) (ring : List V) (is : IsRing E ring) where
-  edge_into : (v : V) → Contains ring v → (u : V) × Contains ring u × E u v × (u ≢ v)
+  pub edge_into : (v : V) → Contains ring v → (u : V) × Contains ring u × E u v × (u ≢ v)
   edge_into v (zero, lt, at) =
       let more = is.several in (
         get_or ring (length ring - 1) v,
@@ -50,7 +50,7 @@ module _ {V : Type 0} (E : V → V → Type 0) (ring : List V) (is : IsRing E ri
   )
 
   -- a ring of other edges, where each edge between its nodes is one of them
-  other_ring : (F : V → V → Type 0) → ((u v : V) → Contains ring u → Contains ring v → E u v → F u v) → IsRing F ring
+  pub other_ring : (F : V → V → Type 0) → ((u v : V) → Contains ring u → Contains ring v → E u v → F u v) → IsRing F ring
   other_ring F to = record {
     several = is.several;
     different = is.different;

@@ -31,3 +31,4 @@ mod KeptLemmas
 mod StepLemmas
 mod StreamLemmas
 mod PlanLawLemmas
+mod RingLemmas

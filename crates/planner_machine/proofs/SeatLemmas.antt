@@ -20,14 +20,14 @@ at_place : Place → Row → PlacedRow
 at_place place row = record { row = row; place = place }
 
 -- the row of a seat, if it has one
-found : Seat → Option PlacedRow
+pub found : Seat → Option PlacedRow
 found s =
     or_else (option_map (at_place LongTerm) s.ltp)
     (or_else (option_map (λ current. at_place (Current current.status) current.row) s.cp)
     (or_else (option_map (at_place History) s.history)
     (option_map (λ deletion. at_place (Deleted deletion.reason) deletion.row) s.deletions)))
 
-found_alone : (row : Row) (place : Place) → found (alone row place) ≡ Some (record { row = row; place = place })
+pub found_alone : (row : Row) (place : Place) → found (alone row place) ≡ Some (record { row = row; place = place })
 unfolding found at_place
 found_alone row LongTerm = refl
 found_alone row (Current status) = refl

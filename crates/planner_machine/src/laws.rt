@@ -1,6 +1,6 @@
 // Laws of the machine: each function has no body, and its contract is the law.
 ghost use Rattle.std.specs.Prelude.{ℕ};
-ghost use Rattle.planner_machine.specs.Laws.{AnswersOnce, DailyIsFates, FollowsFate, IsWellFormed, KeepsItself, KeepsPairs, LeavesRefused, PredecessorsAreComplete, StaysSound};
+ghost use Rattle.planner_machine.specs.Laws.{AnswersOnce, DailyIsFates, FollowsFate, IsWellFormed, KeepsItself, KeepsPairs, LeavesRefused, PairsHaveNoLoop, PredecessorsAreComplete, StaysSound};
 ghost use Rattle.planner_machine.specs.Statement.{Change, DailyExtend, Replan};
 ghost use Rattle.planner_machine.specs.Stream.{RunsByFate, RunsOneWay, RunsSound};
 
@@ -41,6 +41,11 @@ pub fn daily_plans()
 /// predecessors that are complete.
 pub fn predecessors_are_complete()
     ensures { PredecessorsAreComplete }
+{}
+
+/// Law: the pairs of sound content have no loop.
+pub fn pairs_have_no_loop()
+    ensures { PairsHaveNoLoop }
 {}
 
 /// Law: a stream over sound content is answered in one way and leaves one content, which is sound; and each serial issued

@@ -10,7 +10,7 @@ mod limits;
 pub use content::{Bounds, Draft};
 pub use job::{Answer, Job, JobText};
 pub use laws::{
-    daily_plans, fate_is_followed, occurrence_stays_itself, one_answer, predecessors_are_complete,
-    refusal_changes_nothing, sound_content_stays_sound, streams,
+    daily_plans, fate_is_followed, occurrence_stays_itself, one_answer, pairs_have_no_loop,
+    predecessors_are_complete, refusal_changes_nothing, sound_content_stays_sound, streams,
 };
 pub use limits::{GREATEST_JOB, LONGEST_WINDOW, MOST_PLANNED_ROWS, limits_hold};
