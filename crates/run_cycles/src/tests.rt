@@ -8,6 +8,7 @@ use std::process::Abort;
 use std::test::Fail;
 use work_calendars::{Calendar, Day, DayStatus, Minute, Moment, Short, Weekday, WorkIndex};
 
+mod jump;
 mod plain;
 mod rows;
 mod types;
