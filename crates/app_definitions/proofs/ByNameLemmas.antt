@@ -87,7 +87,7 @@ IfOk-map (Ok x) P Q f h = f x h
 IfOk-map (Err e) P Q f h = tt
 
 -- names compare alike from both sides
-name_sym : (a b : List ℕ) → pointwise nat_eq a b ≡ pointwise nat_eq b a
+pub name_sym : (a b : List ℕ) → pointwise nat_eq a b ≡ pointwise nat_eq b a
 name_sym a b = nat_list_eq_equiv.symm a b
 
 -- what the definitions are without a name

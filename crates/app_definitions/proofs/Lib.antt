@@ -10,3 +10,5 @@ pub mod OptionLemmas
 pub mod OneBlock
 pub mod LinkLemmas
 pub mod NamedLemmas
+pub mod LeastLemmas
+pub mod NameLemmas

@@ -1,6 +1,9 @@
 -- Active applications: their calendars and run cycles, and what these lack.
-use Rattle.std.specs.Prelude.{◌≡◌, ◌≢◌, ℕ, IsTrue, List, [], None, Some, unwrap_or, Any}
+use Rattle.std.specs.Prelude.{◌≡◌, ◌≢◌, ℕ, IsTrue, List, [], Option, None, Some, unwrap_or, Any}
+use Rattle.std.specs.Cmp.Lexicographic.{slice_cmp}
 use Rattle.std.specs.FinMap as map
+use Rattle.std.specs.Ordering.{nat_cmp}
+use Rattle.std.specs.declared.cmp.Ordering.TheVariants.{Greater}
 use Rattle.run_cycles.specs.declared.cycles.RunCycle.{RunCycle}
 use Rattle.app_definitions.specs.declared.applications.Application.{Application}
 use Rattle.app_definitions.specs.declared.definitions.Definitions.{Definitions}
@@ -25,3 +28,16 @@ LacksCalendar all a =
 -- one of the application's run cycles names a period that isn't defined
 abbrev pub LacksPeriod : Definitions → List ℕ → Type 0
 LacksPeriod all app = Any (λ cycle. map.get all.periods cycle.period ≡ None) (cycles_of all app)
+
+-- the application is active, and names a calendar that isn't defined
+abbrev pub HasNoCalendar : Definitions → List ℕ → Type 0
+HasNoCalendar all app = (a : Application) × IsActive all app a × LacksCalendar all a
+
+-- the application is active, and one of its run cycles names a period that isn't defined
+abbrev pub HasNoPeriod : Definitions → List ℕ → Type 0
+HasNoPeriod all app = (a : Application) × IsActive all app a × LacksPeriod all app
+
+-- of the names that it holds for, the least in byte order, and none where it holds for no name
+abbrev pub IsLeastName : (List ℕ → Type 0) → Option (List ℕ) → Type 0
+IsLeastName Holds None = (app : List ℕ) → ¬ (Holds app)
+IsLeastName Holds (Some app) = Holds app × ((other : List ℕ) → Holds other → slice_cmp nat_cmp app other ≢ Greater)

@@ -1,5 +1,5 @@
 -- Definitions by name, as the records of a block give them.
-use Rattle.std.specs.Prelude.{◌≡◌, ◌≢◌, ℕ, ◌++◌, List, [], filter, length, Option, None, Some, nat_eq}
+use Rattle.std.specs.Prelude.{◌≡◌, ◌≢◌, ◌↔◌, ℕ, ◌++◌, List, [], filter, length, Option, None, Some, IsSome, Contains, nat_eq}
 use Rattle.std.specs.Cmp.Lexicographic.{pointwise, slice_cmp}
 use Rattle.std.specs.List.{IsDistinct}
 use Rattle.std.specs.Map.{keys_of}
@@ -7,6 +7,7 @@ use Rattle.std.specs.Ordering.{nat_cmp}
 use Rattle.std.specs.FinMap as map
 use Rattle.work_calendars.specs.Name.{IsName}
 use Rattle.app_definitions.specs.Fields.{field}
+use Rattle.app_definitions.specs.Rising.{AreRising}
 
 -- the records about a name, which is their first field, in order
 abbrev pub records_of : List ℕ → List (List (List ℕ)) → List (List (List ℕ))
@@ -34,3 +35,8 @@ pub record AreEntriesOf {D : Type 0} (entries : List (List ℕ × D)) (definitio
 -- the definitions of `more`, and for all other names those of `old`
 abbrev pub overlaid : {D : Type 0} → map.FinMap (slice_cmp nat_cmp) D → map.FinMap (slice_cmp nat_cmp) D → map.FinMap (slice_cmp nat_cmp) D
 overlaid old more = map.from_entries (map.entries more ++ map.entries old)
+
+-- the names are those that have a definition, in byte order, each once
+pub record AreNamesOf {D : Type 0} (names : List (List ℕ)) (definitions : map.FinMap (slice_cmp nat_cmp) D) : Type 0 where
+  pub rising : AreRising (λ name. name) names
+  pub exactly : (name : List ℕ) → Contains names name ↔ IsSome (map.get definitions name)

@@ -4,7 +4,7 @@ ghost use Rattle.std.specs.Prelude.{◌≡◌, ◌≢◌, ◌↔◌, ℕ, List, 
 ghost use Rattle.std.specs.Option.{option_copied};
 ghost use Rattle.std.specs.FinMap as map;
 ghost use Rattle.csv.specs.Records.{fields_of};
-ghost use Rattle.app_definitions.specs.ByName.{AreEntriesOf, FitsKind, IsDefinedBy, AreGivenBy, overlaid};
+ghost use Rattle.app_definitions.specs.ByName.{AreEntriesOf, FitsKind, IsDefinedBy, AreGivenBy, AreNamesOf, overlaid};
 
 use crate::fields::{field_at, name_of};
 use crate::records::Gather;
@@ -97,6 +97,18 @@ impl<D> ByName<D> {
         ensures { AreEntriesOf result self.now }
     {
         self.by_name.iter()
+    }
+
+    /// The names that have a definition, in byte order, each once.
+    pub fn names(&self, alloc: Global) -> Result<Vec<Name>, AllocError>
+        ensures { IfOk result (λ names. AreNamesOf names.items self.now) }
+    {
+        let mut names = Vec::new(alloc);
+        for (name, _definition) in self.iter() {
+            names.push(*name)?;
+        }
+        names.sort_unstable();
+        Ok(names)
     }
 
     /// How many names have a definition.

@@ -12,6 +12,7 @@ mod definitions;
 mod fields;
 mod kinds;
 mod laws;
+mod least_names;
 mod links;
 mod named_occurrences;
 mod option_blocks;
