@@ -50,41 +50,63 @@ good_last b to good = (
 )
 
 -- the same follows, seen from the sets before their bounds changed
-bounds_follow : (place : Place) (drafts : List Draft) (c c' : Sets) (b : Bounds) → Follows place Stays drafts (with_bounds b c) c' → Follows place Stays drafts c c'
+bounds_follow : (place : Place) (drafts : List Draft) (c c' : Sets) (b : Bounds)
+    → Follows place Stays drafts (with_bounds b c) c' → Follows place Stays drafts c c'
 bounds_follow place drafts c c' b f = record { issues = f.issues; old = f.old; new = f.new }
 
 module _ (from to : ℕ) (all : Definitions) where
-  pub create_does_one : (c : Sets) (reply reply' : Reply) (c' c'' : Sets) → RowsSound c → Creates from to all c reply c' → Creates from to all c reply' c'' → (reply ≡ reply') × (c' ≡ c'')
+  pub create_does_one : (c : Sets) (reply reply' : Reply) (c' c'' : Sets) → RowsSound c
+      → Creates from to all c reply c' → Creates from to all c reply' c'' → (reply ≡ reply') × (c' ≡ c'')
   create_does_one c reply reply' c' c'' sound a b =
-      let same = one_plan (IsCreated from to all c) a.new b.new a.are_new b.are_new in
-      (a.replies ∙ ap (λ (l : List Draft). Made (length l) 0) same ∙ sym b.replies, a.becomes ∙ ap (λ l. with_made LongTerm l (with_bounds (first_bounds from to) c)) same ∙ sym b.becomes)
+      let same = one_plan (IsCreated from to all c) a.new b.new a.are_new b.are_new in (
+        a.replies ∙ ap (λ (l : List Draft). Made (length l) 0) same ∙ sym b.replies,
+        a.becomes
+            ∙ ap (λ l. with_made LongTerm l (with_bounds (first_bounds from to) c)) same ∙ sym b.becomes,
+      )
 
-  module _ (c : Sets) (sound : RowsSound c) (none : c.bounds ≡ None) (days : from ≤ to) (last : to ≤ last_planning_day) where
+  module _ (c : Sets) (sound : RowsSound c) (none : c.bounds ≡ None) (days : from ≤ to)
+      (last : to ≤ last_planning_day) where
     opened : RowsSound (with_bounds (first_bounds from to) c)
     opened = move_sound stay same_row stay_is_move c sound (Some (first_bounds from to))
-        (λ b is. let same : first_bounds from to ≡ b = cc in subst AreBounds same (record { days = days; last = last; begun = omega arith; ended = omega arith }))
+        (λ b is. let same : first_bounds from to ≡ b = cc in
+        subst AreBounds same (record { days = days; last = last; begun = omega arith; ended = omega arith }))
         (λ p arrives. let P : Option Bounds → Type 0 = λ o. IsPlacedIn o p in absurd (subst P none arrives))
         (λ p live. live)
 
-    pub create_sound : (new : List Draft) → AreDrafts (IsCreated from to all c) new → RowsSound (with_made LongTerm new (with_bounds (first_bounds from to) c))
-    create_sound new list = made_sound LongTerm (with_bounds (first_bounds from to) c) opened new (first_bounds from to) refl
-        (λ draft there. let is = (list.exactly draft).0 there in ((is.named.1, is.named.2), λ serial p stands live keyed. let P : Option Bounds → Type 0 = λ o. IsPlacedIn o p in absurd (subst P none (sound.arrivals serial p stands))))
+    pub create_sound : (new : List Draft) → AreDrafts (IsCreated from to all c) new
+        → RowsSound (with_made LongTerm new (with_bounds (first_bounds from to) c))
+    create_sound new list = made_sound LongTerm (with_bounds (first_bounds from to) c) opened new
+        (first_bounds from to) refl
+        (λ draft there. let is = (list.exactly draft).0 there in (
+          (is.named.1, is.named.2),
+          λ serial p stands live keyed. let P : Option Bounds
+              → Type 0 = λ o. IsPlacedIn o p in absurd (subst P none (sound.arrivals serial p stands)),
+        ))
         list.rising
 
-    pub create_follows : (new : List Draft) → Follows LongTerm Stays new c (with_made LongTerm new (with_bounds (first_bounds from to) c))
-    create_follows new = bounds_follow LongTerm new c _ (first_bounds from to) (made_follows LongTerm (with_bounds (first_bounds from to) c) opened new)
+    pub create_follows : (new : List Draft)
+        → Follows LongTerm Stays new c (with_made LongTerm new (with_bounds (first_bounds from to) c))
+    create_follows new = bounds_follow LongTerm new c _ (first_bounds from to)
+        (made_follows LongTerm (with_bounds (first_bounds from to) c) opened new)
 
 module _ (to : ℕ) (all : Definitions) where
-  pub extend_does_one : (c : Sets) (reply reply' : Reply) (c' c'' : Sets) → RowsSound c → Extends to all c reply c' → Extends to all c reply' c'' → (reply ≡ reply') × (c' ≡ c'')
+  pub extend_does_one : (c : Sets) (reply reply' : Reply) (c' c'' : Sets) → RowsSound c → Extends to all c reply c'
+      → Extends to all c reply' c'' → (reply ≡ reply') × (c' ≡ c'')
   extend_does_one c reply reply' c' c'' sound a b =
       let at_a = a.had in let at_b = b.had in
       let whole : Some a.bounds ≡ Some b.bounds = sym at_a ∙ at_b in
       let bounds : a.bounds ≡ b.bounds = cc in
-      let list : AreDrafts (IsAddedByExtension b.bounds to all c) a.new = subst (λ (x : Bounds). AreDrafts (IsAddedByExtension x to all c) a.new) bounds a.are_new in
-      let same = one_plan (IsAddedByExtension b.bounds to all c) a.new b.new list b.are_new in
-      (a.replies ∙ ap (λ (l : List Draft). Made (length l) 0) same ∙ sym b.replies, a.becomes ∙ ap₂ (λ (x : Bounds) (l : List Draft). with_made LongTerm l (with_bounds (later_bounds x to) c)) bounds same ∙ sym b.becomes)
+      let list : AreDrafts (IsAddedByExtension b.bounds to all c) a.new =
+      subst (λ (x : Bounds). AreDrafts (IsAddedByExtension x to all c) a.new) bounds a.are_new in
+      let same = one_plan (IsAddedByExtension b.bounds to all c) a.new b.new list b.are_new in (
+        a.replies ∙ ap (λ (l : List Draft). Made (length l) 0) same ∙ sym b.replies,
+        a.becomes
+            ∙ ap₂ (λ (x : Bounds) (l : List Draft). with_made LongTerm l
+            (with_bounds (later_bounds x to) c)) bounds same ∙ sym b.becomes,
+      )
 
-  module _ (c : Sets) (sound : RowsSound c) (b : Bounds) (is : c.bounds ≡ Some b) (later : b.last_day < to) (last : to ≤ last_planning_day) where
+  module _ (c : Sets) (sound : RowsSound c) (b : Bounds) (is : c.bounds ≡ Some b) (later : b.last_day < to)
+      (last : to ≤ last_planning_day) where
     arrives_still : (ia : ℕ) (place : Place) → ArrivesIn b ia place → ArrivesIn (later_bounds b to) ia place
     arrives_still ia LongTerm arrives = (arrives.0, omega (arith, arrives.1))
     arrives_still ia (Current status) arrives = arrives
@@ -93,16 +115,26 @@ module _ (to : ℕ) (all : Definitions) where
 
     extended : RowsSound (with_bounds (later_bounds b to) c)
     extended = let are = sound.bounds b is in move_sound stay same_row stay_is_move c sound (Some (later_bounds b to))
-        (λ x at. let same : later_bounds b to ≡ x = cc in subst AreBounds same (let days = are.days in let ended = are.ended in record { days = omega arith; last = last; begun = are.begun; ended = omega arith }))
-        (λ p arrives. let P : Option Bounds → Type 0 = λ o. IsPlacedIn o p in arrives_still p.row.key.ia p.place (subst P is arrives))
+        (λ x at. let same : later_bounds b to ≡ x = cc in
+        subst AreBounds same (let days = are.days in let ended = are.ended in
+        record { days = omega arith; last = last; begun = are.begun; ended = omega arith }))
+        (λ p arrives. let P : Option Bounds → Type 0 = λ o. IsPlacedIn o p in
+        arrives_still p.row.key.ia p.place (subst P is arrives))
         (λ p live. live)
 
-    pub extend_sound : (new : List Draft) → AreDrafts (IsAddedByExtension b to all c) new → RowsSound (with_made LongTerm new (with_bounds (later_bounds b to) c))
-    extend_sound new list = let are = sound.bounds b is in let ended = are.ended in made_sound LongTerm (with_bounds (later_bounds b to) c) extended new (later_bounds b to) refl
+    pub extend_sound : (new : List Draft) → AreDrafts (IsAddedByExtension b to all c) new
+        → RowsSound (with_made LongTerm new (with_bounds (later_bounds b to) c))
+    extend_sound new list = let are = sound.bounds b is in let ended = are.ended in
+        made_sound LongTerm (with_bounds (later_bounds b to) c) extended new (later_bounds b to) refl
         (λ draft there. let made = (list.exactly draft).0 there in
-        let ahead : b.plan_end ≤ draft.key.ia = omega (arith, made.named.1) in
-        ((ahead, made.named.2), fresh (with_bounds (later_bounds b to) c) extended (later_bounds b to) refl draft.key ahead made.not_planned))
+        let ahead : b.plan_end ≤ draft.key.ia = omega (arith, made.named.1) in (
+          (ahead, made.named.2),
+          fresh (with_bounds (later_bounds b to) c) extended
+              (later_bounds b to) refl draft.key ahead made.not_planned,
+        ))
         list.rising
 
-    pub extend_follows : (new : List Draft) → Follows LongTerm Stays new c (with_made LongTerm new (with_bounds (later_bounds b to) c))
-    extend_follows new = bounds_follow LongTerm new c _ (later_bounds b to) (made_follows LongTerm (with_bounds (later_bounds b to) c) extended new)
+    pub extend_follows : (new : List Draft)
+        → Follows LongTerm Stays new c (with_made LongTerm new (with_bounds (later_bounds b to) c))
+    extend_follows new = bounds_follow LongTerm new c _ (later_bounds b to)
+        (made_follows LongTerm (with_bounds (later_bounds b to) c) extended new)

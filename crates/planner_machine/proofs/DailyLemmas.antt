@@ -16,11 +16,13 @@ use Rattle.planner_machine.specs.Sound.{AreBounds, ArrivesIn}
 use Rattle.planner_machine.proofs.RowsSound.{IsPlacedIn, RowsSound}
 use Rattle.planner_machine.proofs.SeatLemmas.{IsMove, going, move_follows, move_sound}
 
-long_term : (t : ℕ) (row : Row) (b : Bool) → nat_lt row.key.ia t ≡ b → daily_move t (alone row LongTerm) ≡ alone row (if b then Current W else LongTerm)
+long_term : (t : ℕ) (row : Row) (b : Bool) → nat_lt row.key.ia t ≡ b
+    → daily_move t (alone row LongTerm) ≡ alone row (if b then Current W else LongTerm)
 long_term t row true is = rw is refl
 long_term t row false is = rw is refl
 
-daily_alone : (t : ℕ) (row : Row) (was : Place) → daily_move t (alone row was) ≡ alone row (place_after_daily_plan t row was)
+daily_alone : (t : ℕ) (row : Row) (was : Place)
+    → daily_move t (alone row was) ≡ alone row (place_after_daily_plan t row was)
 daily_alone t row LongTerm = long_term t row (nat_lt row.key.ia t) refl
 daily_alone t row (Current W) = refl
 daily_alone t row (Current S) = refl
@@ -47,11 +49,14 @@ module _ (t : ℕ) (b : Bounds) (are : AreBounds b) (later : b.plan_end ≤ t) w
   abbrev b' : Bounds
   b' = record b { plan_end = t }
 
-  covered : (row : Row) (v : Bool) → nat_lt row.key.ia t ≡ v → ArrivesIn b row.key.ia LongTerm → ArrivesIn b' row.key.ia (if v then Current W else LongTerm)
-  covered row true is arrives = let before = ltb-true _ _ is in let begun = are.begun in (omega (arith, arrives.0), before)
+  covered : (row : Row) (v : Bool) → nat_lt row.key.ia t ≡ v → ArrivesIn b row.key.ia LongTerm
+      → ArrivesIn b' row.key.ia (if v then Current W else LongTerm)
+  covered row true is arrives = let before = ltb-true _ _ is in let begun = are.begun in
+      (omega (arith, arrives.0), before)
   covered row false is arrives = (ltb-false _ _ is, arrives.1)
 
-  daily_arrives : (row : Row) (was : Place) → ArrivesIn b row.key.ia was → ArrivesIn b' row.key.ia (place_after_daily_plan t row was)
+  daily_arrives : (row : Row) (was : Place) → ArrivesIn b row.key.ia was
+      → ArrivesIn b' row.key.ia (place_after_daily_plan t row was)
   daily_arrives row LongTerm arrives = covered row (nat_lt row.key.ia t) refl arrives
   daily_arrives row (Current W) arrives = (arrives.0, omega (arith, arrives.1))
   daily_arrives row (Current S) arrives = (arrives.0, omega (arith, arrives.1))
@@ -61,15 +66,22 @@ module _ (t : ℕ) (b : Bounds) (are : AreBounds b) (later : b.plan_end ≤ t) w
   daily_arrives row History arrives = (arrives.0, omega (arith, arrives.1))
   daily_arrives row (Deleted reason) arrives = tt
 
-pub daily_sound : (t : ℕ) (c : Sets) (b : Bounds) → RowsSound c → c.bounds ≡ Some b → b.plan_end ≤ t → t ≤ midnight (b.last_day + 1) → RowsSound (daily t c)
+pub daily_sound : (t : ℕ) (c : Sets) (b : Bounds) → RowsSound c → c.bounds ≡ Some b → b.plan_end ≤ t
+    → t ≤ midnight (b.last_day + 1) → RowsSound (daily t c)
 daily_sound t c b sound is later within =
     let are = sound.bounds b is in
-    let changed : option_map (λ (x : Bounds). record x { plan_end = t }) c.bounds ≡ Some (record b { plan_end = t }) = ap (option_map (λ (x : Bounds). record x { plan_end = t })) is in
-    let are' : AreBounds (record b { plan_end = t }) = let begun = are.begun in record { days = are.days; last = are.last; begun = omega arith; ended = within } in
-    move_sound (daily_move t) (going (place_after_daily_plan t)) (daily_is_move t) c sound (option_map (λ (x : Bounds). record x { plan_end = t }) c.bounds)
+    let changed : option_map (λ (x : Bounds). record x { plan_end = t }) c.bounds ≡ Some (record b { plan_end = t }) =
+    ap (option_map (λ (x : Bounds). record x { plan_end = t })) is in
+    let are' : AreBounds (record b { plan_end = t }) = let begun = are.begun in
+    record { days = are.days; last = are.last; begun = omega arith; ended = within } in
+    move_sound (daily_move t) (going (place_after_daily_plan t)) (daily_is_move t) c sound
+    (option_map (λ (x : Bounds). record x { plan_end = t }) c.bounds)
     (λ x at. let same : record b { plan_end = t } ≡ x = cc in subst AreBounds same are')
-    (λ p arrives. let P : Option Bounds → Type 0 = λ o. IsPlacedIn o p in let Q : Option Bounds → Type 0 = λ o. IsPlacedIn o (going (place_after_daily_plan t) p) in subst Q (sym changed) (daily_arrives t b are later p.row p.place (subst P is arrives)))
+    (λ p arrives. let P : Option Bounds → Type 0 = λ o. IsPlacedIn o p in let Q : Option Bounds
+    → Type 0 = λ o. IsPlacedIn o (going (place_after_daily_plan t) p) in
+    subst Q (sym changed) (daily_arrives t b are later p.row p.place (subst P is arrives)))
     (λ p. daily_live t p.row p.place)
 
 pub daily_follows : (t : ℕ) (place : Place) (c : Sets) → RowsSound c → Follows place (DailyFate t) [] c (daily t c)
-daily_follows t place c sound = move_follows (daily_move t) (going (place_after_daily_plan t)) (daily_is_move t) c sound _ place
+daily_follows t place c sound =
+    move_follows (daily_move t) (going (place_after_daily_plan t)) (daily_is_move t) c sound _ place

@@ -59,23 +59,27 @@ back PlanEndOutOfRange = refl
 pub one_refusal : (q r : Refusal) → refusal_number q ≡ refusal_number r → detail_of q ≡ detail_of r → q ≡ r
 one_refusal q r numbers details = let at_q = back q in let at_r = back r in cc
 
-pub refusal_stays : {State : Type 0} (d : Decision State) (c : State) (r : Refusal) (c' : State) → Decides d c (Err r) c' → c' ≡ c
+pub refusal_stays : {State : Type 0} (d : Decision State) (c : State) (r : Refusal) (c' : State)
+    → Decides d c (Err r) c' → c' ≡ c
 refusal_stays d c r c' a = a.1
 
 module _ {State : Type 0} (Sound : State → Type 0) (d : Decision State) where
-  one_least : HasOneDetail Sound d → (c : State) (q r : Refusal) → Sound c → IsLeastRefusal (d.Refuses c) q → IsLeastRefusal (d.Refuses c) r → q ≡ r
+  one_least : HasOneDetail Sound d → (c : State) (q r : Refusal) → Sound c → IsLeastRefusal (d.Refuses c) q
+      → IsLeastRefusal (d.Refuses c) r → q ≡ r
   one_least one c q r sound a b =
       let up = a.1 r b.0 in let down = b.1 q a.0 in
       let same : refusal_number q ≡ refusal_number r = omega arith in
       one_refusal q r same (one c q r sound a.0 b.0 same)
 
   pub decides_one : DoesOne Sound d → HasOneDetail Sound d → DecidesOne Sound d
-  decides_one does one c (Ok x) (Ok y) c' c'' sound a b = let same = does c x y c' c'' sound a.1 b.1 in (ap Ok same.0, same.1)
+  decides_one does one c (Ok x) (Ok y) c' c'' sound a b = let same = does c x y c' c'' sound a.1 b.1 in
+      (ap Ok same.0, same.1)
   decides_one does one c (Ok x) (Err r) c' c'' sound a b = absurd (a.0 r b.0.0)
   decides_one does one c (Err q) (Ok y) c' c'' sound a b = absurd (b.0 q a.0.0)
   decides_one does one c (Err q) (Err r) c' c'' sound a b = (ap Err (one_least one c q r sound a.0 b.0), a.1 ∙ sym b.1)
 
-  pub keeps_sound : ((c : State) (reply : Reply) (c' : State) → Sound c → ((q : Refusal) → d.Refuses c q → ⊥) → d.Does c reply c' → Sound c') → KeepsSound Sound d
+  pub keeps_sound : ((c : State) (reply : Reply) (c' : State) → Sound c → ((q : Refusal) → d.Refuses c q → ⊥)
+      → d.Does c reply c' → Sound c') → KeepsSound Sound d
   keeps_sound does c (Ok reply) c' sound a = does c reply c' sound a.0 a.1
   keeps_sound does c (Err r) c' sound a = subst Sound (sym a.1) sound
 
@@ -99,19 +103,23 @@ numbered_refusal f (number n) r is = let same : f n ≡ r = cc in (n, same)
 numbered_refusal f nothing r is = cc
 numbered_refusal f (name b) r is = cc
 
-from_number : (q r : Refusal) → refusal_number q ≡ refusal_number r → refusal_of (refusal_number q) (detail_of r) ≡ Some r
+from_number : (q r : Refusal) → refusal_number q ≡ refusal_number r
+    → refusal_of (refusal_number q) (detail_of r) ≡ Some r
 from_number q r same = ap (λ n. refusal_of n (detail_of r)) same ∙ back r
 
 plain_one : (q r : Refusal) → Some q ≡ Some r → detail_of q ≡ detail_of r
 plain_one q r is = let same : q ≡ r = cc in ap detail_of same
 
 module _ (Holds : Refusal → Type 0) (one : ShowsOne Holds) where
-  with_app : (f : List ℕ → Refusal) → ((a b : List ℕ) → Holds (f a) → Holds (f b) → a ≡ b) → (a : List ℕ) (r : Refusal) → Holds (f a) → Holds r → with_name (detail_of r) f ≡ Some r → detail_of (f a) ≡ detail_of r
+  with_app : (f : List ℕ → Refusal) → ((a b : List ℕ) → Holds (f a) → Holds (f b) → a ≡ b)
+      → (a : List ℕ) (r : Refusal) → Holds (f a) → Holds r → with_name (detail_of r) f ≡ Some r
+      → detail_of (f a) ≡ detail_of r
   with_app f unique a r hq hr is =
       let (b, same) = named_refusal f (detail_of r) r is in
       let apps = unique a b hq (subst Holds (sym same) hr) in ap (λ x. detail_of (f x)) apps ∙ ap detail_of same
 
-  with_nat : (f : ℕ → Refusal) → ((a b : ℕ) → Holds (f a) → Holds (f b) → a ≡ b) → (a : ℕ) (r : Refusal) → Holds (f a) → Holds r → with_number (detail_of r) f ≡ Some r → detail_of (f a) ≡ detail_of r
+  with_nat : (f : ℕ → Refusal) → ((a b : ℕ) → Holds (f a) → Holds (f b) → a ≡ b) → (a : ℕ) (r : Refusal) → Holds (f a)
+      → Holds r → with_number (detail_of r) f ≡ Some r → detail_of (f a) ≡ detail_of r
   with_nat f unique a r hq hr is =
       let (b, same) = numbered_refusal f (detail_of r) r is in
       let numbers = unique a b hq (subst Holds (sym same) hr) in ap (λ x. detail_of (f x)) numbers ∙ ap detail_of same
@@ -124,14 +132,17 @@ module _ (Holds : Refusal → Type 0) (one : ShowsOne Holds) where
   shows_one NotDefined r hq hr same = plain_one NotDefined r (from_number NotDefined r same)
   shows_one NoPlan r hq hr same = plain_one NoPlan r (from_number NoPlan r same)
   shows_one PlanExists r hq hr same = plain_one PlanExists r (from_number PlanExists r same)
-  shows_one (CalendarUndefined a) r hq hr same = with_app CalendarUndefined one.calendar a r hq hr (from_number (CalendarUndefined a) r same)
-  shows_one (PeriodUndefined a) r hq hr same = with_app PeriodUndefined one.period a r hq hr (from_number (PeriodUndefined a) r same)
+  shows_one (CalendarUndefined a) r hq hr same =
+      with_app CalendarUndefined one.calendar a r hq hr (from_number (CalendarUndefined a) r same)
+  shows_one (PeriodUndefined a) r hq hr same =
+      with_app PeriodUndefined one.period a r hq hr (from_number (PeriodUndefined a) r same)
   shows_one DatesOutOfRange r hq hr same = plain_one DatesOutOfRange r (from_number DatesOutOfRange r same)
   shows_one (Loop a) r hq hr same = with_app Loop one.loop a r hq hr (from_number (Loop a) r same)
   shows_one NoActiveApplication r hq hr same = plain_one NoActiveApplication r (from_number NoActiveApplication r same)
   shows_one KeyIsLive r hq hr same = plain_one KeyIsLive r (from_number KeyIsLive r same)
   shows_one NoSuchOccurrence r hq hr same = plain_one NoSuchOccurrence r (from_number NoSuchOccurrence r same)
   shows_one StatusForbids r hq hr same = plain_one StatusForbids r (from_number StatusForbids r same)
-  shows_one (PredecessorUncompleted n) r hq hr same = with_nat PredecessorUncompleted one.predecessor n r hq hr (from_number (PredecessorUncompleted n) r same)
+  shows_one (PredecessorUncompleted n) r hq hr same =
+      with_nat PredecessorUncompleted one.predecessor n r hq hr (from_number (PredecessorUncompleted n) r same)
   shows_one TooManyRows r hq hr same = plain_one TooManyRows r (from_number TooManyRows r same)
   shows_one PlanEndOutOfRange r hq hr same = plain_one PlanEndOutOfRange r (from_number PlanEndOutOfRange r same)

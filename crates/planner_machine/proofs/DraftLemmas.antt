@@ -11,7 +11,11 @@ abbrev DraftBefore : Draft → Draft → Type 0
 DraftBefore a b = KeyBefore a.key b.key
 
 draft_strict : IsStrictOrder DraftBefore
-draft_strict = record { irreflexive = λ a. key_strict.irreflexive a.key; transitive = λ a b c. key_strict.transitive a.key b.key c.key }
+draft_strict = record {
+  irreflexive = λ a. key_strict.irreflexive a.key;
+  transitive = λ a b c. key_strict.transitive a.key b.key c.key;
+}
 
 pub one_plan : (Is : Draft → Type 0) (xs ys : List Draft) → AreDrafts Is xs → AreDrafts Is ys → xs ≡ ys
-one_plan Is xs ys a b = one_list DraftBefore draft_strict xs ys a.rising b.rising (λ z h. (b.exactly z).1 ((a.exactly z).0 h)) (λ z h. (a.exactly z).1 ((b.exactly z).0 h))
+one_plan Is xs ys a b = one_list DraftBefore draft_strict xs ys a.rising b.rising
+    (λ z h. (b.exactly z).1 ((a.exactly z).0 h)) (λ z h. (a.exactly z).1 ((b.exactly z).0 h))

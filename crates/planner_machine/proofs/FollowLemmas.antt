@@ -34,16 +34,22 @@ pub record IsMadeAt (place : Place) (drafts : List Draft) (s : Sets) (serial : �
   pub new : s.issued < serial
   pub is : q ≡ record { row = numbered_row serial draft; place = place }
 
-module _ (place : Place) (fate : Fate) (drafts : List Draft) (s s' : Sets) (sound : RowsSound s) (sound' : RowsSound s') (f : Follows place fate drafts s s') where
-  new_at : (serial k : ℕ) (q : PlacedRow) (draft : Draft) → slice_get drafts k ≡ Some draft → k < length drafts → s.issued + 1 + k ≡ serial → StandsAt s' serial q → IsMadeAt place drafts s serial q
+module _ (place : Place) (fate : Fate) (drafts : List Draft) (s s' : Sets) (sound : RowsSound s)
+    (sound' : RowsSound s') (f : Follows place fate drafts s s') where
+  new_at : (serial k : ℕ) (q : PlacedRow) (draft : Draft) → slice_get drafts k ≡ Some draft → k < length drafts
+      → s.issued + 1 + k ≡ serial → StandsAt s' serial q → IsMadeAt place drafts s serial q
   new_at serial k q draft is lt at there = record {
     draft = draft;
     listed = (k, lt, get_or_from_slice_get drafts k draft draft is);
     new = omega arith;
-    is = one_place s' serial q _ there (subst (λ n. StandsAt s' n (record { row = numbered_row n draft; place = place })) at (f.new k draft is));
+    is = one_place s' serial q _ there (subst (λ n. StandsAt s' n (record {
+      row = numbered_row n draft;
+      place = place;
+    })) at (f.new k draft is));
   }
 
-  pub came : (serial : ℕ) (q : PlacedRow) → StandsAt s' serial q → ((p : PlacedRow) × StandsAt s serial p × fate p q) ⊎ IsMadeAt place drafts s serial q
+  pub came : (serial : ℕ) (q : PlacedRow) → StandsAt s' serial q → ((p : PlacedRow) × StandsAt s serial p × fate p q)
+      ⊎ IsMadeAt place drafts s serial q
   came serial q there = elim (cases_issued s'.issued serial) [
     | inr past ↦ absurd (not_empty s' serial q there (sound'.unissued serial past))
     | inl within ↦ elim (cases_lt s.issued serial) [
@@ -78,7 +84,10 @@ pub record FateKeeps (fate : Fate) : Type 0 where
   pub live : (p q : PlacedRow) → fate p q → IsLive q.place → IsLive p.place
   pub complete : (p q : PlacedRow) → fate p q → IsComplete p.place → IsComplete q.place
 
-module _ (go : Row → Place → Place) (ltp : (row : Row) (was : Place) → go row was ≡ LongTerm → was ≡ LongTerm) (planned : (row : Row) (was : Place) → IsInPlans (go row was) → IsInPlans was) (live : (row : Row) (was : Place) → IsLive (go row was) → IsLive was) (complete : (row : Row) (was : Place) → IsComplete was → IsComplete (go row was)) where
+module _ (go : Row → Place → Place) (ltp : (row : Row) (was : Place) → go row was ≡ LongTerm
+    → was ≡ LongTerm) (planned : (row : Row) (was : Place) → IsInPlans (go row was)
+    → IsInPlans was) (live : (row : Row) (was : Place) → IsLive (go row was)
+    → IsLive was) (complete : (row : Row) (was : Place) → IsComplete was → IsComplete (go row was)) where
   going_keeps : FateKeeps (λ p q. q ≡ going go p)
   going_keeps = record {
     key = λ p q is. ap (λ (x : PlacedRow). x.row.key) is;
@@ -128,16 +137,19 @@ daily_completes t row History is = tt
 daily_completes t row (Deleted reason) is = is
 
 pub daily_keeps : (t : ℕ) → FateKeeps (DailyFate t)
-daily_keeps t = going_keeps (place_after_daily_plan t) (daily_ltp t) (daily_planned t) (daily_live t) (daily_completes t)
+daily_keeps t = going_keeps (place_after_daily_plan t) (daily_ltp t) (daily_planned t) (daily_live t)
+    (daily_completes t)
 
 -- a change of status
-action_ltp : (key : Key) (action : Action) (row : Row) (was : Place) → place_after_action key action row was ≡ LongTerm → was ≡ LongTerm
+action_ltp : (key : Key) (action : Action) (row : Row) (was : Place)
+    → place_after_action key action row was ≡ LongTerm → was ≡ LongTerm
 action_ltp key action row LongTerm h = h
 action_ltp key action row (Current status) h = cc
 action_ltp key action row History h = h
 action_ltp key action row (Deleted reason) h = h
 
-action_planned : (key : Key) (action : Action) (row : Row) (was : Place) → IsInPlans (place_after_action key action row was) → IsInPlans was
+action_planned : (key : Key) (action : Action) (row : Row) (was : Place)
+    → IsInPlans (place_after_action key action row was) → IsInPlans was
 action_planned key action row LongTerm h = h
 action_planned key action row (Current status) h = tt
 action_planned key action row History h = h
@@ -151,14 +163,18 @@ stays_complete Fail true = refl
 stays_complete Reset true = refl
 stays_complete Delete true = refl
 
-action_completes : (key : Key) (action : Action) (row : Row) (was : Place) → IsComplete was → IsComplete (place_after_action key action row was)
+action_completes : (key : Key) (action : Action) (row : Row) (was : Place) → IsComplete was
+    → IsComplete (place_after_action key action row was)
 action_completes key action row LongTerm is = is
-action_completes key action row (Current status) is = ap (acted key action row) is ∙ stays_complete action (has_key key row)
+action_completes key action row (Current status) is = ap (acted key action row) is
+    ∙ stays_complete action (has_key key row)
 action_completes key action row History is = is
 action_completes key action row (Deleted reason) is = is
 
 pub action_keeps : (key : Key) (action : Action) → FateKeeps (ActionFate key action)
-action_keeps key action = going_keeps (place_after_action key action) (action_ltp key action) (action_planned key action) (action_live key action) (action_completes key action)
+action_keeps key action =
+    going_keeps (place_after_action key action) (action_ltp key action) (action_planned key action)
+    (action_live key action) (action_completes key action)
 
 -- a deletion from the long-term plan
 deletion_ltp : (key : Key) (row : Row) (was : Place) → place_after_deletion key row was ≡ LongTerm → was ≡ LongTerm
@@ -173,14 +189,16 @@ deletion_planned key row (Current status) h = h
 deletion_planned key row History h = h
 deletion_planned key row (Deleted reason) h = h
 
-deletion_completes : (key : Key) (row : Row) (was : Place) → IsComplete was → IsComplete (place_after_deletion key row was)
+deletion_completes : (key : Key) (row : Row) (was : Place) → IsComplete was
+    → IsComplete (place_after_deletion key row was)
 deletion_completes key row LongTerm is = absurd is
 deletion_completes key row (Current status) is = is
 deletion_completes key row History is = is
 deletion_completes key row (Deleted reason) is = is
 
 pub deletion_keeps : (key : Key) → FateKeeps (DeletionFate key)
-deletion_keeps key = going_keeps (place_after_deletion key) (deletion_ltp key) (deletion_planned key) (delete_live key) (deletion_completes key)
+deletion_keeps key = going_keeps (place_after_deletion key) (deletion_ltp key) (deletion_planned key)
+    (delete_live key) (deletion_completes key)
 
 -- a modify statement
 draft_generated : (all : Definitions) (draft : Draft) → NamesDraft all draft → IsGenerated draft.origin
@@ -189,26 +207,49 @@ draft_generated all draft (app, x, named, is) = subst (λ (d : Draft). IsGenerat
 module _ (Looks : List ℕ → Type 0) (all : Definitions) where
   -- by the two parts that change something, and the one that doesn't
   module _ (P : PlacedRow → PlacedRow → Type 0)
-      (stamped : (row : Row) (draft : Draft) → IsGenerated row.origin → IsGenerated draft.origin → P (record { row = row; place = LongTerm }) (record { row = record { key = row.key; serial = row.serial; deadline = draft.deadline; origin = draft.origin }; place = LongTerm }))
-      (gone : (row : Row) → P (record { row = row; place = LongTerm }) (record { row = row; place = Deleted Withdrawn }))
+      (stamped : (row : Row) (draft : Draft) → IsGenerated row.origin → IsGenerated draft.origin
+      → P (record {
+        row = row;
+        place = LongTerm;
+      }) (record {
+        row =
+            record { key = row.key; serial = row.serial; deadline = draft.deadline; origin = draft.origin };
+        place =
+            LongTerm;
+      }))
+      (gone : (row : Row) → P (record { row = row; place = LongTerm }) (record {
+        row = row;
+        place = Deleted Withdrawn;
+      }))
       (stays : (p : PlacedRow) → P p p) where
     pub by_modify : (p q : PlacedRow) → ModifyFate Looks all p q → P p q
     by_modify p q (inr (apart, is)) = subst (P p) (sym is) (stays p)
     by_modify p q (inl (at, inl named)) =
         let before : p ≡ record { row = p.row; place = LongTerm } = ap (λ x. record { row = p.row; place = x }) at.0 in
-        subst (λ o. P o q) (sym before) (subst (P (record { row = p.row; place = LongTerm })) (sym named.stays) (stamped p.row named.draft at.1 (draft_generated all named.draft named.named)))
+        subst (λ o. P o q) (sym before) (subst (P (record {
+          row = p.row;
+          place = LongTerm;
+        })) (sym named.stays)
+        (stamped p.row named.draft at.1 (draft_generated all named.draft named.named)))
     by_modify p q (inl (at, inr withdrawn)) =
         let before : p ≡ record { row = p.row; place = LongTerm } = ap (λ x. record { row = p.row; place = x }) at.0 in
-        subst (λ o. P o q) (sym before) (subst (P (record { row = p.row; place = LongTerm })) (sym withdrawn.goes) (gone p.row))
+        subst (λ o. P o q) (sym before) (subst (P (record {
+          row = p.row;
+          place = LongTerm;
+        })) (sym withdrawn.goes) (gone p.row))
 
   pub modify_keeps_all : FateKeeps (ModifyFate Looks all)
   modify_keeps_all = record {
     key = by_modify (λ p q. q.row.key ≡ p.row.key) (λ row draft g h. refl) (λ row. refl) (λ p. refl);
     serial = by_modify (λ p q. q.row.serial ≡ p.row.serial) (λ row draft g h. refl) (λ row. refl) (λ p. refl);
-    generated = by_modify (λ p q. IsGenerated q.row.origin → IsGenerated p.row.origin) (λ row draft g h _. g) (λ row h. h) (λ p h. h);
-    added = by_modify (λ p q. IsGenerated p.row.origin → IsGenerated q.row.origin) (λ row draft g h _. h) (λ row h. h) (λ p h. h);
-    ltp = by_modify (λ p q. q.place ≡ LongTerm → p.place ≡ LongTerm) (λ row draft g h k. refl) (λ row k. refl) (λ p k. k);
+    generated = by_modify (λ p q. IsGenerated q.row.origin
+        → IsGenerated p.row.origin) (λ row draft g h _. g) (λ row h. h) (λ p h. h);
+    added = by_modify (λ p q. IsGenerated p.row.origin
+        → IsGenerated q.row.origin) (λ row draft g h _. h) (λ row h. h) (λ p h. h);
+    ltp = by_modify (λ p q. q.place ≡ LongTerm
+        → p.place ≡ LongTerm) (λ row draft g h k. refl) (λ row k. refl) (λ p k. k);
     planned = by_modify (λ p q. IsInPlans q.place → IsInPlans p.place) (λ row draft g h k. tt) (λ row k. tt) (λ p k. k);
     live = by_modify (λ p q. IsLive q.place → IsLive p.place) (λ row draft g h k. tt) (λ row k. tt) (λ p k. k);
-    complete = by_modify (λ p q. IsComplete p.place → IsComplete q.place) (λ row draft g h k. absurd k) (λ row k. absurd k) (λ p k. k);
+    complete = by_modify (λ p q. IsComplete p.place
+        → IsComplete q.place) (λ row draft g h k. absurd k) (λ row k. absurd k) (λ p k. k);
   }

@@ -43,18 +43,25 @@ is_serial c sound serial p there = elim (cases_issued c.sets.issued serial) [
 
 -- the applications of refusals have names
 pub no_calendar_name : (c : Content) → IsSound c → (app : List ℕ) → HasNoCalendar c.definitions app → IsName app
-no_calendar_name c sound app (a, active, lacks) = defined_name 3 FitsApplication IsApplicationOf (map.get c.definitions.applications) sound.ranges.definitions.applications app a active.0
+no_calendar_name c sound app (a, active, lacks) =
+    defined_name 3 FitsApplication IsApplicationOf
+    (map.get c.definitions.applications) sound.ranges.definitions.applications app a active.0
 
 pub no_period_name : (c : Content) → IsSound c → (app : List ℕ) → HasNoPeriod c.definitions app → IsName app
-no_period_name c sound app (a, active, lacks) = defined_name 3 FitsApplication IsApplicationOf (map.get c.definitions.applications) sound.ranges.definitions.applications app a active.0
+no_period_name c sound app (a, active, lacks) =
+    defined_name 3 FitsApplication IsApplicationOf
+    (map.get c.definitions.applications) sound.ranges.definitions.applications app a active.0
 
-pub loop_name : (Puts : PutsLists) (c : Content) → ((after : List Link) → Puts c.definitions c.in_force after → (link : Link) → Contains after link → IsName link.app × IsName link.predecessor) → (app : List ℕ) → WouldLoop Puts c app → IsName app
+pub loop_name : (Puts : PutsLists) (c : Content)
+    → ((after : List Link) → Puts c.definitions c.in_force after → (link : Link) → Contains after link
+    → IsName link.app × IsName link.predecessor) → (app : List ℕ) → WouldLoop Puts c app → IsName app
 loop_name Puts c names app (lists, puts, least) =
     let (predecessor, listed) = on_loop_listed lists app least.0 in
     (names lists puts (record { app = app; predecessor = predecessor }) listed).0
 
 -- a predecessor of a pair has a serial
-pub predecessor_serial : (c : Content) → IsSound c → (successor n : ℕ) → Contains c.pairs (pair_of successor n) → IsSerial n
+pub predecessor_serial : (c : Content) → IsSound c → (successor n : ℕ) → Contains c.pairs (pair_of successor n)
+    → IsSerial n
 predecessor_serial c sound successor n there = elim ((sound.pairs.settled.exactly (pair_of successor n)).0 there) [
   | inl open' ↦
       let (m, p, stands, live, is) = open'.nearest.live in
@@ -63,25 +70,47 @@ predecessor_serial c sound successor n there = elim ((sound.pairs.settled.exactl
       let same : m ≡ n = sym own ∙ number in
       subst IsSerial same (is_serial c sound m p stands)
   | inr kept ↦
-      let (p, stands, done) = sound.pairs.complete (pair_of successor n) there (kept.placed, kept.stands, kept.live, kept.waits_no_more) in
+      let (p, stands, done) = sound.pairs.complete (pair_of successor n) there (
+        kept.placed,
+        kept.stands,
+        kept.live,
+        kept.waits_no_more,
+      ) in
       is_serial c sound n p stands
 ]
 
 -- a kept job over sound content
 pub job_sound : (job : Job) (c : Content) → IsSound c → IsJob job.number job → IsSound (with_job job c)
 job_sound job c sound is = record {
-  ranges = record { definitions = sound.ranges.definitions; rows = sound.ranges.rows; days = sound.ranges.days; links = sound.ranges.links };
-  bounds = record { before = λ none. let u = sound.bounds.before none in record { rows = u.rows; pairs = u.pairs; in_force = u.in_force; issued = u.issued }; after = sound.bounds.after };
+  ranges = record {
+    definitions = sound.ranges.definitions;
+    rows = sound.ranges.rows;
+    days = sound.ranges.days;
+    links = sound.ranges.links;
+  };
+  bounds = record {
+    before = λ none. let u = sound.bounds.before none in
+        record { rows = u.rows; pairs = u.pairs; in_force = u.in_force; issued = u.issued };
+    after =
+        sound.bounds.after;
+  };
   serials = sound.serials;
   keys = sound.keys;
   arrivals = sound.arrivals;
   sizes = sound.sizes;
   lists = sound.lists;
-  pairs = record { settled = sound.pairs.settled; complete = sound.pairs.complete; one_each = sound.pairs.one_each; in_time = sound.pairs.in_time; no_loop = sound.pairs.no_loop };
+  pairs = record {
+    settled = sound.pairs.settled;
+    complete = sound.pairs.complete;
+    one_each = sound.pairs.one_each;
+    in_time = sound.pairs.in_time;
+    no_loop = sound.pairs.no_loop;
+  };
   jobs = λ number other there. at number other (nat_eq job.number number) refl there;
 }
   where
-    at : (number : ℕ) (other : Job) (b : Bool) → nat_eq job.number number ≡ b → (if b then Some job else c.jobs number) ≡ Some other → IsJob number other
+    at : (number : ℕ) (other : Job) (b : Bool) → nat_eq job.number number ≡ b
+        → (if b then Some job else c.jobs number) ≡ Some other → IsJob number other
     at number other true same there =
         let one : job ≡ other = cc in
         let numbers : job.number ≡ number = eqb-true job.number number same in

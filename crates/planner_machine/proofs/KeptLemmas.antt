@@ -36,7 +36,8 @@ use Rattle.planner_machine.proofs.JobLemmas.{is_serial, loop_name, no_calendar_n
 use Rattle.planner_machine.proofs.SoundLemmas.{rows_sound}
 use Rattle.planner_machine.proofs.StaysSoundLemmas.{links_all, links_one}
 
-undefine_err : (kind : Kind) (name : List ℕ) (c : Content) (q : Refusal) → UndefineRefused kind name c q → IsKeptReply (Err q)
+undefine_err : (kind : Kind) (name : List ℕ) (c : Content) (q : Refusal) → UndefineRefused kind name c q
+    → IsKeptReply (Err q)
 undefine_err kind name c NotDefined h = omega arith
 undefine_err kind name c _ h = absurd h
 
@@ -66,7 +67,8 @@ modify_all_err c sound (Loop app) h = loop_name PutsAll c (links_all c sound) ap
 modify_all_err c sound TooManyRows h = omega arith
 modify_all_err c sound _ h = absurd h
 
-modify_one_err : (app : List ℕ) (c : Content) → IsSound c → (q : Refusal) → ModifyOneRefused app c q → IsKeptReply (Err q)
+modify_one_err : (app : List ℕ) (c : Content) → IsSound c → (q : Refusal) → ModifyOneRefused app c q
+    → IsKeptReply (Err q)
 modify_one_err app c sound NoPlan h = omega arith
 modify_one_err app c sound (CalendarUndefined x) h = subst IsName (sym h.0) (no_calendar_name c sound app h.1)
 modify_one_err app c sound (PeriodUndefined x) h = subst IsName (sym h.0) (no_period_name c sound app h.1)
@@ -97,11 +99,13 @@ replan_err : (c : Content) (q : Refusal) → ReplanRefused c q → IsKeptReply (
 replan_err c NoPlan h = omega arith
 replan_err c _ h = absurd h
 
-action_err : (key : Key) (action : Action) (c : Content) → IsSound c → (q : Refusal) → ActionRefused key action c q → IsKeptReply (Err q)
+action_err : (key : Key) (action : Action) (c : Content) → IsSound c → (q : Refusal) → ActionRefused key action c q
+    → IsKeptReply (Err q)
 action_err key action c sound NoPlan h = omega arith
 action_err key action c sound NoSuchOccurrence h = omega arith
 action_err key action c sound StatusForbids h = omega arith
-action_err key action c sound (PredecessorUncompleted n) h = let (x, u, at_x, least) = h.1 in predecessor_serial c sound x n least.0.0
+action_err key action c sound (PredecessorUncompleted n) h = let (x, u, at_x, least) = h.1 in
+    predecessor_serial c sound x n least.0.0
 action_err key action c sound _ h = absurd h
 
 -- how many are made is no more than are issued after it
@@ -119,32 +123,56 @@ moved_kept t c sound reply is = subst (λ r. IsKeptReply (Ok r)) (sym is) (
   shown_size c sound (λ serial. deleted (c.sets.cp serial)),
 )
 
-pub kept_reply : (change : Change) → IsWellFormed change → (c : Content) (a : Result Reply Refusal) (c' : Content) → IsSound c → IsSound c' → Decides (decision_of change) c a c' → IsKeptReply a
+pub kept_reply : (change : Change) → IsWellFormed change → (c : Content) (a : Result Reply Refusal) (c' : Content)
+    → IsSound c → IsSound c' → Decides (decision_of change) c a c' → IsKeptReply a
 kept_reply (Define block) fine c (Ok reply) c' sound sound' d = subst (λ r. IsKeptReply (Ok r)) (sym d.1.0) fine.0
 kept_reply (Define block) fine c (Err q) c' sound sound' d = absurd d.0.0
 kept_reply (Undefine kind name) fine c (Ok reply) c' sound sound' d = subst (λ r. IsKeptReply (Ok r)) (sym d.1.0) tt
 kept_reply (Undefine kind name) fine c (Err q) c' sound sound' d = undefine_err kind name c q d.0.0
-kept_reply (Create from to) fine c (Ok reply) c' sound sound' d = subst (λ r. IsKeptReply (Ok r)) (sym d.1.rows.replies) (shown_made c c' (length d.1.rows.new) sound' (ap (λ (s : Sets). s.issued) d.1.rows.becomes), omega arith)
+kept_reply (Create from to) fine c (Ok reply) c' sound sound' d =
+    subst (λ r. IsKeptReply (Ok r)) (sym d.1.rows.replies)
+    (shown_made c c' (length d.1.rows.new) sound' (ap (λ (s : Sets). s.issued) d.1.rows.becomes), omega arith)
 kept_reply (Create from to) fine c (Err q) c' sound sound' d = create_err from to c sound q d.0.0
-kept_reply (Extend to) fine c (Ok reply) c' sound sound' d = subst (λ r. IsKeptReply (Ok r)) (sym d.1.rows.replies) (shown_made c c' (length d.1.rows.new) sound' (ap (λ (s : Sets). s.issued) d.1.rows.becomes), omega arith)
+kept_reply (Extend to) fine c (Ok reply) c' sound sound' d =
+    subst (λ r. IsKeptReply (Ok r)) (sym d.1.rows.replies)
+    (shown_made c c' (length d.1.rows.new) sound' (ap (λ (s : Sets). s.issued) d.1.rows.becomes), omega arith)
 kept_reply (Extend to) fine c (Err q) c' sound sound' d = extend_err to c sound q d.0.0
-kept_reply ModifyAll fine c (Ok reply) c' sound sound' d = subst (λ r. IsKeptReply (Ok r)) (sym d.1.rows.replies) (shown_made c c' (length d.1.rows.new) sound' (ap (λ (s : Sets). s.issued) d.1.rows.becomes), shown_size c sound (λ serial. taken (looks_at is_any_app) d.1.rows.named (c.sets.ltp serial)))
+kept_reply ModifyAll fine c (Ok reply) c' sound sound' d =
+    subst (λ r. IsKeptReply (Ok r)) (sym d.1.rows.replies) (
+      shown_made c c' (length d.1.rows.new) sound' (ap (λ (s : Sets). s.issued) d.1.rows.becomes),
+      shown_size c sound (λ serial. taken (looks_at is_any_app) d.1.rows.named (c.sets.ltp serial)),
+    )
 kept_reply ModifyAll fine c (Err q) c' sound sound' d = modify_all_err c sound q d.0.0
-kept_reply (ModifyOne app) fine c (Ok reply) c' sound sound' d = subst (λ r. IsKeptReply (Ok r)) (sym d.1.rows.replies) (shown_made c c' (length d.1.rows.new) sound' (ap (λ (s : Sets). s.issued) d.1.rows.becomes), shown_size c sound (λ serial. taken (looks_at (is_that_app app)) d.1.rows.named (c.sets.ltp serial)))
+kept_reply (ModifyOne app) fine c (Ok reply) c' sound sound' d =
+    subst (λ r. IsKeptReply (Ok r)) (sym d.1.rows.replies) (
+      shown_made c c' (length d.1.rows.new) sound' (ap (λ (s : Sets). s.issued) d.1.rows.becomes),
+      shown_size c sound (λ serial. taken (looks_at (is_that_app app)) d.1.rows.named (c.sets.ltp serial)),
+    )
 kept_reply (ModifyOne app) fine c (Err q) c' sound sound' d = modify_one_err app c sound q d.0.0
-kept_reply (Add key) fine c (Ok reply) c' sound sound' d = subst (λ r. IsKeptReply (Ok r)) (sym d.1.rows.0) (new_serial c c' sound' (ap (λ (s : Sets). s.issued) d.1.rows.1))
+kept_reply (Add key) fine c (Ok reply) c' sound sound' d =
+    subst (λ r. IsKeptReply (Ok r)) (sym d.1.rows.0) (new_serial c c' sound' (ap (λ (s : Sets). s.issued) d.1.rows.1))
 kept_reply (Add key) fine c (Err q) c' sound sound' d = add_err LongTerm key c q d.0.0
 kept_reply (Delete key) fine c (Ok reply) c' sound sound' d =
     let rows = d.1.rows in
-    subst (λ r. IsKeptReply (Ok r)) (sym rows.replies) (is_serial c sound rows.serial (record { row = rows.planned.row; place = LongTerm }) (stands_in_ltp c.sets (rows_sound c sound) rows.serial rows.planned.row rows.planned.stands))
+    subst (λ r. IsKeptReply (Ok r)) (sym rows.replies)
+    (is_serial c sound rows.serial (record {
+      row = rows.planned.row;
+      place = LongTerm;
+    }) (stands_in_ltp c.sets
+    (rows_sound c sound) rows.serial rows.planned.row rows.planned.stands))
 kept_reply (Delete key) fine c (Err q) c' sound sound' d = delete_err key c q d.0.0
 kept_reply (DailyExtend t) fine c (Ok reply) c' sound sound' d = moved_kept t c sound reply d.1.rows.0
 kept_reply (DailyExtend t) fine c (Err q) c' sound sound' d = daily_err t c q d.0.0
-kept_reply Replan fine c (Ok reply) c' sound sound' d = let (b, is, rows) = d.1.rows in moved_kept b.plan_end c sound reply rows.0
+kept_reply Replan fine c (Ok reply) c' sound sound' d = let (b, is, rows) = d.1.rows in
+    moved_kept b.plan_end c sound reply rows.0
 kept_reply Replan fine c (Err q) c' sound sound' d = replan_err c q d.0.0
-kept_reply (AddCurrent key) fine c (Ok reply) c' sound sound' d = subst (λ r. IsKeptReply (Ok r)) (sym d.1.rows.0) (new_serial c c' sound' (ap (λ (s : Sets). s.issued) d.1.rows.1))
+kept_reply (AddCurrent key) fine c (Ok reply) c' sound sound' d =
+    subst (λ r. IsKeptReply (Ok r)) (sym d.1.rows.0) (new_serial c c' sound' (ap (λ (s : Sets). s.issued) d.1.rows.1))
 kept_reply (AddCurrent key) fine c (Err q) c' sound sound' d = add_err (Current W) key c q d.0.0
 kept_reply (Act action key) fine c (Ok reply) c' sound sound' d =
     let rows = d.1.rows in
-    subst (λ r. IsKeptReply (Ok r)) (sym rows.replies) (is_serial c sound rows.serial (record { row = rows.there.row; place = Current rows.status }) (stands_in_cp c.sets (rows_sound c sound) rows.serial _ rows.there.stands))
+    subst (λ r. IsKeptReply (Ok r)) (sym rows.replies) (is_serial c sound rows.serial (record {
+      row = rows.there.row;
+      place = Current rows.status;
+    }) (stands_in_cp c.sets (rows_sound c sound) rows.serial _ rows.there.stands))
 kept_reply (Act action key) fine c (Err q) c' sound sound' d = action_err key action c sound q d.0.0

@@ -1,5 +1,5 @@
--- Where no application is the least that something holds of, it holds of none that stands in a list; and so no list in force
--- that is not refused for a loop has one.
+-- Where no application is the least that something holds of, it holds of none that stands in a list; and so no list
+-- in force that is not refused for a loop has one.
 use Rattle.std.proofs.Common.{◌≡◌, ℕ, zero, suc, ◌+◌, ◌-◌, ◌⊎◌, List, [], ◌∷◌, length, get_or, refl, sym, ap, subst, ◌∙◌, inl, inr, arith}
 use Rattle.std.specs.Prelude.{Contains, map}
 use Rattle.std.proofs.lemmas.Bool.{cases_lt}
@@ -42,7 +42,8 @@ first_or_rest x xs z (suc k, lt, is) = inr (k, omega arith, is)
 
 module _ (P : List ℕ → Type 0) (none : (app : List ℕ) → IsLeastApp P app → ⊥) where
   -- one more name in the list
-  step : (n : List ℕ) (ns : List (List ℕ)) (x : List ℕ) → ((y : List ℕ) → P y → app_cmp x y ≡ Greater → Contains (n ∷ ns) y)
+  step : (n : List ℕ) (ns : List (List ℕ)) (x : List ℕ)
+      → ((y : List ℕ) → P y → app_cmp x y ≡ Greater → Contains (n ∷ ns) y)
       → ((z : List ℕ) → P z → ((y : List ℕ) → P y → app_cmp z y ≡ Greater → Contains ns y) → ⊥) → P x → ⊥
   step n ns x all rest px = none x (px, λ y py more. at y py more)
     where
@@ -54,7 +55,8 @@ module _ (P : List ℕ → Type 0) (none : (app : List ℕ) → IsLeastApp P app
 
       at : (y : List ℕ) → P y → app_cmp x y ≡ Greater → ⊥
       at y py more = rest y py (λ w pw lower. elim (first_or_rest n ns w (all w pw (further x y w more lower))) [
-        | inl same ↦ absurd (first_gone (subst P (sym same) pw) (further x y n more (subst (λ z. app_cmp y z ≡ Greater) (sym same) lower)))
+        | inl same ↦ absurd (first_gone (subst P (sym same) pw)
+            (further x y n more (subst (λ z. app_cmp y z ≡ Greater) (sym same) lower)))
         | inr there ↦ there
       ])
 
@@ -64,24 +66,35 @@ module _ (P : List ℕ → Type 0) (none : (app : List ℕ) → IsLeastApp P app
   no_least (n ∷ ns) x px all = step n ns x all (λ z pz rest. no_least ns z pz rest) px
 
 -- an application on a loop has a list
-has_list : (links : List Link) (app predecessor : List ℕ) → Lists links app predecessor → Contains (map (λ (l : Link). l.app) links) app
+has_list : (links : List Link) (app predecessor : List ℕ) → Lists links app predecessor
+    → Contains (map (λ (l : Link). l.app) links) app
 has_list links app predecessor (k, lt, is) = (
   k,
   omega (arith, length-map links (λ (l : Link). l.app)),
-  get_or-map (λ (l : Link). l.app) links k (record { app = app; predecessor = predecessor }) app lt ∙ ap (λ (l : Link). l.app) is,
+  get_or-map (λ (l : Link). l.app) links k (record { app = app; predecessor = predecessor }) app lt
+      ∙ ap (λ (l : Link). l.app) is,
 )
 
-pub on_loop_listed : (links : List Link) (app : List ℕ) → OnLoop links app → (predecessor : List ℕ) × Lists links app predecessor
+pub on_loop_listed : (links : List Link) (app : List ℕ) → OnLoop links app → (predecessor : List ℕ)
+    × Lists links app predecessor
 on_loop_listed links app (ring, is, at) = by_place ring is at
   where
-    by_place : (ring : List (List ℕ)) → IsRing (Lists links) ring → Contains ring app → (predecessor : List ℕ) × Lists links app predecessor
+    by_place : (ring : List (List ℕ)) → IsRing (Lists links) ring → Contains ring app → (predecessor : List ℕ)
+        × Lists links app predecessor
     by_place ring is (k, lt, at) = elim (cases_lt (k + 1) (length ring)) [
-      | inl inside ↦ (get_or ring (k + 1) app, subst (λ x. Lists links x (get_or ring (k + 1) app)) at (is.next k app inside))
+      | inl inside ↦ (
+        get_or ring (k + 1) app,
+        subst (λ x. Lists links x (get_or ring (k + 1) app)) at (is.next k app inside),
+      )
       | inr last ↦
-          let same : length ring - 1 ≡ k = omega arith in
-          (get_or ring 0 app, subst (λ x. Lists links x (get_or ring 0 app)) (ap (λ n. get_or ring n app) same ∙ at) (is.closes app))
+          let same : length ring - 1 ≡ k = omega arith in (
+            get_or ring 0 app,
+            subst (λ x. Lists links x (get_or ring 0 app)) (ap (λ n. get_or ring n app) same
+                ∙ at) (is.closes app),
+          )
     ]
 
-pub no_loop_from : (links : List Link) → ((app : List ℕ) → IsLeastApp (OnLoop links) app → ⊥) → (app : List ℕ) → OnLoop links app → ⊥
+pub no_loop_from : (links : List Link) → ((app : List ℕ) → IsLeastApp (OnLoop links) app → ⊥) → (app : List ℕ)
+    → OnLoop links app → ⊥
 no_loop_from links none app on = no_least (OnLoop links) none (map (λ (l : Link). l.app) links) app on
     (λ y on' more. let (predecessor, listed) = on_loop_listed links y on' in has_list links y predecessor listed)

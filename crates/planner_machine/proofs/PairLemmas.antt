@@ -28,22 +28,37 @@ use Rattle.planner_machine.proofs.RowsSound.{RowsSound}
 use Rattle.planner_machine.proofs.SeatLemmas.{IsMove, after, going, stands_after, stood_before}
 
 pair_total : IsTotalOrder pair_cmp
-pair_total = then_total (on_total (λ (p : Pair). p.successor) nat_cmp_total) (on_total (λ (p : Pair). p.predecessor) nat_cmp_total)
+pair_total = then_total (on_total (λ (p : Pair). p.successor) nat_cmp_total)
+    (on_total (λ (p : Pair). p.predecessor) nat_cmp_total)
 
 pair_strict : IsStrictOrder (λ x y. pair_cmp x y ≡ Less)
-pair_strict = record { irreflexive = λ a less. let tied = tied_itself pair_total a in let apart : Less ≡ Equal = sym less ∙ tied in cc; transitive = λ a b c. pair_total.trans a b c }
+pair_strict = record {
+  irreflexive = λ a less. let tied = tied_itself pair_total a in
+      let apart : Less ≡ Equal = sym less ∙ tied in cc;
+  transitive = λ a b c. pair_total.trans a b c;
+}
 
-pub pairs_are_one : (before : List Pair) (links : List Link) (c : Sets) (pairs pairs' : List Pair) → ArePairs before links c pairs → ArePairs before links c pairs' → pairs ≡ pairs'
-pairs_are_one before links c pairs pairs' a b = one_list (λ x y. pair_cmp x y ≡ Less) pair_strict pairs pairs' a.rising b.rising (λ z h. (b.exactly z).1 ((a.exactly z).0 h)) (λ z h. (a.exactly z).1 ((b.exactly z).0 h))
+pub pairs_are_one : (before : List Pair) (links : List Link) (c : Sets) (pairs pairs' : List Pair)
+    → ArePairs before links c pairs → ArePairs before links c pairs' → pairs ≡ pairs'
+pairs_are_one before links c pairs pairs' a b =
+    one_list (λ x y. pair_cmp x y ≡ Less) pair_strict pairs pairs' a.rising b.rising
+    (λ z h. (b.exactly z).1 ((a.exactly z).0 h)) (λ z h. (a.exactly z).1 ((b.exactly z).0 h))
 
 -- pairs after a statement are settled
-pub pairs_settle : (before : List Pair) (links : List Link) (c : Sets) (pairs : List Pair) → ArePairs before links c pairs → ArePairs pairs links c pairs
+pub pairs_settle : (before : List Pair) (links : List Link) (c : Sets) (pairs : List Pair)
+    → ArePairs before links c pairs → ArePairs pairs links c pairs
 pairs_settle before links c pairs a = record {
   rising = a.rising;
   exactly = λ pair. (
     (λ there. elim ((a.exactly pair).0 there) [
       | inl open' ↦ inl open'
-      | inr kept ↦ inr (record { placed = kept.placed; stands = kept.stands; live = kept.live; waits_no_more = kept.waits_no_more; had = there })
+      | inr kept ↦ inr (record {
+        placed = kept.placed;
+        stands = kept.stands;
+        live = kept.live;
+        waits_no_more = kept.waits_no_more;
+        had = there;
+      })
     ]),
     λ is. elim is [
       | inl open' ↦ (a.exactly pair).1 (inl open')
@@ -95,17 +110,32 @@ same_live : (a b : Place) → kind a ≡ kind b → IsLive a → IsLive b
 same_live a b same is = (live_kind b).1 (λ now. (live_kind a).0 is (same ∙ now))
 
 -- the nearest among arrivals is that among the same arrivals
-same_nearest : (P Q : Arrival → Type 0) → ((x : Arrival) → P x → Q x) → ((x : Arrival) → Q x → P x) → (key : Key) (app : List ℕ) (near : Arrival) → IsNearest P key app near → IsNearest Q key app near
-same_nearest P Q to from key app near is = record { live = to near is.live; candidate = is.candidate; greatest = λ other live. is.greatest other (from other live); last = λ other live. is.last other (from other live) }
+same_nearest : (P Q : Arrival → Type 0) → ((x : Arrival) → P x → Q x) → ((x : Arrival) → Q x → P x)
+    → (key : Key) (app : List ℕ) (near : Arrival) → IsNearest P key app near → IsNearest Q key app near
+same_nearest P Q to from key app near is =
+    record {
+      live = to near is.live;
+      candidate = is.candidate;
+      greatest = λ other live. is.greatest other (from other live);
+      last =
+          λ other live. is.last other (from other live);
+    }
 
 -- a move that keeps rows and kinds of places changes no pair
-module _ (move : Seat → Seat) (go : PlacedRow → PlacedRow) (is : IsMove move go) (rows : (p : PlacedRow) → (go p).row ≡ p.row) (kinds : (p : PlacedRow) → kind (go p).place ≡ kind p.place) (c : Sets) (sound : RowsSound c) (bounds : Option Bounds) where
+module _ (move : Seat → Seat) (go : PlacedRow → PlacedRow) (is : IsMove move go) (rows : (p : PlacedRow)
+    → (go p).row ≡ p.row) (kinds : (p : PlacedRow)
+    → kind (go p).place ≡ kind p.place) (c : Sets) (sound : RowsSound c) (bounds : Option Bounds) where
   abbrev c' : Sets
   c' = after move go is c sound bounds
 
   live_on : (x : Arrival) → LiveAt c x → LiveAt c' x
-  live_on x (serial, p, there, live, arrives) =
-      (serial, go p, stands_after move go is c sound bounds serial p there, same_live p.place (go p).place (sym (kinds p)) live, ap (λ r. arrival_of r) (rows p) ∙ arrives)
+  live_on x (serial, p, there, live, arrives) = (
+    serial,
+    go p,
+    stands_after move go is c sound bounds serial p there,
+    same_live p.place (go p).place (sym (kinds p)) live,
+    ap (λ r. arrival_of r) (rows p) ∙ arrives,
+  )
 
   live_back : (x : Arrival) → LiveAt c' x → LiveAt c x
   live_back x (serial, q, there, live, arrives) =
@@ -126,7 +156,9 @@ module _ (move : Seat → Seat) (go : PlacedRow → PlacedRow) (is : IsMove move
       app = a.app;
       listed = let P : Row → Type 0 = λ r. Lists links r.key.app a.app in subst P (sym (rows p)) a.listed;
       near = a.near;
-      nearest = let P : Row → Type 0 = λ r. IsNearest (LiveAt c') r.key a.app a.near in subst P (sym (rows p)) (same_nearest (LiveAt c) (LiveAt c') live_on live_back p.row.key a.app a.near a.nearest);
+      nearest = let P : Row → Type 0 = λ r. IsNearest (LiveAt c') r.key a.app a.near in
+          subst P (sym (rows p)) (same_nearest (LiveAt c)
+          (LiveAt c') live_on live_back p.row.key a.app a.near a.nearest);
       predecessor = a.predecessor;
     }
 
@@ -137,11 +169,14 @@ module _ (move : Seat → Seat) (go : PlacedRow → PlacedRow) (is : IsMove move
         record {
           placed = p;
           stands = was;
-          waits = same_open (go p).place p.place (kinds p) (subst (λ (y : PlacedRow). IsOpen y.place) (sym same) a.waits);
+          waits = same_open (go p).place p.place (kinds p)
+              (subst (λ (y : PlacedRow). IsOpen y.place) (sym same) a.waits);
           app = a.app;
           listed = let P : Row → Type 0 = λ r. Lists links r.key.app a.app in subst P row a.listed;
           near = a.near;
-          nearest = let P : Row → Type 0 = λ r. IsNearest (LiveAt c) r.key a.app a.near in subst P row (same_nearest (LiveAt c') (LiveAt c) live_back live_on a.placed.row.key a.app a.near a.nearest);
+          nearest = let P : Row → Type 0 = λ r. IsNearest (LiveAt c) r.key a.app a.near in
+              subst P row (same_nearest (LiveAt c')
+              (LiveAt c) live_back live_on a.placed.row.key a.app a.near a.nearest);
           predecessor = a.predecessor;
         }
 
@@ -154,7 +189,8 @@ module _ (move : Seat → Seat) (go : PlacedRow → PlacedRow) (is : IsMove move
       had = a.had;
     }
 
-  no_pair_changes : (links : List Link) (pairs : List Pair) → ArePairs pairs links c pairs → ArePairs pairs links c' pairs
+  no_pair_changes : (links : List Link) (pairs : List Pair) → ArePairs pairs links c pairs
+      → ArePairs pairs links c' pairs
   no_pair_changes links pairs a = record {
     rising = a.rising;
     exactly = λ pair. (
@@ -183,7 +219,9 @@ daily_kind t row (Current D) = refl
 daily_kind t row History = refl
 daily_kind t row (Deleted reason) = refl
 
-pub daily_keeps_pairs : (t : ℕ) (links : List Link) (c : Sets) (pairs pairs' : List Pair) → RowsSound c → ArePairs pairs links c pairs → ArePairs pairs links (daily t c) pairs' → pairs' ≡ pairs
+pub daily_keeps_pairs : (t : ℕ) (links : List Link) (c : Sets) (pairs pairs' : List Pair) → RowsSound c
+    → ArePairs pairs links c pairs → ArePairs pairs links (daily t c) pairs' → pairs' ≡ pairs
 daily_keeps_pairs t links c pairs pairs' sound a b =
     pairs_are_one pairs links _ pairs' pairs b
-    (no_pair_changes (daily_move t) (going (place_after_daily_plan t)) (daily_is_move t) (λ p. refl) (λ p. daily_kind t p.row p.place) c sound _ links pairs a)
+    (no_pair_changes (daily_move t) (going (place_after_daily_plan t)) (daily_is_move t) (λ p. refl)
+    (λ p. daily_kind t p.row p.place) c sound _ links pairs a)

@@ -20,21 +20,28 @@ use Rattle.planner_machine.specs.ModifyOne.{IsThatApp}
 -- a daily plan on whole sets is the fates of all rows together
 pub daily_fates : DailyIsFates
 daily_fates t c sound serial q = (
-  (λ there. let (p, was, same) = stood_before (daily_move t) (going (place_after_daily_plan t)) (daily_is_move t) c.sets (rows_sound c sound) c.sets.bounds serial q there in (p, was, sym same)),
-  λ from. let (p, was, same) = from in subst (StandsAt (daily t c.sets) serial) (sym same) (stands_after (daily_move t) (going (place_after_daily_plan t)) (daily_is_move t) c.sets (rows_sound c sound) c.sets.bounds serial p was),
+  (λ there. let (p, was, same) = stood_before (daily_move t) (going (place_after_daily_plan t))
+      (daily_is_move t) c.sets (rows_sound c sound) c.sets.bounds serial q there in (p, was, sym same)),
+  λ from. let (p, was, same) = from in
+      subst (StandsAt (daily t c.sets) serial) (sym same)
+      (stands_after (daily_move t) (going (place_after_daily_plan t)) (daily_is_move t) c.sets
+      (rows_sound c sound) c.sets.bounds serial p was),
 )
 
 -- a daily plan changes no pair
-no_change : (t : ℕ) (c c' : Content) → IsSound c → c'.sets ≡ daily t c.sets → c'.in_force ≡ c.in_force → ArePairs c.pairs c'.in_force c'.sets c'.pairs → c'.pairs ≡ c.pairs
+no_change : (t : ℕ) (c c' : Content) → IsSound c → c'.sets ≡ daily t c.sets → c'.in_force ≡ c.in_force
+    → ArePairs c.pairs c'.in_force c'.sets c'.pairs → c'.pairs ≡ c.pairs
 no_change t c c' sound sets lists pairs =
     daily_keeps_pairs t c.in_force c.sets c.pairs c'.pairs (rows_sound c sound) sound.pairs.settled
-    (subst (λ l. ArePairs c.pairs l (daily t c.sets) c'.pairs) lists (subst (λ (s : Sets). ArePairs c.pairs c'.in_force s c'.pairs) sets pairs))
+    (subst (λ l. ArePairs c.pairs l (daily t c.sets) c'.pairs) lists
+    (subst (λ (s : Sets). ArePairs c.pairs c'.in_force s c'.pairs) sets pairs))
 
 pub extend_keeps_pairs : (t : ℕ) → KeepsPairs (DailyExtend t)
 extend_keeps_pairs t c reply c' sound d = no_change t c c' sound d.1.rows.1 d.1.lists d.1.pairs
 
 pub replan_keeps_pairs : KeepsPairs Replan
-replan_keeps_pairs c reply c' sound d = let (b, is, rows) = d.1.rows in no_change b.plan_end c c' sound rows.1 d.1.lists d.1.pairs
+replan_keeps_pairs c reply c' sound d = let (b, is, rows) = d.1.rows in
+    no_change b.plan_end c c' sound rows.1 d.1.lists d.1.pairs
 
 -- key, serial and kind of origin stay
 itself : (change : Change) (all : Definitions) (bounds : Option Bounds) → FateKeeps (fate_of change all bounds)

@@ -26,7 +26,8 @@ abbrev seat_bits : Seat → ℕ
 seat_bits s = bit s.ltp + bit s.cp
 
 -- a row that leaves the plans or stays takes no more room than before
-fewer : (row row' : Row) (was now : Place) → (IsInPlans now → IsInPlans was) → seat_bits (alone row' now) ≤ seat_bits (alone row was)
+fewer : (row row' : Row) (was now : Place) → (IsInPlans now → IsInPlans was)
+    → seat_bits (alone row' now) ≤ seat_bits (alone row was)
 fewer row row' LongTerm LongTerm keeps = omega arith
 fewer row row' LongTerm (Current b) keeps = omega arith
 fewer row row' LongTerm History keeps = omega arith
@@ -44,7 +45,8 @@ fewer row row' (Deleted a) (Current b) keeps = absurd (keeps tt)
 fewer row row' (Deleted a) History keeps = omega arith
 fewer row row' (Deleted a) (Deleted b) keeps = omega arith
 
-module _ (place : Place) (fate : Fate) (s s' : Sets) (sound : RowsSound s) (keeps : FateKeeps fate) (f : Follows place fate [] s s') where
+module _ (place : Place) (fate : Fate) (s s' : Sets) (sound : RowsSound s) (keeps : FateKeeps fate)
+    (f : Follows place fate [] s s') where
   at_each : (n : ℕ) → n ≤ s.issued → size s'.ltp n + size s'.cp n ≤ size s.ltp n + size s.cp n
   at_each zero le = omega arith
   at_each (suc n) le =
@@ -52,7 +54,9 @@ module _ (place : Place) (fate : Fate) (s s' : Sets) (sound : RowsSound s) (keep
       let (p, there) = sound.placed (suc n) (omega arith) le in
       let (q, goes, at) = f.old (suc n) p there in
       let here : seat_bits (seat s' (suc n)) ≤ seat_bits (seat s (suc n)) =
-      subst (λ x. seat_bits x ≤ seat_bits (seat s (suc n))) (sym at) (subst (λ x. seat_bits (alone q.row q.place) ≤ seat_bits x) (sym there) (fewer p.row q.row p.place q.place (keeps.planned p q goes))) in
+      subst (λ x. seat_bits x ≤ seat_bits (seat s (suc n))) (sym at)
+      (subst (λ x. seat_bits (alone q.row q.place) ≤ seat_bits x) (sym there)
+      (fewer p.row q.row p.place q.place (keeps.planned p q goes))) in
       omega arith
 
   pub sizes_stay : HaveSizes s → HaveSizes s'

@@ -30,14 +30,20 @@ use Rattle.planner_machine.specs.Moves.{numbered_row}
 use Rattle.planner_machine.specs.Sound.{AreDefinable, AreDefinitions, IsOrigin, IsRow}
 
 -- a record among good ones is good after some
-good_row : (Fits : List (List (List ℕ)) → List (List ℕ) → Type 0) (rows : List (List (List ℕ))) (row : List (List ℕ)) → AllGood Fits rows → Contains rows row → (before : List (List (List ℕ))) × Fits before row
-good_row Fits rows row good (k, lt, is) = (take k rows, subst (Fits (take k rows)) (get_or_default rows k [] row lt ∙ is) (good k lt))
+good_row : (Fits : List (List (List ℕ)) → List (List ℕ) → Type 0) (rows : List (List (List ℕ))) (row : List (List ℕ))
+    → AllGood Fits rows → Contains rows row → (before : List (List (List ℕ))) × Fits before row
+good_row Fits rows row good (k, lt, is) =
+    (take k rows, subst (Fits (take k rows)) (get_or_default rows k [] row lt ∙ is) (good k lt))
 
 -- a record about a name is one of all, and its first field is the name
-record_in : (name : List ℕ) (rows : List (List (List ℕ))) (row : List (List ℕ)) → Contains (records_of name rows) row → Contains rows row × (field row 0 ≡ name)
+record_in : (name : List ℕ) (rows : List (List (List ℕ))) (row : List (List ℕ)) → Contains (records_of name rows) row
+    → Contains rows row × (field row 0 ≡ name)
 record_in name rows row there = (
-  All-contains (Contains rows) (records_of name rows) row (All-filter (λ r. pointwise nat_eq (field r 0) name) (Contains rows) rows (All-contains_itself rows)) there,
-  same_name (field row 0) name (All-contains (λ r. pointwise nat_eq (field r 0) name ≡ true) (records_of name rows) row (filter_passes (λ r. pointwise nat_eq (field r 0) name) rows) there),
+  All-contains (Contains rows) (records_of name rows) row
+      (All-filter (λ r. pointwise nat_eq (field r 0) name) (Contains rows) rows (All-contains_itself rows)) there,
+  same_name (field row 0) name
+      (All-contains (λ r. pointwise nat_eq (field r 0) name ≡ true) (records_of name rows) row
+      (filter_passes (λ r. pointwise nat_eq (field r 0) name) rows) there),
 )
 
 some_element : {X : Type 0} (xs : List X) → xs ≢ [] → (x : X) × Contains xs x
@@ -45,11 +51,15 @@ some_element [] some = absurd (some refl)
 some_element (x ∷ xs) some = (x, (zero, omega arith, refl))
 
 -- a name that is defined has the form of a name
-module _ {D : Type 0} (fields : ℕ) (FitsName : List (List (List ℕ)) → List (List ℕ) → Type 0) (IsMadeOf : D → List (List (List ℕ)) → Type 0) (definition_of : List ℕ → Option D) (are : AreDefinable fields FitsName IsMadeOf definition_of) where
-  made_of : (name : List ℕ) (d : D) → definition_of name ≡ Some d → (rows : List (List (List ℕ))) × AllGood (FitsKind fields FitsName) rows × (records_of name rows ≢ []) × IsMadeOf d (records_of name rows)
+module _ {D : Type 0} (fields : ℕ) (FitsName : List (List (List ℕ)) → List (List ℕ) → Type 0) (IsMadeOf : D
+    → List (List (List ℕ)) → Type 0) (definition_of : List ℕ
+    → Option D) (are : AreDefinable fields FitsName IsMadeOf definition_of) where
+  made_of : (name : List ℕ) (d : D) → definition_of name ≡ Some d → (rows : List (List (List ℕ)))
+      × AllGood (FitsKind fields FitsName) rows × (records_of name rows ≢ []) × IsMadeOf d (records_of name rows)
   made_of name d is =
       let (rows, good, defined) = are name in
-      let whole : IsDefinedBy IsMadeOf (Some d) (records_of name rows) = subst (λ (o : Option D). IsDefinedBy IsMadeOf o (records_of name rows)) is defined in
+      let whole : IsDefinedBy IsMadeOf (Some d) (records_of name rows) =
+      subst (λ (o : Option D). IsDefinedBy IsMadeOf o (records_of name rows)) is defined in
       (rows, good, whole.0, whole.1)
 
   pub defined_name : (name : List ℕ) (d : D) → definition_of name ≡ Some d → IsName name
@@ -61,18 +71,25 @@ module _ {D : Type 0} (fields : ℕ) (FitsName : List (List (List ℕ)) → List
       subst IsName at.1 fits.1
 
 -- the links of defined lists are of names
-pub link_names : (all : Definitions) → AreDefinitions all → (link : Link) → IsDefinedLink all link → IsName link.app × IsName link.predecessor
+pub link_names : (all : Definitions) → AreDefinitions all → (link : Link) → IsDefinedLink all link → IsName link.app
+    × IsName link.predecessor
 link_names all are link (names, is, listed) =
-    let (rows, good, some, made) = made_of 2 FitsPredecessors ArePredecessorsOf (map.get all.predecessors) are.predecessors link.app names is in (
+    let (rows, good, some, made) =
+    made_of 2 FitsPredecessors ArePredecessorsOf (map.get all.predecessors) are.predecessors link.app names is in (
       defined_name 2 FitsPredecessors ArePredecessorsOf (map.get all.predecessors) are.predecessors link.app names is,
-      in_records rows good link.predecessor (records_of link.app rows) (λ row there. (record_in link.app rows row there).0) ((made.exactly link.predecessor).0 listed),
+      in_records rows good link.predecessor (records_of link.app rows)
+          (λ row there. (record_in link.app rows row there).0) ((made.exactly link.predecessor).0 listed),
     )
   where
-    in_records : (rows : List (List (List ℕ))) → AllGood (FitsKind 2 FitsPredecessors) rows → (name : List ℕ) (some : List (List (List ℕ))) → ((row : List (List ℕ)) → Contains some row → Contains rows row) → Contains (predecessors_of some) name → IsName name
+    in_records : (rows : List (List (List ℕ))) → AllGood (FitsKind 2 FitsPredecessors) rows
+        → (name : List ℕ) (some : List (List (List ℕ)))
+        → ((row : List (List ℕ)) → Contains some row → Contains rows row) → Contains (predecessors_of some) name
+        → IsName name
     in_records rows good name some all_in (k, lt, is) =
         let within : k < length some = omega (arith, length-map some (λ (row : List (List ℕ)). field row 1)) in
         let row : List (List ℕ) = get_or some k [] in
-        let (before, fits) = good_row (FitsKind 2 FitsPredecessors) rows (get_or some k []) good (all_in (get_or some k []) (Contains-get_or some k [] within)) in
+        let (before, fits) = good_row (FitsKind 2 FitsPredecessors) rows (get_or some k []) good
+        (all_in (get_or some k []) (Contains-get_or some k [] within)) in
         subst IsName (sym (get_or-map (λ (row : List (List ℕ)). field row 1) some k [] name within) ∙ is) fits.2.0
 
 -- the run cycles of an application have their ranges
@@ -81,17 +98,21 @@ pub record CycleRanges (cycle : RunCycle) : Type 0 where
   pub ia : IsMinute cycle.ia
   pub deadline : (d : Deadline) → HasDeadline cycle.kind d → (d.days ≤ 99) × IsMinute d.time
 
-kind_ranges : (kind : CycleType) (letter day time : List ℕ) → SpellsKind letter day time kind → (d : Deadline) → HasDeadline kind d → (d.days ≤ 99) × IsMinute d.time
+kind_ranges : (kind : CycleType) (letter day time : List ℕ) → SpellsKind letter day time kind → (d : Deadline)
+    → HasDeadline kind d → (d.days ≤ 99) × IsMinute d.time
 kind_ranges (Normal own) letter day time spells d is =
     let spelled = spells.1 in let most = spelled.day_text.1 in let days = spelled.days in
     subst (λ (x : Deadline). (x.days ≤ 99) × IsMinute x.time) (sym is) (omega arith, spelled.clock.in_range)
 kind_ranges (Negative own) letter day time spells d is = absurd is
 
-cycle_ranges : (all : Definitions) → AreDefinitions all → (app : List ℕ) (o : Option (List RunCycle)) → map.get all.run_cycles app ≡ o → (cycle : RunCycle) → Contains (unwrap_or o []) cycle → CycleRanges cycle
+cycle_ranges : (all : Definitions) → AreDefinitions all → (app : List ℕ) (o : Option (List RunCycle))
+    → map.get all.run_cycles app ≡ o → (cycle : RunCycle) → Contains (unwrap_or o []) cycle → CycleRanges cycle
 cycle_ranges all are app None is cycle (k, lt, at) = absurd (omega (arith, lt))
 cycle_ranges all are app (Some cycles) is cycle there =
-    let (rows, good, some, made) = made_of 11 FitsRunCycle AreRunCyclesOf (map.get all.run_cycles) are.run_cycles app cycles is in
-    let (k, row, within, at, spells) = All-contains (λ c. Any (λ r. SpellsRunCycle r c) (records_of app rows)) cycles cycle made.each there in
+    let (rows, good, some, made) =
+    made_of 11 FitsRunCycle AreRunCyclesOf (map.get all.run_cycles) are.run_cycles app cycles is in
+    let (k, row, within, at, spells) =
+    All-contains (λ c. Any (λ r. SpellsRunCycle r c) (records_of app rows)) cycles cycle made.each there in
     record {
       name = subst IsShort (sym spells.name) spells.short_name;
       ia = spells.ia.in_range;
@@ -111,7 +132,8 @@ pub record DraftRanges (draft : Draft) : Type 0 where
 pub row_ranges : (serial : ℕ) (draft : Draft) → DraftRanges draft → IsRow (numbered_row serial draft)
 row_ranges serial draft r = record { app = r.app; ia = r.ia; deadline = r.deadline; origin = r.origin }
 
-pub named_ranges : (all : Definitions) → AreDefinitions all → (draft : Draft) → NamesDraft all draft → 730 * 1440 ≤ draft.key.ia → draft.key.ia < (last_planning_day + 1) * 1440 → DraftRanges draft
+pub named_ranges : (all : Definitions) → AreDefinitions all → (draft : Draft) → NamesDraft all draft
+    → 730 * 1440 ≤ draft.key.ia → draft.key.ia < (last_planning_day + 1) * 1440 → DraftRanges draft
 named_ranges all are draft (app, x, named, is) from to =
     let ia : draft.key.ia ≡ (draft_of app x).key.ia = ap (λ (d : Draft). d.key.ia) is in
     let (a, active, occurs) = named in

@@ -17,4 +17,5 @@ pub record RowsSound (s : Sets) : Type 0 where
   pub unissued : (serial : ℕ) → (serial ≡ 0) ⊎ (s.issued < serial) → seat s serial ≡ empty_seat
   pub numbered : (serial : ℕ) (p : PlacedRow) → StandsAt s serial p → p.row.serial ≡ serial
   pub arrivals : (serial : ℕ) (p : PlacedRow) → StandsAt s serial p → IsPlacedIn s.bounds p
-  pub keys : (m n : ℕ) (p q : PlacedRow) → StandsAt s m p → StandsAt s n q → IsLive p.place → IsLive q.place → p.row.key ≡ q.row.key → m ≡ n
+  pub keys : (m n : ℕ) (p q : PlacedRow) → StandsAt s m p → StandsAt s n q → IsLive p.place → IsLive q.place
+      → p.row.key ≡ q.row.key → m ≡ n

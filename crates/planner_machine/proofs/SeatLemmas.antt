@@ -69,7 +69,8 @@ pub record IsMove (move : Seat → Seat) (go : PlacedRow → PlacedRow) : Type 0
   pub serial : (p : PlacedRow) → (go p).row.serial ≡ p.row.serial
   pub key : (p : PlacedRow) → (go p).row.key ≡ p.row.key
 
-module _ (move : Seat → Seat) (go : PlacedRow → PlacedRow) (is : IsMove move go) (c : Sets) (sound : RowsSound c) (bounds : Option Bounds) where
+module _ (move : Seat → Seat) (go : PlacedRow
+    → PlacedRow) (is : IsMove move go) (c : Sets) (sound : RowsSound c) (bounds : Option Bounds) where
   abbrev pub after : Sets
   after = record (each move c) { bounds = bounds }
 
@@ -79,9 +80,11 @@ module _ (move : Seat → Seat) (go : PlacedRow → PlacedRow) (is : IsMove move
   empty_after : (serial : ℕ) → (serial ≡ 0) ⊎ (c.issued < serial) → seat after serial ≡ empty_seat
   empty_after serial past = ap move (sound.unissued serial past) ∙ is.empty
 
-  pub stood_before : (serial : ℕ) (q : PlacedRow) → StandsAt after serial q → (p : PlacedRow) × StandsAt c serial p × (go p ≡ q)
+  pub stood_before : (serial : ℕ) (q : PlacedRow) → StandsAt after serial q → (p : PlacedRow) × StandsAt c serial p
+      × (go p ≡ q)
   stood_before serial q there = elim (cases_issued c.issued serial) [
-    | inl within ↦ let (p, was) = sound.placed serial within.0 within.1 in (p, was, one_place after serial (go p) q (stands_after serial p was) there)
+    | inl within ↦ let (p, was) = sound.placed serial within.0 within.1 in
+        (p, was, one_place after serial (go p) q (stands_after serial p was) there)
     | inr past ↦ absurd (not_empty after serial q there (empty_after serial past))
   ]
 
@@ -89,7 +92,8 @@ module _ (move : Seat → Seat) (go : PlacedRow → PlacedRow) (is : IsMove move
   move_follows place = record {
     issues = omega arith;
     old = λ serial p there. (go p, refl, stands_after serial p there);
-    new = λ k draft is. let none = slice_get_past {X = Draft} [] k (omega arith) in absurd (let no : None ≡ Some draft = sym none ∙ is in cc);
+    new = λ k draft is. let none = slice_get_past {X = Draft} [] k (omega arith) in
+        absurd (let no : None ≡ Some draft = sym none ∙ is in cc);
   }
 
   pub move_sound :
@@ -101,13 +105,16 @@ module _ (move : Seat → Seat) (go : PlacedRow → PlacedRow) (is : IsMove move
     bounds = are;
     placed = λ serial above below. let (p, was) = sound.placed serial above below in (go p, stands_after serial p was);
     unissued = empty_after;
-    numbered = λ serial q there. let (p, was, same) = stood_before serial q there in ap (λ (x : PlacedRow). x.row.serial) (sym same) ∙ is.serial p ∙ sound.numbered serial p was;
-    arrivals = λ serial q there. let (p, was, same) = stood_before serial q there in subst (λ (x : PlacedRow). IsPlacedIn bounds x) same (arrive p (sound.arrivals serial p was));
+    numbered = λ serial q there. let (p, was, same) = stood_before serial q there in
+        ap (λ (x : PlacedRow). x.row.serial) (sym same) ∙ is.serial p ∙ sound.numbered serial p was;
+    arrivals = λ serial q there. let (p, was, same) = stood_before serial q there in
+        subst (λ (x : PlacedRow). IsPlacedIn bounds x) same (arrive p (sound.arrivals serial p was));
     keys = λ m n q r at_q at_r live_q live_r one_key.
         let (p, was, same) = stood_before m q at_q in
         let (o, was', same') = stood_before n r at_r in
         sound.keys m n p o was was'
         (live p (subst (λ (x : PlacedRow). IsLive x.place) (sym same) live_q))
         (live o (subst (λ (x : PlacedRow). IsLive x.place) (sym same') live_r))
-        (sym (is.key p) ∙ ap (λ (x : PlacedRow). x.row.key) same ∙ one_key ∙ ap (λ (x : PlacedRow). x.row.key) (sym same') ∙ is.key o);
+        (sym (is.key p) ∙ ap (λ (x : PlacedRow). x.row.key) same ∙ one_key
+        ∙ ap (λ (x : PlacedRow). x.row.key) (sym same') ∙ is.key o);
   }

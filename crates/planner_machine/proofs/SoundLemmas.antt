@@ -7,7 +7,8 @@ use Rattle.planner_machine.specs.Sound.{IsSound}
 use Rattle.planner_machine.proofs.RowsSound.{IsPlacedIn, RowsSound}
 use Rattle.planner_machine.proofs.SeatLemmas.{not_empty}
 
-placed_in : (c : Content) → IsSound c → (o : Option Bounds) → c.sets.bounds ≡ o → (serial : ℕ) (p : PlacedRow) → StandsAt c.sets serial p → IsPlacedIn o p
+placed_in : (c : Content) → IsSound c → (o : Option Bounds) → c.sets.bounds ≡ o → (serial : ℕ) (p : PlacedRow)
+    → StandsAt c.sets serial p → IsPlacedIn o p
 placed_in c sound None is serial p there = not_empty c.sets serial p there ((sound.bounds.before is).rows serial)
 placed_in c sound (Some b) is serial p there = sound.arrivals.in_bounds b is serial p there
 

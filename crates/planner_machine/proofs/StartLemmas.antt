@@ -30,18 +30,32 @@ decide_complete c sound n = elim (cases_issued c.issued n) [
   | inr past ↦ inr (λ is. not_empty c n is.0 is.1 (sound.unissued n past))
 ]
   where
-    at : (p : PlacedRow) → StandsAt c n p → (place : Place) → p.place ≡ place → IsCompleteAt c n ⊎ (IsCompleteAt c n → ⊥)
-    at p there LongTerm is = inr (λ (q, here, done). subst IsComplete (ap (λ (x : PlacedRow). x.place) (one_place c n q p here there) ∙ is) done)
-    at p there (Current W) is = inr (λ (q, here, done). let not : W ≡ C = subst IsComplete (ap (λ (x : PlacedRow). x.place) (one_place c n q p here there) ∙ is) done in cc)
-    at p there (Current S) is = inr (λ (q, here, done). let not : S ≡ C = subst IsComplete (ap (λ (x : PlacedRow). x.place) (one_place c n q p here there) ∙ is) done in cc)
-    at p there (Current E) is = inr (λ (q, here, done). let not : E ≡ C = subst IsComplete (ap (λ (x : PlacedRow). x.place) (one_place c n q p here there) ∙ is) done in cc)
+    at : (p : PlacedRow) → StandsAt c n p → (place : Place) → p.place ≡ place → IsCompleteAt c n
+        ⊎ (IsCompleteAt c n → ⊥)
+    at p there LongTerm is =
+        inr (λ (q, here, done). subst IsComplete (ap (λ (x : PlacedRow). x.place) (one_place c n q p here there)
+        ∙ is) done)
+    at p there (Current W) is =
+        inr (λ (q, here, done). let not : W ≡ C = subst IsComplete
+        (ap (λ (x : PlacedRow). x.place) (one_place c n q p here there) ∙ is) done in cc)
+    at p there (Current S) is =
+        inr (λ (q, here, done). let not : S ≡ C = subst IsComplete
+        (ap (λ (x : PlacedRow). x.place) (one_place c n q p here there) ∙ is) done in cc)
+    at p there (Current E) is =
+        inr (λ (q, here, done). let not : E ≡ C = subst IsComplete
+        (ap (λ (x : PlacedRow). x.place) (one_place c n q p here there) ∙ is) done in cc)
     at p there (Current C) is = inl (p, there, subst IsComplete (sym is) refl)
-    at p there (Current D) is = inr (λ (q, here, done). let not : D ≡ C = subst IsComplete (ap (λ (x : PlacedRow). x.place) (one_place c n q p here there) ∙ is) done in cc)
+    at p there (Current D) is =
+        inr (λ (q, here, done). let not : D ≡ C = subst IsComplete
+        (ap (λ (x : PlacedRow). x.place) (one_place c n q p here there) ∙ is) done in cc)
     at p there History is = inl (p, there, subst IsComplete (sym is) tt)
-    at p there (Deleted reason) is = inr (λ (q, here, done). subst IsComplete (ap (λ (x : PlacedRow). x.place) (one_place c n q p here there) ∙ is) done)
+    at p there (Deleted reason) is =
+        inr (λ (q, here, done). subst IsComplete (ap (λ (x : PlacedRow). x.place) (one_place c n q p here there)
+        ∙ is) done)
 
 -- where none is the least that is not complete, all are
-pub all_complete : (s : Content) → RowsSound s.sets → (serial : ℕ) → ((n : ℕ) → IsLeastUncompleted s serial n → ⊥) → (n : ℕ) → Contains s.pairs (pair_of serial n) → IsCompleteAt s.sets n
+pub all_complete : (s : Content) → RowsSound s.sets → (serial : ℕ) → ((n : ℕ) → IsLeastUncompleted s serial n → ⊥)
+    → (n : ℕ) → Contains s.pairs (pair_of serial n) → IsCompleteAt s.sets n
 all_complete s sound serial none n there = below (n + 1) n (omega arith) there
   where
     below : (k n : ℕ) → n < k → Contains s.pairs (pair_of serial n) → IsCompleteAt s.sets n
@@ -59,22 +73,37 @@ all_complete s sound serial none n there = below (n + 1) n (omega arith) there
 
 module _ (key : Key) (s : Content) (sound : RowsSound s.sets) where
   -- what a waiting row becomes, closed and live, it becomes by a start
-  waited : (action : Action) → ((q : Refusal) → ActionRefused key action s q → ⊥) → (serial : ℕ) (row : Row) → StandsAt s.sets serial (record { row = row; place = Current W }) → (b : Bool) → has_key key row ≡ b → (if b then acted_status action W else W) ≢ D → ((if b then acted_status action W else W) ≡ W → ⊥) → (n : ℕ) → Contains s.pairs (pair_of serial n) → IsCompleteAt s.sets n
+  waited : (action : Action) → ((q : Refusal) → ActionRefused key action s q → ⊥) → (serial : ℕ) (row : Row)
+      → StandsAt s.sets serial (record { row = row; place = Current W }) → (b : Bool) → has_key key row ≡ b
+      → (if b then acted_status action W else W) ≢ D → ((if b then acted_status action W else W) ≡ W → ⊥) → (n : ℕ)
+      → Contains s.pairs (pair_of serial n) → IsCompleteAt s.sets n
   waited action none serial row there false is live closed = absurd (closed refl)
   waited Start none serial row there true is live closed =
-      let current : IsCurrent s.sets key serial W = record { row = row; stands = ap (λ (x : Seat). x.cp) there; keyed = same_key row.key key is; live = λ e. cc } in
+      let current : IsCurrent s.sets key serial W =
+      record {
+        row = row;
+        stands = ap (λ (x : Seat). x.cp) there;
+        keyed = same_key row.key key is;
+        live = λ e. cc;
+      } in
       all_complete s sound serial (λ n least. none (PredecessorUncompleted n) (refl, (serial, W, current, least)))
   waited Complete none serial row there true is live closed = absurd (closed refl)
   waited Fail none serial row there true is live closed = absurd (closed refl)
   waited Reset none serial row there true is live closed = absurd (closed refl)
   waited Delete none serial row there true is live closed = absurd (live refl)
 
-  pub action_closes : (action : Action) → ((q : Refusal) → ActionRefused key action s q → ⊥) → (serial : ℕ) (row : Row) (was : Place) → StandsAt s.sets serial (record { row = row; place = was }) → IsLive (place_after_action key action row was) → (IsOpen (place_after_action key action row was) → ⊥) → (IsLive was × (IsOpen was → ⊥)) ⊎ (IsOpen was × ((n : ℕ) → Contains s.pairs (pair_of serial n) → IsCompleteAt s.sets n))
+  pub action_closes : (action : Action) → ((q : Refusal) → ActionRefused key action s q → ⊥)
+      → (serial : ℕ) (row : Row) (was : Place) → StandsAt s.sets serial (record { row = row; place = was })
+      → IsLive (place_after_action key action row was) → (IsOpen (place_after_action key action row was) → ⊥)
+      → (IsLive was × (IsOpen was → ⊥))
+      ⊎ (IsOpen was × ((n : ℕ) → Contains s.pairs (pair_of serial n) → IsCompleteAt s.sets n))
   action_closes action none serial row LongTerm there live closed = absurd (closed tt)
-  action_closes action none serial row (Current W) there live closed = inr (refl, waited action none serial row there (has_key key row) refl live closed)
+  action_closes action none serial row (Current W) there live closed =
+      inr (refl, waited action none serial row there (has_key key row) refl live closed)
   action_closes action none serial row (Current S) there live closed = inl ((λ e. cc), λ e. cc)
   action_closes action none serial row (Current E) there live closed = inl ((λ e. cc), λ e. cc)
   action_closes action none serial row (Current C) there live closed = inl ((λ e. cc), λ e. cc)
-  action_closes action none serial row (Current D) there live closed = absurd (action_live key action row (Current D) live refl)
+  action_closes action none serial row (Current D) there live closed =
+      absurd (action_live key action row (Current D) live refl)
   action_closes action none serial row History there live closed = inl (tt, λ e. e)
   action_closes action none serial row (Deleted reason) there live closed = absurd live

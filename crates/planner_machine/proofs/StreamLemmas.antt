@@ -20,7 +20,8 @@ one_way (s ∷ stream) [] answers' c c' c'' sound fine r r' = absurd r
 one_way (s ∷ stream) (a ∷ az) [] c c' c'' sound fine r r' = absurd r'
 one_way (s ∷ stream) (a ∷ az) (b ∷ bs) c c' c'' sound fine (next, d, r) (next', d', r') =
     let same = step_once s c sound a b next next' d d' in
-    let rest = one_way stream az bs next c' c'' (step_keeps s (All-head IsStatement s stream fine) c sound a next d) (All-tail IsStatement s stream fine) r (subst (λ x. Runs stream x bs c'') (sym same.1) r') in
+    let rest = one_way stream az bs next c' c'' (step_keeps s (All-head IsStatement s stream fine) c sound a next d)
+    (All-tail IsStatement s stream fine) r (subst (λ x. Runs stream x bs c'') (sym same.1) r') in
     (ap₂ (λ x xs. x ∷ xs) same.0 rest.0, rest.1)
 
 pub run_sound : RunsSound
@@ -28,33 +29,43 @@ run_sound [] [] c c' sound fine r = subst IsSound (sym r) sound
 run_sound [] (a ∷ az) c c' sound fine r = absurd r
 run_sound (s ∷ stream) [] c c' sound fine r = absurd r
 run_sound (s ∷ stream) (a ∷ az) c c' sound fine (next, d, r) =
-    run_sound stream az next c' (step_keeps s (All-head IsStatement s stream fine) c sound a next d) (All-tail IsStatement s stream fine) r
+    run_sound stream az next c' (step_keeps s (All-head IsStatement s stream fine) c sound a next d)
+    (All-tail IsStatement s stream fine) r
 
 -- serials are never taken back
-issued_grows : (stream : List Statement) (answers : List Answer) (c c' : Content) → IsSound c → All IsStatement stream → Runs stream c answers c' → c.sets.issued ≤ c'.sets.issued
+issued_grows : (stream : List Statement) (answers : List Answer) (c c' : Content) → IsSound c → All IsStatement stream
+    → Runs stream c answers c' → c.sets.issued ≤ c'.sets.issued
 issued_grows [] [] c c' sound fine r = subst (λ (x : Content). c.sets.issued ≤ x.sets.issued) (sym r) (omega arith)
 issued_grows [] (a ∷ az) c c' sound fine r = absurd r
 issued_grows (s ∷ stream) [] c c' sound fine r = absurd r
 issued_grows (s ∷ stream) (a ∷ az) c c' sound fine (next, d, r) =
     let (drafts, makes, follows) = step_follows s c sound a next d in
     let issues = follows.issues in
-    let rest = issued_grows stream az next c' (step_keeps s (All-head IsStatement s stream fine) c sound a next d) (All-tail IsStatement s stream fine) r in
+    let rest = issued_grows stream az next c' (step_keeps s (All-head IsStatement s stream fine) c sound a next d)
+    (All-tail IsStatement s stream fine) r in
     omega arith
 
 -- what stood goes on by its fates
-goes_on : (stream : List Statement) (answers : List Answer) (c c' : Content) → IsSound c → All IsStatement stream → (run : Runs stream c answers c') → (serial : ℕ) (p : PlacedRow) → StandsAt c.sets serial p → (q : PlacedRow) × StandsAt c'.sets serial q × Goes stream answers c c' run p q
-goes_on [] [] c c' sound fine r serial p there = (p, subst (λ (x : Content). StandsAt x.sets serial p) (sym r) there, refl)
+goes_on : (stream : List Statement) (answers : List Answer) (c c' : Content) → IsSound c → All IsStatement stream
+    → (run : Runs stream c answers c') → (serial : ℕ) (p : PlacedRow) → StandsAt c.sets serial p → (q : PlacedRow)
+    × StandsAt c'.sets serial q × Goes stream answers c c' run p q
+goes_on [] [] c c' sound fine r serial p there =
+    (p, subst (λ (x : Content). StandsAt x.sets serial p) (sym r) there, refl)
 goes_on [] (a ∷ az) c c' sound fine r serial p there = absurd r
 goes_on (s ∷ stream) [] c c' sound fine r serial p there = absurd r
 goes_on (s ∷ stream) (a ∷ az) c c' sound fine (next, d, r) serial p there =
     let (drafts, makes, follows) = step_follows s c sound a next d in
     let (o, fate, there') = follows.old serial p there in
-    let (q, at, goes) = goes_on stream az next c' (step_keeps s (All-head IsStatement s stream fine) c sound a next d) (All-tail IsStatement s stream fine) r serial o there' in
+    let (q, at, goes) = goes_on stream az next c' (step_keeps s (All-head IsStatement s stream fine) c sound a next d)
+    (All-tail IsStatement s stream fine) r serial o there' in
     (q, at, (o, fate, goes))
 
 -- what is made goes on from where it is made
-lives_on : (stream : List Statement) (answers : List Answer) (c c' : Content) → IsSound c → All IsStatement stream → (run : Runs stream c answers c') → (serial : ℕ) → c.sets.issued < serial → serial ≤ c'.sets.issued → (q : PlacedRow) × StandsAt c'.sets serial q × Lives stream answers c c' run serial q
-lives_on [] [] c c' sound fine r serial above below = absurd (let same : c'.sets.issued ≡ c.sets.issued = ap (λ (x : Content). x.sets.issued) r in omega arith)
+lives_on : (stream : List Statement) (answers : List Answer) (c c' : Content) → IsSound c → All IsStatement stream
+    → (run : Runs stream c answers c') → (serial : ℕ) → c.sets.issued < serial → serial ≤ c'.sets.issued
+    → (q : PlacedRow) × StandsAt c'.sets serial q × Lives stream answers c c' run serial q
+lives_on [] [] c c' sound fine r serial above below =
+    absurd (let same : c'.sets.issued ≡ c.sets.issued = ap (λ (x : Content). x.sets.issued) r in omega arith)
 lives_on [] (a ∷ az) c c' sound fine r serial above below = absurd r
 lives_on (s ∷ stream) [] c c' sound fine r serial above below = absurd r
 lives_on (s ∷ stream) (a ∷ az) c c' sound fine (next, d, r) serial above below =
@@ -62,7 +73,8 @@ lives_on (s ∷ stream) (a ∷ az) c c' sound fine (next, d, r) serial above bel
     let sound' = step_keeps s (All-head IsStatement s stream fine) c sound a next d in
     let rest = All-tail IsStatement s stream fine in
     elim (cases_lt next.sets.issued serial) [
-      | inl later ↦ let (q, at, lives) = lives_on stream az next c' sound' rest r serial later below in (q, at, inr lives)
+      | inl later ↦ let (q, at, lives) = lives_on stream az next c' sound' rest r serial later below in
+          (q, at, inr lives)
       | inr now ↦
           let issues = follows.issues in
           elim (slice_get_cases drafts (serial - suc c.sets.issued)).1 [
@@ -70,9 +82,23 @@ lives_on (s ∷ stream) (a ∷ az) c c' sound fine (next, d, r) serial above bel
             | inl (draft, lt, is, at) ↦
                 let numbered : serial ≡ c.sets.issued + 1 + (serial - suc c.sets.issued) = omega arith in
                 let o : PlacedRow = record { row = numbered_row serial draft; place = place_at (acting s c a) } in
-                let stands : StandsAt next.sets serial o = subst (λ n. StandsAt next.sets n (record { row = numbered_row n draft; place = place_at (acting s c a) })) (sym numbered) (follows.new (serial - suc c.sets.issued) draft is) in
+                let stands : StandsAt next.sets serial o =
+                subst (λ n. StandsAt next.sets n (record {
+                  row = numbered_row n draft;
+                  place = place_at (acting s c a);
+                })) (sym numbered)
+                (follows.new (serial - suc c.sets.issued) draft is) in
                 let (q, at', goes) = goes_on stream az next c' sound' rest r serial o stands in
-                let born : IsBorn s a c serial o = record { drafts = drafts; makes = makes; place_in_list = serial - suc c.sets.issued; draft = draft; there = is; numbered = numbered; is = refl } in
+                let born : IsBorn s a c serial o =
+                record {
+                  drafts = drafts;
+                  makes = makes;
+                  place_in_list = serial - suc c.sets.issued;
+                  draft = draft;
+                  there = is;
+                  numbered = numbered;
+                  is = refl;
+                } in
                 (q, at', inl (o, born, goes))
           ]
     ]

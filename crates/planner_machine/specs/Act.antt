@@ -1,4 +1,5 @@
--- `cp-start`, `cp-complete`, `cp-fail`, `cp-reset`, `cp-delete`: the status of an occurrence of the current plan changes.
+-- `cp-start`, `cp-complete`, `cp-fail`, `cp-reset`, `cp-delete`: the status of an occurrence of the current plan
+-- changes.
 use Rattle.std.specs.Prelude.{◌≡◌, ◌≢◌, ℕ, ◌≤◌, Contains, None, Some, option_map, if◌then◌else◌, unwrap_or}
 use Rattle.app_definitions.specs.declared.definitions.Definitions.{Definitions}
 use Rattle.occurrences.specs.Status.{changed_status}
@@ -36,7 +37,11 @@ abbrev pub acted : Key → Action → Row → Status → Status
 acted key action row status = if has_key key row then acted_status action status else status
 
 abbrev pub action_move : Key → Action → Seat → Seat
-action_move key action s = record s { cp = option_map (λ (current : CurrentRow). record current { status = acted key action current.row current.status }) s.cp }
+action_move key action s =
+    record s {
+      cp = option_map
+          (λ (current : CurrentRow). record current { status = acted key action current.row current.status }) s.cp;
+    }
 
 pub record Acts (key : Key) (action : Action) (all : Definitions) (s : Sets) (reply : Reply) (s' : Sets) : Type 0 where
   pub serial : ℕ
@@ -59,9 +64,11 @@ IsLeastUncompleted c successor n = IsUncompleted c successor n × ((m : ℕ) →
 abbrev pub ActionRefused : Key → Action → Content → Refusal → Type 0
 ActionRefused key action c NoPlan = c.sets.bounds ≡ None
 ActionRefused key action c NoSuchOccurrence = (serial : ℕ) (status : Status) → IsCurrent c.sets key serial status → ⊥
-ActionRefused key action c StatusForbids = (serial : ℕ) × (status : Status) × IsCurrent c.sets key serial status × (changed_status status action ≡ None)
+ActionRefused key action c StatusForbids = (serial : ℕ) × (status : Status) × IsCurrent c.sets key serial status
+    × (changed_status status action ≡ None)
 ActionRefused key action c (PredecessorUncompleted n) =
-    (action ≡ Start) × ((serial : ℕ) × (status : Status) × IsCurrent c.sets key serial status × IsLeastUncompleted c serial n)
+    (action ≡ Start) × ((serial : ℕ) × (status : Status) × IsCurrent c.sets key serial status
+    × IsLeastUncompleted c serial n)
 ActionRefused key action c _ = ⊥
 
 abbrev pub cp_action : Key → Action → Decision Content

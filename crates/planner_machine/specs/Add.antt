@@ -19,8 +19,8 @@ use Rattle.planner_machine.specs.InForce.{PutsNone}
 use Rattle.planner_machine.specs.Moves.{with_made}
 use Rattle.planner_machine.specs.Plans.{ChangesPlans, IsPlannedApp, WouldHoldTooMany}
 
--- the arrival lies outside the part of the days that the place takes: the long-term plan from the plan end to the end of the last
--- day, the current plan from the first day to before the plan end
+-- the arrival lies outside the part of the days that the place takes: the long-term plan from the plan end to the end
+-- of the last day, the current plan from the first day to before the plan end
 abbrev pub IsOutside : Bounds → ℕ → Place → Type 0
 IsOutside b ia LongTerm = (ia < b.plan_end) ⊎ (midnight (b.last_day + 1) ≤ ia)
 IsOutside b ia _ = (ia < midnight b.first_day) ⊎ (b.plan_end ≤ ia)

@@ -13,8 +13,8 @@ use Rattle.planner_machine.specs.declared.content.Bounds.{Bounds}
 use Rattle.occurrences.specs.declared.place.CurrentRow.{CurrentRow}
 use Rattle.planner_machine.specs.declared.job.Job.{Job}
 
--- the rows: how far the plans reach, which nothing says before the long-term plan is created; how many serials are issued;
--- and four sets, each a look-up by serial: the long-term plan, the current plan, history, and the deletions
+-- the rows: how far the plans reach, which nothing says before the long-term plan is created; how many serials are
+-- issued; and four sets, each a look-up by serial: the long-term plan, the current plan, history, and the deletions
 pub record Sets : Type 0 where
   pub bounds : Option Bounds
   pub issued : ℕ
@@ -40,14 +40,21 @@ pub record Seat : Type 0 where
   pub deletions : Option Deletion
 
 abbrev pub seat : Sets → ℕ → Seat
-seat s serial = record { ltp = s.ltp serial; cp = s.cp serial; history = s.history serial; deletions = s.deletions serial }
+seat s serial = record {
+  ltp = s.ltp serial;
+  cp = s.cp serial;
+  history = s.history serial;
+  deletions = s.deletions serial;
+}
 
 -- the row in one set, and nothing in the three others
 abbrev pub alone : Row → Place → Seat
 alone row LongTerm = record { ltp = Some row; cp = None; history = None; deletions = None }
-alone row (Current status) = record { ltp = None; cp = Some (record { row = row; status = status }); history = None; deletions = None }
+alone row (Current status) =
+    record { ltp = None; cp = Some (record { row = row; status = status }); history = None; deletions = None }
 alone row History = record { ltp = None; cp = None; history = Some row; deletions = None }
-alone row (Deleted reason) = record { ltp = None; cp = None; history = None; deletions = Some (record { row = row; reason = reason }) }
+alone row (Deleted reason) =
+    record { ltp = None; cp = None; history = None; deletions = Some (record { row = row; reason = reason }) }
 
 abbrev pub empty_seat : Seat
 empty_seat = record { ltp = None; cp = None; history = None; deletions = None }

@@ -18,7 +18,8 @@ ExtendsDaily t all = PlansDaily t
 
 abbrev pub DailyExtendRefused : ℕ → Content → Refusal → Type 0
 DailyExtendRefused t c NoPlan = c.sets.bounds ≡ None
-DailyExtendRefused t c PlanEndOutOfRange = (b : Bounds) × (c.sets.bounds ≡ Some b) × IsBadPlanEnd b c.definitions.options.max_extension_hours t
+DailyExtendRefused t c PlanEndOutOfRange = (b : Bounds) × (c.sets.bounds ≡ Some b)
+    × IsBadPlanEnd b c.definitions.options.max_extension_hours t
 DailyExtendRefused t c _ = ⊥
 
 abbrev pub dp_extend : ℕ → Decision Content

@@ -45,7 +45,8 @@ waiting row = record { row = row; status = W }
 abbrev pub deleted_in_plan : CurrentRow → Deletion
 deleted_in_plan current = record { row = current.row; reason = Plan }
 
--- the rows of the long-term plan that arrive before t; the uncompleted, the completed and the deleted rows of the current plan
+-- the rows of the long-term plan that arrive before t; the uncompleted, the completed and the deleted rows of the
+-- current plan
 abbrev pub moved : ℕ → Option Row → Option Row
 moved t = keep (arrives_before t)
 
@@ -58,8 +59,9 @@ completed = keep (λ current. is_completed current.status)
 abbrev pub deleted : Option CurrentRow → Option CurrentRow
 deleted = keep (λ current. is_deleted current.status)
 
--- the long-term plan keeps what arrives at t or later. The current plan keeps what is uncompleted, as it is, and gains, waiting,
--- what arrives before t. History gains what is completed, and the deletions gain what is deleted, for the reason of the plan
+-- the long-term plan keeps what arrives at t or later. The current plan keeps what is uncompleted, as it is, and
+-- gains, waiting, what arrives before t. History gains what is completed, and the deletions gain what is deleted, for
+-- the reason of the plan
 abbrev pub daily_move : ℕ → Seat → Seat
 daily_move t s = record {
   ltp = keep (arrives_later t) s.ltp;

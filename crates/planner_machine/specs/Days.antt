@@ -32,5 +32,6 @@ DaysRefused app from to c _ = ⊥
 abbrev pub days : List ℕ → ℕ → ℕ → Decision Content
 days app from to = record {
   Refuses = DaysRefused app from to;
-  Does = λ c reply c'. (c' ≡ c) × ((shown : List Named) × ListsDays c.definitions app from to shown × (reply ≡ Rows (length shown)));
+  Does = λ c reply c'. (c' ≡ c)
+      × ((shown : List Named) × ListsDays c.definitions app from to shown × (reply ≡ Rows (length shown)));
 }

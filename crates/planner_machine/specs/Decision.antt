@@ -14,7 +14,8 @@ pub record Decision (State : Type 0) : Type 1 where
 abbrev pub IsLeastRefusal : (Refusal → Type 0) → Refusal → Type 0
 IsLeastRefusal Holds r = Holds r × ((q : Refusal) → Holds q → refusal_number r ≤ refusal_number q)
 
--- the statement is answered by the least refusal that holds, and nothing changes; or none holds, and it does what it does
+-- the statement is answered by the least refusal that holds, and nothing changes; or none holds, and it does what it
+-- does
 abbrev pub Decides : {State : Type 0} → Decision State → State → Result Reply Refusal → State → Type 0
 Decides d c (Err r) c' = IsLeastRefusal (d.Refuses c) r × (c' ≡ c)
 Decides d c (Ok reply) c' = ((q : Refusal) → d.Refuses c q → ⊥) × d.Does c reply c'
@@ -40,15 +41,18 @@ detail_of _ = nothing
 module _ {State : Type 0} (Sound : State → Type 0) (d : Decision State) where
   -- two refusals of one number that hold have one detail
   abbrev pub HasOneDetail : Type 0
-  HasOneDetail = (c : State) (q r : Refusal) → Sound c → d.Refuses c q → d.Refuses c r → refusal_number q ≡ refusal_number r → detail_of q ≡ detail_of r
+  HasOneDetail = (c : State) (q r : Refusal) → Sound c → d.Refuses c q → d.Refuses c r
+      → refusal_number q ≡ refusal_number r → detail_of q ≡ detail_of r
 
   -- where nothing is refused, one thing is done
   abbrev pub DoesOne : Type 0
-  DoesOne = (c : State) (reply reply' : Reply) (c' c'' : State) → Sound c → d.Does c reply c' → d.Does c reply' c'' → (reply ≡ reply') × (c' ≡ c'')
+  DoesOne = (c : State) (reply reply' : Reply) (c' c'' : State) → Sound c → d.Does c reply c' → d.Does c reply' c''
+      → (reply ≡ reply') × (c' ≡ c'')
 
   -- one answer, and one content after it
   abbrev pub DecidesOne : Type 0
-  DecidesOne = (c : State) (a a' : Result Reply Refusal) (c' c'' : State) → Sound c → Decides d c a c' → Decides d c a' c'' → (a ≡ a') × (c' ≡ c'')
+  DecidesOne = (c : State) (a a' : Result Reply Refusal) (c' c'' : State) → Sound c → Decides d c a c'
+      → Decides d c a' c'' → (a ≡ a') × (c' ≡ c'')
 
   -- what is sound stays sound, whatever is answered
   abbrev pub KeepsSound : Type 0

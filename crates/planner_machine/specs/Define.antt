@@ -13,7 +13,8 @@ use Rattle.planner_machine.specs.Decision.{Decision}
 abbrev pub define : Block → Decision Content
 define block = record {
   Refuses = λ c r. ⊥;
-  Does = λ c reply c'. (reply ≡ Defined (names_given block)) × (c' ≡ record c { definitions = merged c.definitions block });
+  Does = λ c reply c'. (reply ≡ Defined (names_given block))
+      × (c' ≡ record c { definitions = merged c.definitions block });
 }
 
 abbrev pub UndefineRefused : Kind → List ℕ → Content → Refusal → Type 0

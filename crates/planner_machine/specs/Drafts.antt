@@ -1,4 +1,5 @@
--- Drafts: occurrences still to be made. Those that the calendars name, those that a planning statement makes, and lists of them.
+-- Drafts: occurrences still to be made. Those that the calendars name, those that a planning statement makes, and
+-- lists of them.
 use Rattle.std.specs.Prelude.{◌≡◌, ◌≢◌, ◌↔◌, ℕ, ◌+◌, ◌<◌, ◌≤◌, List, Contains, Some}
 use Rattle.std.specs.List.{AllPairs}
 use Rattle.work_calendars.specs.Minute.{minutes_per_day}
@@ -20,11 +21,16 @@ use Rattle.planner_machine.specs.Content.{Sets}
 
 -- the application is active, and its run cycles name the occurrence
 abbrev pub IsNamed : Definitions → List ℕ → Named → Type 0
-IsNamed all app x = (a : Application) × IsActive all app a × IsOccurrence (cycles_of all app) all.periods (work_of all a) x
+IsNamed all app x = (a : Application) × IsActive all app a
+    × IsOccurrence (cycles_of all app) all.periods (work_of all a) x
 
 -- the draft of a named occurrence of an application
 abbrev pub draft_of : List ℕ → Named → Draft
-draft_of app x = record { key = record { ia = moment_of x.day x.time; app = app }; deadline = x.deadline; origin = Generated x.run_cycle }
+draft_of app x = record {
+  key = record { ia = moment_of x.day x.time; app = app };
+  deadline = x.deadline;
+  origin = Generated x.run_cycle;
+}
 
 -- the calendars name the draft: it is that of a named occurrence of an active application
 abbrev pub NamesDraft : Definitions → Draft → Type 0
@@ -39,7 +45,8 @@ NamesWithin all first end draft = NamesDraft all draft × (first ≤ draft.key.i
 pub record IsMade (Names : Draft → Type 0) (s : Sets) (draft : Draft) : Type 0 where
   pub named : Names draft
   pub not_planned : (serial : ℕ) (row : Row) → s.ltp serial ≡ Some row → row.key ≢ draft.key
-  pub not_deleted : (serial : ℕ) (deletion : Deletion) → s.deletions serial ≡ Some deletion → deletion.reason ≡ Operator → deletion.row.key ≢ draft.key
+  pub not_deleted : (serial : ℕ) (deletion : Deletion) → s.deletions serial ≡ Some deletion
+      → deletion.reason ≡ Operator → deletion.row.key ≢ draft.key
 
 -- the draft of an occurrence that is added by hand: it is due a day after it arrives
 abbrev pub added : Key → Draft

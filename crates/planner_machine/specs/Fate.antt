@@ -1,5 +1,5 @@
--- The fate of one occurrence: where a statement that is accepted leaves it. A fate reads that occurrence, the statement, and
--- the definitions and bounds of that moment. It reads no table and no other occurrence.
+-- The fate of one occurrence: where a statement that is accepted leaves it. A fate reads that occurrence, the
+-- statement, and the definitions and bounds of that moment. It reads no table and no other occurrence.
 use Rattle.std.specs.Prelude.{◌≡◌, ◌≢◌, ◌⊎◌, ℕ, List, nat_lt, if◌then◌else◌, unwrap_or}
 use Rattle.app_definitions.specs.declared.definitions.Definitions.{Definitions}
 use Rattle.occurrences.specs.Key.{key_eq}
@@ -25,8 +25,8 @@ Fate = PlacedRow → PlacedRow → Type 0
 abbrev pub Stays : Fate
 Stays p q = q ≡ p
 
--- a daily plan to t: what arrives before t in the long-term plan goes to the current plan, and waits there; what is complete
--- in the current plan goes to history, and what is deleted there to the deletions; all else stays
+-- a daily plan to t: what arrives before t in the long-term plan goes to the current plan, and waits there; what is
+-- complete in the current plan goes to history, and what is deleted there to the deletions; all else stays
 abbrev pub place_after_daily_plan : ℕ → Row → Place → Place
 place_after_daily_plan t row LongTerm = if nat_lt row.key.ia t then Current W else LongTerm
 place_after_daily_plan t row (Current C) = History
@@ -38,7 +38,8 @@ DailyFate t p q = q ≡ record { row = p.row; place = place_after_daily_plan t p
 
 -- an action on its key: in the current plan it takes the status that the action leads to, where its status allows it
 abbrev pub place_after_action : Key → Action → Row → Place → Place
-place_after_action key action row (Current status) = Current (if key_eq row.key key then unwrap_or (changed_status status action) status else status)
+place_after_action key action row (Current status) =
+    Current (if key_eq row.key key then unwrap_or (changed_status status action) status else status)
 place_after_action key action row place = place
 
 abbrev pub ActionFate : Key → Action → Fate
@@ -62,7 +63,15 @@ pub record StaysNamed (all : Definitions) (p q : PlacedRow) : Type 0 where
   pub draft : Draft
   pub named : NamesDraft all draft
   pub keyed : draft.key ≡ p.row.key
-  pub stays : q ≡ record { row = record { key = p.row.key; serial = p.row.serial; deadline = draft.deadline; origin = draft.origin }; place = LongTerm }
+  pub stays : q ≡ record {
+    row = record {
+      key = p.row.key;
+      serial = p.row.serial;
+      deadline = draft.deadline;
+      origin = draft.origin;
+    };
+    place = LongTerm;
+  }
 
 -- its key is named no more, and it is withdrawn
 pub record IsWithdrawn (all : Definitions) (p q : PlacedRow) : Type 0 where

@@ -8,7 +8,8 @@ use Rattle.external_dependencies.specs.declared.links.Link.{Link}
 
 -- the predecessor stands in the list that is defined for the application
 abbrev pub IsDefinedLink : Definitions → Link → Type 0
-IsDefinedLink all link = (names : List (List ℕ)) × (map.get all.predecessors link.app ≡ Some names) × Contains names link.predecessor
+IsDefinedLink all link = (names : List (List ℕ)) × (map.get all.predecessors link.app ≡ Some names)
+    × Contains names link.predecessor
 
 -- exactly these links, in order
 pub record AreLinks (Is : Link → Type 0) (links : List Link) : Type 0 where

@@ -21,12 +21,13 @@ use Rattle.planner_machine.specs.Moves.{numbered_row}
 use Rattle.planner_machine.specs.Sound.{IsShown, IsSound}
 use Rattle.planner_machine.specs.Statement.{Change, Create, Define, MakesDrafts, decision_of, fate_of, place_of_made}
 
--- each serial that stood somewhere stands where its fate puts it; and the new serials, from issued + 1 on, are those of the
--- drafts in their order, each with its row in the place where it is made
+-- each serial that stood somewhere stands where its fate puts it; and the new serials, from issued + 1 on, are those
+-- of the drafts in their order, each with its row in the place where it is made
 pub record Follows (place : Place) (fate : Fate) (drafts : List Draft) (s s' : Sets) : Type 0 where
   pub issues : s'.issued ≡ s.issued + length drafts
   pub old : (serial : ℕ) (p : PlacedRow) → StandsAt s serial p → (q : PlacedRow) × fate p q × StandsAt s' serial q
-  pub new : (k : ℕ) (draft : Draft) → slice_get drafts k ≡ Some draft → StandsAt s' (s.issued + 1 + k) (record { row = numbered_row (s.issued + 1 + k) draft; place = place })
+  pub new : (k : ℕ) (draft : Draft) → slice_get drafts k ≡ Some draft
+      → StandsAt s' (s.issued + 1 + k) (record { row = numbered_row (s.issued + 1 + k) draft; place = place })
 
 -- an accepted statement makes what its definition says, and leaves each occurrence where its fate puts it
 abbrev pub FollowsFate : Change → Type 0
@@ -43,8 +44,8 @@ AnswersOnce change = DecidesOne IsSound (decision_of change)
 abbrev pub LeavesRefused : Change → Type 0
 LeavesRefused change = RefusalLeaves (decision_of change)
 
--- the values of a statement are such as a line and a block can give: a first day is a day, and a block was read from some text
--- and gives no more names than a reply can show
+-- the values of a statement are such as a line and a block can give: a first day is a day, and a block was read from
+-- some text and gives no more names than a reply can show
 abbrev pub IsWellFormed : Change → Type 0
 IsWellFormed (Define block) = IsShown (names_given block) × ((kind : Kind) × (text : List ℕ) × ReadsAs kind text block)
 IsWellFormed (Create from to) = IsDay from
@@ -61,10 +62,11 @@ pub record IsItself (p q : PlacedRow) : Type 0 where
   pub generated : IsGenerated q.row.origin ↔ IsGenerated p.row.origin
 
 abbrev pub KeepsItself : Change → Type 0
-KeepsItself change = (all : Definitions) (bounds : Option Bounds) (p q : PlacedRow) → fate_of change all bounds p q → IsItself p q
+KeepsItself change = (all : Definitions) (bounds : Option Bounds) (p q : PlacedRow) → fate_of change all bounds p q
+    → IsItself p q
 
--- a daily plan on whole sets is the fates of all rows together: what stands somewhere after it is what stood under that serial, by
--- its fate
+-- a daily plan on whole sets is the fates of all rows together: what stands somewhere after it is what stood under
+-- that serial, by its fate
 abbrev pub DailyIsFates : Type 0
 DailyIsFates =
     (t : ℕ) (c : Content) → IsSound c → (serial : ℕ) (q : PlacedRow)
@@ -72,14 +74,17 @@ DailyIsFates =
 
 -- an accepted statement leaves the pairs as they are
 abbrev pub KeepsPairs : Change → Type 0
-KeepsPairs change = (c : Content) (reply : Reply) (c' : Content) → IsSound c → Decides (decision_of change) c (Ok reply) c' → c'.pairs ≡ c.pairs
+KeepsPairs change = (c : Content) (reply : Reply) (c' : Content) → IsSound c
+    → Decides (decision_of change) c (Ok reply) c' → c'.pairs ≡ c.pairs
 
 -- each occurrence that is started, in error, complete or in history has only predecessors that are complete
 abbrev pub PredecessorsAreComplete : Type 0
 PredecessorsAreComplete =
-    (c : Content) → IsSound c → (pair : Pair) → Contains c.pairs pair → IsClosedAt c.sets pair.successor → IsCompleteAt c.sets pair.predecessor
+    (c : Content) → IsSound c → (pair : Pair) → Contains c.pairs pair → IsClosedAt c.sets pair.successor
+    → IsCompleteAt c.sets pair.predecessor
 
 -- the stored pairs have no loop
 abbrev pub PairsHaveNoLoop : Type 0
 PairsHaveNoLoop =
-    (c : Content) → IsSound c → (serial : ℕ) → OnRing (λ successor predecessor. Contains c.pairs (pair_of successor predecessor)) serial → ⊥
+    (c : Content) → IsSound c → (serial : ℕ)
+    → OnRing (λ successor predecessor. Contains c.pairs (pair_of successor predecessor)) serial → ⊥

@@ -1,5 +1,5 @@
--- What `ltp-modify-all` and `ltp-modify-one` make of the rows: what is named no more is withdrawn, what is still named takes
--- what is named now, and what is newly named is made.
+-- What `ltp-modify-all` and `ltp-modify-one` make of the rows: what is named no more is withdrawn, what is still
+-- named takes what is named now, and what is newly named is made.
 use Rattle.std.specs.Prelude.{◌≡◌, ℕ, ◌+◌, Bool, false, true, ◌&&◌, List, length, Option, Some, None, option_map, is_none, find, if◌then◌else◌}
 use Rattle.std.specs.Option.{option_and_then}
 use Rattle.app_definitions.specs.declared.definitions.Definitions.{Definitions}
@@ -42,7 +42,8 @@ stamped draft row = record row { deadline = draft.deadline; origin = draft.origi
 
 -- what a row of the long-term plan becomes there, or none where it is withdrawn
 abbrev pub modified : (Row → Bool) → List Draft → Row → Option Row
-modified looked_at named row = if looked_at row then option_map (λ draft. stamped draft row) (draft_with row.key named) else Some row
+modified looked_at named row =
+    if looked_at row then option_map (λ draft. stamped draft row) (draft_with row.key named) else Some row
 
 abbrev pub withdrawn : Row → Deletion
 withdrawn row = record { row = row; reason = Withdrawn }
@@ -58,7 +59,8 @@ modify_move looked_at named s = record s {
 }
 
 -- `looks` tests the applications that the statement looks at, and `Looks` says the same
-pub record Modifies (looks : List ℕ → Bool) (Looks : List ℕ → Type 0) (all : Definitions) (s : Sets) (reply : Reply) (s' : Sets) : Type 0 where
+pub record Modifies (looks : List ℕ → Bool) (Looks : List ℕ
+    → Type 0) (all : Definitions) (s : Sets) (reply : Reply) (s' : Sets) : Type 0 where
   pub named : List Draft
   pub are_named : AreDrafts (NamesAhead Looks all s.bounds) named
   pub new : List Draft

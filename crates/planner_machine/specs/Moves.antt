@@ -45,11 +45,13 @@ size set (suc n) = size set n + bit (set (suc n))
 
 -- the row of a draft under its serial
 abbrev pub numbered_row : ℕ → Draft → Row
-numbered_row serial draft = record { key = draft.key; serial = serial; deadline = draft.deadline; origin = draft.origin }
+numbered_row serial draft =
+    record { key = draft.key; serial = serial; deadline = draft.deadline; origin = draft.origin }
 
 -- the drafts as rows, numbered from n + 1 on in their order
 abbrev pub made : ℕ → List Draft → ℕ → Option Row
-made n drafts serial = if nat_lt n serial then option_map (numbered_row serial) (slice_get drafts (serial - suc n)) else None
+made n drafts serial = if nat_lt n serial then option_map (numbered_row serial)
+    (slice_get drafts (serial - suc n)) else None
 
 -- the seat, or where a row is made, that row alone in its place
 abbrev pub seat_made : Place → Option Row → Seat → Seat

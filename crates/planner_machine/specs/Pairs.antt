@@ -37,8 +37,9 @@ pub record IsKeptPair (before : List Pair) (s : Sets) (pair : Pair) : Type 0 whe
   pub waits_no_more : IsOpen placed.place → ⊥
   pub had : Contains before pair
 
--- the pairs after a statement, where those before it, the lists in force after it and the sets after it are such: of an open
--- occurrence those with its nearest predecessors; of one that started, ended in error or is complete those that it had
+-- the pairs after a statement, where those before it, the lists in force after it and the sets after it are such: of
+-- an open occurrence those with its nearest predecessors; of one that started, ended in error or is complete those
+-- that it had
 pub record ArePairs (before : List Pair) (links : List Link) (s : Sets) (pairs : List Pair) : Type 0 where
   pub rising : IsRising pair_cmp pairs
   pub exactly : (pair : Pair) → Contains pairs pair ↔ (IsOpenPair links s pair ⊎ IsKeptPair before s pair)

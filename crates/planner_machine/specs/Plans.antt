@@ -20,9 +20,10 @@ use Rattle.planner_machine.specs.Pairs.{ArePairs}
 abbrev pub MakesOfRows : Type 1
 MakesOfRows = Definitions → Sets → Reply → Sets → Type 0
 
--- a statement makes this of the rows and puts these lists into force; the pairs follow from both, and the definitions and the
--- kept jobs stay
-pub record ChangesPlans (Makes : MakesOfRows) (Puts : PutsLists) (c : Content) (reply : Reply) (c' : Content) : Type 0 where
+-- a statement makes this of the rows and puts these lists into force; the pairs follow from both, and the definitions
+-- and the kept jobs stay
+pub record ChangesPlans (Makes : MakesOfRows) (Puts : PutsLists) (c : Content) (reply : Reply)
+    (c' : Content) : Type 0 where
   pub rows : Makes c.definitions c.sets reply c'.sets
   pub lists : Puts c.definitions c.in_force c'.in_force
   pub pairs : ArePairs c.pairs c'.in_force c'.sets c'.pairs

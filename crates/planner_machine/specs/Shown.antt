@@ -38,8 +38,8 @@ IsPlaceOf listed place = ⊥
 abbrev pub IsListed : Listed → Option (List ℕ) → Sets → PlacedRow → Type 0
 IsListed listed app s p = (serial : ℕ) × StandsAt s serial p × IsPlaceOf listed p.place × IsOfApp app p.row.key.app
 
--- the rows of the set, by input arrival, application and serial; the place of each gives its mark: none in the long-term plan, the
--- status in the current plan, complete in history, the reason in the deletions
+-- the rows of the set, by input arrival, application and serial; the place of each gives its mark: none in the
+-- long-term plan, the status in the current plan, complete in history, the reason in the deletions
 pub record ListsRows (listed : Listed) (app : Option (List ℕ)) (s : Sets) (shown : List PlacedRow) : Type 0 where
   pub rising : AllPairs (λ p q. RowBefore p.row q.row) shown
   pub exactly : (p : PlacedRow) → Contains shown p ↔ IsListed listed app s p
@@ -60,7 +60,8 @@ IsLinked app c l =
 
 -- by the successor's serial, then by the predecessor's
 abbrev pub LinkedBefore : LinkedRows → LinkedRows → Type 0
-LinkedBefore l m = (l.successor.serial < m.successor.serial) ⊎ ((l.successor.serial ≡ m.successor.serial) × (l.predecessor.serial < m.predecessor.serial))
+LinkedBefore l m = (l.successor.serial < m.successor.serial)
+    ⊎ ((l.successor.serial ≡ m.successor.serial) × (l.predecessor.serial < m.predecessor.serial))
 
 pub record ListsPairs (app : Option (List ℕ)) (c : Content) (shown : List LinkedRows) : Type 0 where
   pub rising : AllPairs LinkedBefore shown
@@ -71,7 +72,8 @@ pub record ListsPairs (app : Option (List ℕ)) (c : Content) (shown : List Link
 abbrev pub list_rows : Listed → Option (List ℕ) → Decision Content
 list_rows listed app = record {
   Refuses = λ c r. ⊥;
-  Does = λ c reply c'. (c' ≡ c) × ((shown : List PlacedRow) × ListsRows listed app c.sets shown × (reply ≡ Rows (length shown)));
+  Does = λ c reply c'. (c' ≡ c)
+      × ((shown : List PlacedRow) × ListsRows listed app c.sets shown × (reply ≡ Rows (length shown)));
 }
 
 abbrev pub list_pairs : Option (List ℕ) → Decision Content
@@ -92,9 +94,11 @@ pub record PlanChange : Type 0 where
 
 -- a row is made where its serial is new, and withdrawn where it leaves the long-term plan for the deletions
 abbrev pub IsPlanStep : Sets → Sets → ℕ → Row → PlanMark → Type 0
-IsPlanStep s s' serial row WouldBeMade = (s.issued < serial) × StandsAt s' serial (record { row = row; place = LongTerm })
+IsPlanStep s s' serial row WouldBeMade = (s.issued < serial)
+    × StandsAt s' serial (record { row = row; place = LongTerm })
 IsPlanStep s s' serial row WouldBeWithdrawn =
-    StandsAt s serial (record { row = row; place = LongTerm }) × StandsAt s' serial (record { row = row; place = Deleted Withdrawn })
+    StandsAt s serial (record { row = row; place = LongTerm })
+    × StandsAt s' serial (record { row = row; place = Deleted Withdrawn })
 
 abbrev pub IsPlanChange : Sets → Sets → PlanChange → Type 0
 IsPlanChange s s' change = (serial : ℕ) × IsPlanStep s s' serial change.row change.mark
@@ -117,7 +121,8 @@ pub record DailyChange : Type 0 where
   pub mark : DailyMark
   pub status : Status
 
--- a row is moved into the current plan and waits there; carried with its status; completed, into history; deleted, into the deletions
+-- a row is moved into the current plan and waits there; carried with its status; completed, into history; deleted,
+-- into the deletions
 abbrev pub IsDailyStep : DailyMark → Status → Place → Place → Type 0
 IsDailyStep WouldBeMoved status before after = (status ≡ W) × (before ≡ LongTerm) × (after ≡ Current W)
 IsDailyStep WouldBeCarried status before after = (before ≡ Current status) × (after ≡ Current status)

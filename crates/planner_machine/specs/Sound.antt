@@ -43,9 +43,11 @@ use Rattle.planner_machine.specs.Plans.{planned}
 -- 1. Ranges and forms
 
 -- each name is defined as some good records about it would define it, or not at all
-abbrev pub AreDefinable : {D : Type 0} → ℕ → (List (List (List ℕ)) → List (List ℕ) → Type 0) → (D → List (List (List ℕ)) → Type 0) → (List ℕ → Option D) → Type 0
+abbrev pub AreDefinable : {D : Type 0} → ℕ → (List (List (List ℕ)) → List (List ℕ) → Type 0)
+    → (D → List (List (List ℕ)) → Type 0) → (List ℕ → Option D) → Type 0
 AreDefinable fields FitsName IsMadeOf definition_of =
-    (name : List ℕ) → (rows : List (List (List ℕ))) × AllGood (FitsKind fields FitsName) rows × IsDefinedBy IsMadeOf (definition_of name) (records_of name rows)
+    (name : List ℕ) → (rows : List (List (List ℕ))) × AllGood (FitsKind fields FitsName) rows
+    × IsDefinedBy IsMadeOf (definition_of name) (records_of name rows)
 
 -- the definitions are such as data blocks give
 pub record AreDefinitions (all : Definitions) : Type 0 where
@@ -81,8 +83,8 @@ pub record IsUnplanned (c : Content) : Type 0 where
   pub in_force : c.in_force ≡ []
   pub issued : c.sets.issued ≡ 0
 
--- the plan begins no later than it ends, and ends by the last planning day; the current plan ends from the midnight that begins
--- the first day to the one that ends the last
+-- the plan begins no later than it ends, and ends by the last planning day; the current plan ends from the midnight
+-- that begins the first day to the one that ends the last
 pub record AreBounds (b : Bounds) : Type 0 where
   pub days : b.first_day ≤ b.last_day
   pub last : b.last_day ≤ last_planning_day
@@ -96,7 +98,8 @@ pub record HasBounds (c : Content) : Type 0 where
 
 -- 3. Serials
 
--- each serial from 1 to the number issued stands in exactly one set, under a row that has it, and no other serial in any
+-- each serial from 1 to the number issued stands in exactly one set, under a row that has it, and no other serial in
+-- any
 pub record AreNumbered (s : Sets) : Type 0 where
   pub placed : (serial : ℕ) → 1 ≤ serial → serial ≤ s.issued → (p : PlacedRow) × StandsAt s serial p
   pub unissued : (serial : ℕ) → (serial ≡ 0) ⊎ (s.issued < serial) → seat s serial ≡ empty_seat
@@ -106,12 +109,13 @@ pub record AreNumbered (s : Sets) : Type 0 where
 
 -- no two live occurrences have one key
 abbrev pub HaveOwnKeys : Sets → Type 0
-HaveOwnKeys s = (m n : ℕ) (p q : PlacedRow) → StandsAt s m p → StandsAt s n q → IsLive p.place → IsLive q.place → p.row.key ≡ q.row.key → m ≡ n
+HaveOwnKeys s = (m n : ℕ) (p q : PlacedRow) → StandsAt s m p → StandsAt s n q → IsLive p.place → IsLive q.place
+    → p.row.key ≡ q.row.key → m ≡ n
 
 -- 5. Arrivals
 
--- rows of the long-term plan arrive from the plan end to the end of the last day; rows of the current plan and of history from
--- the first day to before the plan end
+-- rows of the long-term plan arrive from the plan end to the end of the last day; rows of the current plan and of
+-- history from the first day to before the plan end
 abbrev pub ArrivesIn : Bounds → ℕ → Place → Type 0
 ArrivesIn b ia LongTerm = (b.plan_end ≤ ia) × (ia < midnight (b.last_day + 1))
 ArrivesIn b ia (Current _) = (midnight b.first_day ≤ ia) × (ia < b.plan_end)
@@ -119,9 +123,12 @@ ArrivesIn b ia History = (midnight b.first_day ≤ ia) × (ia < b.plan_end)
 ArrivesIn b ia (Deleted _) = Unit {0}
 
 pub record HaveArrivals (s : Sets) : Type 0 where
-  pub in_bounds : (b : Bounds) → s.bounds ≡ Some b → (serial : ℕ) (p : PlacedRow) → StandsAt s serial p → ArrivesIn b p.row.key.ia p.place
+  pub in_bounds : (b : Bounds) → s.bounds ≡ Some b → (serial : ℕ) (p : PlacedRow) → StandsAt s serial p
+      → ArrivesIn b p.row.key.ia p.place
   -- no generated row of the long-term plan has a key that stands in the deletions as one that an operator deleted
-  pub not_deleted : (serial : ℕ) (row : Row) → s.ltp serial ≡ Some row → IsGenerated row.origin → (other : ℕ) (deletion : Deletion) → s.deletions other ≡ Some deletion → deletion.reason ≡ Operator → deletion.row.key ≢ row.key
+  pub not_deleted : (serial : ℕ) (row : Row) → s.ltp serial ≡ Some row → IsGenerated row.origin
+      → (other : ℕ) (deletion : Deletion) → s.deletions other ≡ Some deletion → deletion.reason ≡ Operator
+      → deletion.row.key ≢ row.key
 
 -- 6. Sizes
 
@@ -132,17 +139,21 @@ pub record HaveSizes (s : Sets) : Type 0 where
 -- 8. Pairs
 
 pub record HasPairs (c : Content) : Type 0 where
-  -- those of open occurrences are those with their nearest predecessors, and all others are of occurrences that are live and no longer open
+  -- those of open occurrences are those with their nearest predecessors, and all others are of occurrences that are
+  -- live and no longer open
   pub settled : ArePairs c.pairs c.in_force c.sets c.pairs
   -- the predecessors of what is live and no longer open are complete
-  pub complete : (pair : Pair) → Contains c.pairs pair → IsClosedAt c.sets pair.successor → IsCompleteAt c.sets pair.predecessor
+  pub complete : (pair : Pair) → Contains c.pairs pair → IsClosedAt c.sets pair.successor
+      → IsCompleteAt c.sets pair.predecessor
   -- and there is at most one for each application
   pub one_each : (successor m n : ℕ) (p q : PlacedRow) → IsClosedAt c.sets successor
-      → Contains c.pairs (record { successor = successor; predecessor = m }) → Contains c.pairs (record { successor = successor; predecessor = n })
+      → Contains c.pairs (record { successor = successor; predecessor = m })
+      → Contains c.pairs (record { successor = successor; predecessor = n })
       → StandsAt c.sets m p → StandsAt c.sets n q → p.row.key.app ≡ q.row.key.app → m ≡ n
   -- which arrives at or before the successor, or before it where it is of the same application
   pub in_time : (pair : Pair) (p q : PlacedRow) → Contains c.pairs pair → IsClosedAt c.sets pair.successor
-      → StandsAt c.sets pair.successor p → StandsAt c.sets pair.predecessor q → IsCandidate p.row.key q.row.key.app (arrival_of q.row)
+      → StandsAt c.sets pair.successor p → StandsAt c.sets pair.predecessor q
+      → IsCandidate p.row.key q.row.key.app (arrival_of q.row)
   -- pairs among what is no longer open have no loop
   pub no_loop : (serial : ℕ) → OnRing (IsClosedPair c.sets c.pairs) serial → ⊥
 
@@ -159,7 +170,8 @@ IsKeptReply (Ok Undefined) = Unit {0}
 IsKeptReply (Ok (Made made withdrawn)) = IsShown made × IsShown withdrawn
 IsKeptReply (Ok (Numbered serial)) = IsSerial serial
 IsKeptReply (Ok (Changed serial status)) = IsSerial serial
-IsKeptReply (Ok (Moved moved carried completed deleted)) = IsShown moved × IsShown carried × IsShown completed × IsShown deleted
+IsKeptReply (Ok (Moved moved carried completed deleted)) = IsShown moved × IsShown carried × IsShown completed
+    × IsShown deleted
 IsKeptReply (Ok (Rows rows)) = ⊥
 IsKeptReply (Err (CalendarUndefined app)) = IsName app
 IsKeptReply (Err (PeriodUndefined app)) = IsName app

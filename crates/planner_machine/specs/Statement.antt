@@ -80,7 +80,8 @@ fate_of change all bounds = Stays
 -- the occurrences that an accepted statement makes, as drafts in the order of their serials
 abbrev pub MakesDrafts : Change → Definitions → Sets → List Draft → Type 0
 MakesDrafts (Create from to) all s drafts = AreDrafts (IsCreated from to all s) drafts
-MakesDrafts (Extend to) all s drafts = (b : Bounds) × (s.bounds ≡ Some b) × AreDrafts (IsAddedByExtension b to all s) drafts
+MakesDrafts (Extend to) all s drafts = (b : Bounds) × (s.bounds ≡ Some b)
+    × AreDrafts (IsAddedByExtension b to all s) drafts
 MakesDrafts ModifyAll all s drafts = AreDrafts (IsMade (NamesAhead IsAnyApp all s.bounds) s) drafts
 MakesDrafts (ModifyOne app) all s drafts = AreDrafts (IsMade (NamesAhead (IsThatApp app) all s.bounds) s) drafts
 MakesDrafts (Add key) all s drafts = drafts ≡ added key ∷ []
@@ -92,8 +93,8 @@ abbrev pub place_of_made : Change → Place
 place_of_made (AddCurrent key) = Current W
 place_of_made change = LongTerm
 
--- the statements of a stream, each with its values. `define` has the bytes of its block, or none where the block is too long
--- or has no end; a trial is one of the statements that plan
+-- the statements of a stream, each with its values. `define` has the bytes of its block, or none where the block is
+-- too long or has no end; a trial is one of the statements that plan
 pub data Statement : Type 0 where
   DefineJob : (number : ℕ) (text : List ℕ) (kind : Kind) (data_of : Option (List ℕ)) → Statement
   Job : (number : ℕ) (text : List ℕ) → Change → Statement

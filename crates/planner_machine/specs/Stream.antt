@@ -24,11 +24,13 @@ Runs (s ∷ stream) c (a ∷ answers) c' = (next : Content) × Steps s c a next 
 
 -- the values of a statement are such as a line and a block can give
 abbrev pub IsStatement : Statement → Type 0
-IsStatement (DefineJob number text kind given) = (1 ≤ number) × (number ≤ GREATEST_JOB) × ((block : Block) → AreRead kind given block → IsShown (names_given block))
+IsStatement (DefineJob number text kind given) = (1 ≤ number) × (number ≤ GREATEST_JOB)
+    × ((block : Block) → AreRead kind given block → IsShown (names_given block))
 IsStatement (Job number text change) = (1 ≤ number) × (number ≤ GREATEST_JOB) × IsWellFormed change
 IsStatement statement = Unit {0}
 
--- the change that a statement makes: none where it is refused, where a kept job answers it, and where it changes no rows
+-- the change that a statement makes: none where it is refused, where a kept job answers it, and where it changes no
+-- rows
 abbrev pub change_made : Option KeptJob → Change → Option Change
 change_made None change = Some change
 change_made (Some job) change = None
@@ -55,7 +57,8 @@ abbrev pub Goes : (stream : List Statement) (answers : List Answer) (c c' : Cont
 Goes [] [] c c' run p q = q ≡ p
 Goes [] (a ∷ answers) c c' run p q = ⊥
 Goes (s ∷ stream) [] c c' run p q = ⊥
-Goes (s ∷ stream) (a ∷ answers) c c' run p q = (o : PlacedRow) × fate_at (acting s c a) c p o × Goes stream answers run.0 c' run.2 o q
+Goes (s ∷ stream) (a ∷ answers) c c' run p q = (o : PlacedRow) × fate_at (acting s c a) c p o
+    × Goes stream answers run.0 c' run.2 o q
 
 -- the serial is that of a draft which a step makes, and its row stands where the step makes it
 pub record IsBorn (s : Statement) (a : Answer) (c : Content) (serial : ℕ) (o : PlacedRow) : Type 0 where
@@ -68,24 +71,30 @@ pub record IsBorn (s : Statement) (a : Answer) (c : Content) (serial : ℕ) (o :
   pub is : o ≡ record { row = numbered_row serial draft; place = place_at (acting s c a) }
 
 -- an occurrence that is made on the way: it is born at a step, and goes on from there
-abbrev pub Lives : (stream : List Statement) (answers : List Answer) (c c' : Content) → Runs stream c answers c' → ℕ → PlacedRow → Type 0
+abbrev pub Lives : (stream : List Statement) (answers : List Answer) (c c' : Content) → Runs stream c answers c' → ℕ
+    → PlacedRow → Type 0
 Lives [] answers c c' run serial q = ⊥
 Lives (s ∷ stream) [] c c' run serial q = ⊥
 Lives (s ∷ stream) (a ∷ answers) c c' run serial q =
-    ((o : PlacedRow) × IsBorn s a c serial o × Goes stream answers run.0 c' run.2 o q) ⊎ Lives stream answers run.0 c' run.2 serial q
+    ((o : PlacedRow) × IsBorn s a c serial o × Goes stream answers run.0 c' run.2 o q)
+    ⊎ Lives stream answers run.0 c' run.2 serial q
 
 -- a stream is answered in one way, and leaves one content
 abbrev pub RunsOneWay : Type 0
-RunsOneWay = (stream : List Statement) (answers answers' : List Answer) (c c' c'' : Content) → IsSound c → All IsStatement stream
+RunsOneWay = (stream : List Statement) (answers answers' : List Answer) (c c' c'' : Content) → IsSound c
+    → All IsStatement stream
     → Runs stream c answers c' → Runs stream c answers' c'' → (answers ≡ answers') × (c' ≡ c'')
 
 -- what was sound is sound after it
 abbrev pub RunsSound : Type 0
-RunsSound = (stream : List Statement) (answers : List Answer) (c c' : Content) → IsSound c → All IsStatement stream → Runs stream c answers c' → IsSound c'
+RunsSound = (stream : List Statement) (answers : List Answer) (c c' : Content) → IsSound c → All IsStatement stream
+    → Runs stream c answers c' → IsSound c'
 
 -- after it each serial issued stands where its fates put it: from where it stood, or from where it was made on the way
 abbrev pub RunsByFate : Type 0
-RunsByFate = (stream : List Statement) (answers : List Answer) (c c' : Content) → IsSound c → All IsStatement stream → (run : Runs stream c answers c')
+RunsByFate = (stream : List Statement) (answers : List Answer) (c c' : Content) → IsSound c → All IsStatement stream
+    → (run : Runs stream c answers c')
     → (serial : ℕ) → 1 ≤ serial → serial ≤ c'.sets.issued
     → (q : PlacedRow) × StandsAt c'.sets serial q
-    × (((p : PlacedRow) × StandsAt c.sets serial p × Goes stream answers c c' run p q) ⊎ Lives stream answers c c' run serial q)
+    × (((p : PlacedRow) × StandsAt c.sets serial p × Goes stream answers c c' run p q)
+    ⊎ Lives stream answers c c' run serial q)

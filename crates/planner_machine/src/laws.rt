@@ -48,8 +48,9 @@ pub fn pairs_have_no_loop()
     ensures { PairsHaveNoLoop }
 {}
 
-/// Law: a stream over sound content is answered in one way and leaves one content, which is sound; and each serial issued
-/// by then stands in exactly one place, where its fates put it, from where it stood or from where it was made on the way.
+/// Law: a stream over sound content is answered in one way and leaves one content, which is sound; and each serial
+/// issued by then stands in exactly one place, where its fates put it, from where it stood or from where it was made
+/// on the way.
 pub fn streams()
     ensures one_way { RunsOneWay }
     ensures sound { RunsSound }
