@@ -32,3 +32,4 @@ mod StepLemmas
 mod StreamLemmas
 mod PlanLawLemmas
 mod RingLemmas
+mod EmptyLemmas

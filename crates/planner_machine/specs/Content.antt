@@ -1,5 +1,5 @@
 -- What the planner knows between two statements.
-use Rattle.std.specs.Prelude.{◌≡◌, ℕ, ◌*◌, List, Option, Some, None}
+use Rattle.std.specs.Prelude.{◌≡◌, ℕ, ◌*◌, List, [], Option, Some, None}
 use Rattle.work_calendars.specs.Minute.{minutes_per_day}
 use Rattle.occurrences.specs.declared.place.Deletion.{Deletion}
 use Rattle.occurrences.specs.declared.place.Place.{Place}
@@ -8,6 +8,7 @@ use Rattle.occurrences.specs.declared.row.Row.{Row}
 use Rattle.external_dependencies.specs.declared.links.Link.{Link}
 use Rattle.external_dependencies.specs.declared.pairs.Pair.{Pair}
 use Rattle.external_dependencies.specs.declared.rows.PlacedRow.{PlacedRow}
+use Rattle.app_definitions.specs.Definitions.{no_definitions}
 use Rattle.app_definitions.specs.declared.definitions.Definitions.{Definitions}
 use Rattle.planner_machine.specs.declared.content.Bounds.{Bounds}
 use Rattle.occurrences.specs.declared.place.CurrentRow.{CurrentRow}
@@ -66,3 +67,20 @@ StandsAt s serial p = seat s serial ≡ alone p.row p.place
 -- the moment at which a day begins
 abbrev pub midnight : ℕ → ℕ
 midnight day = day * minutes_per_day
+
+-- nothing is known yet: no definitions, no plan, no jobs
+abbrev pub nothing_known : Content
+nothing_known = record {
+  definitions = no_definitions;
+  sets = record {
+    bounds = None;
+    issued = 0;
+    ltp = λ serial. None;
+    cp = λ serial. None;
+    history = λ serial. None;
+    deletions = λ serial. None;
+  };
+  in_force = [];
+  pairs = [];
+  jobs = λ number. None;
+}

@@ -5,6 +5,7 @@ use Rattle.occurrences.specs.Row.{RowBefore}
 use Rattle.occurrences.specs.declared.place.Place.{Place}
 use Rattle.occurrences.specs.declared.place.Place.TheVariants.{LongTerm, Current, History, Deleted}
 use Rattle.occurrences.specs.declared.place.Reason.TheVariants.{Plan, Withdrawn}
+use Rattle.occurrences.specs.declared.reply.Reply.{Reply}
 use Rattle.occurrences.specs.declared.reply.Reply.TheVariants.{Rows}
 use Rattle.occurrences.specs.declared.row.Row.{Row}
 use Rattle.occurrences.specs.declared.status.Status.{Status}
@@ -138,3 +139,9 @@ IsDailyChange s s' change =
 pub record ShowsDaily (s s' : Sets) (shown : List DailyChange) : Type 0 where
   pub rising : AllPairs (λ a b. RowBefore a.row b.row) shown
   pub exactly : (change : DailyChange) → Contains shown change ↔ IsDailyChange s s' change
+
+-- what an accepted trial of a statement shows: the way from the sets as they are to the sets as the statement would
+-- leave them
+abbrev pub TrialShows : {Shown : Type 0} → (Sets → Sets → Shown → Type 0) → Decision Content → Content → Reply → Shown
+    → Type 0
+TrialShows Shows d c reply shown = (left : Content) × d.Does c reply left × Shows c.sets left.sets shown

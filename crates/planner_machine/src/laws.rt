@@ -1,6 +1,8 @@
 // Laws of the machine: each function has no body, and its contract is the law.
 ghost use Rattle.std.specs.Prelude.{ℕ};
 ghost use Rattle.planner_machine.specs.Laws.{AnswersOnce, DailyIsFates, FollowsFate, IsWellFormed, KeepsItself, KeepsPairs, LeavesRefused, PairsHaveNoLoop, PredecessorsAreComplete, StaysSound};
+ghost use Rattle.planner_machine.specs.Content.{nothing_known};
+ghost use Rattle.planner_machine.specs.Sound.{IsSound};
 ghost use Rattle.planner_machine.specs.Statement.{Change, DailyExtend, Replan};
 ghost use Rattle.planner_machine.specs.Stream.{RunsByFate, RunsOneWay, RunsSound};
 
@@ -18,6 +20,11 @@ pub fn refusal_changes_nothing()
 /// definition says, under the serials after those issued.
 pub fn fate_is_followed()
     ensures { (change : Change) → FollowsFate change }
+{}
+
+/// Law: a content in which nothing is known yet is sound.
+pub fn empty_content_is_sound()
+    ensures { IsSound nothing_known }
 {}
 
 /// Law: sound content stays sound, whatever a statement of well-formed values is answered.
