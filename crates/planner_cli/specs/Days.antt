@@ -7,7 +7,8 @@ use Rattle.app_definitions.specs.NamedOccurrences.{ListsNamed}
 use Rattle.app_definitions.specs.declared.applications.Application.{Application}
 use Rattle.app_definitions.specs.declared.definitions.Definitions.{Definitions}
 use Rattle.occurrences.specs.declared.refusal.Refusal.{Refusal}
-use Rattle.occurrences.specs.declared.refusal.Refusal.TheVariants.{CalendarUndefined, PeriodUndefined, DatesOutOfRange, NoActiveApplication}
+use Rattle.occurrences.specs.declared.refusal.Refusal.TheVariants.{CalendarUndefined, PeriodUndefined}
+use Rattle.occurrences.specs.declared.refusal.Refusal.TheVariants.{DatesOutOfRange, NoActiveApplication}
 use Rattle.occurrences.specs.declared.reply.Reply.TheVariants.{Rows}
 use Rattle.plan_listings.specs.Reply.{reply_text}
 use Rattle.planner_cli.specs.Outcomes.{refusing, IsLeastRefusal}
@@ -48,4 +49,5 @@ pub record ShowsRows (all : Definitions) (app : List ℕ) (from to : ℕ) (reply
 -- the question is refused by the least number that holds, or shows its rows
 abbrev pub AnswersDays : Definitions → List ℕ → ℕ → ℕ → Reply → Type 0
 AnswersDays all app from to reply =
-    ((r : Refusal) × IsLeastRefusal (DaysRefused all app from to) r × (reply ≡ refusing r)) ⊎ ShowsRows all app from to reply
+    ((r : Refusal) × IsLeastRefusal (DaysRefused all app from to) r × (reply ≡ refusing r))
+    ⊎ ShowsRows all app from to reply

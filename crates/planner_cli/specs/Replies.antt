@@ -31,7 +31,8 @@ pub record Prints (reply : Reply) (text : List ℕ) (accepted : Bool) : Type 0 w
   pub refused_is : not accepted ≡ is_refused reply
 
 -- what a step answers: a reply that it may give, with what is known after it, and the bytes that the reply prints
-pub record Answered {S : Type 0} (Gives : Reply → S → Type 0) (after : S) (text : List ℕ) (accepted : Bool) : Type 0 where
+pub record Answered {S : Type 0} (Gives : Reply → S → Type 0) (after : S)
+    (text : List ℕ) (accepted : Bool) : Type 0 where
   pub reply : Reply
   pub gives : Gives reply after
   pub prints : Prints reply text accepted

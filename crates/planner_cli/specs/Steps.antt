@@ -29,4 +29,5 @@ AnswersData s None block reply t = IsRefused s NotAStatement reply t
 abbrev pub Step : State → Item → Reply → State → Type 0
 Step s NoStatement reply t = IsRefused s NotAStatement reply t
 Step s (Alone line) reply t = (read : Option Statement) × Reads line read × AnswersLine s read reply t
-Step s (WithBlock line block) reply t = (read : Option Statement) × Reads line read × AnswersData s (kind_defined read) block reply t
+Step s (WithBlock line block) reply t =
+    (read : Option Statement) × Reads line read × AnswersData s (kind_defined read) block reply t

@@ -11,5 +11,6 @@ use Rattle.planner_cli.specs.State.{IsRefused, State}
 -- `undefine`: the name is taken away, where it is defined
 abbrev pub TakesAway : State → Kind → List ℕ → Reply → State → Type 0
 TakesAway s kind name reply t =
-    (IsDefined s.definitions kind name × (reply ≡ accepting Undefined) × (t ≡ record s { definitions = without s.definitions kind name }))
+    (IsDefined s.definitions kind name × (reply ≡ accepting Undefined)
+    × (t ≡ record s { definitions = without s.definitions kind name }))
     ⊎ ((¬ (IsDefined s.definitions kind name)) × IsRefused s NotDefined reply t)

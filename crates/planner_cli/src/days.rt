@@ -77,7 +77,8 @@ fn named_days(
     to: Day,
 ) -> Result<Result<Vec<Named>, Refusal>, AllocError>
     ensures listed { IfOk result (λ answer. IfOk answer (λ list. ListsDays all.now app.now from to list.items)) }
-    ensures good { IfOk result (λ answer. OnOk answer ((r : RefusalValue) → ¬ (DaysRefused all.now app.now from to r))) }
+    ensures good { IfOk result (λ answer.
+        OnOk answer ((r : RefusalValue) → ¬ (DaysRefused all.now app.now from to r))) }
     ensures refused { IfOk result (λ answer. IfErr answer (IsLeastRefusal (DaysRefused all.now app.now from to))) }
 {
     let application = match application_for(all, app, from, to) {
@@ -97,7 +98,8 @@ pub(crate) fn days(
     from: Day,
     to: Day,
 ) -> Result<Answer, AllocError>
-    ensures { IfOk result (λ answer. (reply : ReplyValue) × AnswersDays all.now app.now from to reply × Prints reply answer.text.items answer.is_accepted) }
+    ensures { IfOk result (λ answer. (reply : ReplyValue) × AnswersDays all.now app.now from to reply
+        × Prints reply answer.text.items answer.is_accepted) }
 {
     match named_days(alloc, all, app, from, to)? {
         Ok(named) => {

@@ -33,7 +33,8 @@ pub(crate) fn define(
     block: Block<'_>,
 ) -> Result<Answer, AllocError>
     requires { Fits block }
-    ensures answered { IfOk result (λ answer. Answered (TakesBlock desk.old kind (block_shown block.entry)) desk.new answer.text.items answer.is_accepted) }
+    ensures answered { IfOk result (λ answer. Answered (TakesBlock desk.old kind (block_shown block.entry))
+        desk.new answer.text.items answer.is_accepted) }
     ensures err { OnErr result (desk.new ≡ desk.old) }
 {
     let Block::Whole(bytes) = block else {

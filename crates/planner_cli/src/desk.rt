@@ -37,7 +37,8 @@ impl Desk {
     /// refused, nothing is.
     pub(crate) fn answer(&mut self, alloc: Global, item: Item<'_>) -> Result<Answer, AllocError>
         requires { FitsBlock item }
-        ensures answered { IfOk result (λ answer. Answered (Step self.old (item_of item.entry)) self.new answer.text.items answer.is_accepted) }
+        ensures answered { IfOk result (λ answer. Answered (Step self.old (item_of item.entry))
+            self.new answer.text.items answer.is_accepted) }
         ensures err { OnErr result (self.new ≡ self.old) }
     {
         match item {
@@ -59,7 +60,8 @@ impl Desk {
         alloc: Global,
         statement: &Statement,
     ) -> Result<Answer, AllocError>
-        ensures answered { IfOk result (λ answer. Answered (AnswersLine self.old (Some statement.now)) self.new answer.text.items answer.is_accepted) }
+        ensures answered { IfOk result (λ answer. Answered (AnswersLine self.old (Some statement.now))
+            self.new answer.text.items answer.is_accepted) }
         ensures err { OnErr result (self.new ≡ self.old) }
     {
         match statement {

@@ -18,7 +18,8 @@ pub fn append_line(text: &mut Vec<u8>, line: &[u8]) -> Result<(), AllocError>
 
 /// The lines of named occurrences, each with its line feed.
 pub fn days_rows(alloc: Global, named: &[Named]) -> Result<Vec<u8>, AllocError>
-    ensures { IfOk result (λ text. (rows : List (List ℕ)) × AreDaysLines named.now rows × (text.items ≡ flat_map ended rows)) }
+    ensures { IfOk result (λ text. (rows : List (List ℕ))
+        × AreDaysLines named.now rows × (text.items ≡ flat_map ended rows)) }
 {
     let mut text = Vec::new(alloc);
     for one in named {

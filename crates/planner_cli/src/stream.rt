@@ -95,7 +95,8 @@ fn answer_one<W: Write>(
 
 /// Writes the line that tells a fault, as far as the writer takes it.
 fn tell_fault<W: Write>(writer: &mut W, cause: Cause)
-    ensures { (n : ℕ) × (n ≤ length (fault_line cause)) × Appends (W.contents writer.old) (W.contents writer.new) (take n (fault_line cause)) }
+    ensures { (n : ℕ) × (n ≤ length (fault_line cause))
+        × Appends (W.contents writer.old) (W.contents writer.new) (take n (fault_line cause)) }
 {
     let _ = write_out(writer, line_of_fault(cause));
 }

@@ -2,6 +2,7 @@
 use crate::{Desk, Part, RunFault, Tally, exit_status, run};
 use std::alloc::{AllocError, Global};
 use std::io::{self, BufRead, ErrorKind, Read, Write};
+use std::process::Abort;
 use std::test::Fail;
 
 /// Gives one byte a call, and fails once, after so many calls.
@@ -91,144 +92,222 @@ impl Write for Slow {
 /// Three items: a statement, a statement with data, and a line that is no statement.
 const THREE: &[u8] = b"list cp\n\ndefine calendars --job 0\nDEFAULT,SAT,FREE\n/*\n* x\n\x01";
 
-const REPLIES: &[u8] = b"refused 10\nrefused 10\nrefused 10\n";
+/// The replies to four items, each of 11 bytes.
+const REPLIES: &[u8] = b"refused 10\nrefused 10\nrefused 10\nrefused 10\n";
 
-fn outcome_of<R: BufRead>(
+/// What a run wrote, and how it ended.
+#[derive(Clone, Copy, Debug, PartialEq, Eq)]
+struct Seen {
+    /// How many bytes stand before the line that tells a fault.
+    replied: usize,
+    /// Whether these are the first bytes of the replies.
+    in_order: bool,
+    /// The fault that the last line tells, or 0.
+    told: u8,
+    /// The fault that the run ended with, or 0.
+    fault: u8,
+    /// The part that a device fault blames.
+    part: Option<Part>,
+    /// How many replies were counted.
+    refused: u64,
+    /// The exit status.
+    status: u8,
+}
+
+/// The run ends with the stream, after so many replies.
+fn whole(refused: u64, replied: usize, status: u8) -> Seen {
+    Seen {
+        replied,
+        in_order: true,
+        told: 0,
+        fault: 0,
+        part: None,
+        refused,
+        status,
+    }
+}
+
+/// The part fails after so many replies and so many bytes of them.
+fn broken(part: Part, refused: u64, replied: usize) -> Seen {
+    Seen {
+        replied,
+        in_order: true,
+        told: if part == Part::Writer { 0 } else { 41 },
+        fault: 41,
+        part: Some(part),
+        refused,
+        status: 8,
+    }
+}
+
+/// Memory is refused after so many replies.
+fn out_of_memory(refused: u64) -> Seen {
+    Seen {
+        replied: (refused as usize).saturating_mul(11),
+        in_order: true,
+        told: 40,
+        fault: 40,
+        part: None,
+        refused,
+        status: 8,
+    }
+}
+
+/// The fault that the last line of a text tells, or 0.
+fn told_by(text: &[u8]) -> u8 {
+    if text.ends_with(b"fault 40\n") {
+        40
+    } else if text.ends_with(b"fault 41\n") {
+        41
+    } else {
+        0
+    }
+}
+
+/// The text before the line that tells a fault.
+fn replies_of(text: &[u8]) -> &[u8] {
+    if told_by(text) == 0 {
+        text
+    } else {
+        &text[..text.len().saturating_sub(9)]
+    }
+}
+
+/// The part that a fault blames.
+fn part_of(fault: &RunFault) -> Option<Part> {
+    match fault {
+        RunFault::Memory { .. } => None,
+        RunFault::Device { part, .. } => Some(*part),
+    }
+}
+
+fn seen_in(outcome: &Result<Tally, RunFault>, text: &[u8]) -> Seen {
+    let replies = replies_of(text);
+    let (fault, part, tally) = match outcome {
+        Ok(tally) => (0, None, *tally),
+        Err(fault) => (fault.number(), part_of(fault), fault.tally()),
+    };
+    Seen {
+        replied: replies.len(),
+        in_order: REPLIES.starts_with(replies),
+        told: told_by(text),
+        fault,
+        part,
+        refused: tally.refused,
+        status: exit_status(outcome),
+    }
+}
+
+fn seen_of<R: BufRead>(
     alloc: Global,
-    mut reader: R,
+    reader: &mut R,
     calls: usize,
     by: Break,
-) -> Result<(Result<Tally, RunFault>, Vec<u8>), AllocError>
-where
-    R: Drop,
-{
+) -> Result<Seen, AllocError> {
     let mut writer = Slow {
         got: Vec::with_capacity(alloc, 64)?,
         calls,
         by,
     };
     let mut desk = Desk::new(alloc);
-    let outcome = run(alloc, &mut desk, &mut reader, &mut writer);
-    let Slow { got, .. } = writer;
-    Ok((outcome, got))
+    let outcome = run(alloc, &mut desk, reader, &mut writer);
+    Ok(seen_in(&outcome, &writer.got))
+}
+
+/// What is seen of a text, with a writer that fails so.
+fn seen_of_text(alloc: Global, text: &[u8], calls: usize, by: Break) -> Result<Seen, AllocError> {
+    let mut reader = text;
+    seen_of(alloc, &mut reader, calls, by)
 }
 
 #[test]
 fn words_that_are_no_statement(rt: HostRuntime) -> Result<(), Fail> {
-    let text: &[u8] = b"list --help\nlist\nltp-modify-all\nhelp\n";
-    let (outcome, got) = outcome_of(rt.alloc(), text, 0, Break::Never)?;
-    assert_eq!(rt;
-        got.as_slice(),
-        b"refused 10\nrefused 10\nrefused 10\nrefused 10\n".as_slice()
-    );
-    assert_eq!(rt; exit_status(&outcome), 4);
-    let nothing: &[u8] = b"";
-    let (outcome, got) = outcome_of(rt.alloc(), nothing, 0, Break::Never)?;
-    assert!(rt; got.is_empty());
-    assert_eq!(rt; exit_status(&outcome), 0);
+    let text = b"list --help\nlist\nltp-modify-all\nhelp\n";
+    let four = seen_of_text(rt.alloc(), text, 0, Break::Never)?;
+    assert_eq!(rt; four, whole(4, 44, 4));
+    let none = seen_of_text(rt.alloc(), b"", 0, Break::Never)?;
+    assert_eq!(rt; none, whole(0, 0, 0));
+    Ok(())
+}
+
+/// What a reader gives that fails at this call: the first line ends with byte 8, the data of the second with byte 54,
+/// and the end of the stream is shown by call 60.
+fn after_reading(calls: usize) -> Seen {
+    match calls {
+        0..8 => broken(Part::Reader, 0, 0),
+        8..54 => broken(Part::Reader, 1, 11),
+        54..60 => broken(Part::Reader, 2, 22),
+        60 => broken(Part::Reader, 3, 33),
+        _ => whole(3, 33, 4),
+    }
+}
+
+/// What is seen where the reader fails at a call.
+fn seen_of_reading(alloc: Global, calls: usize, kind: ErrorKind) -> Result<Seen, AllocError> {
+    let mut reader = OneByOne {
+        text: THREE,
+        calls,
+        kind,
+    };
+    seen_of(alloc, &mut reader, 0, Break::Never)
+}
+
+/// Tries a reader that fails so at each call.
+fn fails_reading(rt: &impl Abort, alloc: Global, kind: ErrorKind) -> Result<(), Fail> {
+    for calls in 0..80 {
+        let seen = seen_of_reading(alloc, calls, kind)?;
+        assert_eq!(rt; seen, after_reading(calls), "{calls}");
+    }
     Ok(())
 }
 
 #[test]
 fn failing_reader(rt: HostRuntime) -> Result<(), Fail> {
-    for kind in [ErrorKind::Interrupted, ErrorKind::Other] {
-        for calls in 0..80 {
-            let reader = OneByOne {
-                text: THREE,
-                calls,
-                kind,
-            };
-            let (outcome, got) = outcome_of(rt.alloc(), reader, 0, Break::Never)?;
-            let answered = match outcome {
-                Ok(tally) => {
-                    assert!(rt; calls >= 61, "{calls}");
-                    assert_eq!(rt; got.as_slice(), REPLIES);
-                    tally.refused
-                }
-                Err(fault) => {
-                    assert!(rt; calls < 61, "{calls}");
-                    assert_eq!(rt; fault.number(), 41);
-                    assert!(rt;
-                        matches!(
-                            &fault,
-                            RunFault::Device {
-                                part: Part::Reader,
-                                ..
-                            }
-                        )
-                    );
-                    assert!(rt; got.ends_with(b"fault 41\n"));
-                    assert!(rt; REPLIES.starts_with(&got[..got.len().saturating_sub(9)]));
-                    assert_eq!(rt; exit_status(&Err(fault)), 8);
-                    (got.len() / 11) as u64
-                }
-            };
-            // The first line ends with byte 8, the data of the second with byte 54, and the end of
-            // the stream is shown by call 60.
-            let want = match calls {
-                0..8 => 0,
-                8..54 => 1,
-                54..60 => 2,
-                _ => 3,
-            };
-            assert_eq!(rt; answered, want, "{calls}");
-        }
+    fails_reading(&rt, rt.alloc(), ErrorKind::Interrupted)?;
+    fails_reading(&rt, rt.alloc(), ErrorKind::Other)
+}
+
+/// Tries a writer that fails so at each byte of three replies.
+fn fails_writing(rt: &impl Abort, alloc: Global, by: Break) -> Result<(), Fail> {
+    for calls in 0..33 {
+        let seen = seen_of_text(alloc, THREE, calls, by)?;
+        assert_eq!(rt;
+            seen,
+            broken(Part::Writer, (calls / 11) as u64, calls),
+            "{calls}"
+        );
     }
     Ok(())
 }
 
 #[test]
 fn failing_writer(rt: HostRuntime) -> Result<(), Fail> {
-    for by in [Break::Interrupted, Break::Nothing] {
-        for calls in 0..REPLIES.len() {
-            let (outcome, got) = outcome_of(rt.alloc(), THREE, calls, by)?;
-            assert_eq!(rt; got.as_slice(), &REPLIES[..calls], "{calls}");
-            let fault = outcome.err().ok_or("no fault")?;
-            assert!(rt;
-                matches!(
-                    &fault,
-                    RunFault::Device {
-                        part: Part::Writer,
-                        ..
-                    }
-                )
-            );
-            assert_eq!(rt; fault.tally().refused, (calls / 11) as u64);
-        }
-    }
+    fails_writing(&rt, rt.alloc(), Break::Interrupted)?;
+    fails_writing(&rt, rt.alloc(), Break::Nothing)
+}
+
+#[test]
+fn failing_flush(rt: HostRuntime) -> Result<(), Fail> {
     for calls in 0..3 {
-        let (outcome, got) = outcome_of(rt.alloc(), THREE, calls, Break::Flush)?;
-        assert_eq!(rt; got.len(), calls * 11 + 11);
-        let fault = outcome.err().ok_or("no fault")?;
-        assert!(rt;
-            matches!(
-                &fault,
-                RunFault::Device {
-                    part: Part::Writer,
-                    ..
-                }
-            )
+        let seen = seen_of_text(rt.alloc(), THREE, calls, Break::Flush)?;
+        assert_eq!(rt;
+            seen,
+            broken(Part::Writer, calls as u64, calls * 11 + 11),
+            "{calls}"
         );
-        assert_eq!(rt; fault.tally().refused, calls as u64);
     }
     Ok(())
 }
 
+/// Where each growth is refused in turn, the run ends with fault 40; else it is whole.
 #[test]
 fn want_of_memory(rt: HostRuntime) -> Result<(), Fail> {
-    let (outcome, got) = outcome_of(rt.alloc(), THREE, 0, Break::Never)?;
-    match outcome {
-        Ok(tally) => {
-            assert_eq!(rt; tally.refused, 3);
-            assert_eq!(rt; got.as_slice(), REPLIES);
-        }
-        Err(fault) => {
-            assert_eq!(rt; fault.number(), 40);
-            assert!(rt; got.ends_with(b"fault 40\n"));
-            let answered = got.len().saturating_sub(9);
-            assert!(rt; REPLIES.starts_with(&got[..answered]));
-            assert_eq!(rt; fault.tally().refused, (answered / 11) as u64);
-        }
-    }
+    let seen = seen_of_text(rt.alloc(), THREE, 0, Break::Never)?;
+    let want = if seen.fault == 0 {
+        whole(3, 33, 4)
+    } else {
+        out_of_memory(seen.refused)
+    };
+    assert_eq!(rt; seen, want);
     Ok(())
 }

@@ -17,7 +17,8 @@ pub(crate) fn undefine(
     kind: Kind,
     name: &Name,
 ) -> Result<Answer, AllocError>
-    ensures answered { IfOk result (λ answer. Answered (TakesAway desk.old kind name.now) desk.new answer.text.items answer.is_accepted) }
+    ensures answered { IfOk result (λ answer. Answered (TakesAway desk.old kind name.now)
+        desk.new answer.text.items answer.is_accepted) }
     ensures err { OnErr result (desk.new ≡ desk.old) }
 {
     let taken = accepted(alloc, Vec::new(alloc), Reply::Undefined)?;

@@ -12,7 +12,8 @@ use std::io::Write;
 pub fn write_out<W: Write>(writer: &mut W, bytes: &[u8]) -> Result<(), Cause>
     ensures ok { OnOk result (Appends (W.contents writer.old) (W.contents writer.new) bytes.now) }
     ensures err { IfErr result (λ cause. cause ≡ Device Writer) }
-    ensures front { (n : ℕ) × (n ≤ length bytes.now) × Appends (W.contents writer.old) (W.contents writer.new) (take n bytes.now) }
+    ensures front { (n : ℕ) × (n ≤ length bytes.now)
+        × Appends (W.contents writer.old) (W.contents writer.new) (take n bytes.now) }
 {
     let mut written = 0;
     while written < bytes.len() {

@@ -1,7 +1,8 @@
 -- The data after a line, and what is held of them.
 use Rattle.std.specs.Prelude.{◌≡◌, ℕ, ◌≤◌, List, true, Option, Some, length, nat_le, if◌then◌else◌}
 use Rattle.stream_items.specs.Lines.{raw_lines}
-use Rattle.stream_items.specs.Items.{longest_block, Block, Whole, TooLong, Unended, block_of, bytes_before_end, items_of, items_of_lines}
+use Rattle.stream_items.specs.Items.{longest_block, Block, Whole, TooLong, Unended}
+use Rattle.stream_items.specs.Items.{block_of, bytes_before_end, items_of, items_of_lines}
 use Rattle.stream_items.specs.declared.blocks.Ending.{Ending}
 use Rattle.stream_items.specs.declared.blocks.Ending.TheVariants as Endings
 

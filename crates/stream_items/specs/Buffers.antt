@@ -9,7 +9,8 @@ abbrev pub kept : ℕ → List ℕ → List ℕ → List ℕ
 kept limit held bs = held ++ take (limit - length held) bs
 
 -- bytes of a line are taken from a reader, up to its line feed or as far as they were shown, and two buffers keep them
-pub record TakesPart (before after : Option (List ℕ)) (head_limit : ℕ) (head head' : List ℕ) (all_limit : ℕ) (all all' : List ℕ) (taken : Taken) : Type 0 where
+pub record TakesPart (before after : Option (List ℕ)) (head_limit : ℕ) (head head' : List ℕ)
+    (all_limit : ℕ) (all all' : List ℕ) (taken : Taken) : Type 0 where
   pub bytes : List ℕ
   pub len_is : length bytes ≡ taken.len
   pub stops : StopsAt bytes 10

@@ -1,5 +1,6 @@
 -- What a text reads as: a list of items.
-use Rattle.std.specs.Prelude.{ℕ, ◌+◌, List, [], ◌∷◌, ◌++◌, Bool, true, false, not, Option, None, Some, length, nat_le, if◌then◌else◌}
+use Rattle.std.specs.Prelude.{ℕ, ◌+◌, List, [], ◌∷◌, ◌++◌, length, nat_le}
+use Rattle.std.specs.Prelude.{Bool, true, false, not, Option, None, Some, if◌then◌else◌}
 use Rattle.std.specs.Option.{option_map}
 use Rattle.stream_items.specs.Lines.{raw_lines, line_of, opens_data, ends_data, kind_of}
 use Rattle.stream_items.specs.declared.line_kinds.LineKind.{LineKind}

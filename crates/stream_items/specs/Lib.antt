@@ -3,3 +3,4 @@ pub mod Lines
 pub mod Items
 pub mod Blocks
 pub mod Pages
+pub mod Limits

@@ -1,5 +1,6 @@
 -- The lines of a text, and what one line may hold.
-use Rattle.std.specs.Prelude.{ℕ, ◌+◌, List, [], ◌∷◌, ◌==◌, ◌||◌, Bool, false, Option, None, Some, is_none, length, take, nat_lt, slice_get, bytes_eq, codes, if◌then◌else◌}
+use Rattle.std.specs.Prelude.{ℕ, ◌+◌, List, [], ◌∷◌, ◌==◌, ◌||◌, Bool, false, Option, None, Some, is_none}
+use Rattle.std.specs.Prelude.{length, take, nat_lt, slice_get, bytes_eq, codes, if◌then◌else◌}
 use Rattle.std.specs.List.{onto_first, list_all}
 use Rattle.std.specs.Io.BufRead.{strip_last}
 use Rattle.statement_words.specs.Grammar.{Text}
@@ -50,4 +51,5 @@ is_comment (b ∷ bs) = b == 42
 unfoldable pub kind_of : List ℕ → LineKind
 kind_of line =
     if nat_lt longest_line (length line) then NoStatement
-    else (if is_comment line || is_none (first_word line) then Skipped else (if list_all is_line_byte line then Statement else NoStatement))
+    else (if is_comment line || is_none (first_word line) then Skipped
+    else (if list_all is_line_byte line then Statement else NoStatement))

@@ -1,7 +1,8 @@
 -- What a page holds, and what reading an item gives.
 use Rattle.std.specs.Prelude.{◌≡◌, ℕ, ◌-◌, ◌≤◌, List, [], ◌∷◌, ◌++◌, Option, None, Some, length}
 use Rattle.stream_items.specs.Blocks.{block_held}
-use Rattle.stream_items.specs.Items.{longest_block, Block, Whole, TooLong, Unended, Item, NoStatement, Alone, WithBlock, items_of}
+use Rattle.stream_items.specs.Items.{longest_block, Block, Whole, TooLong, Unended}
+use Rattle.stream_items.specs.Items.{Item, NoStatement, Alone, WithBlock, items_of}
 use Rattle.stream_items.specs.declared.line_kinds.LineKind.{LineKind}
 use Rattle.stream_items.specs.declared.line_kinds.LineKind.TheVariants as Kinds
 use Rattle.stream_items.specs.declared.items.Block.{Block as BlockValue}

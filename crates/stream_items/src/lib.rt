@@ -11,6 +11,7 @@
 
 mod blocks;
 mod items;
+mod limits;
 mod line_kinds;
 mod lines;
 mod pages;
@@ -18,6 +19,7 @@ mod reading;
 
 pub use blocks::LONGEST_BLOCK;
 pub use items::{Block, Item};
+pub use limits::limits_hold;
 pub use line_kinds::LONGEST_LINE;
 pub use lines::ReadFault;
 pub use pages::Page;

@@ -1,5 +1,6 @@
 //! Lines of a reader, of which only the first bytes are kept.
-ghost use Rattle.std.specs.Prelude.{◌≡◌, ◌≢◌, ◌↔◌, ◌-◌, ◌<◌, ◌≤◌, length, max, take, All, IfOk, OnOk, OnErr, IfSome, IsTrue};
+ghost use Rattle.std.specs.Prelude.{◌≡◌, ◌≢◌, ◌↔◌, ◌-◌, ◌<◌, ◌≤◌, length, max, take};
+ghost use Rattle.std.specs.Prelude.{All, IfOk, OnOk, OnErr, IfSome, IsTrue};
 ghost use Rattle.std.specs.Io.BufRead.{take_through, strip_last, DropsThrough};
 ghost use Rattle.stream_items.specs.Buffers.{kept, TakesPart};
 ghost use Rattle.stream_items.specs.Lines.{line_of};

@@ -2,7 +2,8 @@
 ghost use Rattle.std.specs.Prelude.{◌≡◌, ◌≤◌, [], length, None, Some, IfOk, IfSome, OnErr, OnOk};
 ghost use Rattle.std.specs.Option.{option_map};
 ghost use Rattle.stream_items.specs.Items.{longest_block};
-ghost use Rattle.stream_items.specs.Pages.{FitsBlock, ItemRead, PartRead, held_alone, held_with_data, item_held, item_of, item_on};
+ghost use Rattle.stream_items.specs.Pages.{FitsBlock, ItemRead, PartRead};
+ghost use Rattle.stream_items.specs.Pages.{held_alone, held_with_data, item_held, item_of, item_on};
 
 use crate::blocks::{Ending, read_block};
 use crate::items::{Block, Item};
@@ -32,7 +33,8 @@ impl Page {
     /// fault, the page has none. Every error of the reader is a fault.
     pub fn read_item<R: BufRead>(&mut self, reader: &mut R) -> Result<(), ReadFault>
         // Where the reader tells its bytes, the item is the first of those that they read as.
-        ensures read { OnOk result (IfSome (R.remaining reader.old) (λ text. ItemRead text (item_on self.new) (R.remaining reader.new))) }
+        ensures read { OnOk result (IfSome (R.remaining reader.old) (λ text.
+            ItemRead text (item_on self.new) (R.remaining reader.new))) }
         ensures fault { OnErr result (item_on self.new ≡ None) }
     {
         self.held = Held::Nothing;

@@ -18,7 +18,8 @@ fn filled(
     Ok(text)
 }
 
-/// A letter for an item: `-` no statement, `L` a line, and a line with a block that is `W`hole, `T`oo long or `U`nended.
+/// A letter for an item: `-` no statement, `L` a line, and a line with a block that is `W`hole, `T`oo long or
+/// `U`nended.
 fn letter(item: Item<'_>) -> char {
     match item {
         Item::NoStatement => '-',
