@@ -102,8 +102,8 @@ fn reads_days(rt: HostRuntime) {
         ),
         (
             "days --app PAY --from 1972-01-01 --to 2071-12-31",
-            730,
-            37254,
+            Day::FIRST.number(),
+            Day::LAST.number(),
         ),
     ];
     for (line, from, to) in lines {

@@ -193,12 +193,8 @@ impl Day {
         let year = two_digits_value(text, 0) * 100 + two_digits_value(text, 2);
         let month = two_digits_value(text, 5);
         let day = two_digits_value(text, 8);
-        let Some(date) = civil_date(year, month, day) else {
-            return None;
-        };
-        let Some(day) = Day::from_date(date) else {
-            return None;
-        };
+        let date = civil_date(year, month, day)?;
+        let day = Day::from_date(date)?;
         let mut spelled = [0; 10];
         day.write_text(&mut spelled);
         if text == &spelled[..] {
@@ -223,8 +219,5 @@ fn civil_date(year: u32, month: u32, day: u32) -> Option<Date>
     ensures valid { IsSome result ↔ IsDate (pos year) (pos month) (pos day) }
     ensures value { IfSome result (IsYmd (pos year) (pos month) (pos day)) }
 {
-    match Date::new(year as i16, month as i8, day as i8) {
-        Ok(date) => Some(date),
-        Err(_) => None,
-    }
+    Date::new(year as i16, month as i8, day as i8).ok()
 }

@@ -91,9 +91,7 @@ impl Minute {
             return None;
         }
         let number = two_digits_value(text, 0) * 60 + two_digits_value(text, 3);
-        let Some(minute) = Minute::from_number(number) else {
-            return None;
-        };
+        let minute = Minute::from_number(number)?;
         let mut spelled = [0; 5];
         minute.write_text(&mut spelled);
         if text == &spelled[..] {

@@ -99,12 +99,8 @@ impl Moment {
         if text.len() != 16 || text[10] != b'/' {
             return None;
         }
-        let Some(day) = Day::from_bytes(&text[..10]) else {
-            return None;
-        };
-        let Some(minute) = Minute::from_bytes(&text[11..]) else {
-            return None;
-        };
+        let day = Day::from_bytes(&text[..10])?;
+        let minute = Minute::from_bytes(&text[11..])?;
         Some(Moment::new(day, minute))
     }
 }

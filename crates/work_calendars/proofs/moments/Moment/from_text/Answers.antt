@@ -8,8 +8,8 @@ returns-clause-value c =
     subst (λ t. SpellsMoment t c.new.result) c.as_bytes-text.ensures.value (SpellsMoment-from_parts c.as_bytes-text.result.now c.new.result (record {
       len = c.if-text-ne16.false;
       between = c.if-text-ne47.false;
-      day = subst (SpellsDay _) (sym c.new.ensures.day) c.in-Some.ensures.value;
-      minute = subst (SpellsMinute _) (sym c.new.ensures.minute) (rw take-rest at c.in-Some-from_bytes.ensures.value);
+      day = subst (SpellsDay _) (sym c.new.ensures.day) c.in_ok-day.ensures.value;
+      minute = subst (SpellsMinute _) (sym c.new.ensures.minute) (rw take-rest at c.in_ok-minute.ensures.value);
     }))
 
 pub returns-clause-valid : goal.returns-clause-valid
