@@ -9,6 +9,11 @@ use std::cmp::Ordering;
 use std::process::Abort;
 use std::test::Fail;
 
+// Asserts what holds of the row of a table.
+fn assert_row(rt: &impl Abort, holds: bool, text: &str) {
+    assert!(rt; holds, "{text}");
+}
+
 // The number, the weekday and the text of the day that the text spells; zeros where it spells none.
 fn day_of(text: &str) -> (u32, u8, [u8; 10]) {
     let mut spelled = [0; 10];
@@ -38,10 +43,8 @@ fn days_are_spelled(rt: HostRuntime) {
     ];
     for (text, number, weekday) in almanac {
         let (found, on, spelled) = day_of(text);
-        assert!(rt;
-            found == number && on == weekday && spelled.as_slice() == text.as_bytes(),
-            "{text}"
-        );
+        let is_spelled = spelled.as_slice() == text.as_bytes();
+        assert_row(&rt, found == number && on == weekday && is_spelled, text);
     }
 }
 
@@ -123,7 +126,7 @@ fn other_texts_are_no_days(rt: HostRuntime) {
         "2024-01-é",
     ];
     for text in wrong {
-        assert_eq!(rt; Day::from_text(text), None, "{text}");
+        assert_row(&rt, Day::from_text(text).is_none(), text);
     }
 }
 
@@ -149,9 +152,10 @@ fn minutes_are_spelled(rt: HostRuntime) {
         ("23.59", 1439),
     ] {
         let (found, spelled) = minute_of(text);
-        assert!(rt;
+        assert_row(
+            &rt,
             found == number && spelled.as_slice() == text.as_bytes(),
-            "{text}"
+            text,
         );
     }
 }
@@ -162,10 +166,14 @@ fn other_texts_are_no_minutes(rt: HostRuntime) {
         "", "24.00", "23.60", "8.00", "08.0", "08:00", "0800", " 8.00", "+8.00", "08.000",
         "08.00 ", "0a.00", "08.é",
     ] {
-        assert!(rt; Minute::from_text(text).is_none(), "{text}");
+        assert_row(&rt, Minute::from_text(text).is_none(), text);
     }
-    assert_eq!(rt; Minute::from_number(1439), Some(Minute::LAST));
-    assert_eq!(rt; Minute::from_number(1440), None);
+}
+
+#[test]
+fn minutes_have_a_last(rt: HostRuntime) {
+    let found = [Minute::from_number(1439), Minute::from_number(1440)];
+    assert_eq!(rt; found, [Some(Minute::LAST), None]);
 }
 
 // The number and the text of the moment that the text spells, and whether its day and minute, and its number, make it
@@ -191,10 +199,8 @@ fn moments_are_spelled(rt: HostRuntime) {
         ("2071-12-31/23.59", 53_647_199),
     ] {
         let (found, spelled, again) = moment_of(text);
-        assert!(rt;
-            found == number && again && spelled.as_slice() == text.as_bytes(),
-            "{text}"
-        );
+        let is_spelled = spelled.as_slice() == text.as_bytes();
+        assert_row(&rt, found == number && again && is_spelled, text);
     }
 }
 
@@ -213,31 +219,37 @@ fn other_texts_are_no_moments(rt: HostRuntime) {
         "2024-01-01/08.000",
     ];
     for text in wrong {
-        assert!(rt; Moment::from_text(text).is_none(), "{text}");
-    }
-    assert_eq!(rt; Moment::from_number(1_051_199), None);
-    assert_eq!(rt; Moment::from_number(53_647_200), None);
-}
-
-fn is_name(text: &str) -> bool {
-    match Name::from_text(text) {
-        Some(name) => name.as_str() == text,
-        None => false,
+        assert_row(&rt, Moment::from_text(text).is_none(), text);
     }
 }
 
-fn is_short(text: &str) -> bool {
-    match Short::from_text(text) {
-        Some(name) => name.as_str() == text,
-        None => false,
-    }
+#[test]
+fn moments_have_a_first_and_a_last(rt: HostRuntime) {
+    let found = [
+        Moment::from_number(1_051_199),
+        Moment::from_number(53_647_200),
+    ];
+    assert_eq!(rt; found, [None; 2]);
+}
+
+// Whether the name of the text spells it; none where the text is no name.
+fn spells_name(text: &str) -> Option<bool> {
+    Some(Name::from_text(text)?.as_str() == text)
+}
+
+fn spells_short(text: &str) -> Option<bool> {
+    Some(Short::from_text(text)?.as_str() == text)
 }
 
 #[test]
 fn names_are_spelled(rt: HostRuntime) {
     for text in ["A", "PAY", "Z9", "@#$", "$0", "A234567890123456"] {
-        assert!(rt; is_name(text), "{text}");
+        assert_row(&rt, spells_name(text) == Some(true), text);
     }
+}
+
+#[test]
+fn other_texts_are_no_names(rt: HostRuntime) {
     for text in [
         "",
         "1A",
@@ -250,11 +262,20 @@ fn names_are_spelled(rt: HostRuntime) {
         "É",
         "A2345678901234567",
     ] {
-        assert!(rt; Name::from_text(text).is_none(), "{text}");
+        assert_row(&rt, Name::from_text(text).is_none(), text);
     }
-    assert!(rt; is_short("MORNING8"));
-    for text in ["", "9", "MORNING89", "noon"] {
-        assert!(rt; Short::from_text(text).is_none(), "{text}");
+}
+
+#[test]
+fn short_names_are_spelled(rt: HostRuntime) {
+    for (text, wanted) in [
+        ("MORNING8", Some(true)),
+        ("", None),
+        ("9", None),
+        ("MORNING89", None),
+        ("noon", None),
+    ] {
+        assert_row(&rt, spells_short(text) == wanted, text);
     }
 }
 
@@ -270,9 +291,10 @@ fn names_have_an_order(rt: HostRuntime) {
     let rising = ["#", "$", "$0", "@", "A", "A#", "A0", "A@", "AA", "AB", "B"];
     for (at, text) in rising.iter().enumerate() {
         for (later, other) in rising.iter().enumerate() {
-            assert!(rt;
+            assert_row(
+                &rt,
                 compare(text, other) == Some((at.cmp(&later), at == later)),
-                "{text} {other}"
+                text,
             );
         }
     }
@@ -285,39 +307,63 @@ fn weekdays(alloc: Global) -> Calendar {
     calendar
 }
 
-// Whether a row holds of the calendar and of its index: `DAY work`, `DAY free`, `DAY next DAY`, `DAY previous DAY`, and
-// `DAY ranks DAY`, the work day before which there are as many as before the first. None where it has another form.
-fn holds(calendar: &Calendar, index: &WorkIndex, row: &str) -> Option<bool> {
-    let mut words = row.split_whitespace();
-    let day = Day::from_text(words.next()?)?;
-    match words.next()? {
-        "work" => Some(calendar.is_work(day) && index.is_work(day)),
-        "free" => Some(!calendar.is_work(day) && !index.is_work(day)),
-        "next" => Some(index.next_work(day)? == Day::from_text(words.next()?)?),
-        "previous" => Some(index.prev_work(day)? == Day::from_text(words.next()?)?),
-        "ranks" => Some(index.nth(index.rank(day))? == Day::from_text(words.next()?)?),
+// Whether the day is a work day, if the calendar and its index agree.
+fn is_work(calendar: &Calendar, index: &WorkIndex, text: &str) -> Option<bool> {
+    let day = Day::from_text(text)?;
+    let is_work = calendar.is_work(day);
+    (index.is_work(day) == is_work).then_some(is_work)
+}
+
+// The work day after the day, before it, or with as many work days before it.
+fn found(index: &WorkIndex, day: Day, way: char) -> Option<Day> {
+    match way {
+        '>' => index.next_work(day),
+        '<' => index.prev_work(day),
+        '=' => index.nth(index.rank(day)),
         _ => None,
     }
 }
 
-// Asserts the rows of a table, which `|` parts.
-fn assert_rows(rt: &impl Abort, calendar: &Calendar, index: &WorkIndex, table: &str) {
-    for row in table.split('|') {
-        assert_eq!(rt; holds(calendar, index, row), Some(true), "{row}");
+// Whether that way leads from the day of one text to that of the other.
+fn leads(index: &WorkIndex, from: &str, way: char, to: &str) -> Option<bool> {
+    Some(found(index, Day::from_text(from)?, way)? == Day::from_text(to)?)
+}
+
+fn assert_ways(rt: &impl Abort, index: &WorkIndex, ways: &[(&str, char, &str)]) {
+    for &(from, way, to) in ways {
+        assert!(rt;
+            leads(index, from, way, to) == Some(true),
+            "{from} {way} {to}"
+        );
+    }
+}
+
+fn assert_statuses(rt: &impl Abort, calendar: &Calendar, index: &WorkIndex) {
+    for (text, status) in [
+        ("2024-01-01", true),
+        ("2024-01-05", true),
+        ("2024-01-06", false),
+        ("2024-01-07", false),
+        ("2024-01-08", true),
+    ] {
+        assert_row(rt, is_work(calendar, index, text) == Some(status), text);
     }
 }
 
 #[test]
-fn calendar_of_free_weekdays(rt: HostRuntime) -> Result<(), Fail> {
+fn calendar_of_free_weekdays(rt: HostRuntime) -> Result<(), AllocError> {
     let calendar = weekdays(rt.alloc());
     let index = WorkIndex::build(rt.alloc(), &calendar)?;
-    assert_rows(
+    assert_statuses(&rt, &calendar, &index);
+    assert_ways(
         &rt,
-        &calendar,
         &index,
-        "2024-01-01 work|2024-01-05 work|2024-01-06 free|2024-01-07 free|2024-01-08 work|\
-         2024-01-05 next 2024-01-08|2024-01-06 next 2024-01-08|\
-         2024-01-08 previous 2024-01-05|2024-01-07 previous 2024-01-05",
+        &[
+            ("2024-01-05", '>', "2024-01-08"),
+            ("2024-01-06", '>', "2024-01-08"),
+            ("2024-01-08", '<', "2024-01-05"),
+            ("2024-01-07", '<', "2024-01-05"),
+        ],
     );
     Ok(())
 }
@@ -327,59 +373,75 @@ fn set_date(calendar: &mut Calendar, text: &str, status: DayStatus) -> Result<()
     Ok(calendar.set_date(day, status)?)
 }
 
-fn rank(index: &WorkIndex, text: &str) -> Option<usize> {
-    Some(index.rank(Day::from_text(text)?))
+// How many work days there are from 2024-01-06 to the day before.
+fn work_days_to(index: &WorkIndex, text: &str) -> Option<usize> {
+    let start = index.rank(Day::from_text("2024-01-06")?);
+    index.rank(Day::from_text(text)?).checked_sub(start)
 }
 
-// Asserts that the days of a text are the work days from the first on, one after another.
-fn assert_ranks(rt: &impl Abort, index: &WorkIndex, days: &str) {
-    for (place, text) in days.split_whitespace().enumerate() {
-        let before = rank(index, "2024-01-06").and_then(|start| start.checked_add(place));
-        assert!(rt; before.is_some() && rank(index, text) == before, "{text}");
+fn assert_ranks(rt: &impl Abort, index: &WorkIndex, ranks: &[(&str, usize)]) {
+    for &(text, rank) in ranks {
+        assert_row(rt, work_days_to(index, text) == Some(rank), text);
     }
+}
+
+// The index of the calendar whose Saturdays and Sundays are free, and 2024-01-10.
+fn with_a_free_date(alloc: Global) -> Result<WorkIndex, Fail> {
+    let mut calendar = weekdays(alloc);
+    set_date(&mut calendar, "2024-01-10", DayStatus::Free)?;
+    Ok(WorkIndex::build(alloc, &calendar)?)
 }
 
 #[test]
 fn calendar_with_a_free_date(rt: HostRuntime) -> Result<(), Fail> {
-    let mut calendar = weekdays(rt.alloc());
-    set_date(&mut calendar, "2024-01-10", DayStatus::Free)?;
-    let index = WorkIndex::build(rt.alloc(), &calendar)?;
+    let index = with_a_free_date(rt.alloc())?;
     assert_ranks(
         &rt,
         &index,
-        "2024-01-08 2024-01-09 2024-01-11 2024-01-12 2024-01-15 2024-01-16",
+        &[
+            ("2024-01-08", 0),
+            ("2024-01-09", 1),
+            ("2024-01-11", 2),
+            ("2024-01-12", 3),
+            ("2024-01-15", 4),
+            ("2024-01-16", 5),
+        ],
     );
-    assert_rows(
+    assert_ways(
         &rt,
-        &calendar,
         &index,
-        "2024-01-06 ranks 2024-01-08|2024-01-09 next 2024-01-11",
+        &[
+            ("2024-01-06", '=', "2024-01-08"),
+            ("2024-01-09", '>', "2024-01-11"),
+        ],
     );
     Ok(())
 }
 
-// What the calendar lists for the day; none where the text is no day.
-fn listed(calendar: &Calendar, text: &str) -> Option<Option<DayStatus>> {
-    Some(calendar.date_status(Day::from_text(text)?))
+// What the calendar lists for a Saturday, and whether it and the next are work days; none where a text is no day.
+fn saturdays(calendar: &Calendar) -> Option<(Option<DayStatus>, bool, bool)> {
+    let saturday = Day::from_text("2024-01-06")?;
+    Some((
+        calendar.date_status(saturday),
+        calendar.is_work(saturday),
+        calendar.is_work(Day::from_text("2024-01-13")?),
+    ))
 }
 
-// Whether the day is a work day; none where the text is no day.
-fn is_work(calendar: &Calendar, text: &str) -> Option<bool> {
-    Some(calendar.is_work(Day::from_text(text)?))
+// Lists that Saturday as free, and then as a work day.
+fn list_saturday(calendar: &mut Calendar) -> Result<(), Fail> {
+    set_date(calendar, "2024-01-06", DayStatus::Free)?;
+    set_date(calendar, "2024-01-06", DayStatus::Work)
 }
 
-// 2024-01-06 and 2024-01-13 are Saturdays.
 #[test]
 fn a_date_goes_before_its_weekday(rt: HostRuntime) -> Result<(), Fail> {
     let mut calendar = weekdays(rt.alloc());
-    assert_eq!(rt; listed(&calendar, "2024-01-06"), Some(None));
-    set_date(&mut calendar, "2024-01-06", DayStatus::Free)?;
-    set_date(&mut calendar, "2024-01-06", DayStatus::Work)?;
-    assert_eq!(rt; is_work(&calendar, "2024-01-06"), Some(true));
-    assert_eq!(rt; is_work(&calendar, "2024-01-13"), Some(false));
+    assert_eq!(rt; saturdays(&calendar), Some((None, false, false)));
+    list_saturday(&mut calendar)?;
     assert_eq!(rt;
-        listed(&calendar, "2024-01-06"),
-        Some(Some(DayStatus::Work))
+        saturdays(&calendar),
+        Some((Some(DayStatus::Work), true, false))
     );
     Ok(())
 }
@@ -391,41 +453,77 @@ fn copied(calendar: &Calendar) -> Result<Calendar, AllocError>
     calendar.clone()
 }
 
-#[test]
-fn a_weekday_is_listed_anew(rt: HostRuntime) -> Result<(), Fail> {
-    let mut calendar = weekdays(rt.alloc());
-    assert_eq!(rt;
-        calendar.weekday_status(Weekday::Saturday),
-        Some(DayStatus::Free)
-    );
-    assert_eq!(rt; calendar.weekday_status(Weekday::Monday), None);
-    calendar.set_weekday(Weekday::Saturday, DayStatus::Work);
-    assert_eq!(rt; is_work(&calendar, "2024-01-13"), Some(true));
-    let copy = copied(&calendar)?;
-    assert_eq!(rt; is_work(&copy, "2024-01-13"), Some(true));
-    assert_eq!(rt; is_work(&copy, "2024-01-14"), Some(false));
-    Ok(())
+// Whether a Saturday and the Sunday after it are work days; none where a text is no day.
+fn weekend(calendar: &Calendar) -> Option<(bool, bool)> {
+    let saturday = calendar.is_work(Day::from_text("2024-01-13")?);
+    Some((saturday, calendar.is_work(Day::from_text("2024-01-14")?)))
 }
 
-// The first work day and the last, the one after the last, and those before the first day and after the last.
-fn ends(index: &WorkIndex) -> [Option<Day>; 5] {
+fn weekend_of_copy(calendar: &Calendar) -> Result<Option<(bool, bool)>, AllocError> {
+    let copy = copied(calendar)?;
+    Ok(weekend(&copy))
+}
+
+// What is listed for Saturdays and for Mondays.
+fn listed_weekdays(calendar: &Calendar) -> [Option<DayStatus>; 2] {
     [
-        index.nth(0),
-        index.nth(DAYS - 1),
-        index.nth(DAYS),
-        index.prev_work(Day::FIRST),
-        index.next_work(Day::LAST),
+        calendar.weekday_status(Weekday::Saturday),
+        calendar.weekday_status(Weekday::Monday),
     ]
 }
 
 #[test]
-fn every_day_is_a_work_day(rt: HostRuntime) -> Result<(), Fail> {
-    let every = WorkIndex::build(rt.alloc(), &Calendar::new(rt.alloc()))?;
-    assert_eq!(rt;
-        ends(&every),
-        [Some(Day::FIRST), Some(Day::LAST), None, None, None]
-    );
-    assert_eq!(rt; every.rank(Day::LAST), DAYS - 1);
+fn a_weekday_is_listed_anew(rt: HostRuntime) -> Result<(), AllocError> {
+    let mut calendar = weekdays(rt.alloc());
+    assert_eq!(rt; listed_weekdays(&calendar), [Some(DayStatus::Free), None]);
+    calendar.set_weekday(Weekday::Saturday, DayStatus::Work);
+    assert_eq!(rt; weekend(&calendar), Some((true, false)));
+    assert_eq!(rt; weekend_of_copy(&calendar)?, Some((true, false)));
+    Ok(())
+}
+
+// The work days at the place of the first day, of the last and after it; those after the first day and the last, and
+// before each.
+fn ends(index: &WorkIndex) -> [Option<Day>; 7] {
+    [
+        index.nth(0),
+        index.nth(DAYS - 1),
+        index.nth(DAYS),
+        index.next_work(Day::FIRST),
+        index.next_work(Day::LAST),
+        index.prev_work(Day::FIRST),
+        index.prev_work(Day::LAST),
+    ]
+}
+
+// The same of the calendar's index, whether the first day is a work day, and how many there are before the last.
+fn ends_of(
+    alloc: Global,
+    calendar: Calendar,
+) -> Result<(bool, usize, [Option<Day>; 7]), AllocError> {
+    let index = WorkIndex::build(alloc, &calendar)?;
+    Ok((
+        index.is_work(Day::FIRST),
+        index.rank(Day::LAST),
+        ends(&index),
+    ))
+}
+
+#[test]
+fn every_day_is_a_work_day(rt: HostRuntime) -> Result<(), AllocError> {
+    let (is_work, rank, ends) = ends_of(rt.alloc(), Calendar::new(rt.alloc()))?;
+    let second = Day::FIRST.next();
+    let last_but_one = Day::LAST.previous();
+    let wanted = [
+        Some(Day::FIRST),
+        Some(Day::LAST),
+        None,
+        second,
+        None,
+        None,
+        last_but_one,
+    ];
+    assert!(rt; is_work && rank == DAYS - 1 && ends == wanted);
     Ok(())
 }
 
@@ -446,13 +544,9 @@ fn without_work_days(alloc: Global) -> Calendar {
 }
 
 #[test]
-fn no_day_is_a_work_day(rt: HostRuntime) -> Result<(), Fail> {
-    let none = WorkIndex::build(rt.alloc(), &without_work_days(rt.alloc()))?;
-    assert!(rt; !none.is_work(Day::FIRST));
-    assert_eq!(rt; none.nth(0), None);
-    assert_eq!(rt; none.rank(Day::LAST), 0);
-    assert_eq!(rt; none.next_work(Day::FIRST), None);
-    assert_eq!(rt; none.prev_work(Day::LAST), None);
+fn no_day_is_a_work_day(rt: HostRuntime) -> Result<(), AllocError> {
+    let (is_work, rank, ends) = ends_of(rt.alloc(), without_work_days(rt.alloc()))?;
+    assert!(rt; !is_work && rank == 0 && ends == [None; 7]);
     Ok(())
 }
 
@@ -465,30 +559,42 @@ fn week() -> Option<[Day; 3]> {
     ])
 }
 
-// Asserts what seven questions are answered, and how many are counted before, between and after them.
-fn assert_counted(
-    rt: &impl Abort,
+// What seven questions are answered: whether Friday is a work day, how many work days there are from Monday to the day
+// before Friday, and four days; and how many questions are counted before, after the first, the third and the last.
+fn questions(
     counted: &mut CountedIndex<'_>,
     [monday, friday, next]: [Day; 3],
-) {
-    assert_eq!(rt; counted.asked(), 0);
-    assert!(rt; counted.is_work(friday));
-    assert_eq!(rt; counted.asked(), 1);
-    assert_eq!(rt; counted.next_work(friday), Some(next));
-    assert_eq!(rt; counted.prev_work(next), Some(friday));
-    assert_eq!(rt; counted.asked(), 3);
-    let before = counted.rank(monday);
-    assert_eq!(rt; Some(counted.rank(friday)), before.checked_add(4));
-    assert_eq!(rt; counted.nth(before), Some(monday));
-    assert_eq!(rt; counted.nth(DAYS), None);
-    assert_eq!(rt; counted.asked(), 7);
+) -> (bool, usize, [Option<Day>; 4], [u64; 4]) {
+    let before = counted.asked();
+    let is_work = counted.is_work(friday);
+    let first = counted.asked();
+    let later = counted.next_work(friday);
+    let earlier = counted.prev_work(next);
+    let third = counted.asked();
+    let rank = counted.rank(monday);
+    let work_days = counted.rank(friday).wrapping_sub(rank);
+    let same = counted.nth(rank);
+    let past = counted.nth(DAYS);
+    let asked = [before, first, third, counted.asked()];
+    (is_work, work_days, [later, earlier, same, past], asked)
+}
+
+// The same, of the calendar whose Saturdays and Sundays are free.
+fn questions_of(
+    alloc: Global,
+    days: [Day; 3],
+) -> Result<(bool, usize, [Option<Day>; 4], [u64; 4]), AllocError> {
+    let index = WorkIndex::build(alloc, &weekdays(alloc))?;
+    Ok(questions(&mut CountedIndex::new(&index), days))
 }
 
 #[test]
 fn questions_are_counted(rt: HostRuntime) -> Result<(), Fail> {
     let days = week().ok_or("no day")?;
-    let index = WorkIndex::build(rt.alloc(), &weekdays(rt.alloc()))?;
-    assert_counted(&rt, &mut CountedIndex::new(&index), days);
+    let [monday, friday, next] = days;
+    let (is_work, work_days, found, asked) = questions_of(rt.alloc(), days)?;
+    assert!(rt; is_work && work_days == 4 && asked == [0, 1, 3, 7]);
+    assert!(rt; found == [Some(next), Some(friday), Some(monday), None]);
     Ok(())
 }
 
