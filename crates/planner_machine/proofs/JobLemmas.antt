@@ -15,7 +15,8 @@ use Rattle.planner_machine.specs.InForce.{PutsLists}
 use Rattle.planner_machine.specs.Jobs.{with_job}
 use Rattle.planner_machine.specs.Moves.{bit, size}
 use Rattle.planner_machine.specs.Pairs.{pair_of}
-use Rattle.planner_machine.specs.Plans.{HasNoCalendar, HasNoPeriod, WouldLoop}
+use Rattle.app_definitions.specs.Active.{HasNoCalendar, HasNoPeriod}
+use Rattle.planner_machine.specs.Plans.{WouldLoop}
 use Rattle.planner_machine.specs.Sound.{IsJob, IsShown, IsSound}
 use Rattle.planner_machine.proofs.LoopLemmas.{on_loop_listed}
 use Rattle.planner_machine.proofs.RangeLemmas.{defined_name}

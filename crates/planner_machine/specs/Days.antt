@@ -11,7 +11,8 @@ use Rattle.planner_machine.specs.declared.limits.TheConstants.{LONGEST_WINDOW}
 use Rattle.planner_machine.specs.Content.{Content}
 use Rattle.planner_machine.specs.Decision.{Decision}
 use Rattle.planner_machine.specs.Drafts.{IsNamed}
-use Rattle.planner_machine.specs.Plans.{HasNoCalendar, HasNoPeriod, IsPlannedApp}
+use Rattle.app_definitions.specs.Active.{HasNoCalendar, HasNoPeriod}
+use Rattle.planner_machine.specs.Plans.{IsPlannedApp}
 
 -- the days are out of order, past the last planning day, or too many, both ends counted
 abbrev pub AreBadDays : ℕ → ℕ → Type 0

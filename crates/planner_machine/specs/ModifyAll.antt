@@ -6,7 +6,8 @@ use Rattle.planner_machine.specs.Content.{Content}
 use Rattle.planner_machine.specs.Decision.{Decision}
 use Rattle.planner_machine.specs.InForce.{PutsAll}
 use Rattle.planner_machine.specs.Modify.{Modifies}
-use Rattle.planner_machine.specs.Plans.{ChangesPlans, HasNoCalendar, HasNoPeriod, IsLeastApp, MakesOfRows, WouldHoldTooMany, WouldLoop}
+use Rattle.app_definitions.specs.Active.{HasNoCalendar, HasNoPeriod}
+use Rattle.planner_machine.specs.Plans.{ChangesPlans, IsLeastApp, MakesOfRows, WouldHoldTooMany, WouldLoop}
 
 -- any application
 abbrev pub IsAnyApp : List ℕ → Type 0

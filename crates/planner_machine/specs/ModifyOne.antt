@@ -8,7 +8,8 @@ use Rattle.planner_machine.specs.Content.{Content}
 use Rattle.planner_machine.specs.Decision.{Decision}
 use Rattle.planner_machine.specs.InForce.{PutsOne}
 use Rattle.planner_machine.specs.Modify.{Modifies}
-use Rattle.planner_machine.specs.Plans.{ChangesPlans, HasNoCalendar, HasNoPeriod, IsPlannedApp, MakesOfRows, WouldHoldTooMany, WouldLoop}
+use Rattle.app_definitions.specs.Active.{HasNoCalendar, HasNoPeriod}
+use Rattle.planner_machine.specs.Plans.{ChangesPlans, IsPlannedApp, MakesOfRows, WouldHoldTooMany, WouldLoop}
 
 -- that application alone
 abbrev pub IsThatApp : List ℕ → List ℕ → Type 0

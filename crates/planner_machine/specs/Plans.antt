@@ -1,8 +1,5 @@
 -- What the statements on the plans have in common.
-use Rattle.std.specs.Prelude.{◌≡◌, ◌≢◌, ◌⊎◌, ℕ, ◌+◌, ◌<◌, List, Some}
-use Rattle.std.specs.Cmp.Lexicographic.{slice_cmp}
-use Rattle.std.specs.Ordering.{nat_cmp}
-use Rattle.std.specs.declared.cmp.Ordering.TheVariants.{Greater}
+use Rattle.std.specs.Prelude.{◌≡◌, ◌⊎◌, ℕ, ◌+◌, ◌<◌, List, Some}
 use Rattle.app_definitions.specs.declared.applications.Application.{Application}
 use Rattle.app_definitions.specs.declared.definitions.Definitions.{Definitions}
 use Rattle.occurrences.specs.declared.reply.Reply.{Reply}
@@ -13,7 +10,7 @@ use Rattle.planner_machine.specs.declared.limits.TheConstants.{MOST_PLANNED_ROWS
 use Rattle.planner_machine.specs.Content.{Content, Sets}
 use Rattle.planner_machine.specs.InForce.{PutsLists}
 use Rattle.planner_machine.specs.Moves.{size}
-use Rattle.app_definitions.specs.Active.{IsActive, LacksCalendar, LacksPeriod}
+use Rattle.app_definitions.specs.Active.{IsActive, IsLeastName}
 use Rattle.planner_machine.specs.Pairs.{ArePairs}
 
 -- what a statement answers and makes of the rows, by the definitions
@@ -32,15 +29,7 @@ pub record ChangesPlans (Makes : MakesOfRows) (Puts : PutsLists) (c : Content) (
 
 -- of the applications that it holds for, the least in byte order
 abbrev pub IsLeastApp : (List ℕ → Type 0) → List ℕ → Type 0
-IsLeastApp Holds app = Holds app × ((other : List ℕ) → Holds other → slice_cmp nat_cmp app other ≢ Greater)
-
--- the application is active, and names a calendar that isn't defined
-abbrev pub HasNoCalendar : Definitions → List ℕ → Type 0
-HasNoCalendar all app = (a : Application) × IsActive all app a × LacksCalendar all a
-
--- the application is active, and one of its run cycles names a period that isn't defined
-abbrev pub HasNoPeriod : Definitions → List ℕ → Type 0
-HasNoPeriod all app = (a : Application) × IsActive all app a × LacksPeriod all app
+IsLeastApp Holds app = IsLeastName Holds (Some app)
 
 -- the application is defined and active
 abbrev pub IsPlannedApp : Definitions → List ℕ → Type 0
