@@ -1,4 +1,4 @@
-ghost use Rattle.std.specs.Prelude.{◌≡◌, ◌<◌, ◌≤◌, length, Contains, IfOk, IfErr, ◌↔◌};
+ghost use Rattle.std.specs.Prelude.{◌≡◌, ◌<◌, ◌≤◌, length, Contains, IfOk, IfErr, vec_len, ◌↔◌};
 ghost use Rattle.std.specs.List.{HoldsAt};
 ghost use Rattle.std.specs.List.Sorted.{IsPartitionPoint};
 ghost use Rattle.std.specs.declared.cmp.Ordering.TheVariants.{Less, Greater};
@@ -25,6 +25,7 @@ pub fn has_key<T: Keyed>(list: &[T], key: &T::Key) -> bool
 pub fn sort<T: Keyed>(list: &mut Vec<T>)
     ensures keyed { AreApart T.key_of list.old.items → IsKeyed T.Key.cmp T.key_of list.new.items }
     ensures same { (x : T) → Contains list.new.items x ↔ Contains list.old.items x }
+    ensures length { vec_len list.new ≡ vec_len list.old }
 {
     list.sort_unstable_by_key(|x| x.key());
 }

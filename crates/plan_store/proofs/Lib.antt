@@ -1,6 +1,9 @@
-mod LookLemmas
+mod AlikeLemmas
+mod JobLemmas
+pub mod LookLemmas
 mod MoveLemmas
 mod OrderLemmas
-mod PlaceLemmas
+pub mod PairLemmas
+pub mod PlaceLemmas
 mod SliceLemmas
-mod ViewLemmas
+pub mod ViewLemmas

@@ -2,6 +2,8 @@ pub mod Changes
 pub mod Contents
 pub mod Faults
 pub mod Jobs
+pub mod Lists
+pub mod Room
 pub mod Slices
 pub mod Stores
 pub mod Verdicts

@@ -4,11 +4,16 @@
 
 mod changes;
 mod contents;
+mod jobs;
+mod list_store;
+mod moving;
+mod pairs;
 mod slices;
 mod stores;
 mod views;
 
 pub use changes::{Change, DefinitionChange, Moves, Verdict};
 pub use contents::Content;
+pub use list_store::ListStore;
 pub use stores::{Need, PlanStore, StoreFault};
 pub use views::View;

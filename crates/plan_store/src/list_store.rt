@@ -1,0 +1,76 @@
+use crate::changes::Change;
+use crate::contents::Content;
+use crate::stores::{Need, PlanStore, StoreFault};
+use crate::views::View;
+use planner_machine::Job;
+use std::alloc::Global;
+
+/// A store that keeps its content in memory. Its device never fails.
+#[derive(Drop)]
+pub struct ListStore {
+    content: Content,
+}
+
+impl ListStore {
+    ghost use Rattle.std.specs.Prelude.{◌≡◌, option_copied};
+    ghost use Rattle.plan_store.specs.Contents.{content_of, no_content};
+    ghost use Rattle.plan_store.specs.Lists.{listed};
+
+    /// A store of what a planner knows that was told nothing.
+    pub fn new(alloc: Global) -> ListStore
+        ensures { listed result ≡ no_content }
+    {
+        ListStore {
+            content: Content::new(alloc),
+        }
+    }
+
+    /// The content as a value.
+    pub fn content(&self) -> &Content
+        ensures { content_of result.now ≡ listed self.now }
+    {
+        &self.content
+    }
+
+    fn view(&self) -> View<'_>
+        ensures { result.content.now ≡ self.now.content }
+    {
+        View {
+            content: &self.content,
+        }
+    }
+
+    fn kept_job(&self, number: u64) -> Option<&Job>
+        ensures { option_copied result ≡ (listed self.now).jobs number }
+    {
+        self.content.job(number)
+    }
+}
+
+impl PlanStore for ListStore {
+    ghost use Rattle.std.specs.Prelude.{◌≡◌, ⊤};
+    ghost use Rattle.plan_store.specs.Lists.{listed};
+
+    ghost content = { listed };
+
+    ghost is_honest = { λ _. ⊤ };
+
+    ghost failures = { λ _. 0 };
+
+    ghost may_leave = { λ store c. c ≡ listed store };
+
+    fn read_window<'a>(&'a mut self, _need: Need) -> Result<View<'a>, StoreFault> {
+        Ok(self.view())
+    }
+
+    fn job<'a>(&'a mut self, number: u64) -> Result<Option<&'a Job>, StoreFault> {
+        Ok(self.kept_job(number))
+    }
+
+    fn apply(&mut self, alloc: Global, change: Change) -> Result<(), StoreFault> {
+        match self.content.apply(alloc, change) {
+            Ok(()) => Ok(()),
+            Err(_) => Err(StoreFault::Memory),
+        }
+    }
+}
