@@ -1,0 +1,3 @@
+pub mod ChangeLemmas
+pub mod ListLemmas
+pub mod ScratchLemmas
