@@ -1,15 +1,15 @@
 -- Lists in byte order of their names.
-use Rattle.std.proofs.Common.{◌≡◌, ◌≢◌, ◌⊎◌, ◌∙◌, sym, refl, ap, subst, inl, inr, ℕ, zero, suc, ◌+◌, ◌-◌, ◌<◌, List, [], ◌∷◌, length, map, get_or, Equal, Greater, Result, Ok, Err, arith}
+use Rattle.std.proofs.Common.{◌≡◌, ◌≢◌, ◌⊎◌, ◌∙◌, sym, refl, ap, subst, inl, inr, ℕ, zero, suc, ◌+◌, ◌-◌, ◌<◌, ◌≤◌, List, [], ◌∷◌, length, map, get_or, true, false, Ordering, Less, Equal, Greater, Result, Ok, Err, arith}
 use Rattle.std.specs.Prelude.{AllPairs, Any, Contains, IfOk, IfErr}
 use Rattle.std.specs.List.{HoldsAt, insert}
 use Rattle.std.specs.List.Sorted.{IsBinarySearchResult, IsNonDecreasingBy, IsSearchInRange, IsSortedBy}
-use Rattle.std.specs.Ordering.{nat_cmp, is_lt, ordering_index, ordering_reverse}
+use Rattle.std.specs.Ordering.{nat_cmp, is_ge, is_lt, ordering_index, ordering_reverse}
 use Rattle.std.specs.Cmp.{tied_itself}
 use Rattle.std.specs.Cmp.Lexicographic.{slice_cmp, nat_list_cmp_total}
 use Rattle.std.specs.FinMap.{slice_cmp-IsAntisymmetric, nat_cmp-IsAntisymmetric}
 use Rattle.std.proofs.Math.Nat.{eq-or-lt_of_le}
-use Rattle.std.proofs.lemmas.Bool.{cases_lt}
-use Rattle.std.proofs.lemmas.List.{get_or-map, length-map}
+use Rattle.std.proofs.lemmas.Bool.{cases_lt, false≢true}
+use Rattle.std.proofs.lemmas.List.{get_or-map, get_or_default, length-map}
 use Rattle.std.proofs.lemmas.List.Edits.{length-insert, get_or-insert_below, get_or-insert_at, get_or-insert_above}
 use Rattle.std.proofs.lemmas.List.Sorted.{searchable_from_sorted, IsPermutation-insert, IsPermutation-sym, Contains-permutation}
 use Rattle.app_definitions.specs.Rising.{IsBelow, AreRising, IsPlaceFor}
@@ -174,3 +174,55 @@ same_rising name_of (x ∷ xs) [] up vp into back = let (k, lt, is) = into x (fi
 same_rising name_of (x ∷ xs) (y ∷ ys) up vp into back =
     let e = same_first name_of x y xs ys up vp (behind x xs y (back y (first_of_list y ys))) (behind y ys x (into x (first_of_list x xs))) in
     ap (λ z. z ∷ xs) e ∙ ap (λ zs. y ∷ zs) (same_rising name_of xs ys (tail_rising name_of x xs up) (tail_rising name_of y ys vp) (peeled name_of x y xs ys e up into) (peeled name_of y x ys xs (sym e) vp back))
+
+-- up to a place, each name is below the next
+abbrev pub RisesTo : {X : Type 0} → (X → List ℕ) → List X → ℕ → Type 0
+RisesTo {X} name_of xs i = (k : ℕ) (d : X) → k + 1 < i → IsBelow (name_of (get_or xs k d)) (name_of (get_or xs (k + 1) d))
+
+pub rises_none : {X : Type 0} (name_of : X → List ℕ) (xs : List X) → RisesTo name_of xs 1
+rises_none name_of xs k d h = absurd (omega (arith, h))
+
+-- a name that is not at or above the next is below it
+not_reached : (o : Ordering) → is_ge o ≡ false → o ≡ Less
+not_reached Less h = refl
+not_reached Equal h = absurd (false≢true (sym h))
+not_reached Greater h = absurd (false≢true (sym h))
+
+reached : (o : Ordering) → is_ge o ≡ true → o ≡ Less → ⊥
+reached Less h e = false≢true h
+reached Equal h e = let x : ⊥ = cc in x
+reached Greater h e = let x : ⊥ = cc in x
+
+pub rises_more : {X : Type 0} (name_of : X → List ℕ) (xs : List X) (i : ℕ) (x y : X) → RisesTo name_of xs i → 1 ≤ i → i < length xs
+    → x ≡ get_or xs (i - 1) x → y ≡ get_or xs i y → is_ge (slice_cmp nat_cmp (name_of x) (name_of y)) ≡ false → RisesTo name_of xs (i + 1)
+rises_more name_of xs i x y rises some within at_x at_y not k d h = elim (cases_lt (k + 1) i) [
+  | inl less ↦ rises k d less
+  | inr more ↦
+      let here : k + 1 ≡ i = omega (arith, h, more) in
+      let before : i - 1 ≡ k = omega (arith, here) in
+      let fst : x ≡ get_or xs k d = at_x ∙ get_or_default xs (i - 1) x d (omega (arith, within)) ∙ ap (λ n. get_or xs n d) before in
+      let snd : y ≡ get_or xs (k + 1) d = at_y ∙ get_or_default xs i y d within ∙ ap (λ n. get_or xs n d) (sym here) in
+      subst (λ v. IsBelow (name_of v) (name_of (get_or xs (k + 1) d))) fst (subst (λ w. IsBelow (name_of x) (name_of w)) snd (not_reached (slice_cmp nat_cmp (name_of x) (name_of y)) not))
+]
+
+-- where one isn't below the next, the list doesn't rise
+pub not_rising : {X : Type 0} (name_of : X → List ℕ) (xs : List X) (i : ℕ) (x y : X) → 1 ≤ i → i < length xs
+    → x ≡ get_or xs (i - 1) x → y ≡ get_or xs i y → is_ge (slice_cmp nat_cmp (name_of x) (name_of y)) ≡ true → AreRising name_of xs → ⊥
+not_rising name_of xs i x y some within at_x at_y ge rising =
+    let snd : y ≡ get_or xs i x = at_y ∙ get_or_default xs i y x within in
+    let up : IsBelow (name_of (get_or xs (i - 1) x)) (name_of (get_or xs i x)) = rising (i - 1) i x (omega (arith, some)) within in
+    reached (slice_cmp nat_cmp (name_of x) (name_of y)) ge
+    (subst (λ v. IsBelow (name_of v) (name_of y)) (sym at_x) (subst (λ w. IsBelow (name_of (get_or xs (i - 1) x)) (name_of w)) (sym snd) up))
+
+-- a list that rises to its end
+far : {X : Type 0} (name_of : X → List ℕ) (xs : List X) (i : ℕ) (d : X) (n : ℕ) → RisesTo name_of xs (length xs) → i + n + 1 < length xs → IsBelow (name_of (get_or xs i d)) (name_of (get_or xs (i + n + 1) d))
+far name_of xs i d zero rises within = let e : i + 0 + 1 ≡ i + 1 = omega arith in rw e (rises i d (omega (arith, within)))
+far name_of xs i d (suc n) rises within =
+    let e : i + suc n + 1 ≡ (i + n + 1) + 1 = omega arith in
+    rw e (nat_list_cmp_total.trans (name_of (get_or xs i d)) (name_of (get_or xs (i + n + 1) d)) (name_of (get_or xs ((i + n + 1) + 1) d))
+    (far name_of xs i d n rises (omega (arith, within))) (rises (i + n + 1) d (omega (arith, within))))
+
+pub rising_all : {X : Type 0} (name_of : X → List ℕ) (xs : List X) (end : ℕ) → RisesTo name_of xs end → length xs ≤ end → AreRising name_of xs
+rising_all name_of xs end rises all i j d lt within =
+    let e : i + (j - i - 1) + 1 ≡ j = omega (arith, lt) in
+    subst (λ n. IsBelow (name_of (get_or xs i d)) (name_of (get_or xs n d))) e (far name_of xs i d (j - i - 1) (λ k x h. rises k x (omega (arith, h, all))) (omega (arith, lt, within)))

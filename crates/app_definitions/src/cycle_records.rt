@@ -41,6 +41,24 @@ impl RunCycles {
     ghost use Rattle.run_cycles.specs.Occurrence.{HaveOwnNames};
     ghost use Rattle.app_definitions.specs.Rising.{AreRising};
 
+    /// These run cycles, or none where they aren't in byte order of their names, no two of one name.
+    pub fn from_vec(cycles: Vec<RunCycle>) -> Option<RunCycles>
+        ensures valid { IsSome result ↔ AreRising (λ cycle. cycle.name) cycles.items }
+        ensures value { IfSome result (λ r. r ≡ cycles.items) }
+    {
+        if !is_rising(&cycles) {
+            return None;
+        }
+        Some(RunCycles { cycles })
+    }
+
+    /// The run cycles as a vector.
+    pub fn into_vec(self) -> Vec<RunCycle>
+        ensures { result.items ≡ self }
+    {
+        self.cycles
+    }
+
     /// The run cycles, in byte order of their names, no two of one name.
     pub fn as_slice(&self) -> &[RunCycle]
         ensures value { result.now ≡ self.now }
@@ -184,6 +202,18 @@ fn run_cycle_of(alloc: Global, row: &ByteRecord) -> Result<Option<RunCycle>, All
         return Ok(None);
     };
     Ok(run_cycle_with(row, offsets))
+}
+
+// Whether the run cycles are in byte order of their names, no two of one name.
+fn is_rising(cycles: &[RunCycle]) -> bool
+    ensures { IsTrue result ↔ AreRising (λ cycle. cycle.name) cycles.now }
+{
+    for i in 1..cycles.len() {
+        if cycles[i - 1].name >= cycles[i].name {
+            return false;
+        }
+    }
+    true
 }
 
 // Where the run cycle of this name stands, or else the place where one of this name would stand.

@@ -283,8 +283,44 @@ fn forget(alloc: Global, all: &mut Definitions) {
     *all = Definitions::new(alloc);
 }
 
-// What comes of an act: + takes a block in, ! does so after all else is forgotten, = asks what is defined for a name, and -
-// takes a name away.
+// The least application that lacks its calendar (C) or a period (P).
+fn least_text(alloc: Global, all: &Definitions, kind: Kind) -> Result<String, AllocError> {
+    let mut text = String::new(alloc);
+    let least = match kind {
+        Kind::Calendars => all.least_without_calendar(),
+        Kind::Periods => all.least_without_period(),
+        _ => None,
+    };
+    if let Some(app) = least {
+        text.push_str(app.as_str())?;
+    }
+    Ok(text)
+}
+
+fn joined(alloc: Global, names: &[Name]) -> Result<String, AllocError> {
+    let mut text = String::new(alloc);
+    for name in names {
+        text.push_str(name.as_str())?;
+        text.push(' ')?;
+    }
+    Ok(text)
+}
+
+// The names that have a definition.
+fn names_text(alloc: Global, all: &Definitions, kind: Kind) -> Result<String, AllocError> {
+    let names = match kind {
+        Kind::Applications => all.applications.names(alloc)?,
+        Kind::Calendars => all.calendars.names(alloc)?,
+        Kind::Periods => all.periods.names(alloc)?,
+        Kind::Predecessors => all.predecessors.names(alloc)?,
+        Kind::RunCycles => all.run_cycles.names(alloc)?,
+        Kind::Options => Vec::new(alloc),
+    };
+    joined(alloc, &names)
+}
+
+// What comes of an act: + takes a block in, ! does so after all else is forgotten, = asks what is defined for a name, -
+// takes a name away, ? asks for the least application that lacks one, and * for all names.
 fn done(
     rt: &impl Abort,
     alloc: Global,
@@ -301,6 +337,8 @@ fn done(
         }
         b'=' => text(rt, alloc, all, kind, &name(rt, rest)),
         b'-' => removed_text(rt, alloc, all, kind, &name(rt, rest)),
+        b'?' => least_text(alloc, all, kind),
+        b'*' => names_text(alloc, all, kind),
         _ => format!(in alloc; "no act"),
     }
 }
@@ -439,5 +477,44 @@ fn removed(rt: HostRuntime) -> Result<(), Fail> {
           -LA>0 00000 11111",
     )?;
     assert_eq!(rt; rows, 17);
+    Ok(())
+}
+
+// Z and C name a calendar that isn't defined, and B does too, but is pending; D names the default one. Run cycles of Y and
+// of C name a period that isn't defined, and of B too.
+#[test]
+fn walked(rt: HostRuntime) -> Result<(), Fail> {
+    let rows = play(
+        &rt,
+        rt.alloc(),
+        b"*A>|\
+          ?C>|\
+          ?P>|\
+          +AZ,A,HERE\nY,A,\nD,A,DEFAULT\n>3|\
+          ?C>Z|\
+          ?P>|\
+          +AC,A,GONE\nB,P,GONE\n>2|\
+          ?C>C|\
+          +CHERE,SAT,FREE\n>1|\
+          ?C>C|\
+          +CGONE,SAT,FREE\n>1|\
+          ?C>|\
+          +RY,R,N,P,E,1,2024-01-01,,08.00,0,17.00\nB,R,N,P,E,1,2024-01-01,,08.00,0,17.00\n>2|\
+          ?P>Y|\
+          +RC,R,N,Q,E,1,2024-01-01,,08.00,0,17.00\nC,S,N,P,E,1,2024-01-01,,08.00,0,17.00\n>1|\
+          ?P>C|\
+          +PQ,A,2024-01-01,7\n>1|\
+          ?P>C|\
+          +PP,A,2024-01-01,7\n>1|\
+          ?P>|\
+          +LZ,Y\nA,B\nZ,A\n>2|\
+          *A>B C D Y Z |\
+          *C>GONE HERE |\
+          *P>P Q |\
+          *L>A Z |\
+          *R>B C Y |\
+          *O>",
+    )?;
+    assert_eq!(rt; rows, 27);
     Ok(())
 }

@@ -1,7 +1,8 @@
 // Periods.
 
-ghost use Rattle.std.specs.Prelude.{◌≡◌, ◌↔◌, ◌≤◌, ℕ, List, [], ◌∷◌, ◌++◌, length, Option, IsTrue, IsSome, IfSome, IfOk, OnErr, false};
+ghost use Rattle.std.specs.Prelude.{◌≡◌, ◌↔◌, ◌≤◌, ℕ, List, [], ◌∷◌, ◌++◌, length, Option, IsTrue, IsSome, IfSome, IsOk, IfOk, IfErr, OnErr, false};
 ghost use Rattle.csv.specs.Records.{fields_of};
+ghost use Rattle.plan_periods.specs.Fault.{IsLeastFault};
 ghost use Rattle.plan_periods.specs.Period.{Entry, IsSoundPeriod};
 ghost use Rattle.work_calendars.specs.Spelling.{SpellsDay};
 ghost use Rattle.app_definitions.specs.Fields.{field, number_value, IsDayText};
@@ -10,7 +11,7 @@ ghost use Rattle.app_definitions.specs.Periods.{FitsPeriod, IsPeriodOf, GivesEnt
 use crate::by_name::Definition;
 use crate::fields::{day_of, field_at, number_of, optional_day_of, short_of};
 use csv::ByteRecord;
-use plan_periods::{MAX_INTERVAL, Origins, Period};
+use plan_periods::{MAX_INTERVAL, Origins, Period, PeriodFault};
 use std::alloc::{AllocError, Global};
 use std::marker::Model;
 use work_calendars::Day;
@@ -46,6 +47,21 @@ impl Model for DefinedPeriod {
 }
 
 impl DefinedPeriod {
+    /// The period, or its fault of least number.
+    pub fn from_period(period: Period) -> Result<DefinedPeriod, PeriodFault>
+        ensures valid { IsOk result ↔ IsSoundPeriod period }
+        ensures value { IfOk result (λ p. p ≡ period) }
+        ensures fault { IfErr result (IsLeastFault period) }
+    {
+        period.check()?;
+        let division = match period {
+            Period::All { origin, interval } => Division::Days { origin, interval },
+            Period::Work { origin, interval } => Division::WorkDays { origin, interval },
+            Period::Listed(origins) => Division::Listed(origins.into_vec()),
+        };
+        Ok(DefinedPeriod { division })
+    }
+
     /// A copy of the period.
     pub fn to_period(&self, alloc: Global) -> Result<Period, AllocError>
         ensures value { IfOk result (λ p. p ≡ self.now) }

@@ -1,6 +1,6 @@
 // The predecessors of applications.
 
-ghost use Rattle.std.specs.Prelude.{◌≡◌, ◌↔◌, ◌<◌, ℕ, List, [], ◌∷◌, ◌++◌, map, length, IsTrue, IsSome, IfOk, IfErr};
+ghost use Rattle.std.specs.Prelude.{◌≡◌, ◌↔◌, ◌<◌, ℕ, List, [], ◌∷◌, ◌++◌, map, length, IsTrue, IsSome, IfSome, IfOk, IfErr};
 ghost use Rattle.std.specs.List.{HoldsAt};
 ghost use Rattle.csv.specs.Records.{fields_of};
 ghost use Rattle.app_definitions.specs.Predecessors.{FitsPredecessors, ArePredecessorsOf};
@@ -31,6 +31,24 @@ impl Model for Predecessors {
 }
 
 impl Predecessors {
+    /// The predecessors of these names, or none where they aren't in byte order, each once.
+    pub fn from_vec(names: Vec<Name>) -> Option<Predecessors>
+        ensures valid { IsSome result ↔ AreRising (λ name. name) names.items }
+        ensures value { IfSome result (λ p. p ≡ names.items) }
+    {
+        if !is_rising(&names) {
+            return None;
+        }
+        Some(Predecessors { names })
+    }
+
+    /// The names as a vector.
+    pub fn into_vec(self) -> Vec<Name>
+        ensures { result.items ≡ self }
+    {
+        self.names
+    }
+
     /// The names, in byte order, each once.
     pub fn as_slice(&self) -> &[Name]
         ensures value { result.now ≡ self.now }
@@ -48,6 +66,18 @@ impl Clone for Predecessors {
             names: self.names.clone()?,
         })
     }
+}
+
+// Whether the names are in byte order, each once.
+fn is_rising(names: &[Name]) -> bool
+    ensures { IsTrue result ↔ AreRising (λ name. name) names.now }
+{
+    for i in 1..names.len() {
+        if names[i - 1] >= names[i] {
+            return false;
+        }
+    }
+    true
 }
 
 // Where this name stands, or else the place where it would stand.
