@@ -1,18 +1,18 @@
 mod DecisionLemmas
 mod RisingLemmas
-mod RowsSound
-mod SeatLemmas
+pub mod RowsSound
+pub mod SeatLemmas
 mod MadeLemmas
-mod DailyLemmas
-mod ActionLemmas
+pub mod DailyLemmas
+pub mod ActionLemmas
 mod DraftLemmas
 mod ModifyLemmas
 mod AddLemmas
-mod DeleteLemmas
+pub mod DeleteLemmas
 mod CreateLemmas
 mod LinkLemmas
-mod PairLemmas
-mod SoundLemmas
+pub mod PairLemmas
+pub mod SoundLemmas
 mod OneAnswerLemmas
 mod FateLemmas
 mod FollowLemmas

@@ -1,0 +1,5 @@
+pub mod SetLemmas
+pub mod ChangeLemmas
+pub mod PairLemmas
+pub mod DailyLemmas
+pub mod StatusLemmas

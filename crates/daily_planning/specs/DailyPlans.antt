@@ -1,0 +1,19 @@
+-- What a daily plan changes.
+use Rattle.std.specs.Prelude.{ℕ, Bool, not}
+use Rattle.occurrences.specs.declared.place.CurrentRow.{CurrentRow}
+use Rattle.occurrences.specs.declared.reply.Reply.{Reply}
+use Rattle.planner_machine.specs.Content.{Content}
+use Rattle.planner_machine.specs.DailyExtend.{ExtendsDaily}
+use Rattle.planner_machine.specs.DailyPlan.{is_uncompleted}
+use Rattle.planner_machine.specs.InForce.{PutsNone}
+use Rattle.planner_machine.specs.Plans.{ChangesPlans}
+use Rattle.plan_store.specs.Changes.{Fits, after}
+use Rattle.plan_store.specs.declared.changes.Change.{Change}
+
+-- a row of the current plan that a daily plan takes from it
+abbrev pub is_finished : CurrentRow → Bool
+is_finished current = not (is_uncompleted current.status)
+
+-- the content admits the change, and the change makes a daily plan to t of it, with its reply
+abbrev pub DoesDaily : ℕ → Content → Change → Reply → Type 0
+DoesDaily t c change reply = Fits change c × ChangesPlans (ExtendsDaily t) PutsNone c reply (after change c)

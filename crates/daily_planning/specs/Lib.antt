@@ -1,0 +1,2 @@
+pub mod DailyPlans
+pub mod Statuses
