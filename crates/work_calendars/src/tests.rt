@@ -99,33 +99,12 @@ fn days_have_a_first_and_a_last(rt: HostRuntime) {
 
 #[test]
 fn other_texts_are_no_days(rt: HostRuntime) {
-    let wrong = [
-        "",
-        "1971-12-31",
-        "2072-01-01",
-        "2024-02-30",
-        "2023-02-29",
-        "2024-04-31",
-        "2024-00-10",
-        "2024-13-01",
-        "2024-01-00",
-        "2024-1-01",
-        "2024-01-1",
-        "24-01-01",
-        " 2024-01-01",
-        "2024-01-01 ",
-        "2024- 1-01",
-        "+024-01-01",
-        "-024-01-01",
-        "2024-+1-01",
-        "2024/01/01",
-        "20240101",
-        "2024-01-0x",
-        "2024-01-01/",
-        "12024-01-01",
-        "2024-01-é",
-    ];
-    for text in wrong {
+    let wrong = "|1971-12-31|2072-01-01|2024-02-30|2023-02-29|\
+                 2024-04-31|2024-00-10|2024-13-01|2024-01-00|2024-1-01|\
+                 2024-01-1|24-01-01| 2024-01-01|2024-01-01 |2024- 1-01|\
+                 +024-01-01|-024-01-01|2024-+1-01|2024/01/01|20240101|\
+                 2024-01-0x|2024-01-01/|12024-01-01|2024-01-é";
+    for text in wrong.split('|') {
         assert_row(&rt, Day::from_text(text).is_none(), text);
     }
 }
@@ -368,11 +347,6 @@ fn calendar_of_free_weekdays(rt: HostRuntime) -> Result<(), AllocError> {
     Ok(())
 }
 
-fn set_date(calendar: &mut Calendar, text: &str, status: DayStatus) -> Result<(), Fail> {
-    let day = Day::from_text(text).ok_or("no day")?;
-    Ok(calendar.set_date(day, status)?)
-}
-
 // How many work days there are from 2024-01-06 to the day before.
 fn work_days_to(index: &WorkIndex, text: &str) -> Option<usize> {
     let start = index.rank(Day::from_text("2024-01-06")?);
@@ -385,16 +359,17 @@ fn assert_ranks(rt: &impl Abort, index: &WorkIndex, ranks: &[(&str, usize)]) {
     }
 }
 
-// The index of the calendar whose Saturdays and Sundays are free, and 2024-01-10.
-fn with_a_free_date(alloc: Global) -> Result<WorkIndex, Fail> {
+// The index of the calendar whose Saturdays and Sundays are free, and that date.
+fn with_a_free_date(alloc: Global, date: Day) -> Result<WorkIndex, AllocError> {
     let mut calendar = weekdays(alloc);
-    set_date(&mut calendar, "2024-01-10", DayStatus::Free)?;
-    Ok(WorkIndex::build(alloc, &calendar)?)
+    calendar.set_date(date, DayStatus::Free)?;
+    WorkIndex::build(alloc, &calendar)
 }
 
 #[test]
 fn calendar_with_a_free_date(rt: HostRuntime) -> Result<(), Fail> {
-    let index = with_a_free_date(rt.alloc())?;
+    let free = Day::from_text("2024-01-10").ok_or("no day")?;
+    let index = with_a_free_date(rt.alloc(), free)?;
     assert_ranks(
         &rt,
         &index,
@@ -418,31 +393,32 @@ fn calendar_with_a_free_date(rt: HostRuntime) -> Result<(), Fail> {
     Ok(())
 }
 
-// What the calendar lists for a Saturday, and whether it and the next are work days; none where a text is no day.
-fn saturdays(calendar: &Calendar) -> Option<(Option<DayStatus>, bool, bool)> {
-    let saturday = Day::from_text("2024-01-06")?;
-    Some((
-        calendar.date_status(saturday),
-        calendar.is_work(saturday),
-        calendar.is_work(Day::from_text("2024-01-13")?),
-    ))
+// What the calendar lists for the first of two days, and whether each is a work day.
+fn statuses(calendar: &Calendar, [day, later]: [Day; 2]) -> (Option<DayStatus>, [bool; 2]) {
+    let are_work = [calendar.is_work(day), calendar.is_work(later)];
+    (calendar.date_status(day), are_work)
 }
 
-// Lists that Saturday as free, and then as a work day.
-fn list_saturday(calendar: &mut Calendar) -> Result<(), Fail> {
-    set_date(calendar, "2024-01-06", DayStatus::Free)?;
-    set_date(calendar, "2024-01-06", DayStatus::Work)
+// The same of the calendar whose Saturdays and Sundays are free: before the first day is listed as free and then as a
+// work day, and after that.
+fn listed_twice(
+    alloc: Global,
+    days: [Day; 2],
+) -> Result<[(Option<DayStatus>, [bool; 2]); 2], AllocError> {
+    let mut calendar = weekdays(alloc);
+    let before = statuses(&calendar, days);
+    calendar.set_date(days[0], DayStatus::Free)?;
+    calendar.set_date(days[0], DayStatus::Work)?;
+    Ok([before, statuses(&calendar, days)])
 }
 
 #[test]
 fn a_date_goes_before_its_weekday(rt: HostRuntime) -> Result<(), Fail> {
-    let mut calendar = weekdays(rt.alloc());
-    assert_eq!(rt; saturdays(&calendar), Some((None, false, false)));
-    list_saturday(&mut calendar)?;
-    assert_eq!(rt;
-        saturdays(&calendar),
-        Some((Some(DayStatus::Work), true, false))
-    );
+    let saturday = Day::from_text("2024-01-06").ok_or("no day")?;
+    let next = Day::from_text("2024-01-13").ok_or("no day")?;
+    let [before, after] = listed_twice(rt.alloc(), [saturday, next])?;
+    assert!(rt; before == (None, [false, false]));
+    assert!(rt; after == (Some(DayStatus::Work), [true, false]));
     Ok(())
 }
 
@@ -459,6 +435,7 @@ fn weekend(calendar: &Calendar) -> Option<(bool, bool)> {
     Some((saturday, calendar.is_work(Day::from_text("2024-01-14")?)))
 }
 
+// The same of a copy.
 fn weekend_of_copy(calendar: &Calendar) -> Result<Option<(bool, bool)>, AllocError> {
     let copy = copied(calendar)?;
     Ok(weekend(&copy))
@@ -472,13 +449,18 @@ fn listed_weekdays(calendar: &Calendar) -> [Option<DayStatus>; 2] {
     ]
 }
 
+// The weekend of the calendar whose Sundays alone are free, and that of its copy.
+fn weekends(alloc: Global) -> Result<[Option<(bool, bool)>; 2], AllocError> {
+    let mut calendar = weekdays(alloc);
+    calendar.set_weekday(Weekday::Saturday, DayStatus::Work);
+    Ok([weekend(&calendar), weekend_of_copy(&calendar)?])
+}
+
 #[test]
 fn a_weekday_is_listed_anew(rt: HostRuntime) -> Result<(), AllocError> {
-    let mut calendar = weekdays(rt.alloc());
-    assert_eq!(rt; listed_weekdays(&calendar), [Some(DayStatus::Free), None]);
-    calendar.set_weekday(Weekday::Saturday, DayStatus::Work);
-    assert_eq!(rt; weekend(&calendar), Some((true, false)));
-    assert_eq!(rt; weekend_of_copy(&calendar)?, Some((true, false)));
+    let listed = listed_weekdays(&weekdays(rt.alloc()));
+    assert!(rt; listed == [Some(DayStatus::Free), None]);
+    assert!(rt; weekends(rt.alloc())? == [Some((true, false)); 2]);
     Ok(())
 }
 
