@@ -1,5 +1,15 @@
 //! The definitions that a planner works from, as data blocks give them: calendars, periods, applications, run cycles,
 //! lists of predecessors and options.
+//!
+//! A block of a kind is read whole, or refused at its first faulty record. What was read is merged, and asked by name:
+//!
+//! ```text
+//! let mut all = Definitions::new(alloc);
+//! let block = read_block(alloc, Kind::Applications, b"Z,A,HERE\nY,A,\nD,A,DEFAULT\n")?;
+//! assert_eq!(rt; all.merge(block)?, 3);
+//! // Z names a calendar that isn't defined; Y and D use the default one
+//! assert_eq!(rt; all.least_without_calendar(), Some(z));
+//! ```
 #![tactic(auto)]
 
 mod active;
