@@ -1,0 +1,89 @@
+ghost use Rattle.std.specs.Prelude.{◌≡◌, IfOk, filter, nat_eq, not};
+ghost use Rattle.occurrences.specs.declared.row.Row.{Row as RowValue};
+ghost use Rattle.planner_machine.specs.Content.{Content};
+ghost use Rattle.planner_machine.specs.Delete.{ltp_delete};
+ghost use Rattle.planner_machine.specs.Sound.{IsSound};
+ghost use Rattle.plan_store.specs.Verdicts.{VerdictIs};
+ghost use Rattle.plan_store.specs.Views.{Shows, shown};
+ghost use Rattle.long_term_plan.specs.Deletes.{ArePairsWithout, DeletesRow};
+
+use crate::placed_rows::live_rows;
+use crate::singles::single;
+use external_dependencies::{PairChange, Pairs};
+use occurrences::{Deletion, Key, Reason, Refusal, Reply, Row, Serial};
+use plan_pairs::settled_pairs;
+use plan_store::{Change, DefinitionChange, Moves, Need, Verdict, View};
+use std::alloc::{AllocError, Global};
+
+/// `ltp-delete`: the occurrence of the key leaves the long-term plan for the deletions. Refused where there is no plan
+/// (20), and where no occurrence of the long-term plan has the key (28).
+pub fn delete(alloc: Global, view: &View<'_>, key: &Key) -> Result<Verdict, AllocError>
+    ensures { IfOk result (λ verdict. (c : Content) → Shows (Need.Key key.now) view.now c → IsSound c
+        → VerdictIs (ltp_delete key.now) c verdict) }
+{
+    if view.bounds().is_none() {
+        return Ok(Verdict::Refused(Refusal::NoPlan));
+    }
+    let Some(row) = view.ltp_row(key) else {
+        return Ok(Verdict::Refused(Refusal::NoSuchOccurrence));
+    };
+    delete_row(alloc, view, &row)
+}
+
+// The row leaves the long-term plan for the deletions.
+fn delete_row(alloc: Global, view: &View<'_>, row: &Row) -> Result<Verdict, AllocError>
+    ensures { IfOk result (λ verdict. IsSound (shown view.now)
+        → (shown view.now).sets.ltp row.now.serial ≡ Some row.now → DeletesRow (shown view.now) row.now verdict) }
+{
+    let gone = single(alloc, *row)?;
+    let deletion = Deletion {
+        row: *row,
+        reason: Reason::Operator,
+    };
+    let put = single(alloc, deletion)?;
+    let now = pairs_without(alloc, view, row)?;
+    let removed = view.pairs().without(alloc, &now)?;
+    let added = now.without(alloc, view.pairs())?;
+    let change = Change {
+        definitions: DefinitionChange::AsBefore,
+        bounds: None,
+        issued: None,
+        in_force: None,
+        ltp: Moves {
+            gone,
+            changed: Vec::new(alloc),
+            put: Vec::new(alloc),
+        },
+        cp: Moves::none(alloc),
+        history: Moves::none(alloc),
+        deletions: Moves {
+            gone: Vec::new(alloc),
+            changed: Vec::new(alloc),
+            put,
+        },
+        pairs: PairChange { removed, added },
+        job: None,
+    };
+    let serial = row.serial;
+    Ok(Verdict::Done(change, Reply::Numbered { serial }))
+}
+
+// The pairs where the row leaves the long-term plan.
+fn pairs_without(alloc: Global, view: &View<'_>, row: &Row) -> Result<Pairs, AllocError>
+    ensures { IfOk result (λ pairs. IsSound (shown view.now)
+        → (shown view.now).sets.ltp row.now.serial ≡ Some row.now → ArePairsWithout (shown view.now) row.now pairs) }
+{
+    let rest = planned_but(alloc, view.ltp(), row.serial)?;
+    let rows = live_rows(alloc, view, rest.as_slice(), &[])?;
+    settled_pairs(alloc, view.pairs(), &rows, view.in_force())
+}
+
+// The rows of the long-term plan but the one of the serial.
+fn planned_but(alloc: Global, rows: &[Row], serial: Serial) -> Result<Vec<Row>, AllocError>
+    ensures { IfOk result (λ rest. rest.items ≡ filter (λ (row : RowValue). not (nat_eq row.serial serial)) rows.now) }
+{
+    rows.iter()
+        .copied()
+        .filter(|row| row.serial != serial)
+        .collect(alloc)
+}
