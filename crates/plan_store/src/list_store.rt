@@ -2,7 +2,7 @@ use crate::changes::Change;
 use crate::contents::Content;
 use crate::stores::{Need, PlanStore, StoreFault};
 use crate::views::View;
-use planner_machine::Job;
+use planner_machine::{Job, empty_content_is_sound};
 use std::alloc::Global;
 
 /// A store that keeps its content in memory. Its device never fails.
@@ -13,13 +13,16 @@ pub struct ListStore {
 
 impl ListStore {
     ghost use Rattle.std.specs.Prelude.{◌≡◌, option_copied};
+    ghost use Rattle.planner_machine.specs.Sound.{IsSound};
     ghost use Rattle.plan_store.specs.Contents.{content_of, no_content};
     ghost use Rattle.plan_store.specs.Lists.{listed};
 
     /// A store of what a planner knows that was told nothing.
     pub fn new(alloc: Global) -> ListStore
-        ensures { listed result ≡ no_content }
+        ensures empty { listed result ≡ no_content }
+        ensures sound { IsSound (listed result) }
     {
+        empty_content_is_sound();
         ListStore {
             content: Content::new(alloc),
         }
