@@ -5,8 +5,7 @@ use crate::{CycleType, Deadline, Named, Offsets, Periods, Rule, RunCycle, genera
 use plan_periods::{Origins, Period};
 use std::alloc::{AllocError, Global};
 use std::process::Abort;
-use std::test::Fail;
-use work_calendars::{Calendar, Day, DayStatus, Minute, Moment, Short, Weekday, WorkIndex};
+use work_calendars::{Calendar, Day, DayStatus, Minute, Short, Weekday, WorkIndex};
 
 mod jump;
 mod plain;
@@ -19,6 +18,17 @@ fn day(rt: &impl Abort, text: &str) -> Day {
 
 fn short(rt: &impl Abort, text: &str) -> Short {
     Short::from_text(text).expect(rt, "a short name")
+}
+
+fn minute(rt: &impl Abort, text: &str) -> Minute {
+    Minute::from_text(text).expect(rt, "a time")
+}
+
+// The first two days of a text.
+fn two_days(rt: &impl Abort, text: &str) -> (Day, Day) {
+    let mut words = text.split_whitespace();
+    let from = day(rt, words.next().unwrap_or(""));
+    (from, day(rt, words.next().unwrap_or("")))
 }
 
 // Every day is a work day.
@@ -45,6 +55,19 @@ fn no_work(alloc: Global) -> Calendar {
     calendar
 }
 
+// Sets these days free.
+fn set_free(rt: &impl Abort, calendar: &mut Calendar, dates: &str) -> Result<(), AllocError> {
+    for date in dates.split_whitespace() {
+        calendar.set_date(day(rt, date), DayStatus::Free)?;
+    }
+    Ok(())
+}
+
+fn offsets_of(rt: &impl Abort, alloc: Global, items: &[i16]) -> Result<Offsets, AllocError> {
+    let items = Vec::from_slice(alloc, items)?;
+    Ok(Offsets::from_vec(items).expect(rt, "offsets"))
+}
+
 // The run cycle `PAY,RC,N,WEEK,RULE,OFFSETS,2024-01-01,,08.00,0,18.00`.
 fn pay(
     rt: &impl Abort,
@@ -52,42 +75,94 @@ fn pay(
     rule: Rule,
     offsets: &[i16],
 ) -> Result<RunCycle, AllocError> {
-    let time = Minute::from_text("18.00").expect(rt, "a time");
-    let offsets = Vec::from_slice(alloc, offsets)?;
+    let time = minute(rt, "18.00");
+    let (name, period) = (short(rt, "RC"), short(rt, "WEEK"));
+    let (in_effect, ia) = (day(rt, "2024-01-01"), minute(rt, "08.00"));
     Ok(RunCycle {
-        name: short(rt, "RC"),
+        name,
         kind: CycleType::Normal(Deadline { days: 0, time }),
-        period: short(rt, "WEEK"),
+        period,
         rule,
-        offsets: Offsets::from_vec(offsets).expect(rt, "offsets"),
-        in_effect: day(rt, "2024-01-01"),
+        offsets: offsets_of(rt, alloc, offsets)?,
+        in_effect,
         out_effect: None,
-        ia: Minute::from_text("08.00").expect(rt, "a time"),
+        ia,
     })
 }
 
-// Seven days from 2024-01-01 on, again and again.
-fn week(rt: &impl Abort) -> Period {
-    Period::All {
-        origin: day(rt, "2024-01-01"),
-        interval: 7,
+// The same, in effect from the first day of the text to the day before the second.
+fn pay_within(
+    rt: &impl Abort,
+    alloc: Global,
+    rule: Rule,
+    offsets: &[i16],
+    effect: &str,
+) -> Result<RunCycle, AllocError> {
+    let (in_effect, out_effect) = two_days(rt, effect);
+    let mut cycle = pay(rt, alloc, rule, offsets)?;
+    cycle.in_effect = in_effect;
+    cycle.out_effect = Some(out_effect);
+    Ok(cycle)
+}
+
+// The period `WEEK` alone.
+fn periods_of(rt: &impl Abort, alloc: Global, period: Period) -> Result<Periods, AllocError> {
+    let name = short(rt, "WEEK");
+    assert!(rt; period.check().is_ok());
+    let mut periods = Periods::new(alloc);
+    periods.insert(name, period)?;
+    Ok(periods)
+}
+
+// Intervals of so many days, from the origin on.
+fn of_days(
+    rt: &impl Abort,
+    alloc: Global,
+    origin: &str,
+    interval: u16,
+) -> Result<Periods, AllocError> {
+    let origin = day(rt, origin);
+    periods_of(rt, alloc, Period::All { origin, interval })
+}
+
+// Intervals of so many work days.
+fn of_work_days(
+    rt: &impl Abort,
+    alloc: Global,
+    origin: &str,
+    interval: u16,
+) -> Result<Periods, AllocError> {
+    let origin = day(rt, origin);
+    periods_of(rt, alloc, Period::Work { origin, interval })
+}
+
+// Origin and end, `-` for none.
+fn origin_of(rt: &impl Abort, entry: &str) -> (Day, Option<Day>) {
+    let (origin, end) = entry.split_once(' ').unwrap_or(("", ""));
+    let origin = day(rt, origin);
+    if end == "-" {
+        (origin, None)
+    } else {
+        (origin, Some(day(rt, end)))
     }
 }
 
-fn listed(
+// Intervals by origin and end, parted by `;`.
+fn origins_of(
     rt: &impl Abort,
     alloc: Global,
-    entries: &[(&str, Option<&str>)],
-) -> Result<Period, AllocError> {
+    text: &str,
+) -> Result<Vec<(Day, Option<Day>)>, AllocError> {
     let mut origins = Vec::new(alloc);
-    for (origin, end) in entries {
-        let origin = day(rt, origin);
-        match end {
-            Some(end) => origins.push((origin, Some(day(rt, end))))?,
-            None => origins.push((origin, None))?,
-        }
+    for entry in text.split(';') {
+        origins.push(origin_of(rt, entry))?;
     }
-    Ok(Period::Listed(Origins::new(origins)))
+    Ok(origins)
+}
+
+fn listed(rt: &impl Abort, alloc: Global, text: &str) -> Result<Periods, AllocError> {
+    let origins = origins_of(rt, alloc, text)?;
+    periods_of(rt, alloc, Period::Listed(Origins::new(origins)))
 }
 
 fn have_own_names(cycles: &[RunCycle]) -> bool
@@ -103,22 +178,16 @@ fn have_own_names(cycles: &[RunCycle]) -> bool
     true
 }
 
-// What the run cycles name, where the period `WEEK` is this.
+// What the run cycles name from the first day to the last.
 fn generated(
     rt: &impl Abort,
     alloc: Global,
-    calendar: &Calendar,
-    period: Period,
+    index: &WorkIndex,
+    periods: &Periods,
     cycles: &[RunCycle],
-    from: &str,
-    to: &str,
+    (from, to): (Day, Day),
 ) -> Result<Vec<Named>, AllocError> {
-    assert!(rt; period.check().is_ok());
     assert!(rt; have_own_names(cycles));
-    let index = WorkIndex::build(alloc, calendar)?;
-    let mut periods = Periods::new(alloc);
-    periods.insert(short(rt, "WEEK"), period)?;
-    let to = day(rt, to);
     assert!(rt; to.number() <= 36159, "past the last planning day");
-    generate(alloc, cycles, &periods, &index, day(rt, from), to)
+    generate(alloc, cycles, periods, index, from, to)
 }

@@ -1,17 +1,19 @@
 //! The named days by the definition alone, day by day, and compared with what is generated.
 
-use crate::tests::{day, have_own_names, listed, pay, short, weekdays};
-use crate::{Named, Periods, Rule, RunCycle, generate};
-use plan_periods::Period;
+use crate::tests::{
+    generated, listed, of_days, of_work_days, pay_within, set_free, two_days, weekdays,
+};
+use crate::{Named, Periods, Rule, RunCycle};
 use std::alloc::{AllocError, Global};
 use std::process::Abort;
-use std::test::Fail;
 use work_calendars::{Calendar, Day, DayStatus, WorkIndex};
 
-// A period as the plain program sees it: intervals by first and last day, or an origin and how many work days an interval has.
+// A period as the plain program sees it: intervals by first and last day, an origin with how many days an interval
+// has and how many intervals matter, or an origin and how many work days an interval has.
 #[derive(Clone, Copy)]
 enum Plain<'a> {
     Intervals(&'a [(u32, Option<u32>)]),
+    Days(u32, u32, u32),
     WorkDays(u32, u32),
 }
 
@@ -96,21 +98,58 @@ fn has_place(calendar: &Calendar, origin: u32, length: u32, offset: i16, d: u32)
     }
 }
 
+// Whether the offset gives the day, counted in this interval.
+fn gives_in(
+    calendar: &Calendar,
+    (first, last): (u32, Option<u32>),
+    rule: Rule,
+    offset: i16,
+    d: u32,
+) -> bool {
+    if rule == Rule::WorkDaysOnly {
+        return is_counted(calendar, first, last, offset, d);
+    }
+    match raw_day(first, last, offset) {
+        Some(x) => shifted(calendar, rule, x) == Some(d),
+        None => false,
+    }
+}
+
+// Whether the offset gives the day in one of so many intervals of this length, from the origin on.
+fn gives_in_days(
+    calendar: &Calendar,
+    (origin, length, number): (u32, u32, u32),
+    rule: Rule,
+    offset: i16,
+    d: u32,
+) -> bool {
+    let mut first = origin;
+    for _ in 0..number {
+        let next = first.wrapping_add(length);
+        if gives_in(
+            calendar,
+            (first, Some(next.wrapping_sub(1))),
+            rule,
+            offset,
+            d,
+        ) {
+            return true;
+        }
+        first = next;
+    }
+    false
+}
+
 // Whether the offset gives the day.
 fn gives(calendar: &Calendar, plain: Plain, rule: Rule, offset: i16, d: u32) -> bool {
     match plain {
         Plain::WorkDays(origin, length) => has_place(calendar, origin, length, offset, d),
+        Plain::Days(origin, length, number) => {
+            gives_in_days(calendar, (origin, length, number), rule, offset, d)
+        }
         Plain::Intervals(intervals) => {
-            for (first, last) in intervals {
-                let given = if rule == Rule::WorkDaysOnly {
-                    is_counted(calendar, *first, *last, offset, d)
-                } else {
-                    match raw_day(*first, *last, offset) {
-                        Some(x) => shifted(calendar, rule, x) == Some(d),
-                        None => false,
-                    }
-                };
-                if given {
+            for interval in intervals {
+                if gives_in(calendar, *interval, rule, offset, d) {
                     return true;
                 }
             }
@@ -137,74 +176,105 @@ fn is_named(calendar: &Calendar, plain: Plain, cycle: &RunCycle, d: u32) -> bool
     false
 }
 
-// A calendar with its index, windows by first and last day, and the days from which on and before which the run cycles are in effect.
-#[derive(Drop)]
-struct Question {
-    calendar: Calendar,
-    index: WorkIndex,
-    windows: [(u32, u32); 2],
-    effect: (Day, Day),
+// Whether the list has the days from the first to the last that the plain program finds, and no others.
+fn has_plain_days(
+    list: &[Named],
+    calendar: &Calendar,
+    plain: Plain,
+    cycle: &RunCycle,
+    (from, to): (Day, Day),
+) -> bool {
+    let mut given = 0usize;
+    for d in from.number()..to.number().wrapping_add(1) {
+        if is_named(calendar, plain, cycle, d) {
+            if !is_on(list.get(given), d) {
+                return false;
+            }
+            given = given.wrapping_add(1);
+        }
+    }
+    given == list.len()
 }
 
-// In each window the run cycle names the days that the plain program finds, and no others.
+fn is_on(named: Option<&Named>, d: u32) -> bool {
+    match named {
+        Some(named) => named.day.number() == d,
+        None => false,
+    }
+}
+
+// A calendar with its index, windows by first and last day, and the days from which on and before which the run
+// cycles are in effect.
+#[derive(Clone, Copy)]
+struct Question<'a> {
+    calendar: &'a Calendar,
+    index: &'a WorkIndex,
+    windows: [&'a str; 2],
+    effect: &'a str,
+}
+
+// Whether the run cycles name what the plain program finds for the first of them, which is alone.
 fn agree(
     rt: &impl Abort,
     alloc: Global,
-    question: &Question,
+    question: Question,
     plain: Plain,
     periods: &Periods,
-    cycle: RunCycle,
-) -> Result<(), AllocError> {
-    let mut cycles = Vec::new(alloc);
-    cycles.push(cycle)?;
-    let cycles: &[RunCycle] = &cycles;
-    assert!(rt; have_own_names(cycles));
-    for (from, to) in question.windows {
-        let first = Day::from_number(from).expect(rt, "a day");
-        let last = Day::from_number(to).expect(rt, "a day");
-        assert!(rt; last.number() <= 36159, "past the last planning day");
-        let list = generate(alloc, cycles, periods, &question.index, first, last)?;
-        for cycle in cycles {
-            let mut want = Vec::new(alloc);
-            for d in from..to.wrapping_add(1) {
-                if is_named(&question.calendar, plain, cycle, d) {
-                    want.push(d)?;
-                }
-            }
-            assert_eq!(rt;
-                list.len(),
-                want.len(),
-                "{from} {:?} {:?}",
-                cycle.rule,
-                cycle.offsets
-            );
-            for (named, d) in list.iter().zip(&want) {
-                let named: &Named = named;
-                assert_eq!(rt;
-                    named.day.number(),
-                    *d,
-                    "{:?} {:?}",
-                    cycle.rule,
-                    cycle.offsets
-                );
-            }
-        }
+    cycles: &[RunCycle],
+    window: &str,
+) -> Result<bool, AllocError> {
+    let list = generated(
+        rt,
+        alloc,
+        question.index,
+        periods,
+        cycles,
+        two_days(rt, window),
+    )?;
+    Ok(are_plain(rt, &list, question.calendar, plain, cycles, window))
+}
+
+fn are_plain(
+    rt: &impl Abort,
+    list: &[Named],
+    calendar: &Calendar,
+    plain: Plain,
+    cycles: &[RunCycle],
+    window: &str,
+) -> bool {
+    match cycles {
+        [cycle] => has_plain_days(list, calendar, plain, cycle, two_days(rt, window)),
+        _ => false,
     }
-    Ok(())
+}
+
+// Whether they agree under this rule, with these offsets, in each of the windows.
+fn agree_with(
+    rt: &impl Abort,
+    alloc: Global,
+    question: Question,
+    plain: Plain,
+    periods: &Periods,
+    rule: Rule,
+    offsets: &[i16],
+) -> Result<bool, AllocError> {
+    let [first, second] = question.windows;
+    let cycles = vec![in alloc; pay_within(rt, alloc, rule, offsets, question.effect)?]?;
+    Ok(
+        agree(rt, alloc, question, plain, periods, &cycles, first)?
+            && agree(rt, alloc, question, plain, periods, &cycles, second)?,
+    )
 }
 
 // The same under every rule, with each of the lists of offsets.
 fn agree_under_all_rules(
     rt: &impl Abort,
     alloc: Global,
-    question: &Question,
+    question: Question,
     plain: Plain,
-    period: Period,
+    periods: &Periods,
     table: &[&[i16]],
 ) -> Result<(), AllocError> {
-    assert!(rt; period.check().is_ok());
-    let mut periods = Periods::new(alloc);
-    periods.insert(short(rt, "WEEK"), period)?;
     for rule in [
         Rule::WorkDaysOnly,
         Rule::Before,
@@ -213,91 +283,88 @@ fn agree_under_all_rules(
         Rule::Skip,
     ] {
         for offsets in table {
-            let mut cycle = pay(rt, alloc, rule, offsets)?;
-            cycle.in_effect = question.effect.0;
-            cycle.out_effect = Some(question.effect.1);
-            agree(rt, alloc, question, plain, &periods, cycle)?;
+            let holds = agree_with(rt, alloc, question, plain, periods, rule, offsets)?;
+            assert!(rt; holds, "{rule:?} {offsets:?}");
         }
     }
     Ok(())
 }
 
-// January and half of February 2024, cut within the free days from 20 to 28 January.
-fn winter(rt: &impl Abort, alloc: Global) -> Result<Question, AllocError> {
+// Saturdays and Sundays are free, but not 13 January, and so are 10 January, all from 20 to 28 January, and
+// 14 February.
+fn winter(rt: &impl Abort, alloc: Global) -> Result<Calendar, AllocError> {
+    let (saturday, _) = two_days(rt, "2024-01-13 2024-01-13");
     let mut calendar = weekdays(alloc);
-    for date in [
-        "2024-01-10",
-        "2024-01-22",
-        "2024-01-23",
-        "2024-01-24",
-        "2024-01-25",
-        "2024-01-26",
-        "2024-02-14",
-    ] {
-        calendar.set_date(day(rt, date), DayStatus::Free)?;
-    }
-    calendar.set_date(day(rt, "2024-01-13"), DayStatus::Work)?;
-    let index = WorkIndex::build(alloc, &calendar)?;
-    let effect = (day(rt, "2024-01-04"), day(rt, "2024-02-13"));
-    Ok(Question {
-        calendar,
-        index,
-        windows: [(19723, 19746), (19747, 19768)],
-        effect,
-    })
+    calendar.set_date(saturday, DayStatus::Work)?;
+    set_free(
+        rt,
+        &mut calendar,
+        "2024-01-10 2024-01-22 2024-01-23 2024-01-24 2024-01-25 2024-01-26 2024-02-14",
+    )?;
+    Ok(calendar)
 }
 
-// The intervals of so many days each, from the origin on.
-fn steps(
-    alloc: Global,
-    origin: u32,
-    length: u32,
-    number: u32,
-) -> Result<Vec<(u32, Option<u32>)>, AllocError> {
-    let mut intervals = Vec::new(alloc);
-    let mut first = origin;
-    for _ in 0..number {
-        let next = first.wrapping_add(length);
-        intervals.push((first, Some(next.wrapping_sub(1))))?;
-        first = next;
+// January and half of February 2024, cut within the free days from 20 to 28 January.
+fn in_winter<'a>(calendar: &'a Calendar, index: &'a WorkIndex) -> Question<'a> {
+    Question {
+        calendar,
+        index,
+        windows: ["2024-01-01 2024-01-24", "2024-01-25 2024-02-15"],
+        effect: "2024-01-04 2024-02-13",
     }
-    Ok(intervals)
+}
+
+// Intervals of so many days.
+fn days_agree(
+    rt: &impl Abort,
+    alloc: Global,
+    question: Question,
+    interval: u16,
+    number: u32,
+) -> Result<(), AllocError> {
+    let plain = Plain::Days(19721, u32::from(interval), number);
+    let table = [&[1][..], &[-1], &[6], &[-3, 9], &[2, -7, 30, -999]];
+    let periods = of_days(rt, alloc, "2023-12-30", interval)?;
+    agree_under_all_rules(rt, alloc, question, plain, &periods, &table)
 }
 
 #[test]
-fn plain_days(rt: HostRuntime) -> Result<(), Fail> {
-    let alloc = rt.alloc();
-    let question = winter(&rt, alloc)?;
-    let origin = day(&rt, "2023-12-30");
+fn plain_days(rt: HostRuntime) -> Result<(), AllocError> {
+    let calendar = winter(&rt, rt.alloc())?;
+    let index = WorkIndex::build(rt.alloc(), &calendar)?;
     for (interval, number) in [(1u16, 70), (7, 10), (33, 3)] {
-        let intervals = steps(alloc, 19721, u32::from(interval), number)?;
-        let plain = Plain::Intervals(&intervals);
-        let table = [&[1][..], &[-1], &[6], &[-3, 9], &[2, -7, 30, -999]];
-        let period = Period::All { origin, interval };
-        agree_under_all_rules(&rt, alloc, &question, plain, period, &table)?;
+        let question = in_winter(&calendar, &index);
+        days_agree(&rt, rt.alloc(), question, interval, number)?;
     }
     Ok(())
 }
 
+// Intervals of so many work days.
+fn work_days_agree(
+    rt: &impl Abort,
+    alloc: Global,
+    question: Question,
+    interval: u16,
+) -> Result<(), AllocError> {
+    let plain = Plain::WorkDays(19728, u32::from(interval));
+    let table = [&[1][..], &[-1], &[4], &[-3, 9], &[2, -12, 30, -999]];
+    let periods = of_work_days(rt, alloc, "2024-01-06", interval)?;
+    agree_under_all_rules(rt, alloc, question, plain, &periods, &table)
+}
+
 #[test]
-fn plain_work_days(rt: HostRuntime) -> Result<(), Fail> {
-    let alloc = rt.alloc();
-    let question = winter(&rt, alloc)?;
-    let origin = day(&rt, "2024-01-06");
+fn plain_work_days(rt: HostRuntime) -> Result<(), AllocError> {
+    let calendar = winter(&rt, rt.alloc())?;
+    let index = WorkIndex::build(rt.alloc(), &calendar)?;
     for interval in [1u16, 5, 12] {
-        let plain = Plain::WorkDays(19728, u32::from(interval));
-        let table = [&[1][..], &[-1], &[4], &[-3, 9], &[2, -12, 30, -999]];
-        let period = Period::Work { origin, interval };
-        agree_under_all_rules(&rt, alloc, &question, plain, period, &table)?;
+        let question = in_winter(&calendar, &index);
+        work_days_agree(&rt, rt.alloc(), question, interval)?;
     }
     Ok(())
 }
 
 // One to its own end, one to the day before the next origin, two that overlap, and an open one.
-#[test]
-fn plain_listed(rt: HostRuntime) -> Result<(), Fail> {
-    let alloc = rt.alloc();
-    let question = winter(&rt, alloc)?;
+fn listed_agree(rt: &impl Abort, alloc: Global, question: Question) -> Result<(), AllocError> {
     let intervals = [
         (19700, Some(19730)),
         (19735, Some(19743)),
@@ -305,47 +372,61 @@ fn plain_listed(rt: HostRuntime) -> Result<(), Fail> {
         (19749, Some(19754)),
         (19758, None),
     ];
-    let entries = [
-        ("2023-12-09", Some("2024-01-08")),
-        ("2024-01-13", None),
-        ("2024-01-22", Some("2024-02-07")),
-        ("2024-01-27", Some("2024-02-01")),
-        ("2024-02-05", None),
-    ];
     let plain = Plain::Intervals(&intervals);
-    let period = listed(&rt, alloc, &entries)?;
     let table = [&[1][..], &[-1], &[6], &[-3, 9], &[2, -7, 30, -999]];
-    agree_under_all_rules(&rt, alloc, &question, plain, period, &table)?;
-    Ok(())
+    let periods = listed(
+        rt,
+        alloc,
+        "2023-12-09 2024-01-08;2024-01-13 -;2024-01-22 2024-02-07;2024-01-27 2024-02-01;2024-02-05 -",
+    )?;
+    agree_under_all_rules(rt, alloc, question, plain, &periods, &table)
+}
+
+#[test]
+fn plain_listed(rt: HostRuntime) -> Result<(), AllocError> {
+    let calendar = winter(&rt, rt.alloc())?;
+    let index = WorkIndex::build(rt.alloc(), &calendar)?;
+    listed_agree(&rt, rt.alloc(), in_winter(&calendar, &index))
+}
+
+fn first_days_agree(
+    rt: &impl Abort,
+    alloc: Global,
+    question: Question,
+    plain: Plain,
+    periods: &Periods,
+) -> Result<(), AllocError> {
+    let table = [&[1][..], &[2], &[-1], &[-8]];
+    agree_under_all_rules(rt, alloc, question, plain, periods, &table)
+}
+
+// The first days of all.
+fn at_first<'a>(calendar: &'a Calendar, index: &'a WorkIndex) -> Question<'a> {
+    Question {
+        calendar,
+        index,
+        windows: ["1972-01-01 1972-01-01", "1972-01-02 1972-01-22"],
+        effect: "1972-01-01 1972-01-22",
+    }
 }
 
 // The first days of all are free: no work day comes before them.
 #[test]
-fn plain_first_days(rt: HostRuntime) -> Result<(), Fail> {
-    let alloc = rt.alloc();
-    let calendar = weekdays(alloc);
-    let index = WorkIndex::build(alloc, &calendar)?;
-    let effect = (day(&rt, "1972-01-01"), day(&rt, "1972-01-22"));
-    let question = Question {
-        calendar,
-        index,
-        windows: [(730, 730), (731, 751)],
-        effect,
-    };
-    let origin = day(&rt, "1972-01-01");
-    let intervals = steps(alloc, 730, 9, 4)?;
-    let plain = Plain::Intervals(&intervals);
-    let period = Period::All {
-        origin,
-        interval: 9,
-    };
-    let table = [&[1][..], &[2], &[-1], &[-8]];
-    agree_under_all_rules(&rt, alloc, &question, plain, period, &table)?;
+fn plain_first_days(rt: HostRuntime) -> Result<(), AllocError> {
+    let calendar = weekdays(rt.alloc());
+    let index = WorkIndex::build(rt.alloc(), &calendar)?;
+    let periods = of_days(&rt, rt.alloc(), "1972-01-01", 9)?;
+    let plain = Plain::Days(730, 9, 4);
+    let question = at_first(&calendar, &index);
+    first_days_agree(&rt, rt.alloc(), question, plain, &periods)
+}
+
+#[test]
+fn plain_first_work_days(rt: HostRuntime) -> Result<(), AllocError> {
+    let calendar = weekdays(rt.alloc());
+    let index = WorkIndex::build(rt.alloc(), &calendar)?;
+    let periods = of_work_days(&rt, rt.alloc(), "1972-01-01", 9)?;
     let plain = Plain::WorkDays(730, 9);
-    let period = Period::Work {
-        origin,
-        interval: 9,
-    };
-    agree_under_all_rules(&rt, alloc, &question, plain, period, &table)?;
-    Ok(())
+    let question = at_first(&calendar, &index);
+    first_days_agree(&rt, rt.alloc(), question, plain, &periods)
 }

@@ -3,12 +3,45 @@ ghost use Rattle.std.specs.Prelude.{◌≡◌, IfOk};
 use super::pay;
 use crate::{MAX_OFFSETS, Offsets, Periods, Rule, RunCycle};
 use plan_periods::Period;
-use std::alloc::AllocError;
+use std::alloc::{AllocError, Global};
 use std::test::Fail;
 use work_calendars::{Day, Short};
 
+// Whether 5 and the offset are offsets.
+fn takes(alloc: Global, offset: i16) -> Result<bool, AllocError> {
+    let items = vec![in alloc; 5, offset]?;
+    Ok(Offsets::from_vec(items).is_some())
+}
+
+// Whether a vector of this length holds offsets.
+fn takes_so_many(alloc: Global, number: usize) -> Result<bool, AllocError> {
+    let items = vec![in alloc; 7i16; number]?;
+    Ok(Offsets::from_vec(items).is_some())
+}
+
+// How many offsets the copy has, if its vector equals what it was made of.
+fn copied_offsets(offsets: &Offsets) -> Result<usize, AllocError> {
+    let copy = offsets.clone()?;
+    let number = copy.as_slice().len();
+    let items = copy.into_vec();
+    Ok(if items.as_slice() == offsets.as_slice() {
+        number
+    } else {
+        0
+    })
+}
+
+// The same of as many offsets as there may be.
+fn copied_full(alloc: Global) -> Result<usize, AllocError> {
+    let full = vec![in alloc; 7i16; MAX_OFFSETS]?;
+    match Offsets::from_vec(full) {
+        Some(offsets) => copied_offsets(&offsets),
+        None => Ok(0),
+    }
+}
+
 #[test]
-fn offsets_have_their_range(rt: HostRuntime) -> Result<(), Fail> {
+fn offsets_have_their_range(rt: HostRuntime) -> Result<(), AllocError> {
     for (offset, good) in [
         (1, true),
         (999, true),
@@ -19,38 +52,58 @@ fn offsets_have_their_range(rt: HostRuntime) -> Result<(), Fail> {
         (-1000, false),
         (i16::MIN, false),
     ] {
-        let items = vec![in rt.alloc(); 5, offset]?;
-        assert_eq!(rt; Offsets::from_vec(items).is_some(), good, "at {offset}");
+        assert!(rt; takes(rt.alloc(), offset)? == good, "at {offset}");
     }
-    assert!(rt; Offsets::from_vec(Vec::new(rt.alloc())).is_none());
-    let full = vec![in rt.alloc(); 7i16; MAX_OFFSETS]?;
-    let offsets = Offsets::from_vec(full).ok_or("64 offsets")?;
-    let copy = offsets.clone()?;
-    assert_eq!(rt; copy.as_slice().len(), MAX_OFFSETS);
-    assert_eq!(rt; copy.into_vec().as_slice(), offsets.as_slice());
-    let over = vec![in rt.alloc(); 7i16; 65]?;
-    assert!(rt; Offsets::from_vec(over).is_none());
+    for (number, good) in [(0, false), (MAX_OFFSETS, true), (65, false)] {
+        assert!(rt;
+            takes_so_many(rt.alloc(), number)? == good,
+            "{number} of them"
+        );
+    }
+    assert_eq!(rt; copied_full(rt.alloc())?, MAX_OFFSETS);
     Ok(())
 }
 
+// The length of the period's intervals, 0 where there is none under the name.
+fn length_of(periods: &Periods, name: &Short) -> u16 {
+    match periods.get(name) {
+        Some(Period::All { interval, .. }) => *interval,
+        Some(_) => 9999,
+        None => 0,
+    }
+}
+
+// Puts a period whose intervals have this length under the name.
+fn put(periods: &mut Periods, name: Short, interval: u16) -> Result<(), AllocError> {
+    let origin = Day::FIRST;
+    let period = Period::All { origin, interval };
+    if period.check().is_ok() {
+        periods.insert(name, period)?;
+    }
+    Ok(())
+}
+
+// The lengths under both names where two periods were put under the first, and that under the first before that and
+// after the names were taken away; and whether the second and the first were there to be taken away.
+fn found(alloc: Global, week: Short, day: Short) -> Result<([u16; 4], [bool; 2]), AllocError> {
+    let mut periods = Periods::new(alloc);
+    let before = length_of(&periods, &week);
+    put(&mut periods, week, 7)?;
+    put(&mut periods, week, 14)?;
+    let lengths = (length_of(&periods, &week), length_of(&periods, &day));
+    let removed = [periods.remove(&day), periods.remove(&week)];
+    let after = length_of(&periods, &week);
+    Ok(([lengths.0, lengths.1, before, after], removed))
+}
+
+// The last one under a name stays.
 #[test]
 fn periods_are_found_by_name(rt: HostRuntime) -> Result<(), Fail> {
     let week = Short::from_text("WEEK").ok_or("a name")?;
     let day = Short::from_text("DAY").ok_or("a name")?;
-    let mut periods = Periods::new(rt.alloc());
-    assert!(rt; periods.get(&week).is_none());
-    for interval in [7, 14] {
-        let origin = Day::FIRST;
-        periods.insert(week, Period::All { origin, interval })?;
-    }
-    match periods.get(&week) {
-        Some(Period::All { interval, .. }) => assert_eq!(rt; *interval, 14),
-        _ => assert!(rt; false, "the last one under a name stays"),
-    }
-    assert!(rt; periods.get(&day).is_none());
-    assert!(rt; !periods.remove(&day));
-    assert!(rt; periods.remove(&week));
-    assert!(rt; periods.get(&week).is_none());
+    let (lengths, removed) = found(rt.alloc(), week, day)?;
+    assert!(rt; lengths == [14, 0, 0, 0]);
+    assert!(rt; removed == [false, true]);
     Ok(())
 }
 
@@ -61,11 +114,16 @@ fn copied(cycle: &RunCycle) -> Result<RunCycle, AllocError>
     cycle.clone()
 }
 
+// Whether the copy has the name of what it was made of, and the offsets 1 and -1.
+fn is_copied(cycle: &RunCycle) -> Result<bool, AllocError> {
+    let copy = copied(cycle)?;
+    Ok(copy.name == cycle.name && copy.offsets.as_slice() == [1, -1].as_slice())
+}
+
 #[test]
-fn run_cycles_are_copied(rt: HostRuntime) -> Result<(), Fail> {
+fn run_cycles_are_copied(rt: HostRuntime) -> Result<(), AllocError> {
     let cycle = pay(&rt, rt.alloc(), Rule::After, &[1, -1])?;
-    let copy = copied(&cycle)?;
-    assert_eq!(rt; copy.name, cycle.name);
-    assert_eq!(rt; copy.offsets.as_slice(), [1, -1].as_slice());
+    let holds = is_copied(&cycle)?;
+    assert!(rt; holds);
     Ok(())
 }
