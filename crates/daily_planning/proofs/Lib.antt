@@ -3,3 +3,6 @@ pub mod ChangeLemmas
 pub mod PairLemmas
 pub mod DailyLemmas
 pub mod StatusLemmas
+pub mod RowLemmas
+pub mod ActLemmas
+pub mod WaitLemmas

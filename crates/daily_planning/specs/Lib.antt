@@ -1,2 +1,4 @@
+pub mod Actions
 pub mod DailyPlans
+pub mod Rows
 pub mod Statuses

@@ -1,0 +1,284 @@
+-- An action on an occurrence of the current plan is what the machine does.
+use Rattle.std.proofs.Common.{◌≡◌, ◌≢◌, ◌⊎◌, ℕ, ◌≤◌, zero, suc, Bool, true, false, List, [], ◌∷◌, map, refl, arith, sym, ap, subst, ◌∙◌, inl, inr, Some, None, Option}
+use Rattle.std.specs.Prelude.{nat_eq, cond, option_map, unwrap_or, if◌then◌else◌}
+use Rattle.std.specs.List.{Contains}
+use Rattle.std.proofs.lemmas.Bool.{eqb-true, eqb-false, eq-eqb, ne_eqb}
+use Rattle.occurrences.proofs.KeyLemmas.{key_same, same_key}
+use Rattle.occurrences.specs.Status.{changed_status}
+use Rattle.occurrences.specs.Refusal.{refusal_number}
+use Rattle.occurrences.specs.declared.key.Key.{Key}
+use Rattle.occurrences.specs.declared.place.CurrentRow.{CurrentRow}
+use Rattle.occurrences.specs.declared.refusal.Refusal.{Refusal}
+use Rattle.occurrences.specs.declared.refusal.Refusal.TheVariants.{NoPlan, NoSuchOccurrence, PredecessorUncompleted, StatusForbids}
+use Rattle.occurrences.specs.declared.reply.Reply.TheVariants.{Changed}
+use Rattle.occurrences.specs.declared.row.Row.{Row}
+use Rattle.occurrences.specs.declared.status.Action.{Action}
+use Rattle.occurrences.specs.declared.status.Action.TheVariants.{Start, Complete, Fail, Reset, Delete}
+use Rattle.occurrences.specs.declared.status.Status.{Status}
+use Rattle.occurrences.specs.declared.status.Status.TheVariants.{W, S, E, C, D}
+use Rattle.external_dependencies.specs.Nearest.{arrival_of}
+use Rattle.planner_machine.specs.Act.{ActionRefused, Acts, IsCurrent, IsUncompleted, acted, acted_status, action_move, cp_action}
+use Rattle.planner_machine.specs.Content.{Content, Sets}
+use Rattle.planner_machine.specs.InForce.{PutsNone}
+use Rattle.planner_machine.specs.Moves.{each, has_key, or_else}
+use Rattle.planner_machine.specs.Plans.{ChangesPlans}
+use Rattle.planner_machine.specs.Sound.{IsSound}
+use Rattle.planner_machine.proofs.ActionLemmas.{action_sound, one_current}
+use Rattle.planner_machine.proofs.RowsSound.{RowsSound}
+use Rattle.planner_machine.proofs.SoundLemmas.{rows_sound}
+use Rattle.plan_lists.specs.Rows.{look_up, of_current, of_deletion, of_row}
+use Rattle.plan_store.specs.Changes.{Fits, FitsSet, MovesNothing, after, moved_set, pairs_after, sets_after}
+use Rattle.plan_store.specs.Verdicts.{VerdictIs}
+use Rattle.plan_store.specs.Views.{IsAny, IsCurrentRow, ListsSet}
+use Rattle.plan_store.specs.declared.changes.Change.{Change}
+use Rattle.plan_store.specs.declared.changes.Moves.{Moves}
+use Rattle.plan_store.specs.declared.changes.Verdict.TheVariants.{Done, Refused}
+use Rattle.daily_planning.specs.Actions.{ChangesStatus, IsActedOn, WaitsFor}
+use Rattle.daily_planning.specs.Rows.{HasLists, replaced}
+use Rattle.daily_planning.proofs.ChangeLemmas.{after_moves, fits_moves, moved_is}
+use Rattle.daily_planning.proofs.SetLemmas.{contains_map, map_contains, nothing, once_nothing, once_one}
+
+stays_deleted : (action : Action) → acted_status action D ≡ D
+stays_deleted Start = refl
+stays_deleted Complete = refl
+stays_deleted Fail = refl
+stays_deleted Reset = refl
+stays_deleted Delete = refl
+
+deleted_or_not : (status : Status) → (status ≡ D) ⊎ (status ≢ D)
+deleted_or_not W = inr (λ e. cc)
+deleted_or_not S = inr (λ e. cc)
+deleted_or_not E = inr (λ e. cc)
+deleted_or_not C = inr (λ e. cc)
+deleted_or_not D = inl refl
+
+module _ (c : Content) (sound : IsSound c) (action : Action) (changed : CurrentRow)
+    (is : IsActedOn c action changed) where
+  abbrev key : Key
+  key = changed.row.key
+
+  rows : RowsSound c.sets
+  rows = rows_sound c sound
+
+  pub there : IsCurrent c.sets key changed.row.serial is.was
+  there = record { row = changed.row; stands = is.stands; keyed = refl; live = is.live }
+
+  -- a row under another serial stays
+  other_stays : (serial : ℕ) (x : CurrentRow) → c.sets.cp serial ≡ Some x → nat_eq changed.row.serial serial ≡ false
+      → acted key action x.row x.status ≡ x.status
+  other_stays serial x at other = elim (has_key key x.row) as
+      (λ b. has_key key x.row ≡ b → (if b then acted_status action x.status else x.status) ≡ x.status) [
+        | false ↦ λ e. refl
+        | true ↦ λ e. elim (deleted_or_not x.status) [
+          | inl gone ↦ ap (acted_status action) gone ∙ stays_deleted action ∙ sym gone
+          | inr live ↦
+              let mine : IsCurrent c.sets key serial x.status = record { row = x.row; stands = at; keyed = same_key x.row.key key e; live = live } in
+              absurd (eqb-false _ _ other (one_current key action c.sets rows changed.row.serial serial is.was x.status there mine).0)
+        ]
+      ] refl
+
+  -- the current plan after the action
+  pub cp_is : (serial : ℕ) → (if nat_eq changed.row.serial serial then Some changed else c.sets.cp serial) ≡ option_map
+      (λ (x : CurrentRow). record x { status = acted key action x.row x.status }) (c.sets.cp serial)
+  cp_is serial = elim (nat_eq changed.row.serial serial) as (λ b. nat_eq changed.row.serial serial ≡ b
+      → (if b then Some changed else c.sets.cp serial) ≡ option_map
+      (λ (x : CurrentRow). record x { status = acted key action x.row x.status }) (c.sets.cp serial)) [
+        | true ↦ λ e.
+            let here : c.sets.cp serial ≡ Some (record { row = changed.row; status = is.was }) = subst (λ n. c.sets.cp n ≡ Some (record { row = changed.row; status = is.was })) (eqb-true _ _ e) is.stands in
+            let same : has_key key changed.row ≡ true = key_same key key refl in
+            let status : acted key action changed.row is.was ≡ changed.status =
+            ap (λ (b : Bool). if b then acted_status action is.was else is.was) same ∙ ap (λ o. unwrap_or o is.was) is.allowed in
+            sym (ap (option_map (λ (x : CurrentRow). record x { status = acted key action x.row x.status })) here
+            ∙ ap (λ s. Some (record { row = changed.row; status = s })) status)
+        | false ↦ λ other. elim (c.sets.cp serial) as (λ o. c.sets.cp serial ≡ o → o ≡ option_map
+            (λ (x : CurrentRow). record x { status = acted key action x.row x.status }) o) [
+              | None ↦ λ at. refl
+              | Some x ↦ λ at. ap (λ s. Some (record { row = x.row; status = s })) (sym (other_stays serial x at other))
+            ] refl
+      ] refl
+
+  abbrev sets' : Sets
+  sets' = each (action_move key action) c.sets
+
+  at_own : sets'.cp changed.row.serial ≡ Some changed
+  at_own = sym (cp_is changed.row.serial) ∙ ap (λ (b : Bool). if b then Some changed else c.sets.cp changed.row.serial) (eq-eqb changed.row.serial changed.row.serial refl)
+
+  at_other : (serial : ℕ) → nat_eq changed.row.serial serial ≡ false → sets'.cp serial ≡ c.sets.cp serial
+  at_other serial other = sym (cp_is serial) ∙ ap (λ (b : Bool). if b then Some changed else c.sets.cp serial) other
+
+  turned : (m n : ℕ) → nat_eq m n ≡ false → nat_eq n m ≡ false
+  turned m n e = ne_eqb n m (λ same. eqb-false m n e (sym same))
+
+  module _ (cp : List CurrentRow) (lists : ListsSet of_current c.sets.cp IsAny cp) where
+    stands_in : (x : CurrentRow) → Contains cp x → c.sets.cp x.row.serial ≡ Some x
+    stands_in x has = ((lists.exactly x).0 has).0
+
+    listed_after : (x : CurrentRow) → Contains (map (replaced changed) cp) x → sets'.cp x.row.serial ≡ Some x
+    listed_after x has =
+        let (z, in_cp, at) = contains_map of_current of_current (replaced changed) (λ y. same_serial y (nat_eq y.row.serial changed.row.serial) refl) cp x has in
+        subst (λ (y : CurrentRow). sets'.cp y.row.serial ≡ Some y) at (by_serial z in_cp (nat_eq z.row.serial changed.row.serial) refl)
+      where
+        same_serial : (y : CurrentRow) (b : Bool) → nat_eq y.row.serial changed.row.serial ≡ b → (if b then changed else y).row.serial ≡ y.row.serial
+        same_serial y true e = sym (eqb-true _ _ e)
+        same_serial y false e = refl
+
+        by_serial : (z : CurrentRow) → Contains cp z → (b : Bool) → nat_eq z.row.serial changed.row.serial ≡ b
+            → sets'.cp (if b then changed else z).row.serial ≡ Some (if b then changed else z)
+        by_serial z has true e = at_own
+        by_serial z has false e = at_other z.row.serial (turned _ _ e) ∙ stands_in z has
+
+    after_listed : (x : CurrentRow) → sets'.cp x.row.serial ≡ Some x → Contains (map (replaced changed) cp) x
+    after_listed x at = elim (nat_eq changed.row.serial x.row.serial) as (λ b. nat_eq changed.row.serial x.row.serial ≡ b → Contains (map (replaced changed) cp) x) [
+      | true ↦ λ e.
+          let both : Some changed ≡ Some x = sym at_own ∙ ap (λ n. sets'.cp n) (eqb-true _ _ e) ∙ at in
+          let same : changed ≡ x = cc in
+          let was : CurrentRow = record { row = changed.row; status = is.was } in
+          let has : Contains cp was = (lists.exactly was).1 (is.stands, tt) in
+          let turns : replaced changed was ≡ changed = ap (λ (b : Bool). if b then changed else was) (eq-eqb changed.row.serial changed.row.serial refl) in
+          subst (Contains (map (replaced changed) cp)) (turns ∙ same) (map_contains (replaced changed) cp was has)
+      | false ↦ λ e.
+          let has : Contains cp x = (lists.exactly x).1 (sym (at_other x.row.serial e) ∙ at, tt) in
+          let turns : replaced changed x ≡ x = ap (λ (b : Bool). if b then changed else x) (turned _ _ e) in
+          subst (Contains (map (replaced changed) cp)) turns (map_contains (replaced changed) cp x has)
+    ] refl
+
+    -- the lists after the action
+    pub lists_after : (ltp : List Row) → ListsSet of_row c.sets.ltp IsAny ltp → (history : List Row)
+        → ListsSet of_row c.sets.history IsAny history → HasLists sets' ltp (map (replaced changed) cp) history
+    lists_after ltp ltp_is history history_is = record {
+      sound = action_sound key action c.sets rows;
+      ltp = λ row. ((λ has. ((ltp_is.exactly row).0 has).0), λ at. (ltp_is.exactly row).1 (at, tt));
+      cp = λ x. (listed_after x, after_listed x);
+      history = λ row. ((λ has. ((history_is.exactly row).0 has).0), λ at. (history_is.exactly row).1 (at, tt));
+    }
+
+  module _ (change : Change) (d : ChangesStatus c action changed change) where
+    none_moves : {X : Type 0} (row_of : X → Row) (moves : Moves X) (set : ℕ → Option X) → MovesNothing moves → FitsSet row_of moves set
+    none_moves row_of moves set n = fits_moves row_of moves [] [] n.gone n.changed n.put set (once_nothing row_of) (once_nothing row_of)
+        (λ x has. absurd (nothing x has)) (λ x has. absurd (nothing x has))
+
+    only : (x : CurrentRow) → Contains (changed ∷ []) x → changed ≡ x
+    only x (zero, lt, at) = at
+    only x (suc k, lt, at) = absurd (nothing x (k, omega arith, at))
+
+    fits_cp : FitsSet of_current change.cp c.sets.cp
+    fits_cp = record {
+      gone_once = subst (λ xs. Rattle.plan_lists.specs.Rows.HasEachOnce of_current xs) (sym d.gone) (once_nothing of_current);
+      changed_once = subst (λ xs. Rattle.plan_lists.specs.Rows.HasEachOnce of_current xs) (sym d.one_changed) (once_one of_current changed);
+      put_once = subst (λ xs. Rattle.plan_lists.specs.Rows.HasEachOnce of_current xs) (sym d.put) (once_nothing of_current);
+      goes = λ x has. absurd (nothing x (subst (λ l. Contains l x) d.gone has));
+      changes = λ x has.
+          let P : CurrentRow → Type 0 = λ y. (was : CurrentRow) × (c.sets.cp y.row.serial ≡ Some was) × (arrival_of was.row ≡ arrival_of y.row) in
+          subst P (only x (subst (λ l. Contains l x) d.one_changed has)) (record { row = changed.row; status = is.was }, is.stands, refl);
+      stays = λ x has. ap (λ l. look_up (λ (y : CurrentRow). y.row.serial) l x.row.serial) d.gone;
+      new = λ x has. absurd (nothing x (subst (λ l. Contains l x) d.put has));
+    }
+
+    fits_action : Fits change c
+    fits_action = record {
+      ltp = none_moves of_row change.ltp c.sets.ltp d.ltp;
+      cp = fits_cp;
+      history = none_moves of_row change.history c.sets.history d.history;
+      deletions = none_moves of_deletion change.deletions c.sets.deletions d.deletions;
+      job = λ job at. let none = d.job in cc;
+    }
+
+    one_changes : (serial : ℕ) (o : Option CurrentRow) (b : Bool) → or_else (cond b (Some changed) None) o ≡ (if b then Some changed else o)
+    one_changes serial o true = refl
+    one_changes serial o false = refl
+
+    cp_after : (serial : ℕ) → moved_set of_current change.cp c.sets.cp serial ≡ sets'.cp serial
+    cp_after serial = moved_is of_current change.cp [] (changed ∷ []) [] d.gone d.one_changed d.put c.sets.cp serial
+        ∙ one_changes serial (c.sets.cp serial) (nat_eq changed.row.serial serial) ∙ cp_is serial
+
+    sets_are : sets_after change c.sets ≡ sets'
+    sets_are i = record {
+      bounds = ap (λ o. or_else o c.sets.bounds) d.bounds i;
+      issued = ap (λ o. unwrap_or o c.sets.issued) d.issued i;
+      ltp = λ serial. moved_is of_row change.ltp [] [] [] d.ltp.gone d.ltp.changed d.ltp.put c.sets.ltp serial i;
+      cp = λ serial. cp_after serial i;
+      history = λ serial. moved_is of_row change.history [] [] [] d.history.gone d.history.changed d.history.put c.sets.history serial i;
+      deletions = λ serial. moved_is of_deletion change.deletions [] [] [] d.deletions.gone d.deletions.changed d.deletions.put c.sets.deletions serial i;
+    }
+
+    pub action_does : Fits change c × ChangesPlans (Acts key action) PutsNone c (Changed changed.row.serial changed.status) (after change c)
+    action_does = (
+      fits_action,
+      subst (ChangesPlans (Acts key action) PutsNone c (Changed changed.row.serial changed.status))
+          (sym (after_moves change c d.definitions d.in_force d.job sets' sets_are (pairs_after change.pairs c.pairs) refl))
+          (record {
+            rows = record { serial = changed.row.serial; status = is.was; new_status = changed.status; there = there; allowed = is.allowed; replies = refl; becomes = refl };
+            lists = refl;
+            pairs = d.pairs;
+            definitions = refl;
+            jobs = refl;
+          }),
+    )
+
+    -- nothing is refused, and the action is done
+    pub action_done : c.sets.bounds ≢ None → WaitsFor c action changed.row.serial None
+        → VerdictIs (cp_action key action) c (Done change (Changed changed.row.serial changed.status))
+    action_done some waits = (action_does.0, (none_holds, action_does.1))
+      where
+        none_holds : (q : Refusal) → ActionRefused key action c q → ⊥
+        none_holds NoPlan q = some q
+        none_holds NoSuchOccurrence q = q changed.row.serial is.was there
+        none_holds StatusForbids (serial, status, mine, bars) =
+            let same = (one_current key action c.sets rows serial changed.row.serial status is.was mine there).1 in
+            let yes = is.allowed in
+            let both : None ≡ Some changed.status = sym bars ∙ ap (λ s. changed_status s action) same ∙ yes in cc
+        none_holds (PredecessorUncompleted n) (start, (serial, status, mine, least)) =
+            let same = (one_current key action c.sets rows serial changed.row.serial status is.was mine there).0 in
+            waits start n (subst (λ m. IsUncompleted c m n) same least.0)
+        none_holds _ q = q
+
+  -- a start that has to wait
+  pub action_waits : c.sets.bounds ≢ None → (n : ℕ) → WaitsFor c action changed.row.serial (Some n)
+      → VerdictIs (cp_action key action) c (Refused (PredecessorUncompleted n))
+  action_waits some n waits = (((waits.0, (changed.row.serial, is.was, there, waits.1)), least), refl)
+    where
+      least : (q : Refusal) → ActionRefused key action c q → 30 ≤ refusal_number q
+      least NoPlan q = absurd (some q)
+      least NoSuchOccurrence q = absurd (q changed.row.serial is.was there)
+      least StatusForbids (serial, status, mine, bars) =
+          let same = (one_current key action c.sets rows serial changed.row.serial status is.was mine there).1 in
+          let yes = is.allowed in
+          let both : None ≡ Some changed.status = sym bars ∙ ap (λ s. changed_status s action) same ∙ yes in cc
+      least (PredecessorUncompleted m) q = omega arith
+      least _ q = absurd q
+
+module _ (key : Key) (action : Action) (c : Content) where
+  pub refused_no_plan : c.sets.bounds ≡ None → VerdictIs (cp_action key action) c (Refused NoPlan)
+  refused_no_plan none = ((none, least), refl)
+    where
+      least : (q : Refusal) → ActionRefused key action c q → 20 ≤ refusal_number q
+      least NoPlan q = omega arith
+      least NoSuchOccurrence q = omega arith
+      least StatusForbids q = omega arith
+      least (PredecessorUncompleted n) q = omega arith
+      least _ q = absurd q
+
+  pub refused_no_row : c.sets.bounds ≢ None → IsCurrentRow c.sets key None
+      → VerdictIs (cp_action key action) c (Refused NoSuchOccurrence)
+  refused_no_row some none = (((λ serial status is. none serial (record { row = is.row; status = status }) is.stands is.keyed is.live), least), refl)
+    where
+      least : (q : Refusal) → ActionRefused key action c q → 28 ≤ refusal_number q
+      least NoPlan q = absurd (some q)
+      least NoSuchOccurrence q = omega arith
+      least StatusForbids q = omega arith
+      least (PredecessorUncompleted n) q = omega arith
+      least _ q = absurd q
+
+  pub refused_status : c.sets.bounds ≢ None → (current : CurrentRow) → IsCurrentRow c.sets key (Some current)
+      → changed_status current.status action ≡ None → VerdictIs (cp_action key action) c (Refused StatusForbids)
+  refused_status some current is bars = (((current.row.serial, current.status, there, bars), least), refl)
+    where
+      there : IsCurrent c.sets key current.row.serial current.status
+      there = record { row = current.row; stands = is.0; keyed = is.1; live = is.2 }
+
+      least : (q : Refusal) → ActionRefused key action c q → 29 ≤ refusal_number q
+      least NoPlan q = absurd (some q)
+      least NoSuchOccurrence q = absurd (q current.row.serial current.status there)
+      least StatusForbids q = omega arith
+      least (PredecessorUncompleted n) q = omega arith
+      least _ q = absurd q

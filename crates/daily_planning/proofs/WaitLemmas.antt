@@ -1,0 +1,72 @@
+-- The least predecessor that isn't complete.
+use Rattle.std.proofs.Common.{◌≡◌, ◌↔◌, ℕ, ◌+◌, ◌<◌, ◌≤◌, List, length, get_or, refl, arith, sym, ap, subst, ◌∙◌, inl, inr}
+use Rattle.std.specs.List.{AllWithin, Contains}
+use Rattle.std.specs.Ordering.{MatchOrdering}
+use Rattle.std.specs.declared.cmp.Ordering.TheVariants.{Less}
+use Rattle.std.proofs.lemmas.List.{get_or_default}
+use Rattle.std.proofs.lemmas.Bool.{cases_eq, cases_lt}
+use Rattle.external_dependencies.specs.Pair.{PairBefore, pair_cmp}
+use Rattle.external_dependencies.specs.Rising.{IsRising}
+use Rattle.external_dependencies.specs.declared.pairs.Pair.{Pair}
+use Rattle.external_dependencies.proofs.LexLemmas.{pairs_ordered}
+use Rattle.planner_machine.specs.Act.{IsLeastUncompleted, IsUncompleted}
+use Rattle.planner_machine.specs.Content.{Content}
+use Rattle.planner_machine.specs.Pairs.{IsCompleteAt, pair_of}
+
+module _ (c : Content) (serial : ℕ) (list : List Pair) (rising : IsRising pair_cmp list)
+    (all : (pair : Pair) → Contains list pair ↔ (Contains c.pairs pair × (pair.successor ≡ serial))) where
+  abbrev pub IsDone : Pair → Type 0
+  IsDone pair = IsCompleteAt c.sets pair.predecessor
+
+  of_serial : (pair : Pair) → pair.successor ≡ serial → pair_of serial pair.predecessor ≡ pair
+  of_serial pair is i = record { successor = sym is i; predecessor = pair.predecessor }
+
+  pub more_done : (index : ℕ) → index < length list → AllWithin IsDone list 0 index → (pair : Pair)
+      → get_or list index pair ≡ pair → IsDone pair → AllWithin IsDone list 0 (index + 1)
+  more_done index inside done pair at complete k d low lt = elim (cases_lt k index) [
+    | inl early ↦ done k d low early
+    | inr late ↦
+        let same : index ≡ k = omega (arith, late, lt) in
+        let here : get_or list index d ≡ pair = get_or_default list index d pair inside ∙ at in
+        subst (λ n. IsDone (get_or list n d)) same (subst IsDone (sym here) complete)
+  ]
+
+  pub none_waits : AllWithin IsDone list 0 (length list) → (n : ℕ) → IsUncompleted c serial n → ⊥
+  none_waits done n (has, waits) =
+      let (k, lt, at) = (all (pair_of serial n)).1 (has, refl) in
+      waits (subst IsDone at (done k (pair_of serial n) (omega arith) lt))
+
+  before : (a b : Pair) → pair_cmp a b ≡ Less → a.successor ≡ b.successor → a.predecessor < b.predecessor
+  before a b less same = elim (subst (λ o. MatchOrdering o (PairBefore a b) (a ≡ b) (PairBefore b a)) less (pairs_ordered.ranks a b)) [
+    | inl first ↦ omega (arith, first, same)
+    | inr both ↦ both.1
+  ]
+
+  pub first_waits : (index : ℕ) → index < length list → AllWithin IsDone list 0 index → (pair : Pair)
+      → get_or list index pair ≡ pair → (IsDone pair → ⊥) → IsLeastUncompleted c serial pair.predecessor
+  first_waits index inside done pair at waits = ((subst (Contains c.pairs) (sym (of_serial pair own)) has.0, waits), least)
+    where
+      has : Contains c.pairs pair × (pair.successor ≡ serial)
+      has = (all pair).0 (index, inside, at)
+
+      own : pair.successor ≡ serial
+      own = has.1
+
+      least : (m : ℕ) → IsUncompleted c serial m → pair.predecessor ≤ m
+      least m (there, lacks) =
+          let (k, lt, is) = (all (pair_of serial m)).1 (there, refl) in
+          elim (cases_lt k index) [
+            | inl early ↦ absurd (lacks (subst IsDone is (done k (pair_of serial m) (omega arith) early)))
+            | inr late ↦ elim (cases_eq index k) [
+              | inl same ↦
+                  let e : get_or list index (pair_of serial m) ≡ pair_of serial m = ap (λ n. get_or list n (pair_of serial m)) same ∙ is in
+                  let one : get_or list index (pair_of serial m) ≡ pair = get_or_default list index (pair_of serial m) pair inside ∙ at in
+                  let p : m ≡ pair.predecessor = ap (λ (x : Pair). x.predecessor) (sym e ∙ one) in omega (arith, p)
+              | inr other ↦
+                  let less : pair_cmp (get_or list index pair) (get_or list k pair) ≡ Less = rising index k pair (omega (arith, late, other)) lt in
+                  let e : get_or list k pair ≡ pair_of serial m = get_or_default list k pair (pair_of serial m) lt ∙ is in
+                  let here : pair_cmp pair (pair_of serial m) ≡ Less = subst (λ x. pair_cmp x (pair_of serial m) ≡ Less) at (subst (λ y. pair_cmp (get_or list index pair) y ≡ Less) e less) in
+                  let below : pair.predecessor < m = before pair (pair_of serial m) here own in
+                  omega (arith, below)
+            ]
+          ]

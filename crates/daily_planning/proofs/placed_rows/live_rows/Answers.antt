@@ -1,0 +1,15 @@
+use Rattle.std.proofs.Common.{subst, sym}
+use Rattle.occurrences.specs.declared.place.Place.TheVariants.{LongTerm}
+use Rattle.daily_planning.specs.Rows.{AddsRows}
+use Rattle.plan_pairs.specs.LiveRows.{AreLiveRows}
+use Rattle.daily_planning.proofs.RowLemmas.{are_live}
+use Rattle.daily_planning.proofs.placed_rows.live_rows.Goals as goal
+
+pub returns : goal.returns
+returns c s has =
+    let r1 = c.push_rows.new.rows.items in
+    let first = subst (λ old. AddsRows c.args.planned.now LongTerm old r1) c.new-rows.ensures.items c.in_ok-push_rows.ensures in
+    let live = are_live s c.args.planned.now c.args.current.now c.args.history.now has
+    r1 c.push_current.new.rows.items c.push_rows-2.new.rows.items
+    first c.in_ok-push_current.ensures c.in_ok-push_rows-2.ensures in
+    subst (AreLiveRows s) (sym c.from_vec.ensures) live

@@ -1,0 +1,49 @@
+-- What an action on an occurrence of the current plan changes.
+use Rattle.std.specs.Prelude.{◌≡◌, ◌≢◌, ℕ, [], ◌∷◌, List, Option, Some, None}
+use Rattle.occurrences.specs.Status.{changed_status}
+use Rattle.occurrences.specs.declared.place.CurrentRow.{CurrentRow}
+use Rattle.occurrences.specs.declared.status.Action.{Action}
+use Rattle.occurrences.specs.declared.status.Action.TheVariants.{Start}
+use Rattle.occurrences.specs.declared.status.Status.{Status}
+use Rattle.occurrences.specs.declared.status.Status.TheVariants.{D}
+use Rattle.external_dependencies.specs.declared.pairs.Pair.{Pair}
+use Rattle.planner_machine.specs.Act.{IsLeastUncompleted, IsUncompleted, action_move}
+use Rattle.planner_machine.specs.Content.{Content}
+use Rattle.planner_machine.specs.Moves.{each}
+use Rattle.planner_machine.specs.Pairs.{ArePairs}
+use Rattle.plan_store.specs.Changes.{MovesNothing, pairs_after}
+use Rattle.plan_store.specs.declared.changes.Change.{Change}
+use Rattle.plan_store.specs.declared.changes.DefinitionChange.TheVariants.{AsBefore}
+
+-- the predecessor that forbids the action on the occurrence of the serial: the least that isn't complete, which only a
+-- start asks for; or that there is none
+abbrev pub WaitsFor : Content → Action → ℕ → Option ℕ → Type 0
+WaitsFor c action serial (Some n) = (action ≡ Start) × IsLeastUncompleted c serial n
+WaitsFor c action serial None = action ≡ Start → (n : ℕ) → IsUncompleted c serial n → ⊥
+
+-- the row stands in the current plan, is live, and takes that status by the action
+pub record IsActedOn (c : Content) (action : Action) (changed : CurrentRow) : Type 0 where
+  pub was : Status
+  pub stands : c.sets.cp changed.row.serial ≡ Some (record { row = changed.row; status = was })
+  pub live : was ≢ D
+  pub allowed : changed_status was action ≡ Some changed.status
+
+-- the pairs after the action
+abbrev pub ArePairsActed : Content → Action → CurrentRow → List Pair → Type 0
+ArePairsActed c action changed pairs =
+    ArePairs c.pairs c.in_force (each (action_move changed.row.key action) c.sets) pairs
+
+-- one row of the current plan changes, the pairs follow, and all else stays
+pub record ChangesStatus (c : Content) (action : Action) (changed : CurrentRow) (change : Change) : Type 0 where
+  pub definitions : change.definitions ≡ AsBefore
+  pub bounds : change.bounds ≡ None
+  pub issued : change.issued ≡ None
+  pub in_force : change.in_force ≡ None
+  pub ltp : MovesNothing change.ltp
+  pub gone : change.cp.gone.items ≡ []
+  pub one_changed : change.cp.changed.items ≡ changed ∷ []
+  pub put : change.cp.put.items ≡ []
+  pub history : MovesNothing change.history
+  pub deletions : MovesNothing change.deletions
+  pub job : change.job ≡ None
+  pub pairs : ArePairsActed c action changed (pairs_after change.pairs c.pairs)

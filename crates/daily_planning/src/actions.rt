@@ -1,0 +1,166 @@
+ghost use Rattle.std.specs.Prelude.{◌≡◌, ◌≢◌, ◌↔◌, IfOk, IsTrue, None, Some, map};
+ghost use Rattle.planner_machine.specs.Act.{cp_action as decided};
+ghost use Rattle.planner_machine.specs.Content.{Content};
+ghost use Rattle.planner_machine.specs.Pairs.{IsCompleteAt};
+ghost use Rattle.planner_machine.specs.Sound.{AreNumbered, IsSound};
+ghost use Rattle.plan_store.specs.Changes.{pairs_after};
+ghost use Rattle.plan_store.specs.Verdicts.{VerdictIs};
+ghost use Rattle.plan_store.specs.Views.{IsCurrentRow, Shows, shown};
+ghost use Rattle.daily_planning.specs.Actions.{ArePairsActed, ChangesStatus, IsActedOn, WaitsFor};
+ghost use Rattle.daily_planning.specs.Rows.{replaced};
+ghost use Rattle.daily_planning.specs.Statuses.{LeavesPairs};
+
+use crate::placed_rows::live_rows;
+use crate::singles::single;
+use external_dependencies::{PairChange, Pairs};
+use occurrences::{Action, CurrentRow, Key, Refusal, Reply, Serial, next_status};
+use plan_pairs::pair_change;
+use plan_store::{Change, Need, Verdict, View};
+use std::alloc::{AllocError, Global};
+
+/// `cp-start`, `cp-complete`, `cp-fail`, `cp-reset`, `cp-delete`: the occurrence of the current plan that has the key
+/// and isn't deleted takes the status that the action leads to. Refused where there is no plan (20), where there is no
+/// such occurrence (28), where its status forbids the action (29), and a start where a predecessor isn't complete: the
+/// least of those is told (30).
+pub fn cp_action(
+    alloc: Global,
+    view: &View<'_>,
+    key: &Key,
+    action: Action,
+) -> Result<Verdict, AllocError>
+    ensures { IfOk result (λ verdict. (c : Content) → Shows (Need.Key key.now) view.now c → IsSound c
+        → VerdictIs (decided key.now action) c verdict) }
+{
+    if view.bounds().is_none() {
+        return Ok(Verdict::Refused(Refusal::NoPlan));
+    }
+    let Some(current) = view.cp_row(key) else {
+        return Ok(Verdict::Refused(Refusal::NoSuchOccurrence));
+    };
+    act(alloc, view, action, &current)
+}
+
+// The action on a live row of the current plan.
+fn act(
+    alloc: Global,
+    view: &View<'_>,
+    action: Action,
+    current: &CurrentRow,
+) -> Result<Verdict, AllocError>
+    ensures { IfOk result (λ verdict. IsSound (shown view.now) → (shown view.now).sets.bounds ≢ None
+        → IsCurrentRow (shown view.now).sets current.now.row.key (Some current.now)
+        → VerdictIs (decided current.now.row.key action) (shown view.now) verdict) }
+{
+    let Some(status) = next_status(current.status, action) else {
+        return Ok(Verdict::Refused(Refusal::StatusForbids));
+    };
+    let serial = current.row.serial;
+    if let Some(predecessor) = waited_for(view, action, serial) {
+        return Ok(Verdict::Refused(Refusal::PredecessorUncompleted {
+            serial: predecessor,
+        }));
+    }
+    let changed = CurrentRow { status, ..*current };
+    let change = status_change(alloc, view, action, &changed)?;
+    Ok(Verdict::Done(change, Reply::Changed { serial, status }))
+}
+
+// The predecessor that forbids the action on the occurrence of the serial.
+fn waited_for(view: &View<'_>, action: Action, serial: Serial) -> Option<Serial>
+    ensures { AreNumbered (shown view.now).sets → WaitsFor (shown view.now) action serial result }
+{
+    if !is_start(action) {
+        return None;
+    }
+    for pair in view.pairs().of_successor(serial) {
+        if !is_complete(view, pair.predecessor) {
+            return Some(pair.predecessor);
+        }
+    }
+    None
+}
+
+// Whether the action is a start.
+fn is_start(action: Action) -> bool
+    ensures { IsTrue result ↔ (action ≡ Action.Start) }
+{
+    action == Action::Start
+}
+
+// Whether the occurrence of the serial is complete.
+fn is_complete(view: &View<'_>, serial: Serial) -> bool
+    ensures { AreNumbered (shown view.now).sets → IsTrue result ↔ IsCompleteAt (shown view.now).sets serial }
+{
+    match view.placed(serial) {
+        Some(placed) => placed.place.is_complete(),
+        None => false,
+    }
+}
+
+// The row of the current plan changes to this one.
+fn status_change(
+    alloc: Global,
+    view: &View<'_>,
+    action: Action,
+    changed: &CurrentRow,
+) -> Result<Change, AllocError>
+    ensures { IfOk result (λ change. IsSound (shown view.now) → IsActedOn (shown view.now) action changed.now
+        → ChangesStatus (shown view.now) action changed.now change) }
+{
+    let rows = single(alloc, *changed)?;
+    let pairs = acted_pairs(alloc, view, action, changed)?;
+    let mut change = Change::none(alloc);
+    change.cp.changed = rows;
+    change.pairs = pairs;
+    Ok(change)
+}
+
+// The change of the pairs, where the row of the current plan changes to this one.
+fn acted_pairs(
+    alloc: Global,
+    view: &View<'_>,
+    action: Action,
+    changed: &CurrentRow,
+) -> Result<PairChange, AllocError>
+    ensures { IfOk result (λ change. IsSound (shown view.now) → IsActedOn (shown view.now) action changed.now
+        → ArePairsActed (shown view.now) action changed.now (pairs_after change (shown view.now).pairs)) }
+{
+    if leaves_pairs(action) {
+        return Ok(PairChange {
+            removed: Pairs::new(alloc),
+            added: Pairs::new(alloc),
+        });
+    }
+    let current = with_changed(alloc, view.cp(), *changed)?;
+    let rows = live_rows(alloc, view.ltp(), current.as_slice(), view.history())?;
+    pair_change(alloc, view.pairs(), &rows, view.in_force())
+}
+
+// Whether the action changes no pair.
+fn leaves_pairs(action: Action) -> bool
+    ensures { IsTrue result ↔ LeavesPairs action }
+{
+    match action {
+        Action::Start | Action::Complete | Action::Fail => true,
+        Action::Reset | Action::Delete => false,
+    }
+}
+
+// The rows, where the one of that serial is this one.
+fn with_changed(
+    alloc: Global,
+    rows: &[CurrentRow],
+    changed: CurrentRow,
+) -> Result<Vec<CurrentRow>, AllocError>
+    ensures { IfOk result (λ found. found.items ≡ map (replaced changed) rows.now) }
+{
+    rows.iter()
+        .map(|current| {
+            if current.row.serial == changed.row.serial {
+                changed
+            } else {
+                *current
+            }
+        })
+        .collect(alloc)
+}

@@ -1,0 +1,51 @@
+ghost use Rattle.std.specs.Prelude.{IfOk, OnOk};
+ghost use Rattle.planner_machine.specs.Content.{Sets};
+ghost use Rattle.plan_pairs.specs.LiveRows.{AreLiveRows};
+ghost use Rattle.daily_planning.specs.Rows.{AddsCurrent, AddsRows, HasLists};
+
+use external_dependencies::{PlacedRow, Rows};
+use occurrences::{CurrentRow, Place, Row};
+use std::alloc::{AllocError, Global};
+
+// The live occurrences, where these lists are the long-term plan, the current plan and history.
+pub(crate) fn live_rows(
+    alloc: Global,
+    planned: &[Row],
+    current: &[CurrentRow],
+    history: &[Row],
+) -> Result<Rows, AllocError>
+    ensures { IfOk result (λ rows. (s : Sets) → HasLists s planned.now current.now history.now
+        → AreLiveRows s rows) }
+{
+    let mut rows = Vec::new(alloc);
+    push_rows(&mut rows, planned, Place::LongTerm)?;
+    push_current(&mut rows, current)?;
+    push_rows(&mut rows, history, Place::History)?;
+    Ok(Rows::from_vec(rows))
+}
+
+// Adds rows that stand in one place.
+fn push_rows(rows: &mut Vec<PlacedRow>, list: &[Row], place: Place) -> Result<(), AllocError>
+    ensures { OnOk result (AddsRows list.now place rows.old.items rows.new.items) }
+{
+    for row in list {
+        rows.push(PlacedRow { row: *row, place })?;
+    }
+    Ok(())
+}
+
+// Adds the rows of the current plan that are not deleted.
+fn push_current(rows: &mut Vec<PlacedRow>, list: &[CurrentRow]) -> Result<(), AllocError>
+    ensures { OnOk result (AddsCurrent list.now rows.old.items rows.new.items) }
+{
+    for current in list {
+        let place = Place::Current(current.status);
+        if place.is_live() {
+            rows.push(PlacedRow {
+                row: current.row,
+                place,
+            })?;
+        }
+    }
+    Ok(())
+}
