@@ -248,7 +248,23 @@ fn are_plain(
     }
 }
 
-// Whether they agree under this rule, with these offsets, in each of the windows.
+// Whether they agree in each of the windows.
+fn agree_in_windows(
+    rt: &impl Abort,
+    alloc: Global,
+    question: Question,
+    plain: Plain,
+    periods: &Periods,
+    cycles: &[RunCycle],
+) -> Result<bool, AllocError> {
+    let [first, second] = question.windows;
+    Ok(
+        agree(rt, alloc, question, plain, periods, cycles, first)?
+            && agree(rt, alloc, question, plain, periods, cycles, second)?,
+    )
+}
+
+// The same under this rule, with these offsets.
 fn agree_with(
     rt: &impl Abort,
     alloc: Global,
@@ -258,12 +274,8 @@ fn agree_with(
     rule: Rule,
     offsets: &[i16],
 ) -> Result<bool, AllocError> {
-    let [first, second] = question.windows;
     let cycles = vec![in alloc; pay_within(rt, alloc, rule, offsets, question.effect)?]?;
-    Ok(
-        agree(rt, alloc, question, plain, periods, &cycles, first)?
-            && agree(rt, alloc, question, plain, periods, &cycles, second)?,
-    )
+    agree_in_windows(rt, alloc, question, plain, periods, &cycles)
 }
 
 // The same under every rule, with each of the lists of offsets.

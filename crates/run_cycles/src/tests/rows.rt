@@ -100,9 +100,18 @@ fn weeks(rt: &impl Abort, alloc: Global) -> Result<Periods, AllocError> {
     of_days(rt, alloc, "2024-01-01", 7)
 }
 
+// The same of weeks.
+fn pass_weeks(
+    rt: &impl Abort,
+    alloc: Global,
+    rows: &[(Rule, i16, &str, &str)],
+) -> Result<(), AllocError> {
+    let periods = weeks(rt, alloc)?;
+    pass_weekdays(rt, alloc, &periods, rows)
+}
+
 #[test]
 fn first_and_last_work_day_of_each_week(rt: HostRuntime) -> Result<(), AllocError> {
-    let periods = weeks(&rt, rt.alloc())?;
     let rows = [
         (
             Rule::WorkDaysOnly,
@@ -117,12 +126,11 @@ fn first_and_last_work_day_of_each_week(rt: HostRuntime) -> Result<(), AllocErro
             "2024-01-05 2024-01-12",
         ),
     ];
-    pass_weekdays(&rt, rt.alloc(), &periods, &rows)
+    pass_weeks(&rt, rt.alloc(), &rows)
 }
 
 #[test]
 fn sixth_day_by_each_rule(rt: HostRuntime) -> Result<(), AllocError> {
-    let periods = weeks(&rt, rt.alloc())?;
     let rows = [
         (Rule::WorkDaysOnly, 6, "2024-01-01 2024-01-08", ""),
         (Rule::Before, 6, "2024-01-01 2024-01-08", "2024-01-05"),
@@ -130,20 +138,19 @@ fn sixth_day_by_each_rule(rt: HostRuntime) -> Result<(), AllocError> {
         (Rule::Same, 6, "2024-01-01 2024-01-08", "2024-01-06"),
         (Rule::Skip, 6, "2024-01-01 2024-01-08", ""),
     ];
-    pass_weekdays(&rt, rt.alloc(), &periods, &rows)
+    pass_weeks(&rt, rt.alloc(), &rows)
 }
 
 // A raw day before the window, one after it, and one of a first window that becomes a day of a second beside it.
 #[test]
 fn raw_days_outside_the_window(rt: HostRuntime) -> Result<(), AllocError> {
-    let periods = weeks(&rt, rt.alloc())?;
     let rows = [
         (Rule::After, 6, "2024-01-07 2024-01-08", "2024-01-08"),
         (Rule::Before, 6, "2024-01-05 2024-01-05", "2024-01-05"),
         (Rule::After, 6, "2024-01-01 2024-01-06", ""),
         (Rule::After, 6, "2024-01-07 2024-01-08", "2024-01-08"),
     ];
-    pass_weekdays(&rt, rt.alloc(), &periods, &rows)
+    pass_weeks(&rt, rt.alloc(), &rows)
 }
 
 #[test]
@@ -165,10 +172,19 @@ fn without_a_wednesday(rt: &impl Abort, alloc: Global) -> Result<WorkIndex, Allo
     WorkIndex::build(alloc, &calendar)
 }
 
+// The same of periods of five work days.
+fn pass_fives(
+    rt: &impl Abort,
+    alloc: Global,
+    rows: &[(Rule, i16, &str, &str)],
+) -> Result<(), AllocError> {
+    let index = without_a_wednesday(rt, alloc)?;
+    let periods = of_work_days(rt, alloc, "2024-01-06", 5)?;
+    pass(rt, alloc, &index, &periods, rows)
+}
+
 #[test]
 fn first_and_last_of_five_work_days(rt: HostRuntime) -> Result<(), AllocError> {
-    let index = without_a_wednesday(&rt, rt.alloc())?;
-    let periods = of_work_days(&rt, rt.alloc(), "2024-01-06", 5)?;
     let rows = [
         (
             Rule::WorkDaysOnly,
@@ -183,13 +199,23 @@ fn first_and_last_of_five_work_days(rt: HostRuntime) -> Result<(), AllocError> {
             "2024-01-15",
         ),
     ];
-    pass(&rt, rt.alloc(), &index, &periods, &rows)
+    pass_fives(&rt, rt.alloc(), &rows)
+}
+
+// The same, where no day is a work day.
+fn pass_no_work(
+    rt: &impl Abort,
+    alloc: Global,
+    periods: &Periods,
+    rows: &[(Rule, i16, &str, &str)],
+) -> Result<(), AllocError> {
+    let index = WorkIndex::build(alloc, &no_work(alloc))?;
+    pass(rt, alloc, &index, periods, rows)
 }
 
 // Without a work day only rule 3 names anything.
 #[test]
 fn calendar_without_a_work_day(rt: HostRuntime) -> Result<(), AllocError> {
-    let index = WorkIndex::build(rt.alloc(), &no_work(rt.alloc()))?;
     let periods = weeks(&rt, rt.alloc())?;
     let rows = [
         (Rule::WorkDaysOnly, 6, "2024-01-01 2024-01-08", ""),
@@ -198,15 +224,14 @@ fn calendar_without_a_work_day(rt: HostRuntime) -> Result<(), AllocError> {
         (Rule::Same, 6, "2024-01-01 2024-01-08", "2024-01-06"),
         (Rule::Skip, 6, "2024-01-01 2024-01-08", ""),
     ];
-    pass(&rt, rt.alloc(), &index, &periods, &rows)
+    pass_no_work(&rt, rt.alloc(), &periods, &rows)
 }
 
 #[test]
 fn work_days_without_a_work_day(rt: HostRuntime) -> Result<(), AllocError> {
-    let index = WorkIndex::build(rt.alloc(), &no_work(rt.alloc()))?;
     let periods = of_work_days(&rt, rt.alloc(), "2024-01-01", 7)?;
     let rows = [(Rule::WorkDaysOnly, 1, "2024-01-01 2024-01-08", "")];
-    pass(&rt, rt.alloc(), &index, &periods, &rows)
+    pass_no_work(&rt, rt.alloc(), &periods, &rows)
 }
 
 // What the text spells: its day and time, its run cycle and its deadline.
