@@ -1,15 +1,12 @@
 -- What `define` changes and is answered.
-use Rattle.std.specs.Prelude.{◌≡◌, ◌⊎◌, ℕ, List, Option, None, Some}
+use Rattle.std.specs.Prelude.{◌≡◌, ◌⊎◌, ℕ, List}
 use Rattle.app_definitions.specs.Blocks.{ReadsAs, IsFaultyAt}
 use Rattle.app_definitions.specs.Definitions.{merged, names_given}
 use Rattle.app_definitions.specs.declared.kinds.Block.{Block as DefinitionBlock}
 use Rattle.app_definitions.specs.declared.kinds.Kind.{Kind}
 use Rattle.occurrences.specs.declared.refusal.Refusal.TheVariants.{FaultyData}
 use Rattle.occurrences.specs.declared.reply.Reply.TheVariants.{Defined}
-use Rattle.statements.specs.declared.statements.Statement.{Statement}
-use Rattle.statements.specs.declared.statements.Statement.TheVariants as statement
 use Rattle.stream_items.specs.Items.{Block, Whole, TooLong, Unended}
-use Rattle.planner_cli.specs.Kinds.{definitions_kind}
 use Rattle.planner_cli.specs.Outcomes.{accepting}
 use Rattle.planner_cli.specs.Replies.{Reply}
 use Rattle.planner_cli.specs.State.{IsRefused, State}
@@ -28,8 +25,3 @@ TakesBlock s kind (Whole text) reply t =
     Merges s kind text reply t ⊎ ((number : ℕ) × IsFaultyAt kind text number × IsRefused s (FaultyData number) reply t)
 TakesBlock s kind TooLong reply t = IsRefused s (FaultyData 0) reply t
 TakesBlock s kind Unended reply t = IsRefused s (FaultyData 0) reply t
-
--- the kind of definitions that a statement defines, if it is a `define`
-abbrev pub kind_defined : Option Statement → Option Kind
-kind_defined (Some (statement.Define kind job)) = Some (definitions_kind kind)
-kind_defined _ = None

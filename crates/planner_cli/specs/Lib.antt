@@ -6,6 +6,7 @@ pub mod State
 pub mod Define
 pub mod Undefine
 pub mod Days
+pub mod Requests
 pub mod Steps
 pub mod Meaning
 pub mod Faults

@@ -1,29 +1,15 @@
 //! `define`: the definitions of a data block.
-ghost use Rattle.std.specs.Prelude.{◌≡◌, Option, IfOk, OnErr};
-ghost use Rattle.statements.specs.Statement.{Reads};
-ghost use Rattle.statements.specs.declared.statements.Statement.{Statement as StatementValue};
+ghost use Rattle.std.specs.Prelude.{◌≡◌, IfOk, OnErr};
 ghost use Rattle.stream_items.specs.Pages.{block_shown, Fits};
-ghost use Rattle.planner_cli.specs.Define.{TakesBlock, kind_defined};
+ghost use Rattle.planner_cli.specs.Define.{TakesBlock};
 ghost use Rattle.planner_cli.specs.Replies.{Answered};
 
 use crate::answers::{Answer, accepted, refused};
 use crate::desk::Desk;
-use crate::kinds::definitions_kind;
 use app_definitions::{BlockFault, Kind, read_block};
 use occurrences::{Refusal, Reply};
-use statements::{Statement, read_statement};
 use std::alloc::{AllocError, Global};
 use stream_items::Block;
-
-/// The kind of definitions that a line defines, if it is a `define`.
-pub(crate) fn kind_defined(alloc: Global, line: &[u8]) -> Result<Option<Kind>, AllocError>
-    ensures { IfOk result (λ kind. (read : Option StatementValue) × Reads line.now read × (kind ≡ kind_defined read)) }
-{
-    match read_statement(alloc, line)? {
-        Some(Statement::Define { kind, .. }) => Ok(Some(definitions_kind(kind))),
-        _ => Ok(None),
-    }
-}
 
 /// Takes in what a block of that kind defines. The answer is made before anything is changed.
 pub(crate) fn define(

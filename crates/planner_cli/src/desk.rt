@@ -1,16 +1,15 @@
 //! What is known between two statements, and the list of statements that are answered.
-ghost use Rattle.std.specs.Prelude.{◌≡◌, Some, IfOk, OnErr};
+ghost use Rattle.std.specs.Prelude.{◌≡◌, IfOk, OnErr};
 ghost use Rattle.stream_items.specs.Pages.{item_of, FitsBlock};
 ghost use Rattle.planner_cli.specs.Replies.{Answered};
 
 use crate::answers::{Answer, refused};
 use crate::days::days;
-use crate::define::{define, kind_defined};
-use crate::kinds::definitions_kind;
+use crate::define::define;
+use crate::requests::{Request, request_in};
 use crate::undefine::undefine;
 use app_definitions::Definitions;
 use occurrences::Refusal;
-use statements::{Statement, read_statement};
 use std::alloc::{AllocError, Global};
 use stream_items::Item;
 
@@ -22,7 +21,7 @@ pub struct Desk {
 
 impl Desk {
     ghost use Rattle.planner_cli.specs.State.{nothing_known};
-    ghost use Rattle.planner_cli.specs.Steps.{AnswersLine, Step};
+    ghost use Rattle.planner_cli.specs.Steps.{AnswersRequest, Step};
 
     /// A desk on which nothing is defined.
     pub fn new(alloc: Global) -> Desk
@@ -43,33 +42,30 @@ impl Desk {
     {
         match item {
             Item::NoStatement => refused(alloc, Refusal::NotAStatement),
-            Item::Alone(line) => match read_statement(alloc, line)? {
-                Some(statement) => self.answer_statement(alloc, &statement),
-                None => refused(alloc, Refusal::NotAStatement),
-            },
-            Item::WithBlock(line, block) => match kind_defined(alloc, line)? {
-                Some(kind) => define(alloc, self, kind, block),
-                None => refused(alloc, Refusal::NotAStatement),
+            Item::Alone(line) => {
+                let request = request_in(alloc, line)?;
+                self.answer_request(alloc, &request)
+            }
+            Item::WithBlock(line, block) => match request_in(alloc, line)? {
+                Request::Define { kind } => define(alloc, self, kind, block),
+                Request::NotServed => refused(alloc, Refusal::NotAStatement),
+                Request::Undefine { .. } => refused(alloc, Refusal::NotAStatement),
+                Request::Days { .. } => refused(alloc, Refusal::NotAStatement),
             },
         }
     }
 
-    /// Answers a statement whose line has no data after it.
-    fn answer_statement(
-        &mut self,
-        alloc: Global,
-        statement: &Statement,
-    ) -> Result<Answer, AllocError>
-        ensures answered { IfOk result (λ answer. Answered (AnswersLine self.old (Some statement.now))
+    /// Answers a line that has no data after it.
+    fn answer_request(&mut self, alloc: Global, request: &Request) -> Result<Answer, AllocError>
+        ensures answered { IfOk result (λ answer. Answered (AnswersRequest self.old request.now)
             self.new answer.text.items answer.is_accepted) }
         ensures err { OnErr result (self.new ≡ self.old) }
     {
-        match statement {
-            Statement::Define { .. } => refused(alloc, Refusal::FaultyData { record: 0 }),
-            Statement::Undefine { kind, name, .. } => {
-                undefine(alloc, self, definitions_kind(*kind), name)
-            }
-            Statement::Days { app, from, to } => days(alloc, &self.definitions, app, *from, *to),
+        match request {
+            Request::NotServed => refused(alloc, Refusal::NotAStatement),
+            Request::Define { .. } => refused(alloc, Refusal::FaultyData { record: 0 }),
+            Request::Undefine { kind, name } => undefine(alloc, self, *kind, name),
+            Request::Days { app, from, to } => days(alloc, &self.definitions, app, *from, *to),
         }
     }
 }

@@ -3,17 +3,18 @@ ghost use Rattle.std.specs.Prelude.{◌≡◌};
 ghost use Rattle.planner_cli.specs.Kinds.{definitions_kind};
 
 use app_definitions::Kind;
+use statements::KindWord;
 
 /// The kind of definitions that a statement's word names.
-pub fn definitions_kind(word: statements::Kind) -> Kind
+pub fn definitions_kind(word: KindWord) -> Kind
     ensures { result ≡ definitions_kind word }
 {
     match word {
-        statements::Kind::Calendars => Kind::Calendars,
-        statements::Kind::Periods => Kind::Periods,
-        statements::Kind::Applications => Kind::Applications,
-        statements::Kind::RunCycles => Kind::RunCycles,
-        statements::Kind::Predecessors => Kind::Predecessors,
-        statements::Kind::Options => Kind::Options,
+        KindWord::Calendars => Kind::Calendars,
+        KindWord::Periods => Kind::Periods,
+        KindWord::Applications => Kind::Applications,
+        KindWord::RunCycles => Kind::RunCycles,
+        KindWord::Predecessors => Kind::Predecessors,
+        KindWord::Options => Kind::Options,
     }
 }

@@ -13,6 +13,7 @@ mod define;
 mod desk;
 mod faults;
 mod kinds;
+mod requests;
 mod rows;
 mod stream;
 mod tally;

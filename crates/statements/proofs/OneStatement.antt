@@ -1,24 +1,30 @@
 -- No line is two statements.
-use Rattle.std.proofs.Common.{◌≡◌, ◌∙◌, ◌<◌, ◌^◌, ℕ, List, ◌∷◌, Bool, Option, Some, None, cond, refl, sym, ap, ap₂, subst, codes, arith}
+use Rattle.std.proofs.Common.{◌≡◌, ◌∙◌, ◌<◌, ◌^◌, ℕ, List, ◌∷◌, Bool, true, Option, Some, None, cond, refl, sym, ap, ap₂, subst, codes, arith}
 use Rattle.std.specs.Fmt.{decimal}
+use Rattle.std.specs.List.{list_all}
 use Rattle.std.specs.Str.{bytes_eq}
 use Rattle.std.proofs.lemmas.Fmt.{decimal_injective}
 use Rattle.statement_words.specs.Grammar.{Text, Use, reading_of}
-use Rattle.statement_words.specs.Line.{words_of}
-use Rattle.work_calendars.specs.Spelling.{SpellsDay}
-use Rattle.work_calendars.proofs.SpellingFacts.{SpellsDay-one_day}
-use Rattle.statements.specs.Kind.{kind_text}
-use Rattle.statements.specs.Statement.{HasValues, IsLineOf, IsWrittenIn, verb_of}
-use Rattle.statements.specs.Values.{HasDay, HasJob, HasKind, HasNameOf, HasText}
+use Rattle.statement_words.specs.Line.{is_line_byte, words_of}
+use Rattle.work_calendars.proofs.SpellingFacts.{SpellsDay-one_day, SpellsMoment-one_moment}
+use Rattle.work_calendars.specs.Spelling.{SpellsDay, SpellsMoment}
+use Rattle.statements.specs.Arguments.{HasArguments}
+use Rattle.statements.specs.Words.{function_text, kind_text, listed_text}
+use Rattle.statements.specs.Statement.{IsLineOf, IsWrittenIn, Reads, statement_of}
+use Rattle.statements.specs.Values.{HasApp, HasDay, HasFunction, HasJob, HasKind, HasListed, HasMoment, HasName, HasText, Reading}
 use Rattle.statements.specs.Verb.{layout_for, verb_text}
-use Rattle.statements.specs.declared.kinds.Kind.{Kind}
-use Rattle.statements.specs.declared.kinds.Kind.TheVariants as kind
+use Rattle.statements.specs.declared.arguments.Arguments.{Arguments}
 use Rattle.statements.specs.declared.statements.Statement.{Statement}
-use Rattle.statements.specs.declared.statements.Statement.TheVariants as statement
 use Rattle.statements.specs.declared.verbs.Verb.{Verb}
 use Rattle.statements.specs.declared.verbs.Verb.TheVariants as verb
+use Rattle.statements.specs.declared.words.FunctionWord.{FunctionWord}
+use Rattle.statements.specs.declared.words.FunctionWord.TheVariants as function
+use Rattle.statements.specs.declared.words.KindWord.{KindWord}
+use Rattle.statements.specs.declared.words.KindWord.TheVariants as kind
+use Rattle.statements.specs.declared.words.Listed.{Listed}
+use Rattle.statements.specs.declared.words.Listed.TheVariants as listed
 
--- ---- names and kinds by their texts
+-- ---- names and words by their texts
 
 abbrev or_else : {A : Type 0} → Bool → A → Option A → Option A
 or_else b x rest = cond b (Some x) rest
@@ -26,17 +32,51 @@ or_else b x rest = cond b (Some x) rest
 abbrev verb_by : Text → Option Verb
 verb_by t = or_else (bytes_eq t (codes "define")) verb.Define
     (or_else (bytes_eq t (codes "undefine")) verb.Undefine
-    (or_else (bytes_eq t (codes "days")) verb.Days None))
+    (or_else (bytes_eq t (codes "days")) verb.Days
+    (or_else (bytes_eq t (codes "ltp-create")) verb.LtpCreate
+    (or_else (bytes_eq t (codes "ltp-extend")) verb.LtpExtend
+    (or_else (bytes_eq t (codes "ltp-modify-all")) verb.LtpModifyAll
+    (or_else (bytes_eq t (codes "ltp-modify-one")) verb.LtpModifyOne
+    (or_else (bytes_eq t (codes "ltp-trial")) verb.LtpTrial
+    (or_else (bytes_eq t (codes "ltp-add")) verb.LtpAdd
+    (or_else (bytes_eq t (codes "ltp-delete")) verb.LtpDelete
+    (or_else (bytes_eq t (codes "dp-extend")) verb.DpExtend
+    (or_else (bytes_eq t (codes "dp-replan")) verb.DpReplan
+    (or_else (bytes_eq t (codes "dp-trial")) verb.DpTrial
+    (or_else (bytes_eq t (codes "cp-add")) verb.CpAdd
+    (or_else (bytes_eq t (codes "cp-start")) verb.CpStart
+    (or_else (bytes_eq t (codes "cp-complete")) verb.CpComplete
+    (or_else (bytes_eq t (codes "cp-fail")) verb.CpFail
+    (or_else (bytes_eq t (codes "cp-reset")) verb.CpReset
+    (or_else (bytes_eq t (codes "cp-delete")) verb.CpDelete
+    (or_else (bytes_eq t (codes "list")) verb.List None)))))))))))))))))))
 
-verb_by-text : (v : Verb) → verb_by (verb_text v) ≡ Some v
+verb_by-text : (x : Verb) → verb_by (verb_text x) ≡ Some x
 verb_by-text verb.Define = refl
 verb_by-text verb.Undefine = refl
 verb_by-text verb.Days = refl
+verb_by-text verb.LtpCreate = refl
+verb_by-text verb.LtpExtend = refl
+verb_by-text verb.LtpModifyAll = refl
+verb_by-text verb.LtpModifyOne = refl
+verb_by-text verb.LtpTrial = refl
+verb_by-text verb.LtpAdd = refl
+verb_by-text verb.LtpDelete = refl
+verb_by-text verb.DpExtend = refl
+verb_by-text verb.DpReplan = refl
+verb_by-text verb.DpTrial = refl
+verb_by-text verb.CpAdd = refl
+verb_by-text verb.CpStart = refl
+verb_by-text verb.CpComplete = refl
+verb_by-text verb.CpFail = refl
+verb_by-text verb.CpReset = refl
+verb_by-text verb.CpDelete = refl
+verb_by-text verb.List = refl
 
-same_verb : (v w : Verb) → verb_text v ≡ verb_text w → v ≡ w
-same_verb v w e = let same : Some v ≡ Some w = sym (verb_by-text v) ∙ ap verb_by e ∙ verb_by-text w in cc
+same_verb : (x y : Verb) → verb_text x ≡ verb_text y → x ≡ y
+same_verb x y e = let same : Some x ≡ Some y = sym (verb_by-text x) ∙ ap verb_by e ∙ verb_by-text y in cc
 
-abbrev kind_by : Text → Option Kind
+abbrev kind_by : Text → Option KindWord
 kind_by t = or_else (bytes_eq t (codes "calendars")) kind.Calendars
     (or_else (bytes_eq t (codes "periods")) kind.Periods
     (or_else (bytes_eq t (codes "applications")) kind.Applications
@@ -44,7 +84,7 @@ kind_by t = or_else (bytes_eq t (codes "calendars")) kind.Calendars
     (or_else (bytes_eq t (codes "predecessors")) kind.Predecessors
     (or_else (bytes_eq t (codes "options")) kind.Options None)))))
 
-kind_by-text : (k : Kind) → kind_by (kind_text k) ≡ Some k
+kind_by-text : (x : KindWord) → kind_by (kind_text x) ≡ Some x
 kind_by-text kind.Calendars = refl
 kind_by-text kind.Periods = refl
 kind_by-text kind.Applications = refl
@@ -52,16 +92,56 @@ kind_by-text kind.RunCycles = refl
 kind_by-text kind.Predecessors = refl
 kind_by-text kind.Options = refl
 
-same_kind : (j k : Kind) → kind_text j ≡ kind_text k → j ≡ k
-same_kind j k e = let same : Some j ≡ Some k = sym (kind_by-text j) ∙ ap kind_by e ∙ kind_by-text k in cc
+same_kind : (x y : KindWord) → kind_text x ≡ kind_text y → x ≡ y
+same_kind x y e = let same : Some x ≡ Some y = sym (kind_by-text x) ∙ ap kind_by e ∙ kind_by-text y in cc
+
+abbrev function_by : Text → Option FunctionWord
+function_by t = or_else (bytes_eq t (codes "create")) function.Create
+    (or_else (bytes_eq t (codes "extend")) function.Extend
+    (or_else (bytes_eq t (codes "modify-all")) function.ModifyAll
+    (or_else (bytes_eq t (codes "modify-one")) function.ModifyOne
+    (or_else (bytes_eq t (codes "replan")) function.Replan None))))
+
+function_by-text : (x : FunctionWord) → function_by (function_text x) ≡ Some x
+function_by-text function.Create = refl
+function_by-text function.Extend = refl
+function_by-text function.ModifyAll = refl
+function_by-text function.ModifyOne = refl
+function_by-text function.Replan = refl
+
+same_function : (x y : FunctionWord) → function_text x ≡ function_text y → x ≡ y
+same_function x y e = let same : Some x ≡ Some y = sym (function_by-text x) ∙ ap function_by e ∙ function_by-text y in cc
+
+abbrev listed_by : Text → Option Listed
+listed_by t = or_else (bytes_eq t (codes "ltp")) listed.Ltp
+    (or_else (bytes_eq t (codes "cp")) listed.Cp
+    (or_else (bytes_eq t (codes "history")) listed.History
+    (or_else (bytes_eq t (codes "deletions")) listed.Deletions
+    (or_else (bytes_eq t (codes "dependencies")) listed.Dependencies None))))
+
+listed_by-text : (x : Listed) → listed_by (listed_text x) ≡ Some x
+listed_by-text listed.Ltp = refl
+listed_by-text listed.Cp = refl
+listed_by-text listed.History = refl
+listed_by-text listed.Deletions = refl
+listed_by-text listed.Dependencies = refl
+
+same_listed : (x y : Listed) → listed_text x ≡ listed_text y → x ≡ y
+same_listed x y e = let same : Some x ≡ Some y = sym (listed_by-text x) ∙ ap listed_by e ∙ listed_by-text y in cc
 
 -- ---- values
 
 one_text : (us : List Use) (key a b : Text) → HasText us key a → HasText us key b → a ≡ b
 one_text us key a b p q = let same : Some a ≡ Some b = sym p ∙ q in cc
 
-one_kind : (us : List Use) (j k : Kind) → HasKind us j → HasKind us k → j ≡ k
-one_kind us j k p q = same_kind j k (one_text us (codes "KIND") (kind_text j) (kind_text k) p q)
+one_kind : (us : List Use) (x y : KindWord) → HasKind us x → HasKind us y → x ≡ y
+one_kind us x y p q = same_kind x y (one_text us (codes "KIND") (kind_text x) (kind_text y) p q)
+
+one_function : (us : List Use) (x y : FunctionWord) → HasFunction us x → HasFunction us y → x ≡ y
+one_function us x y p q = same_function x y (one_text us (codes "FUNCTION") (function_text x) (function_text y) p q)
+
+one_listed : (us : List Use) (x y : Listed) → HasListed us x → HasListed us y → x ≡ y
+one_listed us x y p q = same_listed x y (one_text us (codes "WHAT") (listed_text x) (listed_text y) p q)
 
 one_job : (us : List Use) (m n : ℕ) → HasJob us m → HasJob us n → m ≡ n
 one_job us m n p q =
@@ -69,38 +149,94 @@ one_job us m n p q =
     let low : n < 2 ^ 64 = omega (arith, q.1) in
     decimal_injective m n small low (one_text us (codes "job") (decimal m) (decimal n) p.0 q.0)
 
-one_name : (us : List Use) (j k : Kind) (a b : Text) → HasNameOf us j a → HasNameOf us k b → a ≡ b
-one_name us j k a b p q = one_text us (codes "name") a b p.0 q.0
+one_app : (us : List Use) (a b : Text) → HasApp us a → HasApp us b → a ≡ b
+one_app us a b p q = one_text us (codes "app") a b p.0 q.0
+
+one_name : (us : List Use) (a b : Text) → HasName us a → HasName us b → a ≡ b
+one_name us a b p q = one_text us (codes "name") a b p.0 q.0
 
 one_day : (us : List Use) (key : Text) (c d : ℕ) → HasDay us key c → HasDay us key d → c ≡ d
 one_day us key c d p q =
     SpellsDay-one_day p.0 c d p.2 (subst (λ t. SpellsDay t d) (sym (one_text us key p.0 q.0 p.1 q.1)) q.2)
 
-one_of_values : (us : List Use) (s t : Statement) → HasValues us s → HasValues us t → verb_of s ≡ verb_of t → s ≡ t
-one_of_values us (statement.Define k m) (statement.Define l n) p q e = ap₂ statement.Define (one_kind us k l p.0 q.0) (one_job us m n p.1 q.1)
-one_of_values us (statement.Undefine k a m) (statement.Undefine l b n) p q e =
-    let same_k = one_kind us k l p.0 q.0 in
-    let same_a = one_name us k l a b p.1 q.1 in
-    let same_m = one_job us m n p.2 q.2 in
-    cc
-one_of_values us (statement.Days a c d) (statement.Days b f g) p q e =
-    let same_a = one_text us (codes "app") a b p.0.0 q.0.0 in
-    let same_c = one_day us (codes "from") c f p.1 q.1 in
-    let same_d = one_day us (codes "to") d g p.2 q.2 in
-    cc
-one_of_values us (statement.Define k m) t p q e = cc
-one_of_values us (statement.Undefine k a m) t p q e = cc
-one_of_values us (statement.Days a c d) t p q e = cc
+one_moment : (us : List Use) (key : Text) (c d : ℕ) → HasMoment us key c → HasMoment us key d → c ≡ d
+one_moment us key c d p q =
+    SpellsMoment-one_moment p.0 c d p.2 (subst (λ t. SpellsMoment t d) (sym (one_text us key p.0 q.0 p.1 q.1)) q.2)
+
+-- what has at most one value is read in one way
+one_reading : {A : Type 0} (Has : A → Type 0) → ((x y : A) → Has x → Has y → x ≡ y) → (o p : Option A) → Reading Has o → Reading Has p → o ≡ p
+one_reading Has one None None r s = refl
+one_reading Has one None (Some y) r s = absurd (r y s)
+one_reading Has one (Some x) None r s = absurd (s x r)
+one_reading Has one (Some x) (Some y) r s = ap Some (one x y r s)
+
+one_arguments : (us : List Use) (a b : Arguments) → HasArguments us a → HasArguments us b → a ≡ b
+one_arguments us a b p q i =
+    record {
+      job = one_reading (HasJob us) (one_job us) a.job b.job p.job q.job i;
+      app = one_reading (HasApp us) (one_app us) a.app b.app p.app q.app i;
+      from = one_reading (HasDay us (codes "from")) (one_day us (codes "from")) a.from b.from p.from q.from i;
+      to = one_reading (HasDay us (codes "to")) (one_day us (codes "to")) a.to b.to p.to q.to i;
+      to_moment = one_reading (HasMoment us (codes "to")) (one_moment us (codes "to")) a.to_moment b.to_moment p.to_moment q.to_moment i;
+      ia = one_reading (HasMoment us (codes "ia")) (one_moment us (codes "ia")) a.ia b.ia p.ia q.ia i;
+      name = one_reading (HasName us) (one_name us) a.name b.name p.name q.name i;
+      kind = one_reading (HasKind us) (one_kind us) a.kind b.kind p.kind q.kind i;
+      function = one_reading (HasFunction us) (one_function us) a.function b.function p.function q.function i;
+      listed = one_reading (HasListed us) (one_listed us) a.listed b.listed p.listed q.listed i;
+      has_app = (p.has_app ∙ sym q.has_app) i;
+      has_from = (p.has_from ∙ sym q.has_from) i;
+      has_to = (p.has_to ∙ sym q.has_to) i;
+    }
+
+-- the name, the values and the arguments of words that are a statement
+
+one_verb : (name : Text) (after words : List Text) (v : Verb) (s : Statement) → words ≡ name ∷ after → name ≡ verb_text v → (w : IsWrittenIn words s) → (w.verb ≡ v) × (w.after ≡ after)
+one_verb name after words v s e named w =
+    let both : verb_text w.verb ∷ w.after ≡ name ∷ after = sym w.name_first ∙ e in
+    let first : verb_text w.verb ≡ name = cc in
+    let rest : w.after ≡ after = cc in
+    (same_verb w.verb v (first ∙ named), rest)
 
 one_written : (words : List Text) (s t : Statement) → IsWrittenIn words s → IsWrittenIn words t → s ≡ t
 one_written words s t p q =
-    let both : verb_text (verb_of s) ∷ p.after ≡ verb_text (verb_of t) ∷ q.after = sym p.name_first ∙ q.name_first in
-    let first : verb_text (verb_of s) ≡ verb_text (verb_of t) = cc in
-    let rest : p.after ≡ q.after = cc in
-    let v = same_verb (verb_of s) (verb_of t) first in
+    let (v, rest) = one_verb (verb_text q.verb) q.after words q.verb s q.name_first refl p in
     let read : Some p.uses ≡ Some q.uses = sym p.reading ∙ ap₂ (λ w after. reading_of (layout_for w) after) v rest ∙ q.reading in
     let uses : p.uses ≡ q.uses = cc in
-    one_of_values q.uses s t (subst (λ (us : List Use). HasValues us s) uses p.values) q.values v
+    let arguments = one_arguments q.uses p.arguments q.arguments (subst (λ (us : List Use). HasArguments us p.arguments) uses p.values) q.values in
+    let says : Some s ≡ Some t = sym p.says ∙ ap₂ statement_of v arguments ∙ q.says in
+    cc
 
 pub one_statement : (line : List ℕ) (s t : Statement) → IsLineOf s line → IsLineOf t line → s ≡ t
 one_statement line s t p q = one_written (words_of line) s t p.1 q.1
+
+-- words that aren't read as the name's layout says are no statement
+pub no_values : (line name : Text) (after : List Text) (v : Verb) → words_of line ≡ name ∷ after → name ≡ verb_text v → reading_of (layout_for v) after ≡ None
+    → (s : Statement) → ¬ (IsLineOf s line)
+no_values line name after v e named none s p =
+    let w = p.1 in
+    let (same, rest) = one_verb name after (words_of line) v s e named w in
+    let no : None ≡ Some w.uses = sym none ∙ sym (ap₂ (λ u words. reading_of (layout_for u) words) same rest) ∙ w.reading in cc
+
+-- and those that are, are the statement that their values make, or none
+pub read_values : (line name : Text) (after : List Text) (v : Verb) (us : List Use) (a : Arguments) (o : Option Statement) → list_all is_line_byte line ≡ true
+    → words_of line ≡ name ∷ after → name ≡ verb_text v → reading_of (layout_for v) after ≡ Some us → HasArguments us a → o ≡ statement_of v a → Reads line o
+read_values line name after v us a (Some s) printable e named read values made = (
+  printable,
+  record {
+    verb = v;
+    after = after;
+    uses = us;
+    arguments = a;
+    name_first = e ∙ ap (λ n. n ∷ after) named;
+    reading = read;
+    values = values;
+    says = sym made;
+  },
+)
+read_values line name after v us a None printable e named read values made = λ s p.
+    let w = p.1 in
+    let (same, rest) = one_verb name after (words_of line) v s e named w in
+    let both : Some w.uses ≡ Some us = sym w.reading ∙ ap₂ (λ u words. reading_of (layout_for u) words) same rest ∙ read in
+    let uses : w.uses ≡ us = cc in
+    let arguments = one_arguments us w.arguments a (subst (λ (u : List Use). HasArguments u w.arguments) uses w.values) values in
+    let no : None ≡ Some s = made ∙ sym (ap₂ statement_of same arguments) ∙ w.says in cc

@@ -1,5 +1,6 @@
-pub mod Kind
+pub mod Words
 pub mod JobNumber
 pub mod Verb
 pub mod Values
+pub mod Arguments
 pub mod Statement

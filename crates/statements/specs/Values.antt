@@ -1,13 +1,14 @@
 -- What the value of an option, or the word without one, has to be: the forms of values.
-use Rattle.std.specs.Prelude.{◌≡◌, ℕ, List, Some, codes}
+use Rattle.std.specs.Prelude.{◌≡◌, ℕ, List, Option, Some, None, codes}
 use Rattle.std.specs.Fmt.{decimal}
 use Rattle.statement_words.specs.Grammar.{Text, Use, value_in}
-use Rattle.work_calendars.specs.Name.{IsName, IsShort}
-use Rattle.work_calendars.specs.Spelling.{SpellsDay}
+use Rattle.work_calendars.specs.Name.{IsName}
+use Rattle.work_calendars.specs.Spelling.{SpellsDay, SpellsMoment}
 use Rattle.statements.specs.JobNumber.{IsJobNumber}
-use Rattle.statements.specs.Kind.{kind_text}
-use Rattle.statements.specs.declared.kinds.Kind.{Kind}
-use Rattle.statements.specs.declared.kinds.Kind.TheVariants.{Calendars, Periods, Applications, RunCycles, Predecessors, Options}
+use Rattle.statements.specs.Words.{function_text, kind_text, listed_text}
+use Rattle.statements.specs.declared.words.FunctionWord.{FunctionWord}
+use Rattle.statements.specs.declared.words.KindWord.{KindWord}
+use Rattle.statements.specs.declared.words.Listed.{Listed}
 
 -- the value is this text
 abbrev pub HasText : List Use → Text → Text → Type 0
@@ -21,23 +22,29 @@ HasJob us n = HasText us (codes "job") (decimal n) × IsJobNumber n
 abbrev pub HasApp : List Use → Text → Type 0
 HasApp us name = HasText us (codes "app") name × IsName name
 
+-- the value of `--name` is this name
+abbrev pub HasName : List Use → Text → Type 0
+HasName us name = HasText us (codes "name") name × IsName name
+
 -- the value of this option spells this day
 abbrev pub HasDay : List Use → Text → ℕ → Type 0
 HasDay us key day = (text : Text) × HasText us key text × SpellsDay text day
 
--- the word without an option is that of this kind
-abbrev pub HasKind : List Use → Kind → Type 0
+-- the value of this option spells this moment
+abbrev pub HasMoment : List Use → Text → ℕ → Type 0
+HasMoment us key moment = (text : Text) × HasText us key text × SpellsMoment text moment
+
+-- the word without an option is this one
+abbrev pub HasKind : List Use → KindWord → Type 0
 HasKind us kind = HasText us (codes "KIND") (kind_text kind)
 
--- a name of this kind of definition; the options have none
-abbrev pub IsNameOf : Kind → Text → Type 0
-IsNameOf Calendars name = IsName name
-IsNameOf Periods name = IsShort name
-IsNameOf Applications name = IsName name
-IsNameOf RunCycles name = IsName name
-IsNameOf Predecessors name = IsName name
-IsNameOf Options name = ⊥
+abbrev pub HasFunction : List Use → FunctionWord → Type 0
+HasFunction us function = HasText us (codes "FUNCTION") (function_text function)
 
--- the value of `--name` is this name, of this kind of definition
-abbrev pub HasNameOf : List Use → Kind → Text → Type 0
-HasNameOf us kind name = HasText us (codes "name") name × IsNameOf kind name
+abbrev pub HasListed : List Use → Listed → Type 0
+HasListed us listed = HasText us (codes "WHAT") (listed_text listed)
+
+-- the value of that form, or none where there is none of it
+abbrev pub Reading : {A : Type 0} → (A → Type 0) → Option A → Type 0
+Reading Has (Some value) = Has value
+Reading {A} Has None = (value : A) → ¬ (Has value)

@@ -1,11 +1,14 @@
-ghost use Rattle.std.specs.Prelude.{IfOk};
-ghost use Rattle.statements.specs.Statement.{Reads, ReadsValues};
-ghost use Rattle.statements.specs.declared.verbs.Verb.TheVariants.{Define, Undefine, Days};
+//! Lines are read as statements.
+ghost use Rattle.std.specs.Prelude.{◌≡◌, IfOk};
+ghost use Rattle.statements.specs.Statement.{Reads, change_of, dp_trial_of, fits_kind, list_of, ltp_trial_of, statement_of};
 
-use crate::values::{app_in, day_in, job_in, kind_in, name_of_kind_in};
-use crate::{Statement, Verb};
-use statement_words::{Values, is_line_text, words_in};
+use crate::arguments::Arguments;
+use crate::values::arguments_in;
+use crate::{FunctionWord, KindWord, Statement, Verb};
+use occurrences::Action;
+use statement_words::{is_line_text, words_in};
 use std::alloc::{AllocError, Global};
+use work_calendars::{LONGEST_SHORT_NAME, Name};
 
 /// The statement that the line is, or `None` where it is no statement: a name that is not among the
 /// statements', an option that is unknown, missing or doubled, a value that is not of its form, a
@@ -24,47 +27,145 @@ pub fn read_statement(alloc: Global, line: &[u8]) -> Result<Option<Statement>, A
         return Ok(None);
     };
     match verb.form().read(alloc, after)? {
-        Some(values) => Ok(statement_in(verb, &values)),
+        Some(values) => Ok(statement_of(verb, &arguments_in(&values))),
         None => Ok(None),
     }
 }
 
-fn statement_in(verb: Verb, values: &Values<'_>) -> Option<Statement>
-    ensures { ReadsValues verb values.now result }
+/// The statement of that name which the values make.
+fn statement_of(verb: Verb, a: &Arguments) -> Option<Statement>
+    ensures { result ≡ statement_of verb a.now }
 {
     match verb {
-        Verb::Define => define_in(values),
-        Verb::Undefine => undefine_in(values),
-        Verb::Days => days_in(values),
+        Verb::Define => Some(Statement::Define {
+            kind: a.kind?,
+            job: a.job?,
+        }),
+        Verb::Undefine => {
+            let (kind, name, job) = (a.kind?, a.name?, a.job?);
+            if fits_kind(kind, &name) {
+                Some(Statement::Undefine { kind, name, job })
+            } else {
+                None
+            }
+        }
+        Verb::Days => Some(Statement::Days {
+            app: a.app?,
+            from: a.from?,
+            to: a.to?,
+        }),
+        Verb::LtpCreate => Some(Statement::LtpCreate {
+            from: a.from?,
+            to: a.to?,
+            job: a.job?,
+        }),
+        Verb::LtpExtend => Some(Statement::LtpExtend {
+            to: a.to?,
+            job: a.job?,
+        }),
+        Verb::LtpModifyAll => Some(Statement::LtpModifyAll { job: a.job? }),
+        Verb::LtpModifyOne => Some(Statement::LtpModifyOne {
+            app: a.app?,
+            job: a.job?,
+        }),
+        Verb::LtpTrial => ltp_trial_of(a, a.function?),
+        Verb::LtpAdd => Some(Statement::LtpAdd {
+            app: a.app?,
+            ia: a.ia?,
+            job: a.job?,
+        }),
+        Verb::LtpDelete => Some(Statement::LtpDelete {
+            app: a.app?,
+            ia: a.ia?,
+            job: a.job?,
+        }),
+        Verb::DpExtend => Some(Statement::DpExtend {
+            to: a.to_moment?,
+            job: a.job?,
+        }),
+        Verb::DpReplan => Some(Statement::DpReplan { job: a.job? }),
+        Verb::DpTrial => dp_trial_of(a, a.function?),
+        Verb::CpAdd => Some(Statement::CpAdd {
+            app: a.app?,
+            ia: a.ia?,
+            job: a.job?,
+        }),
+        Verb::CpStart => change_of(Action::Start, a),
+        Verb::CpComplete => change_of(Action::Complete, a),
+        Verb::CpFail => change_of(Action::Fail, a),
+        Verb::CpReset => change_of(Action::Reset, a),
+        Verb::CpDelete => change_of(Action::Delete, a),
+        Verb::List => list_of(a),
     }
 }
 
-fn define_in(values: &Values<'_>) -> Option<Statement>
-    ensures { ReadsValues Define values.now result }
+/// Whether a name fits that kind of definition.
+fn fits_kind(kind: KindWord, name: &Name) -> bool
+    ensures { result ≡ fits_kind kind name.now }
 {
-    Some(Statement::Define {
-        kind: kind_in(values)?,
-        job: job_in(values)?,
-    })
+    match kind {
+        KindWord::Options => false,
+        KindWord::Periods => name.as_bytes().len() <= LONGEST_SHORT_NAME,
+        KindWord::Calendars
+        | KindWord::Applications
+        | KindWord::RunCycles
+        | KindWord::Predecessors => true,
+    }
 }
 
-fn undefine_in(values: &Values<'_>) -> Option<Statement>
-    ensures { ReadsValues Undefine values.now result }
+/// The function of `ltp-trial`, with the options that it takes and no others.
+fn ltp_trial_of(a: &Arguments, function: FunctionWord) -> Option<Statement>
+    ensures { result ≡ ltp_trial_of a.now function }
 {
-    let kind = kind_in(values)?;
-    Some(Statement::Undefine {
-        kind,
-        name: name_of_kind_in(values, kind)?,
-        job: job_in(values)?,
-    })
+    match function {
+        FunctionWord::Create if !a.has_app => Some(Statement::LtpTrialCreate {
+            from: a.from?,
+            to: a.to?,
+        }),
+        FunctionWord::Extend if !(a.has_from || a.has_app) => {
+            Some(Statement::LtpTrialExtend { to: a.to? })
+        }
+        FunctionWord::ModifyAll if !(a.has_from || a.has_to || a.has_app) => {
+            Some(Statement::LtpTrialModifyAll)
+        }
+        FunctionWord::ModifyOne if !(a.has_from || a.has_to) => {
+            Some(Statement::LtpTrialModifyOne { app: a.app? })
+        }
+        _ => None,
+    }
 }
 
-fn days_in(values: &Values<'_>) -> Option<Statement>
-    ensures { ReadsValues Days values.now result }
+/// The function of `dp-trial`, with the option that it takes.
+fn dp_trial_of(a: &Arguments, function: FunctionWord) -> Option<Statement>
+    ensures { result ≡ dp_trial_of a.now function }
 {
-    Some(Statement::Days {
-        app: app_in(values)?,
-        from: day_in(values, "from")?,
-        to: day_in(values, "to")?,
+    match function {
+        FunctionWord::Extend => Some(Statement::DpTrialExtend { to: a.to_moment? }),
+        FunctionWord::Replan if !a.has_to => Some(Statement::DpTrialReplan),
+        _ => None,
+    }
+}
+
+/// `list`, with its option where that stands there.
+fn list_of(a: &Arguments) -> Option<Statement>
+    ensures { result ≡ list_of a.now }
+{
+    let what = a.listed?;
+    if a.has_app {
+        Some(Statement::ListApp { what, app: a.app? })
+    } else {
+        Some(Statement::List { what })
+    }
+}
+
+/// A report on an occurrence of the current plan.
+fn change_of(action: Action, a: &Arguments) -> Option<Statement>
+    ensures { result ≡ change_of action a.now }
+{
+    Some(Statement::CpChange {
+        action,
+        app: a.app?,
+        ia: a.ia?,
+        job: a.job?,
     })
 }

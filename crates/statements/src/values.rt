@@ -1,54 +1,94 @@
-ghost use Rattle.std.specs.Prelude.{◌≡◌, ℕ, List, IfSome, IfNone};
-ghost use Rattle.statements.specs.Values.{HasApp, HasDay, HasJob, HasKind, HasNameOf};
+//! Values in words.
+ghost use Rattle.std.specs.Prelude.{◌≡◌, is_some};
+ghost use Rattle.statement_words.specs.Grammar.{value_in};
+ghost use Rattle.statements.specs.Values.{HasApp, HasDay, HasFunction, HasJob, HasKind, HasListed, HasMoment, HasName, Reading};
+ghost use Rattle.statements.specs.Arguments.{HasArguments};
 
-use crate::{JobNumber, Kind};
+use crate::arguments::Arguments;
+use crate::{FunctionWord, JobNumber, KindWord, Listed};
 use statement_words::Values;
-use work_calendars::{App, Day, Name, Short};
+use work_calendars::{App, Day, Moment, Name};
+
+/// All values that have their forms.
+pub(crate) fn arguments_in(values: &Values<'_>) -> Arguments
+    ensures { HasArguments values.now result }
+{
+    Arguments {
+        job: job_in(values),
+        app: app_in(values),
+        from: day_in(values, "from"),
+        to: day_in(values, "to"),
+        to_moment: moment_in(values, "to"),
+        ia: moment_in(values, "ia"),
+        name: name_in(values),
+        kind: kind_in(values),
+        function: function_in(values),
+        listed: listed_in(values),
+        has_app: is_given(values, "app"),
+        has_from: is_given(values, "from"),
+        has_to: is_given(values, "to"),
+    }
+}
+
+/// Whether the option `name` stands there.
+fn is_given(values: &Values<'_>, name: &str) -> bool
+    ensures { result ≡ is_some (value_in values.now name.now) }
+{
+    values.get(name).is_some()
+}
 
 /// The value of `--job`.
-pub(crate) fn job_in(values: &Values<'_>) -> Option<JobNumber>
-    ensures some { IfSome result (HasJob values.now) }
-    ensures none { IfNone result ((n : ℕ) → ¬ (HasJob values.now n)) }
+fn job_in(values: &Values<'_>) -> Option<JobNumber>
+    ensures { Reading (HasJob values.now) result }
 {
     JobNumber::from_text(values.get("job")?)
 }
 
 /// The value of `--app`.
-pub(crate) fn app_in(values: &Values<'_>) -> Option<App>
-    ensures some { IfSome result (HasApp values.now) }
-    ensures none { IfNone result ((name : List ℕ) → ¬ (HasApp values.now name)) }
+fn app_in(values: &Values<'_>) -> Option<App>
+    ensures { Reading (HasApp values.now) result }
 {
     App::from_text(values.get("app")?)
 }
 
+/// The value of `--name`.
+fn name_in(values: &Values<'_>) -> Option<Name>
+    ensures { Reading (HasName values.now) result }
+{
+    Name::from_text(values.get("name")?)
+}
+
 /// The value of the option `name`, a day.
-pub(crate) fn day_in(values: &Values<'_>, name: &str) -> Option<Day>
-    ensures some { IfSome result (HasDay values.now name.now) }
-    ensures none { IfNone result ((day : ℕ) → ¬ (HasDay values.now name.now day)) }
+fn day_in(values: &Values<'_>, name: &str) -> Option<Day>
+    ensures { Reading (HasDay values.now name.now) result }
 {
     Day::from_text(values.get(name)?)
 }
 
-/// The word without an option, a kind of definitions.
-pub(crate) fn kind_in(values: &Values<'_>) -> Option<Kind>
-    ensures some { IfSome result (HasKind values.now) }
-    ensures none { IfNone result ((kind : Kind) → ¬ (HasKind values.now kind)) }
+/// The value of the option `name`, a moment.
+fn moment_in(values: &Values<'_>, name: &str) -> Option<Moment>
+    ensures { Reading (HasMoment values.now name.now) result }
 {
-    Kind::from_text(values.get("KIND")?)
+    Moment::from_text(values.get(name)?)
 }
 
-/// The value of `--name`, a name of a definition of the kind.
-pub(crate) fn name_of_kind_in(values: &Values<'_>, kind: Kind) -> Option<Name>
-    ensures some { IfSome result (HasNameOf values.now kind) }
-    ensures none { IfNone result ((name : List ℕ) → ¬ (HasNameOf values.now kind name)) }
+/// The word `KIND`.
+fn kind_in(values: &Values<'_>) -> Option<KindWord>
+    ensures { Reading (HasKind values.now) result }
 {
-    let text = values.get("name")?;
-    match kind {
-        Kind::Options => None,
-        Kind::Periods => {
-            Short::from_text(text)?;
-            Name::from_text(text)
-        }
-        _ => Name::from_text(text),
-    }
+    KindWord::from_text(values.get("KIND")?)
+}
+
+/// The word `FUNCTION`.
+fn function_in(values: &Values<'_>) -> Option<FunctionWord>
+    ensures { Reading (HasFunction values.now) result }
+{
+    FunctionWord::from_text(values.get("FUNCTION")?)
+}
+
+/// The word `WHAT`.
+fn listed_in(values: &Values<'_>) -> Option<Listed>
+    ensures { Reading (HasListed values.now) result }
+{
+    Listed::from_text(values.get("WHAT")?)
 }

@@ -1,0 +1,21 @@
+-- The values of a line's options, and of its word without one.
+use Rattle.std.specs.Prelude.{◌≡◌, List, is_some, codes}
+use Rattle.statement_words.specs.Grammar.{Use, value_in}
+use Rattle.statements.specs.Values.{HasApp, HasDay, HasFunction, HasJob, HasKind, HasListed, HasMoment, HasName, Reading}
+use Rattle.statements.specs.declared.arguments.Arguments.{Arguments}
+
+-- these are the values that have the forms of their options
+pub record HasArguments (us : List Use) (a : Arguments) : Type 0 where
+  pub job : Reading (HasJob us) a.job
+  pub app : Reading (HasApp us) a.app
+  pub from : Reading (HasDay us (codes "from")) a.from
+  pub to : Reading (HasDay us (codes "to")) a.to
+  pub to_moment : Reading (HasMoment us (codes "to")) a.to_moment
+  pub ia : Reading (HasMoment us (codes "ia")) a.ia
+  pub name : Reading (HasName us) a.name
+  pub kind : Reading (HasKind us) a.kind
+  pub function : Reading (HasFunction us) a.function
+  pub listed : Reading (HasListed us) a.listed
+  pub has_app : a.has_app ≡ is_some (value_in us (codes "app"))
+  pub has_from : a.has_from ≡ is_some (value_in us (codes "from"))
+  pub has_to : a.has_to ≡ is_some (value_in us (codes "to"))

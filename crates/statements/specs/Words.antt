@@ -1,0 +1,30 @@
+-- The words that stand without an option.
+use Rattle.std.specs.Prelude.{ℕ, List, codes}
+use Rattle.statements.specs.declared.words.KindWord.{KindWord}
+use Rattle.statements.specs.declared.words.KindWord.TheVariants as kind
+use Rattle.statements.specs.declared.words.FunctionWord.{FunctionWord}
+use Rattle.statements.specs.declared.words.FunctionWord.TheVariants as function
+use Rattle.statements.specs.declared.words.Listed.{Listed}
+use Rattle.statements.specs.declared.words.Listed.TheVariants as listed
+
+abbrev pub kind_text : KindWord → List ℕ
+kind_text kind.Calendars = codes "calendars"
+kind_text kind.Periods = codes "periods"
+kind_text kind.Applications = codes "applications"
+kind_text kind.RunCycles = codes "run-cycles"
+kind_text kind.Predecessors = codes "predecessors"
+kind_text kind.Options = codes "options"
+
+abbrev pub function_text : FunctionWord → List ℕ
+function_text function.Create = codes "create"
+function_text function.Extend = codes "extend"
+function_text function.ModifyAll = codes "modify-all"
+function_text function.ModifyOne = codes "modify-one"
+function_text function.Replan = codes "replan"
+
+abbrev pub listed_text : Listed → List ℕ
+listed_text listed.Ltp = codes "ltp"
+listed_text listed.Cp = codes "cp"
+listed_text listed.History = codes "history"
+listed_text listed.Deletions = codes "deletions"
+listed_text listed.Dependencies = codes "dependencies"

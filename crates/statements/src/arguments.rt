@@ -1,0 +1,22 @@
+//! The values of a line's options, and of its word without one.
+use crate::{FunctionWord, JobNumber, KindWord, Listed};
+use work_calendars::{App, Day, Moment, Name};
+
+/// Each option that a statement may have, with its value where that has the option's form, and whether those options
+/// stand there that may be missing.
+#[derive(Clone, Copy, Debug)]
+pub(crate) struct Arguments {
+    pub(crate) job: Option<JobNumber>,
+    pub(crate) app: Option<App>,
+    pub(crate) from: Option<Day>,
+    pub(crate) to: Option<Day>,
+    pub(crate) to_moment: Option<Moment>,
+    pub(crate) ia: Option<Moment>,
+    pub(crate) name: Option<Name>,
+    pub(crate) kind: Option<KindWord>,
+    pub(crate) function: Option<FunctionWord>,
+    pub(crate) listed: Option<Listed>,
+    pub(crate) has_app: bool,
+    pub(crate) has_from: bool,
+    pub(crate) has_to: bool,
+}

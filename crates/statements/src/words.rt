@@ -1,0 +1,109 @@
+//! Words without an option: kinds of definitions, functions of a trial, what is listed.
+
+/// A kind of definitions, as a statement names it.
+#[derive(Clone, Copy, Debug, PartialEq, Eq)]
+pub enum KindWord {
+    /// `calendars`
+    Calendars,
+    /// `periods`
+    Periods,
+    /// `applications`
+    Applications,
+    /// `run-cycles`
+    RunCycles,
+    /// `predecessors`
+    Predecessors,
+    /// `options`
+    Options,
+}
+
+impl KindWord {
+    ghost use Rattle.std.specs.Prelude.{◌≡◌, ◌≢◌, IfSome, IfNone};
+    ghost use Rattle.statements.specs.Words.{kind_text};
+
+    /// The kind that the word names.
+    pub fn from_text(text: &str) -> Option<KindWord>
+        ensures some { IfSome result (λ kind. text.now ≡ kind_text kind) }
+        ensures none { IfNone result ((kind : KindWord) → text.now ≢ kind_text kind) }
+    {
+        match text {
+            "calendars" => Some(KindWord::Calendars),
+            "periods" => Some(KindWord::Periods),
+            "applications" => Some(KindWord::Applications),
+            "run-cycles" => Some(KindWord::RunCycles),
+            "predecessors" => Some(KindWord::Predecessors),
+            "options" => Some(KindWord::Options),
+            _ => None,
+        }
+    }
+}
+
+/// The function that a trial shows.
+#[derive(Clone, Copy, Debug, PartialEq, Eq)]
+pub enum FunctionWord {
+    /// `create`
+    Create,
+    /// `extend`
+    Extend,
+    /// `modify-all`
+    ModifyAll,
+    /// `modify-one`
+    ModifyOne,
+    /// `replan`
+    Replan,
+}
+
+impl FunctionWord {
+    ghost use Rattle.std.specs.Prelude.{◌≡◌, ◌≢◌, IfSome, IfNone};
+    ghost use Rattle.statements.specs.Words.{function_text};
+
+    /// The function that the word names.
+    pub fn from_text(text: &str) -> Option<FunctionWord>
+        ensures some { IfSome result (λ function. text.now ≡ function_text function) }
+        ensures none { IfNone result ((function : FunctionWord) → text.now ≢ function_text function) }
+    {
+        match text {
+            "create" => Some(FunctionWord::Create),
+            "extend" => Some(FunctionWord::Extend),
+            "modify-all" => Some(FunctionWord::ModifyAll),
+            "modify-one" => Some(FunctionWord::ModifyOne),
+            "replan" => Some(FunctionWord::Replan),
+            _ => None,
+        }
+    }
+}
+
+/// What `list` lists.
+#[derive(Clone, Copy, Debug, PartialEq, Eq)]
+pub enum Listed {
+    /// `ltp`: the long-term plan.
+    Ltp,
+    /// `cp`: the current plan.
+    Cp,
+    /// `history`: occurrences that were completed.
+    History,
+    /// `deletions`: occurrences that were taken out.
+    Deletions,
+    /// `dependencies`: pairs of a successor and its predecessor.
+    Dependencies,
+}
+
+impl Listed {
+    ghost use Rattle.std.specs.Prelude.{◌≡◌, ◌≢◌, IfSome, IfNone};
+    ghost use Rattle.statements.specs.Words.{listed_text};
+
+    /// What the word names.
+    pub fn from_text(text: &str) -> Option<Listed>
+        ensures some { IfSome result (λ listed. text.now ≡ listed_text listed) }
+        ensures none { IfNone result ((listed : Listed) → text.now ≢ listed_text listed) }
+    {
+        match text {
+            "ltp" => Some(Listed::Ltp),
+            "cp" => Some(Listed::Cp),
+            "history" => Some(Listed::History),
+            "deletions" => Some(Listed::Deletions),
+            "dependencies" => Some(Listed::Dependencies),
+            _ => None,
+        }
+    }
+}
