@@ -106,6 +106,11 @@ window_same low high P Q offsets old new says =
       λ h. (h.0, h.1, (h.2.0, h.2.1, h.2.2, h.2.3, (says (offset_of h.2.1) d).1 h.2.4)),
     ))
 
+-- no offsets, no days
+pub window_empty : (low high : ℕ) (P : Offset → ℕ → Type 0) (offsets : List ℤ) → length offsets ≡ 0 → (old : List ℕ) → AddsDays (IsInWindow low high P offsets) old old
+window_empty low high P offsets none old =
+    adds_none (IsInWindow low high P offsets) old (λ d h. omega (arith, none, h.2.2))
+
 pub asks_both : (a b c : ℕ) (s t u : CountedStatuses) → a + b ≤ c → AsksAtMost a s t → AsksAtMost b t u → AsksAtMost c s u
 asks_both a b c s t u enough first then =
     let low : t.asked ≤ s.asked + a = first.1 in

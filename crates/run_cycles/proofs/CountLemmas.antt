@@ -1,5 +1,5 @@
 -- Counts of work days, by how many come before a day.
-use Rattle.std.proofs.Common.{◌≡◌, ◌+◌, ◌-◌, ◌≤◌, ◌↔◌, ℕ, ℤ, zero, suc, Bool, List, Option, Some, None, IsTrue, cond, option_map, ap, sym, subst, ◌∙◌, refl, arith}
+use Rattle.std.proofs.Common.{◌≡◌, ◌+◌, ◌-◌, ◌≤◌, ◌↔◌, ℕ, ℤ, zero, suc, Bool, true, false, List, Option, Some, None, IsTrue, cond, option_map, ap, sym, subst, ◌∙◌, refl, arith}
 use Rattle.std.specs.Prelude.{Any}
 use Rattle.plan_periods.specs.Interval.{HoldsDay}
 use Rattle.work_calendars.specs.WorkDay.{work_days_before}
@@ -29,6 +29,18 @@ among_before work first (suc n) =
     let e : first + suc n ≡ suc (first + n) = omega arith in
     let next = work_days_before-suc work (first + n) in
     rw e (omega arith)
+
+-- no more than n of n days are work days
+pub among_few : (work : ℕ → Bool) (first n : ℕ) → work_days_among work first n ≤ n
+among_few work first zero = let none = among-zero work first in omega arith
+among_few work first (suc n) =
+    let here = among-suc work first n in
+    let so = among_few work first n in
+    let one : cond (work (first + n)) 1 0 ≤ 1 = elim (work (first + n)) as (λ b. cond b 1 0 ≤ 1) [
+      | true ↦ omega arith
+      | false ↦ omega arith
+    ] in
+    omega arith
 
 -- the same from one day to another
 pub from_to_before : (work : ℕ → Bool) (first last : ℕ) → first ≤ last + 1 → work_days_before work first + work_days_from_to work first last ≡ work_days_before work (last + 1)

@@ -13,5 +13,6 @@ pub mod OrderLemmas
 pub mod OwnNames
 pub mod PeriodsLemmas
 pub mod PlaceLemmas
+pub mod ReachLemmas
 pub mod ShiftLemmas
 pub mod WalkLemmas

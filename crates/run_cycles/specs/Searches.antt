@@ -5,12 +5,34 @@ use Rattle.work_calendars.specs.Day.{IsDay}
 use Rattle.work_calendars.specs.WorkDay.{IsNthWorkDay}
 use Rattle.plan_periods.specs.declared.periods.Period.{Period}
 use Rattle.plan_periods.specs.Interval.{IsInterval, MeetsRange}
+use Rattle.plan_periods.specs.declared.periods.Period.TheVariants.{All as AllDays, Work, Listed}
+use Rattle.run_cycles.specs.declared.offsets.TheConstants.{MAX_OFFSET}
 use Rattle.run_cycles.specs.declared.rules.Rule.{Rule}
 use Rattle.run_cycles.specs.declared.rules.Rule.TheVariants.{WorkDaysOnly, Before, After, Same, Skip}
 use Rattle.run_cycles.specs.Offset.{Offset, FromFirst, FromLast, offset_of}
 use Rattle.run_cycles.specs.RawDay.{IsDayAt, IsRawDay}
 use Rattle.run_cycles.specs.CountedDay.{IsWorkDayAt}
 use Rattle.run_cycles.specs.Shift.{IsShifted}
+
+-- the offset lies within n days, or work days, from either end of an interval
+abbrev pub IsWithin : ℕ → Offset → Type 0
+IsWithin n (FromFirst k) = k ≤ n
+IsWithin n (FromLast k) = k ≤ n
+
+-- how far from either end of an interval an offset can name a day; a listed interval may be open
+abbrev pub reach_of : Period → ℕ
+reach_of (AllDays _ n) = n
+reach_of (Work _ n) = n
+reach_of (Listed _) = MAX_OFFSET
+
+-- the list has got the offset if it lies within n days, and no other
+abbrev pub AddsWithin : ℕ → ℤ → List ℤ → List ℤ → Type 0
+AddsWithin n offset old new =
+    (k : ℤ) → Contains new k ↔ (Contains old k ⊎ ((k ≡ offset) × IsWithin n (offset_of k)))
+
+-- the list has those of the offsets that lie within n days, and no others
+abbrev pub KeepsWithin : ℕ → List ℤ → List ℤ → Type 0
+KeepsWithin n offsets kept = (k : ℤ) → Contains kept k ↔ (Contains offsets k × IsWithin n (offset_of k))
 
 -- x is the number at the offset among those from `start` to before an end, or with none
 abbrev pub IsPlaceAt : Offset → ℕ → Option ℕ → ℕ → Type 0

@@ -7,11 +7,13 @@ ghost use Rattle.plan_periods.specs.declared.periods.Period.TheVariants.{Work as
 ghost use Rattle.run_cycles.specs.CountedDay.{IsCountedDay};
 ghost use Rattle.run_cycles.specs.Jump.{IsAfterPreviousWork, IsBeforeNextWork, IsRawRange};
 ghost use Rattle.run_cycles.specs.NamedDay.{IsValidOn};
-ghost use Rattle.run_cycles.specs.Offset.{IsOffset, IsOffsets, offset_of};
+ghost use Rattle.run_cycles.specs.Offset.{IsOffset, offset_of};
 ghost use Rattle.run_cycles.specs.Searches.{AddsDays, AsksAtMost, GivesPlace, GivesIn, GivesInMet, IsGivenAt, IsInWindow, questions_of};
+ghost use Rattle.run_cycles.specs.Searches.{AddsWithin, KeepsWithin, reach_of};
 ghost use Rattle.run_cycles.specs.Shift.{IsMoved};
 ghost use Rattle.run_cycles.specs.declared.rules.Rule.TheVariants.{WorkDaysOnly};
 
+use crate::offsets::MAX_OFFSET;
 use crate::raw::{end_of, place_at};
 use crate::{Rule, RunCycle};
 use plan_periods::{Interval, Intervals, Period};
@@ -24,6 +26,40 @@ use work_calendars::{CountedIndex, Day};
 struct Window {
     low: u32,
     high: u32,
+}
+
+// How far from either end of an interval of the period an offset can name a day. A listed interval may be open.
+fn reach(period: &Period) -> u16
+    ensures { result ≡ reach_of period.now }
+{
+    match period {
+        Period::All { interval, .. } | Period::Work { interval, .. } => *interval,
+        Period::Listed(_) => MAX_OFFSET,
+    }
+}
+
+// Appends the offset if it is within reach and isn't there.
+fn push_within(kept: &mut Vec<i16>, offset: i16, reach: u16) -> Result<(), AllocError>
+    ensures kept { OnOk result (AddsWithin reach offset kept.old.items kept.new.items) }
+    ensures few { length kept.new.items ≤ length kept.old.items + 1 }
+{
+    if offset.unsigned_abs() <= reach && !kept.contains(&offset) {
+        kept.push(offset)?;
+    }
+    Ok(())
+}
+
+// The offsets within reach, each once. The others name nothing.
+fn offsets_within(alloc: Global, offsets: &[i16], reach: u16) -> Result<Vec<i16>, AllocError>
+    requires { All IsOffset offsets.now }
+    ensures kept { IfOk result (λ kept. KeepsWithin reach offsets.now kept.items) }
+    ensures few { IfOk result (λ kept. length kept.items ≤ length offsets.now) }
+{
+    let mut kept = Vec::with_capacity(alloc, offsets.len())?;
+    for offset in offsets {
+        push_within(&mut kept, *offset, reach)?;
+    }
+    Ok(kept)
 }
 
 // The day that the number gives, if it gives one: the work day of that place where work days count alone, else what the
@@ -129,13 +165,16 @@ fn push_interval(
     offsets: &[i16],
     interval: &Interval,
 ) -> Result<(), AllocError>
-    requires { IsOffsets offsets.now }
+    requires { All IsOffset offsets.now }
     ensures days { OnOk result (AddsDays
         (IsInWindow window.now.low window.now.high
         (GivesIn rule (is_work_in index.old.statuses) interval.now.first interval.now.last) offsets.now)
         days.old.items days.new.items) }
     ensures asked { OnOk result (AsksAtMost (2 * length offsets.now + 2) index.old index.new) }
 {
+    if offsets.is_empty() {
+        return Ok(());
+    }
     match rule {
         Rule::WorkDaysOnly => {
             let start = index.rank(interval.first);
@@ -195,7 +234,7 @@ fn push_intervals(
     high: Day,
 ) -> Result<usize, AllocError>
     requires sound { IsSoundPeriod period.now }
-    requires offsets { IsOffsets offsets.now }
+    requires offsets { All IsOffset offsets.now }
     ensures days { OnOk result (AddsDays
         (IsInWindow window.now.low window.now.high
         (GivesInMet period.now rule (is_work_in index.old.statuses) low high) offsets.now)
@@ -231,7 +270,7 @@ fn push_work_intervals(
     to: Day,
 ) -> Result<(), AllocError>
     requires sound { IsIntervalLength interval }
-    requires offsets { IsOffsets offsets.now }
+    requires offsets { All IsOffset offsets.now }
     requires low { from ≤ window.now.low }
     requires high { window.now.high ≤ to + 1 }
     ensures days { OnOk result (AddsDays
@@ -356,7 +395,8 @@ impl<'a> JumpDays<'a> {
         let mut index = index;
         let mut days = Vec::new(alloc);
         let window = window_of(cycle, from, to);
-        let offsets = cycle.offsets.as_slice();
+        let useful = offsets_within(alloc, cycle.offsets.as_slice(), reach(period))?;
+        let offsets = useful.as_slice();
         match period {
             Period::Work { origin, interval } => {
                 push_work_intervals(

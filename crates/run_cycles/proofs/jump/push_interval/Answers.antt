@@ -1,11 +1,11 @@
-use Rattle.std.proofs.Common.{◌≡◌, ◌+◌, ℕ, Bool, List, Option, ap, subst, ⊎_elim, option_map, ◌∙◌, arith}
+use Rattle.std.proofs.Common.{rules, ◌≡◌, ◌+◌, ℕ, Bool, List, Option, ap, subst, ⊎_elim, option_map, ◌∙◌, arith}
 use Rattle.work_calendars.specs.CountedIndex.{CountedStatuses}
 use Rattle.work_calendars.specs.WorkDay.{work_days_before}
 use Rattle.work_calendars.specs.WorkIndex.{is_work_in}
 use Rattle.run_cycles.specs.declared.rules.Rule.TheVariants.{WorkDaysOnly}
 use Rattle.run_cycles.specs.Offset.{Offset}
 use Rattle.run_cycles.specs.Searches.{AddsDays, GivesIn, IsGivenAt, IsInWindow}
-use Rattle.run_cycles.proofs.AddLemmas.{on_ok, window_same}
+use Rattle.run_cycles.proofs.AddLemmas.{on_ok, window_empty, window_same}
 use Rattle.run_cycles.proofs.JumpLemmas.{few_work_days, place_is_raw_day, rule_is}
 use Rattle.run_cycles.proofs.jump.push_interval.Goals as goal
 
@@ -13,6 +13,9 @@ pub push_days-requires-clause-start : goal.push_days-requires-clause-start
 push_days-requires-clause-start c =
     let few = few_work_days c.args.index.now.statuses c.args.interval.now.first in
     omega arith
+
+pub returns-then-is_empty-clause-days : goal.returns-then-is_empty-clause-days
+returns-then-is_empty-clause-days c = window_empty c.args.window.now.low c.args.window.now.high (GivesIn c.args.rule (is_work_in c.args.index.now.statuses) c.args.interval.now.first c.args.interval.now.last) c.args.offsets.now (search rules) c.args.days.now.items
 
 pub returns-in-WorkDaysOnly-clause-days : goal.returns-in-WorkDaysOnly-clause-days
 returns-in-WorkDaysOnly-clause-days c =

@@ -1,4 +1,3 @@
-use Rattle.std.proofs.Common.{◌≡◌, ℕ, ◌<◌}
 use Rattle.run_cycles.proofs.OwnNames.{OwnBelow, OwnAt}
 use Rattle.run_cycles.proofs.tests.have_own_names.Given as goal
 
