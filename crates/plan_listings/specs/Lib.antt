@@ -2,3 +2,4 @@ pub mod Line
 pub mod Days
 pub mod Row
 pub mod Reply
+pub mod Report

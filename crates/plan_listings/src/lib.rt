@@ -8,10 +8,12 @@
 mod days;
 mod line;
 mod replies;
+mod report;
 mod rows;
 
 pub use days::days_line;
 pub use replies::{refusal_line, reply_line};
+pub use report::{dp_report, ltp_report};
 pub use rows::{marked_line, pair_line, row_line};
 
 #[cfg(test)]

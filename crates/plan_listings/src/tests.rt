@@ -1,4 +1,6 @@
-use crate::{days_line, marked_line, pair_line, refusal_line, reply_line, row_line};
+use crate::{
+    days_line, dp_report, ltp_report, marked_line, pair_line, refusal_line, reply_line, row_line,
+};
 use occurrences::{Key, Origin, Refusal, Reply, Row, Serial, Status};
 use run_cycles::Named;
 use std::test::Fail;
@@ -124,6 +126,53 @@ fn rows_of_lists(rt: HostRuntime) -> Result<(), Fail> {
     assert!(rt;
         pair_line(&made, &added).as_slice()
             == b"000000003 A                2024-01-02 08.00 999999999 PAY4567890123456 2024-01-02 08.00".as_slice()
+    );
+    Ok(())
+}
+
+/// A row of each of five applications on one day.
+fn five_rows() -> Option<[Row; 5]> {
+    let days = ["2024-01-01", "2024-01-01"];
+    let origin = Origin::Generated(Short::from_text("RC")?);
+    Some([
+        row(1, "A", days, origin)?,
+        row(2, "B", days, origin)?,
+        row(3, "C", days, origin)?,
+        row(4, "D", days, origin)?,
+        row(5, "E", days, origin)?,
+    ])
+}
+
+#[test]
+fn trial_of_the_long_term_plan(rt: HostRuntime) -> Result<(), Fail> {
+    let [a, b, c, _, e] = five_rows().ok_or("rows")?;
+    let text = ltp_report(rt.alloc(), &[e, b], &[c, a])?;
+    assert!(rt;
+        text.as_slice()
+            == b"- 000000001 A                G RC       2024-01-01 08.00 2024-01-01 18.00
++ 000000002 B                G RC       2024-01-01 08.00 2024-01-01 18.00
+- 000000003 C                G RC       2024-01-01 08.00 2024-01-01 18.00
++ 000000005 E                G RC       2024-01-01 08.00 2024-01-01 18.00
+"
+                .as_slice()
+    );
+    Ok(())
+}
+
+#[test]
+fn trial_of_a_daily_plan(rt: HostRuntime) -> Result<(), Fail> {
+    let [a, b, c, d, e] = five_rows().ok_or("rows")?;
+    let carried = [(c, Status::E), (b, Status::S)];
+    let text = dp_report(rt.alloc(), &[a], &carried, &[d], &[e])?;
+    assert!(rt;
+        text.as_slice()
+            == b"> 000000001 A                G RC       2024-01-01 08.00 2024-01-01 18.00 W
+= 000000002 B                G RC       2024-01-01 08.00 2024-01-01 18.00 S
+= 000000003 C                G RC       2024-01-01 08.00 2024-01-01 18.00 E
+H 000000004 D                G RC       2024-01-01 08.00 2024-01-01 18.00 C
+X 000000005 E                G RC       2024-01-01 08.00 2024-01-01 18.00 D
+"
+                .as_slice()
     );
     Ok(())
 }
