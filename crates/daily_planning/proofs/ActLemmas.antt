@@ -33,8 +33,8 @@ use Rattle.plan_store.specs.Views.{IsAny, IsCurrentRow, ListsSet}
 use Rattle.plan_store.specs.declared.changes.Change.{Change}
 use Rattle.plan_store.specs.declared.changes.Moves.{Moves}
 use Rattle.plan_store.specs.declared.changes.Verdict.TheVariants.{Done, Refused}
-use Rattle.daily_planning.specs.Actions.{ChangesStatus, IsActedOn, WaitsFor}
-use Rattle.daily_planning.specs.Rows.{HasLists, replaced}
+use Rattle.daily_planning.specs.Actions.{ChangesStatus, IsActedOn, WaitsFor, replaced}
+use Rattle.plan_pairs.specs.LiveRows.{HasLists}
 use Rattle.daily_planning.proofs.ChangeLemmas.{after_moves, fits_moves, moved_is}
 use Rattle.daily_planning.proofs.SetLemmas.{contains_map, map_contains, nothing, once_nothing, once_one}
 

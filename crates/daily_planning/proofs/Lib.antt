@@ -3,6 +3,5 @@ pub mod ChangeLemmas
 pub mod PairLemmas
 pub mod DailyLemmas
 pub mod StatusLemmas
-pub mod RowLemmas
 pub mod ActLemmas
 pub mod WaitLemmas

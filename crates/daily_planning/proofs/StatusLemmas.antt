@@ -13,7 +13,7 @@ use Rattle.occurrences.specs.declared.status.Status.TheVariants.{W, S, E, C, D}
 use Rattle.external_dependencies.specs.declared.links.Link.{Link}
 use Rattle.external_dependencies.specs.declared.pairs.Pair.{Pair}
 use Rattle.planner_machine.specs.Act.{acted_status, action_move, cp_action}
-use Rattle.planner_machine.specs.Content.{Content, Sets, alone}
+use Rattle.planner_machine.specs.Content.{Content, Sets}
 use Rattle.planner_machine.specs.Decision.{Decides}
 use Rattle.planner_machine.specs.Sound.{IsSound}
 use Rattle.occurrences.specs.declared.reply.Reply.{Reply}
@@ -22,26 +22,10 @@ use Rattle.planner_machine.proofs.SoundLemmas.{rows_sound}
 use Rattle.planner_machine.specs.Fate.{place_after_action}
 use Rattle.planner_machine.specs.Moves.{each, has_key}
 use Rattle.planner_machine.specs.Pairs.{ArePairs}
-use Rattle.planner_machine.proofs.ActionLemmas.{action_live}
+use Rattle.planner_machine.proofs.ActionLemmas.{action_is_move, action_live}
 use Rattle.planner_machine.proofs.RowsSound.{RowsSound}
-use Rattle.planner_machine.proofs.SeatLemmas.{IsMove, going}
 use Rattle.daily_planning.specs.Statuses.{LeavesPairs}
 use Rattle.daily_planning.proofs.PairLemmas.{pairs_stay}
-
-status_alone : (key : Key) (action : Action) (row : Row) (was : Place)
-    → action_move key action (alone row was) ≡ alone row (place_after_action key action row was)
-status_alone key action row LongTerm = refl
-status_alone key action row (Current status) = refl
-status_alone key action row History = refl
-status_alone key action row (Deleted reason) = refl
-
-status_is_move : (key : Key) (action : Action) → IsMove (action_move key action) (going (place_after_action key action))
-status_is_move key action = record {
-  empty = refl;
-  alone = λ p. status_alone key action p.row p.place;
-  serial = λ p. refl;
-  key = λ p. refl;
-}
 
 stays_live : (action : Action) → LeavesPairs action → (status : Status) → status ≢ D → acted_status action status ≢ D
 stays_live Start keeps W live = λ e. cc
@@ -106,7 +90,7 @@ module _ (key : Key) (action : Action) (keeps : LeavesPairs action) where
   pub action_pairs : (s : Sets) → RowsSound s → (links : List Link) (pairs : List Pair)
       → ArePairs pairs links s pairs → ArePairs pairs links (each (action_move key action) s) pairs
   action_pairs s sound = pairs_stay (action_move key action) (place_after_action key action)
-      (status_is_move key action) (action_live key action) live_after waited_before s sound s.bounds
+      (action_is_move key action) (action_live key action) live_after waited_before s sound s.bounds
 
 pub leave_pairs : (key : Key) (action : Action) → LeavesPairs action → (c : Content) (reply : Reply) (c' : Content)
     → IsSound c → Decides (cp_action key action) c (Ok reply) c' → c'.pairs ≡ c.pairs

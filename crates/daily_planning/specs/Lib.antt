@@ -1,4 +1,3 @@
 pub mod Actions
 pub mod DailyPlans
-pub mod Rows
 pub mod Statuses

@@ -6,15 +6,12 @@ ghost use Rattle.planner_machine.specs.Sound.{AreNumbered, IsSound};
 ghost use Rattle.plan_store.specs.Changes.{pairs_after};
 ghost use Rattle.plan_store.specs.Verdicts.{VerdictIs};
 ghost use Rattle.plan_store.specs.Views.{IsCurrentRow, Shows, shown};
-ghost use Rattle.daily_planning.specs.Actions.{ArePairsActed, ChangesStatus, IsActedOn, WaitsFor};
-ghost use Rattle.daily_planning.specs.Rows.{replaced};
+ghost use Rattle.daily_planning.specs.Actions.{ArePairsActed, ChangesStatus, IsActedOn, WaitsFor, replaced};
 ghost use Rattle.daily_planning.specs.Statuses.{LeavesPairs};
 
-use crate::placed_rows::live_rows;
-use crate::singles::single;
 use external_dependencies::{PairChange, Pairs};
 use occurrences::{Action, CurrentRow, Key, Refusal, Reply, Serial, next_status};
-use plan_pairs::pair_change;
+use plan_pairs::{live_rows, pair_change, single};
 use plan_store::{Change, Need, Verdict, View};
 use std::alloc::{AllocError, Global};
 

@@ -1,11 +1,12 @@
 -- A deletion from the long-term plan is what the machine does.
-use Rattle.std.proofs.Common.{◌≡◌, ◌≢◌, ◌↔◌, ◌⊎◌, ℕ, ◌≤◌, Bool, true, false, List, [], ◌∷◌, filter, refl, arith, sym, ap, subst, ◌∙◌, inl, inr, Some, None, Option}
+use Rattle.std.proofs.Common.{◌≡◌, ◌≢◌, ◌↔◌, ℕ, ◌≤◌, Bool, true, false, List, [], ◌∷◌, filter, refl, arith, sym, ap, subst, ◌∙◌, inl, inr, Some, None, Option}
 use Rattle.std.specs.Prelude.{nat_eq, not, option_map, unwrap_or, Ok, if◌then◌else◌}
 use Rattle.std.specs.List.{Contains}
 use Rattle.std.proofs.lemmas.Bool.{eqb-true, eqb-false, eq-eqb, ne_eqb}
 use Rattle.occurrences.proofs.KeyLemmas.{key_other, key_same, same_key}
 use Rattle.occurrences.specs.Key.{key_eq}
 use Rattle.occurrences.specs.declared.key.Key.{Key}
+use Rattle.occurrences.specs.declared.place.CurrentRow.{CurrentRow}
 use Rattle.occurrences.specs.declared.place.Deletion.{Deletion}
 use Rattle.occurrences.specs.declared.place.Place.TheVariants.{LongTerm}
 use Rattle.occurrences.specs.Refusal.{refusal_number}
@@ -30,10 +31,11 @@ use Rattle.plan_store.specs.Views.{IsAny, IsPlannedRow, ListsSet}
 use Rattle.plan_store.specs.declared.changes.Change.{Change}
 use Rattle.plan_store.specs.declared.changes.Verdict.{Verdict}
 use Rattle.plan_store.specs.declared.changes.Verdict.TheVariants.{Done, Refused}
-use Rattle.plan_pairs.proofs.ListLemmas.{filter_has, filter_keeps, none}
+use Rattle.plan_pairs.proofs.ListLemmas.{filter_has, filter_keeps}
 use Rattle.long_term_plan.specs.Deletes.{DeletesRow, IsDeletionOf}
-use Rattle.long_term_plan.specs.Rows.{HasPlanned}
-use Rattle.long_term_plan.proofs.SetLemmas.{fits_nothing, fits_one, fits_taken, keep_some, moves_nothing, moves_one, moves_taken, some_keep}
+use Rattle.plan_pairs.specs.LiveRows.{HasLists}
+use Rattle.plan_pairs.proofs.RowLemmas.{of_set}
+use Rattle.plan_pairs.proofs.SetLemmas.{fits_nothing, fits_one, fits_taken, keep_some, moves_nothing, moves_one, moves_taken, some_keep}
 
 -- two rows of the long-term plan with one key have one serial
 one_key : (c : Sets) → RowsSound c → (m n : ℕ) (x y : Row) → c.ltp m ≡ Some x → c.ltp n ≡ Some y → x.key ≡ y.key → m ≡ n
@@ -78,37 +80,43 @@ module _ (c : Sets) (sound : RowsSound c) (row : Row) (stands : c.ltp row.serial
   no_deletion = ap (λ (s : Seat). s.deletions) (stands_in_ltp c sound row.serial row stands)
 
   -- the long-term plan but that row
-  pub planned_after : (rows : List Row) → ListsSet of_row c.ltp IsAny rows → HasPlanned c (filter (λ (r : Row). not (nat_eq r.serial row.serial)) rows) [] (each (delete_move row.key) c)
-  planned_after rows are = record {
-    sound = delete_sound row.key c sound;
-    ltp = λ serial x. (forward serial x, backward serial x);
-    cp = refl;
-    history = refl;
-  }
+  pub planned_after : (rows : List Row) → ListsSet of_row c.ltp IsAny rows → (x : Row)
+      → Contains (filter (λ (r : Row). not (nat_eq r.serial row.serial)) rows) x
+      ↔ (keep (λ (r : Row). not (has_key row.key r)) (c.ltp x.serial) ≡ Some x)
+  planned_after rows are x = (forward, backward)
     where
-      forward : (serial : ℕ) (x : Row) → keep (λ (r : Row). not (has_key row.key r)) (c.ltp serial) ≡ Some x → (Contains (filter (λ (r : Row). not (nat_eq r.serial row.serial)) rows) x ⊎ Contains [] x) × (x.serial ≡ serial)
-      forward serial x is =
-          let (there, differ) = keep_some (λ (r : Row). not (has_key row.key r)) (c.ltp serial) x is in
-          let numbered = serial_is c sound serial x there in
-          let listed = (are.exactly x).1 (subst (λ n. c.ltp n ≡ Some x) (sym numbered) there, tt) in
+      forward : Contains (filter (λ (r : Row). not (nat_eq r.serial row.serial)) rows) x
+          → keep (λ (r : Row). not (has_key row.key r)) (c.ltp x.serial) ≡ Some x
+      forward kept =
+          let (listed, differ) = filter_has (λ (r : Row). not (nat_eq r.serial row.serial)) rows x kept in
+          let stood : c.ltp x.serial ≡ Some x = ((are.exactly x).0 listed).0 in
+          let other : nat_eq row.serial x.serial ≡ false = ne_eqb _ _ (λ same.
+          let yes : nat_eq x.serial row.serial ≡ true = eq-eqb _ _ (sym same) in
+          let no : false ≡ true = sym (ap not yes) ∙ differ in cc) in
+          some_keep (λ (r : Row). not (has_key row.key r)) (c.ltp x.serial) x stood (passes x.serial x stood other)
+
+      backward : keep (λ (r : Row). not (has_key row.key r)) (c.ltp x.serial) ≡ Some x
+          → Contains (filter (λ (r : Row). not (nat_eq r.serial row.serial)) rows) x
+      backward is =
+          let (there, differ) = keep_some (λ (r : Row). not (has_key row.key r)) (c.ltp x.serial) x is in
+          let listed = (are.exactly x).1 (there, tt) in
           let other : nat_eq x.serial row.serial ≡ false = ne_eqb _ _ (λ same.
-          let one : Some x ≡ Some row = sym there ∙ ap c.ltp (sym numbered ∙ same) ∙ stands in
+          let one : Some x ≡ Some row = sym there ∙ ap c.ltp same ∙ stands in
           let is_row : x ≡ row = cc in
           let yes : has_key row.key x ≡ true = key_same x.key row.key (ap (λ (r : Row). r.key) is_row) in
           let no : false ≡ true = sym (ap not yes) ∙ differ in cc) in
-          (inl (filter_keeps (λ (r : Row). not (nat_eq r.serial row.serial)) rows x listed (ap not other)), numbered)
+          filter_keeps (λ (r : Row). not (nat_eq r.serial row.serial)) rows x listed (ap not other)
 
-      backward : (serial : ℕ) (x : Row) → (Contains (filter (λ (r : Row). not (nat_eq r.serial row.serial)) rows) x ⊎ Contains [] x) × (x.serial ≡ serial) → keep (λ (r : Row). not (has_key row.key r)) (c.ltp serial) ≡ Some x
-      backward serial x (there, numbered) = elim there [
-        | inr nothing ↦ absurd (none x nothing)
-        | inl kept ↦
-            let (listed, differ) = filter_has (λ (r : Row). not (nat_eq r.serial row.serial)) rows x kept in
-            let stood : c.ltp serial ≡ Some x = subst (λ n. c.ltp n ≡ Some x) numbered ((are.exactly x).0 listed).0 in
-            let other : nat_eq row.serial serial ≡ false = ne_eqb _ _ (λ same.
-            let yes : nat_eq x.serial row.serial ≡ true = eq-eqb _ _ (numbered ∙ sym same) in
-            let no : false ≡ true = sym (ap not yes) ∙ differ in cc) in
-            some_keep (λ (r : Row). not (has_key row.key r)) (c.ltp serial) x stood (passes serial x stood other)
-      ]
+  -- the lists of the sets after the deletion
+  pub lists_after : (rows : List Row) → ListsSet of_row c.ltp IsAny rows → (cp : List CurrentRow)
+      → ListsSet of_current c.cp IsAny cp → (history : List Row) → ListsSet of_row c.history IsAny history
+      → HasLists (each (delete_move row.key) c) (filter (λ (r : Row). not (nat_eq r.serial row.serial)) rows) cp history
+  lists_after rows are cp cp_are history history_are = record {
+    sound = delete_sound row.key c sound;
+    ltp = planned_after rows are;
+    cp = of_set of_current c.cp cp cp_are;
+    history = of_set of_row c.history history history_are;
+  }
 
 module _ (c : Content) (sound : IsSound c) (row : Row) (stands : c.sets.ltp row.serial ≡ Some row) (change : Change) (is : IsDeletionOf c row change) where
   pub deletion_fits : Fits change c

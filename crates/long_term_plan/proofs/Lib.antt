@@ -1,3 +1,1 @@
-mod SetLemmas
-mod RowLemmas
 mod DeleteLemmas

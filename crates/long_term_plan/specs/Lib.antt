@@ -1,2 +1,1 @@
 pub mod Deletes
-pub mod Rows

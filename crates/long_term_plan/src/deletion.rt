@@ -7,11 +7,9 @@ ghost use Rattle.plan_store.specs.Verdicts.{VerdictIs};
 ghost use Rattle.plan_store.specs.Views.{Shows, shown};
 ghost use Rattle.long_term_plan.specs.Deletes.{ArePairsWithout, DeletesRow};
 
-use crate::placed_rows::live_rows;
-use crate::singles::single;
 use external_dependencies::{PairChange, Pairs};
 use occurrences::{Deletion, Key, Reason, Refusal, Reply, Row, Serial};
-use plan_pairs::settled_pairs;
+use plan_pairs::{live_rows, settled_pairs, single};
 use plan_store::{Change, DefinitionChange, Moves, Need, Verdict, View};
 use std::alloc::{AllocError, Global};
 
@@ -74,7 +72,7 @@ fn pairs_without(alloc: Global, view: &View<'_>, row: &Row) -> Result<Pairs, All
         → (shown view.now).sets.ltp row.now.serial ≡ Some row.now → ArePairsWithout (shown view.now) row.now pairs) }
 {
     let rest = planned_but(alloc, view.ltp(), row.serial)?;
-    let rows = live_rows(alloc, view, rest.as_slice(), &[])?;
+    let rows = live_rows(alloc, rest.as_slice(), view.cp(), view.history())?;
     settled_pairs(alloc, view.pairs(), &rows, view.in_force())
 }
 

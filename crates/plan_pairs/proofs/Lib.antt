@@ -1,3 +1,6 @@
+pub mod AdditionLemmas
 pub mod ChangeLemmas
 pub mod ListLemmas
+pub mod RowLemmas
 pub mod ScratchLemmas
+pub mod SetLemmas

@@ -1,9 +1,16 @@
-//! The pairs after a statement, found from scratch: those of open occurrences with their nearest predecessors, and of
-//! those that are live and no longer open the pairs that they had.
+//! What both plans share: the live occurrences as a list, an addition by hand, and the pairs after a statement, found
+//! from scratch: those of open occurrences with their nearest predecessors, and of those that are live and no longer
+//! open the pairs that they had.
 #![tactic(auto)]
 
+mod additions;
 mod change;
+mod listing;
 mod scratch;
+mod singles;
 
+pub use additions::{Plan, add};
 pub use change::pair_change;
+pub use listing::live_rows;
 pub use scratch::settled_pairs;
+pub use singles::single;

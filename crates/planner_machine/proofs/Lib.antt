@@ -2,12 +2,12 @@ mod DecisionLemmas
 mod RisingLemmas
 pub mod RowsSound
 pub mod SeatLemmas
-mod MadeLemmas
+pub mod MadeLemmas
 pub mod DailyLemmas
 pub mod ActionLemmas
 mod DraftLemmas
 mod ModifyLemmas
-mod AddLemmas
+pub mod AddLemmas
 pub mod DeleteLemmas
 mod CreateLemmas
 mod LinkLemmas

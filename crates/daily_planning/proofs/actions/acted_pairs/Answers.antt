@@ -12,7 +12,7 @@ use Rattle.planner_machine.specs.Pairs.{ArePairs}
 use Rattle.planner_machine.proofs.SoundLemmas.{rows_sound}
 use Rattle.plan_store.specs.Changes.{pairs_after}
 use Rattle.plan_store.specs.Views.{shown}
-use Rattle.daily_planning.specs.Rows.{HasLists}
+use Rattle.plan_pairs.specs.LiveRows.{HasLists}
 use Rattle.daily_planning.proofs.ActLemmas.{lists_after}
 use Rattle.daily_planning.proofs.ChangeLemmas.{no_pairs_move}
 use Rattle.daily_planning.proofs.StatusLemmas.{action_pairs}

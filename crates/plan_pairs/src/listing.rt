@@ -1,14 +1,13 @@
 ghost use Rattle.std.specs.Prelude.{IfOk, OnOk};
 ghost use Rattle.planner_machine.specs.Content.{Sets};
-ghost use Rattle.plan_pairs.specs.LiveRows.{AreLiveRows};
-ghost use Rattle.daily_planning.specs.Rows.{AddsCurrent, AddsRows, HasLists};
+ghost use Rattle.plan_pairs.specs.LiveRows.{AddsCurrent, AddsRows, AreLiveRows, HasLists};
 
 use external_dependencies::{PlacedRow, Rows};
 use occurrences::{CurrentRow, Place, Row};
 use std::alloc::{AllocError, Global};
 
-// The live occurrences, where these lists are the long-term plan, the current plan and history.
-pub(crate) fn live_rows(
+/// The live occurrences, where these lists are the long-term plan, the current plan and history.
+pub fn live_rows(
     alloc: Global,
     planned: &[Row],
     current: &[CurrentRow],

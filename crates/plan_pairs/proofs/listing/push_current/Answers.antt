@@ -1,11 +1,11 @@
-use Rattle.std.proofs.Common.{◌≡◌, ◌≢◌, ◌+◌, ◌++◌, ◌∷◌, ◌∙◌, [], arith, ap, rules, subst, sym, take}
+use Rattle.std.proofs.Common.{◌≡◌, ◌≢◌, ◌+◌, ◌++◌, ◌∷◌, ◌∙◌, [], arith, ap, subst, sym, take}
 use Rattle.std.proofs.lemmas.Bool.{false≢true}
 use Rattle.std.proofs.lemmas.List.{take_all, take_more}
 use Rattle.occurrences.specs.declared.status.Status.TheVariants.{D}
-use Rattle.long_term_plan.specs.Rows.{AddsCurrent}
-use Rattle.long_term_plan.proofs.RowLemmas.{current_more, current_skip, not_live}
-use Rattle.long_term_plan.proofs.placed_rows.push_current.Goals as goal
-use Rattle.long_term_plan.proofs.placed_rows.push_current.Goals.{then-is_live+in_ok-push, else-is_live}
+use Rattle.plan_pairs.specs.LiveRows.{AddsCurrent}
+use Rattle.plan_pairs.proofs.RowLemmas.{current_more, current_skip, not_live}
+use Rattle.plan_pairs.proofs.listing.push_current.Goals as goal
+use Rattle.plan_pairs.proofs.listing.push_current.Goals.{then-is_live+in_ok-push, else-is_live}
 
 -- one more row
 pub loop-current-preserved : goal.loop-current-preserved

@@ -1,5 +1,5 @@
 -- Rows of the plans as a list, one after another.
-use Rattle.std.proofs.Common.{◌≡◌, ◌≢◌, ℕ, List, [], ◌∷◌, ◌++◌, refl, sym, ap, subst, ◌∙◌, inl, inr, Some}
+use Rattle.std.proofs.Common.{◌≡◌, ◌≢◌, ◌↔◌, ℕ, List, [], ◌∷◌, ◌++◌, refl, sym, ap, subst, ◌∙◌, inl, inr, Option, Some}
 use Rattle.std.specs.List.{Contains}
 use Rattle.std.proofs.lemmas.List.Elements.{Contains-append_left, Contains-push, Contains-push_cases}
 use Rattle.occurrences.specs.Place.{IsLive}
@@ -15,9 +15,9 @@ use Rattle.planner_machine.proofs.ActionLemmas.{stands_in_cp}
 use Rattle.planner_machine.proofs.DeleteLemmas.{stands_in_ltp}
 use Rattle.planner_machine.proofs.RowsSound.{RowsSound}
 use Rattle.planner_machine.proofs.SeatLemmas.{cases_issued}
+use Rattle.plan_store.specs.Views.{IsAny, ListsSet}
 use Rattle.plan_pairs.proofs.ListLemmas.{none}
-use Rattle.plan_pairs.specs.LiveRows.{AreLiveRows}
-use Rattle.daily_planning.specs.Rows.{AddsCurrent, AddsRows, HasLists, IsCurrentIn}
+use Rattle.plan_pairs.specs.LiveRows.{AddsCurrent, AddsRows, AreLiveRows, HasLists, IsCurrentIn}
 
 pub rows_none : (place : Place) (old : List PlacedRow) → AddsRows [] place old old
 rows_none place old p = ((λ there. inl there), λ is. elim is [ inl there ↦ there | inr new ↦ absurd (none p.row new.0) ])
@@ -133,6 +133,11 @@ module _ (s : Sets) (planned : List Row) (cp : List CurrentRow) (history : List 
 
   pub are_live : AreLiveRows s r3
   are_live = record { all = λ serial p stands live. all_live serial p.row p.place stands live; only = only_live }
+
+-- the list of a whole set
+pub of_set : {X : Type 0} (row_of : X → Row) (set : ℕ → Option X) (xs : List X) → ListsSet row_of set IsAny xs
+    → (x : X) → Contains xs x ↔ (set (row_of x).serial ≡ Some x)
+of_set row_of set xs lists x = ((λ has. ((lists.exactly x).0 has).0), λ at. (lists.exactly x).1 (at, tt))
 
 pub not_live : (status : Status) → (status ≢ D → ⊥) → status ≡ D
 not_live W dead = absurd (dead (λ is. cc))

@@ -1,9 +1,8 @@
 use Rattle.std.proofs.Common.{subst, sym}
 use Rattle.occurrences.specs.declared.place.Place.TheVariants.{LongTerm}
-use Rattle.daily_planning.specs.Rows.{AddsRows}
-use Rattle.plan_pairs.specs.LiveRows.{AreLiveRows}
-use Rattle.daily_planning.proofs.RowLemmas.{are_live}
-use Rattle.daily_planning.proofs.placed_rows.live_rows.Goals as goal
+use Rattle.plan_pairs.specs.LiveRows.{AddsRows, AreLiveRows}
+use Rattle.plan_pairs.proofs.RowLemmas.{are_live}
+use Rattle.plan_pairs.proofs.listing.live_rows.Goals as goal
 
 pub returns : goal.returns
 returns c s has =

@@ -1,8 +1,8 @@
 use Rattle.std.proofs.Common.{◌≡◌, ◌+◌, ◌++◌, ◌∷◌, ◌∙◌, [], arith, ap, subst, sym, take}
 use Rattle.std.proofs.lemmas.List.{take_all, take_more}
-use Rattle.daily_planning.specs.Rows.{AddsRows}
-use Rattle.daily_planning.proofs.RowLemmas.{rows_more}
-use Rattle.daily_planning.proofs.placed_rows.push_rows.Goals as goal
+use Rattle.plan_pairs.specs.LiveRows.{AddsRows}
+use Rattle.plan_pairs.proofs.RowLemmas.{rows_more}
+use Rattle.plan_pairs.proofs.listing.push_rows.Goals as goal
 
 -- one more row
 pub loop-row-preserved : goal.loop-row-preserved

@@ -1,0 +1,28 @@
+use Rattle.std.proofs.Common.{refl, subst}
+use Rattle.std.specs.Prelude.{IfOk, Result, Ok, Err}
+use Rattle.occurrences.specs.declared.key.Key.{Key}
+use Rattle.planner_machine.specs.Add.{add as decided}
+use Rattle.planner_machine.specs.Content.{Content}
+use Rattle.planner_machine.specs.Sound.{IsSound}
+use Rattle.plan_store.specs.Verdicts.{VerdictIs}
+use Rattle.plan_store.specs.Views.{shown}
+use Rattle.plan_pairs.specs.Additions.{IsNewRow, place_in}
+use Rattle.plan_pairs.proofs.AdditionLemmas.{verdict_is}
+use Rattle.plan_pairs.proofs.additions.add.Goals as goal
+
+weaker : {A E : Type 0} (r : Result A E) (P Q : A → Type 0) → ((a : A) → P a → Q a) → IfOk r P → IfOk r Q
+weaker (Ok a) P Q f is = f a is
+weaker (Err e) P Q f is = tt
+
+pub returns-in-Ok : goal.returns-in-Ok
+returns-in-Ok c = weaker c.add_row.result _ _ (λ verdict done content shows sound.
+    let P : Content → Type 0 = λ x. IsSound x → VerdictIs (decided (place_in c.args.plan) c.args.key.now) x verdict in
+    subst P shows (λ is.
+    let new = c.in-Ok.ensures is in
+    subst (λ (k : Key). VerdictIs (decided (place_in c.args.plan) k) (shown c.args.view.now) verdict) new.1
+    (verdict_is (shown c.args.view.now) is c.args.plan c.in-Ok.row new.0 verdict (done is new.0))) sound) c.add_row.ensures
+
+pub returns-in-Err : goal.returns-in-Err
+returns-in-Err c content shows sound =
+    let P : Content → Type 0 = λ x. IsSound x → IsNewRow x c.args.plan c.args.key.now (Err c.in-Err.refusal) in
+    (subst P shows c.in-Err.ensures sound, refl)
