@@ -70,6 +70,14 @@ impl Pairs {
         }
     }
 
+    /// These pairs, which are given in rising order. Nothing is moved.
+    pub fn from_rising(pairs: Vec<Pair>) -> Pairs
+        requires { IsRising pair_cmp pairs.items }
+        ensures { result ≡ pairs.items }
+    {
+        Pairs { pairs }
+    }
+
     /// The pairs, in rising order.
     pub fn as_slice(&self) -> &[Pair]
         ensures all { result.now ≡ self.now }

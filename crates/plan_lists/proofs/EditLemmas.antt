@@ -209,6 +209,49 @@ module _ {X K : Type 0} {cmp : K → K → Ordering} (total : IsTotalOrder cmp) 
         λ same. both.1 item (Contains-append_right fs (item ∷ []) item (contains_first item [])) (sym same),
       ))
 
+  -- one more key is out
+  pub removed_more : (xs ys zs fs : List X) (item : X)
+      → ((x : X) → Contains ys x ↔ (Contains xs x × LacksKey key fs (key x)))
+      → ((x : X) → Contains zs x ↔ (Contains ys x × (key x ≢ key item)))
+      → (x : X) → Contains zs x ↔ (Contains xs x × LacksKey key (fs ++ item ∷ []) (key x))
+  removed_more xs ys zs fs item before now x = (
+    (λ there.
+        let old = (now x).0 there in
+        let stays = (before x).0 old.0 in (
+          stays.0,
+          λ y at_y same. elim (Contains-append_cases fs (item ∷ []) y at_y) [
+            | inl front ↦ stays.1 y front same
+            | inr last ↦ old.1 (sym same ∙ ap key (sym (one_is item y last)))
+          ],
+        )),
+    λ both. (now x).1 (
+      (before x).1 (both.0, λ y at_y. both.1 y (Contains-append_left fs (item ∷ []) y at_y)),
+      λ same. both.1 item (Contains-append_right fs (item ∷ []) item (contains_first item [])) (sym same),
+    ),
+  )
+
+  -- one more item is in
+  pub inserted_more : (xs ys zs fs : List X) (item : X)
+      → ((x : X) → Contains ys x ↔ (Contains fs x ⊎ Contains xs x))
+      → ((x : X) → Contains zs x ↔ ((item ≡ x) ⊎ Contains ys x))
+      → (x : X) → Contains zs x ↔ (Contains (fs ++ item ∷ []) x ⊎ Contains xs x)
+  inserted_more xs ys zs fs item before now x = (
+    (λ there. elim ((now x).0 there) [
+      | inl is ↦ inl (Contains-append_right fs (item ∷ []) x (subst (Contains (item ∷ [])) is (contains_first item [])))
+      | inr old ↦ elim ((before x).0 old) [
+        | inl front ↦ inl (Contains-append_left fs (item ∷ []) x front)
+        | inr was ↦ inr was
+      ]
+    ]),
+    λ either. elim either [
+      | inl there ↦ elim (Contains-append_cases fs (item ∷ []) x there) [
+        | inl front ↦ (now x).1 (inr ((before x).1 (inl front)))
+        | inr last ↦ (now x).1 (inl (one_is item x last))
+      ]
+      | inr was ↦ (now x).1 (inr ((before x).1 (inr was)))
+    ],
+  )
+
   -- a key at a place stands nowhere in front
   pub lacks_front : (xs : List X) → AreApart key xs → (i : ℕ) (d : X) → i < length xs → LacksKey key (take i xs) (key (get_or xs i d))
   lacks_front xs apart i d lt y (k, lt_k, at) same =

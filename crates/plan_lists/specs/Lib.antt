@@ -1,3 +1,4 @@
 pub mod Keyed
 pub mod Rows
+pub mod Seats
 pub mod Ties

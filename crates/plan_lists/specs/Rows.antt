@@ -5,7 +5,6 @@ use Rattle.occurrences.specs.declared.place.Deletion.{Deletion}
 use Rattle.occurrences.specs.declared.row.Row.{Row}
 use Rattle.external_dependencies.specs.Arrival.{arrival_cmp}
 use Rattle.external_dependencies.specs.Nearest.{arrival_of}
-use Rattle.external_dependencies.specs.declared.live.Arrival.{Arrival}
 use Rattle.plan_lists.specs.Keyed.{IsKeyed}
 use Rattle.occurrences.specs.declared.place.CurrentRow.{CurrentRow}
 

@@ -5,6 +5,9 @@ use crate::keyed::Keyed;
 use crate::merging::merge;
 use crate::search::{find, has_key};
 
+// Up to so many items are taken out or put in one after another, each by a search and a move of the list's tail.
+const FEW: usize = 8;
+
 // Writes an item in the place of the one that has its key.
 fn replace_one<T: Keyed>(list: &mut Vec<T>, item: T)
     requires keyed { IsKeyed T.Key.cmp T.key_of list.old.items }
@@ -52,6 +55,19 @@ fn remove_one<T: Keyed>(list: &mut Vec<T>, key: &T::Key)
     }
 }
 
+// Takes out what has the keys of these items, one after another.
+fn remove_each<T: Keyed>(list: &mut Vec<T>, items: &[T])
+    requires { IsKeyed T.Key.cmp T.key_of list.old.items }
+    ensures keyed { IsKeyed T.Key.cmp T.key_of list.new.items }
+    ensures length { vec_len list.new ≤ vec_len list.old }
+    ensures capacity { vec_capacity list.new ≡ vec_capacity list.old }
+    ensures removed { (x : T) → Contains list.new.items x ↔ (Contains list.old.items x × LacksKey T.key_of items.now (T.key_of x)) }
+{
+    for item in items {
+        remove_one(list, &item.key());
+    }
+}
+
 /// Takes out what has the keys of these items, which are given in the order of their keys.
 pub fn remove_all<T: Keyed>(list: &mut Vec<T>, items: &[T])
     requires keyed { IsKeyed T.Key.cmp T.key_of list.old.items }
@@ -61,9 +77,9 @@ pub fn remove_all<T: Keyed>(list: &mut Vec<T>, items: &[T])
     ensures capacity { vec_capacity list.new ≡ vec_capacity list.old }
     ensures removed { (x : T) → Contains list.new.items x ↔ (Contains list.old.items x × LacksKey T.key_of items.now (T.key_of x)) }
 {
-    if items.len() == 1 {
-        remove_one(list, &items[0].key());
-    } else if !items.is_empty() {
+    if items.len() <= FEW {
+        remove_each(list, items);
+    } else {
         list.retain(|x| !has_key(items, &x.key()));
     }
 }
@@ -74,6 +90,8 @@ fn insert_one<T: Keyed>(list: &mut Vec<T>, item: T)
     requires new { LacksKey T.key_of list.old.items (T.key_of item) }
     requires room { vec_len list.old < vec_capacity list.old }
     ensures keyed { IsKeyed T.Key.cmp T.key_of list.new.items }
+    ensures length { vec_len list.new ≡ vec_len list.old + 1 }
+    ensures capacity { vec_capacity list.new ≡ vec_capacity list.old }
     ensures inserted { (x : T) → Contains list.new.items x ↔ ((item ≡ x) ⊎ Contains list.old.items x) }
 {
     match find(list.as_slice(), &item.key()) {
@@ -81,6 +99,20 @@ fn insert_one<T: Keyed>(list: &mut Vec<T>, item: T)
         Err(at) => {
             let _ = list.insert(at, item);
         }
+    }
+}
+
+// Puts in items of new keys, one after another. There is room for them.
+fn insert_each<T: Keyed>(list: &mut Vec<T>, items: &[T])
+    requires keyed { IsKeyed T.Key.cmp T.key_of list.old.items }
+    requires apart { AreApart T.key_of items.now }
+    requires new { (x : T) → Contains items.now x → LacksKey T.key_of list.old.items (T.key_of x) }
+    requires room { vec_len list.old + length items.now ≤ vec_capacity list.old }
+    ensures keyed { IsKeyed T.Key.cmp T.key_of list.new.items }
+    ensures inserted { (x : T) → Contains list.new.items x ↔ (Contains items.now x ⊎ Contains list.old.items x) }
+{
+    for item in items {
+        insert_one(list, *item);
     }
 }
 
@@ -93,9 +125,9 @@ pub fn insert_all<T: Keyed>(list: &mut Vec<T>, items: &[T])
     ensures keyed { IsKeyed T.Key.cmp T.key_of list.new.items }
     ensures inserted { (x : T) → Contains list.new.items x ↔ (Contains items.now x ⊎ Contains list.old.items x) }
 {
-    if items.len() == 1 {
-        insert_one(list, items[0]);
-    } else if !items.is_empty() {
+    if items.len() <= FEW {
+        insert_each(list, items);
+    } else {
         merge(list, items);
     }
 }

@@ -5,5 +5,6 @@ mod MoveLemmas
 mod OrderLemmas
 pub mod PairLemmas
 pub mod PlaceLemmas
+mod SeatedLemmas
 mod SliceLemmas
 pub mod ViewLemmas

@@ -1,7 +1,7 @@
 -- What a change makes of the list of a set, and of its look-up.
-use Rattle.std.proofs.Common.{◌≡◌, ◌≢◌, ◌↔◌, ℕ, ◌<◌, ◌⊎◌, List, get_or, length, refl, sym, ap, subst, ◌∙◌, inl, inr, arith, Some, None, Option}
+use Rattle.std.proofs.Common.{◌≡◌, ◌≢◌, ◌↔◌, ℕ, ◌⊎◌, List, get_or, refl, sym, ap, ◌∙◌, inl, inr, Some, None}
 use Rattle.std.specs.Prelude.{is_some, if◌then◌else◌}
-use Rattle.std.specs.List.{Contains, AllPairs}
+use Rattle.std.specs.List.{Contains}
 use Rattle.std.proofs.lemmas.Bool.{cases_order}
 use Rattle.std.proofs.lemmas.List.{get_or_default}
 use Rattle.occurrences.specs.declared.row.Row.{Row}
@@ -12,7 +12,7 @@ use Rattle.plan_lists.specs.Keyed.{AreApart, HasKey, LacksKey}
 use Rattle.plan_lists.specs.Rows.{HasEachOnce, OneEach, look_up}
 use Rattle.plan_store.specs.Changes.{FitsSet, moved_set}
 use Rattle.plan_store.specs.declared.changes.Moves.{Moves}
-use Rattle.plan_store.proofs.LookLemmas.{look_some, look_none, look_lacks, look_at, look_has}
+use Rattle.plan_store.proofs.LookLemmas.{look_some, look_none, look_lacks, look_at}
 
 module _ {X : Type 0} (row_of : X → Row) where
   abbrev serial_of : X → ℕ

@@ -1,33 +1,23 @@
 -- Pairs after a change.
-use Rattle.std.proofs.Common.{◌≡◌, ◌≢◌, ◌↔◌, ℕ, zero, suc, ◌+◌, ◌<◌, ◌⊎◌, Bool, true, false, not, List, [], ◌∷◌, ◌++◌, length, get_or, refl, sym, ap, ap₂, subst, ◌∙◌, inl, inr, arith, Ordering}
+use Rattle.std.proofs.Common.{◌≡◌, ◌↔◌, zero, suc, ◌⊎◌, Bool, true, not, List, [], ◌∷◌, get_or, refl, sym, ap, ap₂, subst, ◌∙◌, inl, inr, arith, Ordering}
 use Rattle.std.specs.Prelude.{filter}
 use Rattle.std.specs.declared.cmp.Ordering.TheVariants.{Less, Equal, Greater}
 use Rattle.std.specs.List.{Contains}
 use Rattle.std.specs.Cmp.{IsTotalOrder}
-use Rattle.std.specs.FinMap.{IsAntisymmetric, nat_cmp-IsAntisymmetric}
-use Rattle.std.specs.Ordering.{nat_cmp, ordering_then, ordering_reverse}
+use Rattle.std.specs.Ordering.{is_eq, ordering_reverse}
 use Rattle.std.proofs.lemmas.Cmp.{nat_cmp_total, on_total, then_total, tied_itself}
 use Rattle.std.proofs.lemmas.Bool.{not-true, not_from_false}
-use Rattle.std.proofs.lemmas.List.Elements.{Contains-append_cases, Contains-append_left, Contains-append_right, Contains-get_or}
+use Rattle.std.proofs.lemmas.List.Elements.{Contains-get_or}
+use Rattle.std.proofs.lemmas.List.Folds.{Any-from_list_any}
 use Rattle.std.proofs.lemmas.List.Kept.{AllPairs-filter}
 use Rattle.external_dependencies.specs.Pair.{pair_cmp}
 use Rattle.external_dependencies.specs.Rising.{IsRising}
 use Rattle.external_dependencies.specs.declared.change.PairChange.{PairChange}
 use Rattle.external_dependencies.specs.declared.pairs.Pair.{Pair}
 use Rattle.plan_lists.proofs.KeyLemmas.{contains_cases, contains_first, contains_later, contains_filter, filter_contains, holds_lacks, holds_none, nothing}
+use Rattle.plan_lists.specs.Keyed.{holds_key}
+use Rattle.plan_lists.specs.Ties.{pair_ties}
 use Rattle.plan_store.specs.Changes.{is_among, pairs_after, placed_before, with_pair, with_pairs}
-
-then_equal : (o p : Ordering) → ordering_then o p ≡ Equal → (o ≡ Equal) × (p ≡ Equal)
-then_equal Less p is = cc
-then_equal Equal p is = (refl, is)
-then_equal Greater p is = cc
-
-pub pair_ties : IsAntisymmetric pair_cmp
-pair_ties x y is =
-    let both = then_equal (nat_cmp x.successor y.successor) (nat_cmp x.predecessor y.predecessor) is in
-    let successors : x.successor ≡ y.successor = nat_cmp-IsAntisymmetric x.successor y.successor both.0 in
-    let predecessors : x.predecessor ≡ y.predecessor = nat_cmp-IsAntisymmetric x.predecessor y.predecessor both.1 in
-    λ i. record { successor = successors i; predecessor = predecessors i }
 
 pub pair_total : IsTotalOrder pair_cmp
 pair_total = then_total (on_total (λ (p : Pair). p.successor) nat_cmp_total) (on_total (λ (p : Pair). p.predecessor) nat_cmp_total)
@@ -94,8 +84,22 @@ with_pairs_contains (p ∷ more) pairs z = (
   ]),
 )
 
-abbrev itself : Pair → Pair
+abbrev pub itself : Pair → Pair
 itself p = p
+
+equal_from : (o : Ordering) → is_eq o ≡ true → o ≡ Equal
+equal_from Less is = cc
+equal_from Equal is = refl
+equal_from Greater is = cc
+
+-- a test for a pair
+pub held_pair : (pairs : List Pair) (pair : Pair) → holds_key pair_cmp itself pairs pair ≡ true → Contains pairs pair
+held_pair pairs pair is =
+    let (k, p, lt, at, same) = Any-from_list_any (λ (p : Pair). is_eq (pair_cmp p pair)) pairs is in
+    subst (Contains pairs) (pair_ties p pair (equal_from (pair_cmp p pair) same)) (k, lt, at)
+
+abbrev pub is_new : List Pair → Pair → Bool
+is_new pairs pair = not (holds_key pair_cmp (λ (p : Pair). p) pairs pair)
 
 -- the pairs after a change
 pub pairs_after_rising : (change : PairChange) (pairs : List Pair) → IsRising pair_cmp pairs → IsRising pair_cmp (pairs_after change pairs)

@@ -1,7 +1,5 @@
 -- Where the rows of a content stand.
-use Rattle.std.proofs.Common.{◌≡◌, ◌≢◌, ◌↔◌, ℕ, ◌≤◌, List, refl, sym, ap, subst, ◌∙◌, Some, None, Option}
-use Rattle.std.specs.Prelude.{MatchOption}
-use Rattle.std.specs.List.{Contains}
+use Rattle.std.proofs.Common.{◌≡◌, ◌≢◌, ℕ, ap, subst, Some, None, Option}
 use Rattle.occurrences.specs.Place.{IsLive}
 use Rattle.occurrences.specs.declared.key.Key.{Key}
 use Rattle.occurrences.specs.declared.place.CurrentRow.{CurrentRow}
@@ -12,9 +10,7 @@ use Rattle.occurrences.specs.declared.row.Row.{Row}
 use Rattle.external_dependencies.specs.declared.rows.PlacedRow.{PlacedRow}
 use Rattle.planner_machine.specs.Content.{Seat, Sets, StandsAt, alone, empty_seat, seat}
 use Rattle.planner_machine.specs.Sound.{AreNumbered}
-use Rattle.plan_lists.specs.Rows.{AreRows, look_up, of_row}
 use Rattle.plan_store.specs.Views.{IsCurrentRow, IsLiveRow, IsPlacedAt, IsPlannedRow}
-use Rattle.plan_store.proofs.LookLemmas.{look_some}
 use Rattle.plan_store.proofs.ViewLemmas.{issued_from}
 
 some_is : {X : Type 0} (o : Option X) (x y : X) → o ≡ Some x → o ≡ Some y → x ≡ y

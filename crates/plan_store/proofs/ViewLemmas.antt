@@ -1,5 +1,5 @@
 -- Lists of rows as parts of a set.
-use Rattle.std.proofs.Common.{◌≡◌, ◌≢◌, ◌↔◌, ℕ, zero, suc, ◌+◌, ◌<◌, ◌≤◌, ◌⊎◌, true, false, Bool, List, [], ◌∷◌, length, get_or, refl, sym, ap, ap₂, subst, ◌∙◌, inl, inr, arith, Some, None, Option, Result, Ok, Err, IfOk, Vec, Global}
+use Rattle.std.proofs.Common.{◌≡◌, ◌≢◌, ◌↔◌, ℕ, zero, suc, ◌+◌, ◌<◌, ◌≤◌, true, false, Bool, List, [], ◌∷◌, length, get_or, refl, sym, ap, ap₂, subst, ◌∙◌, inl, inr, arith, Some, None, Option, Result, Ok, Err, IfOk, Vec, Global}
 use Rattle.std.specs.Prelude.{nat_eq, if◌then◌else◌, filter, IsTrue, MatchOption}
 use Rattle.std.specs.List.{Contains}
 use Rattle.std.specs.declared.alloc.AllocError.{AllocError}
@@ -13,7 +13,6 @@ use Rattle.occurrences.specs.declared.place.Deletion.{Deletion}
 use Rattle.occurrences.specs.declared.place.Reason.TheVariants.{Operator}
 use Rattle.occurrences.specs.declared.status.Status.TheVariants.{D}
 use Rattle.planner_machine.specs.DailyPlan.{arrives_before, moved}
-use Rattle.std.proofs.lemmas.List.{get_or_default}
 use Rattle.std.proofs.lemmas.List.Elements.{Contains-get_or}
 use Rattle.occurrences.specs.declared.row.Row.{Row}
 use Rattle.external_dependencies.specs.Arrival.{arrival_cmp}
@@ -23,7 +22,7 @@ use Rattle.planner_machine.specs.Content.{Seat, Sets, empty_seat, seat}
 use Rattle.planner_machine.specs.Moves.{bit, keep, size}
 use Rattle.planner_machine.specs.Sound.{AreNumbered}
 use Rattle.plan_lists.specs.Keyed.{IsKeyed}
-use Rattle.plan_lists.specs.Rows.{AreRows, HasEachOnce, OneEach, look_up, of_current, of_deletion, of_row}
+use Rattle.plan_lists.specs.Rows.{AreRows, HasEachOnce, look_up, of_current, of_deletion, of_row}
 use Rattle.plan_store.specs.Views.{IsAny, IsCurrentRow, IsDeletedKey, IsPlannedRow, ListsSet}
 use Rattle.plan_store.proofs.LookLemmas.{look_some, look_none, look_lacks, look_has, look_at}
 use Rattle.plan_store.proofs.OrderLemmas.{arrival_total}

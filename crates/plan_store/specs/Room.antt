@@ -1,10 +1,36 @@
 -- Room for a change.
-use Rattle.std.specs.Prelude.{◌≡◌, ◌+◌, ◌≤◌, vec_len, vec_capacity}
+use Rattle.std.specs.Prelude.{◌≡◌, ◌+◌, ◌≤◌, List, length, vec_len, vec_capacity}
+use Rattle.app_definitions.specs.declared.definitions.Definitions.{Definitions}
+use Rattle.external_dependencies.specs.declared.pairs.Pair.{Pair}
+use Rattle.planner_machine.specs.Content.{Content}
+use Rattle.plan_lists.specs.Rows.{of_current, of_deletion, of_row}
+use Rattle.plan_lists.specs.Seats.{HasSeats}
 use Rattle.plan_store.specs.declared.changes.Change.{Change}
-use Rattle.plan_store.specs.declared.contents.Content.{Content}
+use Rattle.plan_store.specs.declared.contents.Content.{Content as Kept}
+use Rattle.plan_store.specs.declared.room.Room.{Room}
+
+-- the content with these pairs
+abbrev pub with_pairs_of : List Pair → Content → Content
+with_pairs_of pairs c = record {
+  definitions = c.definitions;
+  sets = c.sets;
+  in_force = c.in_force;
+  pairs = pairs;
+  jobs = c.jobs;
+}
+
+-- the content with these definitions
+abbrev pub with_definitions : Definitions → Content → Content
+with_definitions definitions c = record {
+  definitions = definitions;
+  sets = c.sets;
+  in_force = c.in_force;
+  pairs = c.pairs;
+  jobs = c.jobs;
+}
 
 -- the two hold the same
-pub record HasSame (old new : Content) : Type 0 where
+pub record HasSame (old new : Kept) : Type 0 where
   pub definitions : new.definitions ≡ old.definitions
   pub bounds : new.bounds ≡ old.bounds
   pub issued : new.issued ≡ old.issued
@@ -16,10 +42,19 @@ pub record HasSame (old new : Content) : Type 0 where
   pub pairs : new.pairs ≡ old.pairs
   pub jobs : new.jobs.items ≡ old.jobs.items
 
--- there is room for what the change puts into each list, and for a job
-pub record HasRoom (change : Change) (kept : Content) : Type 0 where
+-- there is room for what the change puts into each list of rows, and for a job; and each serial that it puts is found
+pub record HasRowRoom (change : Change) (kept : Kept) : Type 0 where
   pub ltp : vec_len kept.ltp + vec_len change.ltp.put ≤ vec_capacity kept.ltp
   pub cp : vec_len kept.cp + vec_len change.cp.put ≤ vec_capacity kept.cp
   pub history : vec_len kept.history + vec_len change.history.put ≤ vec_capacity kept.history
   pub deletions : vec_len kept.deletions + vec_len change.deletions.put ≤ vec_capacity kept.deletions
   pub jobs : vec_len kept.jobs + 1 ≤ vec_capacity kept.jobs
+  pub ltp_seats : HasSeats of_row change.ltp.put.items kept.seats.items
+  pub cp_seats : HasSeats of_current change.cp.put.items kept.seats.items
+  pub history_seats : HasSeats of_row change.history.put.items kept.seats.items
+  pub deletion_seats : HasSeats of_deletion change.deletions.put.items kept.seats.items
+
+-- there is room for all that the change puts
+pub record HasRoom (change : Change) (kept : Kept) (room : Room) : Type 0 where
+  pub rows : HasRowRoom change kept
+  pub pairs : vec_len room.pairs + length change.pairs.added ≤ vec_capacity room.pairs

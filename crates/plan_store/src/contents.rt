@@ -1,14 +1,17 @@
-ghost use Rattle.std.specs.Prelude.{◌≡◌, OnOk, OnErr, option_copied, unwrap_or};
+ghost use Rattle.std.specs.Prelude.{◌≡◌, [], Contains, OnOk, OnErr, IfOk, option_copied, unwrap_or};
 
 use crate::changes::{Change, DefinitionChange};
 use crate::jobs::{find_job, keep_job};
 use crate::moving::move_rows;
-use crate::pairs::changed_pairs;
+use crate::pairs::change_pairs;
+use crate::room::Room;
 use app_definitions::Definitions;
 use external_dependencies::{Links, Pairs};
 use occurrences::{CurrentRow, Deletion, Row};
+use plan_lists::{Seat, note_rows};
 use planner_machine::{Bounds, Job};
 use std::alloc::{AllocError, Global};
+use std::mem::replace;
 
 /// All that a planner knows, each set of rows as a list by application, input arrival and serial.
 #[derive(Drop)]
@@ -33,22 +36,35 @@ pub struct Content {
     pub pairs: Pairs,
     /// The kept jobs, by number.
     pub jobs: Vec<Job>,
+    // under which key each serial stands; there may be more of them than rows
+    pub(crate) seats: Vec<Seat>,
     ghost ltp_rows: { AreRows of_row ltp.items },
     ghost cp_rows: { AreRows of_current cp.items },
     ghost history_rows: { AreRows of_row history.items },
     ghost deletion_rows: { AreRows of_deletion deletions.items },
     ghost numbered_jobs: { AreJobs jobs.items },
+    ghost seat_order: { AreSeats seats.items },
+    ghost ltp_seats: { HasSeats of_row ltp.items seats.items },
+    ghost cp_seats: { HasSeats of_current cp.items seats.items },
+    ghost history_seats: { HasSeats of_row history.items seats.items },
+    ghost deletion_seats: { HasSeats of_deletion deletions.items seats.items },
 }
 
 ghost use Rattle.plan_lists.specs.Rows.{AreRows, of_row, of_current, of_deletion};
 ghost use Rattle.planner_machine.specs.Moves.{or_else};
 ghost use Rattle.plan_store.specs.Changes.{redefined};
 ghost use Rattle.plan_store.specs.Jobs.{AreJobs};
+ghost use Rattle.plan_lists.specs.Rows.{HasEachOnce};
+ghost use Rattle.plan_lists.specs.Seats.{AreSeats, HasSeats};
+ghost use Rattle.plan_lists.specs.declared.seats.Seat.{Seat as SeatValue};
+ghost use Rattle.plan_store.specs.declared.changes.Change.{Change as ChangeValue};
+ghost use Rattle.plan_store.specs.declared.room.Room.{Room as RoomValue};
 
 impl Content {
     ghost use Rattle.plan_store.specs.Changes.{Fits, after};
     ghost use Rattle.plan_store.specs.Contents.{content_of, no_content};
-    ghost use Rattle.plan_store.specs.Room.{HasRoom, HasSame};
+    ghost use Rattle.plan_store.specs.Room.{HasRoom, HasRowRoom, HasSame, with_definitions, with_pairs_of};
+    ghost use Rattle.plan_store.specs.declared.changes.DefinitionChange.TheVariants.{AsBefore};
 
     /// What a planner knows that was told nothing.
     pub fn new(alloc: Global) -> Content
@@ -65,6 +81,7 @@ impl Content {
             deletions: Vec::new(alloc),
             pairs: Pairs::new(alloc),
             jobs: Vec::new(alloc),
+            seats: Vec::new(alloc),
         }
     }
 
@@ -78,16 +95,87 @@ impl Content {
         }
     }
 
-    // Room for all that the change puts.
-    fn reserve(&mut self, change: &Change) -> Result<(), AllocError>
+    // Room for the rows and the job that the change puts, and their serials noted.
+    fn reserve(&mut self, alloc: Global, change: &Change) -> Result<(), AllocError>
+        requires { Fits change.now (content_of self.old) }
         ensures same { HasSame self.old self.new }
-        ensures room { OnOk result (HasRoom change.now self.new) }
+        ensures room { OnOk result (HasRowRoom change.now self.new) }
     {
         self.ltp.reserve(change.ltp.put.len())?;
         self.cp.reserve(change.cp.put.len())?;
         self.history.reserve(change.history.put.len())?;
         self.deletions.reserve(change.deletions.put.len())?;
-        self.jobs.reserve(1)
+        self.jobs.reserve(1)?;
+        note_puts(alloc, &mut self.seats, change)
+    }
+
+    /// The first half of a change: room for all that it puts. It takes the pairs out of the content, which get back
+    /// into it by `finish` or `put_back`. Where memory is refused, the content is as it was.
+    pub fn make_room(&mut self, alloc: Global, change: &Change) -> Result<Room, AllocError>
+        requires { Fits change.now (content_of self.old) }
+        ensures taken { IfOk result (λ room. (room.pairs.items ≡ (content_of self.old).pairs) × HasRoom change.now self.new room) }
+        ensures ok { OnOk result (content_of self.new ≡ with_pairs_of [] (content_of self.old)) }
+        ensures err { OnErr result (content_of self.new ≡ content_of self.old) }
+    {
+        self.reserve(alloc, change)?;
+        let mut pairs = replace(&mut self.pairs, Pairs::new(alloc)).into_vec();
+        match pairs.reserve(change.pairs.added.as_slice().len()) {
+            Ok(()) => Ok(Room { pairs }),
+            Err(error) => {
+                self.pairs = Pairs::from_rising(pairs);
+                Err(error)
+            }
+        }
+    }
+
+    /// Puts the pairs back where the change is not made.
+    pub fn put_back(&mut self, room: Room)
+        ensures { content_of self.new ≡ with_pairs_of room.pairs.items (content_of self.old) }
+    {
+        let Room { pairs } = room;
+        self.pairs = Pairs::from_rising(pairs);
+    }
+
+    /// Changes the definitions, or where memory is refused, nothing.
+    pub fn redefine(&mut self, change: DefinitionChange) -> Result<(), AllocError>
+        ensures ok { OnOk result (content_of self.new ≡ with_definitions (redefined change (content_of self.old).definitions) (content_of self.old)) }
+        ensures err { OnErr result (content_of self.new ≡ content_of self.old) }
+        ensures room { (next : ChangeValue) (room : RoomValue) → HasRoom next self.old room → HasRoom next self.new room }
+    {
+        redefine(&mut self.definitions, change)
+    }
+
+    /// The second half of a change: makes it in the room that was made for it, and puts the pairs back. It cannot fail.
+    /// The definitions are changed before, by `redefine`.
+    pub fn finish(&mut self, room: Room, change: Change)
+        requires fits { Fits change (content_of self.old) }
+        requires room { HasRoom change self.old room }
+        requires defined { change.definitions ≡ AsBefore }
+        ensures { content_of self.new ≡ after change (with_pairs_of room.pairs.items (content_of self.old)) }
+    {
+        let Room { mut pairs } = room;
+        let Change {
+            definitions: _,
+            bounds,
+            issued,
+            in_force,
+            ltp,
+            cp,
+            history,
+            deletions,
+            pairs: moves,
+            job,
+        } = change;
+        change_pairs(&mut pairs, moves);
+        self.pairs = Pairs::from_rising(pairs);
+        self.bounds = new_or_old(bounds, self.bounds);
+        self.issued = issued.unwrap_or(self.issued);
+        put_in_force(&mut self.in_force, in_force);
+        move_rows(&mut self.ltp, ltp);
+        move_rows(&mut self.cp, cp);
+        move_rows(&mut self.history, history);
+        move_rows(&mut self.deletions, deletions);
+        keep_job(&mut self.jobs, job);
     }
 
     /// Makes the change, or where memory is refused, none of it.
@@ -96,32 +184,40 @@ impl Content {
         ensures ok { OnOk result (content_of self.new ≡ after change (content_of self.old)) }
         ensures err { OnErr result (content_of self.new ≡ content_of self.old) }
     {
-        self.reserve(&change)?;
-        let pairs = changed_pairs(alloc, &self.pairs, &change.pairs)?;
-        let Change {
-            definitions,
-            bounds,
-            issued,
-            in_force,
-            ltp,
-            cp,
-            history,
-            deletions,
-            pairs: _,
-            job,
-        } = change;
-        redefine(&mut self.definitions, definitions)?;
-        self.bounds = new_or_old(bounds, self.bounds);
-        self.issued = issued.unwrap_or(self.issued);
-        put_in_force(&mut self.in_force, in_force);
-        move_rows(&mut self.ltp, ltp);
-        move_rows(&mut self.cp, cp);
-        move_rows(&mut self.history, history);
-        move_rows(&mut self.deletions, deletions);
-        self.pairs = pairs;
-        keep_job(&mut self.jobs, job);
-        Ok(())
+        let mut rest = change;
+        let room = self.make_room(alloc, &rest)?;
+        let definitions = replace(&mut rest.definitions, DefinitionChange::AsBefore);
+        match self.redefine(definitions) {
+            Ok(()) => {
+                self.finish(room, rest);
+                Ok(())
+            }
+            Err(error) => {
+                self.put_back(room);
+                Err(error)
+            }
+        }
     }
+}
+
+// Notes the seats of all that the change puts.
+fn note_puts(alloc: Global, seats: &mut Vec<Seat>, change: &Change) -> Result<(), AllocError>
+    requires seats { AreSeats seats.old.items }
+    requires ltp { HasEachOnce of_row change.now.ltp.put.items }
+    requires cp { HasEachOnce of_current change.now.cp.put.items }
+    requires history { HasEachOnce of_row change.now.history.put.items }
+    requires deletions { HasEachOnce of_deletion change.now.deletions.put.items }
+    ensures seats { AreSeats seats.new.items }
+    ensures stay { (seat : SeatValue) → Contains seats.old.items seat → Contains seats.new.items seat }
+    ensures ltp { OnOk result (HasSeats of_row change.now.ltp.put.items seats.new.items) }
+    ensures cp { OnOk result (HasSeats of_current change.now.cp.put.items seats.new.items) }
+    ensures history { OnOk result (HasSeats of_row change.now.history.put.items seats.new.items) }
+    ensures deletions { OnOk result (HasSeats of_deletion change.now.deletions.put.items seats.new.items) }
+{
+    note_rows(alloc, seats, &change.ltp.put)?;
+    note_rows(alloc, seats, &change.cp.put)?;
+    note_rows(alloc, seats, &change.history.put)?;
+    note_rows(alloc, seats, &change.deletions.put)
 }
 
 // Makes the change of the definitions, or where memory is refused, none.

@@ -3,11 +3,12 @@ ghost use Rattle.occurrences.specs.declared.place.CurrentRow.{CurrentRow as Curr
 ghost use Rattle.occurrences.specs.declared.place.Deletion.{Deletion as DeletionValue};
 ghost use Rattle.planner_machine.specs.DailyPlan.{arrives_before};
 ghost use Rattle.plan_lists.specs.Keyed.{IsKeyed};
+ghost use Rattle.plan_lists.specs.Seats.{AreSeats, HasSeats};
 ghost use Rattle.external_dependencies.specs.Arrival.{arrival_cmp};
 ghost use Rattle.external_dependencies.specs.Nearest.{arrival_of};
 
 use occurrences::{CurrentRow, Deletion, Key, Reason, Row, Serial, Status};
-use plan_lists::PlanRow;
+use plan_lists::{PlanRow, Seat, seats_of};
 use std::alloc::{AllocError, Global};
 use work_calendars::{App, Moment};
 
@@ -34,11 +35,32 @@ pub(crate) fn of_key<'a, T: PlanRow>(list: &'a [T], key: &Key) -> &'a [T]
     &rest[..count]
 }
 
-// The row of a serial.
-pub(crate) fn of_serial<T: PlanRow>(list: &[T], serial: Serial) -> Option<T>
+// The row of a serial among some rows.
+fn with_serial<T: PlanRow>(rows: &[T], serial: Serial) -> Option<T>
+    ensures { MatchOption result ((x : T) → Contains rows.now x → (T.row_of x).serial ≢ serial) (λ x. Contains rows.now x × ((T.row_of x).serial ≡ serial)) }
+{
+    rows.iter().copied().find(|x| x.row().serial == serial)
+}
+
+// The row of a serial, found by its key among the seats.
+pub(crate) fn of_serial<T: PlanRow>(list: &[T], seats: &[Seat], serial: Serial) -> Option<T>
+    requires keyed { IsKeyed arrival_cmp (λ x. arrival_of (T.row_of x)) list.now }
+    requires order { AreSeats seats.now }
+    requires seated { HasSeats T.row_of list.now seats.now }
     ensures { MatchOption result ((x : T) → Contains list.now x → (T.row_of x).serial ≢ serial) (λ x. Contains list.now x × ((T.row_of x).serial ≡ serial)) }
 {
-    list.iter().copied().find(|x| x.row().serial == serial)
+    let found = seats_of(seats, serial);
+    for seat in found {
+        let key = Key {
+            ia: seat.ia,
+            app: seat.app,
+        };
+        match with_serial(of_key(list, &key), serial) {
+            Some(x) => return Some(x),
+            None => {}
+        }
+    }
+    None
 }
 
 // The first of some rows.

@@ -159,25 +159,25 @@ impl<'a> View<'a> {
     pub fn placed(&self, serial: Serial) -> Option<PlacedRow>
         ensures { AreNumbered (shown self.now).sets → IsPlacedAt (shown self.now).sets serial result }
     {
-        if let Some(row) = of_serial(&self.content.ltp, serial) {
+        if let Some(row) = of_serial(&self.content.ltp, &self.content.seats, serial) {
             return Some(PlacedRow {
                 row,
                 place: Place::LongTerm,
             });
         }
-        if let Some(current) = of_serial(&self.content.cp, serial) {
+        if let Some(current) = of_serial(&self.content.cp, &self.content.seats, serial) {
             return Some(PlacedRow {
                 row: current.row,
                 place: Place::Current(current.status),
             });
         }
-        if let Some(row) = of_serial(&self.content.history, serial) {
+        if let Some(row) = of_serial(&self.content.history, &self.content.seats, serial) {
             return Some(PlacedRow {
                 row,
                 place: Place::History,
             });
         }
-        let deletion = of_serial(&self.content.deletions, serial)?;
+        let deletion = of_serial(&self.content.deletions, &self.content.seats, serial)?;
         Some(PlacedRow {
             row: deletion.row,
             place: Place::Deleted(deletion.reason),

@@ -1,4 +1,3 @@
-use Rattle.std.proofs.Common.{◌≡◌, ◌↔◌, ap, subst, sym, arith}
 use Rattle.plan_store.proofs.AlikeLemmas.{apart_as, beside, has_as, keyed_as, keyed_from, lacks_as, written_as}
 use Rattle.plan_store.proofs.MoveLemmas.{apart_from_once, changed_stand, look_moved, one_new, put_new}
 use Rattle.plan_store.proofs.moving.move_rows.Goals as goal

@@ -1,15 +1,14 @@
-use Rattle.std.proofs.Common.{◌≡◌, ◌↔◌, ◌-◌, ◌≤◌, length, take, drop, true, false, subst, ap, arith, rules, sym, ◌∙◌}
-use Rattle.std.specs.List.{Contains}
+use Rattle.std.proofs.Common.{◌≡◌, ◌-◌, ◌≤◌, length, take, drop, true, false, subst, ap, arith, rules, sym, ◌∙◌}
 use Rattle.std.specs.List.Sorted.{IsPartitionedBy, IsPartitionPoint}
 use Rattle.std.proofs.lemmas.List.{take_all, length-drop}
 use Rattle.std.proofs.lemmas.List.Sorted.{IsPartitionPoint-from_clause}
-use Rattle.std.proofs.lemmas.Cmp.{nat_list_cmp_total, nat_cmp_total}
-use Rattle.std.specs.Cmp.Lexicographic.{slice_cmp}
+use Rattle.std.proofs.lemmas.Cmp.{nat_cmp_total}
 use Rattle.std.specs.FinMap.{nat_cmp-IsAntisymmetric}
 use Rattle.std.specs.Ordering.{nat_cmp, is_lt, is_le}
 use Rattle.external_dependencies.specs.Arrival.{arrival_cmp}
 use Rattle.external_dependencies.specs.Nearest.{arrival_of}
-use Rattle.plan_store.proofs.SliceLemmas.{apps_rise, arrivals_rise, between, drop_keyed, front, name_ties, parted_below, parted_upto, rises_drop, take_keyed}
+use Rattle.plan_lists.proofs.SliceLemmas.{between, drop_keyed, parted_below, parted_upto, rises_drop, take_keyed}
+use Rattle.plan_store.proofs.SliceLemmas.{arrivals_rise}
 use Rattle.occurrences.specs.declared.key.Key.{Key}
 use Rattle.plan_store.proofs.slices.of_key.Goals as goal
 

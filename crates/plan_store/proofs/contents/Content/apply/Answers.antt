@@ -1,56 +1,50 @@
-use Rattle.std.proofs.Common.{◌∙◌, List, ap}
-use Rattle.std.specs.Option.{unwrap_or}
-use Rattle.occurrences.specs.declared.place.CurrentRow.{CurrentRow}
-use Rattle.occurrences.specs.declared.place.Deletion.{Deletion}
-use Rattle.occurrences.specs.declared.row.Row.{Row}
-use Rattle.planner_machine.specs.Moves.{or_else}
-use Rattle.planner_machine.specs.declared.job.Job.{Job}
-use Rattle.plan_lists.specs.Rows.{look_up, of_current, of_deletion, of_row}
-use Rattle.plan_store.specs.Changes.{jobs_after, moved_set, pairs_after, redefined}
+use Rattle.std.proofs.Common.{◌≡◌, ◌∙◌, [], List, ap, subst, sym}
+use Rattle.app_definitions.specs.declared.definitions.Definitions.{Definitions}
+use Rattle.external_dependencies.specs.declared.pairs.Pair.{Pair}
+use Rattle.planner_machine.specs.Content.{Content}
+use Rattle.plan_store.specs.Changes.{Fits, redefined}
+use Rattle.plan_store.specs.Contents.{content_of}
+use Rattle.plan_store.specs.Room.{HasRoom, with_definitions, with_pairs_of}
+use Rattle.plan_store.specs.declared.changes.Change.{Change}
+use Rattle.plan_store.specs.declared.changes.DefinitionChange.{DefinitionChange}
+use Rattle.plan_store.specs.declared.contents.Content.{Content as Kept}
+use Rattle.plan_store.specs.declared.room.Room.{Room}
 use Rattle.plan_store.proofs.contents.Content.apply.Goals as goal
 
-pub move_rows-requires-clause-rows : goal.move_rows-requires-clause-rows
-move_rows-requires-clause-rows c = rw c.in_ok-reserve.ensures.same.ltp c.args.self.now.ltp_rows
+-- a change without that of the definitions
+abbrev rest : Change → DefinitionChange → Change
+rest change d = record change { definitions = d }
 
-pub move_rows-requires-clause-fits : goal.move_rows-requires-clause-fits
-move_rows-requires-clause-fits c = rw c.in_ok-reserve.ensures.same.ltp c.requires.ltp
+still_fits : (change : Change) (d : DefinitionChange) (c : Content) (definitions : Definitions) (pairs : List Pair) → Fits change c → Fits (rest change d) (with_definitions definitions (with_pairs_of pairs c))
+still_fits change d c definitions pairs fits = record { ltp = fits.ltp; cp = fits.cp; history = fits.history; deletions = fits.deletions; job = fits.job }
 
-pub move_rows-requires-2-clause-rows : goal.move_rows-requires-2-clause-rows
-move_rows-requires-2-clause-rows c = rw c.in_ok-reserve.ensures.same.cp c.args.self.now.cp_rows
+still_room : (change : Change) (d : DefinitionChange) (kept : Kept) (room : Room) → HasRoom change kept room → HasRoom (rest change d) kept room
+still_room change d kept room has = record {
+  rows = record {
+    ltp = has.rows.ltp;
+    cp = has.rows.cp;
+    history = has.rows.history;
+    deletions = has.rows.deletions;
+    jobs = has.rows.jobs;
+    ltp_seats = has.rows.ltp_seats;
+    cp_seats = has.rows.cp_seats;
+    history_seats = has.rows.history_seats;
+    deletion_seats = has.rows.deletion_seats;
+  };
+  pairs = has.pairs;
+}
 
-pub move_rows-requires-2-clause-fits : goal.move_rows-requires-2-clause-fits
-move_rows-requires-2-clause-fits c = rw c.in_ok-reserve.ensures.same.cp c.requires.cp
+-- the content when the definitions are changed
+between : (change : DefinitionChange) (c taken defined : Content) → taken ≡ with_pairs_of [] c → defined ≡ with_definitions (redefined change taken.definitions) taken → defined ≡ with_definitions (redefined change c.definitions) (with_pairs_of [] c)
+between change c taken defined is done = done ∙ ap (λ (k : Content). with_definitions (redefined change k.definitions) k) is
 
-pub move_rows-requires-3-clause-rows : goal.move_rows-requires-3-clause-rows
-move_rows-requires-3-clause-rows c = rw c.in_ok-reserve.ensures.same.history c.args.self.now.history_rows
-
-pub move_rows-requires-3-clause-fits : goal.move_rows-requires-3-clause-fits
-move_rows-requires-3-clause-fits c = rw c.in_ok-reserve.ensures.same.history c.requires.history
-
-pub move_rows-requires-4-clause-rows : goal.move_rows-requires-4-clause-rows
-move_rows-requires-4-clause-rows c = rw c.in_ok-reserve.ensures.same.deletions c.args.self.now.deletion_rows
-
-pub move_rows-requires-4-clause-fits : goal.move_rows-requires-4-clause-fits
-move_rows-requires-4-clause-fits c = rw c.in_ok-reserve.ensures.same.deletions c.requires.deletions
-
-pub keep_job-requires-clause-new : goal.keep_job-requires-clause-new
-keep_job-requires-clause-new c = rw c.in_ok-reserve.ensures.same.jobs c.requires.job
-
-pub returns-clause-ok : goal.returns-clause-ok
-returns-clause-ok c =
+pub finish-requires-clause-fits : goal.finish-requires-clause-fits
+finish-requires-clause-fits c =
     let change = c.args.change in
-    let same = c.reserve.ensures.same in
-    λ i. record {
-      definitions = (c.in_ok-redefine.ensures.ok ∙ ap (redefined change.definitions) same.definitions) i;
-      sets = record {
-        bounds = (c.new_or_old-self.ensures ∙ ap (or_else change.bounds) same.bounds) i;
-        issued = (c.unwrap_or-self.ensures ∙ ap (unwrap_or change.issued) same.issued) i;
-        ltp = λ serial. (c.move_rows.ensures.moved serial ∙ ap (λ (rows : List Row). moved_set of_row change.ltp (look_up (λ (row : Row). row.serial) rows) serial) same.ltp) i;
-        cp = λ serial. (c.move_rows-2.ensures.moved serial ∙ ap (λ (rows : List CurrentRow). moved_set of_current change.cp (look_up (λ (current : CurrentRow). current.row.serial) rows) serial) same.cp) i;
-        history = λ serial. (c.move_rows-3.ensures.moved serial ∙ ap (λ (rows : List Row). moved_set of_row change.history (look_up (λ (row : Row). row.serial) rows) serial) same.history) i;
-        deletions = λ serial. (c.move_rows-4.ensures.moved serial ∙ ap (λ (rows : List Deletion). moved_set of_deletion change.deletions (look_up (λ (deletion : Deletion). deletion.row.serial) rows) serial) same.deletions) i;
-      };
-      in_force = (c.put_in_force.ensures ∙ ap (unwrap_or change.in_force) same.in_force) i;
-      pairs = (c.in_ok-pairs.ensures ∙ ap (pairs_after change.pairs) same.pairs) i;
-      jobs = λ number. (c.keep_job.ensures.kept number ∙ ap (λ (jobs : List Job). jobs_after change.job (look_up (λ (job : Job). job.number) jobs) number) same.jobs) i;
-    }
+    let before = content_of c.args.self.now in
+    let is = between c.replace-definitions.result before (content_of c.make_room.new.self) (content_of c.redefine.new.self) c.in_ok-room.ensures.ok c.in-Ok.ensures.ok in
+    subst (Fits (rest change c.replace-definitions.new.dest)) (sym is) (still_fits change c.replace-definitions.new.dest before (redefined c.replace-definitions.result before.definitions) [] c.requires)
+
+pub finish-requires-clause-room : goal.finish-requires-clause-room
+finish-requires-clause-room c =
+    c.redefine.ensures.room (rest c.args.change c.replace-definitions.new.dest) c.in_ok-room.room (still_room c.args.change c.replace-definitions.new.dest c.make_room.new.self c.in_ok-room.room c.in_ok-room.ensures.taken.1)

@@ -1,4 +1,4 @@
-use Rattle.plan_store.specs.Contents.{content_of, no_content}
+use Rattle.plan_store.specs.Contents.{no_content}
 use Rattle.plan_store.proofs.contents.Content.new.Goals as goal
 
 pub returns : goal.returns
