@@ -14,6 +14,8 @@ use Rattle.std.proofs.lemmas.Map.Made.{update_all_distinct}
 use Rattle.work_calendars.specs.Name.{IsName}
 use Rattle.app_definitions.specs.Fields.{field}
 use Rattle.app_definitions.specs.ByName.{records_of, FitsKind, IsDefinedBy, AreEntriesOf, AreGivenBy, overlaid}
+use Rattle.app_definitions.specs.Records.{Record, Records}
+use Rattle.app_definitions.specs.declared.columns.TheConstants.{NAME}
 
 -- definitions by name
 abbrev pub Definitions : Type 0 → Type 0
@@ -43,40 +45,40 @@ pub name_itself : (a : List ℕ) → pointwise nat_eq a a ≡ true
 name_itself a = (bytes_decides a a).1 refl
 
 -- what a definition is of, by whether there is one
-pub defined-some : {D : Type 0} (IsMadeOf : D → List (List (List ℕ)) → Type 0) (o : Option D) (d : D) (rows : List (List (List ℕ)))
+pub defined-some : {D : Type 0} (IsMadeOf : D → Records → Type 0) (o : Option D) (d : D) (rows : Records)
     → o ≡ Some d → IsDefinedBy IsMadeOf o rows → (rows ≢ []) × IsMadeOf d rows
 defined-some IsMadeOf None d rows e h = absurd (let x : ⊥ = cc in x)
 defined-some IsMadeOf (Some x) d rows e h = (h.0, let same : x ≡ d = cc in rw same at h.1)
 
-pub defined-none : {D : Type 0} (IsMadeOf : D → List (List (List ℕ)) → Type 0) (o : Option D) (rows : List (List (List ℕ)))
+pub defined-none : {D : Type 0} (IsMadeOf : D → Records → Type 0) (o : Option D) (rows : Records)
     → o ≡ None → IsDefinedBy IsMadeOf o rows → rows ≡ []
 defined-none IsMadeOf None rows e h = h
 defined-none IsMadeOf (Some x) rows e h = absurd (let x : ⊥ = cc in x)
 
 -- a record more is one more about its name, and none about another
-records_of-more : (name : List ℕ) (before : List (List (List ℕ))) (row : List (List ℕ))
-    → records_of name (before ++ row ∷ []) ≡ records_of name before ++ cond (pointwise nat_eq (field row 0) name) (row ∷ []) []
-records_of-more name before row = filter-append (λ r. pointwise nat_eq (field r 0) name) before (row ∷ [])
+records_of-more : (name : List ℕ) (before : Records) (row : Record)
+    → records_of name (before ++ row ∷ []) ≡ records_of name before ++ cond (pointwise nat_eq (field row NAME) name) (row ∷ []) []
+records_of-more name before row = filter-append (λ r. pointwise nat_eq (field r NAME) name) before (row ∷ [])
 
 not_empty : {A : Type 0} (xs : List A) (x : A) → (xs ++ x ∷ []) ≢ []
 not_empty [] x e = absurd (let h : ⊥ = cc in h)
 not_empty (y ∷ ys) x e = absurd (let h : ⊥ = cc in h)
 
 -- one more record, of which the definition of its name is now made
-pub AreGivenBy-more : {D : Type 0} (IsMadeOf : D → List (List (List ℕ)) → Type 0) (old new : Definitions D) (k : List ℕ) (v : D) (before : List (List (List ℕ))) (row : List (List ℕ))
-    → k ≡ field row 0 → ((q : List ℕ) → map.get new q ≡ cond (pointwise nat_eq k q) (Some v) (map.get old q))
-    → AreGivenBy IsMadeOf old before → IsMadeOf v (records_of (field row 0) before ++ row ∷ [])
+pub AreGivenBy-more : {D : Type 0} (IsMadeOf : D → Records → Type 0) (old new : Definitions D) (k : List ℕ) (v : D) (before : Records) (row : Record)
+    → k ≡ field row NAME → ((q : List ℕ) → map.get new q ≡ cond (pointwise nat_eq k q) (Some v) (map.get old q))
+    → AreGivenBy IsMadeOf old before → IsMadeOf v (records_of (field row NAME) before ++ row ∷ [])
     → AreGivenBy IsMadeOf new (before ++ row ∷ [])
 AreGivenBy-more IsMadeOf old new k v before row named written given made name = at_name (pointwise nat_eq k name) refl
   where
     at_name : (b : Bool) → pointwise nat_eq k name ≡ b → IsDefinedBy IsMadeOf (map.get new name) (records_of name (before ++ row ∷ []))
     at_name true e =
-        let same : field row 0 ≡ name = sym named ∙ same_name k name e in
-        let of : records_of name (before ++ row ∷ []) ≡ records_of (field row 0) before ++ row ∷ [] =
-        rw (← same) (records_of-more (field row 0) before row ∙ ap (λ b. records_of (field row 0) before ++ cond b (row ∷ []) []) (name_itself (field row 0))) in
-        rw (written name, e, of) (not_empty (records_of (field row 0) before) row, made)
+        let same : field row NAME ≡ name = sym named ∙ same_name k name e in
+        let of : records_of name (before ++ row ∷ []) ≡ records_of (field row NAME) before ++ row ∷ [] =
+        rw (← same) (records_of-more (field row NAME) before row ∙ ap (λ b. records_of (field row NAME) before ++ cond b (row ∷ []) []) (name_itself (field row NAME))) in
+        rw (written name, e, of) (not_empty (records_of (field row NAME) before) row, made)
     at_name false e =
-        let apart : pointwise nat_eq (field row 0) name ≡ false = rw (← named) e in
+        let apart : pointwise nat_eq (field row NAME) name ≡ false = rw (← named) e in
         let of : records_of name (before ++ row ∷ []) ≡ records_of name before =
         records_of-more name before row ∙ ap (λ b. records_of name before ++ cond b (row ∷ []) []) apart ∙ append-nil (records_of name before) in
         rw (written name, e, of) (given name)
@@ -158,40 +160,40 @@ get-appended old more q apart =
     ∙ cc (sym (get-view_of more q), sym (get-view_of old q), sym (get-overlaid (view_of old) (view_of more) q))
 
 -- a further record about a name is good exactly where the definition takes it
-pub joined-taken : {D E : Type 0} (fields : ℕ) (FitsName : List (List (List ℕ)) → List (List ℕ) → Type 0) (IsMadeOf : D → List (List (List ℕ)) → Type 0)
-    (m : Definitions D) (k : List ℕ) (d : D) (before : List (List (List ℕ))) (row : List (List ℕ)) (r : Result Bool E)
-    → k ≡ field row 0 → length row ≡ fields → IsName k → map.get m k ≡ Some d → AreGivenBy IsMadeOf m before
-    → ((earlier : List (List (List ℕ))) → earlier ≢ [] → IsMadeOf d earlier → IfOk r (λ taken. IsTrue taken ↔ FitsName earlier row))
+pub joined-taken : {D E : Type 0} (fields : ℕ) (FitsName : Records → Record → Type 0) (IsMadeOf : D → Records → Type 0)
+    (m : Definitions D) (k : List ℕ) (d : D) (before : Records) (row : Record) (r : Result Bool E)
+    → k ≡ field row NAME → length row ≡ fields → IsName k → map.get m k ≡ Some d → AreGivenBy IsMadeOf m before
+    → ((earlier : Records) → earlier ≢ [] → IsMadeOf d earlier → IfOk r (λ taken. IsTrue taken ↔ FitsName earlier row))
     → IfOk r (λ taken. IsTrue taken ↔ FitsKind fields FitsName before row)
 joined-taken fields FitsName IsMadeOf m k d before row r e long named seen given tells =
     let was = defined-some IsMadeOf _ d (records_of k before) seen (given k) in
     IfOk-map r _ _ (λ taken told. (λ yes. (long, rw (← e) named, rw (← e) (told.0 yes)), λ fits. told.1 (rw e fits.2))) (tells (records_of k before) was.0 was.1)
 
 -- and the definitions are then those of the record too
-pub joined-gathered : {D E : Type 0} (IsMadeOf : D → List (List (List ℕ)) → Type 0)
-    (m n : Definitions D) (k : List ℕ) (d v : D) (before : List (List (List ℕ))) (row : List (List ℕ)) (r : Result Bool E)
-    → k ≡ field row 0 → map.get m k ≡ Some d → ((q : List ℕ) → map.get n q ≡ cond (pointwise nat_eq k q) (Some v) (map.get m q)) → AreGivenBy IsMadeOf m before
-    → ((earlier : List (List (List ℕ))) → earlier ≢ [] → IsMadeOf d earlier → IfOk r (λ taken. IsTrue taken → IsMadeOf v (earlier ++ row ∷ [])))
+pub joined-gathered : {D E : Type 0} (IsMadeOf : D → Records → Type 0)
+    (m n : Definitions D) (k : List ℕ) (d v : D) (before : Records) (row : Record) (r : Result Bool E)
+    → k ≡ field row NAME → map.get m k ≡ Some d → ((q : List ℕ) → map.get n q ≡ cond (pointwise nat_eq k q) (Some v) (map.get m q)) → AreGivenBy IsMadeOf m before
+    → ((earlier : Records) → earlier ≢ [] → IsMadeOf d earlier → IfOk r (λ taken. IsTrue taken → IsMadeOf v (earlier ++ row ∷ [])))
     → IfOk r (λ taken. IsTrue taken → AreGivenBy IsMadeOf n (before ++ row ∷ []))
 joined-gathered IsMadeOf m n k d v before row r e seen written given makes =
     let was = defined-some IsMadeOf _ d (records_of k before) seen (given k) in
     IfOk-map r _ _ (λ taken made yes. AreGivenBy-more IsMadeOf m n k v before row e written given (rw (← e) (made yes))) (makes (records_of k before) was.0 was.1)
 
 -- the first record about a name is good exactly where it begins a definition
-pub begun-taken : {D : Type 0} (fields : ℕ) (FitsName : List (List (List ℕ)) → List (List ℕ) → Type 0) (IsMadeOf : D → List (List (List ℕ)) → Type 0)
-    (m : Definitions D) (k : List ℕ) (before : List (List (List ℕ))) (row : List (List ℕ)) (begun : Bool)
-    → k ≡ field row 0 → length row ≡ fields → IsName k → map.get m k ≡ None → AreGivenBy IsMadeOf m before
+pub begun-taken : {D : Type 0} (fields : ℕ) (FitsName : Records → Record → Type 0) (IsMadeOf : D → Records → Type 0)
+    (m : Definitions D) (k : List ℕ) (before : Records) (row : Record) (begun : Bool)
+    → k ≡ field row NAME → length row ≡ fields → IsName k → map.get m k ≡ None → AreGivenBy IsMadeOf m before
     → (IsTrue begun ↔ FitsName [] row) → IsTrue begun ↔ FitsKind fields FitsName before row
 begun-taken fields FitsName IsMadeOf m k before row begun e long named none given told =
-    let first : records_of (field row 0) before ≡ [] = rw (← e) (defined-none IsMadeOf _ (records_of k before) none (given k)) in
+    let first : records_of (field row NAME) before ≡ [] = rw (← e) (defined-none IsMadeOf _ (records_of k before) none (given k)) in
     rw first (λ yes. (long, rw (← e) named, told.0 yes), λ fits. told.1 fits.2)
 
-pub begun-gathered : {D : Type 0} (IsMadeOf : D → List (List (List ℕ)) → Type 0)
-    (m n : Definitions D) (k : List ℕ) (v : D) (before : List (List (List ℕ))) (row : List (List ℕ))
-    → k ≡ field row 0 → map.get m k ≡ None → ((q : List ℕ) → map.get n q ≡ cond (pointwise nat_eq k q) (Some v) (map.get m q)) → AreGivenBy IsMadeOf m before
+pub begun-gathered : {D : Type 0} (IsMadeOf : D → Records → Type 0)
+    (m n : Definitions D) (k : List ℕ) (v : D) (before : Records) (row : Record)
+    → k ≡ field row NAME → map.get m k ≡ None → ((q : List ℕ) → map.get n q ≡ cond (pointwise nat_eq k q) (Some v) (map.get m q)) → AreGivenBy IsMadeOf m before
     → IsMadeOf v (row ∷ []) → AreGivenBy IsMadeOf n (before ++ row ∷ [])
 begun-gathered IsMadeOf m n k v before row e none written given made =
-    let first : records_of (field row 0) before ≡ [] = rw (← e) (defined-none IsMadeOf _ (records_of k before) none (given k)) in
+    let first : records_of (field row NAME) before ≡ [] = rw (← e) (defined-none IsMadeOf _ (records_of k before) none (given k)) in
     AreGivenBy-more IsMadeOf m n k v before row e written given (rw first made)
 
 -- an update of the entries is one of the definitions
@@ -206,5 +208,5 @@ pub seen-view_of : {X : Type 0} (es : List (List ℕ × X)) (m : Definitions X) 
 seen-view_of es m k o e h = ap (λ x. map.get x k) (sym e) ∙ get-view_of es k ∙ sym h
 
 -- no records give no definitions
-pub AreGivenBy-none : {D : Type 0} (IsMadeOf : D → List (List (List ℕ)) → Type 0) (m : Definitions D) → m ≡ map.empty → AreGivenBy IsMadeOf m []
+pub AreGivenBy-none : {D : Type 0} (IsMadeOf : D → Records → Type 0) (m : Definitions D) → m ≡ map.empty → AreGivenBy IsMadeOf m []
 AreGivenBy-none IsMadeOf m e name = rw (e, get-empty (slice_cmp nat_cmp) name) refl

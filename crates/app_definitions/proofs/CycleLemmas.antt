@@ -13,6 +13,8 @@ use Rattle.app_definitions.specs.Fields.{field, number_value}
 use Rattle.app_definitions.specs.Rising.{IsPlaceFor}
 use Rattle.app_definitions.proofs.RisingLemmas.{none_named, only, rising-insert, Contains-insert_cases, Contains-insert_new, Contains-insert_old, Contains-map, Contains-map_back}
 use Rattle.app_definitions.specs.CycleRecords.{has_minus, offset_digits, offset_value, pieces_of, IsOffsetText, SpellsOffsets, SpellsRunCycle, cycle_names_of, FitsRunCycle, AreRunCyclesOf}
+use Rattle.app_definitions.specs.Records.{Record, Records}
+use Rattle.app_definitions.specs.declared.columns.TheConstants.{CYCLE_NAME}
 
 -- an offset that is spelled is in range
 signed-in_range : (b : Bool) (n : ℕ) → 1 ≤ n → n ≤ MAX_OFFSET → IsOffset (if b then neg_ℤ (pos n) else pos n)
@@ -81,7 +83,7 @@ all_of : {X : Type 0} (P : X → Type 0) (xs : List X) → ((x : X) → Contains
 all_of P xs f k d lt = f (get_or xs k d) (Contains-get_or xs k d lt)
 
 -- the first record
-pub run_cycles-one : (row : List (List ℕ)) (cycle : RunCycle) → SpellsRunCycle row cycle → AreRunCyclesOf (cycle ∷ []) (row ∷ [])
+pub run_cycles-one : (row : Record) (cycle : RunCycle) → SpellsRunCycle row cycle → AreRunCyclesOf (cycle ∷ []) (row ∷ [])
 run_cycles-one row cycle s =
     record {
       rising = λ i j d lt within. absurd (omega (arith, lt, within));
@@ -90,7 +92,7 @@ run_cycles-one row cycle s =
     }
 
 -- a further record at its place
-pub run_cycles-more : (cycles : List RunCycle) (rows : List (List (List ℕ))) (cycle : RunCycle) (row : List (List ℕ)) (place : ℕ)
+pub run_cycles-more : (cycles : List RunCycle) (rows : Records) (cycle : RunCycle) (row : Record) (place : ℕ)
     → IsPlaceFor (λ c. c.name) cycles cycle.name place → AreRunCyclesOf cycles rows → SpellsRunCycle row cycle → AreRunCyclesOf (insert cycles place cycle) (rows ++ row ∷ [])
 run_cycles-more cycles rows cycle row place free are s =
     record {
@@ -106,24 +108,24 @@ run_cycles-more cycles rows cycle row place free are s =
     }
 
 -- a record with a new name is good
-pub new-fits : (cycles : List RunCycle) (before : List (List (List ℕ))) (cycle : RunCycle) (row : List (List ℕ)) (place : ℕ)
+pub new-fits : (cycles : List RunCycle) (before : Records) (cycle : RunCycle) (row : Record) (place : ℕ)
     → IsPlaceFor (λ c. c.name) cycles cycle.name place → AreRunCyclesOf cycles before → SpellsRunCycle row cycle → FitsRunCycle before row
 new-fits cycles before cycle row place free are s = ((cycle, s), λ has. none_named (λ c. c.name) cycles cycle.name place free (named has))
   where
-    named : Contains (cycle_names_of before) (field row 1) → Any (λ c. c.name ≡ cycle.name) cycles
+    named : Contains (cycle_names_of before) (field row CYCLE_NAME) → Any (λ c. c.name ≡ cycle.name) cycles
     named has =
-        let (r, there, same) = Contains-map_back (λ r. field r 1) before (field row 1) has in
+        let (r, there, same) = Contains-map_back (λ r. field r CYCLE_NAME) before (field row CYCLE_NAME) has in
         let (k, c, lt, is, spelled) = All-contains (λ y. Any (SpellsRunCycle y) cycles) before r are.all there in
         (k, c, lt, is, spelled.name ∙ same ∙ sym s.name)
 
 -- one with a name that is there is not
-pub old-no_fit : (cycles : List RunCycle) (before : List (List (List ℕ))) (cycle : RunCycle) (row : List (List ℕ)) (k : ℕ) → k < length cycles → HoldsAt (λ c. c.name ≡ cycle.name) cycles k
+pub old-no_fit : (cycles : List RunCycle) (before : Records) (cycle : RunCycle) (row : Record) (k : ℕ) → k < length cycles → HoldsAt (λ c. c.name ≡ cycle.name) cycles k
     → AreRunCyclesOf cycles before → SpellsRunCycle row cycle → FitsRunCycle before row → ⊥
 old-no_fit cycles before cycle row k lt named are s fits =
     let other = get_or cycles k cycle in
     let (j, r, below, is, spelled) = are.each k cycle lt in
-    let same : field r 1 ≡ field row 1 = sym spelled.name ∙ named cycle ∙ s.name in
-    fits.1 (subst (Contains (cycle_names_of before)) same (Contains-map (λ r. field r 1) before r (j, below, is)))
+    let same : field r CYCLE_NAME ≡ field row CYCLE_NAME = sym spelled.name ∙ named cycle ∙ s.name in
+    fits.1 (subst (Contains (cycle_names_of before)) same (Contains-map (λ r. field r CYCLE_NAME) before r (j, below, is)))
 
 pub no_bytes : (bytes : List ℕ) → length bytes ≡ 0 → bytes ≡ []
 no_bytes [] h = refl

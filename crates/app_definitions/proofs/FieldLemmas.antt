@@ -1,5 +1,5 @@
 -- What the fields of a record spell.
-use Rattle.std.proofs.Common.{◌≡◌, ℕ, zero, suc, ◌+◌, ◌-◌, ◌*◌, ◌/◌, ◌%◌, ◌<◌, ◌≤◌, List, [], ◌∷◌, ◌++◌, get_or, arith}
+use Rattle.std.proofs.Common.{◌≡◌, ℕ, zero, suc, ◌+◌, ◌-◌, ◌*◌, ◌/◌, ◌%◌, ◌<◌, ◌≤◌, List, [], ◌∷◌, ◌++◌, get_or, length, ap, refl, arith}
 use Rattle.std.specs.Prelude.{IsUtf8, fold}
 use Rattle.std.specs.List.{AllByRecursion}
 use Rattle.std.proofs.lemmas.Str.{IsUtf8-from_ascii}
@@ -49,3 +49,18 @@ from-le n (d ∷ more) =
 -- a number's first digits are no greater
 pub number_value-le : (digits more : List ℕ) → number_value digits ≤ number_value (digits ++ more)
 number_value-le digits more = rw (fold-append (λ n d. n * 10 + (d - 48)) 0 digits more) (from-le (number_value digits) more)
+
+-- a text of one letter
+pub one_letter : (text : List ℕ) (a : ℕ) → length text ≡ 1 → get_or text 0 0 ≡ a → text ≡ a ∷ []
+one_letter [] a long is = absurd (omega (arith, long))
+one_letter (x ∷ []) a long is = ap (λ y. y ∷ []) is
+one_letter (x ∷ y ∷ text) a long is = absurd (omega (arith, long))
+
+-- a text of three letters
+pub three_letters : (text : List ℕ) (a b c : ℕ) → length text ≡ 3 → get_or text 0 0 ≡ a → get_or text 1 0 ≡ b → get_or text 2 0 ≡ c
+    → text ≡ a ∷ b ∷ c ∷ []
+three_letters [] a b c long p q r = absurd (omega (arith, long))
+three_letters (x ∷ []) a b c long p q r = absurd (omega (arith, long))
+three_letters (x ∷ y ∷ []) a b c long p q r = absurd (omega (arith, long))
+three_letters (x ∷ y ∷ z ∷ []) a b c long p q r = rw (p, q, r) refl
+three_letters (x ∷ y ∷ z ∷ w ∷ text) a b c long p q r = absurd (omega (arith, long))

@@ -1,6 +1,7 @@
 pub mod RecordLemmas
 pub mod RisingLemmas
 pub mod ByNameLemmas
+pub mod EntryLemmas
 pub mod FieldLemmas
 pub mod CalendarLemmas
 pub mod CycleLemmas

@@ -20,7 +20,7 @@ use Rattle.app_definitions.proofs.LinkLemmas.{entry_is, entry_there}
 use Rattle.app_definitions.proofs.RisingLemmas.{below, Contains-map, Contains-map_back}
 
 -- sorted names of which no two are the same rise
-rising_sorted : (xs : List (List ℕ)) → IsSorted (slice_cmp nat_cmp) xs → IsDistinct (pointwise nat_eq) xs → AreRising (λ name. name) xs
+pub rising_sorted : (xs : List (List ℕ)) → IsSorted (slice_cmp nat_cmp) xs → IsDistinct (pointwise nat_eq) xs → AreRising (λ name. name) xs
 rising_sorted xs up distinct i j d lt within = at (slice_cmp nat_cmp (get_or xs i d) (get_or xs j d)) refl
   where
     at : (o : Ordering) → slice_cmp nat_cmp (get_or xs i d) (get_or xs j d) ≡ o → IsBelow (get_or xs i d) (get_or xs j d)

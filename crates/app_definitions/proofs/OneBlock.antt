@@ -31,12 +31,12 @@ use Rattle.app_definitions.specs.Applications.{FitsApplication, IsApplicationOf}
 use Rattle.app_definitions.specs.Blocks.{Gives, ReadsAs, IsFaultyAt}
 use Rattle.app_definitions.specs.ByName.{records_of, FitsKind, IsDefinedBy, AreGivenBy}
 use Rattle.app_definitions.specs.Calendars.{FitsCalendar, IsCalendarOf, IsListedBy, IsWeekdayText, status_of}
-use Rattle.app_definitions.specs.CycleRecords.{FitsRunCycle, SpellsDeadline, SpellsKind, SpellsRunCycle, AreRunCyclesOf, rule_text}
+use Rattle.app_definitions.specs.CycleRecords.{FitsRunCycle, SpellsDeadline, SpellsType, SpellsRunCycle, AreRunCyclesOf, rule_text}
 use Rattle.app_definitions.specs.Fields.{field, IsNumberUpTo}
 use Rattle.app_definitions.specs.Options.{AreOptionsOf, GivesCalendar, GivesHours}
 use Rattle.app_definitions.specs.Periods.{FitsPeriod, IsPeriodOf, GivesEntry, GiveEntries}
 use Rattle.app_definitions.specs.Predecessors.{FitsPredecessors, ArePredecessorsOf}
-use Rattle.app_definitions.specs.Records.{AllGood, FirstFaulty, block_records}
+use Rattle.app_definitions.specs.Records.{Record, Records, AllGood, FirstFaulty, block_records}
 use Rattle.app_definitions.specs.declared.applications.Application.{Application}
 use Rattle.app_definitions.specs.declared.kinds.Block.{Block}
 use Rattle.app_definitions.specs.declared.kinds.Block.TheVariants as block
@@ -48,14 +48,15 @@ use Rattle.app_definitions.proofs.ByNameLemmas.{Definitions, same_by_name, same_
 use Rattle.app_definitions.proofs.CalendarLemmas.{weekday-one_text}
 use Rattle.app_definitions.proofs.PeriodLemmas.{one_end}
 use Rattle.app_definitions.proofs.RisingLemmas.{behind, first_of_list, later_of_list, same_rising, three}
+use Rattle.app_definitions.specs.declared.columns.TheConstants.{NAME, CALENDAR_ENTRY, CALENDAR_STATUS, PERIOD_ORIGIN, PERIOD_LENGTH, CYCLE_TYPE, CYCLE_RULE, CYCLE_IN_EFFECT, CYCLE_OUT_EFFECT, CYCLE_IA, CYCLE_DEADLINE_DAY, CYCLE_DEADLINE_TIME}
 
 -- ---- first faulty records
 
 -- of two first faulty records neither comes first
-not_before : (Fits : List (List (List ℕ)) → List (List ℕ) → Type 0) (rows : List (List (List ℕ))) (m n : ℕ) → FirstFaulty Fits rows m → FirstFaulty Fits rows n → m < n → ⊥
+not_before : (Fits : Records → Record → Type 0) (rows : Records) (m n : ℕ) → FirstFaulty Fits rows m → FirstFaulty Fits rows n → m < n → ⊥
 not_before Fits rows m n p q lt = p.faulty (q.before (m - 1) (omega (arith, p.counted, lt)))
 
-one_first : (Fits : List (List (List ℕ)) → List (List ℕ) → Type 0) (rows : List (List (List ℕ))) (m n : ℕ) → FirstFaulty Fits rows m → FirstFaulty Fits rows n → m ≡ n
+one_first : (Fits : Records → Record → Type 0) (rows : Records) (m n : ℕ) → FirstFaulty Fits rows m → FirstFaulty Fits rows n → m ≡ n
 one_first Fits rows m n p q = elim (cases_lt m n) [
   | inl lt ↦ absurd (not_before Fits rows m n p q lt)
   | inr ge ↦ elim (cases_lt n m) [ inl lt ↦ absurd (not_before Fits rows n m q p lt) | inr le ↦ omega (arith, ge, le) ]
@@ -70,7 +71,7 @@ one_fault kind.RunCycles text m n p q = one_first _ _ m n p q
 one_fault kind.Options text m n p q = p.first ∙ sym q.first
 
 -- good records have no first faulty one
-all_good : (Fits : List (List (List ℕ)) → List (List ℕ) → Type 0) (rows : List (List (List ℕ))) (n : ℕ) → AllGood Fits rows → FirstFaulty Fits rows n → ⊥
+all_good : (Fits : Records → Record → Type 0) (rows : Records) (n : ℕ) → AllGood Fits rows → FirstFaulty Fits rows n → ⊥
 all_good Fits rows n good first = first.faulty (good (n - 1) (omega (arith, first.counted, first.there)))
 
 pub never_both : (k : Kind) (text : List ℕ) (b : Block) (n : ℕ) → ReadsAs k text b → IsFaultyAt k text n → ⊥
@@ -89,7 +90,7 @@ same_truth true false P p q = sym (q.1 (p.0 refl))
 same_truth false true P p q = p.1 (q.0 refl)
 same_truth false false P p q = refl
 
-one_application : (a b : Application) (rows : List (List (List ℕ))) → IsApplicationOf a rows → IsApplicationOf b rows → a ≡ b
+one_application : (a b : Application) (rows : Records) → IsApplicationOf a rows → IsApplicationOf b rows → a ≡ b
 one_application a b rows p q =
     let active : a.active ≡ b.active = same_truth a.active b.active _ p.0 q.0 in
     let calendar : a.calendar ≡ b.calendar = p.1 ∙ sym q.1 in
@@ -99,7 +100,7 @@ one_application a b rows p q =
 
 -- ---- predecessors
 
-one_list : (xs ys : List (List ℕ)) (rows : List (List (List ℕ))) → ArePredecessorsOf xs rows → ArePredecessorsOf ys rows → xs ≡ ys
+one_list : (xs ys : List (List ℕ)) (rows : Records) → ArePredecessorsOf xs rows → ArePredecessorsOf ys rows → xs ≡ ys
 one_list xs ys rows p q = same_rising (λ n. n) xs ys p.rising q.rising (λ n has. (q.exactly n).1 ((p.exactly n).0 has)) (λ n has. (p.exactly n).1 ((q.exactly n).0 has))
 
 -- ---- options
@@ -140,13 +141,13 @@ one_options text o p a b =
 
 -- ---- periods
 
-one_entry : (row : List (List ℕ)) (e f : Entry) → GivesEntry row e → GivesEntry row f → e ≡ f
+one_entry : (row : Record) (e f : Entry) → GivesEntry row e → GivesEntry row f → e ≡ f
 one_entry row e f p q =
-    let origin = SpellsDay-one_day (field row 2) e.0 f.0 p.0 q.0 in
-    let end = one_end (field row 3) e.1 f.1 p.1 q.1 in
+    let origin = SpellsDay-one_day (field row PERIOD_ORIGIN) e.0 f.0 p.0 q.0 in
+    let end = one_end (field row PERIOD_LENGTH) e.1 f.1 p.1 q.1 in
     ap (λ (x : ℕ). let r : Entry = (x, e.1) in r) origin ∙ ap (λ (x : Option ℕ). let r : Entry = (f.0, x) in r) end
 
-one_entries : (rows : List (List (List ℕ))) (xs ys : List Entry) → GiveEntries rows xs → GiveEntries rows ys → xs ≡ ys
+one_entries : (rows : Records) (xs ys : List Entry) → GiveEntries rows xs → GiveEntries rows ys → xs ≡ ys
 one_entries rows xs ys p q = same_lists xs ys (sym p.same_length ∙ q.same_length) (λ k d lt. at k d lt)
   where
     at : (k : ℕ) (d : Entry) → k < length xs → get_or xs k d ≡ get_or ys k d
@@ -158,7 +159,7 @@ one_entries rows xs ys p q = same_lists xs ys (sym p.same_length ∙ q.same_leng
 letters_apart : (a b : ℕ) → a ≢ b → (text : List ℕ) → text ≡ a ∷ [] → text ≡ b ∷ [] → ⊥
 letters_apart a b apart text p q = apart (let e : a ∷ [] ≡ b ∷ [] = sym p ∙ q in cc)
 
-one_period : (rows : List (List (List ℕ))) (p q : Period) → IsPeriodOf p rows → IsPeriodOf q rows → p ≡ q
+one_period : (rows : Records) (p q : Period) → IsPeriodOf p rows → IsPeriodOf q rows → p ≡ q
 one_period rows (AllDays o m) (AllDays p n) a b = ap (λ x. AllDays x m) (SpellsDay-one_day _ o p a.1 b.1) ∙ ap (λ x. AllDays p x) (a.2 ∙ sym b.2)
 one_period rows (AllDays o m) (Work p n) a b = absurd (letters_apart 65 87 (λ e. omega (arith, e)) _ a.0 b.0)
 one_period rows (AllDays o m) (Listed ys) a b = absurd (letters_apart 65 78 (λ e. omega (arith, e)) _ a.0 b.0)
@@ -198,7 +199,7 @@ one_rule a b text p q = sym (rule_back-text a) ∙ ap rule_back (sym p ∙ q) �
 no_number : (greatest : ℕ) (text : List ℕ) → text ≡ [] → IsNumberUpTo greatest text → ⊥
 no_number greatest text e number = let some = number.0.not_empty in let none : length text ≡ 0 = ap length e in absurd (omega (arith, some, none))
 
-one_kind : (letter day time : List ℕ) (a b : CycleType) → SpellsKind letter day time a → SpellsKind letter day time b → a ≡ b
+one_kind : (letter day time : List ℕ) (a b : CycleType) → SpellsType letter day time a → SpellsType letter day time b → a ≡ b
 one_kind letter day time (Normal c) (Normal d) p q = ap Normal (one_deadline day time c d p.1 q.1)
 one_kind letter day time (Normal c) (Negative None) p q = absurd (letters_apart 78 88 (λ e. omega (arith, e)) letter p.0 q.0)
 one_kind letter day time (Normal c) (Negative (Some d)) p q = absurd (letters_apart 78 88 (λ e. omega (arith, e)) letter p.0 q.0)
@@ -213,18 +214,18 @@ abbrev cycle_with : List ℕ → CycleType → List ℕ → Rule → List ℤ �
 cycle_with name kind period rule offsets in_effect out_effect ia =
     record { name = name; kind = kind; period = period; rule = rule; offsets = offsets; in_effect = in_effect; out_effect = out_effect; ia = ia }
 
-one_cycle : (row : List (List ℕ)) (a b : RunCycle) → SpellsRunCycle row a → SpellsRunCycle row b → a ≡ b
+one_cycle : (row : Record) (a b : RunCycle) → SpellsRunCycle row a → SpellsRunCycle row b → a ≡ b
 one_cycle row a b p q =
     ap (λ x. cycle_with x a.kind a.period a.rule a.offsets a.in_effect a.out_effect a.ia) (p.name ∙ sym q.name)
-    ∙ ap (λ x. cycle_with b.name x a.period a.rule a.offsets a.in_effect a.out_effect a.ia) (one_kind (field row 2) (field row 9) (field row 10) a.kind b.kind p.kind q.kind)
+    ∙ ap (λ x. cycle_with b.name x a.period a.rule a.offsets a.in_effect a.out_effect a.ia) (one_kind (field row CYCLE_TYPE) (field row CYCLE_DEADLINE_DAY) (field row CYCLE_DEADLINE_TIME) a.kind b.kind p.kind q.kind)
     ∙ ap (λ x. cycle_with b.name b.kind x a.rule a.offsets a.in_effect a.out_effect a.ia) (p.period ∙ sym q.period)
-    ∙ ap (λ x. cycle_with b.name b.kind b.period x a.offsets a.in_effect a.out_effect a.ia) (one_rule a.rule b.rule (field row 4) p.rule q.rule)
+    ∙ ap (λ x. cycle_with b.name b.kind b.period x a.offsets a.in_effect a.out_effect a.ia) (one_rule a.rule b.rule (field row CYCLE_RULE) p.rule q.rule)
     ∙ ap (λ x. cycle_with b.name b.kind b.period b.rule x a.in_effect a.out_effect a.ia) (p.offsets.values ∙ sym q.offsets.values)
-    ∙ ap (λ x. cycle_with b.name b.kind b.period b.rule b.offsets x a.out_effect a.ia) (SpellsDay-one_day (field row 6) a.in_effect b.in_effect p.in_effect q.in_effect)
-    ∙ ap (λ x. cycle_with b.name b.kind b.period b.rule b.offsets b.in_effect x a.ia) (one_end (field row 7) a.out_effect b.out_effect p.out_effect q.out_effect)
-    ∙ ap (λ x. cycle_with b.name b.kind b.period b.rule b.offsets b.in_effect b.out_effect x) (SpellsMinute-one_minute (field row 8) a.ia b.ia p.ia q.ia)
+    ∙ ap (λ x. cycle_with b.name b.kind b.period b.rule b.offsets x a.out_effect a.ia) (SpellsDay-one_day (field row CYCLE_IN_EFFECT) a.in_effect b.in_effect p.in_effect q.in_effect)
+    ∙ ap (λ x. cycle_with b.name b.kind b.period b.rule b.offsets b.in_effect x a.ia) (one_end (field row CYCLE_OUT_EFFECT) a.out_effect b.out_effect p.out_effect q.out_effect)
+    ∙ ap (λ x. cycle_with b.name b.kind b.period b.rule b.offsets b.in_effect b.out_effect x) (SpellsMinute-one_minute (field row CYCLE_IA) a.ia b.ia p.ia q.ia)
 
-one_cycles : (xs ys : List RunCycle) (rows : List (List (List ℕ))) → AreRunCyclesOf xs rows → AreRunCyclesOf ys rows → xs ≡ ys
+one_cycles : (xs ys : List RunCycle) (rows : Records) → AreRunCyclesOf xs rows → AreRunCyclesOf ys rows → xs ≡ ys
 one_cycles xs ys rows p q = same_rising (λ c. c.name) xs ys p.rising q.rising (into xs ys p q) (into ys xs q p)
   where
     into : (us vs : List RunCycle) → AreRunCyclesOf us rows → AreRunCyclesOf vs rows → (c : RunCycle) → Contains us c → Contains vs c
@@ -251,70 +252,70 @@ Contains-filter p [] x passes (k, lt, is) = absurd (omega (arith, lt))
 Contains-filter p (y ∷ ys) x passes has = kept_of p y ys x passes (Contains-filter p ys x passes) (behind y ys x has)
 
 -- a record is about the name
-abbrev IsOf : List ℕ → List (List ℕ) → Type 0
-IsOf name row = pointwise nat_eq (field row 0) name ≡ true
+abbrev IsOf : List ℕ → Record → Type 0
+IsOf name row = pointwise nat_eq (field row NAME) name ≡ true
 
-abbrev AreApart : List ℕ → List (List ℕ) → List (List ℕ) → Type 0
-AreApart name r s = IsOf name r → IsOf name s → field r 1 ≢ field s 1
+abbrev AreApart : List ℕ → Record → Record → Type 0
+AreApart name r s = IsOf name r → IsOf name s → field r CALENDAR_ENTRY ≢ field s CALENDAR_ENTRY
 
 -- good records of one calendar have different entries
-rows_apart : (rows : List (List (List ℕ))) (name : List ℕ) → AllGood (FitsKind 3 FitsCalendar) rows → AllPairs (AreApart name) rows
+rows_apart : (rows : Records) (name : List ℕ) → AllGood (FitsKind 3 FitsCalendar) rows → AllPairs (AreApart name) rows
 rows_apart rows name good i j d lt within of_first of_second same =
     let row = get_or rows j [] in
     let earlier = get_or (take j rows) i d in
-    let fits : FitsCalendar (records_of (field row 0) (take j rows)) row = (good j within).2 in
+    let fits : FitsCalendar (records_of (field row NAME) (take j rows)) row = (good j within).2 in
     let here : get_or rows j d ≡ row = get_or_default rows j d [] within in
     let there : earlier ≡ get_or rows i d = get_or-take j rows i d lt in
     let short : i < length (take j rows) = omega (arith, length-take j rows, lt, within) in
-    let named : field earlier 0 ≡ field row 0 = ap (λ r. field r 0) there ∙ same_name (field (get_or rows i d) 0) name of_first ∙ sym (same_name (field (get_or rows j d) 0) name of_second) ∙ ap (λ r. field r 0) here in
-    let about : IsOf (field row 0) earlier = subst (λ n. pointwise nat_eq (field earlier 0) n ≡ true) named (name_itself (field earlier 0)) in
-    fits.new earlier (Contains-filter (λ r. pointwise nat_eq (field r 0) (field row 0)) (take j rows) earlier about (Contains-get_or (take j rows) i d short))
-    (ap (λ r. field r 1) there ∙ same ∙ ap (λ r. field r 1) here)
+    let named : field earlier NAME ≡ field row NAME = ap (λ r. field r NAME) there ∙ same_name (field (get_or rows i d) NAME) name of_first ∙ sym (same_name (field (get_or rows j d) NAME) name of_second) ∙ ap (λ r. field r NAME) here in
+    let about : IsOf (field row NAME) earlier = subst (λ n. pointwise nat_eq (field earlier NAME) n ≡ true) named (name_itself (field earlier NAME)) in
+    fits.new earlier (Contains-filter (λ r. pointwise nat_eq (field r NAME) (field row NAME)) (take j rows) earlier about (Contains-get_or (take j rows) i d short))
+    (ap (λ r. field r CALENDAR_ENTRY) there ∙ same ∙ ap (λ r. field r CALENDAR_ENTRY) here)
 
 -- one record of a calendar is about an entry at most
-one_record : (rows : List (List (List ℕ))) (name : List ℕ) → AllGood (FitsKind 3 FitsCalendar) rows → (r s : List (List ℕ))
-    → Contains (records_of name rows) r → Contains (records_of name rows) s → field r 1 ≡ field s 1 → r ≡ s
+one_record : (rows : Records) (name : List ℕ) → AllGood (FitsKind 3 FitsCalendar) rows → (r s : Record)
+    → Contains (records_of name rows) r → Contains (records_of name rows) s → field r CALENDAR_ENTRY ≡ field s CALENDAR_ENTRY → r ≡ s
 one_record rows name good r s (i, li, ei) (j, lj, ej) same = at (three i j)
   where
-    own : List (List (List ℕ))
+    own : Records
     own = records_of name rows
 
     second : get_or own j r ≡ s
     second = get_or_default own j r s lj ∙ ej
 
     pairs : AllPairs (AreApart name) own
-    pairs = AllPairs-filter (AreApart name) (λ row. pointwise nat_eq (field row 0) name) rows (rows_apart rows name good)
+    pairs = AllPairs-filter (AreApart name) (λ row. pointwise nat_eq (field row NAME) name) rows (rows_apart rows name good)
 
     of : All (IsOf name) own
-    of = filter_passes (λ row. pointwise nat_eq (field row 0) name) rows
+    of = filter_passes (λ row. pointwise nat_eq (field row NAME) name) rows
 
     at : (i < j) ⊎ ((i ≡ j) ⊎ (j < i)) → r ≡ s
-    at (inl lt) = absurd (pairs i j r lt lj (of i r li) (of j r lj) (ap (λ x. field x 1) ei ∙ same ∙ sym (ap (λ x. field x 1) second)))
+    at (inl lt) = absurd (pairs i j r lt lj (of i r li) (of j r lj) (ap (λ x. field x CALENDAR_ENTRY) ei ∙ same ∙ sym (ap (λ x. field x CALENDAR_ENTRY) second)))
     at (inr (inl e)) = sym ei ∙ ap (λ n. get_or own n r) e ∙ second
-    at (inr (inr lt)) = absurd (pairs j i r lt li (of j r lj) (of i r li) (ap (λ x. field x 1) second ∙ sym same ∙ sym (ap (λ x. field x 1) ei)))
+    at (inr (inr lt)) = absurd (pairs j i r lt li (of j r lj) (of i r li) (ap (λ x. field x CALENDAR_ENTRY) second ∙ sym same ∙ sym (ap (λ x. field x CALENDAR_ENTRY) ei)))
 
-one_listed : (listed other : Option DayStatus) (IsAbout : List ℕ → Type 0) (rows : List (List (List ℕ)))
-    → ((r s : List (List ℕ)) → Contains rows r → Contains rows s → IsAbout (field r 1) → IsAbout (field s 1) → r ≡ s)
+one_listed : (listed other : Option DayStatus) (IsAbout : List ℕ → Type 0) (rows : Records)
+    → ((r s : Record) → Contains rows r → Contains rows s → IsAbout (field r CALENDAR_ENTRY) → IsAbout (field s CALENDAR_ENTRY) → r ≡ s)
     → IsListedBy listed IsAbout rows → IsListedBy other IsAbout rows → listed ≡ other
 one_listed None None IsAbout rows one p q = refl
 one_listed None (Some t) IsAbout rows one p q = absurd (p q.0 q.1 q.2)
 one_listed (Some s) None IsAbout rows one p q = absurd (q p.0 p.1 p.2)
-one_listed (Some s) (Some t) IsAbout rows one p q = ap Some (p.3 ∙ ap (λ r. status_of (field r 2)) (one p.0 q.0 p.1 q.1 p.2 q.2) ∙ sym q.3)
+one_listed (Some s) (Some t) IsAbout rows one p q = ap Some (p.3 ∙ ap (λ r. status_of (field r CALENDAR_STATUS)) (one p.0 q.0 p.1 q.1 p.2 q.2) ∙ sym q.3)
 
-one_calendar : (rows : List (List (List ℕ))) (name : List ℕ) → AllGood (FitsKind 3 FitsCalendar) rows → (c d : CalendarEntries)
+one_calendar : (rows : Records) (name : List ℕ) → AllGood (FitsKind 3 FitsCalendar) rows → (c d : CalendarEntries)
     → IsCalendarOf c (records_of name rows) → IsCalendarOf d (records_of name rows) → c ≡ d
 one_calendar rows name good c d p q = ap (λ w. with_parts w c.dates) week ∙ ap (λ m. with_parts d.weekdays m) dates
   where
     with_parts : List (Option DayStatus) → map.FinMap nat_cmp DayStatus → CalendarEntries
     with_parts w m = record { weekdays = w; dates = m }
 
-    own : List (List (List ℕ))
+    own : Records
     own = records_of name rows
 
     on_weekday : (w : ℕ) → w < 7 → slice_index_or c.weekdays w None ≡ slice_index_or d.weekdays w None
     on_weekday w lt =
         one_listed (slice_index_or c.weekdays w None) (slice_index_or d.weekdays w None) (λ text. IsWeekdayText text w) own
-        (λ r s a b about other. one_record rows name good r s a b (weekday-one_text w (field r 1) (field s 1) about other)) (p.weekdays w lt) (q.weekdays w lt)
+        (λ r s a b about other. one_record rows name good r s a b (weekday-one_text w (field r CALENDAR_ENTRY) (field s CALENDAR_ENTRY) about other)) (p.weekdays w lt) (q.weekdays w lt)
 
     week : c.weekdays ≡ d.weekdays
     week = same_lists c.weekdays d.weekdays (p.week ∙ sym q.week) (λ w x lt.
@@ -325,22 +326,22 @@ one_calendar rows name good c d p q = ap (λ w. with_parts w c.dates) week ∙ a
     dates : c.dates ≡ d.dates
     dates = same_map nat_cmp_total nat_cmp-IsAntisymmetric c.dates d.dates (λ day.
         one_listed (map.get c.dates day) (map.get d.dates day) (λ text. SpellsDay text day) own
-        (λ r s a b about other. one_record rows name good r s a b (SpellsDay-one_text (field r 1) (field s 1) day about other)) (p.dates day) (q.dates day))
+        (λ r s a b about other. one_record rows name good r s a b (SpellsDay-one_text (field r CALENDAR_ENTRY) (field s CALENDAR_ENTRY) day about other)) (p.dates day) (q.dates day))
 
 -- ---- definitions by name
 
-one_defined : {D : Type 0} (IsMadeOf : D → List (List (List ℕ)) → Type 0) (rows : List (List (List ℕ))) (o p : Option D)
+one_defined : {D : Type 0} (IsMadeOf : D → Records → Type 0) (rows : Records) (o p : Option D)
     → ((d e : D) → IsMadeOf d rows → IsMadeOf e rows → d ≡ e) → IsDefinedBy IsMadeOf o rows → IsDefinedBy IsMadeOf p rows → o ≡ p
 one_defined IsMadeOf rows None None one a b = refl
 one_defined IsMadeOf rows None (Some e) one a b = absurd (b.0 a)
 one_defined IsMadeOf rows (Some d) None one a b = absurd (a.0 b)
 one_defined IsMadeOf rows (Some d) (Some e) one a b = ap Some (one d e a.1 b.1)
 
-one_given : {D : Type 0} (IsMadeOf : D → List (List (List ℕ)) → Type 0) (rows : List (List (List ℕ))) (m n : Definitions D)
+one_given : {D : Type 0} (IsMadeOf : D → Records → Type 0) (rows : Records) (m n : Definitions D)
     → ((name : List ℕ) (d e : D) → IsMadeOf d (records_of name rows) → IsMadeOf e (records_of name rows) → d ≡ e) → AreGivenBy IsMadeOf m rows → AreGivenBy IsMadeOf n rows → m ≡ n
 one_given IsMadeOf rows m n one a b = same_by_name m n (λ name. one_defined IsMadeOf (records_of name rows) (map.get m name) (map.get n name) (one name) (a name) (b name))
 
-one_gives : {D : Type 0} (of : Definitions D → Block) (fields : ℕ) (FitsName : List (List (List ℕ)) → List (List ℕ) → Type 0) (IsMadeOf : D → List (List (List ℕ)) → Type 0) (rows : List (List (List ℕ))) (a b : Block)
+one_gives : {D : Type 0} (of : Definitions D → Block) (fields : ℕ) (FitsName : Records → Record → Type 0) (IsMadeOf : D → Records → Type 0) (rows : Records) (a b : Block)
     → (AllGood (FitsKind fields FitsName) rows → (name : List ℕ) (d e : D) → IsMadeOf d (records_of name rows) → IsMadeOf e (records_of name rows) → d ≡ e)
     → Gives of fields FitsName IsMadeOf rows a → Gives of fields FitsName IsMadeOf rows b → a ≡ b
 one_gives of fields FitsName IsMadeOf rows a b one p q = p.2 ∙ ap of (one_given IsMadeOf rows p.1 q.1 (one p.0) p.3 q.3) ∙ sym q.2

@@ -11,6 +11,8 @@ use Rattle.work_calendars.specs.Spelling.{SpellsDay}
 use Rattle.work_calendars.proofs.SpellingFacts.{SpellsDay-one_day, length-SpellsDay}
 use Rattle.app_definitions.specs.Fields.{field, SpellsOptionalDay}
 use Rattle.app_definitions.specs.Periods.{GivesEntry, GiveEntries, IsLaterThan, IsLater, FitsPeriod}
+use Rattle.app_definitions.specs.Records.{Record, Records}
+use Rattle.app_definitions.specs.declared.columns.TheConstants.{PERIOD_TYPE, PERIOD_ORIGIN, PERIOD_LENGTH}
 
 -- a field spells one end or none
 pub one_end : (text : List ℕ) (a b : Option ℕ) → SpellsOptionalDay text a → SpellsOptionalDay text b → a ≡ b
@@ -20,14 +22,14 @@ one_end text (Some e) None p q = let ten = length-SpellsDay text e p in let none
 one_end text (Some d) (Some e) p q = ap Some (SpellsDay-one_day text d e p q)
 
 -- the end that a record spells is not before its origin, where it gives an entry
-pub entry-ends : (row : List (List ℕ)) (origin : ℕ) (end : Option ℕ) → SpellsDay (field row 2) origin → SpellsOptionalDay (field row 3) end
+pub entry-ends : (row : Record) (origin : ℕ) (end : Option ℕ) → SpellsDay (field row PERIOD_ORIGIN) origin → SpellsOptionalDay (field row PERIOD_LENGTH) end
     → (e : Entry) → GivesEntry row e → IfSome end (λ last. origin ≤ last)
 entry-ends row origin end a b e gives =
-    let same_origin : e.0 ≡ origin = SpellsDay-one_day (field row 2) e.0 origin gives.0 a in
-    let same_end : e.1 ≡ end = one_end (field row 3) e.1 end gives.1 b in
+    let same_origin : e.0 ≡ origin = SpellsDay-one_day (field row PERIOD_ORIGIN) e.0 origin gives.0 a in
+    let same_end : e.1 ≡ end = one_end (field row PERIOD_LENGTH) e.1 end gives.1 b in
     rw (← same_origin, ← same_end) gives.2
 
-either_end : (before : List (List (List ℕ))) (entries : List Entry) (row : List (List ℕ)) (e : Entry) (k : ℕ) → length before ≡ length entries
+either_end : (before : Records) (entries : List Entry) (row : Record) (e : Entry) (k : ℕ) → length before ≡ length entries
     → (k < length before → GivesEntry (slice_index_or before k []) (slice_index_or entries k (0, None))) → GivesEntry row e
     → k < length (before ++ row ∷ []) → (k < length before) ⊎ (length before ≤ k)
     → GivesEntry (slice_index_or (before ++ row ∷ []) k []) (slice_index_or (entries ++ e ∷ []) k (0, None))
@@ -42,7 +44,7 @@ either_end before entries row e k same each gives h (inr ge) =
     rw (there, here) gives
 
 -- a record and its entry more
-pub GiveEntries-push : (before : List (List (List ℕ))) (entries : List Entry) (row : List (List ℕ)) (e : Entry)
+pub GiveEntries-push : (before : Records) (entries : List Entry) (row : Record) (e : Entry)
     → GiveEntries before entries → GivesEntry row e → GiveEntries (before ++ row ∷ []) (entries ++ e ∷ [])
 GiveEntries-push before entries row e all gives =
     record {
@@ -51,11 +53,11 @@ GiveEntries-push before entries row e all gives =
     }
 
 -- the entry of one record
-pub GiveEntries-one : (row : List (List ℕ)) (e : Entry) → GivesEntry row e → GiveEntries (row ∷ []) (e ∷ [])
+pub GiveEntries-one : (row : Record) (e : Entry) → GivesEntry row e → GiveEntries (row ∷ []) (e ∷ [])
 GiveEntries-one row e gives = GiveEntries-push [] [] row e (record { same_length = refl; each = λ k h. absurd (omega (arith, h)) }) gives
 
 -- later than the last entry is later than the last record
-pub later-records : (first : List (List ℕ)) (more : List (List (List ℕ))) (entries : List Entry) (e : Entry)
+pub later-records : (first : Record) (more : Records) (entries : List Entry) (e : Entry)
     → GiveEntries (first ∷ more) entries → IsLater entries e ↔ IsLaterThan (first ∷ more) e.0
 later-records first more entries e all =
     let some : 0 < length entries = omega (arith, all.same_length) in
@@ -64,20 +66,20 @@ later-records first more entries e all =
     let at2 : length (first ∷ more) - 1 ≡ length more = omega arith in (
       λ later origin spelled.
           let h = rw at at (later some) in
-          let same = SpellsDay-one_day (field (slice_index_or (first ∷ more) (length more) []) 2) origin (slice_index_or entries (length more) (0, None)).0 (rw at2 at spelled) last.0 in
+          let same = SpellsDay-one_day (field (slice_index_or (first ∷ more) (length more) []) PERIOD_ORIGIN) origin (slice_index_or entries (length more) (0, None)).0 (rw at2 at spelled) last.0 in
           omega (arith, h, same),
       λ later _. rw at (later (slice_index_or entries (length more) (0, None)).0 (rw at2 last.0)),
     )
 
 -- a further record is good exactly where its entry is later
-pub goes_on-taken : (before : List (List (List ℕ))) (row : List (List ℕ)) (entries : List Entry) (e : Entry) (b : Bool)
-    → before ≢ [] → field (slice_index_or before 0 []) 1 ≡ codes "N" → field row 1 ≡ codes "N" → GiveEntries before entries → GivesEntry row e
+pub goes_on-taken : (before : Records) (row : Record) (entries : List Entry) (e : Entry) (b : Bool)
+    → before ≢ [] → field (slice_index_or before 0 []) PERIOD_TYPE ≡ codes "N" → field row PERIOD_TYPE ≡ codes "N" → GiveEntries before entries → GivesEntry row e
     → (IsTrue b ↔ IsLater entries e) → IsTrue b ↔ FitsPeriod before row
 goes_on-taken [] row entries e b some first n all gives told = absurd (some refl)
 goes_on-taken (first ∷ more) row entries e b some is n all gives told =
     let later = later-records first more entries e all in (
       λ yes. (is, n, (e, gives, later.0 (told.0 yes))),
-      λ fits. told.1 (later.1 (λ origin spelled. let h = fits.2.2 origin spelled in let same = SpellsDay-one_day (field row 2) fits.2.0.0 e.0 fits.2.1.0 gives.0 in omega (arith, h, same))),
+      λ fits. told.1 (later.1 (λ origin spelled. let h = fits.2.2 origin spelled in let same = SpellsDay-one_day (field row PERIOD_ORIGIN) fits.2.0.0 e.0 fits.2.1.0 gives.0 in omega (arith, h, same))),
     )
 
 rising_at : (entries : List Entry) (e : Entry) (k : ℕ) (d : Entry) → HasRisingOrigins entries → IsLater entries e → k + 1 < length entries + 1 → (k + 1 < length entries) ⊎ (length entries ≤ k + 1)
@@ -106,7 +108,7 @@ pub IsSoundList-one : (e : Entry) → EndsFromOrigin e → IsSoundList (e ∷ []
 IsSoundList-one e ends = (omega arith, All-push EndsFromOrigin [] e (λ k d h. absurd (omega (arith, h))) ends, λ k d h. absurd (omega (arith, h)))
 
 -- the first record stays the first
-pub first-kept : (before : List (List (List ℕ))) (row : List (List ℕ)) → before ≢ [] → slice_index_or (before ++ row ∷ []) 0 [] ≡ slice_index_or before 0 []
+pub first-kept : (before : Records) (row : Record) → before ≢ [] → slice_index_or (before ++ row ∷ []) 0 [] ≡ slice_index_or before 0 []
 first-kept [] row some = absurd (some refl)
 first-kept (first ∷ more) row some = refl
 

@@ -16,7 +16,7 @@ use Rattle.csv.specs.declared.reader.Reader.{Reader}
 use Rattle.csv.specs.Reading.{Reached, records_from, records, default_config, strip_bom, is_bom, NextIs, ReadsNext, TookRecord, ExplainsRead, source_of, pending_of}
 use Rattle.csv.specs.declared.error.ErrorKind.{ErrorKind}
 use Rattle.csv.specs.declared.error.ErrorKind.TheVariants as kind
-use Rattle.app_definitions.specs.Records.{IsGoodAt, AllGood, FirstFaulty, IsFirstFaulty, fault_of_kind}
+use Rattle.app_definitions.specs.Records.{Record, Records, IsGoodAt, AllGood, FirstFaulty, IsFirstFaulty, fault_of_kind}
 
 -- a step that ends a record leaves the machine between two records
 EndsBetween : State × Action → Type 0
@@ -102,7 +102,7 @@ next_record-takes cfg s (c ∷ rest) r b e =
     (k.0, omega (arith, k.1))
 
 -- the records reached take a byte each, and leave the machine between two records
-pub reached-takes : (cfg : Config) (s : State) (xs : List ℕ) (rows : List (List (List ℕ))) (s2 : State) (ys : List ℕ) → ends_at_end s ≡ false
+pub reached-takes : (cfg : Config) (s : State) (xs : List ℕ) (rows : Records) (s2 : State) (ys : List ℕ) → ends_at_end s ≡ false
     → Reached cfg s xs rows s2 ys → (ends_at_end s2 ≡ false) × (length rows + length ys ≤ length xs)
 unfolding Reached
 reached-takes cfg s xs [] s2 ys b h = (rw (← h.0) b, rw h.1 (omega arith))
@@ -112,7 +112,7 @@ reached-takes cfg s xs (r ∷ rs) s2 ys b h =
     (m.0, omega (arith, m.1, t.1))
 
 -- the records of a text from where some were reached
-pub reached-records : (cfg : Config) (n : ℕ) (s : State) (xs : List ℕ) (rows : List (List (List ℕ))) (s2 : State) (ys : List ℕ)
+pub reached-records : (cfg : Config) (n : ℕ) (s : State) (xs : List ℕ) (rows : Records) (s2 : State) (ys : List ℕ)
     → Reached cfg s xs rows s2 ys → records_from cfg (length rows + n) s xs ≡ rows ++ records_from cfg n s2 ys
 unfolding Reached records_from
 reached-records cfg n s xs [] s2 ys h = rw (zero-add, h.0, h.1) refl
@@ -120,11 +120,11 @@ reached-records cfg n s xs (r ∷ rs) s2 ys h =
     rw (suc-add, h.1, h.2, reached-records cfg n h.0.1 h.0.2 rs s2 ys h.3) refl
 
 -- the turns that are left after the records reached
-turns-left : (xs : List ℕ) (rows : List (List (List ℕ))) → length rows ≤ length xs → (n : ℕ) × (length xs + 1 ≡ length rows + suc n)
+turns-left : (xs : List ℕ) (rows : Records) → length rows ≤ length xs → (n : ℕ) × (length xs + 1 ≡ length rows + suc n)
 turns-left xs rows h = (length xs - length rows, omega arith)
 
 -- where no record comes after those reached, they are all the records of the text
-pub records-all : (cfg : Config) (xs : List ℕ) (rows : List (List (List ℕ))) (s2 : State) (ys : List ℕ)
+pub records-all : (cfg : Config) (xs : List ℕ) (rows : Records) (s2 : State) (ys : List ℕ)
     → Reached cfg st.StartRecord xs rows s2 ys → next_record cfg s2 [] [] ys ≡ None → records cfg xs ≡ rows
 unfolding records_from
 records-all cfg xs rows s2 ys h e =
@@ -133,9 +133,9 @@ records-all cfg xs rows s2 ys h e =
     rw (n.1, reached-records cfg (suc n.0) st.StartRecord xs rows s2 ys h, e) (append-nil rows)
 
 -- where a record comes after those reached, it is the next of the text's
-pub records-more : (cfg : Config) (xs : List ℕ) (rows : List (List (List ℕ))) (s2 : State) (ys : List ℕ) (p : Read)
+pub records-more : (cfg : Config) (xs : List ℕ) (rows : Records) (s2 : State) (ys : List ℕ) (p : Read)
     → Reached cfg st.StartRecord xs rows s2 ys → next_record cfg s2 [] [] ys ≡ Some p
-    → (later : List (List (List ℕ))) × (records cfg xs ≡ rows ++ (p.0 ∷ later))
+    → (later : Records) × (records cfg xs ≡ rows ++ (p.0 ∷ later))
 unfolding records_from
 records-more cfg xs rows s2 ys p h e =
     let t = reached-takes cfg st.StartRecord xs rows s2 ys refl h in
@@ -143,22 +143,22 @@ records-more cfg xs rows s2 ys p h e =
     (records_from cfg n.0 p.1 p.2, rw (n.1, reached-records cfg (suc n.0) st.StartRecord xs rows s2 ys h, e) refl)
 
 -- a record's goodness reads nothing after it
-pub IsGoodAt-append : (Fits : List (List (List ℕ)) → List (List ℕ) → Type 0) (rows more : List (List (List ℕ))) (k : ℕ) → k < length rows
+pub IsGoodAt-append : (Fits : Records → Record → Type 0) (rows more : Records) (k : ℕ) → k < length rows
     → IsGoodAt Fits rows k → IsGoodAt Fits (rows ++ more) k
 IsGoodAt-append Fits rows more k h good =
     let le : k ≤ length rows = omega arith in
     rw (take-append-le k rows more le, get_or_append_left rows more [] k h) good
 
-pub IsGoodAt-seam : (Fits : List (List (List ℕ)) → List (List ℕ) → Type 0) (rows : List (List (List ℕ))) (r : List (List ℕ)) (more : List (List (List ℕ)))
+pub IsGoodAt-seam : (Fits : Records → Record → Type 0) (rows : Records) (r : Record) (more : Records)
     → Fits rows r → IsGoodAt Fits (rows ++ r ∷ more) (length rows)
 IsGoodAt-seam Fits rows r more good = rw (take-append_seam rows (r ∷ more), get_or-append_seam rows r more []) good
 
-pub seam-fits : (Fits : List (List (List ℕ)) → List (List ℕ) → Type 0) (rows : List (List (List ℕ))) (r : List (List ℕ)) (more : List (List (List ℕ)))
+pub seam-fits : (Fits : Records → Record → Type 0) (rows : Records) (r : Record) (more : Records)
     → IsGoodAt Fits (rows ++ r ∷ more) (length rows) → Fits rows r
 seam-fits Fits rows r more good = rw (take-append_seam rows (r ∷ more), get_or-append_seam rows r more []) at good
 
 -- one more good record
-pub AllGood-more : (Fits : List (List (List ℕ)) → List (List ℕ) → Type 0) (rows : List (List (List ℕ))) (r : List (List ℕ))
+pub AllGood-more : (Fits : Records → Record → Type 0) (rows : Records) (r : Record)
     → AllGood Fits rows → Fits rows r → AllGood Fits (rows ++ r ∷ [])
 AllGood-more Fits rows r all good k h =
     elim (cases_lt k (length rows)) [
@@ -170,7 +170,7 @@ AllGood-more Fits rows r all good k h =
     same k n a b c = omega arith
 
 -- the record after good ones is the first faulty one
-pub first_faulty-at : (Fits : List (List (List ℕ)) → List (List ℕ) → Type 0) (all rows : List (List (List ℕ))) (r : List (List ℕ)) (later : List (List (List ℕ))) (number : ℕ)
+pub first_faulty-at : (Fits : Records → Record → Type 0) (all rows : Records) (r : Record) (later : Records) (number : ℕ)
     → all ≡ rows ++ r ∷ later → AllGood Fits rows → ¬ (Fits rows r) → number ≡ length rows + 1 → FirstFaulty Fits all number
 first_faulty-at Fits all rows r later number e good bad n =
     let at : number - 1 ≡ length rows = omega (arith, n) in
@@ -187,8 +187,8 @@ took-next : (o : Option Read) (f : List (List ℕ)) (s : State) (z : List ℕ) �
 took-next None f s z n = absurd (false≢true (sym n))
 took-next (Some p) f s z n = (p, refl, sym n.1)
 
-took-more : (cfg : Config) (xs : List ℕ) (rows : List (List (List ℕ))) (s s2 : State) (y : List ℕ) (k : Option (List ℕ)) (f : List (List ℕ))
-    → Reached cfg st.StartRecord xs rows s y → ReadsNext cfg s (Some y) k true f s2 → (later : List (List (List ℕ))) × (records cfg xs ≡ rows ++ f ∷ later)
+took-more : (cfg : Config) (xs : List ℕ) (rows : Records) (s s2 : State) (y : List ℕ) (k : Option (List ℕ)) (f : List (List ℕ))
+    → Reached cfg st.StartRecord xs rows s y → ReadsNext cfg s (Some y) k true f s2 → (later : Records) × (records cfg xs ≡ rows ++ f ∷ later)
 took-more cfg xs rows s s2 y None f h r = absurd r
 took-more cfg xs rows s s2 y (Some z) f h r =
     let n = took-next _ f s2 z r in
@@ -196,9 +196,9 @@ took-more cfg xs rows s s2 y (Some z) f h r =
     (m.0, m.1 ∙ ap (λ (x : List (List ℕ)). rows ++ x ∷ m.0) n.2)
 
 -- the same of a reader
-pub reader-took : {R : Type 0} (rem : R → Option (List ℕ)) (a b : Reader R) (f : List (List ℕ)) (cfg : Config) (xs y : List ℕ) (rows : List (List (List ℕ)))
+pub reader-took : {R : Type 0} (rem : R → Option (List ℕ)) (a b : Reader R) (f : List (List ℕ)) (cfg : Config) (xs y : List ℕ) (rows : Records)
     → a.config ≡ cfg → source_of rem a ≡ Some y → Reached cfg st.StartRecord xs rows a.state y → TookRecord rem a b f
-    → (later : List (List (List ℕ))) × (records cfg xs ≡ rows ++ f ∷ later)
+    → (later : Records) × (records cfg xs ≡ rows ++ f ∷ later)
 reader-took rem a b f cfg xs y rows ec ex h r = took-more cfg xs rows a.state b.state y (pending_of (rem b.rdr) b) f h (rw (ec, ex) at r)
 
 -- a byte order mark is no part of the text
@@ -211,15 +211,15 @@ length-strip_bom (a ∷ b ∷ c ∷ rest) =
     elim (is_bom a b c) as (λ v. length (if v then rest else a ∷ b ∷ c ∷ rest) ≤ length (a ∷ b ∷ c ∷ rest)) [ true ↦ omega arith | false ↦ omega arith ]
 
 -- a short text has few records
-pub few-records : (text : List ℕ) (rows : List (List (List ℕ))) (s : State) (y : List ℕ) (limit : ℕ)
+pub few-records : (text : List ℕ) (rows : Records) (s : State) (y : List ℕ) (limit : ℕ)
     → Reached default_config st.StartRecord (strip_bom text) rows s y → length text ≤ limit → length rows ≤ limit
 few-records text rows s y limit h le =
     let t = reached-takes default_config st.StartRecord (strip_bom text) rows s y refl h in omega (arith, t.1, length-strip_bom text)
 
 -- an error at the record after good ones tells it as the first faulty one, or is want of memory
-pub error-faulty : {R : Type 0} (rem : R → Option (List ℕ)) (a b : Reader R) (why : ErrorKind) (xs y : List ℕ) (rows : List (List (List ℕ)))
-    (Fits : List (List (List ℕ)) → List (List ℕ) → Type 0) (fields number : ℕ)
-    → ((before : List (List (List ℕ))) (row : List (List ℕ)) → Fits before row → length row ≡ fields)
+pub error-faulty : {R : Type 0} (rem : R → Option (List ℕ)) (a b : Reader R) (why : ErrorKind) (xs y : List ℕ) (rows : Records)
+    (Fits : Records → Record → Type 0) (fields number : ℕ)
+    → ((before : Records) (row : Record) → Fits before row → length row ≡ fields)
     → a.config ≡ default_config → source_of rem a ≡ Some y → Reached default_config st.StartRecord xs rows a.state y
     → IfSome a.expected (λ n. n ≡ fields) → AllGood Fits rows → number ≡ length rows + 1 → ExplainsRead rem a b false why
     → IsFirstFaulty Fits (records default_config xs) (fault_of_kind why number)

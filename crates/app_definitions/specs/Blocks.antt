@@ -10,7 +10,7 @@ use Rattle.app_definitions.specs.CycleRecords.{FitsRunCycle, AreRunCyclesOf}
 use Rattle.app_definitions.specs.Options.{AreOptionsOf, IsFaultyOptions}
 use Rattle.app_definitions.specs.Periods.{FitsPeriod, IsPeriodOf}
 use Rattle.app_definitions.specs.Predecessors.{FitsPredecessors, ArePredecessorsOf}
-use Rattle.app_definitions.specs.Records.{block_records, AllGood, FirstFaulty}
+use Rattle.app_definitions.specs.Records.{Record, Records, block_records, AllGood, FirstFaulty}
 use Rattle.app_definitions.specs.declared.kinds.Block.{Block}
 use Rattle.app_definitions.specs.declared.kinds.Block.TheVariants as block
 use Rattle.app_definitions.specs.declared.kinds.Kind.{Kind}
@@ -18,28 +18,29 @@ use Rattle.app_definitions.specs.declared.kinds.Kind.TheVariants as kind
 use Rattle.app_definitions.specs.declared.options.Options.{Options}
 use Rattle.app_definitions.specs.declared.records.BlockFault.{BlockFault}
 use Rattle.app_definitions.specs.declared.records.BlockFault.TheVariants.{Faulty, Memory}
+use Rattle.app_definitions.specs.declared.columns.TheConstants.{APPLICATION_FIELDS, CALENDAR_FIELDS, PERIOD_FIELDS, PREDECESSOR_FIELDS, CYCLE_FIELDS}
 
 -- every record is good after those before it, and the block has the definitions that they give
-abbrev pub Gives : {D : Type 0} → (map.FinMap (slice_cmp nat_cmp) D → Block) → ℕ → (List (List (List ℕ)) → List (List ℕ) → Type 0) → (D → List (List (List ℕ)) → Type 0) → List (List (List ℕ)) → Block → Type 0
+abbrev pub Gives : {D : Type 0} → (map.FinMap (slice_cmp nat_cmp) D → Block) → ℕ → (Records → Record → Type 0) → (D → Records → Type 0) → Records → Block → Type 0
 Gives {D} of fields FitsName IsMadeOf rows b =
     AllGood (FitsKind fields FitsName) rows × (definitions : map.FinMap (slice_cmp nat_cmp) D) × (b ≡ of definitions) × AreGivenBy IsMadeOf definitions rows
 
 -- a text of that kind reads as the block
 abbrev pub ReadsAs : Kind → List ℕ → Block → Type 0
-ReadsAs kind.Applications text b = Gives block.Applications 3 FitsApplication IsApplicationOf (block_records text) b
-ReadsAs kind.Calendars text b = Gives block.Calendars 3 FitsCalendar IsCalendarOf (block_records text) b
-ReadsAs kind.Periods text b = Gives block.Periods 4 FitsPeriod IsPeriodOf (block_records text) b
-ReadsAs kind.Predecessors text b = Gives block.Predecessors 2 FitsPredecessors ArePredecessorsOf (block_records text) b
-ReadsAs kind.RunCycles text b = Gives block.RunCycles 11 FitsRunCycle AreRunCyclesOf (block_records text) b
+ReadsAs kind.Applications text b = Gives block.Applications APPLICATION_FIELDS FitsApplication IsApplicationOf (block_records text) b
+ReadsAs kind.Calendars text b = Gives block.Calendars CALENDAR_FIELDS FitsCalendar IsCalendarOf (block_records text) b
+ReadsAs kind.Periods text b = Gives block.Periods PERIOD_FIELDS FitsPeriod IsPeriodOf (block_records text) b
+ReadsAs kind.Predecessors text b = Gives block.Predecessors PREDECESSOR_FIELDS FitsPredecessors ArePredecessorsOf (block_records text) b
+ReadsAs kind.RunCycles text b = Gives block.RunCycles CYCLE_FIELDS FitsRunCycle AreRunCyclesOf (block_records text) b
 ReadsAs kind.Options text b = (o : Options) × (b ≡ block.Options o) × AreOptionsOf o text
 
 -- the record of that number is the first faulty one of a text of that kind
 abbrev pub IsFaultyAt : Kind → List ℕ → ℕ → Type 0
-IsFaultyAt kind.Applications text number = FirstFaulty (FitsKind 3 FitsApplication) (block_records text) number
-IsFaultyAt kind.Calendars text number = FirstFaulty (FitsKind 3 FitsCalendar) (block_records text) number
-IsFaultyAt kind.Periods text number = FirstFaulty (FitsKind 4 FitsPeriod) (block_records text) number
-IsFaultyAt kind.Predecessors text number = FirstFaulty (FitsKind 2 FitsPredecessors) (block_records text) number
-IsFaultyAt kind.RunCycles text number = FirstFaulty (FitsKind 11 FitsRunCycle) (block_records text) number
+IsFaultyAt kind.Applications text number = FirstFaulty (FitsKind APPLICATION_FIELDS FitsApplication) (block_records text) number
+IsFaultyAt kind.Calendars text number = FirstFaulty (FitsKind CALENDAR_FIELDS FitsCalendar) (block_records text) number
+IsFaultyAt kind.Periods text number = FirstFaulty (FitsKind PERIOD_FIELDS FitsPeriod) (block_records text) number
+IsFaultyAt kind.Predecessors text number = FirstFaulty (FitsKind PREDECESSOR_FIELDS FitsPredecessors) (block_records text) number
+IsFaultyAt kind.RunCycles text number = FirstFaulty (FitsKind CYCLE_FIELDS FitsRunCycle) (block_records text) number
 IsFaultyAt kind.Options text number = IsFaultyOptions text number
 
 -- a fault of a text of that kind: its first faulty record, or want of memory

@@ -8,29 +8,35 @@ use Rattle.std.specs.FinMap as map
 use Rattle.work_calendars.specs.Name.{IsName}
 use Rattle.app_definitions.specs.Fields.{field}
 use Rattle.app_definitions.specs.Rising.{AreRising}
+use Rattle.app_definitions.specs.Records.{Record, Records}
+use Rattle.app_definitions.specs.declared.columns.TheConstants.{NAME}
 
 -- the records about a name, which is their first field, in order
-abbrev pub records_of : List ℕ → List (List (List ℕ)) → List (List (List ℕ))
-records_of name rows = filter (λ row. pointwise nat_eq (field row 0) name) rows
+abbrev pub records_of : List ℕ → Records → Records
+records_of name rows = filter (λ row. pointwise nat_eq (field row NAME) name) rows
 
 -- a record of a kind whose records have that many fields is good after the records before it: it has so many, the first
 -- is a name, and the rest is good after the earlier records about that name
-abbrev pub FitsKind : ℕ → (List (List (List ℕ)) → List (List ℕ) → Type 0) → List (List (List ℕ)) → List (List ℕ) → Type 0
-FitsKind fields FitsName before row = (length row ≡ fields) × IsName (field row 0) × FitsName (records_of (field row 0) before) row
+abbrev pub FitsKind : ℕ → (Records → Record → Type 0) → Records → Record → Type 0
+FitsKind fields FitsName before row = (length row ≡ fields) × IsName (field row NAME) × FitsName (records_of (field row NAME) before) row
 
 -- the definition of a name is the one that these records about it make, and there is none where there is no record
-abbrev pub IsDefinedBy : {D : Type 0} → (D → List (List (List ℕ)) → Type 0) → Option D → List (List (List ℕ)) → Type 0
+abbrev pub IsDefinedBy : {D : Type 0} → (D → Records → Type 0) → Option D → Records → Type 0
 IsDefinedBy IsMadeOf None rows = rows ≡ []
 IsDefinedBy IsMadeOf (Some d) rows = (rows ≢ []) × IsMadeOf d rows
 
 -- the definitions are those that these records give, for each name those that its own records make
-abbrev pub AreGivenBy : {D : Type 0} → (D → List (List (List ℕ)) → Type 0) → map.FinMap (slice_cmp nat_cmp) D → List (List (List ℕ)) → Type 0
+abbrev pub AreGivenBy : {D : Type 0} → (D → Records → Type 0) → map.FinMap (slice_cmp nat_cmp) D → Records → Type 0
 AreGivenBy IsMadeOf definitions rows = (name : List ℕ) → IsDefinedBy IsMadeOf (map.get definitions name) (records_of name rows)
+
+-- no two of the entries have one name
+abbrev pub HaveOwnNames : {D : Type 0} → List (List ℕ × D) → Type 0
+HaveOwnNames entries = IsDistinct (pointwise nat_eq) (keys_of entries)
 
 -- the entries are those of the definitions, in some order, and no two have one name
 pub record AreEntriesOf {D : Type 0} (entries : List (List ℕ × D)) (definitions : map.FinMap (slice_cmp nat_cmp) D) : Type 0 where
   pub are : map.from_entries entries ≡ definitions
-  pub own_names : IsDistinct (pointwise nat_eq) (keys_of entries)
+  pub own_names : HaveOwnNames entries
 
 -- the definitions of `more`, and for all other names those of `old`
 abbrev pub overlaid : {D : Type 0} → map.FinMap (slice_cmp nat_cmp) D → map.FinMap (slice_cmp nat_cmp) D → map.FinMap (slice_cmp nat_cmp) D

@@ -8,6 +8,8 @@ use Rattle.work_calendars.specs.declared.statuses.DayStatus.{DayStatus}
 use Rattle.work_calendars.specs.declared.statuses.DayStatus.TheVariants.{Work, Free}
 use Rattle.work_calendars.specs.Spelling.{SpellsDay}
 use Rattle.app_definitions.specs.Fields.{field, IsDayText}
+use Rattle.app_definitions.specs.Records.{Record, Records}
+use Rattle.app_definitions.specs.declared.columns.TheConstants.{CALENDAR_ENTRY, CALENDAR_STATUS}
 
 -- the letters of each weekday, Monday first
 abbrev pub weekday_letters : List (List ℕ)
@@ -25,23 +27,23 @@ abbrev pub status_of : List ℕ → DayStatus
 status_of text = if pointwise nat_eq text (codes "WORK") then Work else Free
 
 -- no earlier record of the name has the same second field
-abbrev pub HasNewEntry : List (List (List ℕ)) → List (List ℕ) → Type 0
-HasNewEntry before row = (earlier : List (List ℕ)) → Contains before earlier → field earlier 1 ≢ field row 1
+abbrev pub HasNewEntry : Records → Record → Type 0
+HasNewEntry before row = (earlier : Record) → Contains before earlier → field earlier CALENDAR_ENTRY ≢ field row CALENDAR_ENTRY
 
 -- a record after the earlier ones of its calendar: its entry is a weekday or a day, and no earlier record has it; its status
 -- is WORK or FREE
-pub record FitsCalendar (before : List (List (List ℕ))) (row : List (List ℕ)) : Type 0 where
-  pub entry : ((weekday : ℕ) × IsWeekdayText (field row 1) weekday) ⊎ IsDayText (field row 1)
-  pub status : IsStatusText (field row 2)
+pub record FitsCalendar (before : Records) (row : Record) : Type 0 where
+  pub entry : ((weekday : ℕ) × IsWeekdayText (field row CALENDAR_ENTRY) weekday) ⊎ IsDayText (field row CALENDAR_ENTRY)
+  pub status : IsStatusText (field row CALENDAR_STATUS)
   pub new : HasNewEntry before row
 
 -- what is listed for an entry is the status of a record about it, and nothing where there is none
-abbrev pub IsListedBy : Option DayStatus → (List ℕ → Type 0) → List (List (List ℕ)) → Type 0
+abbrev pub IsListedBy : Option DayStatus → (List ℕ → Type 0) → Records → Type 0
 IsListedBy listed IsAbout rows =
-    MatchOption listed ((row : List (List ℕ)) → Contains rows row → ¬ (IsAbout (field row 1))) (λ status. (row : List (List ℕ)) × Contains rows row × IsAbout (field row 1) × (status ≡ status_of (field row 2)))
+    MatchOption listed ((row : Record) → Contains rows row → ¬ (IsAbout (field row CALENDAR_ENTRY))) (λ status. (row : Record) × Contains rows row × IsAbout (field row CALENDAR_ENTRY) × (status ≡ status_of (field row CALENDAR_STATUS)))
 
 -- a calendar lists what these records of it say, and nothing else
-pub record IsCalendarOf (calendar : CalendarEntries) (rows : List (List (List ℕ))) : Type 0 where
+pub record IsCalendarOf (calendar : CalendarEntries) (rows : Records) : Type 0 where
   pub week : length calendar.weekdays ≡ 7
   pub weekdays : (weekday : ℕ) → weekday < 7 → IsListedBy (slice_index_or calendar.weekdays weekday None) (λ text. IsWeekdayText text weekday) rows
   pub dates : (day : ℕ) → IsListedBy (map.get calendar.dates day) (λ text. SpellsDay text day) rows

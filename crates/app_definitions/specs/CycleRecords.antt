@@ -14,6 +14,8 @@ use Rattle.work_calendars.specs.Name.{IsShort}
 use Rattle.work_calendars.specs.Spelling.{SpellsDay, SpellsMinute}
 use Rattle.app_definitions.specs.Fields.{field, IsNumberUpTo, number_value, SpellsOptionalDay}
 use Rattle.app_definitions.specs.Rising.{AreRising}
+use Rattle.app_definitions.specs.Records.{Record, Records}
+use Rattle.app_definitions.specs.declared.columns.TheConstants.{CYCLE_NAME, CYCLE_TYPE, CYCLE_PERIOD, CYCLE_RULE, CYCLE_OFFSETS, CYCLE_IN_EFFECT, CYCLE_OUT_EFFECT, CYCLE_IA, CYCLE_DEADLINE_DAY, CYCLE_DEADLINE_TIME}
 
 -- the letter of each rule
 abbrev pub rule_text : Rule → List ℕ
@@ -60,39 +62,39 @@ pub record SpellsDeadline (day : List ℕ) (time : List ℕ) (deadline : Deadlin
   pub days : deadline.days ≡ number_value day
   pub clock : SpellsMinute time deadline.time
 
--- the letter and the two fields of the deadline spell a kind: N needs a deadline, X may have both fields empty
-abbrev pub SpellsKind : List ℕ → List ℕ → List ℕ → CycleType → Type 0
-SpellsKind letter day time (Normal deadline) = (letter ≡ codes "N") × SpellsDeadline day time deadline
-SpellsKind letter day time (Negative (Some deadline)) = (letter ≡ codes "X") × SpellsDeadline day time deadline
-SpellsKind letter day time (Negative None) = (letter ≡ codes "X") × (day ≡ []) × (time ≡ [])
+-- the letter and the two fields of the deadline spell a type: N needs a deadline, X may have both fields empty
+abbrev pub SpellsType : List ℕ → List ℕ → List ℕ → CycleType → Type 0
+SpellsType letter day time (Normal deadline) = (letter ≡ codes "N") × SpellsDeadline day time deadline
+SpellsType letter day time (Negative (Some deadline)) = (letter ≡ codes "X") × SpellsDeadline day time deadline
+SpellsType letter day time (Negative None) = (letter ≡ codes "X") × (day ≡ []) × (time ≡ [])
 
 -- the record spells the run cycle, field by field
-pub record SpellsRunCycle (row : List (List ℕ)) (cycle : RunCycle) : Type 0 where
-  pub short_name : IsShort (field row 1)
-  pub name : cycle.name ≡ field row 1
-  pub kind : SpellsKind (field row 2) (field row 9) (field row 10) cycle.kind
-  pub short_period : IsShort (field row 3)
-  pub period : cycle.period ≡ field row 3
-  pub rule : field row 4 ≡ rule_text cycle.rule
-  pub offsets : SpellsOffsets (field row 5) cycle.offsets
-  pub in_effect : SpellsDay (field row 6) cycle.in_effect
-  pub out_effect : SpellsOptionalDay (field row 7) cycle.out_effect
-  pub ia : SpellsMinute (field row 8) cycle.ia
+pub record SpellsRunCycle (row : Record) (cycle : RunCycle) : Type 0 where
+  pub short_name : IsShort (field row CYCLE_NAME)
+  pub name : cycle.name ≡ field row CYCLE_NAME
+  pub kind : SpellsType (field row CYCLE_TYPE) (field row CYCLE_DEADLINE_DAY) (field row CYCLE_DEADLINE_TIME) cycle.kind
+  pub short_period : IsShort (field row CYCLE_PERIOD)
+  pub period : cycle.period ≡ field row CYCLE_PERIOD
+  pub rule : field row CYCLE_RULE ≡ rule_text cycle.rule
+  pub offsets : SpellsOffsets (field row CYCLE_OFFSETS) cycle.offsets
+  pub in_effect : SpellsDay (field row CYCLE_IN_EFFECT) cycle.in_effect
+  pub out_effect : SpellsOptionalDay (field row CYCLE_OUT_EFFECT) cycle.out_effect
+  pub ia : SpellsMinute (field row CYCLE_IA) cycle.ia
 
 -- a record that spells a run cycle
-abbrev pub IsRunCycleText : List (List ℕ) → Type 0
+abbrev pub IsRunCycleText : Record → Type 0
 IsRunCycleText row = (cycle : RunCycle) × SpellsRunCycle row cycle
 
 -- the names in the records of an application's run cycles
-abbrev pub cycle_names_of : List (List (List ℕ)) → List (List ℕ)
-cycle_names_of rows = map (λ row. field row 1) rows
+abbrev pub cycle_names_of : Records → List (List ℕ)
+cycle_names_of rows = map (λ row. field row CYCLE_NAME) rows
 
 -- a record after the earlier ones of its application: it spells a run cycle, and no earlier one has its name
-abbrev pub FitsRunCycle : List (List (List ℕ)) → List (List ℕ) → Type 0
-FitsRunCycle before row = IsRunCycleText row × ¬ (Contains (cycle_names_of before) (field row 1))
+abbrev pub FitsRunCycle : Records → Record → Type 0
+FitsRunCycle before row = IsRunCycleText row × ¬ (Contains (cycle_names_of before) (field row CYCLE_NAME))
 
 -- the run cycles of an application are those that its records spell, in byte order of their names
-pub record AreRunCyclesOf (cycles : List RunCycle) (rows : List (List (List ℕ))) : Type 0 where
+pub record AreRunCyclesOf (cycles : List RunCycle) (rows : Records) : Type 0 where
   pub rising : AreRising (λ cycle. cycle.name) cycles
   pub each : All (λ cycle. Any (λ row. SpellsRunCycle row cycle) rows) cycles
   pub all : All (λ row. Any (SpellsRunCycle row) cycles) rows

@@ -2,9 +2,10 @@
 use Rattle.std.specs.Prelude.{◌≡◌, ◌⊎◌, ◌+◌, ◌-◌, ◌*◌, ◌<◌, ◌≤◌, ℕ, List, [], ◌∷◌, get_or, slice_index, length, fold, All, Option, Some, None}
 use Rattle.std.specs.Char.{IsAsciiDigit}
 use Rattle.work_calendars.specs.Spelling.{SpellsDay, SpellsMinute}
+use Rattle.app_definitions.specs.Records.{Record}
 
 -- the field at a place, counted from 0, and no bytes where there is none
-abbrev pub field : List (List ℕ) → ℕ → List ℕ
+abbrev pub field : Record → ℕ → List ℕ
 field row place = get_or row place []
 
 -- a field that may be left empty

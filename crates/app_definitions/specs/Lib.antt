@@ -3,10 +3,10 @@ pub mod Applications
 pub mod Blocks
 pub mod Calendars
 pub mod ByName
+pub mod Columns
 pub mod CycleRecords
 pub mod Definitions
 pub mod Fields
-pub mod Divisions
 pub mod Periods
 pub mod Laws
 pub mod Limits

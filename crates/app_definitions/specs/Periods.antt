@@ -8,48 +8,50 @@ use Rattle.plan_periods.specs.declared.periods.Period.TheVariants.{All as AllDay
 use Rattle.work_calendars.specs.Name.{IsShort}
 use Rattle.work_calendars.specs.Spelling.{SpellsDay}
 use Rattle.app_definitions.specs.Fields.{field, IsDayText, SpellsOptionalDay, IsNumberUpTo, number_value}
+use Rattle.app_definitions.specs.Records.{Record, Records}
+use Rattle.app_definitions.specs.declared.columns.TheConstants.{NAME, PERIOD_TYPE, PERIOD_ORIGIN, PERIOD_LENGTH}
 
 -- the record's last field is the length of an interval
-abbrev pub HasInterval : List (List ℕ) → Type 0
-HasInterval row = IsNumberUpTo MAX_INTERVAL (field row 3) × (1 ≤ number_value (field row 3))
+abbrev pub HasInterval : Record → Type 0
+HasInterval row = IsNumberUpTo MAX_INTERVAL (field row PERIOD_LENGTH) × (1 ≤ number_value (field row PERIOD_LENGTH))
 
 -- the record gives this origin, and this end or none, which is not before the origin
-abbrev pub GivesEntry : List (List ℕ) → Entry → Type 0
-GivesEntry row entry = SpellsDay (field row 2) entry.0 × SpellsOptionalDay (field row 3) entry.1 × EndsFromOrigin entry
+abbrev pub GivesEntry : Record → Entry → Type 0
+GivesEntry row entry = SpellsDay (field row PERIOD_ORIGIN) entry.0 × SpellsOptionalDay (field row PERIOD_LENGTH) entry.1 × EndsFromOrigin entry
 
 -- the first record of a period: type A or W with an origin and an interval, or type N with an origin and an end or none
-abbrev pub BeginsPeriod : List (List ℕ) → Type 0
+abbrev pub BeginsPeriod : Record → Type 0
 BeginsPeriod row =
-    IsShort (field row 0)
-    × (((((field row 1 ≡ codes "A") ⊎ (field row 1 ≡ codes "W")) × IsDayText (field row 2) × HasInterval row))
-    ⊎ ((field row 1 ≡ codes "N") × ((entry : Entry) × GivesEntry row entry)))
+    IsShort (field row NAME)
+    × (((((field row PERIOD_TYPE ≡ codes "A") ⊎ (field row PERIOD_TYPE ≡ codes "W")) × IsDayText (field row PERIOD_ORIGIN) × HasInterval row))
+    ⊎ ((field row PERIOD_TYPE ≡ codes "N") × ((entry : Entry) × GivesEntry row entry)))
 
 -- the origin of a record is later than that of the last of these
-abbrev pub IsLaterThan : List (List (List ℕ)) → ℕ → Type 0
-IsLaterThan before origin = (last : ℕ) → SpellsDay (field (slice_index_or before (length before - 1) []) 2) last → last < origin
+abbrev pub IsLaterThan : Records → ℕ → Type 0
+IsLaterThan before origin = (last : ℕ) → SpellsDay (field (slice_index_or before (length before - 1) []) PERIOD_ORIGIN) last → last < origin
 
 -- a further record of a period: both it and the first are of type N, and its origin is later than that of the record before it
-abbrev pub GoesOnPeriod : List (List (List ℕ)) → List (List ℕ) → Type 0
+abbrev pub GoesOnPeriod : Records → Record → Type 0
 GoesOnPeriod before row =
-    (field (slice_index_or before 0 []) 1 ≡ codes "N") × (field row 1 ≡ codes "N") × ((entry : Entry) × GivesEntry row entry × IsLaterThan before entry.0)
+    (field (slice_index_or before 0 []) PERIOD_TYPE ≡ codes "N") × (field row PERIOD_TYPE ≡ codes "N") × ((entry : Entry) × GivesEntry row entry × IsLaterThan before entry.0)
 
 -- a record after the earlier ones of its period
-abbrev pub FitsPeriod : List (List (List ℕ)) → List (List ℕ) → Type 0
+abbrev pub FitsPeriod : Records → Record → Type 0
 FitsPeriod [] row = BeginsPeriod row
 FitsPeriod (first ∷ more) row = GoesOnPeriod (first ∷ more) row
 
 -- each record gives the entry at its place
-pub record GiveEntries (rows : List (List (List ℕ))) (entries : List Entry) : Type 0 where
+pub record GiveEntries (rows : Records) (entries : List Entry) : Type 0 where
   pub same_length : length rows ≡ length entries
   pub each : (k : ℕ) → k < length rows → GivesEntry (slice_index_or rows k []) (slice_index_or entries k (0, None))
 
 -- the period that its records give: by the type of the first, intervals from its origin on, or the listed ones
-abbrev pub IsPeriodOf : Period → List (List (List ℕ)) → Type 0
+abbrev pub IsPeriodOf : Period → Records → Type 0
 IsPeriodOf (AllDays origin interval) rows =
-    (field (slice_index_or rows 0 []) 1 ≡ codes "A") × SpellsDay (field (slice_index_or rows 0 []) 2) origin × (interval ≡ number_value (field (slice_index_or rows 0 []) 3))
+    (field (slice_index_or rows 0 []) PERIOD_TYPE ≡ codes "A") × SpellsDay (field (slice_index_or rows 0 []) PERIOD_ORIGIN) origin × (interval ≡ number_value (field (slice_index_or rows 0 []) PERIOD_LENGTH))
 IsPeriodOf (Work origin interval) rows =
-    (field (slice_index_or rows 0 []) 1 ≡ codes "W") × SpellsDay (field (slice_index_or rows 0 []) 2) origin × (interval ≡ number_value (field (slice_index_or rows 0 []) 3))
-IsPeriodOf (Listed entries) rows = (field (slice_index_or rows 0 []) 1 ≡ codes "N") × GiveEntries rows entries
+    (field (slice_index_or rows 0 []) PERIOD_TYPE ≡ codes "W") × SpellsDay (field (slice_index_or rows 0 []) PERIOD_ORIGIN) origin × (interval ≡ number_value (field (slice_index_or rows 0 []) PERIOD_LENGTH))
+IsPeriodOf (Listed entries) rows = (field (slice_index_or rows 0 []) PERIOD_TYPE ≡ codes "N") × GiveEntries rows entries
 
 -- an entry's origin is later than that of the last of these
 abbrev pub IsLater : List Entry → Entry → Type 0

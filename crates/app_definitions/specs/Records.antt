@@ -6,27 +6,35 @@ use Rattle.csv.specs.declared.error.ErrorKind.TheVariants as kind
 use Rattle.app_definitions.specs.declared.records.BlockFault.{BlockFault}
 use Rattle.app_definitions.specs.declared.records.BlockFault.TheVariants.{Faulty, Memory}
 
+-- a record: the bytes of each of its fields
+abbrev pub Record : Type 0
+Record = List (List ℕ)
+
+-- records, in order
+abbrev pub Records : Type 0
+Records = List Record
+
 -- the records that `csv` gives of a block's bytes with its defaults and no header row: those after a byte order mark
-abbrev pub block_records : List ℕ → List (List (List ℕ))
+abbrev pub block_records : List ℕ → Records
 block_records bytes = records default_config (strip_bom bytes)
 
 -- the record at a place, counted from 0, is good after the records before it
-abbrev pub IsGoodAt : (List (List (List ℕ)) → List (List ℕ) → Type 0) → List (List (List ℕ)) → ℕ → Type 0
+abbrev pub IsGoodAt : (Records → Record → Type 0) → Records → ℕ → Type 0
 IsGoodAt Fits rows k = Fits (take k rows) (get_or rows k [])
 
 -- every record is good after those before it
-abbrev pub AllGood : (List (List (List ℕ)) → List (List ℕ) → Type 0) → List (List (List ℕ)) → Type 0
+abbrev pub AllGood : (Records → Record → Type 0) → Records → Type 0
 AllGood Fits rows = (k : ℕ) → k < length rows → IsGoodAt Fits rows k
 
 -- the record of this number, counted from 1, is faulty, and every one before it is good
-pub record FirstFaulty (Fits : List (List (List ℕ)) → List (List ℕ) → Type 0) (rows : List (List (List ℕ))) (number : ℕ) : Type 0 where
+pub record FirstFaulty (Fits : Records → Record → Type 0) (rows : Records) (number : ℕ) : Type 0 where
   pub counted : 1 ≤ number
   pub there : number ≤ length rows
   pub faulty : ¬ (IsGoodAt Fits rows (number - 1))
   pub before : (k : ℕ) → k + 1 < number → IsGoodAt Fits rows k
 
 -- a fault tells the first faulty record, or want of memory
-abbrev pub IsFirstFaulty : (List (List (List ℕ)) → List (List ℕ) → Type 0) → List (List (List ℕ)) → BlockFault → Type 0
+abbrev pub IsFirstFaulty : (Records → Record → Type 0) → Records → BlockFault → Type 0
 IsFirstFaulty Fits rows (Faulty number) = FirstFaulty Fits rows number
 IsFirstFaulty Fits rows Memory = Unit {0}
 

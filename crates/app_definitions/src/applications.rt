@@ -3,8 +3,10 @@
 ghost use Rattle.std.specs.Prelude.{◌≡◌, ◌↔◌, ℕ, List, [], ◌∷◌, ◌++◌, get_or, length, IsTrue, IsSome, IfSome, IfOk};
 ghost use Rattle.csv.specs.Records.{fields_of};
 ghost use Rattle.app_definitions.specs.Applications.{FitsApplication, IsApplicationOf};
+ghost use Rattle.app_definitions.specs.declared.columns.TheConstants.{APPLICATION_FIELDS};
 
 use crate::by_name::Definition;
+use crate::columns::{APPLICATION_CALENDAR, APPLICATION_FIELDS, APPLICATION_STATUS};
 use crate::fields::{field_at, optional_name_of};
 use csv::ByteRecord;
 use std::alloc::{AllocError, Global};
@@ -24,23 +26,23 @@ fn application_of(row: &ByteRecord) -> Option<Application>
     ensures fits { IsSome result ↔ FitsApplication [] (fields_of row.now) }
     ensures value { IfSome result (λ a. IsApplicationOf a (fields_of row.now ∷ [])) }
 {
-    let active = match field_at(row, 1) {
+    let active = match field_at(row, APPLICATION_STATUS) {
         b"A" => true,
         b"P" => false,
         _ => return None,
     };
-    let calendar = optional_name_of(field_at(row, 2))?;
+    let calendar = optional_name_of(field_at(row, APPLICATION_CALENDAR))?;
     Some(Application { active, calendar })
 }
 
 impl Definition for Application {
-    ghost FIELDS = { 3 };
+    ghost FIELDS = { APPLICATION_FIELDS };
 
     ghost FitsName = { FitsApplication };
 
     ghost IsMadeOf = { IsApplicationOf };
 
-    const FIELDS: usize = 3;
+    const FIELDS: usize = APPLICATION_FIELDS;
 
     fn begin(_alloc: Global, row: &ByteRecord) -> Result<Option<Application>, AllocError> {
         Ok(application_of(row))

@@ -4,10 +4,12 @@ ghost use Rattle.std.specs.Prelude.{◌≡◌, ◌≢◌, ◌↔◌, ℕ, List, 
 ghost use Rattle.std.specs.Option.{option_copied};
 ghost use Rattle.std.specs.FinMap as map;
 ghost use Rattle.csv.specs.Records.{fields_of};
-ghost use Rattle.app_definitions.specs.ByName.{AreEntriesOf, FitsKind, IsDefinedBy, AreGivenBy, AreNamesOf, overlaid};
+ghost use Rattle.app_definitions.specs.ByName.{AreEntriesOf, AreGivenBy, AreNamesOf, FitsKind, HaveOwnNames, overlaid};
+ghost use Rattle.app_definitions.specs.Rising.{AreRising};
+ghost use Rattle.app_definitions.specs.Records.{Record, Records};
 
+use crate::columns::NAME;
 use crate::fields::{field_at, name_of};
-use crate::records::Gather;
 use csv::ByteRecord;
 use indexmap::IndexMap;
 use indexmap::map::Iter;
@@ -23,10 +25,10 @@ pub trait Definition: Drop {
     const FIELDS: usize;
 
     /// A record is good after the earlier records about its name.
-    ghost FitsName: { List (List (List ℕ)) → List (List ℕ) → Type 0 };
+    ghost FitsName: { Records → Record → Type 0 };
 
     /// The definition is the one that these records make.
-    ghost IsMadeOf: { Self → List (List (List ℕ)) → Type 0 };
+    ghost IsMadeOf: { Self → Records → Type 0 };
 
     /// The definition that the first record about a name begins, or none where the record is faulty.
     fn begin(alloc: Global, row: &ByteRecord) -> Result<Option<Self>, AllocError>
@@ -41,8 +43,8 @@ pub trait Definition: Drop {
     /// Takes a further record about the name, or answers that it is faulty.
     fn join(&mut self, row: &ByteRecord) -> Result<bool, AllocError>
         requires { length (fields_of row.now) ≡ FIELDS }
-        ensures taken { (before : List (List (List ℕ))) → before ≢ [] → IsMadeOf self.old before → IfOk result (λ taken. IsTrue taken ↔ FitsName before (fields_of row.now)) }
-        ensures made { (before : List (List (List ℕ))) → before ≢ [] → IsMadeOf self.old before → IfOk result (λ taken. IsTrue taken → IsMadeOf self.new (before ++ fields_of row.now ∷ [])) };
+        ensures taken { (before : Records) → before ≢ [] → IsMadeOf self.old before → IfOk result (λ taken. IsTrue taken ↔ FitsName before (fields_of row.now)) }
+        ensures made { (before : Records) → before ≢ [] → IsMadeOf self.old before → IfOk result (λ taken. IsTrue taken → IsMadeOf self.new (before ++ fields_of row.now ∷ [])) };
 }
 
 /// Definitions of one kind by name. Contracts see the map from names to definitions.
@@ -72,6 +74,33 @@ impl<D> ByName<D> {
         ByName {
             by_name: IndexMap::new(alloc),
         }
+    }
+
+    /// The definitions with these names, or none where two have one name.
+    pub fn from_vec(alloc: Global, entries: Vec<(Name, D)>) -> Result<Option<ByName<D>>, AllocError>
+    where
+        D: Drop,
+        ensures valid { IfOk result (λ made. IsSome made ↔ HaveOwnNames entries.items) }
+        ensures value { IfOk result (λ made. IfSome made (AreEntriesOf entries.items)) }
+    {
+        let mut by_name = IndexMap::new(alloc);
+        for (name, definition) in entries {
+            if by_name.insert(name, definition)?.is_some() {
+                return Ok(None);
+            }
+        }
+        Ok(Some(ByName { by_name }))
+    }
+
+    /// The definitions with their names, in byte order of these.
+    pub fn into_vec(mut self, alloc: Global) -> Result<Vec<(Name, D)>, AllocError>
+    where
+        D: Drop,
+        ensures entries { IfOk result (λ entries. AreEntriesOf entries.items self) }
+        ensures rising { IfOk result (λ entries. AreRising (λ entry. entry.0) entries.items) }
+    {
+        self.by_name.sort_unstable_keys()?;
+        self.by_name.into_iter().collect(alloc)
     }
 
     /// The definition of this name.
@@ -154,20 +183,16 @@ impl<D: Definition> Clone for ByName<D> {
     }
 }
 
-impl<D: Definition> Gather for ByName<D> {
-    ghost fields = { D.FIELDS };
-
-    ghost Fits = { FitsKind D.FIELDS D.FitsName };
-
-    ghost Holds = { AreGivenBy D.IsMadeOf };
-
-    ghost fixed = { λ before row fits. fits.0 };
-
-    fn gather(&mut self, alloc: Global, row: &ByteRecord) -> Result<bool, AllocError> {
+impl<D: Definition> ByName<D> {
+    /// Takes the next record of a block in, or answers that it is faulty.
+    pub(crate) fn gather(&mut self, alloc: Global, row: &ByteRecord) -> Result<bool, AllocError>
+        ensures taken { (before : Records) → AreGivenBy D.IsMadeOf self.old before → IfOk result (λ taken. IsTrue taken ↔ FitsKind D.FIELDS D.FitsName before (fields_of row.now)) }
+        ensures gathered { (before : Records) → AreGivenBy D.IsMadeOf self.old before → IfOk result (λ taken. IsTrue taken → AreGivenBy D.IsMadeOf self.new (before ++ fields_of row.now ∷ [])) }
+    {
         if row.len() != D::FIELDS {
             return Ok(false);
         }
-        let Some(name) = name_of(field_at(row, 0)) else {
+        let Some(name) = name_of(field_at(row, NAME)) else {
             return Ok(false);
         };
         if let Some(definition) = self.by_name.get_mut(&name) {

@@ -4,8 +4,11 @@ ghost use Rattle.std.specs.Prelude.{◌≡◌, ◌↔◌, ℕ, List, [], ◌∷�
 ghost use Rattle.csv.specs.Records.{fields_of};
 ghost use Rattle.jiff_core.specs.Weekday.{monday_zero};
 ghost use Rattle.app_definitions.specs.Calendars.{FitsCalendar, IsCalendarOf, IsWeekdayText, IsStatusText, status_of};
+ghost use Rattle.app_definitions.specs.Records.{Records};
+ghost use Rattle.app_definitions.specs.declared.columns.TheConstants.{CALENDAR_FIELDS};
 
 use crate::by_name::Definition;
+use crate::columns::{CALENDAR_ENTRY, CALENDAR_FIELDS, CALENDAR_STATUS};
 use crate::fields::{day_of, field_at};
 use csv::ByteRecord;
 use std::alloc::{AllocError, Global};
@@ -16,28 +19,16 @@ fn weekday_of(bytes: &[u8]) -> Option<Weekday>
     ensures valid { IsSome result ↔ ((w : ℕ) × IsWeekdayText bytes.now w) }
     ensures value { IfSome result (λ w. IsWeekdayText bytes.now (monday_zero w)) }
 {
-    if bytes == b"MON".as_slice() {
-        return Some(Weekday::Monday);
+    match bytes {
+        b"MON" => Some(Weekday::Monday),
+        b"TUE" => Some(Weekday::Tuesday),
+        b"WED" => Some(Weekday::Wednesday),
+        b"THU" => Some(Weekday::Thursday),
+        b"FRI" => Some(Weekday::Friday),
+        b"SAT" => Some(Weekday::Saturday),
+        b"SUN" => Some(Weekday::Sunday),
+        _ => None,
     }
-    if bytes == b"TUE".as_slice() {
-        return Some(Weekday::Tuesday);
-    }
-    if bytes == b"WED".as_slice() {
-        return Some(Weekday::Wednesday);
-    }
-    if bytes == b"THU".as_slice() {
-        return Some(Weekday::Thursday);
-    }
-    if bytes == b"FRI".as_slice() {
-        return Some(Weekday::Friday);
-    }
-    if bytes == b"SAT".as_slice() {
-        return Some(Weekday::Saturday);
-    }
-    if bytes == b"SUN".as_slice() {
-        return Some(Weekday::Sunday);
-    }
-    None
 }
 
 // The status that these bytes name.
@@ -52,15 +43,15 @@ fn status_of(bytes: &[u8]) -> Option<DayStatus>
     }
 }
 
-// Lists the entry of a record, or answers that the record is faulty.
-fn list(calendar: &mut Calendar, row: &ByteRecord) -> Result<bool, AllocError>
-    ensures taken { (before : List (List (List ℕ))) → IsCalendarOf calendar.old before → IfOk result (λ taken. IsTrue taken ↔ FitsCalendar before (fields_of row.now)) }
-    ensures made { (before : List (List (List ℕ))) → IsCalendarOf calendar.old before → IfOk result (λ taken. IsTrue taken → IsCalendarOf calendar.new (before ++ fields_of row.now ∷ [])) }
+// Adds the entry of a record to the calendar, or answers that the record is faulty.
+fn add_entry(calendar: &mut Calendar, row: &ByteRecord) -> Result<bool, AllocError>
+    ensures taken { (before : Records) → IsCalendarOf calendar.old before → IfOk result (λ taken. IsTrue taken ↔ FitsCalendar before (fields_of row.now)) }
+    ensures made { (before : Records) → IsCalendarOf calendar.old before → IfOk result (λ taken. IsTrue taken → IsCalendarOf calendar.new (before ++ fields_of row.now ∷ [])) }
 {
-    let Some(status) = status_of(field_at(row, 2)) else {
+    let Some(status) = status_of(field_at(row, CALENDAR_STATUS)) else {
         return Ok(false);
     };
-    let entry = field_at(row, 1);
+    let entry = field_at(row, CALENDAR_ENTRY);
     if let Some(weekday) = weekday_of(entry) {
         if calendar.weekday_status(weekday).is_some() {
             return Ok(false);
@@ -79,17 +70,17 @@ fn list(calendar: &mut Calendar, row: &ByteRecord) -> Result<bool, AllocError>
 }
 
 impl Definition for Calendar {
-    ghost FIELDS = { 3 };
+    ghost FIELDS = { CALENDAR_FIELDS };
 
     ghost FitsName = { FitsCalendar };
 
     ghost IsMadeOf = { IsCalendarOf };
 
-    const FIELDS: usize = 3;
+    const FIELDS: usize = CALENDAR_FIELDS;
 
     fn begin(alloc: Global, row: &ByteRecord) -> Result<Option<Calendar>, AllocError> {
         let mut calendar = Calendar::new(alloc);
-        if list(&mut calendar, row)? {
+        if add_entry(&mut calendar, row)? {
             Ok(Some(calendar))
         } else {
             Ok(None)
@@ -101,6 +92,6 @@ impl Definition for Calendar {
     }
 
     fn join(&mut self, row: &ByteRecord) -> Result<bool, AllocError> {
-        list(self, row)
+        add_entry(self, row)
     }
 }

@@ -8,10 +8,15 @@ ghost use Rattle.run_cycles.specs.declared.cycles.Deadline.{Deadline as Deadline
 ghost use Rattle.run_cycles.specs.declared.cycles.CycleType.{CycleType as CycleTypeValue};
 ghost use Rattle.run_cycles.specs.declared.rules.Rule.{Rule as RuleValue};
 ghost use Rattle.app_definitions.specs.Fields.{field, number_value};
-ghost use Rattle.app_definitions.specs.CycleRecords.{rule_text, IsDistanceText, IsOffsetText, offset_value, pieces_of, SpellsOffsets, SpellsDeadline, SpellsKind, SpellsRunCycle, IsRunCycleText, FitsRunCycle, AreRunCyclesOf};
+ghost use Rattle.app_definitions.specs.CycleRecords.{rule_text, IsDistanceText, IsOffsetText, offset_value, pieces_of, SpellsOffsets, SpellsDeadline, SpellsType, SpellsRunCycle, IsRunCycleText, FitsRunCycle, AreRunCyclesOf};
 ghost use Rattle.app_definitions.specs.Rising.{AreRising, IsPlaceFor};
+ghost use Rattle.app_definitions.specs.declared.columns.TheConstants.{CYCLE_OFFSETS, CYCLE_FIELDS};
 
 use crate::by_name::Definition;
+use crate::columns::{
+    CYCLE_DEADLINE_DAY, CYCLE_DEADLINE_TIME, CYCLE_FIELDS, CYCLE_IA, CYCLE_IN_EFFECT, CYCLE_NAME,
+    CYCLE_OFFSETS, CYCLE_OUT_EFFECT, CYCLE_PERIOD, CYCLE_RULE, CYCLE_TYPE,
+};
 use crate::fields::{day_of, field_at, minute_of, number_of, optional_day_of, short_of};
 use csv::ByteRecord;
 use run_cycles::{CycleType, Deadline, MAX_DEADLINE_DAYS, MAX_OFFSET, Offsets, Rule, RunCycle};
@@ -151,36 +156,36 @@ fn deadline_of(day: &[u8], time: &[u8]) -> Option<Deadline>
     Some(Deadline { days, time })
 }
 
-// The kind that this letter and the two fields of the deadline spell.
-fn kind_of(letter: &[u8], day: &[u8], time: &[u8]) -> Option<CycleType>
-    ensures valid { IsSome result ↔ ((kind : CycleTypeValue) × SpellsKind letter.now day.now time.now kind) }
-    ensures value { IfSome result (SpellsKind letter.now day.now time.now) }
+// The type that this letter and the two fields of the deadline spell.
+fn type_of(letter: &[u8], day: &[u8], time: &[u8]) -> Option<CycleType>
+    ensures valid { IsSome result ↔ ((kind : CycleTypeValue) × SpellsType letter.now day.now time.now kind) }
+    ensures value { IfSome result (SpellsType letter.now day.now time.now) }
 {
-    if letter == b"N".as_slice() {
-        return Some(CycleType::Normal(deadline_of(day, time)?));
+    match letter {
+        b"N" => Some(CycleType::Normal(deadline_of(day, time)?)),
+        b"X" if day.is_empty() && time.is_empty() => Some(CycleType::Negative(None)),
+        b"X" => Some(CycleType::Negative(Some(deadline_of(day, time)?))),
+        _ => None,
     }
-    if letter != b"X".as_slice() {
-        return None;
-    }
-    if day.is_empty() && time.is_empty() {
-        return Some(CycleType::Negative(None));
-    }
-    Some(CycleType::Negative(Some(deadline_of(day, time)?)))
 }
 
 // The run cycle that a record spells, with the offsets that it spells.
 fn run_cycle_with(row: &ByteRecord, offsets: Offsets) -> Option<RunCycle>
-    requires { SpellsOffsets (field (fields_of row.now) 5) offsets }
+    requires { SpellsOffsets (field (fields_of row.now) CYCLE_OFFSETS) offsets }
     ensures valid { IsSome result ↔ IsRunCycleText (fields_of row.now) }
     ensures value { IfSome result (SpellsRunCycle (fields_of row.now)) }
 {
-    let name = short_of(field_at(row, 1))?;
-    let kind = kind_of(field_at(row, 2), field_at(row, 9), field_at(row, 10))?;
-    let period = short_of(field_at(row, 3))?;
-    let rule = rule_of(field_at(row, 4))?;
-    let in_effect = day_of(field_at(row, 6))?;
-    let out_effect = optional_day_of(field_at(row, 7))?;
-    let ia = minute_of(field_at(row, 8))?;
+    let name = short_of(field_at(row, CYCLE_NAME))?;
+    let kind = type_of(
+        field_at(row, CYCLE_TYPE),
+        field_at(row, CYCLE_DEADLINE_DAY),
+        field_at(row, CYCLE_DEADLINE_TIME),
+    )?;
+    let period = short_of(field_at(row, CYCLE_PERIOD))?;
+    let rule = rule_of(field_at(row, CYCLE_RULE))?;
+    let in_effect = day_of(field_at(row, CYCLE_IN_EFFECT))?;
+    let out_effect = optional_day_of(field_at(row, CYCLE_OUT_EFFECT))?;
+    let ia = minute_of(field_at(row, CYCLE_IA))?;
     Some(RunCycle {
         name,
         kind,
@@ -198,7 +203,7 @@ fn run_cycle_of(alloc: Global, row: &ByteRecord) -> Result<Option<RunCycle>, All
     ensures valid { IfOk result (λ c. IsSome c ↔ IsRunCycleText (fields_of row.now)) }
     ensures value { IfOk result (λ c. IfSome c (SpellsRunCycle (fields_of row.now))) }
 {
-    let Some(offsets) = offsets_of(alloc, field_at(row, 5))? else {
+    let Some(offsets) = offsets_of(alloc, field_at(row, CYCLE_OFFSETS))? else {
         return Ok(None);
     };
     Ok(run_cycle_with(row, offsets))
@@ -226,13 +231,13 @@ fn place_of(cycles: &[RunCycle], name: &Short) -> Result<usize, usize>
 }
 
 impl Definition for RunCycles {
-    ghost FIELDS = { 11 };
+    ghost FIELDS = { CYCLE_FIELDS };
 
     ghost FitsName = { FitsRunCycle };
 
     ghost IsMadeOf = { AreRunCyclesOf };
 
-    const FIELDS: usize = 11;
+    const FIELDS: usize = CYCLE_FIELDS;
 
     fn begin(alloc: Global, row: &ByteRecord) -> Result<Option<RunCycles>, AllocError> {
         let Some(cycle) = run_cycle_of(alloc, row)? else {

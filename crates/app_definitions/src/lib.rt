@@ -17,6 +17,7 @@ mod applications;
 mod blocks;
 mod by_name;
 mod calendars;
+mod columns;
 mod cycle_records;
 mod definitions;
 mod fields;

@@ -2,8 +2,8 @@
 // last block with the name gives, whole.
 use crate::tests::halves;
 use crate::{
-    Application, Block, BlockFault, DefinedPeriod, Definitions, Kind, LONGEST_BLOCK, Options,
-    Predecessors, RunCycles, read_block,
+    Application, Block, BlockFault, ByName, DefinedPeriod, Definitions, Kind, LONGEST_BLOCK,
+    Options, Predecessors, RunCycles, read_block,
 };
 use plan_periods::Period;
 use run_cycles::{Deadline, Rule, RunCycle};
@@ -127,9 +127,9 @@ fn period_text(alloc: Global, period: Option<&DefinedPeriod>) -> Result<String, 
     let Some(period) = period else {
         return Ok(String::new(alloc));
     };
-    match period.to_period(alloc)? {
-        Period::All { origin, interval } => divided_text(alloc, "A", interval, origin),
-        Period::Work { origin, interval } => divided_text(alloc, "W", interval, origin),
+    match period.period() {
+        Period::All { origin, interval } => divided_text(alloc, "A", *interval, *origin),
+        Period::Work { origin, interval } => divided_text(alloc, "W", *interval, *origin),
         Period::Listed(origins) => listed_text(alloc, origins.as_slice()),
     }
 }
@@ -319,8 +319,32 @@ fn names_text(alloc: Global, all: &Definitions, kind: Kind) -> Result<String, Al
     joined(alloc, &names)
 }
 
+// The definitions given back as a vector and made of it again, and how many they were.
+fn made_again<D: Drop>(alloc: Global, by_name: &mut ByName<D>) -> Result<usize, AllocError> {
+    let old = std::mem::replace(by_name, ByName::new(alloc));
+    let entries = old.into_vec(alloc)?;
+    let names = entries.len();
+    if let Some(new) = ByName::from_vec(alloc, entries)? {
+        *by_name = new;
+    }
+    Ok(names)
+}
+
+fn made_again_text(alloc: Global, all: &mut Definitions, kind: Kind) -> Result<String, AllocError> {
+    let names = match kind {
+        Kind::Applications => made_again(alloc, &mut all.applications)?,
+        Kind::Calendars => made_again(alloc, &mut all.calendars)?,
+        Kind::Periods => made_again(alloc, &mut all.periods)?,
+        Kind::Predecessors => made_again(alloc, &mut all.predecessors)?,
+        Kind::RunCycles => made_again(alloc, &mut all.run_cycles)?,
+        Kind::Options => 1,
+    };
+    format!(in alloc; "{names}")
+}
+
 // What comes of an act: + takes a block in, ! does so after all else is forgotten, = asks what is defined for a name, -
-// takes a name away, ? asks for the least application that lacks one, and * for all names.
+// takes a name away, ? asks for the least application that lacks one, * for all names, and ~ makes a kind's definitions
+// again of their vector.
 fn done(
     rt: &impl Abort,
     alloc: Global,
@@ -339,6 +363,7 @@ fn done(
         b'-' => removed_text(rt, alloc, all, kind, &name(rt, rest)),
         b'?' => least_text(alloc, all, kind),
         b'*' => names_text(alloc, all, kind),
+        b'~' => made_again_text(alloc, all, kind),
         _ => format!(in alloc; "no act"),
     }
 }
@@ -513,8 +538,20 @@ fn walked(rt: HostRuntime) -> Result<(), Fail> {
           *P>P Q |\
           *L>A Z |\
           *R>B C Y |\
-          *O>",
+          *O>|\
+          ~A>5|\
+          ~C>2|\
+          ~P>2|\
+          ~L>2|\
+          ~R>3|\
+          *A>B C D Y Z |\
+          *R>B C Y |\
+          =AZ>true HERE|\
+          =CHERE>-----F--|\
+          =PQ>A 7 2024-01-01|\
+          =LZ>AY|\
+          =RC>R Q E N 0 1020 1 2024-01-01/ 480;S P E N 0 1020 1 2024-01-01/ 480;",
     )?;
-    assert_eq!(rt; rows, 27);
+    assert_eq!(rt; rows, 39);
     Ok(())
 }

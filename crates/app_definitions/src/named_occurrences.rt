@@ -19,7 +19,7 @@ fn periods_of(alloc: Global, all: &Definitions, cycles: &[RunCycle]) -> Result<P
     let mut periods = Periods::new(alloc);
     for cycle in cycles {
         if let Some(period) = all.periods.get(&period_name(&cycle.period)) {
-            periods.insert(cycle.period, period.to_period(alloc)?)?;
+            periods.insert(cycle.period, period.period().clone()?)?;
         }
     }
     Ok(periods)

@@ -7,8 +7,10 @@ ghost use Rattle.plan_periods.specs.Period.{Entry, IsSoundPeriod};
 ghost use Rattle.work_calendars.specs.Spelling.{SpellsDay};
 ghost use Rattle.app_definitions.specs.Fields.{field, number_value, IsDayText};
 ghost use Rattle.app_definitions.specs.Periods.{FitsPeriod, IsPeriodOf, GivesEntry, HasInterval, IsLater};
+ghost use Rattle.app_definitions.specs.declared.columns.TheConstants.{PERIOD_ORIGIN, PERIOD_LENGTH, PERIOD_FIELDS};
 
 use crate::by_name::Definition;
+use crate::columns::{NAME, PERIOD_FIELDS, PERIOD_LENGTH, PERIOD_ORIGIN, PERIOD_TYPE};
 use crate::fields::{day_of, field_at, number_of, optional_day_of, short_of};
 use csv::ByteRecord;
 use plan_periods::{MAX_INTERVAL, Origins, Period, PeriodFault};
@@ -16,34 +18,24 @@ use std::alloc::{AllocError, Global};
 use std::marker::Model;
 use work_calendars::Day;
 
-// What a period divides the days into.
-#[derive(Drop)]
-enum Division {
-    Days { origin: Day, interval: u16 },
-    WorkDays { origin: Day, interval: u16 },
-    Listed(Vec<(Day, Option<Day>)>),
-}
-
 /// A period without a fault. Contracts see the period.
 #[derive(Drop)]
 pub struct DefinedPeriod {
-    division: Division,
+    period: Period,
 }
 
 impl Model for DefinedPeriod {
     ghost use Rattle.plan_periods.specs.declared.periods.Period.{Period};
-    ghost use Rattle.plan_periods.specs.contracts.periods.Period as period;
+    ghost use Rattle.plan_periods.specs.contracts.periods.Period as contract;
     ghost use Rattle.plan_periods.specs.Period.{IsSoundPeriod};
 
     ghost Value = { Period };
 
-    ghost coded = { period.the_row.coded };
+    ghost coded = { contract.the_row.coded };
 
-    ghost use Rattle.app_definitions.specs.Divisions.{period_of};
+    ghost view = { λ p. p.period };
 
-    ghost view = { λ p. period_of p.division };
-
-    ghost invariant = { λ p. IsSoundPeriod (period_of p.division) };
+    ghost invariant = { λ p. IsSoundPeriod p.period };
 }
 
 impl DefinedPeriod {
@@ -54,32 +46,23 @@ impl DefinedPeriod {
         ensures fault { IfErr result (IsLeastFault period) }
     {
         period.check()?;
-        let division = match period {
-            Period::All { origin, interval } => Division::Days { origin, interval },
-            Period::Work { origin, interval } => Division::WorkDays { origin, interval },
-            Period::Listed(origins) => Division::Listed(origins.into_vec()),
-        };
-        Ok(DefinedPeriod { division })
+        Ok(DefinedPeriod { period })
     }
 
-    /// A copy of the period.
-    pub fn to_period(&self, alloc: Global) -> Result<Period, AllocError>
-        ensures value { IfOk result (λ p. p ≡ self.now) }
-        ensures sound { IfOk result IsSoundPeriod }
+    /// The period.
+    pub fn period(&self) -> &Period
+        ensures value { result.now ≡ self.now }
+        ensures sound { IsSoundPeriod result.now }
     {
-        match &self.division {
-            Division::Days { origin, interval } => Ok(Period::All {
-                origin: *origin,
-                interval: *interval,
-            }),
-            Division::WorkDays { origin, interval } => Ok(Period::Work {
-                origin: *origin,
-                interval: *interval,
-            }),
-            Division::Listed(entries) => {
-                Ok(Period::Listed(Origins::new(entries.as_slice().to_vec(alloc)?)))
-            }
-        }
+        &self.period
+    }
+
+    /// The period, given back.
+    pub fn into_period(self) -> Period
+        ensures value { result ≡ self }
+        ensures sound { IsSoundPeriod result }
+    {
+        self.period
     }
 }
 
@@ -87,30 +70,21 @@ impl Clone for DefinedPeriod {
     ghost is_clone = { λ old new. new ≡ old };
 
     fn clone(&self) -> Result<DefinedPeriod, AllocError> {
-        let division = match &self.division {
-            Division::Days { origin, interval } => Division::Days {
-                origin: *origin,
-                interval: *interval,
-            },
-            Division::WorkDays { origin, interval } => Division::WorkDays {
-                origin: *origin,
-                interval: *interval,
-            },
-            Division::Listed(entries) => Division::Listed(entries.clone()?),
-        };
-        Ok(DefinedPeriod { division })
+        Ok(DefinedPeriod {
+            period: self.period.clone()?,
+        })
     }
 }
 
 // The origin and the interval that a record of type A or W gives.
 fn interval_of(row: &ByteRecord) -> Option<(Day, u16)>
-    ensures valid { IsSome result ↔ (IsDayText (field (fields_of row.now) 2) × HasInterval (fields_of row.now)) }
-    ensures origin { IfSome result (λ p. SpellsDay (field (fields_of row.now) 2) p.0) }
-    ensures interval { IfSome result (λ p. p.1 ≡ number_value (field (fields_of row.now) 3)) }
+    ensures valid { IsSome result ↔ (IsDayText (field (fields_of row.now) PERIOD_ORIGIN) × HasInterval (fields_of row.now)) }
+    ensures origin { IfSome result (λ p. SpellsDay (field (fields_of row.now) PERIOD_ORIGIN) p.0) }
+    ensures interval { IfSome result (λ p. p.1 ≡ number_value (field (fields_of row.now) PERIOD_LENGTH)) }
     ensures in_range { IfSome result (λ p. (1 ≤ p.1) × (p.1 ≤ MAX_INTERVAL)) }
 {
-    let origin = day_of(field_at(row, 2))?;
-    let interval = number_of(field_at(row, 3), MAX_INTERVAL)?;
+    let origin = day_of(field_at(row, PERIOD_ORIGIN))?;
+    let interval = number_of(field_at(row, PERIOD_LENGTH), MAX_INTERVAL)?;
     if interval < 1 {
         return None;
     }
@@ -132,8 +106,8 @@ fn entry_of(row: &ByteRecord) -> Option<(Day, Option<Day>)>
     ensures valid { IsSome result ↔ ((e : Entry) × GivesEntry (fields_of row.now) e) }
     ensures value { IfSome result (GivesEntry (fields_of row.now)) }
 {
-    let origin = day_of(field_at(row, 2))?;
-    let end = optional_day_of(field_at(row, 3))?;
+    let origin = day_of(field_at(row, PERIOD_ORIGIN))?;
+    let end = optional_day_of(field_at(row, PERIOD_LENGTH))?;
     if ends_from(origin, &end) {
         Some((origin, end))
     } else {
@@ -142,47 +116,38 @@ fn entry_of(row: &ByteRecord) -> Option<(Day, Option<Day>)>
 }
 
 impl Definition for DefinedPeriod {
-    ghost FIELDS = { 4 };
+    ghost FIELDS = { PERIOD_FIELDS };
 
     ghost FitsName = { FitsPeriod };
 
     ghost IsMadeOf = { IsPeriodOf };
 
-    const FIELDS: usize = 4;
+    const FIELDS: usize = PERIOD_FIELDS;
 
     fn begin(alloc: Global, row: &ByteRecord) -> Result<Option<DefinedPeriod>, AllocError> {
-        if short_of(field_at(row, 0)).is_none() {
+        if short_of(field_at(row, NAME)).is_none() {
             return Ok(None);
         }
-        let letter = field_at(row, 1);
-        if letter == b"A".as_slice() {
-            return match interval_of(row) {
+        match field_at(row, PERIOD_TYPE) {
+            b"A" => match interval_of(row) {
                 Some((origin, interval)) => Ok(Some(DefinedPeriod {
-                    division: Division::Days { origin, interval },
+                    period: Period::All { origin, interval },
                 })),
                 None => Ok(None),
-            };
-        }
-        if letter == b"W".as_slice() {
-            return match interval_of(row) {
+            },
+            b"W" => match interval_of(row) {
                 Some((origin, interval)) => Ok(Some(DefinedPeriod {
-                    division: Division::WorkDays { origin, interval },
+                    period: Period::Work { origin, interval },
                 })),
                 None => Ok(None),
-            };
-        }
-        if letter != b"N".as_slice() {
-            return Ok(None);
-        }
-        match entry_of(row) {
-            Some(entry) => {
-                let mut entries = Vec::new(alloc);
-                entries.push(entry)?;
-                Ok(Some(DefinedPeriod {
-                    division: Division::Listed(entries),
-                }))
-            }
-            None => Ok(None),
+            },
+            b"N" => match entry_of(row) {
+                Some(entry) => Ok(Some(DefinedPeriod {
+                    period: Period::Listed(origins_of(alloc, entry)?),
+                })),
+                None => Ok(None),
+            },
+            _ => Ok(None),
         }
     }
 
@@ -191,18 +156,26 @@ impl Definition for DefinedPeriod {
     }
 
     fn join(&mut self, row: &ByteRecord) -> Result<bool, AllocError> {
-        let letter = field_at(row, 1);
-        if letter != b"N".as_slice() {
+        if field_at(row, PERIOD_TYPE) != b"N".as_slice() {
             return Ok(false);
         }
         let Some(entry) = entry_of(row) else {
             return Ok(false);
         };
-        let Division::Listed(entries) = &mut self.division else {
+        let Period::Listed(origins) = &mut self.period else {
             return Ok(false);
         };
-        push_later(entries, entry)
+        push_later(origins, entry)
     }
+}
+
+// The one origin, with its end or none.
+fn origins_of(alloc: Global, entry: (Day, Option<Day>)) -> Result<Origins, AllocError>
+    ensures { IfOk result (λ origins. origins ≡ entry ∷ []) }
+{
+    let mut entries = Vec::new(alloc);
+    entries.push(entry)?;
+    Ok(Origins::new(entries))
 }
 
 // Whether the entry's origin is later than that of the last of these.
@@ -216,18 +189,15 @@ fn is_later(entries: &[(Day, Option<Day>)], entry: &(Day, Option<Day>)) -> bool
 }
 
 // Puts the entry behind the others, unless its origin isn't later than theirs.
-fn push_later(
-    entries: &mut Vec<(Day, Option<Day>)>,
-    entry: (Day, Option<Day>),
-) -> Result<bool, AllocError>
-    ensures later { IfOk result (λ taken. IsTrue taken ↔ IsLater entries.old.items entry) }
-    ensures pushed { IfOk result (λ taken. IsTrue taken → entries.new.items ≡ entries.old.items ++ entry ∷ []) }
-    ensures refused { IfOk result (λ taken. taken ≡ false → entries.new.items ≡ entries.old.items) }
-    ensures err { OnErr result (entries.new.items ≡ entries.old.items) }
+fn push_later(origins: &mut Origins, entry: (Day, Option<Day>)) -> Result<bool, AllocError>
+    ensures later { IfOk result (λ taken. IsTrue taken ↔ IsLater origins.old entry) }
+    ensures pushed { IfOk result (λ taken. IsTrue taken → origins.new ≡ origins.old ++ entry ∷ []) }
+    ensures refused { IfOk result (λ taken. taken ≡ false → origins.new ≡ origins.old) }
+    ensures err { OnErr result (origins.new ≡ origins.old) }
 {
-    if !is_later(entries.as_slice(), &entry) {
+    if !is_later(origins.as_slice(), &entry) {
         return Ok(false);
     }
-    entries.push(entry)?;
+    origins.push(entry)?;
     Ok(true)
 }

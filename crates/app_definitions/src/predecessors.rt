@@ -5,8 +5,10 @@ ghost use Rattle.std.specs.List.{HoldsAt};
 ghost use Rattle.csv.specs.Records.{fields_of};
 ghost use Rattle.app_definitions.specs.Predecessors.{FitsPredecessors, ArePredecessorsOf};
 ghost use Rattle.app_definitions.specs.Rising.{AreRising, IsPlaceFor};
+ghost use Rattle.app_definitions.specs.declared.columns.TheConstants.{PREDECESSOR_FIELDS};
 
 use crate::by_name::Definition;
+use crate::columns::{PREDECESSOR, PREDECESSOR_FIELDS};
 use crate::fields::{field_at, name_of};
 use csv::ByteRecord;
 use std::alloc::{AllocError, Global};
@@ -90,16 +92,16 @@ fn place_of(names: &[Name], name: &Name) -> Result<usize, usize>
 }
 
 impl Definition for Predecessors {
-    ghost FIELDS = { 2 };
+    ghost FIELDS = { PREDECESSOR_FIELDS };
 
     ghost FitsName = { FitsPredecessors };
 
     ghost IsMadeOf = { ArePredecessorsOf };
 
-    const FIELDS: usize = 2;
+    const FIELDS: usize = PREDECESSOR_FIELDS;
 
     fn begin(alloc: Global, row: &ByteRecord) -> Result<Option<Predecessors>, AllocError> {
-        let Some(name) = name_of(field_at(row, 1)) else {
+        let Some(name) = name_of(field_at(row, PREDECESSOR)) else {
             return Ok(None);
         };
         let mut names = Vec::new(alloc);
@@ -112,7 +114,7 @@ impl Definition for Predecessors {
     }
 
     fn join(&mut self, row: &ByteRecord) -> Result<bool, AllocError> {
-        let Some(name) = name_of(field_at(row, 1)) else {
+        let Some(name) = name_of(field_at(row, PREDECESSOR)) else {
             return Ok(false);
         };
         match place_of(&self.names, &name) {

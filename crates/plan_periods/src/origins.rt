@@ -1,4 +1,4 @@
-ghost use Rattle.std.specs.Prelude.{◌≡◌, ◌↔◌, IsTrue, [], length};
+ghost use Rattle.std.specs.Prelude.{◌≡◌, ◌↔◌, ◌++◌, ◌∷◌, IsTrue, OnErr, OnOk, [], length};
 
 use std::alloc::AllocError;
 use std::marker::Model;
@@ -32,6 +32,15 @@ impl Origins {
         ensures { result.items ≡ self }
     {
         self.entries
+    }
+
+    /// Puts an origin, with the last day of its interval or none, behind the others.
+    pub fn push(&mut self, entry: (Day, Option<Day>)) -> Result<(), AllocError>
+        ensures ok { OnOk result (self.new ≡ self.old ++ entry ∷ []) }
+        ensures err { OnErr result (self.new ≡ self.old) }
+    {
+        self.entries.push(entry)?;
+        Ok(())
     }
 
     /// The origins in their order.

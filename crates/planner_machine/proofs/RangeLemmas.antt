@@ -17,7 +17,7 @@ use Rattle.run_cycles.specs.declared.cycles.RunCycle.{RunCycle}
 use Rattle.app_definitions.proofs.ByNameLemmas.{same_name}
 use Rattle.app_definitions.specs.Applications.{FitsApplication, IsApplicationOf}
 use Rattle.app_definitions.specs.ByName.{FitsKind, IsDefinedBy, records_of}
-use Rattle.app_definitions.specs.CycleRecords.{AreRunCyclesOf, FitsRunCycle, SpellsKind, SpellsRunCycle}
+use Rattle.app_definitions.specs.CycleRecords.{AreRunCyclesOf, FitsRunCycle, SpellsType, SpellsRunCycle}
 use Rattle.app_definitions.specs.Fields.{field}
 use Rattle.app_definitions.specs.Predecessors.{ArePredecessorsOf, FitsPredecessors, predecessors_of}
 use Rattle.app_definitions.specs.Records.{AllGood}
@@ -28,6 +28,7 @@ use Rattle.planner_machine.specs.Drafts.{NamesDraft, draft_of}
 use Rattle.planner_machine.specs.InForce.{IsDefinedLink}
 use Rattle.planner_machine.specs.Moves.{numbered_row}
 use Rattle.planner_machine.specs.Sound.{AreDefinable, AreDefinitions, IsOrigin, IsRow}
+use Rattle.app_definitions.specs.declared.columns.TheConstants.{NAME, PREDECESSOR, CYCLE_TYPE, CYCLE_DEADLINE_DAY, CYCLE_DEADLINE_TIME}
 
 -- a record among good ones is good after some
 good_row : (Fits : List (List (List ℕ)) → List (List ℕ) → Type 0) (rows : List (List (List ℕ))) (row : List (List ℕ))
@@ -37,13 +38,13 @@ good_row Fits rows row good (k, lt, is) =
 
 -- a record about a name is one of all, and its first field is the name
 record_in : (name : List ℕ) (rows : List (List (List ℕ))) (row : List (List ℕ)) → Contains (records_of name rows) row
-    → Contains rows row × (field row 0 ≡ name)
+    → Contains rows row × (field row NAME ≡ name)
 record_in name rows row there = (
   All-contains (Contains rows) (records_of name rows) row
-      (All-filter (λ r. pointwise nat_eq (field r 0) name) (Contains rows) rows (All-contains_itself rows)) there,
-  same_name (field row 0) name
-      (All-contains (λ r. pointwise nat_eq (field r 0) name ≡ true) (records_of name rows) row
-      (filter_passes (λ r. pointwise nat_eq (field r 0) name) rows) there),
+      (All-filter (λ r. pointwise nat_eq (field r NAME) name) (Contains rows) rows (All-contains_itself rows)) there,
+  same_name (field row NAME) name
+      (All-contains (λ r. pointwise nat_eq (field r NAME) name ≡ true) (records_of name rows) row
+      (filter_passes (λ r. pointwise nat_eq (field r NAME) name) rows) there),
 )
 
 some_element : {X : Type 0} (xs : List X) → xs ≢ [] → (x : X) × Contains xs x
@@ -86,11 +87,11 @@ link_names all are link (names, is, listed) =
         → ((row : List (List ℕ)) → Contains some row → Contains rows row) → Contains (predecessors_of some) name
         → IsName name
     in_records rows good name some all_in (k, lt, is) =
-        let within : k < length some = omega (arith, length-map some (λ (row : List (List ℕ)). field row 1)) in
+        let within : k < length some = omega (arith, length-map some (λ (row : List (List ℕ)). field row PREDECESSOR)) in
         let row : List (List ℕ) = get_or some k [] in
         let (before, fits) = good_row (FitsKind 2 FitsPredecessors) rows (get_or some k []) good
         (all_in (get_or some k []) (Contains-get_or some k [] within)) in
-        subst IsName (sym (get_or-map (λ (row : List (List ℕ)). field row 1) some k [] name within) ∙ is) fits.2.0
+        subst IsName (sym (get_or-map (λ (row : List (List ℕ)). field row PREDECESSOR) some k [] name within) ∙ is) fits.2.0
 
 -- the run cycles of an application have their ranges
 pub record CycleRanges (cycle : RunCycle) : Type 0 where
@@ -98,7 +99,7 @@ pub record CycleRanges (cycle : RunCycle) : Type 0 where
   pub ia : IsMinute cycle.ia
   pub deadline : (d : Deadline) → HasDeadline cycle.kind d → (d.days ≤ 99) × IsMinute d.time
 
-kind_ranges : (kind : CycleType) (letter day time : List ℕ) → SpellsKind letter day time kind → (d : Deadline)
+kind_ranges : (kind : CycleType) (letter day time : List ℕ) → SpellsType letter day time kind → (d : Deadline)
     → HasDeadline kind d → (d.days ≤ 99) × IsMinute d.time
 kind_ranges (Normal own) letter day time spells d is =
     let spelled = spells.1 in let most = spelled.day_text.1 in let days = spelled.days in
@@ -116,7 +117,7 @@ cycle_ranges all are app (Some cycles) is cycle there =
     record {
       name = subst IsShort (sym spells.name) spells.short_name;
       ia = spells.ia.in_range;
-      deadline = kind_ranges cycle.kind (field row 2) (field row 9) (field row 10) spells.kind;
+      deadline = kind_ranges cycle.kind (field row CYCLE_TYPE) (field row CYCLE_DEADLINE_DAY) (field row CYCLE_DEADLINE_TIME) spells.kind;
     }
 
 pub is_moment : (m : ℕ) → 730 * 1440 ≤ m → m < 37255 * 1440 → IsMoment m

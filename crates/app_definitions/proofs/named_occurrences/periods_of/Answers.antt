@@ -3,7 +3,7 @@ use Rattle.std.specs.Prelude.{Some, None}
 use Rattle.std.specs.FinMap as map
 use Rattle.run_cycles.specs.Occurrence.{PeriodMap}
 use Rattle.app_definitions.proofs.NamedLemmas.{AgreeBefore, IsWithin, nothing_yet, agree_more, absent_stays, agree_inserted, within_inserted, same_inserted}
-use Rattle.app_definitions.proofs.named_occurrences.periods_of.Goals.{in-Some+in_ok-to_period+in_ok-insert, in_default}
+use Rattle.app_definitions.proofs.named_occurrences.periods_of.Goals.{in-Some+in_ok-clone+in_ok-insert, in_default}
 use Rattle.app_definitions.proofs.named_occurrences.periods_of.Goals as goal
 
 pub loop-cycle-init : goal.loop-cycle-init
@@ -18,8 +18,8 @@ loop-cycle-preserved c =
     let (agree, within) = c.loop-cycle.invariant in
     let holds = λ (m : PeriodMap). AgreeBefore all m c.args.cycles.now (c.loop-cycle.cycle-index + 1) × IsWithin all m in
     elim c.match-get.branch [
-      | in-Some+in_ok-to_period+in_ok-insert w ↦
-          let p = w.in_ok-to_period.field-0 in
+      | in-Some+in_ok-clone+in_ok-insert w ↦
+          let p = w.in_ok-clone.field-0 in
           let there : map.get all cycle.period ≡ Some p = search rules in
           let agree' = agree_inserted all some c.args.cycles.now c.loop-cycle.cycle-index cycle.period p there agree in
           let same = same_inserted all some cycle.period p there in

@@ -4,6 +4,7 @@ use Rattle.csv.specs.Records.{fields_of}
 use Rattle.csv.specs.declared.parser.State.TheVariants as st
 use Rattle.std.proofs.lemmas.Bool.{false≢true}
 use Rattle.csv.proofs.ReadFacts.{rows-end, rows-more}
+use Rattle.app_definitions.specs.ByName.{FitsKind}
 use Rattle.app_definitions.proofs.RecordLemmas.{records-all, reader-took, few-records, first_faulty-at, AllGood-more, error-faulty}
 use Rattle.app_definitions.proofs.records.gather_all.Goals as goal
 
@@ -44,8 +45,8 @@ returns-in-Ok-false-clause-faulty g c =
     let took = reader-took (λ (s : Bor (List ℕ)). Some s.now) c.loop-row.row-iterator.rdr c.next.new.self.rdr (fields_of c.in-Ok.record) default_config (strip_bom c.args.text.now) inv.10 inv.6 inv.3 inv.11 inv.12 s.0.0 in
     let told = c.in-Ok-false.ensures.taken inv.6 inv.9 in
     let is_false : c.in-Ok-false.field-0 ≡ false = c.in-Ok-false.field-0-test in
-    let bad : ¬ (g.G.Gather.Fits inv.6 (fields_of c.in-Ok.record)) = λ fits. false≢true (sym is_false ∙ told.1 fits) in
-    first_faulty-at g.G.Gather.Fits _ inv.6 (fields_of c.in-Ok.record) took.0 (c.loop-row.number + 1) took.1 inv.8 bad (omega (arith, inv.7))
+    let bad : ¬ (FitsKind g.D.Definition.FIELDS g.D.Definition.FitsName inv.6 (fields_of c.in-Ok.record)) = λ fits. false≢true (sym is_false ∙ told.1 fits) in
+    first_faulty-at (FitsKind g.D.Definition.FIELDS g.D.Definition.FitsName) _ inv.6 (fields_of c.in-Ok.record) took.0 (c.loop-row.number + 1) took.1 inv.8 bad (omega (arith, inv.7))
 
 pub loop-row-preserved : goal.loop-row-preserved
 loop-row-preserved g c =
@@ -56,17 +57,17 @@ loop-row-preserved g c =
     let m = rows-more (λ (s : Bor (List ℕ)). Some s.now) c.loop-row.row-iterator.rdr c.next.new.self.rdr (fields_of c.in-Ok.record) default_config st.StartRecord (strip_bom c.args.text.now) inv.10 inv.6 inv.3 inv.11 inv.12 s.0 in
     let told = c.in-Ok-true.ensures.taken inv.6 inv.9 in
     let is_true : c.in-Ok-true.field-0 ≡ true = c.in-Ok-true.field-0-test in
-    let fits : g.G.Gather.Fits inv.6 (fields_of c.in-Ok.record) = told.0 is_true in
+    let fits : FitsKind g.D.Definition.FIELDS g.D.Definition.FitsName inv.6 (fields_of c.in-Ok.record) = told.0 is_true in
     let expects = (s.0.5 refl inv.4).1 in (
       s.0.3 ∙ inv.0,
       inl s.1,
       s.2,
       s.0.2 ∙ inv.3,
       flexible ∙ inv.4,
-      rw expects (g.met.G.Gather.fixed inv.6 (fields_of c.in-Ok.record) fits),
+      rw expects (fits.0),
       inv.6 ++ fields_of c.in-Ok.record ∷ [],
       omega (arith, inv.7, length-append inv.6 (fields_of c.in-Ok.record ∷ [])),
-      AllGood-more g.G.Gather.Fits inv.6 (fields_of c.in-Ok.record) inv.8 fits,
+      AllGood-more (FitsKind g.D.Definition.FIELDS g.D.Definition.FitsName) inv.6 (fields_of c.in-Ok.record) inv.8 fits,
       c.in-Ok-true.ensures.gathered inv.6 inv.9 is_true,
       m.0,
       m.1,
@@ -78,7 +79,7 @@ returns-in-Err-clause-faulty g c =
     let inv = c.loop-row.invariant in
     let s = rw (c.in-Some.is, c.in-Err.is) at ((c.next.ensures.steps inv.2 inv.0).0 inv.1) in
     rw c.fault_of.ensures (error-faulty (λ (s : Bor (List ℕ)). Some s.now) c.loop-row.row-iterator.rdr c.next.new.self.rdr c.in-Err.error.kind (strip_bom c.args.text.now) inv.10 inv.6
-    g.G.Gather.Fits g.G.Gather.fields (c.loop-row.number + 1) g.met.G.Gather.fixed inv.3 inv.11 inv.12 inv.5 inv.8 (omega (arith, inv.7)) s)
+    (FitsKind g.D.Definition.FIELDS g.D.Definition.FitsName) g.D.Definition.FIELDS (c.loop-row.number + 1) (λ before row fits. fits.0) inv.3 inv.11 inv.12 inv.5 inv.8 (omega (arith, inv.7)) s)
 
 pub returns-clause-good : goal.returns-clause-good
 returns-clause-good g c =

@@ -7,7 +7,7 @@ use Rattle.app_definitions.proofs.calendars.CalendarDefinition.begin.Goals as go
 pub returns-then-branch-clause-begun : goal.returns-then-branch-clause-begun
 returns-then-branch-clause-begun c =
     let start : IsCalendarOf c.new-calendar.result [] = rw c.new-calendar.ensures IsCalendarOf-none in
-    let told = c.in_ok-list.ensures.taken [] start in
+    let told = c.in_ok-add_entry.ensures.taken [] start in
     (λ some. told.0 c.if-branch.true, λ fits. some_is)
   where
     some_is : true ≡ true
@@ -16,10 +16,10 @@ returns-then-branch-clause-begun c =
 pub returns-then-branch-clause-made : goal.returns-then-branch-clause-made
 returns-then-branch-clause-made c =
     let start : IsCalendarOf c.new-calendar.result [] = rw c.new-calendar.ensures IsCalendarOf-none in
-    c.in_ok-list.ensures.made [] start c.if-branch.true
+    c.in_ok-add_entry.ensures.made [] start c.if-branch.true
 
 pub returns-else-branch-clause-begun : goal.returns-else-branch-clause-begun
 returns-else-branch-clause-begun c =
     let start : IsCalendarOf c.new-calendar.result [] = rw c.new-calendar.ensures IsCalendarOf-none in
-    let told = c.in_ok-list.ensures.taken [] start in
+    let told = c.in_ok-add_entry.ensures.taken [] start in
     (λ none. absurd (false≢true none), λ fits. sym c.if-branch.false ∙ told.1 fits)

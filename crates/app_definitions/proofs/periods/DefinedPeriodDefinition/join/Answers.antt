@@ -4,12 +4,12 @@ use Rattle.std.specs.Cmp.Lexicographic.{pointwise}
 use Rattle.std.proofs.lemmas.Bool.{false≢true}
 use Rattle.csv.specs.Records.{fields_of}
 use Rattle.plan_periods.specs.declared.periods.Period.TheVariants.{Listed as ListedPeriod}
-use Rattle.app_definitions.specs.Divisions.{period_of}
 use Rattle.app_definitions.specs.Fields.{field}
 use Rattle.app_definitions.specs.Periods.{IsPeriodOf}
 use Rattle.app_definitions.proofs.ByNameLemmas.{IfOk-map, same_name}
 use Rattle.app_definitions.proofs.PeriodLemmas.{goes_on-taken, GiveEntries-push, first-kept}
 use Rattle.app_definitions.proofs.periods.DefinedPeriodDefinition.join.Goals as goal
+use Rattle.app_definitions.specs.declared.columns.TheConstants.{PERIOD_TYPE}
 
 letter_is : (a b : List ℕ) (r : Bool) → r ≡ false → r ≡ not (pointwise nat_eq a b) → b ≡ codes "N" → a ≡ codes "N"
 letter_is a b r e is n = same_name a b (by (pointwise nat_eq a b) refl) ∙ n
@@ -20,18 +20,18 @@ letter_is a b r e is n = same_name a b (by (pointwise nat_eq a b) refl) ∙ n
 
 pub returns-clause-taken : goal.returns-clause-taken
 returns-clause-taken c = λ before some of.
-    let n : field (fields_of c.args.row.now) 1 ≡ codes "N" = sym c.field_at-letter.ensures ∙ letter_is c.field_at-letter.result.now c.as_slice.result.now c.ne.result c.if-ne.false c.ne.ensures c.as_slice.ensures in
-    let is : c.args.self.now ≡ ListedPeriod c.in-Listed.entries.items = sym c.self.view_is ∙ ap period_of c.in-Listed.is in
-    let listed : IsPeriodOf (ListedPeriod c.in-Listed.entries.items) before = rw is at of in
-    IfOk-map c.push_later.result _ _ (λ b told. goes_on-taken before (fields_of c.args.row.now) c.in-Listed.entries.items c.in-Some.entry b some listed.0 n listed.1 c.in-Some.ensures.value told) c.push_later.ensures.later
+    let n : field (fields_of c.args.row.now) PERIOD_TYPE ≡ codes "N" = sym c.field_at.ensures ∙ letter_is c.field_at.result.now c.as_slice.result.now c.ne.result c.if-ne.false c.ne.ensures c.as_slice.ensures in
+    let is : c.args.self.now ≡ ListedPeriod c.in-Listed.origins = sym c.self.view_is ∙ c.in-Listed.is in
+    let listed : IsPeriodOf (ListedPeriod c.in-Listed.origins) before = rw is at of in
+    IfOk-map c.push_later.result _ _ (λ b told. goes_on-taken before (fields_of c.args.row.now) c.in-Listed.origins c.in-Some.entry b some listed.0 n listed.1 c.in-Some.ensures.value told) c.push_later.ensures.later
 
 pub returns-clause-made : goal.returns-clause-made
 returns-clause-made c = λ before some of.
-    let is : c.args.self.now ≡ ListedPeriod c.in-Listed.entries.items = sym c.self.view_is ∙ ap period_of c.in-Listed.is in
-    let listed : IsPeriodOf (ListedPeriod c.in-Listed.entries.items) before = rw is at of in
+    let is : c.args.self.now ≡ ListedPeriod c.in-Listed.origins = sym c.self.view_is ∙ c.in-Listed.is in
+    let listed : IsPeriodOf (ListedPeriod c.in-Listed.origins) before = rw is at of in
     IfOk-map c.push_later.result _ _ (λ b pushed yes. (
       rw (first-kept before (fields_of c.args.row.now) some) listed.0,
-      rw (pushed yes) (GiveEntries-push before c.in-Listed.entries.items (fields_of c.args.row.now) c.in-Some.entry listed.1 c.in-Some.ensures.value),
+      rw (pushed yes) (GiveEntries-push before c.in-Listed.origins (fields_of c.args.row.now) c.in-Some.entry listed.1 c.in-Some.ensures.value),
     )) c.push_later.ensures.pushed
 
 pub invariant_of-self : goal.invariant_of-self

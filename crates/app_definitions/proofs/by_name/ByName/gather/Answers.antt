@@ -2,7 +2,7 @@ use Rattle.std.proofs.Common.{◌≡◌, ◌∙◌, sym, ap, refl, true, false, 
 use Rattle.std.specs.Prelude.{is_some}
 use Rattle.csv.specs.Records.{fields_of}
 use Rattle.app_definitions.proofs.ByNameLemmas.{joined-taken, joined-gathered, begun-taken, begun-gathered, written-view_of, seen-view_of}
-use Rattle.app_definitions.proofs.by_name.ByNameGather.gather.Goals as goal
+use Rattle.app_definitions.proofs.by_name.ByName.gather.Goals as goal
 
 pub returns-in-Some-get_mut-clause-taken : goal.returns-in-Some-get_mut-clause-taken
 returns-in-Some-get_mut-clause-taken g c = λ before given.
