@@ -1,5 +1,6 @@
 -- Definitions made of a vector of entries, and given back as one.
-use Rattle.std.proofs.Common.{◌≡◌, ◌∙◌, sym, ap, subst, refl, append_assoc, ℕ, ◌+◌, ◌<◌, List, [], ◌∷◌, ◌++◌, length, get_or, true, false, Option, Some, None, nat_eq, arith}
+use Rattle.std.proofs.Common.{◌≡◌, ◌∙◌, sym, ap, subst, refl, append_assoc, ℕ, ◌+◌, ◌<◌, List, [], ◌∷◌, ◌++◌, length}
+use Rattle.std.proofs.Common.{get_or, true, false, Option, Some, None, nat_eq, arith}
 use Rattle.std.specs.Prelude.{is_some}
 use Rattle.std.specs.FinMap as map
 use Rattle.std.specs.Cmp.Lexicographic.{pointwise, slice_cmp}
@@ -19,13 +20,17 @@ pub record AreLeft {D : Type 0} (all es left : List (List ℕ × D)) (n : ℕ) :
   pub counted : n ≡ length left
   pub own_names : HaveOwnNames es
 
-pub left-all : {D : Type 0} (all es left : List (List ℕ × D)) (n : ℕ) → es ≡ [] → left ≡ all → n ≡ length all → HaveOwnNames es → AreLeft all es left n
-left-all all es left n none is counted own = record { all_are = ap (λ l. l ++ left) none ∙ is; counted = counted ∙ ap length (sym is); own_names = own }
+pub left-all : {D : Type 0} (all es left : List (List ℕ × D)) (n : ℕ) → es ≡ [] → left ≡ all → n ≡ length all
+    → HaveOwnNames es → AreLeft all es left n
+left-all all es left n none is counted own =
+    record { all_are = ap (λ l. l ++ left) none ∙ is; counted = counted ∙ ap length (sym is); own_names = own }
 
-pub left-more : {D : Type 0} (all es new left rest : List (List ℕ × D)) (name : List ℕ) (d : D) (n m : ℕ) → AreLeft all es left n
+pub left-more : {D : Type 0} (all es new left rest : List (List ℕ × D)) (name : List ℕ) (d : D) (n m : ℕ)
+    → AreLeft all es left n
     → left ≡ (name, d) ∷ rest → m + 1 ≡ n → new ≡ es ++ (name, d) ∷ [] → HaveOwnNames new → AreLeft all new rest m
 left-more all es new left rest name d n m are steps one put own = record {
-  all_are = ap (λ l. l ++ rest) put ∙ append_assoc es ((name, d) ∷ []) rest ∙ ap (λ l. es ++ l) (sym steps) ∙ are.all_are;
+  all_are = ap (λ l. l ++ rest) put ∙ append_assoc es ((name, d) ∷ []) rest ∙ ap (λ l. es ++ l) (sym steps)
+      ∙ are.all_are;
   counted = let h = are.counted in let long = ap length steps in omega (arith, h, long, one);
   own_names = own;
 }
@@ -44,7 +49,8 @@ is_none None h = refl
 is_none (Some d) h = absurd (false≢true (sym h))
 
 -- a name that is put in already
-pub named_twice : {D : Type 0} (all es left rest : List (List ℕ × D)) (name : List ℕ) (d : D) (n : ℕ) → AreLeft all es left n
+pub named_twice : {D : Type 0} (all es left rest : List (List ℕ × D)) (name : List ℕ) (d : D) (n : ℕ)
+    → AreLeft all es left n
     → left ≡ (name, d) ∷ rest → is_some (lookup (pointwise nat_eq name) es) ≡ true → HaveOwnNames all → ⊥
 named_twice all es left rest name d n are steps there own =
     let is : es ++ (name, d) ∷ rest ≡ all = ap (λ l. es ++ l) (sym steps) ∙ are.all_are in
@@ -57,16 +63,22 @@ are_made all es is own = record { are = ap view_of (sym is); own_names = subst H
 
 -- entries in another order are those of the same definitions
 pub reordered : {D : Type 0} (es fs : List (List ℕ × D)) (m : Definitions D) → view_of es ≡ m
-    → ((q : List ℕ) → lookup (pointwise nat_eq q) fs ≡ lookup (pointwise nat_eq q) es) → HaveOwnNames fs → AreEntriesOf fs m
+    → ((q : List ℕ) → lookup (pointwise nat_eq q) fs ≡ lookup (pointwise nat_eq q) es) → HaveOwnNames fs
+    → AreEntriesOf fs m
 reordered es fs m e same own = record {
   are = same_by_name (view_of fs) (view_of es) (λ q. get-view_of fs q ∙ same q ∙ sym (get-view_of es q)) ∙ e;
   own_names = own;
 }
 
 -- entries that are sorted by their names rise
-pub entries-rise : {D : Type 0} (es : List (List ℕ × D)) → IsSorted (slice_cmp nat_cmp) (keys_of es) → HaveOwnNames es → AreRising (λ e. e.0) es
+pub entries-rise : {D : Type 0} (es : List (List ℕ × D)) → IsSorted (slice_cmp nat_cmp) (keys_of es) → HaveOwnNames es
+    → AreRising (λ e. e.0) es
 entries-rise {D} es up own i j d lt within =
     let long = length-map es (λ (e : List ℕ × D). e.0) in
     let first : i < length es = omega (arith, lt, within) in
-    let below : IsBelow (get_or (keys_of es) i d.0) (get_or (keys_of es) j d.0) = rising_sorted (keys_of es) up own i j d.0 lt (omega (arith, long, within)) in
-    rw (get_or-map (λ (e : List ℕ × D). e.0) es i d d.0 first, get_or-map (λ (e : List ℕ × D). e.0) es j d d.0 within) at below
+    let below : IsBelow (get_or (keys_of es) i d.0) (get_or (keys_of es) j d.0) =
+    rising_sorted (keys_of es) up own i j d.0 lt (omega (arith, long, within)) in
+    rw (
+      get_or-map (λ (e : List ℕ × D). e.0) es i d d.0 first,
+      get_or-map (λ (e : List ℕ × D). e.0) es j d d.0 within,
+    ) at below

@@ -1,5 +1,6 @@
 -- What the fields of a record spell.
-use Rattle.std.proofs.Common.{◌≡◌, ℕ, zero, suc, ◌+◌, ◌-◌, ◌*◌, ◌/◌, ◌%◌, ◌<◌, ◌≤◌, List, [], ◌∷◌, ◌++◌, get_or, length, ap, refl, arith}
+use Rattle.std.proofs.Common.{◌≡◌, ℕ, zero, suc, ◌+◌, ◌-◌, ◌*◌, ◌/◌, ◌%◌, ◌<◌, ◌≤◌, List, [], ◌∷◌, ◌++◌, get_or}
+use Rattle.std.proofs.Common.{length, ap, refl, arith}
 use Rattle.std.specs.Prelude.{IsUtf8, fold}
 use Rattle.std.specs.List.{AllByRecursion}
 use Rattle.std.proofs.lemmas.Str.{IsUtf8-from_ascii}
@@ -27,28 +28,41 @@ IsUtf8-day text day s =
     let of_month : s.date.day < 100 = omega arith in
     rw s.text_is (IsUtf8-from_ascii _ (ascii_at (date_spelling s.year s.date.month s.date.day) (
       omega arith,
-      (omega arith, (omega arith, (omega arith, (omega arith, (omega arith, (omega arith, (omega arith, (omega arith, (omega arith, tt))))))))),
+      (
+        omega arith,
+        (
+          omega arith,
+          (
+            omega arith,
+            (omega arith, (omega arith, (omega arith, (omega arith, (omega arith, (omega arith, tt)))))),
+          ),
+        ),
+      ),
     )))
 
 -- a text of a minute is ASCII
 pub IsUtf8-minute : (text : List ℕ) (minute : ℕ) → SpellsMinute text minute → IsUtf8 text
 IsUtf8-minute text minute s =
     let within = s.in_range in
-    rw s.text_is (IsUtf8-from_ascii _ (ascii_at (clock_spelling (minute / 60) (minute % 60)) (omega arith, (omega arith, (omega arith, (omega arith, (omega arith, tt)))))))
+    rw s.text_is (IsUtf8-from_ascii _ (ascii_at (clock_spelling (minute / 60) (minute % 60))
+    (omega arith, (omega arith, (omega arith, (omega arith, (omega arith, tt)))))))
 
 -- a digit more
-pub number_value-more : (digits : List ℕ) (digit : ℕ) → number_value (digits ++ digit ∷ []) ≡ number_value digits * 10 + (digit - 48)
+pub number_value-more : (digits : List ℕ) (digit : ℕ)
+    → number_value (digits ++ digit ∷ []) ≡ number_value digits * 10 + (digit - 48)
 number_value-more digits digit = fold-append (λ n d. n * 10 + (d - 48)) 0 digits (digit ∷ [])
 
 from-le : (n : ℕ) (more : List ℕ) → n ≤ fold (λ n d. n * 10 + (d - 48)) n more
 from-le n [] = omega arith
 from-le n (d ∷ more) =
-    let h : n * 10 + (d - 48) ≤ fold (λ n d. n * 10 + (d - 48)) (n * 10 + (d - 48)) more = from-le (n * 10 + (d - 48)) more in
+    let h : n * 10 + (d - 48) ≤ fold (λ n d. n * 10 + (d - 48)) (n * 10 + (d - 48)) more =
+    from-le (n * 10 + (d - 48)) more in
     omega (arith, h)
 
 -- a number's first digits are no greater
 pub number_value-le : (digits more : List ℕ) → number_value digits ≤ number_value (digits ++ more)
-number_value-le digits more = rw (fold-append (λ n d. n * 10 + (d - 48)) 0 digits more) (from-le (number_value digits) more)
+number_value-le digits more = rw (fold-append (λ n d. n * 10 + (d - 48)) 0 digits more)
+    (from-le (number_value digits) more)
 
 -- a text of one letter
 pub one_letter : (text : List ℕ) (a : ℕ) → length text ≡ 1 → get_or text 0 0 ≡ a → text ≡ a ∷ []
@@ -57,7 +71,8 @@ one_letter (x ∷ []) a long is = ap (λ y. y ∷ []) is
 one_letter (x ∷ y ∷ text) a long is = absurd (omega (arith, long))
 
 -- a text of three letters
-pub three_letters : (text : List ℕ) (a b c : ℕ) → length text ≡ 3 → get_or text 0 0 ≡ a → get_or text 1 0 ≡ b → get_or text 2 0 ≡ c
+pub three_letters : (text : List ℕ) (a b c : ℕ) → length text ≡ 3 → get_or text 0 0 ≡ a → get_or text 1 0 ≡ b
+    → get_or text 2 0 ≡ c
     → text ≡ a ∷ b ∷ c ∷ []
 three_letters [] a b c long p q r = absurd (omega (arith, long))
 three_letters (x ∷ []) a b c long p q r = absurd (omega (arith, long))

@@ -1,5 +1,6 @@
 -- The links of entries of predecessor lists.
-use Rattle.std.proofs.Common.{◌≡◌, ◌∙◌, ◌⊎◌, sym, ap, subst, inl, inr, ℕ, List, [], ◌∷◌, ◌++◌, append_assoc, map, Some, nat_eq, arith}
+use Rattle.std.proofs.Common.{◌≡◌, ◌∙◌, ◌⊎◌, sym, ap, subst, inl, inr, ℕ, List, [], ◌∷◌, ◌++◌, append_assoc, map}
+use Rattle.std.proofs.Common.{Some, nat_eq, arith}
 use Rattle.std.specs.Prelude.{Contains, ◌↔◌}
 use Rattle.std.specs.FinMap as map
 use Rattle.std.specs.Cmp.Lexicographic.{pointwise, slice_cmp, nat_list_eq_equiv}
@@ -30,17 +31,22 @@ links_of [] = []
 links_of (e ∷ es) = map (link_of e.0) e.1 ++ links_of es
 
 -- one entry more
-pub links_of-push : (es : List (List ℕ × List (List ℕ))) (app : List ℕ) (names : List (List ℕ)) → links_of (es ++ (app, names) ∷ []) ≡ links_of es ++ map (link_of app) names
+pub links_of-push : (es : List (List ℕ × List (List ℕ))) (app : List ℕ) (names : List (List ℕ))
+    → links_of (es ++ (app, names) ∷ []) ≡ links_of es ++ map (link_of app) names
 links_of-push [] app names = append-nil (map (link_of app) names)
-links_of-push (e ∷ es) app names = ap (λ l. map (link_of e.0) e.1 ++ l) (links_of-push es app names) ∙ sym (append_assoc (map (link_of e.0) e.1) (links_of es) (map (link_of app) names))
+links_of-push (e ∷ es) app names = ap (λ l. map (link_of e.0) e.1 ++ l) (links_of-push es app names)
+    ∙ sym (append_assoc (map (link_of e.0) e.1) (links_of es) (map (link_of app) names))
 
 -- a link stands in the list of an entry
-in_entry : (es : List Entry) (app predecessor : List ℕ) → Contains (links_of es) (app, predecessor) → (names : List (List ℕ)) × Contains es (app, names) × Contains names predecessor
+in_entry : (es : List Entry) (app predecessor : List ℕ) → Contains (links_of es) (app, predecessor)
+    → (names : List (List ℕ)) × Contains es (app, names) × Contains names predecessor
 in_entry [] app predecessor (k, lt, is) = absurd (omega (arith, lt))
-in_entry (e ∷ es) app predecessor has = from (Contains-append_cases (map (link_of e.0) e.1) (links_of es) (app, predecessor) has) (in_entry es app predecessor)
+in_entry (e ∷ es) app predecessor has = from
+    (Contains-append_cases (map (link_of e.0) e.1) (links_of es) (app, predecessor) has) (in_entry es app predecessor)
   where
     from : Contains (map (link_of e.0) e.1) (app, predecessor) ⊎ Contains (links_of es) (app, predecessor)
-        → (Contains (links_of es) (app, predecessor) → (names : List (List ℕ)) × Contains es (app, names) × Contains names predecessor)
+        → (Contains (links_of es) (app, predecessor) → (names : List (List ℕ)) × Contains es (app, names)
+        × Contains names predecessor)
         → (names : List (List ℕ)) × Contains (e ∷ es) (app, names) × Contains names predecessor
     from (inl here) rest =
         let (name, there, same) = Contains-map_back (link_of e.0) e.1 (app, predecessor) here in
@@ -49,31 +55,44 @@ in_entry (e ∷ es) app predecessor has = from (Contains-append_cases (map (link
         (e.1, subst (λ n. Contains (e ∷ es) (n, e.1)) of (first_of_list e es), subst (Contains e.1) named there)
     from (inr later) rest = let (names, there, has) = rest later in (names, later_of_list e es (app, names) there, has)
 
-of_entry : (es : List Entry) (app predecessor : List ℕ) (names : List (List ℕ)) → Contains es (app, names) → Contains names predecessor → Contains (links_of es) (app, predecessor)
+of_entry : (es : List Entry) (app predecessor : List ℕ) (names : List (List ℕ)) → Contains es (app, names)
+    → Contains names predecessor → Contains (links_of es) (app, predecessor)
 of_entry [] app predecessor names (k, lt, is) has = absurd (omega (arith, lt))
-of_entry (e ∷ es) app predecessor names there has = from (behind e es (app, names) there) (λ later. of_entry es app predecessor names later has)
+of_entry (e ∷ es) app predecessor names there has =
+    from (behind e es (app, names) there) (λ later. of_entry es app predecessor names later has)
   where
-    from : (e ≡ (app, names)) ⊎ Contains es (app, names) → (Contains es (app, names) → Contains (links_of es) (app, predecessor)) → Contains (map (link_of e.0) e.1 ++ links_of es) (app, predecessor)
+    from : (e ≡ (app, names)) ⊎ Contains es (app, names)
+        → (Contains es (app, names) → Contains (links_of es) (app, predecessor))
+        → Contains (map (link_of e.0) e.1 ++ links_of es) (app, predecessor)
     from (inl same) rest =
-        let here : Contains (map (link_of app) names) (app, predecessor) = Contains-map (link_of app) names predecessor has in
+        let here : Contains (map (link_of app) names) (app, predecessor) =
+        Contains-map (link_of app) names predecessor has in
         let P : Entry → Type 0 = λ x. Contains (map (link_of x.0) x.1) (app, predecessor) in
         Contains-append_left (map (link_of e.0) e.1) (links_of es) (app, predecessor) (subst P (sym same) here)
     from (inr later) rest = Contains-append_right (map (link_of e.0) e.1) (links_of es) (app, predecessor) (rest later)
 
 -- what stands among entries is what the definitions have
-pub entry_is : {D : Type 0} (es : List (List ℕ × D)) (m : map.FinMap (slice_cmp nat_cmp) D) (k : List ℕ) (v : D) → AreEntriesOf es m → Contains es (k, v) → map.get m k ≡ Some v
+pub entry_is : {D : Type 0} (es : List (List ℕ × D)) (m : map.FinMap (slice_cmp nat_cmp) D) (k : List ℕ) (v : D)
+    → AreEntriesOf es m → Contains es (k, v) → map.get m k ≡ Some v
 entry_is es m k v are (i, lt, is) =
-    ap (λ x. map.get x k) (sym are.are) ∙ get-view_of es k ∙ lookup_from_place nat_list_eq_equiv es i k v are.own_names (slice_get-get_or es i (k, v) lt ∙ ap Some is)
+    ap (λ x. map.get x k) (sym are.are) ∙ get-view_of es k
+    ∙ lookup_from_place nat_list_eq_equiv es i k v are.own_names (slice_get-get_or es i (k, v) lt ∙ ap Some is)
 
-pub entry_there : {D : Type 0} (es : List (List ℕ × D)) (m : map.FinMap (slice_cmp nat_cmp) D) (k : List ℕ) (v : D) → AreEntriesOf es m → map.get m k ≡ Some v → Contains es (k, v)
+pub entry_there : {D : Type 0} (es : List (List ℕ × D)) (m : map.FinMap (slice_cmp nat_cmp) D) (k : List ℕ) (v : D)
+    → AreEntriesOf es m → map.get m k ≡ Some v → Contains es (k, v)
 entry_there es m k v are there =
-    let (i, n, at, same) = place_from_lookup (pointwise nat_eq k) es v (sym (get-view_of es k) ∙ ap (λ x. map.get x k) are.are ∙ there) in
-    subst (λ name. Contains es (name, v)) (sym (same_name k n same)) (i, slice_get_within es i (n, v) at, get_or_from_slice_get es i (n, v) (n, v) at)
+    let (i, n, at, same) = place_from_lookup (pointwise nat_eq k) es v
+    (sym (get-view_of es k) ∙ ap (λ x. map.get x k) are.are ∙ there) in
+    subst (λ name. Contains es (name, v)) (sym (same_name k n same))
+    (i, slice_get_within es i (n, v) at, get_or_from_slice_get es i (n, v) (n, v) at)
 
 -- all links of the entries
-pub links_are : (all : Definitions) (es : List (List ℕ × List (List ℕ))) (app predecessor : List ℕ) → AreEntriesOf es all.predecessors
+pub links_are : (all : Definitions) (es : List (List ℕ × List (List ℕ))) (app predecessor : List ℕ)
+    → AreEntriesOf es all.predecessors
     → Contains (links_of es) (app, predecessor) ↔ IsDefinedLink all app predecessor
 links_are all es app predecessor are = (
-  λ has. let (names, there, in_list) = in_entry es app predecessor has in (names, entry_is es all.predecessors app names are there, in_list),
-  λ (names, there, in_list). of_entry es app predecessor names (entry_there es all.predecessors app names are there) in_list,
+  λ has. let (names, there, in_list) = in_entry es app predecessor has in
+      (names, entry_is es all.predecessors app names are there, in_list),
+  λ (names, there, in_list). of_entry es app predecessor names
+      (entry_there es all.predecessors app names are there) in_list,
 )

@@ -1,5 +1,6 @@
 -- The keys of a table of options, and the name of the default calendar.
-use Rattle.std.proofs.Common.{◌≡◌, refl, ℕ, zero, suc, ◌<◌, List, [], ◌∷◌, ◌++◌, get_or, Option, Some, Ordering, Less, Equal, Greater, string_bytes, nat_cmp, arith, IsTrue, IsSome}
+use Rattle.std.proofs.Common.{◌≡◌, refl, ℕ, zero, suc, ◌<◌, List, [], ◌∷◌, ◌++◌, get_or, Option, Some, Ordering, Less}
+use Rattle.std.proofs.Common.{Equal, Greater, string_bytes, nat_cmp, arith, IsTrue, IsSome}
 use Rattle.std.specs.Prelude.{codes}
 use Rattle.std.specs.Cmp.{tied_itself}
 use Rattle.std.specs.Cmp.Lexicographic.{slice_cmp, nat_list_cmp_total}
@@ -17,11 +18,13 @@ OnlyKeys [] = Unit {0}
 OnlyKeys (e ∷ es) = IsOptionKey (string_bytes e.0) × OnlyKeys es
 
 -- one more
-pub OnlyKeys-last : (es : List Entry) (e : Entry) → OnlyKeys es → IsOptionKey (string_bytes e.0) → OnlyKeys (es ++ e ∷ [])
+pub OnlyKeys-last : (es : List Entry) (e : Entry) → OnlyKeys es → IsOptionKey (string_bytes e.0)
+    → OnlyKeys (es ++ e ∷ [])
 OnlyKeys-last [] e all this = (this, tt)
 OnlyKeys-last (x ∷ es) e all this = (all.0, OnlyKeys-last es e all.1 this)
 
-found_at : (o : Ordering) (d : Data) (rest : Option Data) (P : Type 0) → (o ≡ Equal → P) → (IsSome rest → P) → IsSome (match_ordering o rest (Some d) rest) → P
+found_at : (o : Ordering) (d : Data) (rest : Option Data) (P : Type 0) → (o ≡ Equal → P) → (IsSome rest → P)
+    → IsSome (match_ordering o rest (Some d) rest) → P
 found_at Less d rest P same other found = other found
 found_at Equal d rest P same other found = same refl
 found_at Greater d rest P same other found = other found
@@ -44,12 +47,15 @@ found_or Equal d rest h = refl
 found_or Greater d rest h = h
 
 -- the key of an entry is that of a member
-pub member_there : (done rest : List Entry) (e : Entry) → IsSome (get_member (string_bytes e.0) (members_view (done ++ e ∷ rest)))
+pub member_there : (done rest : List Entry) (e : Entry)
+    → IsSome (get_member (string_bytes e.0) (members_view (done ++ e ∷ rest)))
 member_there [] rest e = rw (tied_itself nat_list_cmp_total (string_bytes e.0))
-member_there (d ∷ done) rest e = found_or (slice_cmp nat_cmp (string_bytes e.0) (string_bytes d.0)) (view d.1) (get_member (string_bytes e.0) (members_view (done ++ e ∷ rest))) (member_there done rest e)
+member_there (d ∷ done) rest e = found_or (slice_cmp nat_cmp (string_bytes e.0) (string_bytes d.0)) (view d.1)
+    (get_member (string_bytes e.0) (members_view (done ++ e ∷ rest))) (member_there done rest e)
 
 -- an entry with another key is one key too many
-pub another_key : (es done rest : List Entry) (e : Entry) → es ≡ done ++ e ∷ rest → ¬ (IsOptionKey (string_bytes e.0)) → ¬ (HasOnlyOptions (members_view es))
+pub another_key : (es done rest : List Entry) (e : Entry) → es ≡ done ++ e ∷ rest → ¬ (IsOptionKey (string_bytes e.0))
+    → ¬ (HasOnlyOptions (members_view es))
 another_key es done rest e is other only = other (only (string_bytes e.0) (rw is (member_there done rest e)))
 
 default_bytes : (i d : ℕ) → i < 7 → IsTrue (is_name_byte (get_or (codes "DEFAULT") i d))
@@ -65,4 +71,9 @@ default_bytes (suc (suc (suc (suc (suc (suc (suc i))))))) d h = absurd (omega ar
 
 -- the default calendar's name where none is given is a name
 pub IsName-default : IsName (codes "DEFAULT")
-IsName-default = record { not_empty = omega arith; fits = omega arith; alphabet = λ i d h. default_bytes i d h; start = refl }
+IsName-default = record {
+  not_empty = omega arith;
+  fits = omega arith;
+  alphabet = λ i d h. default_bytes i d h;
+  start = refl;
+}

@@ -23,7 +23,8 @@ cycles_of all app = unwrap_or (map.get all.run_cycles app) []
 -- the application names a calendar that isn't defined, and it isn't the default calendar's name
 abbrev pub LacksCalendar : Definitions → Application → Type 0
 LacksCalendar all a =
-    (name : List ℕ) × (a.calendar ≡ Some name) × (map.get all.calendars name ≡ None) × (name ≢ all.options.default_calendar)
+    (name : List ℕ) × (a.calendar ≡ Some name) × (map.get all.calendars name ≡ None)
+    × (name ≢ all.options.default_calendar)
 
 -- one of the application's run cycles names a period that isn't defined
 abbrev pub LacksPeriod : Definitions → List ℕ → Type 0

@@ -1,5 +1,6 @@
 -- Definitions by name, as the records of a block give them.
-use Rattle.std.specs.Prelude.{◌≡◌, ◌≢◌, ◌↔◌, ℕ, ◌++◌, List, [], filter, length, Option, None, Some, IsSome, Contains, nat_eq}
+use Rattle.std.specs.Prelude.{◌≡◌, ◌≢◌, ◌↔◌, ℕ, ◌++◌, List, [], filter, length, Option, None, Some, IsSome, Contains}
+use Rattle.std.specs.Prelude.{nat_eq}
 use Rattle.std.specs.Cmp.Lexicographic.{pointwise, slice_cmp}
 use Rattle.std.specs.List.{IsDistinct}
 use Rattle.std.specs.Map.{keys_of}
@@ -18,7 +19,8 @@ records_of name rows = filter (λ row. pointwise nat_eq (field row NAME) name) r
 -- a record of a kind whose records have that many fields is good after the records before it: it has so many, the first
 -- is a name, and the rest is good after the earlier records about that name
 abbrev pub FitsKind : ℕ → (Records → Record → Type 0) → Records → Record → Type 0
-FitsKind fields FitsName before row = (length row ≡ fields) × IsName (field row NAME) × FitsName (records_of (field row NAME) before) row
+FitsKind fields FitsName before row = (length row ≡ fields) × IsName (field row NAME)
+    × FitsName (records_of (field row NAME) before) row
 
 -- the definition of a name is the one that these records about it make, and there is none where there is no record
 abbrev pub IsDefinedBy : {D : Type 0} → (D → Records → Type 0) → Option D → Records → Type 0
@@ -27,22 +29,26 @@ IsDefinedBy IsMadeOf (Some d) rows = (rows ≢ []) × IsMadeOf d rows
 
 -- the definitions are those that these records give, for each name those that its own records make
 abbrev pub AreGivenBy : {D : Type 0} → (D → Records → Type 0) → map.FinMap (slice_cmp nat_cmp) D → Records → Type 0
-AreGivenBy IsMadeOf definitions rows = (name : List ℕ) → IsDefinedBy IsMadeOf (map.get definitions name) (records_of name rows)
+AreGivenBy IsMadeOf definitions rows = (name : List ℕ)
+    → IsDefinedBy IsMadeOf (map.get definitions name) (records_of name rows)
 
 -- no two of the entries have one name
 abbrev pub HaveOwnNames : {D : Type 0} → List (List ℕ × D) → Type 0
 HaveOwnNames entries = IsDistinct (pointwise nat_eq) (keys_of entries)
 
 -- the entries are those of the definitions, in some order, and no two have one name
-pub record AreEntriesOf {D : Type 0} (entries : List (List ℕ × D)) (definitions : map.FinMap (slice_cmp nat_cmp) D) : Type 0 where
+pub record AreEntriesOf {D : Type 0} (entries : List (List ℕ × D))
+    (definitions : map.FinMap (slice_cmp nat_cmp) D) : Type 0 where
   pub are : map.from_entries entries ≡ definitions
   pub own_names : HaveOwnNames entries
 
 -- the definitions of `more`, and for all other names those of `old`
-abbrev pub overlaid : {D : Type 0} → map.FinMap (slice_cmp nat_cmp) D → map.FinMap (slice_cmp nat_cmp) D → map.FinMap (slice_cmp nat_cmp) D
+abbrev pub overlaid : {D : Type 0} → map.FinMap (slice_cmp nat_cmp) D → map.FinMap (slice_cmp nat_cmp) D
+    → map.FinMap (slice_cmp nat_cmp) D
 overlaid old more = map.from_entries (map.entries more ++ map.entries old)
 
 -- the names are those that have a definition, in byte order, each once
-pub record AreNamesOf {D : Type 0} (names : List (List ℕ)) (definitions : map.FinMap (slice_cmp nat_cmp) D) : Type 0 where
+pub record AreNamesOf {D : Type 0} (names : List (List ℕ))
+    (definitions : map.FinMap (slice_cmp nat_cmp) D) : Type 0 where
   pub rising : AreRising (λ name. name) names
   pub exactly : (name : List ℕ) → Contains names name ↔ IsSome (map.get definitions name)

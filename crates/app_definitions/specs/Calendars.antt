@@ -1,5 +1,6 @@
 -- The records of calendars: calendar, entry, status.
-use Rattle.std.specs.Prelude.{◌≡◌, ◌≢◌, ◌⊎◌, ℕ, ◌<◌, List, [], ◌∷◌, length, Contains, Option, None, codes, MatchOption, nat_eq, if◌then◌else◌}
+use Rattle.std.specs.Prelude.{◌≡◌, ◌≢◌, ◌⊎◌, ℕ, ◌<◌, List, [], ◌∷◌, length, Contains, Option, None, codes}
+use Rattle.std.specs.Prelude.{MatchOption, nat_eq, if◌then◌else◌}
 use Rattle.std.specs.List.{slice_index_or}
 use Rattle.std.specs.Cmp.Lexicographic.{pointwise}
 use Rattle.std.specs.FinMap as map
@@ -28,10 +29,11 @@ status_of text = if pointwise nat_eq text (codes "WORK") then Work else Free
 
 -- no earlier record of the name has the same second field
 abbrev pub HasNewEntry : Records → Record → Type 0
-HasNewEntry before row = (earlier : Record) → Contains before earlier → field earlier CALENDAR_ENTRY ≢ field row CALENDAR_ENTRY
+HasNewEntry before row = (earlier : Record) → Contains before earlier
+    → field earlier CALENDAR_ENTRY ≢ field row CALENDAR_ENTRY
 
--- a record after the earlier ones of its calendar: its entry is a weekday or a day, and no earlier record has it; its status
--- is WORK or FREE
+-- a record after the earlier ones of its calendar: its entry is a weekday or a day, and no earlier record has it; its
+-- status is WORK or FREE
 pub record FitsCalendar (before : Records) (row : Record) : Type 0 where
   pub entry : ((weekday : ℕ) × IsWeekdayText (field row CALENDAR_ENTRY) weekday) ⊎ IsDayText (field row CALENDAR_ENTRY)
   pub status : IsStatusText (field row CALENDAR_STATUS)
@@ -40,10 +42,13 @@ pub record FitsCalendar (before : Records) (row : Record) : Type 0 where
 -- what is listed for an entry is the status of a record about it, and nothing where there is none
 abbrev pub IsListedBy : Option DayStatus → (List ℕ → Type 0) → Records → Type 0
 IsListedBy listed IsAbout rows =
-    MatchOption listed ((row : Record) → Contains rows row → ¬ (IsAbout (field row CALENDAR_ENTRY))) (λ status. (row : Record) × Contains rows row × IsAbout (field row CALENDAR_ENTRY) × (status ≡ status_of (field row CALENDAR_STATUS)))
+    MatchOption listed ((row : Record) → Contains rows row → ¬ (IsAbout (field row CALENDAR_ENTRY)))
+    (λ status. (row : Record) × Contains rows row × IsAbout (field row CALENDAR_ENTRY)
+    × (status ≡ status_of (field row CALENDAR_STATUS)))
 
 -- a calendar lists what these records of it say, and nothing else
 pub record IsCalendarOf (calendar : CalendarEntries) (rows : Records) : Type 0 where
   pub week : length calendar.weekdays ≡ 7
-  pub weekdays : (weekday : ℕ) → weekday < 7 → IsListedBy (slice_index_or calendar.weekdays weekday None) (λ text. IsWeekdayText text weekday) rows
+  pub weekdays : (weekday : ℕ) → weekday < 7
+      → IsListedBy (slice_index_or calendar.weekdays weekday None) (λ text. IsWeekdayText text weekday) rows
   pub dates : (day : ℕ) → IsListedBy (map.get calendar.dates day) (λ text. SpellsDay text day) rows

@@ -26,13 +26,16 @@ pub predecessor : (NAME ∷ PREDECESSOR ∷ []) ≡ (0 ∷ 1 ∷ [])
 predecessor = refl
 
 -- application, name, type, period, rule, offsets
-pub cycle_begins : (NAME ∷ CYCLE_NAME ∷ CYCLE_TYPE ∷ CYCLE_PERIOD ∷ CYCLE_RULE ∷ CYCLE_OFFSETS ∷ []) ≡ (0 ∷ 1 ∷ 2 ∷ 3 ∷ 4 ∷ 5 ∷ [])
+pub cycle_begins : (NAME ∷ CYCLE_NAME ∷ CYCLE_TYPE ∷ CYCLE_PERIOD ∷ CYCLE_RULE ∷ CYCLE_OFFSETS ∷ []) ≡
+    (0 ∷ 1 ∷ 2 ∷ 3 ∷ 4 ∷ 5 ∷ [])
 cycle_begins = refl
 
 -- in effect, out of effect, input arrival, deadline day, deadline time
-pub cycle_ends : (CYCLE_IN_EFFECT ∷ CYCLE_OUT_EFFECT ∷ CYCLE_IA ∷ CYCLE_DEADLINE_DAY ∷ CYCLE_DEADLINE_TIME ∷ []) ≡ (6 ∷ 7 ∷ 8 ∷ 9 ∷ 10 ∷ [])
+pub cycle_ends : (CYCLE_IN_EFFECT ∷ CYCLE_OUT_EFFECT ∷ CYCLE_IA ∷ CYCLE_DEADLINE_DAY ∷ CYCLE_DEADLINE_TIME ∷ []) ≡
+    (6 ∷ 7 ∷ 8 ∷ 9 ∷ 10 ∷ [])
 cycle_ends = refl
 
 -- the fields of a record of each kind
-pub fields : (APPLICATION_FIELDS ∷ CALENDAR_FIELDS ∷ PERIOD_FIELDS ∷ PREDECESSOR_FIELDS ∷ CYCLE_FIELDS ∷ []) ≡ (3 ∷ 3 ∷ 4 ∷ 2 ∷ 11 ∷ [])
+pub fields : (APPLICATION_FIELDS ∷ CALENDAR_FIELDS ∷ PERIOD_FIELDS ∷ PREDECESSOR_FIELDS ∷ CYCLE_FIELDS ∷ []) ≡
+    (3 ∷ 3 ∷ 4 ∷ 2 ∷ 11 ∷ [])
 fields = refl

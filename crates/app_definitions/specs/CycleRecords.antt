@@ -1,6 +1,7 @@
 -- The records of run cycles: application, name, type, period, rule, offsets, in effect, out of effect, input arrival,
 -- deadline day, deadline time.
-use Rattle.std.specs.Prelude.{◌≡◌, ◌≤◌, ◌==◌, ℕ, ℤ, pos, neg_ℤ, Bool, false, List, [], ◌∷◌, drop, length, map, All, Any, Contains, Some, None, codes, if◌then◌else◌}
+use Rattle.std.specs.Prelude.{◌≡◌, ◌≤◌, ◌==◌, ℕ, ℤ, pos, neg_ℤ, Bool, false, List, [], ◌∷◌, drop, length, map, All}
+use Rattle.std.specs.Prelude.{Any, Contains, Some, None, codes, if◌then◌else◌}
 use Rattle.std.specs.List.{slice_split}
 use Rattle.run_cycles.specs.declared.cycles.Deadline.{Deadline}
 use Rattle.run_cycles.specs.declared.cycles.CycleType.{CycleType}
@@ -15,7 +16,9 @@ use Rattle.work_calendars.specs.Spelling.{SpellsDay, SpellsMinute}
 use Rattle.app_definitions.specs.Fields.{field, IsNumberUpTo, number_value, SpellsOptionalDay}
 use Rattle.app_definitions.specs.Rising.{AreRising}
 use Rattle.app_definitions.specs.Records.{Record, Records}
-use Rattle.app_definitions.specs.declared.columns.TheConstants.{CYCLE_NAME, CYCLE_TYPE, CYCLE_PERIOD, CYCLE_RULE, CYCLE_OFFSETS, CYCLE_IN_EFFECT, CYCLE_OUT_EFFECT, CYCLE_IA, CYCLE_DEADLINE_DAY, CYCLE_DEADLINE_TIME}
+use Rattle.app_definitions.specs.declared.columns.TheConstants.{CYCLE_NAME, CYCLE_TYPE, CYCLE_PERIOD, CYCLE_RULE}
+use Rattle.app_definitions.specs.declared.columns.TheConstants.{CYCLE_OFFSETS, CYCLE_IN_EFFECT, CYCLE_OUT_EFFECT}
+use Rattle.app_definitions.specs.declared.columns.TheConstants.{CYCLE_IA, CYCLE_DEADLINE_DAY, CYCLE_DEADLINE_TIME}
 
 -- the letter of each rule
 abbrev pub rule_text : Rule → List ℕ

@@ -11,10 +11,17 @@ use Rattle.app_definitions.specs.declared.definitions.Definitions.{Definitions}
 
 -- nothing is defined, and no options are given
 abbrev pub no_definitions : Definitions
-no_definitions = record { applications = map.empty; calendars = map.empty; periods = map.empty; predecessors = map.empty; run_cycles = map.empty; options = default_options }
+no_definitions = record {
+  applications = map.empty;
+  calendars = map.empty;
+  periods = map.empty;
+  predecessors = map.empty;
+  run_cycles = map.empty;
+  options = default_options;
+}
 
--- the definitions of the block in place of those of the same kind and names, options in place of options, and all others
--- as they were
+-- the definitions of the block in place of those of the same kind and names, options in place of options, and all
+-- others as they were
 abbrev pub merged : Definitions → Block → Definitions
 merged old (block.Applications more) = record old { applications = overlaid old.applications more }
 merged old (block.Calendars more) = record old { calendars = overlaid old.calendars more }

@@ -1,5 +1,6 @@
 -- The fields of a record, taken as they are.
-use Rattle.std.specs.Prelude.{◌≡◌, ◌⊎◌, ◌+◌, ◌-◌, ◌*◌, ◌<◌, ◌≤◌, ℕ, List, [], ◌∷◌, get_or, slice_index, length, fold, All, Option, Some, None}
+use Rattle.std.specs.Prelude.{◌≡◌, ◌⊎◌, ◌+◌, ◌-◌, ◌*◌, ◌<◌, ◌≤◌, ℕ, List, [], ◌∷◌, get_or, slice_index, length, fold}
+use Rattle.std.specs.Prelude.{All, Option, Some, None}
 use Rattle.std.specs.Char.{IsAsciiDigit}
 use Rattle.work_calendars.specs.Spelling.{SpellsDay, SpellsMinute}
 use Rattle.app_definitions.specs.Records.{Record}

@@ -10,7 +10,8 @@ ReadsAsOne = (kind : Kind) (text : List ℕ) (a b : Block) → ReadsAs kind text
 
 -- no text reads as a block and is faulty
 abbrev pub ReadsOrIsFaulty : Type 0
-ReadsOrIsFaulty = (kind : Kind) (text : List ℕ) (b : Block) (number : ℕ) → ReadsAs kind text b → IsFaultyAt kind text number → ⊥
+ReadsOrIsFaulty = (kind : Kind) (text : List ℕ) (b : Block) (number : ℕ) → ReadsAs kind text b
+    → IsFaultyAt kind text number → ⊥
 
 -- a text is faulty at one record at most
 abbrev pub IsFaultyOnce : Type 0

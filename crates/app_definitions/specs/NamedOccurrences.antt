@@ -36,8 +36,10 @@ IndexMap = map.FinMap (slice_cmp nat_cmp) (List Bool)
 -- each index stands for the work days of the calendar of its name
 abbrev pub AreIndexesOf : Definitions → IndexMap → Type 0
 AreIndexesOf all indexes =
-    (name : List ℕ) (index : List Bool) → map.get indexes name ≡ Some index → (d : ℕ) → is_work_in index d ≡ work_in all name d
+    (name : List ℕ) (index : List Bool) → map.get indexes name ≡ Some index → (d : ℕ)
+    → is_work_in index d ≡ work_in all name d
 
 -- an index of that name is held after it, and under all other names what was held before
 abbrev pub HoldsAlso : IndexMap → IndexMap → List ℕ → Type 0
-HoldsAlso old new name = IsSome (map.get new name) × ((other : List ℕ) → other ≢ name → map.get new other ≡ map.get old other)
+HoldsAlso old new name = IsSome (map.get new name)
+    × ((other : List ℕ) → other ≢ name → map.get new other ≡ map.get old other)

@@ -11,14 +11,20 @@ use Rattle.app_definitions.specs.declared.records.BlockFault.TheVariants.{Faulty
 
 -- the options where none are given
 abbrev pub default_options : Options
-default_options = record { default_calendar = codes "DEFAULT"; max_extension_hours = MAX_EXTENSION_HOURS; some = lit≤ tt; in_range = lit≤ tt }
+default_options = record {
+  default_calendar = codes "DEFAULT";
+  max_extension_hours = MAX_EXTENSION_HOURS;
+  some = lit≤ tt;
+  in_range = lit≤ tt;
+}
 
 -- the default calendar that its key gives: the name that the string is, and DEFAULT where the key is missing
 abbrev pub GivesCalendar : Option Data → List ℕ → Type 0
 GivesCalendar None name = name ≡ codes "DEFAULT"
 GivesCalendar (Some d) name = (d ≡ string name) × IsName name
 
--- the hours that their key gives: a whole number of at least 1 and at most the greatest, which stands where the key is missing
+-- the hours that their key gives: a whole number of at least 1 and at most the greatest, which stands where the key
+-- is missing
 abbrev pub GivesHours : Option Data → ℕ → Type 0
 GivesHours None hours = hours ≡ MAX_EXTENSION_HOURS
 GivesHours (Some d) hours = (d ≡ integer (pos hours)) × (1 ≤ hours) × (hours ≤ MAX_EXTENSION_HOURS)

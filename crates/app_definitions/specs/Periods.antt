@@ -17,23 +17,28 @@ HasInterval row = IsNumberUpTo MAX_INTERVAL (field row PERIOD_LENGTH) × (1 ≤ 
 
 -- the record gives this origin, and this end or none, which is not before the origin
 abbrev pub GivesEntry : Record → Entry → Type 0
-GivesEntry row entry = SpellsDay (field row PERIOD_ORIGIN) entry.0 × SpellsOptionalDay (field row PERIOD_LENGTH) entry.1 × EndsFromOrigin entry
+GivesEntry row entry = SpellsDay (field row PERIOD_ORIGIN) entry.0
+    × SpellsOptionalDay (field row PERIOD_LENGTH) entry.1 × EndsFromOrigin entry
 
 -- the first record of a period: type A or W with an origin and an interval, or type N with an origin and an end or none
 abbrev pub BeginsPeriod : Record → Type 0
 BeginsPeriod row =
     IsShort (field row NAME)
-    × (((((field row PERIOD_TYPE ≡ codes "A") ⊎ (field row PERIOD_TYPE ≡ codes "W")) × IsDayText (field row PERIOD_ORIGIN) × HasInterval row))
+    × (((((field row PERIOD_TYPE ≡ codes "A") ⊎ (field row PERIOD_TYPE ≡ codes "W"))
+    × IsDayText (field row PERIOD_ORIGIN) × HasInterval row))
     ⊎ ((field row PERIOD_TYPE ≡ codes "N") × ((entry : Entry) × GivesEntry row entry)))
 
 -- the origin of a record is later than that of the last of these
 abbrev pub IsLaterThan : Records → ℕ → Type 0
-IsLaterThan before origin = (last : ℕ) → SpellsDay (field (slice_index_or before (length before - 1) []) PERIOD_ORIGIN) last → last < origin
+IsLaterThan before origin = (last : ℕ)
+    → SpellsDay (field (slice_index_or before (length before - 1) []) PERIOD_ORIGIN) last → last < origin
 
--- a further record of a period: both it and the first are of type N, and its origin is later than that of the record before it
+-- a further record of a period: both it and the first are of type N, and its origin is later than that of the record
+-- before it
 abbrev pub GoesOnPeriod : Records → Record → Type 0
 GoesOnPeriod before row =
-    (field (slice_index_or before 0 []) PERIOD_TYPE ≡ codes "N") × (field row PERIOD_TYPE ≡ codes "N") × ((entry : Entry) × GivesEntry row entry × IsLaterThan before entry.0)
+    (field (slice_index_or before 0 []) PERIOD_TYPE ≡ codes "N") × (field row PERIOD_TYPE ≡ codes "N")
+    × ((entry : Entry) × GivesEntry row entry × IsLaterThan before entry.0)
 
 -- a record after the earlier ones of its period
 abbrev pub FitsPeriod : Records → Record → Type 0
@@ -48,9 +53,13 @@ pub record GiveEntries (rows : Records) (entries : List Entry) : Type 0 where
 -- the period that its records give: by the type of the first, intervals from its origin on, or the listed ones
 abbrev pub IsPeriodOf : Period → Records → Type 0
 IsPeriodOf (AllDays origin interval) rows =
-    (field (slice_index_or rows 0 []) PERIOD_TYPE ≡ codes "A") × SpellsDay (field (slice_index_or rows 0 []) PERIOD_ORIGIN) origin × (interval ≡ number_value (field (slice_index_or rows 0 []) PERIOD_LENGTH))
+    (field (slice_index_or rows 0 []) PERIOD_TYPE ≡ codes "A")
+    × SpellsDay (field (slice_index_or rows 0 []) PERIOD_ORIGIN) origin
+    × (interval ≡ number_value (field (slice_index_or rows 0 []) PERIOD_LENGTH))
 IsPeriodOf (Work origin interval) rows =
-    (field (slice_index_or rows 0 []) PERIOD_TYPE ≡ codes "W") × SpellsDay (field (slice_index_or rows 0 []) PERIOD_ORIGIN) origin × (interval ≡ number_value (field (slice_index_or rows 0 []) PERIOD_LENGTH))
+    (field (slice_index_or rows 0 []) PERIOD_TYPE ≡ codes "W")
+    × SpellsDay (field (slice_index_or rows 0 []) PERIOD_ORIGIN) origin
+    × (interval ≡ number_value (field (slice_index_or rows 0 []) PERIOD_LENGTH))
 IsPeriodOf (Listed entries) rows = (field (slice_index_or rows 0 []) PERIOD_TYPE ≡ codes "N") × GiveEntries rows entries
 
 -- an entry's origin is later than that of the last of these

@@ -10,10 +10,11 @@ use Rattle.app_definitions.specs.declared.columns.TheConstants.{PREDECESSOR}
 abbrev pub predecessors_of : Records → List (List ℕ)
 predecessors_of rows = map (λ row. field row PREDECESSOR) rows
 
--- a record after the earlier ones of its application: its predecessor is a name, which may be the application's own, and no
--- earlier record has it
+-- a record after the earlier ones of its application: its predecessor is a name, which may be the application's own,
+-- and no earlier record has it
 abbrev pub FitsPredecessors : Records → Record → Type 0
-FitsPredecessors before row = IsName (field row PREDECESSOR) × ¬ (Contains (predecessors_of before) (field row PREDECESSOR))
+FitsPredecessors before row = IsName (field row PREDECESSOR)
+    × ¬ (Contains (predecessors_of before) (field row PREDECESSOR))
 
 -- a list of predecessors has the names that these records of its application give, in byte order
 pub record ArePredecessorsOf (names : List (List ℕ)) (rows : Records) : Type 0 where

@@ -1,6 +1,7 @@
 // Definitions by name.
 
-ghost use Rattle.std.specs.Prelude.{◌≡◌, ◌≢◌, ◌↔◌, ℕ, List, [], ◌∷◌, ◌++◌, length, IsTrue, IsSome, IfOk, OnOk, OnErr, IfSome};
+ghost use Rattle.std.specs.Prelude.{◌≡◌, ◌≢◌, ◌↔◌, ℕ, List, [], ◌∷◌, ◌++◌, length, IsTrue, IsSome, IfOk, OnOk, OnErr};
+ghost use Rattle.std.specs.Prelude.{IfSome};
 ghost use Rattle.std.specs.Option.{option_copied};
 ghost use Rattle.std.specs.FinMap as map;
 ghost use Rattle.csv.specs.Records.{fields_of};
@@ -43,8 +44,10 @@ pub trait Definition: Drop {
     /// Takes a further record about the name, or answers that it is faulty.
     fn join(&mut self, row: &ByteRecord) -> Result<bool, AllocError>
         requires { length (fields_of row.now) ≡ FIELDS }
-        ensures taken { (before : Records) → before ≢ [] → IsMadeOf self.old before → IfOk result (λ taken. IsTrue taken ↔ FitsName before (fields_of row.now)) }
-        ensures made { (before : Records) → before ≢ [] → IsMadeOf self.old before → IfOk result (λ taken. IsTrue taken → IsMadeOf self.new (before ++ fields_of row.now ∷ [])) };
+        ensures taken { (before : Records) → before ≢ [] → IsMadeOf self.old before
+            → IfOk result (λ taken. IsTrue taken ↔ FitsName before (fields_of row.now)) }
+        ensures made { (before : Records) → before ≢ [] → IsMadeOf self.old before
+            → IfOk result (λ taken. IsTrue taken → IsMadeOf self.new (before ++ fields_of row.now ∷ [])) };
 }
 
 /// Definitions of one kind by name. Contracts see the map from names to definitions.
@@ -186,8 +189,10 @@ impl<D: Definition> Clone for ByName<D> {
 impl<D: Definition> ByName<D> {
     /// Takes the next record of a block in, or answers that it is faulty.
     pub(crate) fn gather(&mut self, alloc: Global, row: &ByteRecord) -> Result<bool, AllocError>
-        ensures taken { (before : Records) → AreGivenBy D.IsMadeOf self.old before → IfOk result (λ taken. IsTrue taken ↔ FitsKind D.FIELDS D.FitsName before (fields_of row.now)) }
-        ensures gathered { (before : Records) → AreGivenBy D.IsMadeOf self.old before → IfOk result (λ taken. IsTrue taken → AreGivenBy D.IsMadeOf self.new (before ++ fields_of row.now ∷ [])) }
+        ensures taken { (before : Records) → AreGivenBy D.IsMadeOf self.old before
+            → IfOk result (λ taken. IsTrue taken ↔ FitsKind D.FIELDS D.FitsName before (fields_of row.now)) }
+        ensures gathered { (before : Records) → AreGivenBy D.IsMadeOf self.old before
+            → IfOk result (λ taken. IsTrue taken → AreGivenBy D.IsMadeOf self.new (before ++ fields_of row.now ∷ [])) }
     {
         if row.len() != D::FIELDS {
             return Ok(false);

@@ -45,8 +45,10 @@ fn status_of(bytes: &[u8]) -> Option<DayStatus>
 
 // Adds the entry of a record to the calendar, or answers that the record is faulty.
 fn add_entry(calendar: &mut Calendar, row: &ByteRecord) -> Result<bool, AllocError>
-    ensures taken { (before : Records) → IsCalendarOf calendar.old before → IfOk result (λ taken. IsTrue taken ↔ FitsCalendar before (fields_of row.now)) }
-    ensures made { (before : Records) → IsCalendarOf calendar.old before → IfOk result (λ taken. IsTrue taken → IsCalendarOf calendar.new (before ++ fields_of row.now ∷ [])) }
+    ensures taken { (before : Records) → IsCalendarOf calendar.old before
+        → IfOk result (λ taken. IsTrue taken ↔ FitsCalendar before (fields_of row.now)) }
+    ensures made { (before : Records) → IsCalendarOf calendar.old before
+        → IfOk result (λ taken. IsTrue taken → IsCalendarOf calendar.new (before ++ fields_of row.now ∷ [])) }
 {
     let Some(status) = status_of(field_at(row, CALENDAR_STATUS)) else {
         return Ok(false);

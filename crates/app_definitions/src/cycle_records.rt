@@ -1,6 +1,7 @@
 // Run cycles.
 
-ghost use Rattle.std.specs.Prelude.{◌≡◌, ◌↔◌, ◌<◌, ◌≤ℤ◌, pos, ℕ, List, ℤ, [], ◌∷◌, ◌++◌, map, length, IsTrue, IsSome, IfSome, IfOk, IfErr};
+ghost use Rattle.std.specs.Prelude.{◌≡◌, ◌↔◌, ◌<◌, ◌≤ℤ◌, pos, ℕ, List, ℤ, [], ◌∷◌, ◌++◌, map, length, IsTrue, IsSome};
+ghost use Rattle.std.specs.Prelude.{IfSome, IfOk, IfErr};
 ghost use Rattle.std.specs.List.{HoldsAt};
 ghost use Rattle.csv.specs.Records.{fields_of};
 ghost use Rattle.run_cycles.specs.declared.offsets.TheConstants.{MAX_OFFSET};
@@ -8,7 +9,9 @@ ghost use Rattle.run_cycles.specs.declared.cycles.Deadline.{Deadline as Deadline
 ghost use Rattle.run_cycles.specs.declared.cycles.CycleType.{CycleType as CycleTypeValue};
 ghost use Rattle.run_cycles.specs.declared.rules.Rule.{Rule as RuleValue};
 ghost use Rattle.app_definitions.specs.Fields.{field, number_value};
-ghost use Rattle.app_definitions.specs.CycleRecords.{rule_text, IsDistanceText, IsOffsetText, offset_value, pieces_of, SpellsOffsets, SpellsDeadline, SpellsType, SpellsRunCycle, IsRunCycleText, FitsRunCycle, AreRunCyclesOf};
+ghost use Rattle.app_definitions.specs.CycleRecords.{rule_text, IsDistanceText, IsOffsetText, offset_value};
+ghost use Rattle.app_definitions.specs.CycleRecords.{pieces_of, SpellsOffsets, SpellsDeadline, SpellsType};
+ghost use Rattle.app_definitions.specs.CycleRecords.{SpellsRunCycle, IsRunCycleText, FitsRunCycle, AreRunCyclesOf};
 ghost use Rattle.app_definitions.specs.Rising.{AreRising, IsPlaceFor};
 ghost use Rattle.app_definitions.specs.declared.columns.TheConstants.{CYCLE_OFFSETS, CYCLE_FIELDS};
 

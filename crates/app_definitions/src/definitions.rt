@@ -59,7 +59,8 @@ impl Definitions {
         })
     }
 
-    /// Takes a block's definitions in, each in place of the one of its name, and answers how many names the block gave. A
+    /// Takes a block's definitions in, each in place of the one of its name, and answers how many names the block
+    /// gave. A
     /// merge that is refused for memory changes nothing.
     pub fn merge(&mut self, block: Block) -> Result<usize, AllocError>
         ensures ok { OnOk result (self.new ≡ merged self.old block) }

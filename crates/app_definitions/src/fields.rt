@@ -4,7 +4,8 @@ ghost use Rattle.std.specs.Prelude.{◌≡◌, ◌↔◌, ◌≤◌, IsSome, IfS
 ghost use Rattle.csv.specs.Records.{fields_of};
 ghost use Rattle.work_calendars.specs.Name.{IsName, IsShort};
 ghost use Rattle.work_calendars.specs.Spelling.{SpellsDay, SpellsMinute};
-ghost use Rattle.app_definitions.specs.Fields.{field, IsEmptyOr, some_unless_empty, IsDayText, IsMinuteText, SpellsOptionalDay, IsNumberUpTo, number_value};
+ghost use Rattle.app_definitions.specs.Fields.{field, IsEmptyOr, some_unless_empty, IsDayText, IsMinuteText};
+ghost use Rattle.app_definitions.specs.Fields.{SpellsOptionalDay, IsNumberUpTo, number_value};
 
 use csv::ByteRecord;
 use work_calendars::{Day, Minute, Name, Short};

@@ -1,4 +1,5 @@
-// What blocks make of the definitions, and what is left where names are taken away. A name's definition is the one that the
+// What blocks make of the definitions, and what is left where names are taken away. A name's definition is the one
+// that the
 // last block with the name gives, whole.
 use crate::tests::halves;
 use crate::{
@@ -27,7 +28,8 @@ fn merge(all: &mut Definitions, block: Block) -> Result<usize, usize> {
     }
 }
 
-// How many names the block gave, or the number of the faulty record, 98 where no caller may hand it in, and 99 for want of
+// How many names the block gave, or the number of the faulty record, 98 where no caller may hand it in, and 99 for
+// want of
 // memory.
 fn take(alloc: Global, all: &mut Definitions, kind: Kind, text: &[u8]) -> Result<usize, usize> {
     if text.len() > LONGEST_BLOCK {
@@ -505,7 +507,8 @@ fn removed(rt: HostRuntime) -> Result<(), Fail> {
     Ok(())
 }
 
-// Z and C name a calendar that isn't defined, and B does too, but is pending; D names the default one. Run cycles of Y and
+// Z and C name a calendar that isn't defined, and B does too, but is pending; D names the default one. Run cycles of
+// Y and
 // of C name a period that isn't defined, and of B too.
 #[test]
 fn walked(rt: HostRuntime) -> Result<(), Fail> {

@@ -4,7 +4,8 @@ ghost use Rattle.std.specs.Prelude.{◌↔◌, ℕ, List, Some, codes, IsTrue, I
 ghost use Rattle.toml.specs.Data.{get_member};
 ghost use Rattle.toml.specs.View.{view, table_view};
 ghost use Rattle.app_definitions.specs.Blocks.{ReadsAs, IsFaultOf};
-ghost use Rattle.app_definitions.specs.Options.{GivesCalendar, GivesHours, HasOnlyOptions, AreOptionsIn, AreOptionsOf, IsOptionsFault};
+ghost use Rattle.app_definitions.specs.Options.{GivesCalendar, GivesHours, HasOnlyOptions, AreOptionsIn};
+ghost use Rattle.app_definitions.specs.Options.{AreOptionsOf, IsOptionsFault};
 ghost use Rattle.app_definitions.specs.declared.options.Options.{Options};
 
 use crate::kinds::{Block, Kind};
@@ -41,7 +42,8 @@ fn hours_of(value: &Value) -> Option<u16>
 // The name of the default calendar that a table gives.
 fn calendar_in(table: &Table) -> Option<Name>
     ensures given { IfSome result (GivesCalendar (get_member (codes "default_calendar") (table_view table.now))) }
-    ensures refused { IfNone result ((n : List ℕ) → ¬ (GivesCalendar (get_member (codes "default_calendar") (table_view table.now)) n)) }
+    ensures refused { IfNone result ((n : List ℕ)
+        → ¬ (GivesCalendar (get_member (codes "default_calendar") (table_view table.now)) n)) }
 {
     match table.get("default_calendar") {
         None => Some(Options::new().default_calendar),
@@ -52,7 +54,8 @@ fn calendar_in(table: &Table) -> Option<Name>
 // The hours that a table gives.
 fn hours_in(table: &Table) -> Option<u16>
     ensures given { IfSome result (GivesHours (get_member (codes "max_extension_hours") (table_view table.now))) }
-    ensures refused { IfNone result ((n : ℕ) → ¬ (GivesHours (get_member (codes "max_extension_hours") (table_view table.now)) n)) }
+    ensures refused { IfNone result ((n : ℕ)
+        → ¬ (GivesHours (get_member (codes "max_extension_hours") (table_view table.now)) n)) }
 {
     match table.get("max_extension_hours") {
         None => Some(MAX_EXTENSION_HOURS),

@@ -1,4 +1,5 @@
-// Blocks of options, accepted and refused, and what they make of the definitions. What they give comes from the format's
+// Blocks of options, accepted and refused, and what they make of the definitions. What they give comes from the
+// format's
 // own words.
 use crate::Kind;
 use crate::merge_tests::play;

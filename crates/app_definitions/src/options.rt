@@ -5,7 +5,8 @@ ghost use Rattle.app_definitions.specs.declared.options.TheConstants.{MAX_EXTENS
 
 use work_calendars::Name;
 
-/// The most hours that an extension of the current plan may ever be allowed, and what it is allowed where nothing is given.
+/// The most hours that an extension of the current plan may ever be allowed, and what it is allowed where nothing is
+/// given.
 pub const MAX_EXTENSION_HOURS: u16 = 504;
 
 /// The options.

@@ -1,6 +1,7 @@
 // Periods.
 
-ghost use Rattle.std.specs.Prelude.{◌≡◌, ◌↔◌, ◌≤◌, ℕ, List, [], ◌∷◌, ◌++◌, length, Option, IsTrue, IsSome, IfSome, IsOk, IfOk, IfErr, OnErr, false};
+ghost use Rattle.std.specs.Prelude.{◌≡◌, ◌↔◌, ◌≤◌, ℕ, List, [], ◌∷◌, ◌++◌, length, Option, IsTrue, IsSome, IfSome};
+ghost use Rattle.std.specs.Prelude.{IsOk, IfOk, IfErr, OnErr, false};
 ghost use Rattle.csv.specs.Records.{fields_of};
 ghost use Rattle.plan_periods.specs.Fault.{IsLeastFault};
 ghost use Rattle.plan_periods.specs.Period.{Entry, IsSoundPeriod};
@@ -78,7 +79,8 @@ impl Clone for DefinedPeriod {
 
 // The origin and the interval that a record of type A or W gives.
 fn interval_of(row: &ByteRecord) -> Option<(Day, u16)>
-    ensures valid { IsSome result ↔ (IsDayText (field (fields_of row.now) PERIOD_ORIGIN) × HasInterval (fields_of row.now)) }
+    ensures valid { IsSome result
+        ↔ (IsDayText (field (fields_of row.now) PERIOD_ORIGIN) × HasInterval (fields_of row.now)) }
     ensures origin { IfSome result (λ p. SpellsDay (field (fields_of row.now) PERIOD_ORIGIN) p.0) }
     ensures interval { IfSome result (λ p. p.1 ≡ number_value (field (fields_of row.now) PERIOD_LENGTH)) }
     ensures in_range { IfSome result (λ p. (1 ≤ p.1) × (p.1 ≤ MAX_INTERVAL)) }

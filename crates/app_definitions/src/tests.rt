@@ -4,7 +4,8 @@ use std::alloc::Global;
 use std::process::Abort;
 use std::test::Fail;
 
-// 0 where the block is accepted, the number of the faulty record where it isn't, 99 for want of memory, and 98 for a block
+// 0 where the block is accepted, the number of the faulty record where it isn't, 99 for want of memory, and 98 for a
+// block
 // that no caller may hand in.
 fn fault(alloc: Global, kind: Kind, text: &[u8]) -> usize {
     if text.len() > LONGEST_BLOCK {

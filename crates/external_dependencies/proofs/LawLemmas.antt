@@ -12,7 +12,8 @@ use Rattle.external_dependencies.specs.Loop.{OnRing, OnLoop}
 use Rattle.external_dependencies.specs.Walk.{IsWalk, Reaches}
 use Rattle.external_dependencies.specs.Nearest.{arrival_of, IsLiveIn}
 use Rattle.external_dependencies.specs.Pair.{IsPairOf}
-use Rattle.external_dependencies.specs.Laws.{SerialsDiffer, PairEdge, NearestIsUnique, NearestArrivesLast, PairsDependOnSet, PairsHaveNoLoop, NoRowPrecedesItself}
+use Rattle.external_dependencies.specs.Laws.{SerialsDiffer, PairEdge, NearestIsUnique, NearestArrivesLast}
+use Rattle.external_dependencies.specs.Laws.{PairsDependOnSet, PairsHaveNoLoop, NoRowPrecedesItself}
 use Rattle.external_dependencies.proofs.WalkLemmas.{reaches-trans}
 use Rattle.external_dependencies.proofs.RingLemmas.{returns_on_ring, on_ring}
 use Rattle.external_dependencies.proofs.LoopLemmas.{decide_names}
@@ -29,17 +30,29 @@ nearest_last rows differ key app near other is live may = elim (cases_lt other.i
       let moments : other.ia ≡ near.ia = omega arith in
       let apps : other.app ≡ near.app = may.of_app ∙ sym is.candidate.of_app in
       let here = is.live in
-      let key_of : (p : PlacedRow) → arrival_of p.row ≡ other → p.row.key ≡ record { ia = other.ia; app = other.app } = λ p same i. record { ia = (same i).ia; app = (same i).app } in
-      let key_of_near : (p : PlacedRow) → arrival_of p.row ≡ near → p.row.key ≡ record { ia = near.ia; app = near.app } = λ p same i. record { ia = (same i).ia; app = (same i).app } in
-      let one_key : live.0.row.key ≡ here.0.row.key = key_of live.0 live.3 ∙ (λ i. record { ia = moments i; app = apps i }) ∙ sym (key_of_near here.0 here.3) in
+      let key_of : (p : PlacedRow) → arrival_of p.row ≡ other
+      → p.row.key ≡ record { ia = other.ia; app = other.app } =
+      λ p same i. record { ia = (same i).ia; app = (same i).app } in
+      let key_of_near : (p : PlacedRow) → arrival_of p.row ≡ near
+      → p.row.key ≡ record { ia = near.ia; app = near.app } =
+      λ p same i. record { ia = (same i).ia; app = (same i).app } in
+      let one_key : live.0.row.key ≡ here.0.row.key =
+      key_of live.0 live.3 ∙ (λ i. record { ia = moments i; app = apps i }) ∙ sym (key_of_near here.0 here.3) in
       let rows_same = differ live.0 here.0 live.1 here.1 live.2 here.2 one_key in
       inl (sym live.3 ∙ ap arrival_of rows_same ∙ here.3)
 ]
 
-live_same : (rows rows' : List PlacedRow) → ((placed : PlacedRow) → Contains rows placed ↔ Contains rows' placed) → (arrival : Arrival) → IsLiveIn rows arrival ↔ IsLiveIn rows' arrival
-live_same rows rows' same arrival = ((λ is. (is.0, (same is.0).0 is.1, is.2, is.3)), λ is. (is.0, (same is.0).1 is.1, is.2, is.3))
+live_same : (rows rows' : List PlacedRow) → ((placed : PlacedRow) → Contains rows placed ↔ Contains rows' placed)
+    → (arrival : Arrival) → IsLiveIn rows arrival ↔ IsLiveIn rows' arrival
+live_same rows rows' same arrival = (
+  (λ is. (is.0, (same is.0).0 is.1, is.2, is.3)),
+  λ is. (is.0, (same is.0).1 is.1, is.2, is.3),
+)
 
-pair_same : (rows rows' : List PlacedRow) (links links' : List Link) → ((placed : PlacedRow) → Contains rows placed ↔ Contains rows' placed) → ((link : Link) → Contains links link ↔ Contains links' link) → (pair : Pair) → IsPairOf rows links pair → IsPairOf rows' links' pair
+pair_same : (rows rows' : List PlacedRow) (links links' : List Link)
+    → ((placed : PlacedRow) → Contains rows placed ↔ Contains rows' placed)
+    → ((link : Link) → Contains links link ↔ Contains links' link) → (pair : Pair) → IsPairOf rows links pair
+    → IsPairOf rows' links' pair
 pair_same rows rows' links links' same_rows same_links pair is = record {
   placed = is.placed;
   stands = (same_rows is.placed).0 is.stands;
@@ -48,20 +61,23 @@ pair_same rows rows' links links' same_rows same_links pair is = record {
   app = is.app;
   listed = (same_links (record { app = is.placed.row.key.app; predecessor = is.app })).0 is.listed;
   near = is.near;
-  nearest = nearest_same (IsLiveIn rows) (IsLiveIn rows') (live_same rows rows' same_rows) is.placed.row.key is.app is.near is.nearest;
+  nearest = nearest_same (IsLiveIn rows) (IsLiveIn rows')
+      (live_same rows rows' same_rows) is.placed.row.key is.app is.near is.nearest;
   predecessor = is.predecessor;
 }
 
 pub pairs_on_set : PairsDependOnSet
 pairs_on_set rows rows' links links' same_rows same_links pair = (
   pair_same rows rows' links links' same_rows same_links pair,
-  pair_same rows' rows links' links (λ p. ((same_rows p).1, (same_rows p).0)) (λ l. ((same_links l).1, (same_links l).0)) pair,
+  pair_same rows' rows links' links (λ p. ((same_rows p).1, (same_rows p).0))
+      (λ l. ((same_links l).1, (same_links l).0)) pair,
 )
 
 module _ (rows : List PlacedRow) (links : List Link) (differ : SerialsDiffer rows) where
   -- a row of that serial has that key
   Stands : ℕ → Key → Type 0
-  Stands serial key = (placed : PlacedRow) × Contains rows placed × (placed.row.serial ≡ serial) × (placed.row.key ≡ key)
+  Stands serial key = (placed : PlacedRow) × Contains rows placed × (placed.row.serial ≡ serial)
+      × (placed.row.key ≡ key)
 
   one_key : (serial : ℕ) (k m : Key) → Stands serial k → Stands serial m → k ≡ m
   unfolding Stands
@@ -86,9 +102,21 @@ module _ (rows : List PlacedRow) (links : List Link) (differ : SerialsDiffer row
         from = is.placed.row.key;
         to = to_key;
         stands_from = (is.placed, is.stands, is.successor, refl);
-        stands_to = (near.0, near.1, ap (λ (a : Arrival). a.serial) near.3 ∙ is.predecessor, λ i. record { ia = (near.3 i).ia; app = (near.3 i).app });
+        stands_to = (
+          near.0,
+          near.1,
+          ap (λ (a : Arrival). a.serial) near.3
+              ∙ is.predecessor,
+          λ i. record { ia = (near.3 i).ia; app = (near.3 i).app },
+        );
         not_later = may.in_time;
-        together = λ same. ([], (subst (Lists links is.placed.row.key.app) (sym may.of_app) is.listed, λ own. let before = may.before_own (sym (own ∙ may.of_app)) in absurd (omega arith)));
+        together = λ same. (
+          [],
+          (
+            subst (Lists links is.placed.row.key.app) (sym may.of_app) is.listed,
+            λ own. let before = may.before_own (sym (own ∙ may.of_app)) in absurd (omega arith),
+          ),
+        );
       }
 
   falls_on : (first between last : ℕ) → Falls first between → Falls between last → Falls first last
@@ -107,12 +135,14 @@ module _ (rows : List PlacedRow) (links : List Link) (differ : SerialsDiffer row
         together = λ same.
             let first_part = a.together (omega arith) in
             let last_part = b.together (omega arith) in
-            reaches-trans (Lists links) a.from.app b.from.app b.to.app (subst (Reaches (Lists links) a.from.app) apps first_part) last_part;
+            reaches-trans (Lists links) a.from.app b.from.app b.to.app
+            (subst (Reaches (Lists links) a.from.app) apps first_part) last_part;
       }
 
   falls : (first last : ℕ) (between : List ℕ) → IsWalk (PairEdge rows links) first between last → Falls first last
   falls first last [] walk = falls_once first last walk.0
-  falls first last (x ∷ between) walk = falls_on first x last (falls_once first x walk.0.0) (falls x last between walk.1)
+  falls first last (x ∷ between) walk = falls_on first x last (falls_once first x walk.0.0)
+      (falls x last between walk.1)
 
   pub no_loop : ((app : List ℕ) → OnLoop links app → ⊥) → (serial : ℕ) → OnRing (PairEdge rows links) serial → ⊥
   no_loop none serial on =
@@ -120,7 +150,8 @@ module _ (rows : List PlacedRow) (links : List Link) (differ : SerialsDiffer row
       let is = falls serial serial back.0 back.1 in
       let same : is.from ≡ is.to = one_key serial is.from is.to is.stands_from is.stands_to in
       let round = is.together (ap (λ (k : Key). k.ia) (sym same)) in
-      none is.from.app (on_ring (Lists links) decide_names is.from.app (subst (Reaches (Lists links) is.from.app) (ap (λ (k : Key). k.app) (sym same)) round))
+      none is.from.app (on_ring (Lists links) decide_names is.from.app
+      (subst (Reaches (Lists links) is.from.app) (ap (λ (k : Key). k.app) (sym same)) round))
 
 pub pairs_without_loop : PairsHaveNoLoop
 pairs_without_loop rows links differ = no_loop rows links differ
@@ -131,8 +162,11 @@ none_itself rows links differ serial is =
     let here = is.nearest.live in
     let may = is.nearest.candidate in
     let number : here.0.row.serial ≡ serial = ap (λ (a : Arrival). a.serial) here.3 ∙ is.predecessor in
-    let one : here.0.row.key ≡ is.placed.row.key = differ here.0 is.placed here.1 is.stands (number ∙ sym is.successor) in
-    let moments : is.near.ia ≡ is.placed.row.key.ia = ap (λ (a : Arrival). a.ia) (sym here.3) ∙ ap (λ (k : Key). k.ia) one in
-    let apps : is.near.app ≡ is.placed.row.key.app = ap (λ (a : Arrival). a.app) (sym here.3) ∙ ap (λ (k : Key). k.app) one in
+    let one : here.0.row.key ≡ is.placed.row.key =
+    differ here.0 is.placed here.1 is.stands (number ∙ sym is.successor) in
+    let moments : is.near.ia ≡ is.placed.row.key.ia =
+    ap (λ (a : Arrival). a.ia) (sym here.3) ∙ ap (λ (k : Key). k.ia) one in
+    let apps : is.near.app ≡ is.placed.row.key.app =
+    ap (λ (a : Arrival). a.app) (sym here.3) ∙ ap (λ (k : Key). k.app) one in
     let before = may.before_own (sym may.of_app ∙ apps) in
     omega arith

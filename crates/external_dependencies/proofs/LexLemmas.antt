@@ -61,15 +61,18 @@ byte_strict : IsStrictOrder ByteBefore
 byte_strict = ranked_strict (slice_cmp nat_cmp) ByteBefore nat_list_cmp_total byte_ranks byte_less
 
 pub pair_total : IsTotalOrder pair_cmp
-pair_total = then_total (on_total (λ (p : Pair). p.successor) nat_cmp_total) (on_total (λ (p : Pair). p.predecessor) nat_cmp_total)
+pair_total = then_total (on_total (λ (p : Pair). p.successor) nat_cmp_total)
+    (on_total (λ (p : Pair). p.predecessor) nat_cmp_total)
 
 pub follower_total : IsTotalOrder follower_cmp
 follower_total =
-    then_total (on_total (λ (p : Follower). p.predecessor) nat_cmp_total) (on_total (λ (p : Follower). p.successor) nat_cmp_total)
+    then_total (on_total (λ (p : Follower). p.predecessor) nat_cmp_total)
+    (on_total (λ (p : Follower). p.successor) nat_cmp_total)
 
 pub link_total : IsTotalOrder link_cmp
 link_total =
-    then_total (on_total (λ (l : Link). l.app) nat_list_cmp_total) (on_total (λ (l : Link). l.predecessor) nat_list_cmp_total)
+    then_total (on_total (λ (l : Link). l.app) nat_list_cmp_total)
+    (on_total (λ (l : Link). l.predecessor) nat_list_cmp_total)
 
 pub arrival_total : IsTotalOrder arrival_cmp
 arrival_total =
@@ -78,10 +81,12 @@ arrival_total =
 
 pub pairs_ordered : IsOrderBy pair_cmp PairBefore
 pairs_ordered = record {
-  strict = lex_strict (λ (p : Pair). p.successor) (λ (p : Pair). p.predecessor) (λ x y. x < y) (λ x y. x < y) number_strict number_strict;
+  strict = lex_strict (λ (p : Pair). p.successor) (λ (p : Pair). p.predecessor) (λ x y. x < y)
+      (λ x y. x < y) number_strict number_strict;
   total = pair_total;
   ranks =
-      lex_ranks (λ (p : Pair). p.successor) (λ (p : Pair). p.predecessor) (λ x y. x < y) (λ x y. x < y) nat_cmp nat_cmp ranks ranks
+      lex_ranks (λ (p : Pair). p.successor) (λ (p : Pair). p.predecessor) (λ x y. x < y)
+      (λ x y. x < y) nat_cmp nat_cmp ranks ranks
       (λ x y a b i. record { successor = a i; predecessor = b i });
 }
 
@@ -90,7 +95,8 @@ links_ordered = record {
   strict = lex_strict (λ (l : Link). l.app) (λ (l : Link). l.predecessor) ByteBefore ByteBefore byte_strict byte_strict;
   total = link_total;
   ranks =
-      lex_ranks (λ (l : Link). l.app) (λ (l : Link). l.predecessor) ByteBefore ByteBefore (slice_cmp nat_cmp) (slice_cmp nat_cmp) byte_ranks byte_ranks
+      lex_ranks (λ (l : Link). l.app) (λ (l : Link). l.predecessor) ByteBefore ByteBefore (slice_cmp nat_cmp)
+      (slice_cmp nat_cmp) byte_ranks byte_ranks
       (λ x y a b i. record { app = a i; predecessor = b i });
 }
 
@@ -107,13 +113,16 @@ numbers_ranks =
     (λ x y a b i. (a i, b i))
 
 numbers_strict : IsStrictOrder NumbersBefore
-numbers_strict = lex_strict (λ (n : ℕ × ℕ). n.0) (λ (n : ℕ × ℕ). n.1) (λ x y. x < y) (λ x y. x < y) number_strict number_strict
+numbers_strict = lex_strict (λ (n : ℕ × ℕ). n.0) (λ (n : ℕ × ℕ). n.1) (λ x y. x < y)
+    (λ x y. x < y) number_strict number_strict
 
 pub arrivals_ordered : IsOrderBy arrival_cmp ArrivalBefore
 arrivals_ordered = record {
-  strict = lex_strict (λ (a : Arrival). a.app) (λ (a : Arrival). (a.ia, a.serial)) ByteBefore NumbersBefore byte_strict numbers_strict;
+  strict = lex_strict (λ (a : Arrival). a.app)
+      (λ (a : Arrival). (a.ia, a.serial)) ByteBefore NumbersBefore byte_strict numbers_strict;
   total = arrival_total;
   ranks =
-      lex_ranks (λ (a : Arrival). a.app) (λ (a : Arrival). (a.ia, a.serial)) ByteBefore NumbersBefore (slice_cmp nat_cmp) numbers_cmp byte_ranks numbers_ranks
+      lex_ranks (λ (a : Arrival). a.app) (λ (a : Arrival). (a.ia, a.serial)) ByteBefore NumbersBefore
+      (slice_cmp nat_cmp) numbers_cmp byte_ranks numbers_ranks
       (λ x y a b i. record { app = a i; ia = (b i).0; serial = (b i).1 });
 }

@@ -1,5 +1,6 @@
 -- The nearest predecessor among arrivals in rising order.
-use Rattle.std.proofs.Common.{◌≡◌, ◌↔◌, ℕ, ◌+◌, ◌-◌, ◌<◌, ◌≤◌, Bool, true, false, List, length, get_or, refl, sym, ap, subst, ◌∙◌, inl, inr, arith, Ordering, Some, None}
+use Rattle.std.proofs.Common.{◌≡◌, ◌↔◌, ℕ, ◌+◌, ◌-◌, ◌<◌, ◌≤◌, Bool, true, false, List, length, get_or, refl, sym, ap}
+use Rattle.std.proofs.Common.{subst, ◌∙◌, inl, inr, arith, Ordering, Some, None}
 use Rattle.std.specs.declared.cmp.Ordering.TheVariants.{Less, Equal, Greater}
 use Rattle.std.specs.Prelude.{nat_eq}
 use Rattle.std.specs.List.{Contains}
@@ -16,15 +17,18 @@ use Rattle.external_dependencies.specs.declared.live.Arrival.{Arrival}
 use Rattle.external_dependencies.specs.Arrival.{arrival_cmp}
 use Rattle.external_dependencies.specs.Rising.{IsRising}
 use Rattle.external_dependencies.specs.Nearest.{IsCandidate, IsNearest, IsNearestAnswer}
-use Rattle.external_dependencies.proofs.OrderLemmas.{AtMost, less_after, rising_at_most, name_ties, then_less, then_equal, less_not_equal}
+use Rattle.external_dependencies.proofs.OrderLemmas.{AtMost, less_after, rising_at_most, name_ties, then_less}
+use Rattle.external_dependencies.proofs.OrderLemmas.{then_equal, less_not_equal}
 
 -- arrivals compare by a total order, and tie only with themselves
 pub arrival_total : IsTotalOrder arrival_cmp
-arrival_total = then_total (on_total (λ (a : Arrival). a.app) nat_list_cmp_total) (then_total (on_total (λ (a : Arrival). a.ia) nat_cmp_total) (on_total (λ (a : Arrival). a.serial) nat_cmp_total))
+arrival_total = then_total (on_total (λ (a : Arrival). a.app) nat_list_cmp_total)
+    (then_total (on_total (λ (a : Arrival). a.ia) nat_cmp_total) (on_total (λ (a : Arrival). a.serial) nat_cmp_total))
 
 pub arrival_ties : IsAntisymmetric arrival_cmp
 arrival_ties x y is =
-    let both = then_equal (slice_cmp nat_cmp x.app y.app) (ordering_then (nat_cmp x.ia y.ia) (nat_cmp x.serial y.serial)) is in
+    let both = then_equal (slice_cmp nat_cmp x.app y.app)
+    (ordering_then (nat_cmp x.ia y.ia) (nat_cmp x.serial y.serial)) is in
     let rest = then_equal (nat_cmp x.ia y.ia) (nat_cmp x.serial y.serial) both.1 in
     let apps : x.app ≡ y.app = name_ties x.app y.app both.0 in
     let moments : x.ia ≡ y.ia = nat_cmp-IsAntisymmetric x.ia y.ia rest.0 in
@@ -47,7 +51,8 @@ abbrev place_cmp : List ℕ × ℕ → List ℕ × ℕ → Ordering
 place_cmp a b = ordering_then (slice_cmp nat_cmp a.0 b.0) (nat_cmp a.1 b.1)
 
 place_total : IsTotalOrder place_cmp
-place_total = then_total (on_total (λ (a : List ℕ × ℕ). a.0) nat_list_cmp_total) (on_total (λ (a : List ℕ × ℕ). a.1) nat_cmp_total)
+place_total = then_total (on_total (λ (a : List ℕ × ℕ). a.0) nat_list_cmp_total)
+    (on_total (λ (a : List ℕ × ℕ). a.1) nat_cmp_total)
 
 abbrev place_at : Arrival → List ℕ × ℕ
 place_at a = (a.app, a.ia)
@@ -60,36 +65,38 @@ record Ordered (x y : Arrival) : Type 0 where
   serial : x.app ≡ y.app → x.ia ≡ y.ia → x.serial ≤ y.serial
 
 ordered : (x y : Arrival) → AtMost arrival_total x y → Ordered x y
-ordered x y (inl less) = elim (then_less (slice_cmp nat_cmp x.app y.app) (ordering_then (nat_cmp x.ia y.ia) (nat_cmp x.serial y.serial)) less) [
-  | inl app ↦ record {
-    app = inl app;
-    place = inl (ap (λ r. ordering_then r (nat_cmp x.ia y.ia)) app);
-    moment = λ same. absurd (apart x y app same);
-    serial = λ same _. absurd (apart x y app same);
-  }
-  | inr rest ↦ elim (then_less (nat_cmp x.ia y.ia) (nat_cmp x.serial y.serial) rest.1) [
-    | inl moment ↦
-        let lt = lt_from_less x.ia y.ia moment in
-        record {
-          app = inr rest.0;
-          place = inl (ap (λ r. ordering_then r (nat_cmp x.ia y.ia)) rest.0 ∙ moment);
-          moment = λ _. omega arith;
-          serial = λ _ same. absurd (omega arith);
-        }
-    | inr tied ↦
-        let same_moment : x.ia ≡ y.ia = nat_cmp-IsAntisymmetric x.ia y.ia tied.0 in
-        let lt = lt_from_less x.serial y.serial tied.1 in
-        record {
-          app = inr rest.0;
-          place = inr (ap (λ r. ordering_then r (nat_cmp x.ia y.ia)) rest.0 ∙ tied.0);
-          moment = λ _. omega arith;
-          serial = λ _ _. omega arith;
-        }
-  ]
-]
+ordered x y (inl less) = elim (then_less (slice_cmp nat_cmp x.app y.app)
+    (ordering_then (nat_cmp x.ia y.ia) (nat_cmp x.serial y.serial)) less) [
+      | inl app ↦ record {
+        app = inl app;
+        place = inl (ap (λ r. ordering_then r (nat_cmp x.ia y.ia)) app);
+        moment = λ same. absurd (apart x y app same);
+        serial = λ same _. absurd (apart x y app same);
+      }
+      | inr rest ↦ elim (then_less (nat_cmp x.ia y.ia) (nat_cmp x.serial y.serial) rest.1) [
+        | inl moment ↦
+            let lt = lt_from_less x.ia y.ia moment in
+            record {
+              app = inr rest.0;
+              place = inl (ap (λ r. ordering_then r (nat_cmp x.ia y.ia)) rest.0 ∙ moment);
+              moment = λ _. omega arith;
+              serial = λ _ same. absurd (omega arith);
+            }
+        | inr tied ↦
+            let same_moment : x.ia ≡ y.ia = nat_cmp-IsAntisymmetric x.ia y.ia tied.0 in
+            let lt = lt_from_less x.serial y.serial tied.1 in
+            record {
+              app = inr rest.0;
+              place = inr (ap (λ r. ordering_then r (nat_cmp x.ia y.ia)) rest.0 ∙ tied.0);
+              moment = λ _. omega arith;
+              serial = λ _ _. omega arith;
+            }
+      ]
+    ]
   where
     apart : (x y : Arrival) → slice_cmp nat_cmp x.app y.app ≡ Less → x.app ≡ y.app → ⊥
-    apart x y less same = less_not_equal (sym less ∙ subst (λ z. slice_cmp nat_cmp x.app z ≡ Equal) same (tied_itself nat_list_cmp_total x.app))
+    apart x y less same = less_not_equal (sym less
+        ∙ subst (λ z. slice_cmp nat_cmp x.app z ≡ Equal) same (tied_itself nat_list_cmp_total x.app))
 ordered x y (inr tied) =
     let same : x ≡ y = arrival_ties x y tied in
     subst (Ordered x) same (record {
@@ -111,36 +118,46 @@ module _ (live : List Arrival) (rising : IsRising arrival_cmp live) (app : List 
 
   pub parted : IsPartitionedBy is_before live
   parted i j d le lt is =
-      let below = (ordered (get_or live i d) (get_or live j d) (rising_at_most arrival_total live rising i j d le lt)).place in
-      ap is_lt (less_after place_total (place_at (get_or live i d)) (place_at (get_or live j d)) (app, limit) below (less_from (place_cmp (place_at (get_or live j d)) (app, limit)) is))
+      let below = (ordered (get_or live i d) (get_or live j d)
+      (rising_at_most arrival_total live rising i j d le lt)).place in
+      ap is_lt (less_after place_total (place_at (get_or live i d)) (place_at (get_or live j d)) (app, limit) below
+      (less_from (place_cmp (place_at (get_or live j d)) (app, limit)) is))
 
   -- of this application the test means what it says
   before_then : (a : Arrival) → a.app ≡ app → is_before a ≡ true → a.ia < limit
-  before_then a same is = elim (then_less (slice_cmp nat_cmp a.app app) (nat_cmp a.ia limit) (less_from (place_cmp (place_at a) (app, limit)) is)) [
-    | inl less ↦ absurd (less_not_equal (sym less ∙ subst (λ z. slice_cmp nat_cmp a.app z ≡ Equal) same (tied_itself nat_list_cmp_total a.app)))
-    | inr tied ↦ lt_from_less a.ia limit tied.1
-  ]
+  before_then a same is = elim (then_less (slice_cmp nat_cmp a.app app) (nat_cmp a.ia limit)
+      (less_from (place_cmp (place_at a) (app, limit)) is)) [
+        | inl less ↦ absurd (less_not_equal (sym less
+            ∙ subst (λ z. slice_cmp nat_cmp a.app z ≡ Equal) same (tied_itself nat_list_cmp_total a.app)))
+        | inr tied ↦ lt_from_less a.ia limit tied.1
+      ]
 
   then_before : (a : Arrival) → a.app ≡ app → a.ia < limit → is_before a ≡ true
   then_before a same lt =
-      let tied : slice_cmp nat_cmp a.app app ≡ Equal = subst (λ z. slice_cmp nat_cmp a.app z ≡ Equal) same (tied_itself nat_list_cmp_total a.app) in
+      let tied : slice_cmp nat_cmp a.app app ≡ Equal =
+      subst (λ z. slice_cmp nat_cmp a.app z ≡ Equal) same (tied_itself nat_list_cmp_total a.app) in
       ap is_lt (ap (λ r. ordering_then r (nat_cmp a.ia limit)) tied ∙ less_from_lt a.ia limit lt)
 
   -- an arrival that passes the test is of this application or one below
   before_app : (a : Arrival) → is_before a ≡ true → AtMost nat_list_cmp_total a.app app
-  before_app a is = elim (then_less (slice_cmp nat_cmp a.app app) (nat_cmp a.ia limit) (less_from (place_cmp (place_at a) (app, limit)) is)) [
-    | inl less ↦ inl less
-    | inr tied ↦ inr tied.0
-  ]
+  before_app a is = elim (then_less (slice_cmp nat_cmp a.app app) (nat_cmp a.ia limit)
+      (less_from (place_cmp (place_at a) (app, limit)) is)) [
+        | inl less ↦ inl less
+        | inr tied ↦ inr tied.0
+      ]
 
-  module _ (key : Key) (exact : (a : Arrival) → a.app ≡ app → (a.ia < limit) ↔ ((a.ia ≤ key.ia) × (app ≡ key.app → a.ia < key.ia))) (count : ℕ) (point : IsPartitionPoint (λ a. is_before a ≡ true) (λ a. is_before a ≡ false) live count) where
+  module _ (key : Key) (exact : (a : Arrival) → a.app ≡ app → (a.ia < limit)
+      ↔ ((a.ia ≤ key.ia) × (app ≡ key.app → a.ia < key.ia))) (count : ℕ)
+      (point : IsPartitionPoint (λ a. is_before a ≡ true) (λ a. is_before a ≡ false) live count) where
     -- a candidate comes before the point
     candidate_before : (other : Arrival) → (here : Contains live other) → IsCandidate key app other → here.0 < count
     candidate_before other here may = elim (cases_lt here.0 count) [
       | inl before ↦ before
       | inr after ↦
-          let passes : is_before other ≡ true = then_before other may.of_app ((exact other may.of_app).1 (may.in_time, may.before_own)) in
-          let fails : is_before other ≡ false = subst (λ a. is_before a ≡ false) here.2 (point.1 here.0 other after here.1) in
+          let passes : is_before other ≡ true = then_before other may.of_app
+          ((exact other may.of_app).1 (may.in_time, may.before_own)) in
+          let fails : is_before other ≡ false = subst (λ a. is_before a ≡ false) here.2
+          (point.1 here.0 other after here.1) in
           absurd (false≢true (sym fails ∙ passes))
     ]
 
@@ -148,7 +165,8 @@ module _ (live : List Arrival) (rising : IsRising arrival_cmp live) (app : List 
     pub none_before : count ≡ 0 → IsNearestAnswer (Contains live) key app None
     none_before none other here may = let before = candidate_before other here may in omega arith
 
-    module _ (some : 0 < count) (within : count ≤ length live) (near : Arrival) (at : near ≡ get_or live (count - 1) near) where
+    module _ (some : 0 < count) (within : count ≤ length live) (near : Arrival)
+        (at : near ≡ get_or live (count - 1) near) where
       here_near : Contains live near
       here_near = (count - 1, omega arith, sym at)
 
@@ -159,9 +177,12 @@ module _ (live : List Arrival) (rising : IsRising arrival_cmp live) (app : List 
       before_near : (other : Arrival) → Contains live other → IsCandidate key app other → Ordered other near
       before_near other here may =
           let before = candidate_before other here may in
-          let in_order : AtMost arrival_total (get_or live here.0 other) (get_or live (count - 1) other) = rising_at_most arrival_total live rising here.0 (count - 1) other (omega arith) (omega arith) in
-          let last_is : get_or live (count - 1) other ≡ near = get_or_default live (count - 1) other near (omega arith) ∙ sym at in
-          ordered other near (subst (λ a. AtMost arrival_total a near) here.2 (subst (λ a. AtMost arrival_total (get_or live here.0 other) a) last_is in_order))
+          let in_order : AtMost arrival_total (get_or live here.0 other) (get_or live (count - 1) other) =
+          rising_at_most arrival_total live rising here.0 (count - 1) other (omega arith) (omega arith) in
+          let last_is : get_or live (count - 1) other ≡ near =
+          get_or_default live (count - 1) other near (omega arith) ∙ sym at in
+          ordered other near (subst (λ a. AtMost arrival_total a near) here.2
+          (subst (λ a. AtMost arrival_total (get_or live here.0 other) a) last_is in_order))
 
       -- the last before the point, where it is of the application
       pub nearest_is : near.app ≡ app → IsNearestAnswer (Contains live) key app (Some near.serial)
@@ -187,19 +208,25 @@ module _ (live : List Arrival) (rising : IsRising arrival_cmp live) (app : List 
           both : AtMost nat_list_cmp_total app near.app → AtMost nat_list_cmp_total near.app app → app ≡ near.app
           both (inr tied) above = name_ties app near.app tied
           both (inl less) (inr tied) = sym (name_ties near.app app tied)
-          both (inl less) (inl back) = absurd (less_not_equal (sym (less_after nat_list_cmp_total app near.app app (inl less) back) ∙ tied_itself nat_list_cmp_total app))
+          both (inl less) (inl back) = absurd (less_not_equal
+              (sym (less_after nat_list_cmp_total app near.app app (inl less) back)
+              ∙ tied_itself nat_list_cmp_total app))
 
 -- what a limit is to say of the arrivals of an application
 abbrev pub IsLimit : Key → List ℕ → ℕ → Type 0
-IsLimit key app limit = (a : Arrival) → a.app ≡ app → (a.ia < limit) ↔ ((a.ia ≤ key.ia) × (app ≡ key.app → a.ia < key.ia))
+IsLimit key app limit = (a : Arrival) → a.app ≡ app → (a.ia < limit)
+    ↔ ((a.ia ≤ key.ia) × (app ≡ key.app → a.ia < key.ia))
 
 -- in its own application, the moment of the key
 pub own_limit : (key : Key) (app : List ℕ) (limit : ℕ) → app ≡ key.app → limit ≡ key.ia → IsLimit key app limit
-own_limit key app limit same is a of_app = ((λ lt. (omega arith, λ _. omega arith)), λ both. let before = both.1 same in omega arith)
+own_limit key app limit same is a of_app =
+    ((λ lt. (omega arith, λ _. omega arith)), λ both. let before = both.1 same in omega arith)
 
 -- in another one, the moment after it
-pub other_limit : (key : Key) (app : List ℕ) (limit : ℕ) → (app ≡ key.app → ⊥) → limit ≡ key.ia + 1 → IsLimit key app limit
-other_limit key app limit differ is a of_app = ((λ lt. (omega arith, λ same. absurd (differ same))), λ both. let upto = both.0 in omega arith)
+pub other_limit : (key : Key) (app : List ℕ) (limit : ℕ) → (app ≡ key.app → ⊥) → limit ≡ key.ia + 1
+    → IsLimit key app limit
+other_limit key app limit differ is a of_app =
+    ((λ lt. (omega arith, λ same. absurd (differ same))), λ both. let upto = both.0 in omega arith)
 
 -- a test of two names for equality
 pub names_equal : (x y : List ℕ) → pointwise nat_eq x y ≡ true → x ≡ y
@@ -211,10 +238,12 @@ names_equal x y is = name_ties x y (tied (slice_cmp nat_cmp x y) (sym (texts_tie
     tied Greater is = absurd (false≢true is)
 
 pub names_differ : (x y : List ℕ) → pointwise nat_eq x y ≡ false → x ≡ y → ⊥
-names_differ x y is same = false≢true (sym is ∙ subst (λ z. pointwise nat_eq x z ≡ true) same (nat_list_eq_equiv.refl x))
+names_differ x y is same = false≢true (sym is
+    ∙ subst (λ z. pointwise nat_eq x z ≡ true) same (nat_list_eq_equiv.refl x))
 
 -- a nearest predecessor is one only
-pub nearest_once : (IsLive : Arrival → Type 0) (key : Key) (app : List ℕ) (x y : Arrival) → IsNearest IsLive key app x → IsNearest IsLive key app y → x ≡ y
+pub nearest_once : (IsLive : Arrival → Type 0) (key : Key) (app : List ℕ) (x y : Arrival) → IsNearest IsLive key app x
+    → IsNearest IsLive key app y → x ≡ y
 nearest_once IsLive key app x y is_x is_y =
     let x_le : x.ia ≤ y.ia = is_y.greatest x is_x.live is_x.candidate in
     let y_le : y.ia ≤ x.ia = is_x.greatest y is_y.live is_y.candidate in
@@ -226,7 +255,8 @@ nearest_once IsLive key app x y is_x is_y =
     λ i. record { app = apps i; ia = moments i; serial = serials i }
 
 -- the nearest depends on the set of live arrivals alone
-pub nearest_same : (P Q : Arrival → Type 0) → ((a : Arrival) → P a ↔ Q a) → (key : Key) (app : List ℕ) (near : Arrival) → IsNearest P key app near → IsNearest Q key app near
+pub nearest_same : (P Q : Arrival → Type 0) → ((a : Arrival) → P a ↔ Q a)
+    → (key : Key) (app : List ℕ) (near : Arrival) → IsNearest P key app near → IsNearest Q key app near
 nearest_same P Q same key app near is = record {
   live = (same near).0 is.live;
   candidate = is.candidate;

@@ -1,5 +1,6 @@
 -- Orders of names and links, and lists in rising order.
-use Rattle.std.proofs.Common.{◌≡◌, ◌↔◌, ℕ, ◌+◌, ◌-◌, ◌<◌, ◌≤◌, ◌⊎◌, Bool, true, false, List, length, get_or, take, drop, refl, sym, ap, subst, ◌∙◌, inl, inr, arith, Ordering}
+use Rattle.std.proofs.Common.{◌≡◌, ◌↔◌, ℕ, ◌+◌, ◌-◌, ◌<◌, ◌≤◌, ◌⊎◌, Bool, true, false, List, length, get_or, take}
+use Rattle.std.proofs.Common.{drop, refl, sym, ap, subst, ◌∙◌, inl, inr, arith, Ordering}
 use Rattle.std.specs.declared.cmp.Ordering.TheVariants.{Less, Equal, Greater}
 use Rattle.std.specs.List.{Contains}
 use Rattle.std.specs.List.Sorted.{IsPartitionPoint, IsNonDecreasingBy}
@@ -77,7 +78,8 @@ module _ {K : Type 0} {R : K → K → Ordering} (o : IsTotalOrder R) where
   ] not_lt is
 
   -- what a rising list says of two places
-  pub rising_at_most : (xs : List K) → IsRising R xs → (i j : ℕ) (d : K) → i ≤ j → j < length xs → AtMost (get_or xs i d) (get_or xs j d)
+  pub rising_at_most : (xs : List K) → IsRising R xs → (i j : ℕ) (d : K) → i ≤ j → j < length xs
+      → AtMost (get_or xs i d) (get_or xs j d)
   rising_at_most xs rising i j d le lt = elim (cases_order i j) [
     | inl same ↦ inr (subst (λ k. R (get_or xs i d) (get_or xs k d) ≡ Equal) same (tied_itself o (get_or xs i d)))
     | inr (inl below) ↦ inl (rising i j d below lt)
@@ -86,21 +88,29 @@ module _ {K : Type 0} {R : K → K → Ordering} (o : IsTotalOrder R) where
 
   -- a rising list serves a binary search
   pub rising_searchable : (xs : List K) → IsRising R xs → (x : K) → IsNonDecreasingBy (λ y. ordering_index (R y x)) xs
-  rising_searchable xs rising x = searchable_from_sorted o (λ (y : K). y) xs x (λ k d _ lt. ap is_lt (o.antisymm (get_or xs (k + 1) d) (get_or xs k d) ∙ ap ordering_reverse (rising k (k + 1) d (omega arith) lt)))
+  rising_searchable xs rising x = searchable_from_sorted o (λ (y : K). y) xs x
+      (λ k d _ lt. ap is_lt (o.antisymm (get_or xs (k + 1) d) (get_or xs k d)
+      ∙ ap ordering_reverse (rising k (k + 1) d (omega arith) lt)))
 
   -- each element stands at one place
-  pub rising_once : (xs : List K) → IsRising R xs → (i j : ℕ) (d : K) → i < length xs → j < length xs → get_or xs i d ≡ get_or xs j d → i ≡ j
+  pub rising_once : (xs : List K) → IsRising R xs → (i j : ℕ) (d : K) → i < length xs → j < length xs
+      → get_or xs i d ≡ get_or xs j d → i ≡ j
   rising_once xs rising i j d lt_i lt_j same = elim (cases_order i j) [
     | inl is ↦ is
-    | inr (inl below) ↦ absurd (apart (sym (rising i j d below lt_j) ∙ ap (λ y. R (get_or xs i d) y) (sym same) ∙ tied_itself o (get_or xs i d)))
-    | inr (inr above) ↦ absurd (apart (sym (rising j i d above lt_i) ∙ ap (λ y. R (get_or xs j d) y) same ∙ tied_itself o (get_or xs j d)))
+    | inr (inl below) ↦ absurd (apart (sym (rising i j d below lt_j) ∙ ap (λ y. R (get_or xs i d) y) (sym same)
+        ∙ tied_itself o (get_or xs i d)))
+    | inr (inr above) ↦ absurd (apart (sym (rising j i d above lt_i) ∙ ap (λ y. R (get_or xs j d) y) same
+        ∙ tied_itself o (get_or xs j d)))
   ]
     where
       apart : Less ≡ Equal → ⊥
       apart is = cc
 
 -- the part of a list between two tests, where each rules a front of the list
-pub between_is : {X : Type 0} (xs : List X) (below upto : X → Bool) (start count : ℕ) → start ≤ length xs → IsPartitionPoint (λ x. below x ≡ true) (λ x. below x ≡ false) xs start → count ≤ length (drop start xs) → IsPartitionPoint (λ x. upto x ≡ true) (λ x. upto x ≡ false) (drop start xs) count → (x : X) → Contains (take count (drop start xs)) x ↔ (Contains xs x × (below x ≡ false) × (upto x ≡ true))
+pub between_is : {X : Type 0} (xs : List X) (below upto : X → Bool) (start count : ℕ) → start ≤ length xs
+    → IsPartitionPoint (λ x. below x ≡ true) (λ x. below x ≡ false) xs start → count ≤ length (drop start xs)
+    → IsPartitionPoint (λ x. upto x ≡ true) (λ x. upto x ≡ false) (drop start xs) count → (x : X)
+    → Contains (take count (drop start xs)) x ↔ (Contains xs x × (below x ≡ false) × (upto x ≡ true))
 between_is {X} xs below upto start count in_range point in_rest point' x = (forward, backward)
   where
     forward : Contains (take count (drop start xs)) x → Contains xs x × (below x ≡ false) × (upto x ≡ true)
@@ -108,18 +118,28 @@ between_is {X} xs below upto start count in_range point in_rest point' x = (forw
         let short : k < count = omega (arith, length-take-le count (drop start xs) in_rest) in
         let long : start + k < length xs = omega (arith, length-drop start xs) in
         let in_rest_at : get_or (drop start xs) k x ≡ x = sym (get_or-take count (drop start xs) k x short) ∙ at in
-        let in_all : get_or xs (start + k) x ≡ x = sym (get_or-drop start xs k x) ∙ in_rest_at in
-        ((start + k, long, in_all), subst (λ y. below y ≡ false) in_all (point.1 (start + k) x (omega arith) long), subst (λ y. upto y ≡ true) in_rest_at (point'.0 k x (omega arith) short))
+        let in_all : get_or xs (start + k) x ≡ x = sym (get_or-drop start xs k x) ∙ in_rest_at in (
+          (start + k, long, in_all),
+          subst (λ y. below y ≡ false) in_all (point.1 (start + k) x (omega arith) long),
+          subst (λ y. upto y ≡ true) in_rest_at (point'.0 k x (omega arith) short),
+        )
 
     backward : Contains xs x × (below x ≡ false) × (upto x ≡ true) → Contains (take count (drop start xs)) x
     backward ((k, lt, at), not_below, is_upto) = elim (cases_lt k start) [
-      | inl front ↦ absurd (false≢true (sym (subst (λ y. below y ≡ false) refl not_below) ∙ subst (λ y. below y ≡ true) at (point.0 k x (omega arith) front)))
+      | inl front ↦ absurd (false≢true (sym (subst (λ y. below y ≡ false) refl not_below)
+          ∙ subst (λ y. below y ≡ true) at (point.0 k x (omega arith) front)))
       | inr back ↦
           let there : start + (k - start) ≡ k = omega arith in
-          let at_rest : get_or (drop start xs) (k - start) x ≡ x = get_or-drop start xs (k - start) x ∙ ap (λ n. get_or xs n x) there ∙ at in
+          let at_rest : get_or (drop start xs) (k - start) x ≡ x =
+          get_or-drop start xs (k - start) x ∙ ap (λ n. get_or xs n x) there ∙ at in
           let long : k - start < length (drop start xs) = omega (arith, length-drop start xs) in
           elim (cases_lt (k - start) count) [
-            | inl short ↦ (k - start, omega (arith, length-take-le count (drop start xs) in_rest), get_or-take count (drop start xs) (k - start) x short ∙ at_rest)
-            | inr far ↦ absurd (false≢true (sym (subst (λ y. upto y ≡ false) at_rest (point'.1 (k - start) x far long)) ∙ is_upto))
+            | inl short ↦ (
+              k - start,
+              omega (arith, length-take-le count (drop start xs) in_rest),
+              get_or-take count (drop start xs) (k - start) x short ∙ at_rest,
+            )
+            | inr far ↦ absurd (false≢true (sym (subst (λ y. upto y ≡ false) at_rest
+                (point'.1 (k - start) x far long)) ∙ is_upto))
           ]
     ]

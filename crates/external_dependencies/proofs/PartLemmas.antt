@@ -1,5 +1,6 @@
 -- The part of a list in rising order that has one key, where the order begins with that of the keys.
-use Rattle.std.proofs.Common.{◌≡◌, ◌↔◌, ℕ, ◌+◌, ◌<◌, ◌≤◌, true, false, List, length, get_or, take, drop, refl, sym, ap, subst, inl, inr, arith, Ordering}
+use Rattle.std.proofs.Common.{◌≡◌, ◌↔◌, ℕ, ◌+◌, ◌<◌, ◌≤◌, true, false, List, length, get_or, take, drop, refl, sym}
+use Rattle.std.proofs.Common.{ap, subst, inl, inr, arith, Ordering}
 use Rattle.std.specs.declared.cmp.Ordering.TheVariants.{Less, Equal, Greater}
 use Rattle.std.specs.FinMap.{IsAntisymmetric}
 use Rattle.std.specs.List.{Contains}
@@ -9,7 +10,8 @@ use Rattle.std.specs.Ordering.{is_lt, is_le, ordering_then}
 use Rattle.std.proofs.lemmas.Cmp.{tied_itself}
 use Rattle.std.proofs.lemmas.List.{get_or-drop, get_or-take, length-drop, length-take-le}
 use Rattle.external_dependencies.specs.Rising.{IsRising}
-use Rattle.external_dependencies.proofs.OrderLemmas.{AtMost, less_after, at_most_after, at_most_from, not_less_then, rising_at_most, then_less, then_equal, between_is}
+use Rattle.external_dependencies.proofs.OrderLemmas.{AtMost, less_after, at_most_after, at_most_from, not_less_then}
+use Rattle.external_dependencies.proofs.OrderLemmas.{rising_at_most, then_less, then_equal, between_is}
 
 -- a part of a rising list rises
 pub part_rising : {X : Type 0} (cmp : X → X → Ordering) (xs : List X) (start count : ℕ) → IsRising cmp xs
@@ -30,7 +32,8 @@ module _ {T K : Type 0} (key : T → K) {R : K → K → Ordering} (keys : IsTot
     (xs : List T) (rising : IsRising (λ (x y : T). ordering_then (R (key x) (key y)) (rest x y)) xs) (k : K) where
   -- the order of the elements begins with that of the keys
   keys_at_most : (x y : T) → AtMost whole x y → AtMost keys (key x) (key y)
-  keys_at_most x y (inl less) = elim (then_less (R (key x) (key y)) (rest x y) less) [ inl below ↦ inl below | inr tied ↦ inr tied.0 ]
+  keys_at_most x y (inl less) = elim (then_less (R (key x) (key y))
+      (rest x y) less) [ inl below ↦ inl below | inr tied ↦ inr tied.0 ]
   keys_at_most x y (inr same) = inr (then_equal (R (key x) (key y)) (rest x y) same).0
 
   -- keys do not fall along the list
@@ -38,7 +41,8 @@ module _ {T K : Type 0} (key : T → K) {R : K → K → Ordering} (keys : IsTot
   keys_rise i j d le lt = keys_at_most (get_or xs i d) (get_or xs j d) (rising_at_most whole xs rising i j d le lt)
 
   pub parted_below : IsPartitionedBy (λ (x : T). is_lt (R (key x) k)) xs
-  parted_below i j d le lt is = ap is_lt (less_after keys (key (get_or xs i d)) (key (get_or xs j d)) k (keys_rise i j d le lt) (less_from (key (get_or xs j d)) is))
+  parted_below i j d le lt is = ap is_lt (less_after keys (key (get_or xs i d)) (key (get_or xs j d)) k
+      (keys_rise i j d le lt) (less_from (key (get_or xs j d)) is))
     where
       less_from : (x : K) → is_lt (R x k) ≡ true → R x k ≡ Less
       less_from x is = elim (R x k) as (λ r. is_lt r ≡ true → r ≡ Less) [
@@ -52,19 +56,27 @@ module _ {T K : Type 0} (key : T → K) {R : K → K → Ordering} (keys : IsTot
       let at_j : get_or (drop start xs) j d ≡ get_or xs (start + j) d = get_or-drop start xs j d in
       let at_i : get_or (drop start xs) i d ≡ get_or xs (start + i) d = get_or-drop start xs i d in
       let long : start + j < length xs = omega (arith, length-drop start xs) in
-      let upto_j : is_le (R (key (get_or xs (start + j) d)) k) ≡ true = subst (λ (x : T). is_le (R (key x) k) ≡ true) at_j is in
-      subst (λ (x : T). is_le (R (key x) k) ≡ true) (sym at_i) (is_le_from (key (get_or xs (start + i) d)) (at_most_after keys (key (get_or xs (start + i) d)) (key (get_or xs (start + j) d)) k (keys_rise (start + i) (start + j) d (omega arith) long) (at_most_from keys (key (get_or xs (start + j) d)) k upto_j)))
+      let upto_j : is_le (R (key (get_or xs (start + j) d)) k) ≡ true =
+      subst (λ (x : T). is_le (R (key x) k) ≡ true) at_j is in
+      subst (λ (x : T). is_le (R (key x) k) ≡ true) (sym at_i)
+      (is_le_from (key (get_or xs (start + i) d))
+      (at_most_after keys (key (get_or xs (start + i) d)) (key (get_or xs (start + j) d)) k
+      (keys_rise (start + i) (start + j) d (omega arith) long)
+      (at_most_from keys (key (get_or xs (start + j) d)) k upto_j)))
     where
       is_le_from : (x : K) → AtMost keys x k → is_le (R x k) ≡ true
       is_le_from x (inl less) = ap is_le less
       is_le_from x (inr same) = ap is_le same
 
   -- the elements from the first of the key to the last
-  pub part_is : (start count : ℕ) → start ≤ length xs → IsPartitionPoint (λ (x : T). is_lt (R (key x) k) ≡ true) (λ (x : T). is_lt (R (key x) k) ≡ false) xs start
-      → count ≤ length (drop start xs) → IsPartitionPoint (λ (x : T). is_le (R (key x) k) ≡ true) (λ (x : T). is_le (R (key x) k) ≡ false) (drop start xs) count
+  pub part_is : (start count : ℕ) → start ≤ length xs
+      → IsPartitionPoint (λ (x : T). is_lt (R (key x) k) ≡ true) (λ (x : T). is_lt (R (key x) k) ≡ false) xs start
+      → count ≤ length (drop start xs) → IsPartitionPoint (λ (x : T). is_le (R (key x) k) ≡ true)
+      (λ (x : T). is_le (R (key x) k) ≡ false) (drop start xs) count
       → (x : T) → Contains (take count (drop start xs)) x ↔ (Contains xs x × (key x ≡ k))
   part_is start count in_range point in_rest point' x =
-      let both = between_is xs (λ (y : T). is_lt (R (key y) k)) (λ (y : T). is_le (R (key y) k)) start count in_range point in_rest point' x in (
+      let both = between_is xs (λ (y : T). is_lt (R (key y) k))
+      (λ (y : T). is_le (R (key y) k)) start count in_range point in_rest point' x in (
         (λ here. let facts = both.0 here in (facts.0, ties (key x) k (not_less_then keys (key x) k facts.1 facts.2))),
         λ here.
             let tied : R (key x) k ≡ Equal = subst (λ y. R (key x) y ≡ Equal) here.1 (tied_itself keys (key x)) in

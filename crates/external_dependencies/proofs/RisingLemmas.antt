@@ -28,14 +28,17 @@ module _ {X : Type 0} (cmp : X → X → Ordering) (total : IsTotalOrder cmp) wh
   rest_has : (x y : X) (xs ys : List X) → IsRising cmp (x ∷ xs) → x ≡ y
       → ((z : X) → Contains (x ∷ xs) z → Contains (y ∷ ys) z) → (z : X) → Contains xs z → Contains ys z
   rest_has x y xs ys rising same has z there = elim (first_or_later y ys z (has z (further x xs z there))) [
-    | inl is ↦ absurd (less_not_equal (sym (later x xs z rising there) ∙ subst (λ w. cmp x w ≡ Equal) (same ∙ is) (tied_itself total x)))
+    | inl is ↦ absurd (less_not_equal (sym (later x xs z rising there)
+        ∙ subst (λ w. cmp x w ≡ Equal) (same ∙ is) (tied_itself total x)))
     | inr found ↦ found
   ]
 
   pub rising_unique : RisingIsUnique cmp
   rising_unique [] [] a b same = refl
-  rising_unique [] (y ∷ ys) a b same = let (k, lt, is) = (same y).1 (zero, omega arith, refl) in absurd (omega (arith, lt))
-  rising_unique (x ∷ xs) [] a b same = let (k, lt, is) = (same x).0 (zero, omega arith, refl) in absurd (omega (arith, lt))
+  rising_unique [] (y ∷ ys) a b same = let (k, lt, is) = (same y).1 (zero, omega arith, refl) in
+      absurd (omega (arith, lt))
+  rising_unique (x ∷ xs) [] a b same = let (k, lt, is) = (same x).0 (zero, omega arith, refl) in
+      absurd (omega (arith, lt))
   rising_unique (x ∷ xs) (y ∷ ys) a b same =
       ap₂ (λ h t. h ∷ t) first
       (rising_unique xs ys (rest_rising x xs a) (rest_rising y ys b) (λ z. (

@@ -1,5 +1,6 @@
 -- The steps of a search from a node along the edges of a graph.
-use Rattle.std.proofs.Common.{◌≡◌, ◌≢◌, ℕ, ◌+◌, ◌<◌, ◌≤◌, ◌⊎◌, Bool, false, List, [], ◌∷◌, length, get_or, replicate, map, refl, sym, ap, subst, ◌∙◌, inl, inr, arith}
+use Rattle.std.proofs.Common.{◌≡◌, ◌≢◌, ℕ, ◌+◌, ◌<◌, ◌≤◌, ◌⊎◌, Bool, false, List, [], ◌∷◌, length, get_or, replicate}
+use Rattle.std.proofs.Common.{map, refl, sym, ap, subst, ◌∙◌, inl, inr, arith}
 use Rattle.std.specs.List.{All, Contains}
 use Rattle.std.proofs.lemmas.List.{get_or_default, length-replicate, get_or-replicate, get_or_past, get_or-map}
 use Rattle.std.proofs.lemmas.List.Elements.{Contains-push_cases, Contains-get_or}
@@ -28,7 +29,8 @@ pub record IsSearch (g : List (List ℕ)) (start : ℕ) (reached : List Bool) (o
 nothing_reached : (n w : ℕ) → IsReached (replicate n false) w → ⊥
 nothing_reached n w marked = elim (cases_lt w n) [
   | inl in_range ↦ false≢true (sym (get_or-replicate n w false false in_range) ∙ marked)
-  | inr past ↦ false≢true (sym (get_or_past (replicate n false) w false (omega (arith, length-replicate n false))) ∙ marked)
+  | inr past ↦ false≢true (sym (get_or_past (replicate n false) w false (omega (arith, length-replicate n false)))
+      ∙ marked)
 ]
 
 -- the only element of a list of one
@@ -39,7 +41,8 @@ contains_one x w here = elim (Contains-push_cases [] x w here) [
 ]
 
 -- a search as it begins
-pub search_begun : (g : List (List ℕ)) (start : ℕ) → start < length g → IsSearch g start (replicate (length g) false) (start ∷ []) 0
+pub search_begun : (g : List (List ℕ)) (start : ℕ) → start < length g
+    → IsSearch g start (replicate (length g) false) (start ∷ []) 0
 search_begun g start in_range = record {
   same_length = length-replicate (length g) false;
   begun = omega arith;
@@ -52,7 +55,8 @@ search_begun g start in_range = record {
   closed = λ j lt. absurd (omega arith);
 }
 
-module _ (g : List (List ℕ)) (start : ℕ) (reached : List Bool) (order : List ℕ) (done : ℕ) (search : IsSearch g start reached order done) where
+module _ (g : List (List ℕ)) (start : ℕ) (reached : List Bool) (order : List ℕ) (done : ℕ)
+    (search : IsSearch g start reached order done) where
   -- a step from a visited node leads to what the start reaches
   from_start : (node w : ℕ) → Contains order node → Step (Edge g) node w → Reaches (Edge g) start w
   from_start node w here step = elim (search.known node here) [
@@ -65,11 +69,14 @@ module _ (g : List (List ℕ)) (start : ℕ) (reached : List Bool) (order : List
     at_node = Contains-get_or order done 0 more
 
     -- an edge from the node that is visited to the start closes a walk
-    pub search_found : Contains (get_or g (get_or order done 0) []) start → start ≢ get_or order done 0 → ReturnsTo g start
+    pub search_found : Contains (get_or g (get_or order done 0) []) start → start ≢ get_or order done 0
+        → ReturnsTo g start
     search_found edge differ = from_start (get_or order done 0) start at_node (edge, λ same. differ (sym same))
 
     -- a visit that does not find the start
-    pub search_more : (reached' : List Bool) (order' : List ℕ) → Visits (get_or g (get_or order done 0) []) (get_or order done 0) start reached order reached' order' → IsSearch g start reached' order' (done + 1)
+    pub search_more : (reached' : List Bool) (order' : List ℕ)
+        → Visits (get_or g (get_or order done 0) []) (get_or order done 0) start reached order reached' order'
+        → IsSearch g start reached' order' (done + 1)
     search_more reached' order' visits = record {
       same_length = visits.same_length ∙ search.same_length;
       begun = omega (arith, visits.longer);
@@ -94,11 +101,14 @@ module _ (g : List (List ℕ)) (start : ℕ) (reached : List Bool) (order : List
       closed = λ j lt w edge differ. closed j lt w edge differ;
     }
       where
-        closed : (j : ℕ) → j < done + 1 → (w : ℕ) → Edge g (get_or order' j 0) w → get_or order' j 0 ≢ w → IsReached reached' w
+        closed : (j : ℕ) → j < done + 1 → (w : ℕ) → Edge g (get_or order' j 0) w → get_or order' j 0 ≢ w
+            → IsReached reached' w
         closed j lt w =
             let same : get_or order' j 0 ≡ get_or order j 0 = visits.same_front j (omega arith) in
-            let old : Edge g (get_or order j 0) w → get_or order j 0 ≢ w → IsReached reached' w = λ edge differ. elim (cases_order j done) [
-              | inl here ↦ visits.all_reached w (subst (λ k. Edge g (get_or order k 0) w) here edge) (λ is. differ (subst (λ k. get_or order k 0 ≡ w) (sym here) (sym is)))
+            let old : Edge g (get_or order j 0) w → get_or order j 0 ≢ w → IsReached reached' w =
+            λ edge differ. elim (cases_order j done) [
+              | inl here ↦ visits.all_reached w (subst (λ k. Edge g (get_or order k 0) w) here edge)
+                  (λ is. differ (subst (λ k. get_or order k 0 ≡ w) (sym here) (sym is)))
               | inr (inl below) ↦ visits.grows w (search.closed j below w edge differ)
               | inr (inr above) ↦ absurd (omega arith)
             ] in
@@ -108,38 +118,50 @@ module _ (g : List (List ℕ)) (start : ℕ) (reached : List Bool) (order : List
     pub node_in_range : (node : ℕ) → node ≡ get_or order done 0 → node < length g
     node_in_range node is_node = search.in_range node (subst (Contains order) (sym is_node) at_node)
 
-    module _ (node : ℕ) (targets : List ℕ) (is_node : node ≡ get_or order done 0) (are_targets : targets ≡ get_or g node []) where
+    module _ (node : ℕ) (targets : List ℕ) (is_node : node ≡ get_or order done 0)
+        (are_targets : targets ≡ get_or g node []) where
       -- the same, with names for the node and its targets
       pub search_found_at : Contains targets start → start ≢ node → ReturnsTo g start
       search_found_at =
-          let here : Contains (get_or g node []) start → start ≢ node → ReturnsTo g start = subst (λ n. Contains (get_or g n []) start → start ≢ n → ReturnsTo g start) (sym is_node) search_found in
+          let here : Contains (get_or g node []) start → start ≢ node → ReturnsTo g start =
+          subst (λ n. Contains (get_or g n []) start → start ≢ n → ReturnsTo g start) (sym is_node) search_found in
           subst (λ ts. Contains ts start → start ≢ node → ReturnsTo g start) (sym are_targets) here
 
-      pub search_more_at : (reached' : List Bool) (order' : List ℕ) → Visits targets node start reached order reached' order' → IsSearch g start reached' order' (done + 1)
+      pub search_more_at : (reached' : List Bool) (order' : List ℕ)
+          → Visits targets node start reached order reached' order' → IsSearch g start reached' order' (done + 1)
       search_more_at reached' order' visits =
-          let here : Visits (get_or g node []) node start reached order reached' order' = subst (λ ts. Visits ts node start reached order reached' order') are_targets visits in
-          search_more reached' order' (subst (λ n. Visits (get_or g n []) n start reached order reached' order') is_node here)
+          let here : Visits (get_or g node []) node start reached order reached' order' =
+          subst (λ ts. Visits ts node start reached order reached' order') are_targets visits in
+          search_more reached' order' (subst (λ n. Visits
+          (get_or g n []) n start reached order reached' order') is_node here)
 
   -- with every node of the order visited, no walk comes back
   pub search_ended : length order ≤ done → ReturnsTo g start → ⊥
   search_ended all (between, walk) =
-      let keeps : (u v : ℕ) → Contains order u → Step (Edge g) u v → Contains order v × IsReached reached v = λ u v here step.
+      let keeps : (u v : ℕ) → Contains order u → Step (Edge g) u v → Contains order v × IsReached reached v =
+      λ u v here step.
       let at : get_or order here.0 0 ≡ u = get_or_default order here.0 0 u here.1 ∙ here.2 in
-      let marked : IsReached reached v = search.closed here.0 (omega (arith, here.1)) v (subst (λ n. Edge g n v) (sym at) step.0) (λ is. step.1 (sym at ∙ is)) in
+      let marked : IsReached reached v = search.closed here.0 (omega (arith, here.1)) v
+      (subst (λ n. Edge g n v) (sym at) step.0) (λ is. step.1 (sym at ∙ is)) in
       (search.listed v marked, marked) in
-      let first : Contains order start = subst (Contains order) search.at_start (Contains-get_or order 0 0 search.begun) in
+      let first : Contains order start = subst (Contains order) search.at_start
+      (Contains-get_or order 0 0 search.begun) in
       ended start between keeps first walk
     where
-      ended : (u : ℕ) (xs : List ℕ) → ((u v : ℕ) → Contains order u → Step (Edge g) u v → Contains order v × IsReached reached v) → Contains order u → IsWalk (Edge g) u xs start → ⊥
+      ended : (u : ℕ) (xs : List ℕ) → ((u v : ℕ) → Contains order u → Step (Edge g) u v → Contains order v
+          × IsReached reached v) → Contains order u → IsWalk (Edge g) u xs start → ⊥
       ended u [] keeps here walk = (search.walked start (keeps u start here walk).1).1 refl
       ended u (x ∷ xs) keeps here walk = ended x xs keeps (keeps u x here walk.0).0 walk.1
 
 -- the targets that are read from the vector of a graph
-pub targets_read : (vs : List (Vec ℕ Global)) (g : List (List ℕ)) (i : ℕ) (v : Vec ℕ Global) → map items_of vs ≡ g → i < length vs → v ≡ get_or vs i v → v.items ≡ get_or g i []
-targets_read vs g i v view lt read = ap items_of read ∙ sym (get_or-map items_of vs i v [] lt) ∙ ap (λ h. get_or h i []) view
+pub targets_read : (vs : List (Vec ℕ Global)) (g : List (List ℕ)) (i : ℕ) (v : Vec ℕ Global) → map items_of vs ≡ g
+    → i < length vs → v ≡ get_or vs i v → v.items ≡ get_or g i []
+targets_read vs g i v view lt read = ap items_of read ∙ sym (get_or-map items_of vs i v [] lt)
+    ∙ ap (λ h. get_or h i []) view
 
 -- the targets of a node are nodes
-pub targets_in_range : (g : List (List ℕ)) (node size : ℕ) (targets : List ℕ) → IsGraph g → node < length g → size ≡ length g → targets ≡ get_or g node [] → All (λ w. w < size) targets
+pub targets_in_range : (g : List (List ℕ)) (node size : ℕ) (targets : List ℕ) → IsGraph g → node < length g
+    → size ≡ length g → targets ≡ get_or g node [] → All (λ w. w < size) targets
 targets_in_range g node size targets graph lt same is =
     let here : All (λ w. w < length g) (get_or g node []) = graph node [] lt in
     subst (λ ts. All (λ w. w < size) ts) (sym is) (subst (λ n. All (λ w. w < n) (get_or g node [])) (sym same) here)

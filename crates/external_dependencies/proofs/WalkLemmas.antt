@@ -17,6 +17,7 @@ module _ {V : Type 0} (E : V → V → Type 0) where
   reaches-step u v edge differ = ([], (edge, differ))
 
   -- what each step keeps, a walk keeps
-  pub walk-keeps : (P : V → Type 0) → ((u v : V) → P u → Step E u v → P v) → (u v : V) (xs : List V) → P u → IsWalk E u xs v → P v
+  pub walk-keeps : (P : V → Type 0) → ((u v : V) → P u → Step E u v → P v) → (u v : V) (xs : List V) → P u
+      → IsWalk E u xs v → P v
   walk-keeps P keeps u v [] here walk = keeps u v here walk
   walk-keeps P keeps u v (x ∷ xs) here walk = walk-keeps P keeps x v xs (keeps u x here walk.0) walk.1

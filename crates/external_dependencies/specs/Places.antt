@@ -8,7 +8,8 @@ use Rattle.external_dependencies.specs.Walk.{Edge}
 abbrev pub ArePlaces : List (List ℕ) → List Link → List ℕ → Type 0
 ArePlaces names list found =
     (place : ℕ) → Contains found place
-    ↔ ((place < length names) × ((link : Link) × Contains list link × (link.predecessor ≡ slice_index_or names place [])))
+    ↔ ((place < length names) × ((link : Link) × Contains list link
+    × (link.predecessor ≡ slice_index_or names place [])))
 
 -- the graph of the lists over the first `done` names
 pub record IsGraphOf (links : List Link) (names : List (List ℕ)) (done : ℕ) (graph : List (List ℕ)) : Type 0 where

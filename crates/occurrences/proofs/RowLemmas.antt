@@ -26,7 +26,10 @@ row_cmp_total =
 rest_cmp : Row → Row → Ordering
 rest_cmp a b = ordering_then (nat_cmp a.deadline b.deadline) (origin_cmp a.origin b.origin)
 
-row_step : (a b : Row) → (a.serial ≡ b.serial → ⊥) → (o p q : Ordering) → MatchOrdering o (KeyBefore a.key b.key) (a.key ≡ b.key) (KeyBefore b.key a.key) → MatchOrdering p (a.serial < b.serial) (a.serial ≡ b.serial) (b.serial < a.serial) → MatchOrdering (ordering_then o (ordering_then p q)) (RowBefore a b) ⊥ (RowBefore b a)
+row_step : (a b : Row) → (a.serial ≡ b.serial → ⊥) → (o p q : Ordering)
+    → MatchOrdering o (KeyBefore a.key b.key) (a.key ≡ b.key) (KeyBefore b.key a.key)
+    → MatchOrdering p (a.serial < b.serial) (a.serial ≡ b.serial) (b.serial < a.serial)
+    → MatchOrdering (ordering_then o (ordering_then p q)) (RowBefore a b) ⊥ (RowBefore b a)
 row_step a b n Less p q h k = inl h
 row_step a b n Greater p q h k = inl h
 row_step a b n Equal Less q h k = inr (h, k)
@@ -37,7 +40,8 @@ row_step a b n Equal Greater q h k = inr (sym h, k)
 pub row_ranks : (a b : Row) → a.serial ≢ b.serial → MatchOrdering (row_cmp a b) (RowBefore a b) ⊥ (RowBefore b a)
 unfolding rest_cmp
 row_ranks a b n =
-    row_step a b n (key_cmp a.key b.key) (nat_cmp a.serial b.serial) (rest_cmp a b) (key_ranks a.key b.key) (ranks a.serial b.serial)
+    row_step a b n (key_cmp a.key b.key) (nat_cmp a.serial b.serial) (rest_cmp a b) (key_ranks a.key b.key)
+    (ranks a.serial b.serial)
 
 pub row_strict : IsStrictOrder RowBefore
 row_strict = record { irreflexive = itself; transitive = onward }
@@ -47,23 +51,34 @@ row_strict = record { irreflexive = itself; transitive = onward }
 
     onward : (a b c : Row) → RowBefore a b → RowBefore b c → RowBefore a c
     onward a b c h k = elim h [
-      | inl x ↦ elim k [ inl y ↦ inl (key_strict.transitive a.key b.key c.key x y) | inr q ↦ inl (subst (λ u. KeyBefore a.key u) q.0 x) ]
-      | inr p ↦ elim k [ inl y ↦ inl (subst (λ u. KeyBefore u c.key) (sym p.0) y) | inr q ↦ inr (p.0 ∙ q.0, omega arith) ]
+      | inl x ↦ elim k [
+        | inl y ↦ inl (key_strict.transitive a.key b.key c.key x y)
+        | inr q ↦ inl
+            (subst (λ u. KeyBefore a.key u) q.0 x)
+      ]
+      | inr p ↦ elim k [
+        | inl y ↦ inl (subst (λ u. KeyBefore u c.key) (sym p.0) y)
+        | inr q ↦ inr
+            (p.0 ∙ q.0, omega arith)
+      ]
     ]
 
 -- a row that comes before another compares as less, also where the two have one serial
 pub row_less : (a b : Row) → RowBefore a b → row_cmp a b ≡ Less
 unfolding rest_cmp
 row_less a b h = elim h [
-  | inl k ↦ ap (λ o. ordering_then o (ordering_then (nat_cmp a.serial b.serial) (rest_cmp a b))) (key_less a.key b.key k)
+  | inl k ↦ ap (λ o. ordering_then o (ordering_then (nat_cmp a.serial b.serial) (rest_cmp a b)))
+      (key_less a.key b.key k)
   | inr p ↦
-      ap (λ o. ordering_then o (ordering_then (nat_cmp a.serial b.serial) (rest_cmp a b))) (ap (λ k. key_cmp a.key k) (sym p.0) ∙ tied_itself key_cmp_total a.key)
+      ap (λ o. ordering_then o (ordering_then (nat_cmp a.serial b.serial) (rest_cmp a b)))
+      (ap (λ k. key_cmp a.key k) (sym p.0) ∙ tied_itself key_cmp_total a.key)
       ∙ ap (λ o. ordering_then o (rest_cmp a b)) (nat_less a.serial b.serial p.1)
 ]
 
 -- what compares as equal is one value
 origin_equal : (a b : Origin) → origin_cmp a b ≡ Equal → a ≡ b
-origin_equal (Generated x) (Generated y) e = ap Generated (answer_means (slice_cmp nat_cmp) ByteBefore byte_ranks x y Equal e)
+origin_equal (Generated x) (Generated y) e =
+    ap Generated (answer_means (slice_cmp nat_cmp) ByteBefore byte_ranks x y Equal e)
 origin_equal (Generated x) Added e = absurd cc
 origin_equal Added (Generated y) e = absurd cc
 origin_equal Added Added e = refl

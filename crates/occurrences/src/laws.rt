@@ -35,7 +35,8 @@ pub fn row_order()
     ensures equal { (a b : Row) → (⟦<Row as PartialEq>⟧.eq a b ≡ true) ↔ (a ≡ b) }
 {}
 
-/// Law: the ways into each status. S is entered by a start of W alone, E by a failure of S, C by a completion of S or E,
+/// Law: the ways into each status. S is entered by a start of W alone, E by a failure of S, C by a completion of S or
+/// E,
 /// W by a reset of E, and D by a deletion of W or E. So what is complete or deleted stays so, whatever is tried.
 pub fn status_changes()
     ensures into_w { (s : Status) (a : Action) →

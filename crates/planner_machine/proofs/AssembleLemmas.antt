@@ -1,5 +1,6 @@
 -- Sound content stays sound, where its rows, lists and ranges do.
-use Rattle.std.proofs.Common.{◌≡◌, ◌≢◌, ℕ, ◌⊎◌, List, [], refl, sym, ap, subst, ◌∙◌, inl, inr, arith, Option, None, Some}
+use Rattle.std.proofs.Common.{◌≡◌, ◌≢◌, ℕ, ◌⊎◌, List, [], refl, sym, ap, subst, ◌∙◌, inl, inr, arith, Option, None}
+use Rattle.std.proofs.Common.{Some}
 use Rattle.std.specs.Prelude.{Contains}
 use Rattle.work_calendars.specs.Day.{IsDay}
 use Rattle.work_calendars.specs.Moment.{IsMoment}
@@ -170,7 +171,8 @@ module _ (place : Place) (fate : Fate) (drafts : List Draft) (c c' : Content) (s
     };
     sizes = owes.sizes;
     lists = owes.no_loop;
-    pairs = pairs_sound place fate drafts c c' sound owes.rows owes.keeps owes.follows owes.pairs owes.opens owes.closes;
+    pairs = pairs_sound place fate drafts c c' sound owes.rows owes.keeps owes.follows owes.pairs owes.opens
+        owes.closes;
     jobs = subst (λ (jobs : ℕ → Option Job). (number : ℕ) (job : Job) → jobs number ≡ Some job
         → IsJob number job) (sym owes.jobs) sound.jobs;
   }

@@ -10,12 +10,14 @@ use Rattle.planner_machine.specs.Laws.{IsWellFormed, StaysSound}
 use Rattle.planner_machine.specs.ModifyAll.{IsAnyApp, is_any_app}
 use Rattle.planner_machine.specs.ModifyOne.{IsThatApp, is_that_app}
 use Rattle.planner_machine.specs.Sound.{IsSound}
-use Rattle.planner_machine.specs.Statement.{Act, Add, AddCurrent, Change, Create, DailyExtend, Define, Delete, Extend, ModifyAll, ModifyOne, Replan, Undefine, decision_of}
+use Rattle.planner_machine.specs.Statement.{Act, Add, AddCurrent, Change, Create, DailyExtend, Define, Delete, Extend}
+use Rattle.planner_machine.specs.Statement.{ModifyAll, ModifyOne, Replan, Undefine, decision_of}
 use Rattle.planner_machine.proofs.AssembleLemmas.{stays_sound}
 use Rattle.planner_machine.proofs.DecisionLemmas.{keeps_sound}
 use Rattle.planner_machine.proofs.DefineLemmas.{define_are, definitions_sound, undefine_are}
 use Rattle.planner_machine.proofs.ModifyLemmas.{any_tests, that_tests}
-use Rattle.planner_machine.proofs.OwesLemmas.{action_owes, add_owes, create_owes, daily_owes, delete_owes, extend_owes, good_end, modify_owes}
+use Rattle.planner_machine.proofs.OwesLemmas.{action_owes, add_owes, create_owes, daily_owes, delete_owes}
+use Rattle.planner_machine.proofs.OwesLemmas.{extend_owes, good_end, modify_owes}
 use Rattle.planner_machine.proofs.StaysSoundLemmas.{links_all, links_one, loops_put, plan_of}
 
 pub change_sound : (change : Change) → IsWellFormed change → StaysSound change

@@ -3,9 +3,15 @@ use Rattle.std.proofs.Common.{◌≡◌, ℕ, List, refl, sym, ap, subst, ◌∙
 use Rattle.std.specs.Prelude.{nat_eq, if◌then◌else◌, Ok, Err}
 use Rattle.occurrences.specs.Refusal.{refusal_number}
 use Rattle.occurrences.specs.declared.refusal.Refusal.{Refusal}
-use Rattle.occurrences.specs.declared.refusal.Refusal.TheVariants.{NotAStatement, FaultyData, JobWithAnotherText, NotDefined, NoPlan, PlanExists, CalendarUndefined, PeriodUndefined, DatesOutOfRange, Loop, NoActiveApplication, KeyIsLive, NoSuchOccurrence, StatusForbids, PredecessorUncompleted, TooManyRows, PlanEndOutOfRange}
+use Rattle.occurrences.specs.declared.refusal.Refusal.TheVariants.{NotAStatement, FaultyData, JobWithAnotherText}
+use Rattle.occurrences.specs.declared.refusal.Refusal.TheVariants.{NotDefined, NoPlan, PlanExists, CalendarUndefined}
+use Rattle.occurrences.specs.declared.refusal.Refusal.TheVariants.{PeriodUndefined, DatesOutOfRange, Loop}
+use Rattle.occurrences.specs.declared.refusal.Refusal.TheVariants.{NoActiveApplication, KeyIsLive, NoSuchOccurrence}
+use Rattle.occurrences.specs.declared.refusal.Refusal.TheVariants.{StatusForbids, PredecessorUncompleted, TooManyRows}
+use Rattle.occurrences.specs.declared.refusal.Refusal.TheVariants.{PlanEndOutOfRange}
 use Rattle.occurrences.specs.declared.reply.Reply.{Reply}
-use Rattle.planner_machine.specs.Decision.{Decision, Decides, DecidesOne, Detail, nothing, number, name, DoesOne, HasOneDetail, IsLeastRefusal, KeepsSound, detail_of}
+use Rattle.planner_machine.specs.Decision.{Decision, Decides, DecidesOne, Detail, nothing, number, name, DoesOne}
+use Rattle.planner_machine.specs.Decision.{HasOneDetail, IsLeastRefusal, KeepsSound, detail_of}
 
 -- a refusal is its number and its detail
 with_number : Detail → (ℕ → Refusal) → Option Refusal

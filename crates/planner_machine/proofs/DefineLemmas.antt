@@ -1,5 +1,6 @@
 -- Sound content stays sound where definitions change.
-use Rattle.std.proofs.Common.{◌≡◌, ℕ, List, [], refl, sym, ap, subst, ◌∙◌, arith, Option, None, Some, Bool, true, false, cond}
+use Rattle.std.proofs.Common.{◌≡◌, ℕ, List, [], refl, sym, ap, subst, ◌∙◌, arith, Option, None, Some, Bool, true}
+use Rattle.std.proofs.Common.{false, cond}
 use Rattle.std.specs.Prelude.{nat_eq}
 use Rattle.std.specs.Cmp.Lexicographic.{pointwise, slice_cmp}
 use Rattle.std.specs.FinMap as map
@@ -17,23 +18,25 @@ use Rattle.app_definitions.specs.Definitions.{merged, without}
 use Rattle.app_definitions.specs.Options.{GivesCalendar}
 use Rattle.app_definitions.specs.Periods.{FitsPeriod, IsPeriodOf}
 use Rattle.app_definitions.specs.Predecessors.{ArePredecessorsOf, FitsPredecessors}
-use Rattle.app_definitions.specs.Records.{AllGood, block_records}
+use Rattle.app_definitions.specs.Records.{AllGood, block_records, Record, Records}
 use Rattle.app_definitions.specs.declared.definitions.Definitions.{Definitions}
 use Rattle.app_definitions.specs.declared.kinds.Block.{Block}
 use Rattle.app_definitions.specs.declared.kinds.Kind.{Kind}
 use Rattle.app_definitions.specs.declared.kinds.Kind.TheVariants as kind
 use Rattle.planner_machine.specs.Content.{Content}
 use Rattle.planner_machine.specs.Sound.{AreDefinable, AreDefinitions, IsSound}
+use Rattle.app_definitions.specs.declared.columns.TheConstants.{APPLICATION_FIELDS, CALENDAR_FIELDS, PERIOD_FIELDS}
+use Rattle.app_definitions.specs.declared.columns.TheConstants.{PREDECESSOR_FIELDS, CYCLE_FIELDS}
 
-module _ {D : Type 0} (fields : ℕ) (Fits : List (List (List ℕ)) → List (List ℕ) → Type 0) (IsMadeOf : D
-    → List (List (List ℕ)) → Type 0) where
+module _ {D : Type 0} (fields : ℕ) (Fits : Records → Record → Type 0) (IsMadeOf : D
+    → Records → Type 0) where
   -- what a block gives goes over what was there
-  overlaid_definable : (old more : map.FinMap (slice_cmp nat_cmp) D) (rows : List (List (List ℕ)))
+  overlaid_definable : (old more : map.FinMap (slice_cmp nat_cmp) D) (rows : Records)
       → AreDefinable fields Fits IsMadeOf (map.get old) → AllGood (FitsKind fields Fits) rows
       → AreGivenBy IsMadeOf more rows → AreDefinable fields Fits IsMadeOf (map.get (overlaid old more))
   overlaid_definable old more rows were good given name = at (map.get more name) refl
     where
-      at : (o : Option D) → map.get more name ≡ o → (rows' : List (List (List ℕ)))
+      at : (o : Option D) → map.get more name ≡ o → (rows' : Records)
           × AllGood (FitsKind fields Fits) rows'
           × IsDefinedBy IsMadeOf (map.get (overlaid old more) name) (records_of name rows')
       at None is =
@@ -52,7 +55,7 @@ module _ {D : Type 0} (fields : ℕ) (Fits : List (List (List ℕ)) → List (Li
       → AreDefinable fields Fits IsMadeOf (map.get (map.remove old gone))
   removed_definable old gone were name = at (pointwise nat_eq gone name) refl
     where
-      at : (b : Bool) → pointwise nat_eq gone name ≡ b → (rows : List (List (List ℕ)))
+      at : (b : Bool) → pointwise nat_eq gone name ≡ b → (rows : Records)
           × AllGood (FitsKind fields Fits) rows
           × IsDefinedBy IsMadeOf (map.get (map.remove old gone) name) (records_of name rows)
       at true is =
@@ -74,7 +77,7 @@ pub define_are : (k : Kind) (text : List ℕ) (block : Block) (all : Definitions
     → ReadsAs k text block → AreDefinitions (merged all block)
 define_are kind.Applications text block all are (good, more, is, given) =
     subst (λ (b : Block). AreDefinitions (merged all b)) (sym is) (record {
-      applications = overlaid_definable 3 FitsApplication IsApplicationOf all.applications more
+      applications = overlaid_definable APPLICATION_FIELDS FitsApplication IsApplicationOf all.applications more
           (block_records text) are.applications good given;
       calendars = are.calendars;
       periods = are.periods;
@@ -85,7 +88,7 @@ define_are kind.Applications text block all are (good, more, is, given) =
 define_are kind.Calendars text block all are (good, more, is, given) =
     subst (λ (b : Block). AreDefinitions (merged all b)) (sym is) (record {
       applications = are.applications;
-      calendars = overlaid_definable 3 FitsCalendar IsCalendarOf all.calendars more
+      calendars = overlaid_definable CALENDAR_FIELDS FitsCalendar IsCalendarOf all.calendars more
           (block_records text) are.calendars good given;
       periods = are.periods;
       predecessors = are.predecessors;
@@ -96,7 +99,8 @@ define_are kind.Periods text block all are (good, more, is, given) =
     subst (λ (b : Block). AreDefinitions (merged all b)) (sym is) (record {
       applications = are.applications;
       calendars = are.calendars;
-      periods = overlaid_definable 4 FitsPeriod IsPeriodOf all.periods more (block_records text) are.periods good given;
+      periods = overlaid_definable PERIOD_FIELDS FitsPeriod IsPeriodOf all.periods more
+          (block_records text) are.periods good given;
       predecessors = are.predecessors;
       run_cycles = are.run_cycles;
       default_calendar = are.default_calendar;
@@ -106,7 +110,7 @@ define_are kind.Predecessors text block all are (good, more, is, given) =
       applications = are.applications;
       calendars = are.calendars;
       periods = are.periods;
-      predecessors = overlaid_definable 2 FitsPredecessors ArePredecessorsOf all.predecessors more
+      predecessors = overlaid_definable PREDECESSOR_FIELDS FitsPredecessors ArePredecessorsOf all.predecessors more
           (block_records text) are.predecessors good given;
       run_cycles = are.run_cycles;
       default_calendar = are.default_calendar;
@@ -117,7 +121,7 @@ define_are kind.RunCycles text block all are (good, more, is, given) =
       calendars = are.calendars;
       periods = are.periods;
       predecessors = are.predecessors;
-      run_cycles = overlaid_definable 11 FitsRunCycle AreRunCyclesOf all.run_cycles more
+      run_cycles = overlaid_definable CYCLE_FIELDS FitsRunCycle AreRunCyclesOf all.run_cycles more
           (block_records text) are.run_cycles good given;
       default_calendar = are.default_calendar;
     })
@@ -136,11 +140,20 @@ define_are kind.Options text block all are (o, is, options) =
 pub undefine_are : (k : Kind) (name : List ℕ) (all : Definitions) → AreDefinitions all
     → AreDefinitions (without all k name)
 undefine_are kind.Applications name all are =
-    record { applications = removed_definable 3 FitsApplication IsApplicationOf all.applications name are.applications; calendars = are.calendars; periods = are.periods; predecessors = are.predecessors; run_cycles = are.run_cycles; default_calendar = are.default_calendar }
+    record {
+      applications = removed_definable APPLICATION_FIELDS FitsApplication IsApplicationOf all.applications name
+          are.applications;
+      calendars = are.calendars;
+      periods = are.periods;
+      predecessors =
+          are.predecessors;
+      run_cycles = are.run_cycles;
+      default_calendar = are.default_calendar;
+    }
 undefine_are kind.Calendars name all are =
     record {
       applications = are.applications;
-      calendars = removed_definable 3 FitsCalendar IsCalendarOf all.calendars name are.calendars;
+      calendars = removed_definable CALENDAR_FIELDS FitsCalendar IsCalendarOf all.calendars name are.calendars;
       periods = are.periods;
       predecessors = are.predecessors;
       run_cycles = are.run_cycles;
@@ -150,7 +163,7 @@ undefine_are kind.Periods name all are =
     record {
       applications = are.applications;
       calendars = are.calendars;
-      periods = removed_definable 4 FitsPeriod IsPeriodOf all.periods name are.periods;
+      periods = removed_definable PERIOD_FIELDS FitsPeriod IsPeriodOf all.periods name are.periods;
       predecessors = are.predecessors;
       run_cycles = are.run_cycles;
       default_calendar = are.default_calendar;
@@ -160,7 +173,8 @@ undefine_are kind.Predecessors name all are =
       applications = are.applications;
       calendars = are.calendars;
       periods = are.periods;
-      predecessors = removed_definable 2 FitsPredecessors ArePredecessorsOf all.predecessors name are.predecessors;
+      predecessors = removed_definable PREDECESSOR_FIELDS FitsPredecessors ArePredecessorsOf all.predecessors name
+          are.predecessors;
       run_cycles = are.run_cycles;
       default_calendar = are.default_calendar;
     }
@@ -171,7 +185,7 @@ undefine_are kind.RunCycles name all are =
       periods = are.periods;
       predecessors = are.predecessors;
       run_cycles =
-          removed_definable 11 FitsRunCycle AreRunCyclesOf all.run_cycles name are.run_cycles;
+          removed_definable CYCLE_FIELDS FitsRunCycle AreRunCyclesOf all.run_cycles name are.run_cycles;
       default_calendar =
           are.default_calendar;
     }

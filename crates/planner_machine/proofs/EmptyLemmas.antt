@@ -16,6 +16,9 @@ use Rattle.external_dependencies.specs.declared.rows.PlacedRow.{PlacedRow}
 use Rattle.planner_machine.specs.Content.{StandsAt, nothing_known}
 use Rattle.planner_machine.specs.Sound.{AreDefinable, IsSound}
 use Rattle.planner_machine.proofs.SeatLemmas.{not_empty}
+use Rattle.app_definitions.specs.Records.{Record, Records}
+use Rattle.app_definitions.specs.declared.columns.TheConstants.{APPLICATION_FIELDS, CALENDAR_FIELDS, PERIOD_FIELDS}
+use Rattle.app_definitions.specs.declared.columns.TheConstants.{PREDECESSOR_FIELDS, CYCLE_FIELDS}
 
 nowhere : (serial : ℕ) (p : PlacedRow) → StandsAt nothing_known.sets serial p → ⊥
 nowhere serial p there = not_empty nothing_known.sets serial p there refl
@@ -26,8 +29,8 @@ none_in x (k, lt, is) = omega (arith, lt)
 abbrev no_map : (D : Type 0) → map.FinMap (slice_cmp nat_cmp) D
 no_map D = map.empty
 
-nothing_definable : {D : Type 0} (fields : ℕ) (Fits : List (List (List ℕ)) → List (List ℕ) → Type 0)
-    (IsMadeOf : D → List (List (List ℕ)) → Type 0)
+nothing_definable : {D : Type 0} (fields : ℕ) (Fits : Records → Record → Type 0)
+    (IsMadeOf : D → Records → Type 0)
     → AreDefinable fields Fits IsMadeOf (map.get (no_map D))
 nothing_definable {D} fields Fits IsMadeOf name = (
   [],
@@ -39,11 +42,11 @@ pub nothing_sound : IsSound nothing_known
 nothing_sound = record {
   ranges = record {
     definitions = record {
-      applications = nothing_definable 3 FitsApplication IsApplicationOf;
-      calendars = nothing_definable 3 FitsCalendar IsCalendarOf;
-      periods = nothing_definable 4 FitsPeriod IsPeriodOf;
-      predecessors = nothing_definable 2 FitsPredecessors ArePredecessorsOf;
-      run_cycles = nothing_definable 11 FitsRunCycle AreRunCyclesOf;
+      applications = nothing_definable APPLICATION_FIELDS FitsApplication IsApplicationOf;
+      calendars = nothing_definable CALENDAR_FIELDS FitsCalendar IsCalendarOf;
+      periods = nothing_definable PERIOD_FIELDS FitsPeriod IsPeriodOf;
+      predecessors = nothing_definable PREDECESSOR_FIELDS FitsPredecessors ArePredecessorsOf;
+      run_cycles = nothing_definable CYCLE_FIELDS FitsRunCycle AreRunCyclesOf;
       default_calendar = IsName-default;
     };
     rows = λ serial p there. absurd (nowhere serial p there);

@@ -13,7 +13,8 @@ use Rattle.planner_machine.specs.Fate.{ActionFate, DailyFate, DeletionFate, Modi
 use Rattle.planner_machine.specs.Laws.{Follows, FollowsFate}
 use Rattle.planner_machine.specs.ModifyAll.{IsAnyApp, is_any_app}
 use Rattle.planner_machine.specs.ModifyOne.{IsThatApp, is_that_app}
-use Rattle.planner_machine.specs.Statement.{Act, Add, AddCurrent, Change, Create, DailyExtend, Define, Delete, Extend, ModifyAll, ModifyOne, Replan, Undefine, replan_fate}
+use Rattle.planner_machine.specs.Statement.{Act, Add, AddCurrent, Change, Create, DailyExtend, Define, Delete, Extend}
+use Rattle.planner_machine.specs.Statement.{ModifyAll, ModifyOne, Replan, Undefine, replan_fate}
 use Rattle.planner_machine.proofs.ActionLemmas.{action_follows}
 use Rattle.planner_machine.proofs.CreateLemmas.{create_follows, extend_follows, good_days, good_last, no_plan}
 use Rattle.planner_machine.proofs.DailyLemmas.{daily_follows}
@@ -52,7 +53,8 @@ change_follows (Create from to) c reply c' sound d =
           (no_plan c.sets.bounds (d.0 PlanExists)) days.0 days.1 rows.new),
     )
 change_follows (Extend to) c reply c' sound d =
-    let rows = d.1.rows in let days = good_last rows.bounds to (λ h. d.0 DatesOutOfRange (rows.bounds, rows.had, h)) in (
+    let rows = d.1.rows in let days = good_last rows.bounds to
+    (λ h. d.0 DatesOutOfRange (rows.bounds, rows.had, h)) in (
       rows.new,
       (rows.bounds, rows.had, rows.are_new),
       subst (λ (s : Sets). Follows LongTerm Stays rows.new c.sets s) (sym rows.becomes)

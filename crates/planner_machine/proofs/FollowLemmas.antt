@@ -1,5 +1,6 @@
 -- What stands after a statement stood before, or was made; and what each fate keeps.
-use Rattle.std.proofs.Common.{◌≡◌, ℕ, suc, ◌+◌, ◌-◌, ◌<◌, ◌⊎◌, true, false, List, length, refl, sym, ap, subst, ◌∙◌, inl, inr, arith, Some}
+use Rattle.std.proofs.Common.{◌≡◌, ℕ, suc, ◌+◌, ◌-◌, ◌<◌, ◌⊎◌, true, false, List, length, refl, sym, ap, subst, ◌∙◌}
+use Rattle.std.proofs.Common.{inl, inr, arith, Some}
 use Rattle.std.specs.Prelude.{Bool, Contains, slice_get, if◌then◌else◌}
 use Rattle.std.proofs.lemmas.Bool.{cases_lt}
 use Rattle.std.proofs.lemmas.Option.{get_or_from_slice_get, slice_get_cases}
@@ -18,7 +19,8 @@ use Rattle.planner_machine.specs.declared.content.Draft.{Draft}
 use Rattle.planner_machine.specs.Act.{acted, acted_status}
 use Rattle.planner_machine.specs.Content.{Sets, StandsAt}
 use Rattle.planner_machine.specs.Drafts.{NamesDraft}
-use Rattle.planner_machine.specs.Fate.{ActionFate, DailyFate, DeletionFate, Fate, IsGenerated, ModifyFate, Stays, place_after_action, place_after_daily_plan, place_after_deletion}
+use Rattle.planner_machine.specs.Fate.{ActionFate, DailyFate, DeletionFate, Fate, IsGenerated, ModifyFate, Stays}
+use Rattle.planner_machine.specs.Fate.{place_after_action, place_after_daily_plan, place_after_deletion}
 use Rattle.planner_machine.specs.Laws.{Follows}
 use Rattle.planner_machine.specs.Moves.{has_key, numbered_row}
 use Rattle.planner_machine.proofs.ActionLemmas.{action_live}

@@ -1,5 +1,6 @@
 -- Replies that are kept, and jobs with them.
-use Rattle.std.proofs.Common.{◌≡◌, ℕ, zero, suc, ◌≤◌, List, refl, sym, ap, subst, ◌∙◌, inl, inr, arith, Option, None, Some, Bool, true, false}
+use Rattle.std.proofs.Common.{◌≡◌, ℕ, zero, suc, ◌≤◌, List, refl, sym, ap, subst, ◌∙◌, inl, inr, arith, Option, None}
+use Rattle.std.proofs.Common.{Some, Bool, true, false}
 use Rattle.std.specs.Prelude.{Contains, nat_eq, if◌then◌else◌}
 use Rattle.std.specs.FinMap as map
 use Rattle.std.proofs.lemmas.Bool.{eqb-true}
@@ -21,6 +22,7 @@ use Rattle.planner_machine.specs.Sound.{IsJob, IsShown, IsSound}
 use Rattle.planner_machine.proofs.LoopLemmas.{on_loop_listed}
 use Rattle.planner_machine.proofs.RangeLemmas.{defined_name}
 use Rattle.planner_machine.proofs.SeatLemmas.{cases_issued, not_empty}
+use Rattle.app_definitions.specs.declared.columns.TheConstants.{APPLICATION_FIELDS}
 
 -- a set has no more of the first n serials than n
 bit_small : {X : Type 0} (o : Option X) → bit o ≤ 1
@@ -45,12 +47,12 @@ is_serial c sound serial p there = elim (cases_issued c.sets.issued serial) [
 -- the applications of refusals have names
 pub no_calendar_name : (c : Content) → IsSound c → (app : List ℕ) → HasNoCalendar c.definitions app → IsName app
 no_calendar_name c sound app (a, active, lacks) =
-    defined_name 3 FitsApplication IsApplicationOf
+    defined_name APPLICATION_FIELDS FitsApplication IsApplicationOf
     (map.get c.definitions.applications) sound.ranges.definitions.applications app a active.0
 
 pub no_period_name : (c : Content) → IsSound c → (app : List ℕ) → HasNoPeriod c.definitions app → IsName app
 no_period_name c sound app (a, active, lacks) =
-    defined_name 3 FitsApplication IsApplicationOf
+    defined_name APPLICATION_FIELDS FitsApplication IsApplicationOf
     (map.get c.definitions.applications) sound.ranges.definitions.applications app a active.0
 
 pub loop_name : (Puts : PutsLists) (c : Content)

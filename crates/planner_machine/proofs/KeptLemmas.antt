@@ -8,7 +8,11 @@ use Rattle.occurrences.specs.declared.key.Key.{Key}
 use Rattle.occurrences.specs.declared.place.Place.{Place}
 use Rattle.occurrences.specs.declared.place.Place.TheVariants.{Current, LongTerm}
 use Rattle.occurrences.specs.declared.refusal.Refusal.{Refusal}
-use Rattle.occurrences.specs.declared.refusal.Refusal.TheVariants.{NotDefined, NoPlan, PlanExists, CalendarUndefined, PeriodUndefined, DatesOutOfRange, Loop, NoActiveApplication, KeyIsLive, NoSuchOccurrence, StatusForbids, PredecessorUncompleted, TooManyRows, PlanEndOutOfRange}
+use Rattle.occurrences.specs.declared.refusal.Refusal.TheVariants.{NotDefined, NoPlan, PlanExists, CalendarUndefined}
+use Rattle.occurrences.specs.declared.refusal.Refusal.TheVariants.{PeriodUndefined, DatesOutOfRange, Loop}
+use Rattle.occurrences.specs.declared.refusal.Refusal.TheVariants.{NoActiveApplication, KeyIsLive, NoSuchOccurrence}
+use Rattle.occurrences.specs.declared.refusal.Refusal.TheVariants.{StatusForbids, PredecessorUncompleted, TooManyRows}
+use Rattle.occurrences.specs.declared.refusal.Refusal.TheVariants.{PlanEndOutOfRange}
 use Rattle.occurrences.specs.declared.reply.Reply.{Reply}
 use Rattle.occurrences.specs.declared.status.Action.{Action}
 use Rattle.occurrences.specs.declared.status.Status.TheVariants.{W}
@@ -29,10 +33,12 @@ use Rattle.planner_machine.specs.ModifyAll.{ModifyAllRefused, is_any_app}
 use Rattle.planner_machine.specs.ModifyOne.{ModifyOneRefused, is_that_app}
 use Rattle.planner_machine.specs.Replan.{ReplanRefused}
 use Rattle.planner_machine.specs.Sound.{IsKeptReply, IsShown, IsSound}
-use Rattle.planner_machine.specs.Statement.{Act, Add, AddCurrent, Change, Create, DailyExtend, Define, Delete, Extend, ModifyAll, ModifyOne, Replan, Undefine, decision_of}
+use Rattle.planner_machine.specs.Statement.{Act, Add, AddCurrent, Change, Create, DailyExtend, Define, Delete, Extend}
+use Rattle.planner_machine.specs.Statement.{ModifyAll, ModifyOne, Replan, Undefine, decision_of}
 use Rattle.planner_machine.proofs.ActionLemmas.{stands_in_cp}
 use Rattle.planner_machine.proofs.DeleteLemmas.{stands_in_ltp}
-use Rattle.planner_machine.proofs.JobLemmas.{is_serial, loop_name, no_calendar_name, no_period_name, predecessor_serial, shown_size}
+use Rattle.planner_machine.proofs.JobLemmas.{is_serial, loop_name, no_calendar_name, no_period_name}
+use Rattle.planner_machine.proofs.JobLemmas.{predecessor_serial, shown_size}
 use Rattle.planner_machine.proofs.SoundLemmas.{rows_sound}
 use Rattle.planner_machine.proofs.StaysSoundLemmas.{links_all, links_one}
 

@@ -1,5 +1,6 @@
 -- A planning statement that withdraws, keeps and makes.
-use Rattle.std.proofs.Common.{◌≡◌, ◌≢◌, ◌↔◌, ℕ, zero, suc, true, false, List, [], ◌∷◌, length, refl, sym, ap, ap₂, subst, ◌∙◌, inl, inr, arith, Option, None, Some}
+use Rattle.std.proofs.Common.{◌≡◌, ◌≢◌, ◌↔◌, ℕ, zero, suc, true, false, List, [], ◌∷◌, length, refl, sym, ap, ap₂}
+use Rattle.std.proofs.Common.{subst, ◌∙◌, inl, inr, arith, Option, None, Some}
 use Rattle.std.specs.Prelude.{Bool, ◌&&◌, Contains, IsTrue, option_map, if◌then◌else◌}
 use Rattle.std.specs.Option.{option_and_then}
 use Rattle.std.proofs.lemmas.Bool.{false≢true}
@@ -30,7 +31,8 @@ use Rattle.occurrences.specs.declared.row.Origin.TheVariants.{Added, Generated}
 use Rattle.planner_machine.specs.Drafts.{AreDrafts, IsMade, NamesDraft}
 use Rattle.planner_machine.specs.Fate.{IsGenerated, ModifyFate}
 use Rattle.planner_machine.specs.Laws.{Follows}
-use Rattle.planner_machine.specs.Modify.{Modifies, NamesAhead, draft_with, is_generated, looks_at, modified, modify_move, stamped, taken}
+use Rattle.planner_machine.specs.Modify.{Modifies, NamesAhead, draft_with, is_generated, looks_at, modified}
+use Rattle.planner_machine.specs.Modify.{modify_move, stamped, taken}
 use Rattle.planner_machine.specs.Moves.{each, size, with_made}
 use Rattle.planner_machine.proofs.DraftLemmas.{one_plan}
 use Rattle.planner_machine.proofs.MadeLemmas.{fresh, made_follows, made_sound}

@@ -29,7 +29,8 @@ use Rattle.app_definitions.specs.Active.{HasNoCalendar, HasNoPeriod}
 use Rattle.planner_machine.specs.Plans.{ChangesPlans, MakesOfRows}
 use Rattle.planner_machine.specs.Replan.{ReplanRefused, Replans}
 use Rattle.planner_machine.specs.Sound.{IsSound}
-use Rattle.planner_machine.specs.Statement.{Act, Add, AddCurrent, Change, Create, DailyExtend, Define, Delete, Extend, ModifyAll, ModifyOne, Replan, Undefine}
+use Rattle.planner_machine.specs.Statement.{Act, Add, AddCurrent, Change, Create, DailyExtend, Define, Delete, Extend}
+use Rattle.planner_machine.specs.Statement.{ModifyAll, ModifyOne, Replan, Undefine}
 use Rattle.planner_machine.proofs.ActionLemmas.{action_does_one, one_current}
 use Rattle.planner_machine.proofs.CreateLemmas.{create_does_one, extend_does_one}
 use Rattle.planner_machine.proofs.DecisionLemmas.{ShowsOne, decides_one, shows_one}

@@ -1,9 +1,10 @@
 -- What each statement owes so that sound content stays sound.
-use Rattle.std.proofs.Common.{◌≡◌, ℕ, ◌+◌, ◌*◌, ◌<◌, ◌≤◌, ◌⊎◌, List, [], ◌∷◌, refl, sym, ap, subst, ◌∙◌, inl, inr, arith, Option, None, Some}
+use Rattle.std.proofs.Common.{◌≡◌, ℕ, ◌+◌, ◌*◌, ◌<◌, ◌≤◌, ◌⊎◌, List, [], ◌∷◌, refl, sym, ap, subst, ◌∙◌, inl, inr}
+use Rattle.std.proofs.Common.{arith, Option, None, Some}
 use Rattle.std.specs.Prelude.{Bool, Contains, option_map}
 use Rattle.std.proofs.lemmas.Bool.{cases_lt}
 use Rattle.std.specs.FinMap as map
-use Rattle.work_calendars.specs.Day.{IsDay, last_planning_day}
+use Rattle.work_calendars.specs.Day.{IsDay, last_planning_day, first_day}
 use Rattle.work_calendars.specs.Name.{IsName}
 use Rattle.occurrences.specs.Place.{IsLive, IsOpen}
 use Rattle.occurrences.specs.declared.key.Key.{Key}
@@ -11,7 +12,9 @@ use Rattle.occurrences.specs.declared.place.Place.{Place}
 use Rattle.occurrences.specs.declared.place.Place.TheVariants.{LongTerm, Current, History, Deleted}
 use Rattle.occurrences.specs.declared.place.Reason.TheVariants.{Operator}
 use Rattle.occurrences.specs.declared.refusal.Refusal.{Refusal}
-use Rattle.occurrences.specs.declared.refusal.Refusal.TheVariants.{DatesOutOfRange, KeyIsLive, Loop, NoActiveApplication, NoPlan, PlanExists, TooManyRows}
+use Rattle.occurrences.specs.declared.refusal.Refusal.TheVariants.{DatesOutOfRange, KeyIsLive, Loop}
+use Rattle.occurrences.specs.declared.refusal.Refusal.TheVariants.{NoActiveApplication, NoPlan, PlanExists}
+use Rattle.occurrences.specs.declared.refusal.Refusal.TheVariants.{TooManyRows}
 use Rattle.occurrences.specs.declared.reply.Reply.{Reply}
 use Rattle.occurrences.specs.declared.status.Action.{Action}
 use Rattle.external_dependencies.specs.Loop.{OnLoop}
@@ -28,7 +31,8 @@ use Rattle.planner_machine.specs.DailyPlan.{daily}
 use Rattle.planner_machine.specs.Delete.{Deletes}
 use Rattle.planner_machine.specs.Drafts.{added}
 use Rattle.planner_machine.specs.Extend.{ExtendRefused, Extends, later_bounds}
-use Rattle.planner_machine.specs.Fate.{ActionFate, DailyFate, DeletionFate, IsGenerated, ModifyFate, Stays, place_after_action, place_after_daily_plan, place_after_deletion}
+use Rattle.planner_machine.specs.Fate.{ActionFate, DailyFate, DeletionFate, IsGenerated, ModifyFate, Stays}
+use Rattle.planner_machine.specs.Fate.{place_after_action, place_after_daily_plan, place_after_deletion}
 use Rattle.planner_machine.specs.InForce.{PutsAll, PutsLists, PutsNone}
 use Rattle.planner_machine.specs.Laws.{Follows}
 use Rattle.planner_machine.specs.Modify.{Modifies, NamesAhead}
@@ -39,10 +43,12 @@ use Rattle.planner_machine.proofs.ActionLemmas.{action_follows, action_sound}
 use Rattle.planner_machine.proofs.AddLemmas.{add_sound, not_outside, only_one}
 use Rattle.planner_machine.proofs.AssembleLemmas.{Owes}
 use Rattle.planner_machine.proofs.ClosedLemmas.{Starts}
-use Rattle.planner_machine.proofs.CreateLemmas.{create_follows, create_sound, extend_follows, extend_sound, good_days, good_last, no_plan}
+use Rattle.planner_machine.proofs.CreateLemmas.{create_follows, create_sound, extend_follows, extend_sound, good_days}
+use Rattle.planner_machine.proofs.CreateLemmas.{good_last, no_plan}
 use Rattle.planner_machine.proofs.DailyLemmas.{daily_follows, daily_sound}
 use Rattle.planner_machine.proofs.DeleteLemmas.{delete_follows, delete_sound}
-use Rattle.planner_machine.proofs.FollowLemmas.{action_keeps, daily_keeps, deletion_keeps, modify_keeps_all, stays_keeps}
+use Rattle.planner_machine.proofs.FollowLemmas.{action_keeps, daily_keeps, deletion_keeps, modify_keeps_all}
+use Rattle.planner_machine.proofs.FollowLemmas.{stays_keeps}
 use Rattle.planner_machine.proofs.MadeLemmas.{made_follows}
 use Rattle.planner_machine.proofs.ModifyLemmas.{Tests, between, modify_follows, modify_keeps}
 use Rattle.planner_machine.proofs.PlannedLemmas.{sizes_stay}
@@ -50,7 +56,11 @@ use Rattle.planner_machine.proofs.RangeLemmas.{DraftRanges}
 use Rattle.planner_machine.proofs.RowsSound.{RowsSound}
 use Rattle.planner_machine.proofs.SoundLemmas.{rows_sound}
 use Rattle.planner_machine.proofs.StartLemmas.{action_closes}
-use Rattle.planner_machine.proofs.StaysSoundLemmas.{action_operator, added_ranges, daily_closes, daily_operator, days_fit, deletion_closes, deletion_operator, going_closes, links_all, links_none, loops_none, loops_put, modified_row, modify_closes, modify_operator, no_drafts, plan_of, planned_app, row_stays, sizes_of, stays_closes, within_ranges}
+use Rattle.planner_machine.proofs.StaysSoundLemmas.{action_operator, added_ranges, daily_closes, daily_operator}
+use Rattle.planner_machine.proofs.StaysSoundLemmas.{days_fit, deletion_closes, deletion_operator, going_closes}
+use Rattle.planner_machine.proofs.StaysSoundLemmas.{links_all, links_none, loops_none, loops_put, modified_row}
+use Rattle.planner_machine.proofs.StaysSoundLemmas.{modify_closes, modify_operator, no_drafts, plan_of, planned_app}
+use Rattle.planner_machine.proofs.StaysSoundLemmas.{row_stays, sizes_of, stays_closes, within_ranges}
 
 planned_by : (c' : Content) (b : Bounds) → c'.sets.bounds ≡ Some b → c'.sets.bounds ≡ None → ⊥
 planned_by c' b is none = let no : Some b ≡ None = sym is ∙ none in cc
@@ -143,7 +153,8 @@ module _ (looks : List ℕ → Bool) (Looks : List ℕ → Type 0) (tests : Test
       let bounds : c'.sets.bounds ≡ Some b = ap (λ (s : Sets). s.bounds) rows.becomes ∙ is in
       record {
         follows = subst (λ (s : Sets). Follows LongTerm (ModifyFate Looks c.definitions) rows.new c.sets s)
-            (sym rows.becomes) (modify_follows looks Looks tests c.definitions c.sets sound' rows.named rows.new rows.are_named);
+            (sym rows.becomes) (modify_follows looks Looks tests c.definitions c.sets sound' rows.named rows.new
+            rows.are_named);
         rows = subst RowsSound (sym rows.becomes)
             (modify_keeps looks Looks tests c.definitions c.sets sound' rows.named b is rows.new rows.are_new);
         keeps = modify_keeps_all Looks c.definitions;
@@ -170,7 +181,7 @@ module _ (looks : List ℕ → Bool) (Looks : List ℕ → Type 0) (tests : Test
 
 -- the part of the days that a place takes lies in the range of moments
 arrival_fits : (c : Content) → IsSound c → (b : Bounds) → c.sets.bounds ≡ Some b → (place : Place) → IsOpen place
-    → (ia : ℕ) → ArrivesIn b ia place → (730 * 1440 ≤ ia) × (ia < (last_planning_day + 1) * 1440)
+    → (ia : ℕ) → ArrivesIn b ia place → (midnight first_day ≤ ia) × (ia < midnight (last_planning_day + 1))
 arrival_fits c sound b is LongTerm opens ia arrives = let fit = days_fit c sound b is in
     (omega (arith, fit.0, arrives.0), omega (arith, fit.3, arrives.1))
 arrival_fits c sound b is (Current status) opens ia arrives = let fit = days_fit c sound b is in

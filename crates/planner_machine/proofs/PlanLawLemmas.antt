@@ -7,9 +7,11 @@ use Rattle.planner_machine.specs.Fate.{place_after_daily_plan}
 use Rattle.planner_machine.specs.Laws.{DailyIsFates, KeepsItself, KeepsPairs}
 use Rattle.planner_machine.specs.Pairs.{ArePairs}
 use Rattle.planner_machine.specs.Sound.{IsSound}
-use Rattle.planner_machine.specs.Statement.{Act, Add, AddCurrent, Change, Create, DailyExtend, Define, Delete, Extend, ModifyAll, ModifyOne, Replan, Undefine, fate_of}
+use Rattle.planner_machine.specs.Statement.{Act, Add, AddCurrent, Change, Create, DailyExtend, Define, Delete, Extend}
+use Rattle.planner_machine.specs.Statement.{ModifyAll, ModifyOne, Replan, Undefine, fate_of}
 use Rattle.planner_machine.proofs.DailyLemmas.{daily_is_move}
-use Rattle.planner_machine.proofs.FollowLemmas.{FateKeeps, action_keeps, daily_keeps, deletion_keeps, modify_keeps_all, stays_keeps}
+use Rattle.planner_machine.proofs.FollowLemmas.{FateKeeps, action_keeps, daily_keeps, deletion_keeps}
+use Rattle.planner_machine.proofs.FollowLemmas.{modify_keeps_all, stays_keeps}
 use Rattle.planner_machine.proofs.PairLemmas.{daily_keeps_pairs}
 use Rattle.planner_machine.proofs.SeatLemmas.{going, stands_after, stood_before}
 use Rattle.planner_machine.proofs.SoundLemmas.{rows_sound}

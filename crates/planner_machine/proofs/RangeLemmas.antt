@@ -1,11 +1,13 @@
 -- What the definitions name has its ranges and forms.
-use Rattle.std.proofs.Common.{◌≡◌, ◌≢◌, ℕ, zero, ◌+◌, ◌*◌, ◌<◌, ◌≤◌, List, [], ◌∷◌, length, get_or, refl, sym, ap, subst, ◌∙◌, arith, Option, None, Some, true}
+use Rattle.std.proofs.Common.{◌≡◌, ◌≢◌, ℕ, zero, ◌+◌, ◌*◌, ◌<◌, ◌≤◌, List, [], ◌∷◌, length, get_or, refl, sym, ap}
+use Rattle.std.proofs.Common.{subst, ◌∙◌, arith, Option, None, Some, true}
 use Rattle.std.specs.Prelude.{Any, Contains, nat_eq, take, unwrap_or}
 use Rattle.std.specs.Cmp.Lexicographic.{pointwise}
 use Rattle.std.specs.FinMap as map
 use Rattle.std.proofs.lemmas.List.{get_or-map, get_or_default, length-map}
-use Rattle.std.proofs.lemmas.List.Elements.{All-contains, All-contains_itself, All-filter, Contains-get_or, filter_passes}
-use Rattle.work_calendars.specs.Day.{last_planning_day}
+use Rattle.std.proofs.lemmas.List.Elements.{All-contains, All-contains_itself, All-filter, Contains-get_or}
+use Rattle.std.proofs.lemmas.List.Elements.{filter_passes}
+use Rattle.work_calendars.specs.Day.{last_planning_day, first_day, last_day}
 use Rattle.work_calendars.specs.Minute.{IsMinute}
 use Rattle.work_calendars.specs.Moment.{IsMoment}
 use Rattle.work_calendars.specs.Name.{IsName, IsShort}
@@ -20,7 +22,7 @@ use Rattle.app_definitions.specs.ByName.{FitsKind, IsDefinedBy, records_of}
 use Rattle.app_definitions.specs.CycleRecords.{AreRunCyclesOf, FitsRunCycle, SpellsType, SpellsRunCycle}
 use Rattle.app_definitions.specs.Fields.{field}
 use Rattle.app_definitions.specs.Predecessors.{ArePredecessorsOf, FitsPredecessors, predecessors_of}
-use Rattle.app_definitions.specs.Records.{AllGood}
+use Rattle.app_definitions.specs.Records.{AllGood, Record, Records}
 use Rattle.app_definitions.specs.declared.definitions.Definitions.{Definitions}
 use Rattle.external_dependencies.specs.declared.links.Link.{Link}
 use Rattle.planner_machine.specs.declared.content.Draft.{Draft}
@@ -28,16 +30,19 @@ use Rattle.planner_machine.specs.Drafts.{NamesDraft, draft_of}
 use Rattle.planner_machine.specs.InForce.{IsDefinedLink}
 use Rattle.planner_machine.specs.Moves.{numbered_row}
 use Rattle.planner_machine.specs.Sound.{AreDefinable, AreDefinitions, IsOrigin, IsRow}
-use Rattle.app_definitions.specs.declared.columns.TheConstants.{NAME, PREDECESSOR, CYCLE_TYPE, CYCLE_DEADLINE_DAY, CYCLE_DEADLINE_TIME}
+use Rattle.app_definitions.specs.declared.columns.TheConstants.{NAME, PREDECESSOR, CYCLE_TYPE, CYCLE_DEADLINE_DAY}
+use Rattle.app_definitions.specs.declared.columns.TheConstants.{CYCLE_DEADLINE_TIME, APPLICATION_FIELDS}
+use Rattle.app_definitions.specs.declared.columns.TheConstants.{PREDECESSOR_FIELDS, CYCLE_FIELDS}
+use Rattle.planner_machine.specs.Content.{midnight}
 
 -- a record among good ones is good after some
-good_row : (Fits : List (List (List ℕ)) → List (List ℕ) → Type 0) (rows : List (List (List ℕ))) (row : List (List ℕ))
-    → AllGood Fits rows → Contains rows row → (before : List (List (List ℕ))) × Fits before row
+good_row : (Fits : Records → Record → Type 0) (rows : Records) (row : Record)
+    → AllGood Fits rows → Contains rows row → (before : Records) × Fits before row
 good_row Fits rows row good (k, lt, is) =
     (take k rows, subst (Fits (take k rows)) (get_or_default rows k [] row lt ∙ is) (good k lt))
 
 -- a record about a name is one of all, and its first field is the name
-record_in : (name : List ℕ) (rows : List (List (List ℕ))) (row : List (List ℕ)) → Contains (records_of name rows) row
+record_in : (name : List ℕ) (rows : Records) (row : Record) → Contains (records_of name rows) row
     → Contains rows row × (field row NAME ≡ name)
 record_in name rows row there = (
   All-contains (Contains rows) (records_of name rows) row
@@ -52,10 +57,10 @@ some_element [] some = absurd (some refl)
 some_element (x ∷ xs) some = (x, (zero, omega arith, refl))
 
 -- a name that is defined has the form of a name
-module _ {D : Type 0} (fields : ℕ) (FitsName : List (List (List ℕ)) → List (List ℕ) → Type 0) (IsMadeOf : D
-    → List (List (List ℕ)) → Type 0) (definition_of : List ℕ
+module _ {D : Type 0} (fields : ℕ) (FitsName : Records → Record → Type 0) (IsMadeOf : D
+    → Records → Type 0) (definition_of : List ℕ
     → Option D) (are : AreDefinable fields FitsName IsMadeOf definition_of) where
-  made_of : (name : List ℕ) (d : D) → definition_of name ≡ Some d → (rows : List (List (List ℕ)))
+  made_of : (name : List ℕ) (d : D) → definition_of name ≡ Some d → (rows : Records)
       × AllGood (FitsKind fields FitsName) rows × (records_of name rows ≢ []) × IsMadeOf d (records_of name rows)
   made_of name d is =
       let (rows, good, defined) = are name in
@@ -76,22 +81,24 @@ pub link_names : (all : Definitions) → AreDefinitions all → (link : Link) �
     × IsName link.predecessor
 link_names all are link (names, is, listed) =
     let (rows, good, some, made) =
-    made_of 2 FitsPredecessors ArePredecessorsOf (map.get all.predecessors) are.predecessors link.app names is in (
-      defined_name 2 FitsPredecessors ArePredecessorsOf (map.get all.predecessors) are.predecessors link.app names is,
+    made_of PREDECESSOR_FIELDS FitsPredecessors ArePredecessorsOf
+    (map.get all.predecessors) are.predecessors link.app names is in (
+      defined_name PREDECESSOR_FIELDS FitsPredecessors ArePredecessorsOf
+          (map.get all.predecessors) are.predecessors link.app names is,
       in_records rows good link.predecessor (records_of link.app rows)
           (λ row there. (record_in link.app rows row there).0) ((made.exactly link.predecessor).0 listed),
     )
   where
-    in_records : (rows : List (List (List ℕ))) → AllGood (FitsKind 2 FitsPredecessors) rows
-        → (name : List ℕ) (some : List (List (List ℕ)))
-        → ((row : List (List ℕ)) → Contains some row → Contains rows row) → Contains (predecessors_of some) name
+    in_records : (rows : Records) → AllGood (FitsKind PREDECESSOR_FIELDS FitsPredecessors) rows
+        → (name : List ℕ) (some : Records)
+        → ((row : Record) → Contains some row → Contains rows row) → Contains (predecessors_of some) name
         → IsName name
     in_records rows good name some all_in (k, lt, is) =
-        let within : k < length some = omega (arith, length-map some (λ (row : List (List ℕ)). field row PREDECESSOR)) in
+        let within : k < length some = omega (arith, length-map some (λ (row : Record). field row PREDECESSOR)) in
         let row : List (List ℕ) = get_or some k [] in
-        let (before, fits) = good_row (FitsKind 2 FitsPredecessors) rows (get_or some k []) good
+        let (before, fits) = good_row (FitsKind PREDECESSOR_FIELDS FitsPredecessors) rows (get_or some k []) good
         (all_in (get_or some k []) (Contains-get_or some k [] within)) in
-        subst IsName (sym (get_or-map (λ (row : List (List ℕ)). field row PREDECESSOR) some k [] name within) ∙ is) fits.2.0
+        subst IsName (sym (get_or-map (λ (row : Record). field row PREDECESSOR) some k [] name within) ∙ is) fits.2.0
 
 -- the run cycles of an application have their ranges
 pub record CycleRanges (cycle : RunCycle) : Type 0 where
@@ -111,16 +118,17 @@ cycle_ranges : (all : Definitions) → AreDefinitions all → (app : List ℕ) (
 cycle_ranges all are app None is cycle (k, lt, at) = absurd (omega (arith, lt))
 cycle_ranges all are app (Some cycles) is cycle there =
     let (rows, good, some, made) =
-    made_of 11 FitsRunCycle AreRunCyclesOf (map.get all.run_cycles) are.run_cycles app cycles is in
+    made_of CYCLE_FIELDS FitsRunCycle AreRunCyclesOf (map.get all.run_cycles) are.run_cycles app cycles is in
     let (k, row, within, at, spells) =
     All-contains (λ c. Any (λ r. SpellsRunCycle r c) (records_of app rows)) cycles cycle made.each there in
     record {
       name = subst IsShort (sym spells.name) spells.short_name;
       ia = spells.ia.in_range;
-      deadline = kind_ranges cycle.kind (field row CYCLE_TYPE) (field row CYCLE_DEADLINE_DAY) (field row CYCLE_DEADLINE_TIME) spells.kind;
+      deadline = kind_ranges cycle.kind (field row CYCLE_TYPE) (field row CYCLE_DEADLINE_DAY)
+          (field row CYCLE_DEADLINE_TIME) spells.kind;
     }
 
-pub is_moment : (m : ℕ) → 730 * 1440 ≤ m → m < 37255 * 1440 → IsMoment m
+pub is_moment : (m : ℕ) → midnight first_day ≤ m → m < midnight (last_day + 1) → IsMoment m
 is_moment m from to = (omega arith, omega arith)
 
 -- a draft that is named has its ranges, where it arrives in days that plans can have
@@ -134,7 +142,7 @@ pub row_ranges : (serial : ℕ) (draft : Draft) → DraftRanges draft → IsRow 
 row_ranges serial draft r = record { app = r.app; ia = r.ia; deadline = r.deadline; origin = r.origin }
 
 pub named_ranges : (all : Definitions) → AreDefinitions all → (draft : Draft) → NamesDraft all draft
-    → 730 * 1440 ≤ draft.key.ia → draft.key.ia < (last_planning_day + 1) * 1440 → DraftRanges draft
+    → midnight first_day ≤ draft.key.ia → draft.key.ia < midnight (last_planning_day + 1) → DraftRanges draft
 named_ranges all are draft (app, x, named, is) from to =
     let ia : draft.key.ia ≡ (draft_of app x).key.ia = ap (λ (d : Draft). d.key.ia) is in
     let (a, active, occurs) = named in
@@ -145,7 +153,8 @@ named_ranges all are draft (app, x, named, is) from to =
     let days = limits.0 in let clock = limits.1 in
     let time : cycle.ia ≡ x.time = gives.1.0 in let minute = ranges.ia in
     subst DraftRanges (sym is) (record {
-      app = defined_name 3 FitsApplication IsApplicationOf (map.get all.applications) are.applications app a active.0;
+      app = defined_name APPLICATION_FIELDS FitsApplication IsApplicationOf
+          (map.get all.applications) are.applications app a active.0;
       ia = is_moment _ (omega arith) (omega arith);
       deadline = subst IsMoment (sym due) (is_moment _ (omega arith) (omega arith));
       origin = subst IsShort (sym gives.2) ranges.name;

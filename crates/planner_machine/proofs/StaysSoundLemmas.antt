@@ -1,8 +1,9 @@
 -- Sound content stays sound, statement by statement.
-use Rattle.std.proofs.Common.{◌≡◌, ℕ, ◌+◌, ◌*◌, ◌<◌, ◌≤◌, ◌⊎◌, true, false, List, [], refl, sym, ap, subst, ◌∙◌, inl, inr, arith, Option, None, Some}
+use Rattle.std.proofs.Common.{◌≡◌, ℕ, ◌+◌, ◌*◌, ◌<◌, ◌≤◌, ◌⊎◌, true, false, List, [], refl, sym, ap, subst, ◌∙◌, inl}
+use Rattle.std.proofs.Common.{inr, arith, Option, None, Some}
 use Rattle.std.specs.Prelude.{Bool, Contains, if◌then◌else◌, nat_lt}
 use Rattle.std.specs.FinMap as map
-use Rattle.work_calendars.specs.Day.{last_planning_day}
+use Rattle.work_calendars.specs.Day.{last_planning_day, first_day}
 use Rattle.work_calendars.specs.Name.{IsName}
 use Rattle.app_definitions.specs.Applications.{FitsApplication, IsApplicationOf}
 use Rattle.app_definitions.specs.declared.applications.Application.{Application}
@@ -24,7 +25,8 @@ use Rattle.planner_machine.specs.declared.content.Bounds.{Bounds}
 use Rattle.planner_machine.specs.declared.content.Draft.{Draft}
 use Rattle.planner_machine.specs.Content.{Content, StandsAt, midnight}
 use Rattle.planner_machine.specs.Drafts.{NamesWithin, added}
-use Rattle.planner_machine.specs.Fate.{ModifyFate, Stays, place_after_action, place_after_daily_plan, place_after_deletion}
+use Rattle.planner_machine.specs.Fate.{ModifyFate, Stays, place_after_action, place_after_daily_plan}
+use Rattle.planner_machine.specs.Fate.{place_after_deletion}
 use Rattle.planner_machine.specs.InForce.{PutsAll, PutsLists, PutsNone, PutsOne}
 use Rattle.planner_machine.specs.Plans.{IsPlannedApp, MakesOfRows, WouldHoldTooMany, WouldLoop}
 use Rattle.planner_machine.specs.Sound.{AreDefinitions, ArrivesIn, HaveSizes, IsRow, IsSound}
@@ -33,6 +35,7 @@ use Rattle.planner_machine.proofs.LoopLemmas.{no_loop_from}
 use Rattle.planner_machine.proofs.PlannedLemmas.{within_sizes}
 use Rattle.planner_machine.proofs.RangeLemmas.{DraftRanges, defined_name, is_moment, link_names, named_ranges}
 use Rattle.planner_machine.proofs.SeatLemmas.{not_empty}
+use Rattle.app_definitions.specs.declared.columns.TheConstants.{APPLICATION_FIELDS}
 
 -- what the statements on the plans share
 
@@ -184,9 +187,9 @@ modify_operator Looks all =
     cc) (λ p is. is)
 
 -- days that plans have
-pub days_fit : (c : Content) → IsSound c → (b : Bounds) → c.sets.bounds ≡ Some b → (730 * 1440 ≤ b.plan_end)
-    × (b.plan_end ≤ (last_planning_day + 1) * 1440) × (730 * 1440 ≤ midnight b.first_day)
-    × (midnight (b.last_day + 1) ≤ (last_planning_day + 1) * 1440)
+pub days_fit : (c : Content) → IsSound c → (b : Bounds) → c.sets.bounds ≡ Some b → (midnight first_day ≤ b.plan_end)
+    × (b.plan_end ≤ midnight (last_planning_day + 1)) × (midnight first_day ≤ midnight b.first_day)
+    × (midnight (b.last_day + 1) ≤ midnight (last_planning_day + 1))
 days_fit c sound b is =
     let are = sound.bounds.after b is in let (first, last, end) = sound.ranges.days b is in
     let low = first.0 in let begun = are.begun in let ended = are.ended in let most = are.last in
@@ -222,16 +225,17 @@ modified_row Looks c sound serial p q there (inl (at, inl named)) good =
     placed_somewhere none = not_empty c.sets serial p there ((sound.bounds.before none).rows serial)
 
 -- what is named within days of the plan has its ranges
-pub within_ranges : (all : Definitions) → AreDefinitions all → (first end : ℕ) → 730 * 1440 ≤ first
-    → end ≤ (last_planning_day + 1) * 1440 → (draft : Draft) → NamesWithin all first end draft → DraftRanges draft
+pub within_ranges : (all : Definitions) → AreDefinitions all → (first end : ℕ) → midnight first_day ≤ first
+    → end ≤ midnight (last_planning_day + 1) → (draft : Draft) → NamesWithin all first end draft → DraftRanges draft
 within_ranges all are first end low high draft is =
     named_ranges all are draft is.0 (omega (arith, is.1)) (omega (arith, is.2))
 
 -- an added occurrence has its ranges
-pub added_ranges : (c : Content) → IsSound c → (key : Key) → IsPlannedApp c.definitions key.app → 730 * 1440 ≤ key.ia
-    → key.ia < (last_planning_day + 1) * 1440 → DraftRanges (added key)
+pub added_ranges : (c : Content) → IsSound c → (key : Key) → IsPlannedApp c.definitions key.app
+    → midnight first_day ≤ key.ia
+    → key.ia < midnight (last_planning_day + 1) → DraftRanges (added key)
 added_ranges c sound key (a, active) low high = record {
-  app = defined_name 3 FitsApplication IsApplicationOf
+  app = defined_name APPLICATION_FIELDS FitsApplication IsApplicationOf
       (map.get c.definitions.applications) sound.ranges.definitions.applications key.app a active.0;
   ia = is_moment key.ia low (omega arith);
   deadline = is_moment _ (omega arith) (omega arith);

@@ -1,5 +1,6 @@
 -- One step: one answer, soundness, and fates, for every statement.
-use Rattle.std.proofs.Common.{◌≡◌, ◌≢◌, ℕ, ◌≤◌, ◌⊎◌, List, [], length, refl, sym, ap, ap₂, subst, ◌∙◌, inl, inr, arith, Option, None, Some}
+use Rattle.std.proofs.Common.{◌≡◌, ◌≢◌, ℕ, ◌≤◌, ◌⊎◌, List, [], length, refl, sym, ap, ap₂, subst, ◌∙◌, inl, inr}
+use Rattle.std.proofs.Common.{arith, Option, None, Some}
 use Rattle.std.specs.Prelude.{Ok, Err}
 use Rattle.app_definitions.proofs.OneBlock.{never_both, one_block, one_fault}
 use Rattle.app_definitions.specs.Blocks.{ReadsAs}
@@ -28,7 +29,8 @@ use Rattle.planner_machine.specs.Jobs.{AnswersKept, kept, with_job}
 use Rattle.planner_machine.specs.Laws.{Follows, IsWellFormed}
 use Rattle.planner_machine.specs.Shown.{LinkedBefore, LinkedRows, Listed, list_pairs, list_rows}
 use Rattle.planner_machine.specs.Sound.{IsSound}
-use Rattle.planner_machine.specs.Statement.{AnswersDefine, Answer, AreRead, Change, Days, Define, DefineJob, IsFaulty, Job, ListPairs, ListRows, Statement, Steps, Trial, decision_of}
+use Rattle.planner_machine.specs.Statement.{AnswersDefine, Answer, AreRead, Change, Days, Define, DefineJob, IsFaulty}
+use Rattle.planner_machine.specs.Statement.{Job, ListPairs, ListRows, Statement, Steps, Trial, decision_of}
 use Rattle.planner_machine.specs.Stream.{IsStatement, MakesAt, acting, change_made, fate_at, place_at}
 use Rattle.planner_machine.proofs.ChangeSoundLemmas.{change_sound}
 use Rattle.planner_machine.proofs.DecisionLemmas.{ShowsOne, decides_one, shows_one}

@@ -1,5 +1,6 @@
 -- Streams of statements.
-use Rattle.std.proofs.Common.{◌≡◌, ℕ, suc, ◌+◌, ◌-◌, ◌≤◌, ◌<◌, List, [], ◌∷◌, refl, sym, ap, ap₂, subst, ◌∙◌, inl, inr, arith}
+use Rattle.std.proofs.Common.{◌≡◌, ℕ, suc, ◌+◌, ◌-◌, ◌≤◌, ◌<◌, List, [], ◌∷◌, refl, sym, ap, ap₂, subst, ◌∙◌, inl}
+use Rattle.std.proofs.Common.{inr, arith}
 use Rattle.std.specs.Prelude.{All}
 use Rattle.std.proofs.lemmas.Bool.{cases_lt}
 use Rattle.std.proofs.lemmas.List.Elements.{All-head, All-tail}
@@ -9,7 +10,8 @@ use Rattle.planner_machine.specs.Content.{Content, StandsAt}
 use Rattle.planner_machine.specs.Moves.{numbered_row}
 use Rattle.planner_machine.specs.Sound.{IsSound}
 use Rattle.planner_machine.specs.Statement.{Answer, Statement}
-use Rattle.planner_machine.specs.Stream.{Goes, IsBorn, IsStatement, Lives, Runs, RunsByFate, RunsOneWay, RunsSound, acting, place_at}
+use Rattle.planner_machine.specs.Stream.{Goes, IsBorn, IsStatement, Lives, Runs, RunsByFate, RunsOneWay, RunsSound}
+use Rattle.planner_machine.specs.Stream.{acting, place_at}
 use Rattle.planner_machine.proofs.StepLemmas.{step_follows, step_keeps, step_once}
 
 pub one_way : RunsOneWay

@@ -10,7 +10,7 @@ use Rattle.app_definitions.specs.Calendars.{FitsCalendar, IsCalendarOf}
 use Rattle.app_definitions.specs.CycleRecords.{FitsRunCycle, AreRunCyclesOf}
 use Rattle.app_definitions.specs.Periods.{FitsPeriod, IsPeriodOf}
 use Rattle.app_definitions.specs.Predecessors.{FitsPredecessors, ArePredecessorsOf}
-use Rattle.app_definitions.specs.Records.{AllGood}
+use Rattle.app_definitions.specs.Records.{AllGood, Record, Records}
 use Rattle.app_definitions.specs.declared.definitions.Definitions.{Definitions}
 use Rattle.occurrences.specs.Place.{IsLive}
 use Rattle.occurrences.specs.Refusal.{refusal_number}
@@ -39,23 +39,24 @@ use Rattle.planner_machine.specs.Content.{Content, Sets, StandsAt, empty_seat, m
 use Rattle.planner_machine.specs.Fate.{IsGenerated}
 use Rattle.planner_machine.specs.Pairs.{ArePairs, IsClosedAt, IsClosedPair, IsCompleteAt}
 use Rattle.planner_machine.specs.Plans.{planned}
+use Rattle.app_definitions.specs.declared.columns.TheConstants.{APPLICATION_FIELDS, CALENDAR_FIELDS, PERIOD_FIELDS, PREDECESSOR_FIELDS, CYCLE_FIELDS}
 
 -- 1. Ranges and forms
 
 -- each name is defined as some good records about it would define it, or not at all
-abbrev pub AreDefinable : {D : Type 0} → ℕ → (List (List (List ℕ)) → List (List ℕ) → Type 0)
-    → (D → List (List (List ℕ)) → Type 0) → (List ℕ → Option D) → Type 0
+abbrev pub AreDefinable : {D : Type 0} → ℕ → (Records → Record → Type 0)
+    → (D → Records → Type 0) → (List ℕ → Option D) → Type 0
 AreDefinable fields FitsName IsMadeOf definition_of =
-    (name : List ℕ) → (rows : List (List (List ℕ))) × AllGood (FitsKind fields FitsName) rows
+    (name : List ℕ) → (rows : Records) × AllGood (FitsKind fields FitsName) rows
     × IsDefinedBy IsMadeOf (definition_of name) (records_of name rows)
 
 -- the definitions are such as data blocks give
 pub record AreDefinitions (all : Definitions) : Type 0 where
-  pub applications : AreDefinable 3 FitsApplication IsApplicationOf (map.get all.applications)
-  pub calendars : AreDefinable 3 FitsCalendar IsCalendarOf (map.get all.calendars)
-  pub periods : AreDefinable 4 FitsPeriod IsPeriodOf (map.get all.periods)
-  pub predecessors : AreDefinable 2 FitsPredecessors ArePredecessorsOf (map.get all.predecessors)
-  pub run_cycles : AreDefinable 11 FitsRunCycle AreRunCyclesOf (map.get all.run_cycles)
+  pub applications : AreDefinable APPLICATION_FIELDS FitsApplication IsApplicationOf (map.get all.applications)
+  pub calendars : AreDefinable CALENDAR_FIELDS FitsCalendar IsCalendarOf (map.get all.calendars)
+  pub periods : AreDefinable PERIOD_FIELDS FitsPeriod IsPeriodOf (map.get all.periods)
+  pub predecessors : AreDefinable PREDECESSOR_FIELDS FitsPredecessors ArePredecessorsOf (map.get all.predecessors)
+  pub run_cycles : AreDefinable CYCLE_FIELDS FitsRunCycle AreRunCyclesOf (map.get all.run_cycles)
   pub default_calendar : IsName all.options.default_calendar
 
 abbrev pub IsOrigin : Origin → Type 0

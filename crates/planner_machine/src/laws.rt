@@ -1,6 +1,8 @@
 // Laws of the machine: each function has no body, and its contract is the law.
 ghost use Rattle.std.specs.Prelude.{ℕ};
-ghost use Rattle.planner_machine.specs.Laws.{AnswersOnce, DailyIsFates, FollowsFate, IsWellFormed, KeepsItself, KeepsPairs, LeavesRefused, PairsHaveNoLoop, PredecessorsAreComplete, StaysSound};
+ghost use Rattle.planner_machine.specs.Laws.{AnswersOnce, DailyIsFates, FollowsFate, IsWellFormed, KeepsItself};
+ghost use Rattle.planner_machine.specs.Laws.{KeepsPairs, LeavesRefused, PairsHaveNoLoop, PredecessorsAreComplete};
+ghost use Rattle.planner_machine.specs.Laws.{StaysSound};
 ghost use Rattle.planner_machine.specs.Content.{nothing_known};
 ghost use Rattle.planner_machine.specs.Sound.{IsSound};
 ghost use Rattle.planner_machine.specs.Statement.{Change, DailyExtend, Replan};

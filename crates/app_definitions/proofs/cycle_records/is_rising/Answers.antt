@@ -12,8 +12,10 @@ returns-then-ge c =
     let all = c.args.cycles.now in
     let i = c.loop-i.i in (
       λ yes. absurd (false≢true yes),
-      λ rising. absurd (not_rising (λ (cycle : RunCycle). cycle.name) all i (get_or all (i - 1) c.index-cycles-i.result) (get_or all i c.index-cycles-i-in-loop-i.result)
-          c.loop-i.auto.i c.loop-i-test.true (ap (λ x. get_or all (i - 1) x) c.index-cycles-i.is) (ap (λ x. get_or all i x) c.index-cycles-i-in-loop-i.is)
+      λ rising. absurd (not_rising (λ (cycle : RunCycle). cycle.name) all i
+          (get_or all (i - 1) c.index-cycles-i.result) (get_or all i c.index-cycles-i-in-loop-i.result)
+          c.loop-i.auto.i c.loop-i-test.true (ap (λ x. get_or all (i - 1) x) c.index-cycles-i.is)
+          (ap (λ x. get_or all i x) c.index-cycles-i-in-loop-i.is)
           (sym c.ge.ensures ∙ c.if-ge.true) rising),
     )
 
@@ -21,9 +23,15 @@ pub loop-i-preserved : goal.loop-i-preserved
 loop-i-preserved c =
     let all = c.args.cycles.now in
     let i = c.loop-i.i in
-    rises_more (λ (cycle : RunCycle). cycle.name) all i (get_or all (i - 1) c.index-cycles-i.result) (get_or all i c.index-cycles-i-in-loop-i.result)
-    c.loop-i.invariant c.loop-i.auto.i c.loop-i-test.true (ap (λ x. get_or all (i - 1) x) c.index-cycles-i.is) (ap (λ x. get_or all i x) c.index-cycles-i-in-loop-i.is)
+    rises_more (λ (cycle : RunCycle). cycle.name) all i (get_or all (i - 1) c.index-cycles-i.result)
+    (get_or all i c.index-cycles-i-in-loop-i.result)
+    c.loop-i.invariant c.loop-i.auto.i c.loop-i-test.true (ap (λ x. get_or all (i - 1) x) c.index-cycles-i.is)
+    (ap (λ x. get_or all i x) c.index-cycles-i-in-loop-i.is)
     (sym c.ge.ensures ∙ c.if-ge.false)
 
 pub returns : goal.returns
-returns c = (λ yes. rising_all (λ (cycle : RunCycle). cycle.name) c.args.cycles.now c.loop-i.i c.loop-i.invariant c.loop-i-test.false, λ rising. refl)
+returns c = (
+  λ yes. rising_all
+      (λ (cycle : RunCycle). cycle.name) c.args.cycles.now c.loop-i.i c.loop-i.invariant c.loop-i-test.false,
+  λ rising. refl,
+)

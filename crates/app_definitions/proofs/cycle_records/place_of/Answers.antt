@@ -13,4 +13,5 @@ pub returns-clause-free : goal.returns-clause-free
 returns-clause-free c =
     let facts = c.binary_search_by_key.ensures in
     let by_name = facts.position (λ cycle. cycle.name) (answers_always _ _ _ (λ f a r g called. search rules)) in
-    place_for (λ cycle. cycle.name) c.args.cycles.now c.args.name.now c.binary_search_by_key.result c.requires by_name facts.bound
+    place_for (λ cycle. cycle.name) c.args.cycles.now c.args.name.now c.binary_search_by_key.result c.requires by_name
+    facts.bound

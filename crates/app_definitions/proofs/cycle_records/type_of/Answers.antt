@@ -26,5 +26,7 @@ returns-in-X-clause-value c =
 
 pub returns-in_ok-deadline_of-in-X-2-clause-valid : goal.returns-in_ok-deadline_of-in-X-2-clause-valid
 returns-in_ok-deadline_of-in-X-2-clause-valid c =
-    let e : c.args.letter.now ≡ codes "X" = grind (arith, one_letter) in
-    (λ some. (Negative (Some c.in_ok-deadline_of-in-X-2.field-0), (e, c.in_ok-deadline_of-in-X-2.ensures.value)), λ spelled. refl)
+    let e : c.args.letter.now ≡ codes "X" = grind (arith, one_letter) in (
+      λ some. (Negative (Some c.in_ok-deadline_of-in-X-2.field-0), (e, c.in_ok-deadline_of-in-X-2.ensures.value)),
+      λ spelled. refl,
+    )

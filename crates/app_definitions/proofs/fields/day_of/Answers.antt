@@ -6,5 +6,6 @@ pub returns-in_err-text_of-clause-valid : goal.returns-in_err-text_of-clause-val
 returns-in_err-text_of-clause-valid c =
     rw c.from_residual.ensures (
       λ none. absurd (false≢true none),
-      λ spelled. absurd (false≢true (c.in_err-text_of.ensures.text.1 (IsUtf8-day c.args.bytes.now spelled.0 spelled.1))),
+      λ spelled. absurd (false≢true (c.in_err-text_of.ensures.text.1
+          (IsUtf8-day c.args.bytes.now spelled.0 spelled.1))),
     )

@@ -12,9 +12,11 @@ or_empty (f ∷ fs) zero = refl
 or_empty (f ∷ fs) (suc place) = or_empty fs place
 
 -- what a reference shows, or the bytes of the other
-shown : (o : Option (Bor (List ℕ))) (d r : Bor (List ℕ)) → r ≡ unwrap_or o d → r.now ≡ unwrap_or (option_map (λ s. s.now) o) d.now
+shown : (o : Option (Bor (List ℕ))) (d r : Bor (List ℕ)) → r ≡ unwrap_or o d
+    → r.now ≡ unwrap_or (option_map (λ s. s.now) o) d.now
 shown None d r e = ap (λ s. s.now) e
 shown (Some x) d r e = ap (λ s. s.now) e
 
 pub returns : goal.returns
-returns c = shown c.get.result _ _ c.unwrap_or.ensures ∙ ap (λ o. unwrap_or o []) c.get.ensures.value ∙ or_empty (fields_of c.args.row.now) c.args.place
+returns c = shown c.get.result _ _ c.unwrap_or.ensures ∙ ap (λ o. unwrap_or o []) c.get.ensures.value
+    ∙ or_empty (fields_of c.args.row.now) c.args.place

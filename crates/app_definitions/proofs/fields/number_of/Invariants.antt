@@ -6,4 +6,5 @@ use Rattle.app_definitions.proofs.fields.number_of.Given as goal
 
 abbrev pub invariant-loop-byte : goal.invariant-loop-byte
 invariant-loop-byte l =
-    (l.value ≡ number_value (take l.byte-index l.bytes)) × (l.value ≤ l.greatest) × All IsAsciiDigit (take l.byte-index l.bytes)
+    (l.value ≡ number_value (take l.byte-index l.bytes)) × (l.value ≤ l.greatest)
+    × All IsAsciiDigit (take l.byte-index l.bytes)

@@ -2,7 +2,8 @@ use Rattle.std.proofs.Common.{◌≡◌, ◌+◌, sym, subst, ◌∙◌, arith, 
 use Rattle.std.specs.Prelude.{Some, None}
 use Rattle.std.specs.FinMap as map
 use Rattle.run_cycles.specs.Occurrence.{PeriodMap}
-use Rattle.app_definitions.proofs.NamedLemmas.{AgreeBefore, IsWithin, nothing_yet, agree_more, absent_stays, agree_inserted, within_inserted, same_inserted}
+use Rattle.app_definitions.proofs.NamedLemmas.{AgreeBefore, IsWithin, nothing_yet, agree_more, absent_stays}
+use Rattle.app_definitions.proofs.NamedLemmas.{agree_inserted, within_inserted, same_inserted}
 use Rattle.app_definitions.proofs.named_occurrences.periods_of.Goals.{in-Some+in_ok-clone+in_ok-insert, in_default}
 use Rattle.app_definitions.proofs.named_occurrences.periods_of.Goals as goal
 
@@ -16,7 +17,8 @@ loop-cycle-preserved c =
     let some = c.loop-cycle.periods in
     let cycle = c.cycle-item.result in
     let (agree, within) = c.loop-cycle.invariant in
-    let holds = λ (m : PeriodMap). AgreeBefore all m c.args.cycles.now (c.loop-cycle.cycle-index + 1) × IsWithin all m in
+    let holds = λ (m : PeriodMap). AgreeBefore all m c.args.cycles.now (c.loop-cycle.cycle-index + 1)
+    × IsWithin all m in
     elim c.match-get.branch [
       | in-Some+in_ok-clone+in_ok-insert w ↦
           let p = w.in_ok-clone.field-0 in
@@ -24,14 +26,16 @@ loop-cycle-preserved c =
           let agree' = agree_inserted all some c.args.cycles.now c.loop-cycle.cycle-index cycle.period p there agree in
           let same = same_inserted all some cycle.period p there in
           subst holds (sym (w.periods-is ∙ w.in_ok-insert.ensures.ok)) (
-            agree_more all (map.insert some cycle.period p) c.args.cycles.now c.loop-cycle.cycle-index cycle c.loop-cycle-test.true c.cycle-item.is same agree',
+            agree_more all (map.insert some cycle.period p) c.args.cycles.now c.loop-cycle.cycle-index cycle
+                c.loop-cycle-test.true c.cycle-item.is same agree',
             within_inserted all some cycle.period p there within,
           )
       | in_default w ↦
           let none : map.get all cycle.period ≡ None = search rules in
           let same = absent_stays all some cycle.period within none in
           subst holds (sym w.periods-is) (
-            agree_more all some c.args.cycles.now c.loop-cycle.cycle-index cycle c.loop-cycle-test.true c.cycle-item.is same agree,
+            agree_more all some c.args.cycles.now c.loop-cycle.cycle-index cycle c.loop-cycle-test.true
+                c.cycle-item.is same agree,
             within,
           )
     ]

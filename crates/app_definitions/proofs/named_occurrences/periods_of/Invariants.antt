@@ -8,5 +8,7 @@ use Rattle.app_definitions.proofs.named_occurrences.periods_of.Given as goal
 
 abbrev pub invariant-loop-cycle : goal.invariant-loop-cycle
 invariant-loop-cycle l =
-    ((k : ℕ) (d : RunCycle) → k < l.cycle-index → map.get l.periods (slice_index_or l.cycles k d).period ≡ map.get l.all.periods (slice_index_or l.cycles k d).period)
+    ((k : ℕ) (d : RunCycle) → k < l.cycle-index
+    → map.get l.periods (slice_index_or l.cycles k d).period ≡ map.get l.all.periods
+    (slice_index_or l.cycles k d).period)
     × ((name : List ℕ) (p : Period) → map.get l.periods name ≡ Some p → map.get l.all.periods name ≡ Some p)

@@ -8,8 +8,11 @@ use Rattle.app_definitions.specs.Records.{Records, AllGood}
 use Rattle.app_definitions.proofs.records.gather_all.Given as goal
 
 abbrev pub invariant-loop-row : goal.invariant-loop-row
-invariant-loop-row g l = (l.row-iterator.rdr.trim ≡ trim.None) × Ready l.row-iterator.rdr × (0 < l.row-iterator.left) × (l.row-iterator.rdr.config ≡ default_config)
+invariant-loop-row g l = (l.row-iterator.rdr.trim ≡ trim.None) × Ready l.row-iterator.rdr × (0 < l.row-iterator.left)
+    × (l.row-iterator.rdr.config ≡ default_config)
     × (l.row-iterator.rdr.flexible ≡ false) × IfSome l.row-iterator.rdr.expected (λ n. n ≡ g.D.Definition.FIELDS)
-    × (rows : Records) × (l.number ≡ length rows) × AllGood (FitsKind g.D.Definition.FIELDS g.D.Definition.FitsName) rows × AreGivenBy g.D.Definition.IsMadeOf l.into rows
+    × (rows : Records) × (l.number ≡ length rows)
+    × AllGood (FitsKind g.D.Definition.FIELDS g.D.Definition.FitsName) rows
+    × AreGivenBy g.D.Definition.IsMadeOf l.into rows
     × (y : List ℕ) × (source_of (λ s. Some s.now) l.row-iterator.rdr ≡ Some y)
     × Reached default_config st.StartRecord (strip_bom l.fn.text) rows l.row-iterator.rdr.state y

@@ -9,5 +9,7 @@ into_rising-requires c = name_ties
 
 pub returns : goal.returns
 returns c =
-    let mapped : c.in_ok-apps.field-0.items ≡ map (λ (link : Link). link.app) c.args.links.now = c.in_ok-apps.ensures ∙ ap (map (λ (link : Link). link.app)) c.as_slice.ensures.all in
-    applications_are c.args.links.now c.in_ok-apps.field-0.items c.into_rising.result.items mapped c.into_rising.ensures.rising c.into_rising.ensures.same
+    let mapped : c.in_ok-apps.field-0.items ≡ map (λ (link : Link). link.app) c.args.links.now =
+    c.in_ok-apps.ensures ∙ ap (map (λ (link : Link). link.app)) c.as_slice.ensures.all in
+    applications_are c.args.links.now c.in_ok-apps.field-0.items c.into_rising.result.items mapped
+    c.into_rising.ensures.rising c.into_rising.ensures.same

@@ -12,10 +12,13 @@ returns-in-Some c =
     let names = c.in_ok-names.names.items in
     let graph = c.in_ok-graph.graph in
     let place = c.in-Some.place in
-    let built : IsGraphOf links names (length names) graph = subst (λ ns. IsGraphOf links ns (length ns) graph) c.deref.ensures.value c.in_ok-graph.ensures in
-    let least : IsLeastReturning graph (Some place) = subst (IsLeastReturning graph) c.in-Some.is c.in_ok-place.ensures in
+    let built : IsGraphOf links names (length names) graph =
+    subst (λ ns. IsGraphOf links ns (length ns) graph) c.deref.ensures.value c.in_ok-graph.ensures in
+    let least : IsLeastReturning graph (Some place) =
+    subst (IsLeastReturning graph) c.in-Some.is c.in_ok-place.ensures in
     let lt : place < length names = omega (arith, least.0, built.same_length) in
-    let at : c.index.result.now ≡ get_or names place [] = c.index.ensures ∙ get_or_default names place c.index.result.now [] lt in
+    let at : c.index.result.now ≡ get_or names place [] =
+    c.index.ensures ∙ get_or_default names place c.index.result.now [] lt in
     least_found links names c.in_ok-names.ensures graph built place lt least.2 least.1 c.index.result.now at
 
 -- no application returns to itself
@@ -24,6 +27,7 @@ returns c =
     let links = c.args.links.now in
     let names = c.in_ok-names.names.items in
     let graph = c.in_ok-graph.graph in
-    let built : IsGraphOf links names (length names) graph = subst (λ ns. IsGraphOf links ns (length ns) graph) c.deref.ensures.value c.in_ok-graph.ensures in
+    let built : IsGraphOf links names (length names) graph =
+    subst (λ ns. IsGraphOf links ns (length ns) graph) c.deref.ensures.value c.in_ok-graph.ensures in
     let none : IsLeastReturning graph None = subst (IsLeastReturning graph) c.in-None.is c.in_ok-place.ensures in
     none_found links names c.in_ok-names.ensures graph built (λ j lt. none j (omega (arith, built.same_length)))

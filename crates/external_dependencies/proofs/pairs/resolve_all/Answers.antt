@@ -15,17 +15,29 @@ loop-placed-preserved c =
     let rows = c.as_slice-placed-items.result.now in
     let placed = c.placed-item.result in
     let index = c.loop-placed.placed-index in
-    let front : take (index + 1) rows ≡ take index rows ++ placed ∷ [] = take_more rows index placed c.loop-placed-test.true ∙ ap (λ x. take index rows ++ x ∷ []) (sym c.placed-item.is) in
-    let more : AreAllPairs all (take index rows ++ placed ∷ []) links c.if-is_open.pairs.items = elim c.if-is_open.branch [
-      | then-is_open+in_ok-push_pairs w ↦ rw w.pairs-is (all_more all (take index rows) links c.loop-placed.pairs.items c.loop-placed.invariant placed c.in_ok-live.live c.in_ok-live.ensures w.list-list.result.now w.list-list.ensures.all (c.is_open.ensures.0 w.if-is_open.true) w.push_pairs.new.pairs.items w.in_ok-push_pairs.ensures)
-      | else-is_open w ↦ rw w.pairs-is (all_skip all (take index rows) links c.loop-placed.pairs.items c.loop-placed.invariant placed (λ is_open. false≢true (sym w.if-is_open.false ∙ c.is_open.ensures.1 is_open)))
+    let front : take (index + 1) rows ≡ take index rows ++ placed ∷ [] =
+    take_more rows index placed c.loop-placed-test.true
+    ∙ ap (λ x. take index rows ++ x ∷ []) (sym c.placed-item.is) in
+    let more : AreAllPairs all (take index rows ++ placed ∷ []) links c.if-is_open.pairs.items =
+    elim c.if-is_open.branch [
+      | then-is_open+in_ok-push_pairs w ↦ rw w.pairs-is
+          (all_more all (take index rows) links c.loop-placed.pairs.items c.loop-placed.invariant placed
+          c.in_ok-live.live c.in_ok-live.ensures w.list-list.result.now w.list-list.ensures.all
+          (c.is_open.ensures.0 w.if-is_open.true) w.push_pairs.new.pairs.items w.in_ok-push_pairs.ensures)
+      | else-is_open w ↦ rw w.pairs-is (all_skip all
+          (take index rows) links c.loop-placed.pairs.items c.loop-placed.invariant placed
+          (λ is_open. false≢true (sym w.if-is_open.false ∙ c.is_open.ensures.1 is_open)))
     ] in
     subst (λ rs. AreAllPairs all rs links c.if-is_open.pairs.items) (sym front) more
 
 -- all rows
 pub returns : goal.returns
 returns c pair =
-    let whole : take c.loop-placed.placed-index c.as_slice-placed-items.result.now ≡ c.args.rows.now = take_all c.loop-placed.placed-index c.as_slice-placed-items.result.now (omega arith) ∙ c.as_slice-placed-items.ensures in
-    let is : Contains c.loop-placed.pairs.items pair ↔ IsPairOf c.args.rows.now c.args.links.now pair = subst (λ rs. AreAllPairs c.args.rows.now rs c.args.links.now c.loop-placed.pairs.items) whole c.loop-placed.invariant pair in
+    let whole : take c.loop-placed.placed-index c.as_slice-placed-items.result.now ≡ c.args.rows.now =
+    take_all c.loop-placed.placed-index c.as_slice-placed-items.result.now (omega arith)
+    ∙ c.as_slice-placed-items.ensures in
+    let is : Contains c.loop-placed.pairs.items pair ↔ IsPairOf c.args.rows.now c.args.links.now pair =
+    subst (λ rs. AreAllPairs c.args.rows.now rs c.args.links.now c.loop-placed.pairs.items) whole
+    c.loop-placed.invariant pair in
     let same = c.from_vec.ensures pair in
     ((λ here. is.0 (same.0 here)), λ here. same.1 (is.1 here))

@@ -12,4 +12,5 @@ returns-clause-ok g c =
 
 pub returns-clause-counted : goal.returns-clause-counted
 returns-clause-counted g c =
-    c.len-count.ensures.len ∙ sym (len-view_of c.more.inside.by_name.entries c.len-count.ensures.unique) ∙ ap map.len c.more.view_is
+    c.len-count.ensures.len ∙ sym (len-view_of c.more.inside.by_name.entries c.len-count.ensures.unique)
+    ∙ ap map.len c.more.view_is

@@ -7,4 +7,5 @@ use Rattle.app_definitions.proofs.cycle_records.RunCyclesDefinition.begin.Goals 
 pub returns-clause-made : goal.returns-clause-made
 returns-clause-made c =
     let s : SpellsRunCycle (fields_of c.args.row.now) c.in-Some.cycle = search rules in
-    rw (c.in_ok-push.ensures.items, c.new-cycles.ensures.items) (run_cycles-one (fields_of c.args.row.now) c.in-Some.cycle s)
+    rw (c.in_ok-push.ensures.items, c.new-cycles.ensures.items)
+    (run_cycles-one (fields_of c.args.row.now) c.in-Some.cycle s)

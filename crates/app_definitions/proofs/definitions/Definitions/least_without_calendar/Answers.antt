@@ -8,7 +8,8 @@ use Rattle.app_definitions.specs.declared.applications.Application.{Application}
 use Rattle.app_definitions.specs.declared.definitions.Definitions.{Definitions}
 use Rattle.app_definitions.proofs.LeastLemmas.{before_all, before_none, before_skip, before_take, least_alike}
 use Rattle.app_definitions.proofs.definitions.Definitions.least_without_calendar.Goals as goal
-use Rattle.app_definitions.proofs.definitions.Definitions.least_without_calendar.Goals.{else-application-via-then-application+else-lacks_calendar, else-application-via-else-application}
+use Rattle.app_definitions.proofs.definitions.Definitions.least_without_calendar.Goals.{else-application-via-then-application+else-lacks_calendar}
+use Rattle.app_definitions.proofs.definitions.Definitions.least_without_calendar.Goals.{else-application-via-else-application}
 
 -- an application that is active and lacks one
 abbrev Holds : Definitions → List ℕ → Application → Type 0
@@ -18,29 +19,36 @@ pub loop-app-init : goal.loop-app-init
 loop-app-init c =
     let all = c.args.self.now in
     before_all (Holds all) all.applications c.into_iter-app-iterator.result
-    (subst (λ es. AreEntriesOf es all.applications) (sym c.into_iter-app-iterator.ensures.into_iter_gives) c.iter-app-items.ensures)
+    (subst (λ es. AreEntriesOf es all.applications)
+    (sym c.into_iter-app-iterator.ensures.into_iter_gives) c.iter-app-items.ensures)
 
 pub loop-app-preserved-then-lacks_calendar : goal.loop-app-preserved-then-lacks_calendar
 loop-app-preserved-then-lacks_calendar c =
     let all = c.args.self.now in
-    before_take (Holds all) all.applications c.loop-app.app-iterator c.next.new.self c.loop-app.least c.in-Some.app.now c.in-Some.application.now c.lesser.result
-    c.loop-app.invariant c.in-Some.ensures.steps (c.if-application.true, c.lacks_calendar.ensures.0 c.if-lacks_calendar.true)
+    before_take (Holds all) all.applications c.loop-app.app-iterator c.next.new.self c.loop-app.least
+    c.in-Some.app.now c.in-Some.application.now c.lesser.result
+    c.loop-app.invariant c.in-Some.ensures.steps
+    (c.if-application.true, c.lacks_calendar.ensures.0 c.if-lacks_calendar.true)
     c.lesser.ensures.one c.lesser.ensures.name c.lesser.ensures.least
 
 pub loop-app-preserved : goal.loop-app-preserved
 loop-app-preserved c =
     let all = c.args.self.now in
     let not : ¬ (Holds all c.in-Some.app.now c.in-Some.application.now) = elim c.else-application.branch [
-      | else-application-via-then-application+else-lacks_calendar w ↦ λ h. false≢true (sym w.if-lacks_calendar.false ∙ w.lacks_calendar.ensures.1 h.1)
+      | else-application-via-then-application+else-lacks_calendar w ↦ λ h. false≢true
+          (sym w.if-lacks_calendar.false ∙ w.lacks_calendar.ensures.1 h.1)
       | else-application-via-else-application w ↦ λ h. false≢true (sym w.if-application.false ∙ h.0)
     ] in
-    before_skip (Holds all) all.applications c.loop-app.app-iterator c.next.new.self c.loop-app.least c.in-Some.app.now c.in-Some.application.now
+    before_skip (Holds all) all.applications c.loop-app.app-iterator c.next.new.self c.loop-app.least
+    c.in-Some.app.now c.in-Some.application.now
     c.loop-app.invariant c.in-Some.ensures.steps not
 
 pub returns : goal.returns
 returns c =
     let all = c.args.self.now in
-    least_alike (λ app. (a : Application) × (map.get all.applications app ≡ Some a) × Holds all app a) (HasNoCalendar all) c.loop-app.least
+    least_alike (λ app. (a : Application) × (map.get all.applications app ≡ Some a) × Holds all app a)
+    (HasNoCalendar all) c.loop-app.least
     (λ app (a, is, h). (a, (is, h.0), h.1))
     (λ app (a, active, lacks). (a, active.0, (active.1, lacks)))
-    (before_none (Holds all) all.applications c.loop-app.app-iterator c.loop-app.least c.loop-app.invariant c.in-None.ensures.steps.0)
+    (before_none (Holds all) all.applications c.loop-app.app-iterator c.loop-app.least c.loop-app.invariant
+    c.in-None.ensures.steps.0)

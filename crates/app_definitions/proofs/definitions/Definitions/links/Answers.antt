@@ -11,7 +11,8 @@ loop-app-preserved c =
     let names = c.in-Some.predecessors.now in
     let e : List ℕ × List (List ℕ) = (app, names) in
     let moved = ap (λ l. done ++ l) c.in-Some.ensures.steps ∙ sym (append_assoc done (e ∷ []) c.next.new.self) in
-    let pushed : c.push_links.new.links.items ≡ c.loop-app.links.items ++ map (link_of app) names = rw (← c.as_slice.ensures.value) c.in_ok-push_links.ensures in (
+    let pushed : c.push_links.new.links.items ≡ c.loop-app.links.items ++ map (link_of app) names =
+    rw (← c.as_slice.ensures.value) c.in_ok-push_links.ensures in (
       done ++ e ∷ [],
       subst (λ l. AreEntriesOf l c.args.self.now.predecessors) moved c.loop-app.invariant.1,
       pushed ∙ ap (λ l. l ++ map (link_of app) names) c.loop-app.invariant.2 ∙ sym (links_of-push done app names),
@@ -20,5 +21,7 @@ loop-app-preserved c =
 pub returns : goal.returns
 returns c = λ app predecessor.
     let done = c.loop-app.invariant.0 in
-    let all : AreEntriesOf done c.args.self.now.predecessors = subst (λ l. AreEntriesOf l c.args.self.now.predecessors) (ap (λ l. done ++ l) c.in-None.ensures.steps.0 ∙ append-nil done) c.loop-app.invariant.1 in
+    let all : AreEntriesOf done c.args.self.now.predecessors =
+    subst (λ l. AreEntriesOf l c.args.self.now.predecessors)
+    (ap (λ l. done ++ l) c.in-None.ensures.steps.0 ∙ append-nil done) c.loop-app.invariant.1 in
     rw c.loop-app.invariant.2 (links_are c.args.self.now done app predecessor all)

@@ -5,4 +5,5 @@ use Rattle.app_definitions.proofs.LinkLemmas.{links_of}
 use Rattle.app_definitions.proofs.definitions.Definitions.links.Given as goal
 
 abbrev pub invariant-loop-app : goal.invariant-loop-app
-invariant-loop-app l = (done : List (List ℕ × List (List ℕ))) × AreEntriesOf (done ++ l.app-iterator) l.self.predecessors × (l.links.items ≡ links_of done)
+invariant-loop-app l = (done : List (List ℕ × List (List ℕ)))
+    × AreEntriesOf (done ++ l.app-iterator) l.self.predecessors × (l.links.items ≡ links_of done)

@@ -12,5 +12,7 @@ returns-clause-listed c =
     let index = c.unwrap-index.result.now in
     let there : map.get indexes name ≡ Some index = search rules in
     IfOk-map c.generate.result _ _
-    (λ list lists. named_listed all c.args.app.now c.args.application.now indexes name index c.cycles_of-cycles.result.now c.in_ok-periods.periods c.args.from c.args.to list.items
-    c.calendar_name-name.ensures c.in_ok-hold.ensures.indexes there c.cycles_of-cycles.ensures.value c.in_ok-periods.ensures lists) c.generate.ensures
+    (λ list lists. named_listed all c.args.app.now c.args.application.now indexes name index
+    c.cycles_of-cycles.result.now c.in_ok-periods.periods c.args.from c.args.to list.items
+    c.calendar_name-name.ensures c.in_ok-hold.ensures.indexes there c.cycles_of-cycles.ensures.value
+    c.in_ok-periods.ensures lists) c.generate.ensures

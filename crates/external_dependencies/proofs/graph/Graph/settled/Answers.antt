@@ -13,5 +13,6 @@ returns-then-fall_along c =
     IfOk-weaker c.lone.result
     (λ count. (i j : ℕ) → i < count → j < length numbers → i ≢ j → get_or numbers i 0 ≢ get_or numbers j 0)
     (λ count. (node : ℕ) → node < count → node < length graph → ReturnsTo graph node → ⊥)
-    (λ count alone node lt in_range. lone_stays graph numbers fall node in_range (λ other lt_other. alone node other lt lt_other))
+    (λ count alone node lt in_range. lone_stays graph numbers fall node in_range
+    (λ other lt_other. alone node other lt lt_other))
     c.lone.ensures

@@ -16,7 +16,8 @@ returns-clause-rising c =
     let named : Link → Bool = λ l. bytes_eq l.predecessor c.args.predecessor.now in
     let links = c.as_slice.result.now in
     let rising : IsRising link_cmp links = subst (IsRising link_cmp) (sym c.as_slice.ensures.value) c.self.invariant in
-    IfOk-weaker c.links_naming.result (λ found. found.items ≡ filter named links) (λ found. IsRising link_cmp found.items)
+    IfOk-weaker c.links_naming.result (λ found. found.items ≡ filter named links)
+    (λ found. IsRising link_cmp found.items)
     (λ found is. subst (IsRising link_cmp) (sym is) (AllPairs-filter (λ x y. link_cmp x y ≡ Less) named links rising))
     c.links_naming.ensures
 
@@ -26,7 +27,9 @@ returns-clause-all c =
     let named : Link → Bool = λ l. bytes_eq l.predecessor one in
     let links = c.as_slice.result.now in
     let whole : links ≡ c.args.self.now = c.as_slice.ensures.value ∙ c.self.view_is in
-    IfOk-weaker c.links_naming.result (λ found. found.items ≡ filter named links) (λ found. (link : Link) → Contains found.items link ↔ (Contains c.args.self.now link × (link.predecessor ≡ one)))
+    IfOk-weaker c.links_naming.result (λ found. found.items ≡ filter named links)
+    (λ found. (link : Link) → Contains found.items link
+    ↔ (Contains c.args.self.now link × (link.predecessor ≡ one)))
     (λ found is link.
     let both = Contains-filter named links link in
     let same = bytes_decides link.predecessor one in

@@ -1,4 +1,5 @@
-use Rattle.std.proofs.Common.{◌≡◌, ◌↔◌, ℕ, List, ◌-◌, ◌≤◌, length, take, drop, true, false, sym, ap, subst, ◌∙◌, arith, rules}
+use Rattle.std.proofs.Common.{◌≡◌, ◌↔◌, ℕ, List, ◌-◌, ◌≤◌, length, take, drop, true, false, sym, ap, subst, ◌∙◌}
+use Rattle.std.proofs.Common.{arith, rules}
 use Rattle.std.specs.List.{Contains}
 use Rattle.std.specs.List.Sorted.{IsPartitionedBy, IsPartitionPoint}
 use Rattle.std.proofs.lemmas.List.{take_all, length-drop}
@@ -25,25 +26,38 @@ returns c =
     let upto = λ (x : Pair). is_le (nat_cmp x.successor one) in
     let seen = c.deref-2.result.now in
     let whole : take (length seen - start) (drop start seen) ≡ drop start all =
-    take_all (length seen - start) (drop start seen) (omega (arith, length-drop start seen)) ∙ ap (drop start) c.deref-2.ensures.value in
+    take_all (length seen - start) (drop start seen) (omega (arith, length-drop start seen))
+    ∙ ap (drop start) c.deref-2.ensures.value in
     let parted : IsPartitionedBy below c.deref.result.now =
-    subst (IsPartitionedBy below) (sym c.deref.ensures.value) (parted_below key nat_cmp_total nat_cmp-IsAntisymmetric rest pair_total all c.self.invariant one) in
+    subst (IsPartitionedBy below) (sym c.deref.ensures.value)
+    (parted_below key nat_cmp_total nat_cmp-IsAntisymmetric rest pair_total all c.self.invariant one) in
     let parted' : IsPartitionedBy upto (take (length seen - start) (drop start seen)) =
-    subst (IsPartitionedBy upto) (sym whole) (parted_upto key nat_cmp_total nat_cmp-IsAntisymmetric rest pair_total all c.self.invariant one start) in
-    let point = IsPartitionPoint-from_clause below _ _ c.partition_point-start.ensures.partitioned parted (λ a r q k. search rules) in
-    let point' = IsPartitionPoint-from_clause upto _ _ c.partition_point-count.ensures.partitioned parted' (λ a r q k. search rules) in
+    subst (IsPartitionedBy upto) (sym whole)
+    (parted_upto key nat_cmp_total nat_cmp-IsAntisymmetric rest pair_total all c.self.invariant one start) in
+    let point = IsPartitionPoint-from_clause below _ _ c.partition_point-start.ensures.partitioned parted
+    (λ a r q k. search rules) in
+    let point' = IsPartitionPoint-from_clause upto _ _ c.partition_point-count.ensures.partitioned parted'
+    (λ a r q k. search rules) in
     let here : IsPartitionPoint (λ x. below x ≡ true) (λ x. below x ≡ false) all start =
     subst (λ xs. IsPartitionPoint (λ x. below x ≡ true) (λ x. below x ≡ false) xs start) c.deref.ensures.value point in
     let here' : IsPartitionPoint (λ x. upto x ≡ true) (λ x. upto x ≡ false) (drop start all) count =
     subst (λ xs. IsPartitionPoint (λ x. upto x ≡ true) (λ x. upto x ≡ false) xs count) whole point' in
-    let bound : start ≤ length all = omega (arith, c.partition_point-start.ensures.bound, ap length c.deref.ensures.value) in
-    let bound' : count ≤ length (drop start all) = omega (arith, c.partition_point-count.ensures.bound, ap length whole) in
+    let bound : start ≤ length all = omega (
+      arith,
+      c.partition_point-start.ensures.bound,
+      ap length c.deref.ensures.value,
+    ) in
+    let bound' : count ≤ length (drop start all) =
+    omega (arith, c.partition_point-count.ensures.bound, ap length whole) in
     record {
       rising = let rise : (xs : List Pair) → xs ≡ drop start all → IsRising pair_cmp (take count xs) =
-          λ xs e. subst (λ ys. IsRising pair_cmp (take count ys)) (sym e) (part_rising pair_cmp all start count c.self.invariant bound') in rise _ whole;
+          λ xs e. subst (λ ys. IsRising pair_cmp (take count ys)) (sym e)
+          (part_rising pair_cmp all start count c.self.invariant bound') in rise _ whole;
       all = λ x.
-          let is = part_is key nat_cmp_total nat_cmp-IsAntisymmetric rest pair_total all c.self.invariant one start count bound here bound' here' x in
-          let same : (xs : List Pair) → xs ≡ drop start all → Contains (take count xs) x ↔ (Contains all x × (x.successor ≡ one)) =
+          let is = part_is key nat_cmp_total nat_cmp-IsAntisymmetric rest pair_total all c.self.invariant one start
+          count bound here bound' here' x in
+          let same : (xs : List Pair) → xs ≡ drop start all → Contains (take count xs) x
+          ↔ (Contains all x × (x.successor ≡ one)) =
           λ xs e. subst (λ ys. Contains (take count ys) x ↔ (Contains all x × (x.successor ≡ one))) (sym e) is in
           rw (← c.self.view_is) (same _ whole);
     }

@@ -12,15 +12,20 @@ loop-pair-preserved c =
     let others = c.args.others.now in
     let pair = c.pair-item.result in
     let index = c.loop-pair.pair-index in
-    let front : take (index + 1) pairs ≡ take index pairs ++ pair ∷ [] = take_more pairs index pair c.loop-pair-test.true ∙ ap (λ x. take index pairs ++ x ∷ []) (sym c.pair-item.is) in
-    let more : AreLeft (take index pairs ++ pair ∷ []) others c.if-not-contains.left.items = elim c.if-not-contains.branch [
+    let front : take (index + 1) pairs ≡ take index pairs ++ pair ∷ [] =
+    take_more pairs index pair c.loop-pair-test.true ∙ ap (λ x. take index pairs ++ x ∷ []) (sym c.pair-item.is) in
+    let more : AreLeft (take index pairs ++ pair ∷ []) others c.if-not-contains.left.items =
+    elim c.if-not-contains.branch [
       | then-not-contains+in_ok-push w ↦
           let absent : c.contains.result ≡ false = search rules in
           let pushed : w.push.new.self.items ≡ c.loop-pair.left.items ++ pair ∷ [] = w.in_ok-push.ensures.items in
-          rw (w.left-is, pushed) (left_more (take index pairs) others c.loop-pair.left.items c.loop-pair.invariant pair (λ there. false≢true (sym absent ∙ c.contains.ensures.1 there)))
+          rw (w.left-is, pushed)
+          (left_more (take index pairs) others c.loop-pair.left.items c.loop-pair.invariant pair
+          (λ there. false≢true (sym absent ∙ c.contains.ensures.1 there)))
       | else-not-contains w ↦
           let present : c.contains.result ≡ true = search rules in
-          rw w.left-is (left_skip (take index pairs) others c.loop-pair.left.items c.loop-pair.invariant pair (c.contains.ensures.0 present))
+          rw w.left-is (left_skip (take index pairs) others c.loop-pair.left.items c.loop-pair.invariant pair
+          (c.contains.ensures.0 present))
     ] in
     subst (λ ps. AreLeft ps others c.if-not-contains.left.items) (sym front) more
 
