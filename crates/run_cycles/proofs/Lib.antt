@@ -1,13 +1,15 @@
 pub mod AddLemmas
 pub mod BlockLemmas
 pub mod CountLemmas
-pub mod DayLemmas
+pub mod DecidedLemmas
 pub mod GatherLemmas
 pub mod Iff
 pub mod JumpLemmas
+pub mod MergeLemmas
 pub mod NameLemmas
 pub mod NamedDayLemmas
 pub mod NamedLemmas
+pub mod NamingLemmas
 pub mod OccurrenceLemmas
 pub mod OrderLemmas
 pub mod OwnNames

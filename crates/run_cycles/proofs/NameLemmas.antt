@@ -1,32 +1,20 @@
 -- The order of names.
-use Rattle.std.proofs.Common.{◌≡◌, ℕ, true, false, List, ap, sym, ◌∙◌, refl}
+use Rattle.std.proofs.Common.{◌≡◌, ℕ, false, List, ap, sym, ◌∙◌, refl}
 use Rattle.std.specs.declared.cmp.Ordering.{Ordering}
 use Rattle.std.specs.declared.cmp.Ordering.TheVariants.{Less, Equal, Greater}
 use Rattle.std.specs.Ordering.{nat_cmp, is_gt, ordering_reverse}
 use Rattle.std.specs.Cmp.Lexicographic.{slice_cmp, nat_list_cmp_total}
 use Rattle.std.specs.FinMap.{nat_cmp-IsAntisymmetric, slice_cmp-IsAntisymmetric}
-use Rattle.std.proofs.lemmas.Cmp.{upto, tied_itself}
+use Rattle.std.proofs.lemmas.Cmp.{tied_itself}
 use Rattle.run_cycles.specs.Occurrence.{IsNameAtMost}
 
 pub at_most_itself : (a : List ℕ) → IsNameAtMost a a
 at_most_itself a = ap is_gt (tied_itself nat_list_cmp_total a)
 
-pub at_most_chain : (a b c : List ℕ) → IsNameAtMost a b → IsNameAtMost b c → IsNameAtMost a c
-at_most_chain a b c = upto nat_list_cmp_total a b c
-
 not_both : (r : Ordering) → is_gt r ≡ false → is_gt (ordering_reverse r) ≡ false → r ≡ Equal
 not_both Less p q = cc
 not_both Equal p q = refl
 not_both Greater p q = cc
-
-turned : (r : Ordering) → is_gt r ≡ true → is_gt (ordering_reverse r) ≡ false
-turned Less e = cc
-turned Equal e = cc
-turned Greater e = refl
-
--- a name that comes after another is not before it
-pub at_most_turned : (a b : List ℕ) → is_gt (slice_cmp nat_cmp a b) ≡ true → IsNameAtMost b a
-at_most_turned a b e = ap is_gt (nat_list_cmp_total.antisymm b a) ∙ turned _ e
 
 pub at_most_both : (a b : List ℕ) → IsNameAtMost a b → IsNameAtMost b a → a ≡ b
 at_most_both a b p q =

@@ -2,6 +2,7 @@ pub mod CountedDay
 pub mod Jump
 pub mod Limits
 pub mod NamedDay
+pub mod Naming
 pub mod Occurrence
 pub mod Offset
 pub mod RawDay

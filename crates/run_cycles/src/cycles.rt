@@ -2,7 +2,7 @@ use crate::{Offsets, Rule};
 use work_calendars::{Day, Minute, Short};
 
 /// When an occurrence has to be done: a time of the day that lies this many days after its input arrival date.
-#[derive(Clone, Copy, Debug, PartialEq, Eq, Hash)]
+#[derive(Clone, Copy, Debug, PartialEq, Eq, PartialOrd, Ord, Hash)]
 pub struct Deadline {
     /// From 0 to `MAX_DEADLINE_DAYS` in all that is defined.
     pub days: u8,

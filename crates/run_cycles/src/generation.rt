@@ -1,43 +1,15 @@
-ghost use Rattle.std.specs.Prelude.{◌≡◌, ℕ, ◌↔◌, ◌+◌, ◌<◌, ◌≤◌, ◌⊎◌, Some, AllPairs, Contains, IsTrue, IfOk, IfSome, OnOk};
+ghost use Rattle.std.specs.Prelude.{◌≡◌, ℕ, ◌↔◌, ◌+◌, ◌<◌, ◌≤◌, All, Some, IfOk, IfSome, IsTrue, length, slice_index, slice_index_or};
 ghost use Rattle.work_calendars.specs.Day.{last_planning_day};
 ghost use Rattle.work_calendars.specs.WorkIndex.{is_work_in};
-ghost use Rattle.run_cycles.specs.declared.cycles.RunCycle.{RunCycle};
 ghost use Rattle.run_cycles.specs.declared.named.Named.{Named};
-ghost use Rattle.run_cycles.specs.Occurrence.{HaveOwnNames, IsNameAtMost, IsOccurrence, IsOccurrenceBetween, ListsInOrder, ListsOccurrences, NamesAt, deadline_of};
+ghost use Rattle.run_cycles.specs.declared.namings.Naming.{Naming};
+ghost use Rattle.run_cycles.specs.Naming.{DecidesAt, InOrder, IsDecidedBefore, IsTogether, named_by};
+ghost use Rattle.run_cycles.specs.Occurrence.{HaveOwnNames, ListsInOrder, ListsOccurrences, deadline_of};
 
-use crate::naming::names;
-use crate::{CycleType, Deadline, Named, Periods, RunCycle};
+use crate::namings::{Given, Naming, all_namings};
+use crate::{Deadline, Named, Periods, RunCycle};
 use std::alloc::{AllocError, Global};
-use work_calendars::{Day, Minute, Moment, Short, WorkIndex};
-
-// Whether the run cycle has this input arrival time and names the day.
-fn names_at(cycle: &RunCycle, periods: &Periods, index: &WorkIndex, day: Day, time: Minute) -> bool
-    ensures { IsTrue result ↔ NamesAt periods.now (is_work_in index.now) day time cycle.now }
-{
-    cycle.ia == time
-        && match periods.get(&cycle.period) {
-            Some(period) => names(cycle, period, index, day),
-            None => false,
-        }
-}
-
-// The run cycle of lesser name: the best so far or this one, each a name with its deadline.
-fn lesser(best: Option<(Short, Deadline)>, name: Short, deadline: Deadline) -> (Short, Deadline)
-    ensures chosen { (result ≡ (name, deadline)) ⊎ (best ≡ Some result) }
-    ensures new { IsNameAtMost result.0 name }
-    ensures old { IfSome best (λ b. IsNameAtMost result.0 b.0) }
-{
-    match best {
-        Some(kept) => {
-            if kept.0.cmp(&name).is_gt() {
-                (name, deadline)
-            } else {
-                kept
-            }
-        }
-        None => (name, deadline),
-    }
-}
+use work_calendars::{Day, Minute, Moment, WorkIndex};
 
 // The moment of a deadline, for an occurrence of the day.
 fn moment_of_deadline(day: Day, deadline: Deadline) -> Moment
@@ -48,83 +20,72 @@ fn moment_of_deadline(day: Day, deadline: Deadline) -> Moment
     Moment::new(last, deadline.time)
 }
 
-// The occurrence of the day and time, if the run cycles name one.
-fn occurrence_at(
-    cycles: &[RunCycle],
-    periods: &Periods,
-    index: &WorkIndex,
-    day: Day,
-    time: Minute,
-) -> Option<Named>
-    requires names { HaveOwnNames cycles.now }
-    requires planned { day ≤ last_planning_day }
-    ensures found { IfSome result
-        (λ x. (x.day ≡ day) × (x.time ≡ time) × IsOccurrence cycles.now periods.now (is_work_in index.now) x) }
-    ensures only { (x : Named) → x.day ≡ day → x.time ≡ time
-        → IsOccurrence cycles.now periods.now (is_work_in index.now) x → result ≡ Some x }
+// The occurrence that is given on the day and at the time.
+fn named_by(day: Day, time: Minute, given: Given) -> Named
+    requires { day ≤ last_planning_day }
+    ensures { result ≡ named_by day time given }
 {
-    let mut best: Option<(Short, Deadline)> = None;
-    for cycle in cycles {
-        if names_at(cycle, periods, index, day, time) {
-            match cycle.kind {
-                CycleType::Negative(_) => return None,
-                CycleType::Normal(deadline) => best = Some(lesser(best, cycle.name, deadline)),
-            }
-        }
-    }
-    let (run_cycle, deadline) = best?;
-    Some(Named {
+    Named {
         day,
         time,
-        run_cycle,
-        deadline: moment_of_deadline(day, deadline),
-    })
-}
-
-// The input arrival times of the run cycles, each once, in order.
-fn arrival_times(alloc: Global, cycles: &[RunCycle]) -> Result<Vec<Minute>, AllocError>
-    ensures rising { IfOk result (λ times. AllPairs (λ a b. a < b) times.items) }
-    ensures each { IfOk result (λ times. (cycle : RunCycle) → Contains cycles.now cycle → Contains times.items cycle.ia) }
-{
-    let mut times = Vec::new(alloc);
-    for cycle in cycles {
-        times.push(cycle.ia)?;
+        run_cycle: given.run_cycle,
+        deadline: moment_of_deadline(day, given.deadline),
     }
-    times.sort()?;
-    times.dedup();
-    Ok(times)
 }
 
-// Appends the occurrences of the day.
-fn push_day(
-    list: &mut Vec<Named>,
-    times: &[Minute],
-    cycles: &[RunCycle],
-    periods: &Periods,
-    index: &WorkIndex,
-    day: Day,
-) -> Result<(), AllocError>
-    requires names { HaveOwnNames cycles.now }
-    requires planned { day ≤ last_planning_day }
-    requires rising { AllPairs (λ a b. a < b) times.now }
-    requires each { (cycle : RunCycle) → Contains cycles.now cycle → Contains times.now cycle.ia }
-    ensures { OnOk result ((from : ℕ) → from ≤ day
-        → ListsInOrder (IsOccurrenceBetween cycles.now periods.now (is_work_in index.now) from day) list.old.items
-        → ListsInOrder (IsOccurrenceBetween cycles.now periods.now (is_work_in index.now) from (day + 1)) list.new.items) }
+// Whether both are of one day and time.
+fn are_together(a: &Naming, b: &Naming) -> bool
+    ensures { IsTrue result ↔ IsTogether a.now b.now }
 {
-    for time in times {
-        if let Some(named) = occurrence_at(cycles, periods, index, day, *time) {
+    a.day == b.day && a.time == b.time
+}
+
+// Whether the naming at the place is the first of its day and time.
+fn is_first(namings: &[Naming], place: usize) -> bool
+    requires { place < length namings.now }
+    ensures { IsTrue result ↔ ((j : ℕ) (z : Naming) → j + 1 ≡ place
+        → ¬ (IsTogether (slice_index_or namings.now j z) (slice_index_or namings.now place z))) }
+{
+    place == 0 || !are_together(&namings[place - 1], &namings[place])
+}
+
+// The occurrence that the naming at the place gives, if it is the first of its day and time.
+fn decided(namings: &[Naming], place: usize) -> Option<Named>
+    requires place { place < length namings.now }
+    requires planned { All (λ x. x.day ≤ last_planning_day) namings.now }
+    ensures found { IfSome result (λ x. DecidesAt namings.now place x) }
+    ensures only { (x : Named) → DecidesAt namings.now place x → result ≡ Some x }
+{
+    if !is_first(namings, place) {
+        return None;
+    }
+    let Naming { day, time, given } = namings[place];
+    match given {
+        Some(given) => Some(named_by(day, time, given)),
+        None => None,
+    }
+}
+
+// What the first naming of each day and time gives.
+fn all_decided(alloc: Global, namings: &[Naming]) -> Result<Vec<Named>, AllocError>
+    requires planned { All (λ x. x.day ≤ last_planning_day) namings.now }
+    requires order { InOrder namings.now }
+    ensures { IfOk result (λ list. ListsInOrder (IsDecidedBefore namings.now (length namings.now)) list.items) }
+{
+    let mut list = Vec::new(alloc);
+    for place in 0..namings.len() {
+        if let Some(named) = decided(namings, place) {
             list.push(named)?;
         }
     }
-    Ok(())
+    Ok(list)
 }
 
 /// The named occurrences of the days from `from` to `to`, by day and time, none twice; none where `to` is before `from`.
 ///
-/// An occurrence is at a day and time at which some run cycle of type N names the day and no run cycle of type X does. With it go the run
-/// cycle of least name among those of type N, and its deadline. The run cycles are those of one application. A run cycle whose period is not
-/// among `periods` names nothing.
+/// An occurrence is at a day and time at which some run cycle of type N names the day and no run cycle of type X does.
+/// With it go the run cycle of least name among those of type N, and its deadline. The run cycles are those of one
+/// application. A run cycle whose period is not among `periods` names nothing.
 pub fn generate(
     alloc: Global,
     cycles: &[RunCycle],
@@ -138,11 +99,7 @@ pub fn generate(
     ensures { IfOk result
         (λ list. ListsOccurrences cycles.now periods.now (is_work_in index.now) from to list.items) }
 {
-    let times = arrival_times(alloc, cycles)?;
-    let mut list = Vec::new(alloc);
-    for number in from.number()..to.number() + 1 {
-        let day = Day::from_number(number).unwrap();
-        push_day(&mut list, &times, cycles, periods, index, day)?;
-    }
+    let namings = all_namings(alloc, cycles, periods, index, from, to)?;
+    let list = all_decided(alloc, &namings)?;
     Ok(list)
 }

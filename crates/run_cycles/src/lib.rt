@@ -15,6 +15,7 @@ mod generation;
 mod jump;
 mod named;
 mod naming;
+mod namings;
 mod offsets;
 mod periods;
 mod raw;
