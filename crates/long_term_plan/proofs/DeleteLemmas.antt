@@ -1,10 +1,9 @@
 -- A deletion from the long-term plan is what the machine does.
-use Rattle.std.proofs.Common.{◌≡◌, ◌≢◌, ◌↔◌, ℕ, ◌≤◌, Bool, true, false, List, [], ◌∷◌, filter, refl, arith, sym, ap, subst, ◌∙◌, inl, inr, Some, None, Option}
-use Rattle.std.specs.Prelude.{nat_eq, not, option_map, unwrap_or, Ok, if◌then◌else◌}
+use Rattle.std.proofs.Common.{◌≡◌, ◌≢◌, ◌↔◌, ℕ, ◌≤◌, Bool, true, false, List, filter, refl, arith, sym, ap, subst, ◌∙◌, Some, None, Option}
+use Rattle.std.specs.Prelude.{nat_eq, not, option_map, unwrap_or, if◌then◌else◌}
 use Rattle.std.specs.List.{Contains}
 use Rattle.std.proofs.lemmas.Bool.{eqb-true, eqb-false, eq-eqb, ne_eqb}
-use Rattle.occurrences.proofs.KeyLemmas.{key_other, key_same, same_key}
-use Rattle.occurrences.specs.Key.{key_eq}
+use Rattle.occurrences.proofs.KeyLemmas.{key_other, key_same}
 use Rattle.occurrences.specs.declared.key.Key.{Key}
 use Rattle.occurrences.specs.declared.place.CurrentRow.{CurrentRow}
 use Rattle.occurrences.specs.declared.place.Deletion.{Deletion}
@@ -14,7 +13,7 @@ use Rattle.occurrences.specs.declared.refusal.Refusal.{Refusal}
 use Rattle.occurrences.specs.declared.refusal.Refusal.TheVariants.{NoPlan, NoSuchOccurrence}
 use Rattle.occurrences.specs.declared.reply.Reply.TheVariants.{Numbered}
 use Rattle.occurrences.specs.declared.row.Row.{Row}
-use Rattle.planner_machine.specs.Content.{Content, Seat, Sets, StandsAt}
+use Rattle.planner_machine.specs.Content.{Content, Seat, Sets}
 use Rattle.planner_machine.specs.Delete.{DeleteRefused, Deletes, IsPlanned, deleted_by_hand, delete_move, ltp_delete}
 use Rattle.planner_machine.specs.InForce.{PutsNone}
 use Rattle.planner_machine.specs.Moves.{each, has_key, keep, or_else}
@@ -42,7 +41,7 @@ one_key : (c : Sets) → RowsSound c → (m n : ℕ) (x y : Row) → c.ltp m ≡
 one_key c sound m n x y at_x at_y same =
     sound.keys m n (record { row = x; place = LongTerm }) (record { row = y; place = LongTerm }) (stands_in_ltp c sound m x at_x) (stands_in_ltp c sound n y at_y) tt tt same
 
-serial_is : (c : Sets) → RowsSound c → (serial : ℕ) (row : Row) → c.ltp serial ≡ Some row → row.serial ≡ serial
+pub serial_is : (c : Sets) → RowsSound c → (serial : ℕ) (row : Row) → c.ltp serial ≡ Some row → row.serial ≡ serial
 serial_is c sound serial row is = sound.numbered serial (record { row = row; place = LongTerm }) (stands_in_ltp c sound serial row is)
 
 module _ (c : Sets) (sound : RowsSound c) (row : Row) (stands : c.ltp row.serial ≡ Some row) where

@@ -1,1 +1,7 @@
 mod DeleteLemmas
+mod PairwiseLemmas
+mod DraftingLemmas
+mod NumberLemmas
+mod MakingLemmas
+mod RefusalLemmas
+mod CreateLemmas

@@ -1,1 +1,4 @@
 pub mod Deletes
+pub mod Drafting
+pub mod Lists
+pub mod Making

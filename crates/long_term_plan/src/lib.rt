@@ -2,7 +2,16 @@
 #![tactic(auto)]
 
 mod addition;
+mod creation;
 mod deletion;
+mod drafts;
+mod lists;
+mod making;
+mod refusals;
 
 pub use addition::add;
+pub use creation::create;
 pub use deletion::delete;
+
+#[cfg(test)]
+mod tests;

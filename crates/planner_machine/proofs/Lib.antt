@@ -6,11 +6,11 @@ pub mod MadeLemmas
 pub mod DailyLemmas
 pub mod ActionLemmas
 mod DraftLemmas
-mod ModifyLemmas
+pub mod ModifyLemmas
 pub mod AddLemmas
 pub mod DeleteLemmas
-mod CreateLemmas
-mod LinkLemmas
+pub mod CreateLemmas
+pub mod LinkLemmas
 pub mod PairLemmas
 pub mod SoundLemmas
 mod OneAnswerLemmas

@@ -1,4 +1,4 @@
-use Rattle.std.proofs.Common.{◌≡◌, ◌≢◌, ◌∙◌, true, false, ap, refl, rules, subst, sym, Option, None, Some}
+use Rattle.std.proofs.Common.{◌≡◌, ◌≢◌, ◌∙◌, true, false, refl, subst, sym, Option, None, Some}
 use Rattle.std.specs.Prelude.{IfOk, Result, Ok, Err, is_some}
 use Rattle.planner_machine.specs.Content.{Content}
 use Rattle.planner_machine.specs.Delete.{ltp_delete}

@@ -1,0 +1,137 @@
+ghost use Rattle.std.specs.Prelude.{◌≡◌, ◌↔◌, ◌+◌, ◌++◌, ◌≤◌, ℕ, List, length, IfOk, IsTrue, false};
+ghost use Rattle.work_calendars.specs.Day.{last_planning_day};
+ghost use Rattle.occurrences.specs.Serial.{IsSerial};
+ghost use Rattle.occurrences.specs.declared.serial.TheConstants.{GREATEST_SERIAL};
+ghost use Rattle.planner_machine.specs.declared.content.Draft.{Draft as DraftValue};
+ghost use Rattle.planner_machine.specs.declared.limits.TheConstants.{MOST_PLANNED_ROWS};
+ghost use Rattle.planner_machine.specs.Moves.{numbered_row};
+ghost use Rattle.planner_machine.specs.Plans.{HoldTooMany};
+ghost use Rattle.planner_machine.specs.Sound.{IsSound};
+ghost use Rattle.plan_store.specs.Views.{shown};
+ghost use Rattle.long_term_plan.specs.Making.{AddsDays, AreDaysAdded, KeepsRowsSound, MakesDrafts, numbered, planned_sets};
+
+use crate::drafts::{named_drafts, new_drafts};
+use external_dependencies::Links;
+use occurrences::{GREATEST_SERIAL, Refusal, Reply, Row, Serial};
+use plan_pairs::{live_rows, pair_change};
+use plan_store::{Change, DefinitionChange, Moves, Verdict, View};
+use planner_machine::{Bounds, Draft, MOST_PLANNED_ROWS};
+use std::alloc::{AllocError, Global};
+use work_calendars::Moment;
+
+// What is decided where the plan takes these bounds and lists, and all applications are planned from a moment to its
+// last day.
+pub(crate) fn add_days(
+    alloc: Global,
+    view: &View<'_>,
+    bounds: &Bounds,
+    links: Links,
+    first: Moment,
+) -> Result<Verdict, AllocError>
+    requires { bounds.now.last_day ≤ last_planning_day }
+    ensures { IfOk result (λ verdict. IsSound (shown view.now)
+        → ((new : List DraftValue) → AreDaysAdded (shown view.now) bounds.now first new
+        → KeepsRowsSound (shown view.now) bounds.now new)
+        → AddsDays (shown view.now) bounds.now first links verdict) }
+{
+    let all = view.definitions();
+    let apps = all.applications.names(alloc)?;
+    let named = named_drafts(alloc, all, apps.as_slice(), first, bounds.last_day)?;
+    let new = new_drafts(alloc, view, named.as_slice())?;
+    if would_hold_too_many(view, bounds, new.as_slice()) {
+        return Ok(Verdict::Refused(Refusal::TooManyRows));
+    }
+    make_drafts(alloc, view, bounds, links, new.as_slice())
+}
+
+// Whether the plans would hold too many rows, or too many serials were issued.
+fn would_hold_too_many(view: &View<'_>, bounds: &Bounds, new: &[Draft]) -> bool
+    ensures too_many { IsSound (shown view.now)
+        → IsTrue result ↔ HoldTooMany (planned_sets bounds.now new.now (shown view.now).sets) }
+    ensures serials { result ≡ false → (shown view.now).sets.issued + length new.now ≤ GREATEST_SERIAL }
+{
+    let planned = view.ltp().len().saturating_add(view.cp().len());
+    let rows = planned.saturating_add(new.len());
+    let issued = (view.issued() as usize).saturating_add(new.len());
+    rows > MOST_PLANNED_ROWS || issued > GREATEST_SERIAL as usize
+}
+
+// The drafts are made under the serials after those issued, and all else follows.
+fn make_drafts(
+    alloc: Global,
+    view: &View<'_>,
+    bounds: &Bounds,
+    links: Links,
+    new: &[Draft],
+) -> Result<Verdict, AllocError>
+    requires { (shown view.now).sets.issued + length new.now ≤ GREATEST_SERIAL }
+    ensures { IfOk result (λ verdict. IsSound (shown view.now)
+        → KeepsRowsSound (shown view.now) bounds.now new.now
+        → MakesDrafts (shown view.now) bounds.now links new.now verdict) }
+{
+    let rows = numbered_rows(alloc, view.issued(), new)?;
+    let planned = joined(alloc, view.ltp(), rows.as_slice())?;
+    let live = live_rows(alloc, planned.as_slice(), view.cp(), view.history())?;
+    let pairs = pair_change(alloc, view.pairs(), &live, &links)?;
+    let change = Change {
+        definitions: DefinitionChange::AsBefore,
+        bounds: Some(*bounds),
+        issued: Some(view.issued() + new.len() as u32),
+        in_force: Some(links),
+        ltp: Moves {
+            gone: Vec::new(alloc),
+            changed: Vec::new(alloc),
+            put: rows,
+        },
+        cp: Moves::none(alloc),
+        history: Moves::none(alloc),
+        deletions: Moves::none(alloc),
+        pairs,
+        job: None,
+    };
+    let reply = Reply::Made {
+        made: new.len(),
+        withdrawn: 0,
+    };
+    Ok(Verdict::Done(change, reply))
+}
+
+// The rows of both lists.
+fn joined(alloc: Global, first: &[Row], second: &[Row]) -> Result<Vec<Row>, AllocError>
+    ensures { IfOk result (λ rows. rows.items ≡ first.now ++ second.now) }
+{
+    let mut rows = Vec::with_capacity(alloc, first.len() + second.len())?;
+    rows.extend_from_slice(first)?;
+    rows.extend_from_slice(second)?;
+    Ok(rows)
+}
+
+// The rows of drafts, under the serials after those issued.
+fn numbered_rows(alloc: Global, issued: u32, drafts: &[Draft]) -> Result<Vec<Row>, AllocError>
+    requires { issued + length drafts.now ≤ GREATEST_SERIAL }
+    ensures { IfOk result (λ rows. rows.items ≡ numbered issued drafts.now) }
+{
+    let mut rows = Vec::with_capacity(alloc, drafts.len())?;
+    let mut number = issued;
+    for draft in drafts {
+        number += 1;
+        rows.push(numbered_row(number, draft))?;
+    }
+    Ok(rows)
+}
+
+// The row of a draft under that serial.
+fn numbered_row(number: u32, draft: &Draft) -> Row
+    requires { IsSerial number }
+    ensures { result ≡ numbered_row number draft.now }
+{
+    match Serial::new(number) {
+        Some(serial) => Row {
+            key: draft.key,
+            serial,
+            deadline: draft.deadline,
+            origin: draft.origin,
+        },
+        None => unreachable!(),
+    }
+}
