@@ -1,4 +1,5 @@
 mod AlikeLemmas
+mod ArrivalLemmas
 mod JobLemmas
 pub mod LookLemmas
 mod MoveLemmas

@@ -1,3 +1,4 @@
+pub mod Arrivals
 pub mod Changes
 pub mod Contents
 pub mod Faults

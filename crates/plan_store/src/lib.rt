@@ -2,6 +2,7 @@
 //! decision makes, and the stores that keep it.
 #![tactic(auto)]
 
+mod arrivals;
 mod changes;
 mod contents;
 mod jobs;

@@ -1,4 +1,4 @@
-ghost use Rattle.std.specs.Prelude.{◌≡◌, ◌≢◌, ◌↔◌, Contains, MatchOption, IsTrue, IfOk, filter};
+ghost use Rattle.std.specs.Prelude.{◌≡◌, ◌≢◌, ◌↔◌, ◌<◌, Contains, MatchOption, IsTrue, IfOk, filter};
 ghost use Rattle.occurrences.specs.declared.place.CurrentRow.{CurrentRow as CurrentValue};
 ghost use Rattle.occurrences.specs.declared.place.Deletion.{Deletion as DeletionValue};
 ghost use Rattle.planner_machine.specs.DailyPlan.{arrives_before};
@@ -6,6 +6,7 @@ ghost use Rattle.plan_lists.specs.Keyed.{IsKeyed};
 ghost use Rattle.plan_lists.specs.Seats.{AreSeats, HasSeats};
 ghost use Rattle.external_dependencies.specs.Arrival.{arrival_cmp};
 ghost use Rattle.external_dependencies.specs.Nearest.{arrival_of};
+ghost use Rattle.plan_store.specs.Slices.{HaveOneApp};
 
 use occurrences::{CurrentRow, Deletion, Key, Reason, Row, Serial, Status};
 use plan_lists::{PlanRow, Seat, seats_of};
@@ -33,6 +34,16 @@ pub(crate) fn of_key<'a, T: PlanRow>(list: &'a [T], key: &Key) -> &'a [T]
     let rest = &rows[start..];
     let count = rest.partition_point(|x| x.row().key.ia <= key.ia);
     &rest[..count]
+}
+
+// The rows of one application that arrive before the minute.
+pub(crate) fn before<'a, T: PlanRow>(rows: &'a [T], minute: u32) -> &'a [T]
+    ensures keyed { IsKeyed arrival_cmp (λ x. arrival_of (T.row_of x)) rows.now → IsKeyed arrival_cmp (λ x. arrival_of (T.row_of x)) result.now }
+    ensures all { IsKeyed arrival_cmp (λ x. arrival_of (T.row_of x)) rows.now → HaveOneApp T.row_of rows.now
+        → (x : T) → Contains result.now x ↔ (Contains rows.now x × ((T.row_of x).key.ia < minute)) }
+{
+    let count = rows.partition_point(|x| x.row().key.ia.number() < minute);
+    &rows[..count]
 }
 
 // The row of a serial among some rows.

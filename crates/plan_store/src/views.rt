@@ -1,14 +1,17 @@
-ghost use Rattle.std.specs.Prelude.{◌≡◌, ◌↔◌, ◌<◌, length, IsTrue, IfOk};
+ghost use Rattle.std.specs.Prelude.{◌≡◌, ◌↔◌, ◌+◌, ◌<◌, length, IsTrue, IfOk};
 ghost use Rattle.planner_machine.specs.DailyPlan.{moved};
 ghost use Rattle.planner_machine.specs.Moves.{size};
+ghost use Rattle.external_dependencies.specs.Nearest.{IsNearestAnswer};
+ghost use Rattle.planner_machine.specs.Pairs.{LiveAt};
 ghost use Rattle.planner_machine.specs.Sound.{AreNumbered};
 
+use crate::arrivals::{last_live, last_of, later};
 use crate::contents::Content;
 use crate::slices::{
-    arriving_before, first_live, first_of, has_operator, of_app, of_key, of_serial,
+    arriving_before, before, first_live, first_of, has_operator, of_app, of_key, of_serial,
 };
 use app_definitions::Definitions;
-use external_dependencies::{Links, Pairs, PlacedRow};
+use external_dependencies::{Arrival, Links, Pairs, PlacedRow};
 use occurrences::{CurrentRow, Key, Place, Row, Serial};
 use planner_machine::Bounds;
 use std::alloc::{AllocError, Global};
@@ -22,7 +25,7 @@ pub struct View<'a> {
 
 impl<'a> View<'a> {
     ghost use Rattle.plan_lists.specs.Rows.{of_current, of_deletion, of_row};
-    ghost use Rattle.plan_store.specs.Views.{IsAny, IsCurrentRow, IsDeletedKey, IsLiveRow, IsPlacedAt, IsPlannedRow, ListsSet, shown};
+    ghost use Rattle.plan_store.specs.Views.{IsAny, IsCurrentRow, IsDeletedKey, IsLastBefore, IsLiveRow, IsPlacedAt, IsPlannedRow, ListsSet, shown};
 
     /// The definitions.
     pub fn definitions(&self) -> &'a Definitions
@@ -182,5 +185,40 @@ impl<'a> View<'a> {
             row: deletion.row,
             place: Place::Deleted(deletion.reason),
         })
+    }
+
+    // The live occurrence of the application that arrives last before the minute.
+    fn last_before(&self, app: &App, minute: u32) -> Option<Arrival>
+        ensures { AreNumbered (shown self.now).sets → IsLastBefore (shown self.now).sets app.now minute result }
+    {
+        let ltp = last_of(before(of_app(&self.content.ltp, app), minute));
+        let cp = last_live(before(of_app(&self.content.cp, app), minute));
+        let history = last_of(before(of_app(&self.content.history, app), minute));
+        later(ltp, later(cp, history))
+    }
+
+    /// Of the live occurrences of the application that arrive at or before the moment, the one that arrives last.
+    pub fn last_arrival(&self, app: &App, moment: Moment) -> Option<Arrival>
+        ensures { AreNumbered (shown self.now).sets → IsLastBefore (shown self.now).sets app.now (moment + 1) result }
+    {
+        self.last_before(app, moment.number() + 1)
+    }
+
+    /// The nearest predecessor, in an application, of the occurrence with that key: of the live occurrences of the
+    /// application that arrive at or before it, the one that arrives last; in its own application only those that
+    /// arrive before it count.
+    pub fn nearest(&self, key: &Key, app: &App) -> Option<Serial>
+        ensures { AreNumbered (shown self.now).sets → IsNearestAnswer (LiveAt (shown self.now).sets) key.now app.now result }
+    {
+        let arrival = key.ia.number();
+        let limit = if *app == key.app {
+            arrival
+        } else {
+            arrival + 1
+        };
+        match self.last_before(app, limit) {
+            Some(near) => Some(near.serial),
+            None => None,
+        }
     }
 }
