@@ -5,3 +5,4 @@ mod NumberLemmas
 mod MakingLemmas
 mod RefusalLemmas
 mod CreateLemmas
+mod ExtendLemmas

@@ -5,6 +5,7 @@ mod addition;
 mod creation;
 mod deletion;
 mod drafts;
+mod extension;
 mod lists;
 mod making;
 mod refusals;
@@ -12,6 +13,7 @@ mod refusals;
 pub use addition::add;
 pub use creation::create;
 pub use deletion::delete;
+pub use extension::extend;
 
 #[cfg(test)]
 mod tests;
