@@ -8,6 +8,8 @@ use Rattle.occurrences.specs.Status.{changed_status}
 use Rattle.occurrences.specs.Refusal.{refusal_number}
 use Rattle.occurrences.specs.declared.key.Key.{Key}
 use Rattle.occurrences.specs.declared.place.CurrentRow.{CurrentRow}
+use Rattle.occurrences.specs.declared.place.Place.{Place}
+use Rattle.occurrences.specs.declared.place.Place.TheVariants.{LongTerm, Current, History, Deleted}
 use Rattle.occurrences.specs.declared.refusal.Refusal.{Refusal}
 use Rattle.occurrences.specs.declared.refusal.Refusal.TheVariants.{NoPlan, NoSuchOccurrence, PredecessorUncompleted, StatusForbids}
 use Rattle.occurrences.specs.declared.reply.Reply.TheVariants.{Changed}
@@ -17,8 +19,10 @@ use Rattle.occurrences.specs.declared.status.Action.TheVariants.{Start, Complete
 use Rattle.occurrences.specs.declared.status.Status.{Status}
 use Rattle.occurrences.specs.declared.status.Status.TheVariants.{W, S, E, C, D}
 use Rattle.external_dependencies.specs.Nearest.{arrival_of}
+use Rattle.external_dependencies.specs.declared.rows.PlacedRow.{PlacedRow}
 use Rattle.planner_machine.specs.Act.{ActionRefused, Acts, IsCurrent, IsUncompleted, acted, acted_status, action_move, cp_action}
-use Rattle.planner_machine.specs.Content.{Content, Sets}
+use Rattle.planner_machine.specs.Content.{Content, Seat, Sets, StandsAt}
+use Rattle.planner_machine.specs.Fate.{place_after_action}
 use Rattle.planner_machine.specs.InForce.{PutsNone}
 use Rattle.planner_machine.specs.Moves.{each, has_key, or_else}
 use Rattle.planner_machine.specs.Plans.{ChangesPlans}
@@ -77,6 +81,25 @@ module _ (c : Content) (sound : IsSound c) (action : Action) (changed : CurrentR
         ]
       ] refl
 
+  -- the row takes its new status
+  pub own_status : acted key action changed.row is.was ≡ changed.status
+  own_status =
+      let same : has_key key changed.row ≡ true = key_same key key refl in
+      ap (λ (b : Bool). if b then acted_status action is.was else is.was) same ∙ ap (λ o. unwrap_or o is.was) is.allowed
+
+  -- a row under another serial stays where it is
+  pub place_stays : (serial : ℕ) (p : PlacedRow) → serial ≢ changed.row.serial → StandsAt c.sets serial p
+      → place_after_action key action p.row p.place ≡ p.place
+  place_stays serial p other there = at p.row p.place there
+    where
+      at : (row : Row) (place : Place) → StandsAt c.sets serial (record { row = row; place = place })
+          → place_after_action key action row place ≡ place
+      at row LongTerm there = refl
+      at row (Current status) there = ap Current (other_stays serial (record { row = row; status = status })
+          (ap (λ (x : Seat). x.cp) there) (ne_eqb _ _ (λ same. other (sym same))))
+      at row History there = refl
+      at row (Deleted reason) there = refl
+
   -- the current plan after the action
   pub cp_is : (serial : ℕ) → (if nat_eq changed.row.serial serial then Some changed else c.sets.cp serial) ≡ option_map
       (λ (x : CurrentRow). record x { status = acted key action x.row x.status }) (c.sets.cp serial)
@@ -85,9 +108,7 @@ module _ (c : Content) (sound : IsSound c) (action : Action) (changed : CurrentR
       (λ (x : CurrentRow). record x { status = acted key action x.row x.status }) (c.sets.cp serial)) [
         | true ↦ λ e.
             let here : c.sets.cp serial ≡ Some (record { row = changed.row; status = is.was }) = subst (λ n. c.sets.cp n ≡ Some (record { row = changed.row; status = is.was })) (eqb-true _ _ e) is.stands in
-            let same : has_key key changed.row ≡ true = key_same key key refl in
-            let status : acted key action changed.row is.was ≡ changed.status =
-            ap (λ (b : Bool). if b then acted_status action is.was else is.was) same ∙ ap (λ o. unwrap_or o is.was) is.allowed in
+            let status : acted key action changed.row is.was ≡ changed.status = own_status in
             sym (ap (option_map (λ (x : CurrentRow). record x { status = acted key action x.row x.status })) here
             ∙ ap (λ s. Some (record { row = changed.row; status = s })) status)
         | false ↦ λ other. elim (c.sets.cp serial) as (λ o. c.sets.cp serial ≡ o → o ≡ option_map

@@ -4,4 +4,5 @@ pub mod PairLemmas
 pub mod DailyLemmas
 pub mod StatusLemmas
 pub mod ActLemmas
+pub mod ResetLemmas
 pub mod WaitLemmas

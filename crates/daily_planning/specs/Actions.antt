@@ -1,17 +1,21 @@
 -- What an action on an occurrence of the current plan changes.
-use Rattle.std.specs.Prelude.{◌≡◌, ◌≢◌, ℕ, [], ◌∷◌, List, Option, Some, None, nat_eq, if◌then◌else◌}
+use Rattle.std.specs.Prelude.{◌≡◌, ◌≢◌, ◌↔◌, ℕ, [], ◌∷◌, List, Contains, Option, Some, None, nat_eq, if◌then◌else◌}
 use Rattle.occurrences.specs.Status.{changed_status}
 use Rattle.occurrences.specs.declared.place.CurrentRow.{CurrentRow}
+use Rattle.occurrences.specs.declared.row.Row.{Row}
 use Rattle.occurrences.specs.declared.status.Action.{Action}
 use Rattle.occurrences.specs.declared.status.Action.TheVariants.{Start}
 use Rattle.occurrences.specs.declared.status.Status.{Status}
 use Rattle.occurrences.specs.declared.status.Status.TheVariants.{D}
+use Rattle.external_dependencies.specs.Change.{Leads}
+use Rattle.external_dependencies.specs.declared.change.PairChange.{PairChange}
 use Rattle.external_dependencies.specs.declared.pairs.Pair.{Pair}
 use Rattle.planner_machine.specs.Act.{IsLeastUncompleted, IsUncompleted, action_move}
 use Rattle.planner_machine.specs.Content.{Content}
 use Rattle.planner_machine.specs.Moves.{each}
 use Rattle.planner_machine.specs.Pairs.{ArePairs}
 use Rattle.plan_store.specs.Changes.{MovesNothing, pairs_after}
+use Rattle.plan_pairs.specs.RowPairs.{IsRowPair}
 use Rattle.plan_store.specs.declared.changes.Change.{Change}
 use Rattle.plan_store.specs.declared.changes.DefinitionChange.TheVariants.{AsBefore}
 
@@ -36,6 +40,14 @@ replaced changed x = if nat_eq x.row.serial changed.row.serial then changed else
 abbrev pub ArePairsActed : Content → Action → CurrentRow → List Pair → Type 0
 ArePairsActed c action changed pairs =
     ArePairs c.pairs c.in_force (each (action_move changed.row.key action) c.sets) pairs
+
+-- the change leads from the pairs that the row had to those that it has where it is open
+pub record LeadsToRowPairs (c : Content) (row : Row) (change : PairChange) : Type 0 where
+  pub had : List Pair
+  pub had_are : (pair : Pair) → Contains had pair ↔ (Contains c.pairs pair × (pair.successor ≡ row.serial))
+  pub now : List Pair
+  pub now_are : (pair : Pair) → Contains now pair ↔ IsRowPair c.in_force c.sets row pair
+  pub leads : Leads had now change
 
 -- one row of the current plan changes, the pairs follow, and all else stays
 pub record ChangesStatus (c : Content) (action : Action) (changed : CurrentRow) (change : Change) : Type 0 where

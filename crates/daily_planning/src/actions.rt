@@ -1,4 +1,5 @@
 ghost use Rattle.std.specs.Prelude.{◌≡◌, ◌≢◌, ◌↔◌, IfOk, IsTrue, None, Some, map};
+ghost use Rattle.occurrences.specs.declared.status.Action.{Action as ActionValue};
 ghost use Rattle.planner_machine.specs.Act.{cp_action as decided};
 ghost use Rattle.planner_machine.specs.Content.{Content};
 ghost use Rattle.planner_machine.specs.Pairs.{IsCompleteAt};
@@ -6,12 +7,11 @@ ghost use Rattle.planner_machine.specs.Sound.{AreNumbered, IsSound};
 ghost use Rattle.plan_store.specs.Changes.{pairs_after};
 ghost use Rattle.plan_store.specs.Verdicts.{VerdictIs};
 ghost use Rattle.plan_store.specs.Views.{IsCurrentRow, Shows, shown};
-ghost use Rattle.daily_planning.specs.Actions.{ArePairsActed, ChangesStatus, IsActedOn, WaitsFor, replaced};
-ghost use Rattle.daily_planning.specs.Statuses.{LeavesPairs};
+ghost use Rattle.daily_planning.specs.Actions.{ArePairsActed, ChangesStatus, IsActedOn, LeadsToRowPairs, WaitsFor, replaced};
 
 use external_dependencies::{PairChange, Pairs};
-use occurrences::{Action, CurrentRow, Key, Refusal, Reply, Serial, next_status};
-use plan_pairs::{live_rows, pair_change, single};
+use occurrences::{Action, CurrentRow, Key, Refusal, Reply, Row, Serial, next_status};
+use plan_pairs::{live_rows, pair_change, row_pairs_of, single};
 use plan_store::{Change, Need, Verdict, View};
 use std::alloc::{AllocError, Global};
 
@@ -122,25 +122,42 @@ fn acted_pairs(
     ensures { IfOk result (λ change. IsSound (shown view.now) → IsActedOn (shown view.now) action changed.now
         → ArePairsActed (shown view.now) action changed.now (pairs_after change (shown view.now).pairs)) }
 {
-    if leaves_pairs(action) {
-        return Ok(PairChange {
+    match action {
+        Action::Start | Action::Complete | Action::Fail => Ok(PairChange {
             removed: Pairs::new(alloc),
             added: Pairs::new(alloc),
-        });
+        }),
+        Action::Reset => reset_pairs(alloc, view, &changed.row),
+        Action::Delete => settled_change(alloc, view, changed),
     }
+}
+
+// The change of the pairs, where the row waits again: from those that it had to those with its nearest predecessors.
+// No pair of another row is looked at.
+fn reset_pairs(alloc: Global, view: &View<'_>, row: &Row) -> Result<PairChange, AllocError>
+    ensures { IfOk result (λ change. IsSound (shown view.now)
+        → LeadsToRowPairs (shown view.now) row.now change) }
+{
+    let mut had = Vec::new(alloc);
+    had.extend_from_slice(view.pairs().of_successor(row.serial))?;
+    let had = Pairs::from_vec(had);
+    let now = row_pairs_of(alloc, view, row)?;
+    PairChange::between(alloc, &had, &now)
+}
+
+// The change of the pairs from scratch, where the row of the current plan changes to this one.
+fn settled_change(
+    alloc: Global,
+    view: &View<'_>,
+    changed: &CurrentRow,
+) -> Result<PairChange, AllocError>
+    ensures { IfOk result (λ change. IsSound (shown view.now) → (action : ActionValue)
+        → IsActedOn (shown view.now) action changed.now
+        → ArePairsActed (shown view.now) action changed.now (pairs_after change (shown view.now).pairs)) }
+{
     let current = with_changed(alloc, view.cp(), *changed)?;
     let rows = live_rows(alloc, view.ltp(), current.as_slice(), view.history())?;
     pair_change(alloc, view.pairs(), &rows, view.in_force())
-}
-
-// Whether the action changes no pair.
-fn leaves_pairs(action: Action) -> bool
-    ensures { IsTrue result ↔ LeavesPairs action }
-{
-    match action {
-        Action::Start | Action::Complete | Action::Fail => true,
-        Action::Reset | Action::Delete => false,
-    }
 }
 
 // The rows, where the one of that serial is this one.

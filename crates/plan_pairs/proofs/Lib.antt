@@ -2,5 +2,6 @@ pub mod AdditionLemmas
 pub mod ChangeLemmas
 pub mod ListLemmas
 pub mod RowLemmas
+pub mod RowPairLemmas
 pub mod ScratchLemmas
 pub mod SetLemmas

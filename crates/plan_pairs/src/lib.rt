@@ -6,11 +6,13 @@
 mod additions;
 mod change;
 mod listing;
+mod row_pairs;
 mod scratch;
 mod singles;
 
 pub use additions::{Plan, add};
 pub use change::pair_change;
 pub use listing::live_rows;
+pub use row_pairs::row_pairs_of;
 pub use scratch::settled_pairs;
 pub use singles::single;

@@ -1,20 +1,18 @@
-use Rattle.std.proofs.Common.{◌∙◌, List, subst, sym}
+use Rattle.std.proofs.Common.{◌≡◌, inl, inr, sym, subst}
 use Rattle.std.specs.Prelude.{IfOk, Result, Ok, Err}
-use Rattle.occurrences.specs.declared.place.CurrentRow.{CurrentRow}
-use Rattle.external_dependencies.specs.Pair.{pair_cmp}
-use Rattle.external_dependencies.specs.Rising.{IsRising}
+use Rattle.occurrences.specs.declared.status.Action.{Action}
 use Rattle.external_dependencies.specs.declared.change.PairChange.{PairChange}
-use Rattle.external_dependencies.specs.declared.links.Link.{Link}
-use Rattle.external_dependencies.specs.declared.pairs.Pair.{Pair}
 use Rattle.planner_machine.specs.Act.{action_move}
 use Rattle.planner_machine.specs.Moves.{each}
 use Rattle.planner_machine.specs.Pairs.{ArePairs}
+use Rattle.planner_machine.specs.Sound.{IsSound}
 use Rattle.planner_machine.proofs.SoundLemmas.{rows_sound}
 use Rattle.plan_store.specs.Changes.{pairs_after}
 use Rattle.plan_store.specs.Views.{shown}
-use Rattle.plan_pairs.specs.LiveRows.{HasLists}
-use Rattle.daily_planning.proofs.ActLemmas.{lists_after}
+use Rattle.daily_planning.specs.Actions.{ArePairsActed, IsActedOn, LeadsToRowPairs}
+use Rattle.daily_planning.specs.Statuses.{LeavesPairs}
 use Rattle.daily_planning.proofs.ChangeLemmas.{no_pairs_move}
+use Rattle.daily_planning.proofs.ResetLemmas.{reset_are}
 use Rattle.daily_planning.proofs.StatusLemmas.{action_pairs}
 use Rattle.daily_planning.proofs.actions.acted_pairs.Goals as goal
 
@@ -22,20 +20,28 @@ weaker : {A E : Type 0} (r : Result A E) (P Q : A → Type 0) → ((a : A) → P
 weaker (Ok a) P Q f is = f a is
 weaker (Err e) P Q f is = tt
 
-pub returns-then-leaves_pairs : goal.returns-then-leaves_pairs
-returns-then-leaves_pairs c sound acted =
+pub returns-in-Start : goal.returns-in-Start
+returns-in-Start c sound acted =
     let content = shown c.args.view.now in
+    let action = c.args.action in
     let key = c.args.changed.now.row.key in
-    let change : PairChange = record { removed = c.new.result; added = c.new-then-leaves_pairs.result } in
-    let stay = action_pairs key c.args.action (c.leaves_pairs.ensures.0 c.if-leaves_pairs.true) content.sets (rows_sound content sound) content.in_force content.pairs sound.pairs.settled in
-    subst (ArePairs content.pairs content.in_force (each (action_move key c.args.action) content.sets)) (sym (no_pairs_move change c.new.ensures c.new-then-leaves_pairs.ensures content.pairs)) stay
+    let leaves : LeavesPairs action = elim c.in-Start.is [
+      | inl is ↦ subst LeavesPairs (sym is) tt
+      | inr more ↦ elim more [
+        | inl is ↦ subst LeavesPairs (sym is) tt
+        | inr is ↦ subst LeavesPairs (sym is) tt
+      ]
+    ] in
+    let change : PairChange = record { removed = c.new.result; added = c.new-in-Start.result } in
+    let stay = action_pairs key action leaves content.sets (rows_sound content sound) content.in_force content.pairs sound.pairs.settled in
+    subst (ArePairs content.pairs content.in_force (each (action_move key action) content.sets))
+    (sym (no_pairs_move change c.new.ensures c.new-in-Start.ensures content.pairs)) stay
 
-pub returns : goal.returns
-returns c = weaker c.pair_change.result _ _ (λ change are sound acted.
+pub returns-in-Reset : goal.returns-in-Reset
+returns-in-Reset c = weaker c.reset_pairs.result
+    (λ (change : PairChange). IsSound (shown c.args.view.now) → LeadsToRowPairs (shown c.args.view.now) c.args.changed.now.row change) _ (λ change leads sound acted.
     let content = shown c.args.view.now in
-    let s = each (action_move c.args.changed.now.row.key c.args.action) content.sets in
-    let has = lists_after content sound c.args.action c.args.changed.now acted c.cp.result.now c.cp.ensures.rows c.ltp.result.now c.ltp.ensures.rows c.history.result.now c.history.ensures in
-    let listed = subst (λ (list : List CurrentRow). HasLists s c.ltp.result.now list c.history.result.now) (sym (c.as_slice.ensures.value ∙ c.in_ok-current.ensures)) has in
-    let from = are s (c.in_ok-rows.ensures s listed) (subst (IsRising pair_cmp) (sym c.pairs.ensures) sound.pairs.settled.rising) in
-    let turned = subst (λ (ps : List Pair). ArePairs ps c.in_force.result.now s (pairs_after change ps)) c.pairs.ensures from in
-    subst (λ (ls : List Link). ArePairs content.pairs ls s (pairs_after change content.pairs)) c.in_force.ensures turned) c.pair_change.ensures
+    let changed = c.args.changed.now in
+    let reset = subst (λ (a : Action). IsActedOn content a changed) c.in-Reset.is acted in
+    subst (λ (a : Action). ArePairsActed content a changed (pairs_after change content.pairs)) (sym c.in-Reset.is)
+    (reset_are content sound changed reset change (leads sound))) c.reset_pairs.ensures
