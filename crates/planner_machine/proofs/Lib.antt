@@ -30,6 +30,8 @@ mod JobLemmas
 mod KeptLemmas
 mod StepLemmas
 mod StreamLemmas
+mod RerunLemmas
+mod TrialLemmas
 mod PlanLawLemmas
 mod RingLemmas
 mod EmptyLemmas

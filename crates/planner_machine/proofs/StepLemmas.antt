@@ -111,12 +111,12 @@ read_once : (kind : Kind) (given : Option (List ℕ)) (a b : Block) → AreRead 
 read_once kind None a b h k = absurd h
 read_once kind (Some text) a b h k = one_block kind text a b h k
 
-read_or_faulty : (kind : Kind) (given : Option (List ℕ)) (b : Block) (n : ℕ) → AreRead kind given b
+pub read_or_faulty : (kind : Kind) (given : Option (List ℕ)) (b : Block) (n : ℕ) → AreRead kind given b
     → IsFaulty kind given n → ⊥
 read_or_faulty kind None b n h k = h
 read_or_faulty kind (Some text) b n h k = never_both kind text b n h k
 
-faulty_once : (kind : Kind) (given : Option (List ℕ)) (m n : ℕ) → IsFaulty kind given m → IsFaulty kind given n → m ≡ n
+pub faulty_once : (kind : Kind) (given : Option (List ℕ)) (m n : ℕ) → IsFaulty kind given m → IsFaulty kind given n → m ≡ n
 faulty_once kind None m n h k = h ∙ sym k
 faulty_once kind (Some text) m n h k = one_fault kind text m n h k
 
@@ -217,7 +217,7 @@ pairs_once app = decides_one IsSound (list_pairs app) (λ c reply reply' c' c'' 
 )) (λ c q r sound h k same. absurd h)
 
 -- a trial is answered as its statement would be
-trial_as : (d : Decision Content) (c : Content) (a : Answer) (c' : Content) → Decides (trial d) c a c'
+pub trial_as : (d : Decision Content) (c : Content) (a : Answer) (c' : Content) → Decides (trial d) c a c'
     → (left : Content) × Decides d c a left × (c' ≡ c)
 trial_as d c (Ok reply) c' (none, (is, (left, does))) = (left, (none, does), is)
 trial_as d c (Err r) c' (least, is) = (c, (least, refl), is)
@@ -229,7 +229,7 @@ trial_once d once c a a' c' c'' sound h k =
     ((once c a a' left left' sound decides decides').0, is ∙ sym is')
 
 -- what only asks changes nothing
-asks_nothing : (d : Decision Content) → ((c : Content) (reply : Reply) (c' : Content) → d.Does c reply c' → c' ≡ c)
+pub asks_nothing : (d : Decision Content) → ((c : Content) (reply : Reply) (c' : Content) → d.Does c reply c' → c' ≡ c)
     → (c : Content) (a : Answer) (c' : Content) → Decides d c a c' → c' ≡ c
 asks_nothing d same c (Ok reply) c' (none, does) = same c reply c' does
 asks_nothing d same c (Err r) c' (least, is) = is

@@ -22,7 +22,9 @@ pub mod Moves
 pub mod Pairs
 pub mod Plans
 pub mod Replan
+pub mod Rerun
 pub mod Shown
 pub mod Sound
 pub mod Statement
 pub mod Stream
+pub mod Trials

@@ -4,9 +4,11 @@ ghost use Rattle.planner_machine.specs.Laws.{AnswersOnce, DailyIsFates, FollowsF
 ghost use Rattle.planner_machine.specs.Laws.{KeepsPairs, LeavesRefused, PairsHaveNoLoop, PredecessorsAreComplete};
 ghost use Rattle.planner_machine.specs.Laws.{StaysSound};
 ghost use Rattle.planner_machine.specs.Content.{nothing_known};
+ghost use Rattle.planner_machine.specs.Rerun.{RerunEndsAsEachRun, RerunEndsAsOneRun};
 ghost use Rattle.planner_machine.specs.Sound.{IsSound};
 ghost use Rattle.planner_machine.specs.Statement.{Change, DailyExtend, Replan};
 ghost use Rattle.planner_machine.specs.Stream.{RunsByFate, RunsOneWay, RunsSound};
+ghost use Rattle.planner_machine.specs.Trials.{TrialAnswersAsStatement, TrialLeaves};
 
 /// Law: on sound content a statement has one answer, and leaves one content.
 pub fn one_answer()
@@ -64,4 +66,19 @@ pub fn streams()
     ensures one_way { RunsOneWay }
     ensures sound { RunsSound }
     ensures by_fate { RunsByFate }
+{}
+
+/// Law: a stream that is run again from its start, on the content that a first part of it left, ends as one run of the
+/// whole stream, and each statement with a job number is answered as in that run; on sound content no other run of the
+/// whole stream ends otherwise.
+pub fn reruns()
+    ensures one_run { RerunEndsAsOneRun }
+    ensures each_run { RerunEndsAsEachRun }
+{}
+
+/// Law: a trial changes nothing, and is answered as its statement would be at that moment under a job number that is
+/// not known.
+pub fn trials()
+    ensures leaves { TrialLeaves }
+    ensures answers { TrialAnswersAsStatement }
 {}
