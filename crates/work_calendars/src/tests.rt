@@ -14,39 +14,126 @@ fn assert_row(rt: &impl Abort, holds: bool, text: &str) {
     assert!(rt; holds, "{text}");
 }
 
-// The number, the weekday and the text of the day that the text spells; zeros where it spells none.
-fn day_of(text: &str) -> (u32, u8, [u8; 10]) {
+fn spells_day(text: &str, number: u32, weekday: u8) -> Option<bool> {
+    let day = Day::from_text(text)?;
     let mut spelled = [0; 10];
-    match Day::from_text(text) {
-        Some(day) => {
-            day.write_text(&mut spelled);
-            (day.number(), day.weekday(), spelled)
-        }
-        None => (0, 0, spelled),
+    day.write_text(&mut spelled);
+    let is_it = day.number() == number && day.weekday() == weekday;
+    Some(is_it && spelled.as_slice() == text.as_bytes())
+}
+
+fn spells_minute(text: &str, number: u32) -> Option<bool> {
+    let minute = Minute::from_text(text)?;
+    let mut spelled = [0; 5];
+    minute.write_text(&mut spelled);
+    Some(minute.number() == number && spelled.as_slice() == text.as_bytes())
+}
+
+// Whether the text spells the moment of the number, which its day and minute make again.
+fn spells_moment(text: &str, number: u32) -> Option<bool> {
+    let moment = Moment::from_text(text)?;
+    let mut spelled = [0; 16];
+    moment.write_text(&mut spelled);
+    let again = Moment::new(moment.day(), moment.minute()) == moment
+        && Moment::from_number(moment.number()) == Some(moment);
+    Some(again && moment.number() == number && spelled.as_slice() == text.as_bytes())
+}
+
+fn spells_name(text: &str) -> Option<bool> {
+    Some(Name::from_text(text)?.as_str() == text)
+}
+
+fn spells_short(text: &str) -> Option<bool> {
+    Some(Short::from_text(text)?.as_str() == text)
+}
+
+// Whether the text spells the day, minute, moment, name or short name of the number and weekday; none where it spells
+// none.
+fn spells(kind: &str, text: &str, number: u32, weekday: u8) -> Option<bool> {
+    match kind {
+        "day" => spells_day(text, number, weekday),
+        "minute" => spells_minute(text, number),
+        "moment" => spells_moment(text, number),
+        "name" => spells_name(text),
+        _ => spells_short(text),
     }
 }
 
-// Day numbers and weekdays from an almanac, Monday 0.
+// The same of a row: the kind, the text, the number, and the weekday.
+fn row_is_spelled(row: &str) -> Option<bool> {
+    let mut words = row.split_whitespace();
+    let kind = words.next()?;
+    let text = words.next()?;
+    let number = words.next()?.parse().ok()?;
+    let weekday = words.next()?.parse().ok()?;
+    spells(kind, text, number, weekday)
+}
+
+// Days with their numbers and weekdays from an almanac, Monday 0; minutes and moments with their numbers.
 #[test]
-fn days_are_spelled(rt: HostRuntime) {
-    let almanac = [
-        ("1972-01-01", FIRST_NUMBER as u32, 5),
-        ("1972-02-29", 789, 1),
-        ("1999-12-31", 10956, 4),
-        ("2000-01-01", 10957, 5),
-        ("2000-02-29", 11016, 1),
-        ("2024-01-01", 19723, 0),
-        ("2024-02-29", 19782, 3),
-        ("2024-03-01", 19783, 4),
-        ("2068-12-31", LAST_PLANNING_NUMBER as u32, 0),
-        ("2071-12-31", LAST_NUMBER as u32, 3),
-    ];
-    for (text, number, weekday) in almanac {
-        let (found, on, spelled) = day_of(text);
-        let is_spelled = spelled.as_slice() == text.as_bytes();
-        assert_row(&rt, found == number && on == weekday && is_spelled, text);
+fn texts_are_spelled(rt: HostRuntime) {
+    for row in SPELLED.lines() {
+        assert_row(&rt, row_is_spelled(row) == Some(true), row);
     }
 }
+
+const SPELLED: &str = "\
+day 1972-01-01 730 5
+day 1972-02-29 789 1
+day 1999-12-31 10956 4
+day 2000-01-01 10957 5
+day 2000-02-29 11016 1
+day 2024-01-01 19723 0
+day 2024-02-29 19782 3
+day 2024-03-01 19783 4
+day 2068-12-31 36159 0
+day 2071-12-31 37254 3
+minute 00.00 0 0
+minute 00.59 59 0
+minute 01.00 60 0
+minute 08.05 485 0
+minute 23.59 1439 0
+moment 1972-01-01/00.00 1051200 0
+moment 2024-01-01/08.00 28401600 0
+moment 2071-12-31/23.59 53647199 0
+name A 0 0
+name PAY 0 0
+name Z9 0 0
+name @#$ 0 0
+name $0 0 0
+name A234567890123456 0 0
+short MORNING8 0 0";
+
+// Whether none of the texts after the kind spells anything.
+fn none_is_spelled(row: &str) -> bool {
+    let mut texts = row.split('|');
+    let kind = texts.next().unwrap_or("");
+    for text in texts {
+        if spells(kind, text, 0, 0).is_some() {
+            return false;
+        }
+    }
+    true
+}
+
+#[test]
+fn other_texts_spell_nothing(rt: HostRuntime) {
+    for row in UNSPELLED.lines() {
+        assert_row(&rt, none_is_spelled(row), row);
+    }
+}
+
+const UNSPELLED: &str = "\
+day||1971-12-31|2072-01-01|2024-02-30|2023-02-29
+day|2024-04-31|2024-00-10|2024-13-01|2024-01-00|2024-1-01
+day|2024-01-1|24-01-01| 2024-01-01|2024-01-01 |2024- 1-01
+day|+024-01-01|-024-01-01|2024-+1-01|2024/01/01|20240101
+day|2024-01-0x|2024-01-01/|12024-01-01|2024-01-é
+minute||24.00|23.60|8.00|08.0|08:00|0800| 8.00|+8.00|08.000|08.00 |0a.00|08.é
+moment||2024-01-01|2024-01-01 08.00|2024-01-01/24.00|2024-01-01/8.00|2024-02-30/08.00
+moment|1971-12-31/23.59|2072-01-01/00.00|2024-01-01/08.00 |2024-01-01/08.000
+name||1A|a|A B|A-B| A|A |A_|É|A2345678901234567
+short||9|MORNING89|noon";
 
 fn number_of(day: Option<Day>) -> u32 {
     match day {
@@ -57,8 +144,7 @@ fn number_of(day: Option<Day>) -> u32 {
 
 #[test]
 fn days_have_a_first_and_a_last(rt: HostRuntime) {
-    let first = FIRST_NUMBER as u32;
-    let last = LAST_NUMBER as u32;
+    let (first, last) = (FIRST_NUMBER as u32, LAST_NUMBER as u32);
     let found = [
         Day::FIRST.number(),
         Day::LAST.number(),
@@ -77,185 +163,19 @@ fn days_have_a_first_and_a_last(rt: HostRuntime) {
         number_of(Day::LAST.minus(last - first + 1)),
     ];
     let planned = LAST_PLANNING_NUMBER as u32;
+    let (second, earlier) = (first + 1, last - 1);
     let wanted = [
-        first,
-        last,
-        planned,
-        0,
-        first,
-        last,
-        0,
-        0,
-        first + 1,
-        last - 1,
-        0,
-        last,
-        0,
-        first,
-        0,
+        first, last, planned, 0, first, last, 0, 0, second, earlier, 0, last, 0, first, 0,
     ];
     assert_eq!(rt; found, wanted);
 }
 
 #[test]
-fn other_texts_are_no_days(rt: HostRuntime) {
-    let wrong = "|1971-12-31|2072-01-01|2024-02-30|2023-02-29|\
-                 2024-04-31|2024-00-10|2024-13-01|2024-01-00|2024-1-01|\
-                 2024-01-1|24-01-01| 2024-01-01|2024-01-01 |2024- 1-01|\
-                 +024-01-01|-024-01-01|2024-+1-01|2024/01/01|20240101|\
-                 2024-01-0x|2024-01-01/|12024-01-01|2024-01-é";
-    for text in wrong.split('|') {
-        assert_row(&rt, Day::from_text(text).is_none(), text);
-    }
-}
-
-// The number and the text of the minute that the text spells; 9999 where it spells none.
-fn minute_of(text: &str) -> (u32, [u8; 5]) {
-    let mut spelled = [0; 5];
-    match Minute::from_text(text) {
-        Some(minute) => {
-            minute.write_text(&mut spelled);
-            (minute.number(), spelled)
-        }
-        None => (9999, spelled),
-    }
-}
-
-#[test]
-fn minutes_are_spelled(rt: HostRuntime) {
-    for (text, number) in [
-        ("00.00", 0),
-        ("00.59", 59),
-        ("01.00", 60),
-        ("08.05", 485),
-        ("23.59", 1439),
-    ] {
-        let (found, spelled) = minute_of(text);
-        assert_row(
-            &rt,
-            found == number && spelled.as_slice() == text.as_bytes(),
-            text,
-        );
-    }
-}
-
-#[test]
-fn other_texts_are_no_minutes(rt: HostRuntime) {
-    for text in [
-        "", "24.00", "23.60", "8.00", "08.0", "08:00", "0800", " 8.00", "+8.00", "08.000",
-        "08.00 ", "0a.00", "08.é",
-    ] {
-        assert_row(&rt, Minute::from_text(text).is_none(), text);
-    }
-}
-
-#[test]
-fn minutes_have_a_last(rt: HostRuntime) {
-    let found = [Minute::from_number(1439), Minute::from_number(1440)];
-    assert_eq!(rt; found, [Some(Minute::LAST), None]);
-}
-
-// The number and the text of the moment that the text spells, and whether its day and minute, and its number, make it
-// again; 0 where it spells none.
-fn moment_of(text: &str) -> (u32, [u8; 16], bool) {
-    let mut spelled = [0; 16];
-    match Moment::from_text(text) {
-        Some(moment) => {
-            moment.write_text(&mut spelled);
-            let again = Moment::new(moment.day(), moment.minute()) == moment
-                && Moment::from_number(moment.number()) == Some(moment);
-            (moment.number(), spelled, again)
-        }
-        None => (0, spelled, false),
-    }
-}
-
-#[test]
-fn moments_are_spelled(rt: HostRuntime) {
-    for (text, number) in [
-        ("1972-01-01/00.00", 1_051_200),
-        ("2024-01-01/08.00", 28_401_600),
-        ("2071-12-31/23.59", 53_647_199),
-    ] {
-        let (found, spelled, again) = moment_of(text);
-        let is_spelled = spelled.as_slice() == text.as_bytes();
-        assert_row(&rt, found == number && again && is_spelled, text);
-    }
-}
-
-#[test]
-fn other_texts_are_no_moments(rt: HostRuntime) {
-    let wrong = [
-        "",
-        "2024-01-01",
-        "2024-01-01 08.00",
-        "2024-01-01/24.00",
-        "2024-01-01/8.00",
-        "2024-02-30/08.00",
-        "1971-12-31/23.59",
-        "2072-01-01/00.00",
-        "2024-01-01/08.00 ",
-        "2024-01-01/08.000",
-    ];
-    for text in wrong {
-        assert_row(&rt, Moment::from_text(text).is_none(), text);
-    }
-}
-
-#[test]
-fn moments_have_a_first_and_a_last(rt: HostRuntime) {
-    let found = [
-        Moment::from_number(1_051_199),
-        Moment::from_number(53_647_200),
-    ];
-    assert_eq!(rt; found, [None; 2]);
-}
-
-// Whether the name of the text spells it; none where the text is no name.
-fn spells_name(text: &str) -> Option<bool> {
-    Some(Name::from_text(text)?.as_str() == text)
-}
-
-fn spells_short(text: &str) -> Option<bool> {
-    Some(Short::from_text(text)?.as_str() == text)
-}
-
-#[test]
-fn names_are_spelled(rt: HostRuntime) {
-    for text in ["A", "PAY", "Z9", "@#$", "$0", "A234567890123456"] {
-        assert_row(&rt, spells_name(text) == Some(true), text);
-    }
-}
-
-#[test]
-fn other_texts_are_no_names(rt: HostRuntime) {
-    for text in [
-        "",
-        "1A",
-        "a",
-        "A B",
-        "A-B",
-        " A",
-        "A ",
-        "A_",
-        "É",
-        "A2345678901234567",
-    ] {
-        assert_row(&rt, Name::from_text(text).is_none(), text);
-    }
-}
-
-#[test]
-fn short_names_are_spelled(rt: HostRuntime) {
-    for (text, wanted) in [
-        ("MORNING8", Some(true)),
-        ("", None),
-        ("9", None),
-        ("MORNING89", None),
-        ("noon", None),
-    ] {
-        assert_row(&rt, spells_short(text) == wanted, text);
-    }
+fn minutes_and_moments_have_a_last(rt: HostRuntime) {
+    assert!(rt; Minute::from_number(1439) == Some(Minute::LAST));
+    assert!(rt; Minute::from_number(1440).is_none());
+    assert!(rt; Moment::from_number(1_051_199).is_none());
+    assert!(rt; Moment::from_number(53_647_200).is_none());
 }
 
 // How the names of two texts compare, and whether their short names are equal; none where a text is no name.
