@@ -198,8 +198,8 @@ pub joined-taken : {D E : Type 0} (fields : ℕ) (FitsName : Records → Record 
 joined-taken fields FitsName IsMadeOf m k d before row r e long named seen given tells =
     let was = defined-some IsMadeOf _ d (records_of k before) seen (given k) in
     IfOk-map r _ _ (λ taken told. (
-      λ yes. (long, rw (← e) named, rw (← e) (told.0 yes)),
-      λ fits. told.1 (rw e fits.2),
+      λ yes. record { complete = long; name = rw (← e) named; fits = rw (← e) (told.0 yes) },
+      λ good. told.1 (rw e good.fits),
     )) (tells (records_of k before) was.0 was.1)
 
 -- and the definitions are then those of the record too
@@ -223,8 +223,10 @@ pub begun-taken : {D : Type 0} (fields : ℕ) (FitsName : Records → Record →
     → (IsTrue begun ↔ FitsName [] row) → IsTrue begun ↔ FitsKind fields FitsName before row
 begun-taken fields FitsName IsMadeOf m k before row begun e long named none given told =
     let first : records_of (field row NAME) before ≡ [] =
-    rw (← e) (defined-none IsMadeOf _ (records_of k before) none (given k)) in
-    rw first (λ yes. (long, rw (← e) named, told.0 yes), λ fits. told.1 fits.2)
+    rw (← e) (defined-none IsMadeOf _ (records_of k before) none (given k)) in (
+      λ yes. record { complete = long; name = rw (← e) named; fits = rw first (told.0 yes) },
+      λ good. told.1 (rw first at good.fits),
+    )
 
 pub begun-gathered : {D : Type 0} (IsMadeOf : D → Records → Type 0)
     (m n : Definitions D) (k : List ℕ) (v : D) (before : Records) (row : Record)

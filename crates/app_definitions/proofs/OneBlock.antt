@@ -54,6 +54,8 @@ use Rattle.app_definitions.specs.declared.columns.TheConstants.{NAME, CALENDAR_E
 use Rattle.app_definitions.specs.declared.columns.TheConstants.{PERIOD_LENGTH, CYCLE_TYPE, CYCLE_RULE}
 use Rattle.app_definitions.specs.declared.columns.TheConstants.{CYCLE_IN_EFFECT, CYCLE_OUT_EFFECT, CYCLE_IA}
 use Rattle.app_definitions.specs.declared.columns.TheConstants.{CYCLE_DEADLINE_DAY, CYCLE_DEADLINE_TIME}
+use Rattle.app_definitions.specs.declared.columns.TheConstants.{APPLICATION_FIELDS, CALENDAR_FIELDS, PERIOD_FIELDS}
+use Rattle.app_definitions.specs.declared.columns.TheConstants.{PREDECESSOR_FIELDS, CYCLE_FIELDS}
 
 -- ---- first faulty records
 
@@ -99,8 +101,8 @@ same_truth false false P p q = refl
 
 one_application : (a b : Application) (rows : Records) → IsApplicationOf a rows → IsApplicationOf b rows → a ≡ b
 one_application a b rows p q =
-    let active : a.active ≡ b.active = same_truth a.active b.active _ p.0 q.0 in
-    let calendar : a.calendar ≡ b.calendar = p.1 ∙ sym q.1 in
+    let active : a.active ≡ b.active = same_truth a.active b.active _ p.active q.active in
+    let calendar : a.calendar ≡ b.calendar = p.calendar ∙ sym q.calendar in
     let by_active = λ (x : Bool). let r : Application = record { active = x; calendar = a.calendar } in r in
     let by_calendar = λ (x : Option (List ℕ)). let r : Application = record { active = b.active; calendar = x } in r in
     ap by_active active ∙ ap by_calendar calendar
@@ -311,11 +313,12 @@ abbrev AreApart : List ℕ → Record → Record → Type 0
 AreApart name r s = IsOf name r → IsOf name s → field r CALENDAR_ENTRY ≢ field s CALENDAR_ENTRY
 
 -- good records of one calendar have different entries
-rows_apart : (rows : Records) (name : List ℕ) → AllGood (FitsKind 3 FitsCalendar) rows → AllPairs (AreApart name) rows
+rows_apart : (rows : Records) (name : List ℕ) → AllGood (FitsKind CALENDAR_FIELDS FitsCalendar) rows
+    → AllPairs (AreApart name) rows
 rows_apart rows name good i j d lt within of_first of_second same =
     let row = get_or rows j [] in
     let earlier = get_or (take j rows) i d in
-    let fits : FitsCalendar (records_of (field row NAME) (take j rows)) row = (good j within).2 in
+    let fits : FitsCalendar (records_of (field row NAME) (take j rows)) row = (good j within).fits in
     let here : get_or rows j d ≡ row = get_or_default rows j d [] within in
     let there : earlier ≡ get_or rows i d = get_or-take j rows i d lt in
     let short : i < length (take j rows) = omega (arith, length-take j rows, lt, within) in
@@ -329,7 +332,7 @@ rows_apart rows name good i j d lt within of_first of_second same =
     (ap (λ r. field r CALENDAR_ENTRY) there ∙ same ∙ ap (λ r. field r CALENDAR_ENTRY) here)
 
 -- one record of a calendar is about an entry at most
-one_record : (rows : Records) (name : List ℕ) → AllGood (FitsKind 3 FitsCalendar) rows → (r s : Record)
+one_record : (rows : Records) (name : List ℕ) → AllGood (FitsKind CALENDAR_FIELDS FitsCalendar) rows → (r s : Record)
     → Contains (records_of name rows) r → Contains (records_of name rows) s
     → field r CALENDAR_ENTRY ≡ field s CALENDAR_ENTRY → r ≡ s
 one_record rows name good r s (i, li, ei) (j, lj, ej) same = at (three i j)
@@ -364,7 +367,8 @@ one_listed (Some s) None IsAbout rows one p q = absurd (q p.0 p.1 p.2)
 one_listed (Some s) (Some t) IsAbout rows one p q =
     ap Some (p.3 ∙ ap (λ r. status_of (field r CALENDAR_STATUS)) (one p.0 q.0 p.1 q.1 p.2 q.2) ∙ sym q.3)
 
-one_calendar : (rows : Records) (name : List ℕ) → AllGood (FitsKind 3 FitsCalendar) rows → (c d : CalendarEntries)
+one_calendar : (rows : Records) (name : List ℕ) → AllGood (FitsKind CALENDAR_FIELDS FitsCalendar) rows
+    → (c d : CalendarEntries)
     → IsCalendarOf c (records_of name rows) → IsCalendarOf d (records_of name rows) → c ≡ d
 one_calendar rows name good c d p q = ap (λ w. with_parts w c.dates) week ∙ ap (λ m. with_parts d.weekdays m) dates
   where
@@ -422,22 +426,22 @@ one_gives of fields FitsName IsMadeOf rows a b one p q =
 pub one_block : (k : Kind) (text : List ℕ) (a b : Block) → ReadsAs k text a → ReadsAs k text b → a ≡ b
 one_block kind.Applications text a b p q =
     let rows = block_records text in
-    one_gives block.Applications 3 FitsApplication IsApplicationOf rows a b
+    one_gives block.Applications APPLICATION_FIELDS FitsApplication IsApplicationOf rows a b
     (λ good name d e. one_application d e (records_of name rows)) p q
 one_block kind.Calendars text a b p q =
     let rows = block_records text in
-    one_gives block.Calendars 3 FitsCalendar IsCalendarOf rows a b
+    one_gives block.Calendars CALENDAR_FIELDS FitsCalendar IsCalendarOf rows a b
     (λ good name d e. one_calendar rows name good d e) p q
 one_block kind.Periods text a b p q =
     let rows = block_records text in
-    one_gives block.Periods 4 FitsPeriod IsPeriodOf rows a b
+    one_gives block.Periods PERIOD_FIELDS FitsPeriod IsPeriodOf rows a b
     (λ good name d e. one_period (records_of name rows) d e) p q
 one_block kind.Predecessors text a b p q =
     let rows = block_records text in
-    one_gives block.Predecessors 2 FitsPredecessors ArePredecessorsOf rows a b
+    one_gives block.Predecessors PREDECESSOR_FIELDS FitsPredecessors ArePredecessorsOf rows a b
     (λ good name d e. one_list d e (records_of name rows)) p q
 one_block kind.RunCycles text a b p q =
     let rows = block_records text in
-    one_gives block.RunCycles 11 FitsRunCycle AreRunCyclesOf rows a b
+    one_gives block.RunCycles CYCLE_FIELDS FitsRunCycle AreRunCyclesOf rows a b
     (λ good name d e. one_cycles d e (records_of name rows)) p q
 one_block kind.Options text a b p q = p.1 ∙ ap block.Options (one_options text p.0 q.0 p.2 q.2) ∙ sym q.1

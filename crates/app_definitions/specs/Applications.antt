@@ -9,13 +9,12 @@ use Rattle.app_definitions.specs.declared.columns.TheConstants.{APPLICATION_STAT
 
 -- a record after the earlier ones of its application: there are none, its status is A, active, or P, pending, and its
 -- calendar is a name or empty
-abbrev pub FitsApplication : Records → Record → Type 0
-FitsApplication before row = (before ≡ [])
-    × ((field row APPLICATION_STATUS ≡ codes "A") ⊎ (field row APPLICATION_STATUS ≡ codes "P"))
-    × IsEmptyOr IsName (field row APPLICATION_CALENDAR)
+pub record FitsApplication (before : Records) (row : Record) : Type 0 where
+  pub only : before ≡ []
+  pub status : (field row APPLICATION_STATUS ≡ codes "A") ⊎ (field row APPLICATION_STATUS ≡ codes "P")
+  pub calendar : IsEmptyOr IsName (field row APPLICATION_CALENDAR)
 
 -- the application that its one record gives
-abbrev pub IsApplicationOf : Application → Records → Type 0
-IsApplicationOf a rows =
-    (IsTrue a.active ↔ (field (get_or rows 0 []) APPLICATION_STATUS ≡ codes "A"))
-    × (a.calendar ≡ some_unless_empty (field (get_or rows 0 []) APPLICATION_CALENDAR))
+pub record IsApplicationOf (a : Application) (rows : Records) : Type 0 where
+  pub active : IsTrue a.active ↔ (field (get_or rows 0 []) APPLICATION_STATUS ≡ codes "A")
+  pub calendar : a.calendar ≡ some_unless_empty (field (get_or rows 0 []) APPLICATION_CALENDAR)

@@ -18,9 +18,10 @@ records_of name rows = filter (λ row. pointwise nat_eq (field row NAME) name) r
 
 -- a record of a kind whose records have that many fields is good after the records before it: it has so many, the first
 -- is a name, and the rest is good after the earlier records about that name
-abbrev pub FitsKind : ℕ → (Records → Record → Type 0) → Records → Record → Type 0
-FitsKind fields FitsName before row = (length row ≡ fields) × IsName (field row NAME)
-    × FitsName (records_of (field row NAME) before) row
+pub record FitsKind (fields : ℕ) (FitsName : Records → Record → Type 0) (before : Records) (row : Record) : Type 0 where
+  pub complete : length row ≡ fields
+  pub name : IsName (field row NAME)
+  pub fits : FitsName (records_of (field row NAME) before) row
 
 -- the definition of a name is the one that these records about it make, and there is none where there is no record
 abbrev pub IsDefinedBy : {D : Type 0} → (D → Records → Type 0) → Option D → Records → Type 0

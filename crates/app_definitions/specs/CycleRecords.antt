@@ -3,6 +3,7 @@
 use Rattle.std.specs.Prelude.{◌≡◌, ◌≤◌, ◌==◌, ℕ, ℤ, pos, neg_ℤ, Bool, false, List, [], ◌∷◌, drop, length, map, All}
 use Rattle.std.specs.Prelude.{Any, Contains, Some, None, codes, if◌then◌else◌}
 use Rattle.std.specs.List.{slice_split}
+use Rattle.std.specs.Str.{byte}
 use Rattle.run_cycles.specs.declared.cycles.Deadline.{Deadline}
 use Rattle.run_cycles.specs.declared.cycles.CycleType.{CycleType}
 use Rattle.run_cycles.specs.declared.cycles.CycleType.TheVariants.{Normal, Negative}
@@ -28,10 +29,10 @@ rule_text After = codes "2"
 rule_text Same = codes "3"
 rule_text Skip = codes "4"
 
--- the text begins with a minus sign (45)
+-- the text begins with a minus sign
 abbrev pub has_minus : List ℕ → Bool
 has_minus [] = false
-has_minus (b ∷ text) = b == 45
+has_minus (b ∷ text) = b == byte "-"
 
 -- the digits of an offset: all of its text, a minus sign aside
 abbrev pub offset_digits : List ℕ → List ℕ
@@ -49,9 +50,9 @@ IsDistanceText digits = IsNumberUpTo MAX_OFFSET digits × (1 ≤ number_value di
 abbrev pub IsOffsetText : List ℕ → Type 0
 IsOffsetText text = IsDistanceText (offset_digits text)
 
--- the pieces of a text between its blanks (32)
+-- the pieces of a text between its blanks
 abbrev pub pieces_of : List ℕ → List (List ℕ)
-pieces_of text = slice_split (λ b. b == 32) text
+pieces_of text = slice_split (λ b. b == byte " ") text
 
 -- the text spells 1 to 64 offsets, parted by one blank each
 pub record SpellsOffsets (text : List ℕ) (offsets : List ℤ) : Type 0 where

@@ -2,6 +2,7 @@
 use Rattle.std.specs.Prelude.{◌≡◌, ◌⊎◌, ◌+◌, ◌-◌, ◌*◌, ◌<◌, ◌≤◌, ℕ, List, [], ◌∷◌, get_or, slice_index, length, fold}
 use Rattle.std.specs.Prelude.{All, Option, Some, None}
 use Rattle.std.specs.Char.{IsAsciiDigit}
+use Rattle.std.specs.Str.{byte}
 use Rattle.work_calendars.specs.Spelling.{SpellsDay, SpellsMinute}
 use Rattle.app_definitions.specs.Records.{Record}
 
@@ -32,13 +33,13 @@ IsMinuteText text = (minute : ℕ) × SpellsMinute text minute
 
 -- the number that digits are in decimal
 abbrev pub number_value : List ℕ → ℕ
-number_value digits = fold (λ n digit. n * 10 + (digit - 48)) 0 digits
+number_value digits = fold (λ n digit. n * 10 + (digit - byte "0")) 0 digits
 
 -- decimal digits without a leading zero, 0 itself aside
 pub record IsNumber (text : List ℕ) : Type 0 where
   pub not_empty : 0 < length text
   pub digits : All IsAsciiDigit text
-  pub no_leading_zero : slice_index text 0 ≡ 48 → length text ≡ 1
+  pub no_leading_zero : slice_index text 0 ≡ byte "0" → length text ≡ 1
 
 -- the decimal digits of a number up to that one
 abbrev pub IsNumberUpTo : ℕ → List ℕ → Type 0

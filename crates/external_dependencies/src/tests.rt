@@ -5,137 +5,150 @@ use crate::{
     pairs_depend_on_set, pairs_have_no_loop, resolve_all, rising_is_unique,
 };
 use occurrences::{Key, Origin, Place, Reason, Row, Serial, Status};
-use std::alloc::{AllocError, Global};
+use std::alloc::Global;
 use std::fmt::Write;
-use std::test::Fail;
+use std::process::Abort;
 use work_calendars::{App, Moment};
 
+fn app(rt: &impl Abort, name: &str) -> App {
+    App::from_text(name).expect(rt, "a name")
+}
+
+fn serial(rt: &impl Abort, number: u32) -> Serial {
+    Serial::new(number).expect(rt, "a serial")
+}
+
 // One list of predecessors: an application, and the names in its list.
-fn push_list(links: &mut Vec<Link>, text: &str) -> Result<(), Fail> {
+fn push_list(rt: &impl Abort, links: &mut Vec<Link>, text: &str) {
     let mut names = text.split_whitespace();
-    let app = names.next().ok_or("no list")?;
-    for predecessor in names {
-        links.push(Link {
-            app: App::from_text(app).ok_or("no name")?,
-            predecessor: App::from_text(predecessor).ok_or("no name")?,
-        })?;
+    let owner = app(rt, names.next().expect(rt, "a list"));
+    for name in names {
+        let predecessor = app(rt, name);
+        links
+            .push(Link {
+                app: owner,
+                predecessor,
+            })
+            .expect(rt, "memory");
     }
-    Ok(())
 }
 
 // The lists of a text, parted by `;`.
-fn lists(alloc: Global, text: &str) -> Result<Links, Fail> {
+fn lists(rt: &impl Abort, alloc: Global, text: &str) -> Links {
     let mut links = Vec::new(alloc);
     for list in text.split(';') {
-        push_list(&mut links, list)?;
+        push_list(rt, &mut links, list);
     }
-    Ok(Links::from_vec(links))
+    Links::from_vec(links)
 }
 
-// The answer of `find_loop`; `-` for none.
-fn loop_in(alloc: Global, text: &str) -> Result<String, Fail> {
-    let links = lists(alloc, text)?;
-    match find_loop(alloc, &links)? {
-        Some(app) => Ok(String::from_str(alloc, app.as_str())?),
-        None => Ok(String::from_str(alloc, "-")?),
-    }
+// The least application on a loop of the lists, `-` for none.
+fn loop_in(rt: &impl Abort, alloc: Global, text: &str) -> App {
+    let links = lists(rt, alloc, text);
+    find_loop(alloc, &links)
+        .expect(rt, "memory")
+        .unwrap_or(app(rt, "NONE"))
 }
 
 // Lists, and the least application on a loop of them.
 #[test]
-fn loops_of_lists(rt: HostRuntime) -> Result<(), Fail> {
+fn loops_of_lists(rt: HostRuntime) {
     for (text, least) in [
         ("A B; B C; C B", "B"),
-        ("A A", "-"),
+        ("A A", "NONE"),
         ("A A B; B B A", "A"),
         ("A Q; P Q Z; Q R; R S; S P A2; Z S", "P"),
         ("Y Z; Z Y; A Y N; M N; N O; O M", "M"),
-        ("A B GONE; B GONE", "-"),
+        ("A B GONE; B GONE", "NONE"),
         (
             "A B; B C; C D; D E; E F; F G; G H; H I; I A B C D E F G H I",
             "A",
         ),
-        ("A B C; B D; C D; D E; E E", "-"),
+        ("A B C; B D; C D; D E; E E", "NONE"),
         ("A C; B C; C D; D E C; E F; F E", "C"),
     ] {
-        let found = loop_in(rt.alloc(), text)?;
+        let found = loop_in(&rt, rt.alloc(), text);
         assert_eq!(rt; found.as_str(), least, "in {text}");
     }
-    Ok(())
 }
 
 #[test]
-fn no_lists_have_no_loop(rt: HostRuntime) -> Result<(), Fail> {
+fn no_lists_have_no_loop(rt: HostRuntime) {
     let links = Links::new(rt.alloc());
-    assert_eq!(rt; find_loop(rt.alloc(), &links)?, None);
-    Ok(())
+    assert_eq!(rt; find_loop(rt.alloc(), &links).expect(&rt, "memory"), None);
 }
 
 // The edges of a graph of four nodes: from the first to the second, and the second and the third to one another and
 // on to the fourth.
-fn edges(alloc: Global) -> Result<Vec<Vec<usize>>, AllocError> {
+fn edges(rt: &impl Abort, alloc: Global) -> Vec<Vec<usize>> {
     let mut edges = Vec::new(alloc);
-    edges.push(vec![in alloc; 1]?)?;
-    edges.push(vec![in alloc; 2]?)?;
-    edges.push(vec![in alloc; 1, 3]?)?;
-    edges.push(Vec::new(alloc))?;
-    Ok(edges)
+    for ends in [
+        [1].as_slice(),
+        [2].as_slice(),
+        [1, 3].as_slice(),
+        [].as_slice(),
+    ] {
+        edges
+            .push(ends.to_vec(alloc).expect(rt, "memory"))
+            .expect(rt, "memory");
+    }
+    edges
 }
 
 // Answers don't rest on these numbers, but the time of `find_loop` does: components are closed from the end on.
 #[test]
-fn numbers_of_components(rt: HostRuntime) -> Result<(), Fail> {
-    let numbers = components(rt.alloc(), edges(rt.alloc())?.as_slice())?;
+fn numbers_of_components(rt: HostRuntime) {
+    let edges = edges(&rt, rt.alloc());
+    let numbers = components(rt.alloc(), edges.as_slice()).expect(&rt, "memory");
     assert_eq!(rt; numbers.as_slice(), [3, 1, 1, 0].as_slice());
-    Ok(())
 }
 
 // The links, as `APP PREDECESSOR;`.
-fn shown_links(alloc: Global, links: &[Link]) -> Result<String, Fail> {
+fn shown_links(rt: &impl Abort, alloc: Global, links: &[Link]) -> String {
     let mut text = String::new(alloc);
     for link in links {
         let app = link.app.as_str();
         let predecessor = link.predecessor.as_str();
-        write!(text, "{app} {predecessor};")?;
+        write!(text, "{app} {predecessor};").expect(rt, "memory");
     }
-    Ok(text)
+    text
 }
 
 #[test]
-fn lists_are_kept_in_order_and_once(rt: HostRuntime) -> Result<(), Fail> {
-    let alloc = rt.alloc();
-    let links = lists(alloc, "B C A; A B; B A")?;
-    let shown = shown_links(alloc, links.as_slice())?;
+fn lists_are_kept_in_order_and_once(rt: HostRuntime) {
+    let links = lists(&rt, rt.alloc(), "B C A; A B; B A");
+    let shown = shown_links(&rt, rt.alloc(), links.as_slice());
     assert_eq!(rt; shown.as_str(), "A B;B A;B C;");
-    let copied = shown_links(alloc, links.clone()?.as_slice())?;
+    let copy = links.clone().expect(&rt, "memory");
+    let copied = shown_links(&rt, rt.alloc(), copy.as_slice());
     assert_eq!(rt; copied.as_str(), "A B;B A;B C;");
     assert_eq!(rt; links.into_vec().len(), 3);
-    Ok(())
 }
 
-// The list of an application, and the links that name it, of these lists.
-fn both_sides(alloc: Global, app: &str) -> Result<String, Fail> {
-    let links = lists(alloc, "B C A; A B; D A")?;
-    let app = App::from_text(app).ok_or("no name")?;
-    let mut text = shown_links(alloc, links.list(&app))?;
-    let naming = links.naming(alloc, &app)?;
-    text.push_str("<")?;
-    text.push_str(shown_links(alloc, naming.as_slice())?.as_str())?;
-    Ok(text)
+// The list of an application, of these lists.
+fn list_text(rt: &impl Abort, alloc: Global, name: &str) -> String {
+    let links = lists(rt, alloc, "B C A; A B; D A");
+    shown_links(rt, alloc, links.list(&app(rt, name)))
+}
+
+// The links that name it, of the same lists.
+fn naming_text(rt: &impl Abort, alloc: Global, name: &str) -> String {
+    let links = lists(rt, alloc, "B C A; A B; D A");
+    let naming = links.naming(alloc, &app(rt, name)).expect(rt, "memory");
+    shown_links(rt, alloc, naming.as_slice())
 }
 
 #[test]
-fn links_of_an_application(rt: HostRuntime) -> Result<(), Fail> {
-    for (app, sides) in [
-        ("A", "A B;<B A;D A;"),
-        ("B", "B A;B C;<A B;"),
-        ("C", "<B C;"),
-        ("E", "<"),
+fn links_of_an_application(rt: HostRuntime) {
+    for (name, list, naming) in [
+        ("A", "A B;", "B A;D A;"),
+        ("B", "B A;B C;", "A B;"),
+        ("C", "", "B C;"),
+        ("E", "", ""),
     ] {
-        let found = both_sides(rt.alloc(), app)?;
-        assert_eq!(rt; found.as_str(), sides);
+        assert_eq!(rt; list_text(&rt, rt.alloc(), name).as_str(), list);
+        assert_eq!(rt; naming_text(&rt, rt.alloc(), name).as_str(), naming);
     }
-    Ok(())
 }
 
 // The minutes from the first to 2024-01-01/00.00.
@@ -179,37 +192,38 @@ fn row(text: &str) -> Option<PlacedRow> {
 }
 
 // The rows of a text, parted by `;`.
-fn rows(alloc: Global, text: &str) -> Result<Rows, Fail> {
+fn rows(rt: &impl Abort, alloc: Global, text: &str) -> Rows {
     let mut rows = Vec::new(alloc);
     for part in text.split(';') {
-        rows.push(row(part).ok_or("no row")?)?;
+        rows.push(row(part).expect(rt, "a row"))
+            .expect(rt, "memory");
     }
-    Ok(Rows::from_vec(rows))
+    Rows::from_vec(rows)
 }
 
 // The pairs, as `SUCCESSOR-PREDECESSOR;`.
-fn shown(alloc: Global, pairs: &[Pair]) -> Result<String, Fail> {
+fn shown(rt: &impl Abort, alloc: Global, pairs: &[Pair]) -> String {
     let mut text = String::new(alloc);
     for pair in pairs {
         let successor = pair.successor.get();
         let predecessor = pair.predecessor.get();
-        write!(text, "{successor}-{predecessor};")?;
+        write!(text, "{successor}-{predecessor};").expect(rt, "memory");
     }
-    Ok(text)
+    text
 }
 
 // The pairs from scratch of rows and lists.
-fn resolved(alloc: Global, row_text: &str, list_text: &str) -> Result<String, Fail> {
-    let rows = rows(alloc, row_text)?;
-    let links = lists(alloc, list_text)?;
-    let pairs = resolve_all(alloc, &rows, &links)?;
-    shown(alloc, pairs.as_slice())
+fn resolved(rt: &impl Abort, alloc: Global, row_text: &str, list_text: &str) -> String {
+    let rows = rows(rt, alloc, row_text);
+    let links = lists(rt, alloc, list_text);
+    let pairs = resolve_all(alloc, &rows, &links).expect(rt, "memory");
+    shown(rt, alloc, pairs.as_slice())
 }
 
 // Rows, lists and the pairs that they make: two days of two applications, a predecessor in history, a predecessor
 // before it is deleted, after, and with another added; who is open; and a ring of nine.
 #[test]
-fn pairs_from_scratch(rt: HostRuntime) -> Result<(), Fail> {
+fn pairs_from_scratch(rt: HostRuntime) {
     for (rows, lists, pairs) in [
         (
             "1 A 480 L; 2 B 480 L; 3 A 1920 L; 4 B 1920 L",
@@ -247,29 +261,26 @@ fn pairs_from_scratch(rt: HostRuntime) -> Result<(), Fail> {
             "1-2;2-3;3-4;4-5;5-6;6-7;7-8;8-9;9-1;9-2;9-3;9-4;9-5;9-6;9-7;9-8;",
         ),
     ] {
-        let found = resolved(rt.alloc(), rows, lists)?;
+        let found = resolved(&rt, rt.alloc(), rows, lists);
         assert_eq!(rt; found.as_str(), pairs, "of {rows} by {lists}");
     }
-    Ok(())
 }
 
 #[test]
-fn rows_in_and_out(rt: HostRuntime) -> Result<(), Fail> {
-    let alloc = rt.alloc();
-    let rows = rows(alloc, "1 A 480 L; 2 B 480 L; 3 A 1920 D")?;
+fn rows_in_and_out(rt: HostRuntime) {
+    let rows = rows(&rt, rt.alloc(), "1 A 480 L; 2 B 480 L; 3 A 1920 D");
     assert_eq!(rt; rows.as_slice().len(), 3);
-    assert_eq!(rt; Live::build(alloc, &rows)?.as_slice().len(), 2);
+    let live = Live::build(rt.alloc(), &rows).expect(&rt, "memory");
+    assert_eq!(rt; live.as_slice().len(), 2);
     assert_eq!(rt; rows.into_vec().len(), 3);
-    Ok(())
 }
 
 #[test]
-fn nothing_makes_no_pairs(rt: HostRuntime) -> Result<(), Fail> {
+fn nothing_makes_no_pairs(rt: HostRuntime) {
     let alloc = rt.alloc();
-    let none = resolve_all(alloc, &Rows::new(alloc), &Links::new(alloc))?;
+    let none = resolve_all(alloc, &Rows::new(alloc), &Links::new(alloc)).expect(&rt, "memory");
     assert_eq!(rt; none.as_slice(), Pairs::new(alloc).as_slice());
     assert_eq!(rt; none.into_vec().len(), 0);
-    Ok(())
 }
 
 #[test]
@@ -293,9 +304,9 @@ fn nearest_of(live: &Live, text: &str) -> Option<u32> {
 }
 
 #[test]
-fn nearest_by_place_and_arrival(rt: HostRuntime) -> Result<(), Fail> {
+fn nearest_by_place_and_arrival(rt: HostRuntime) {
     let text = "1 A 480 H; 2 A 1440 D; 3 A 1920 E; 4 C 480 D; 5 AB 480 L";
-    let live = Live::build(rt.alloc(), &rows(rt.alloc(), text)?)?;
+    let live = Live::build(rt.alloc(), &rows(&rt, rt.alloc(), text)).expect(&rt, "memory");
     assert_eq!(rt; live.as_slice().len(), 3);
     for (asked, serial) in [
         ("B 1920 A", 3),
@@ -311,31 +322,28 @@ fn nearest_by_place_and_arrival(rt: HostRuntime) -> Result<(), Fail> {
     ] {
         assert_eq!(rt; nearest_of(&live, asked), Some(serial), "of {asked}");
     }
-    Ok(())
 }
 
 // The pairs of these successors and predecessors.
-fn pairs(alloc: Global, numbers: &[(u32, u32)]) -> Result<Pairs, Fail> {
+fn pairs(rt: &impl Abort, alloc: Global, numbers: &[(u32, u32)]) -> Pairs {
     let mut pairs = Vec::new(alloc);
     for (successor, predecessor) in numbers {
-        pairs.push(Pair {
-            successor: Serial::new(*successor).ok_or("no serial")?,
-            predecessor: Serial::new(*predecessor).ok_or("no serial")?,
-        })?;
+        let pair = Pair {
+            successor: serial(rt, *successor),
+            predecessor: serial(rt, *predecessor),
+        };
+        pairs.push(pair).expect(rt, "memory");
     }
-    Ok(Pairs::from_vec(pairs))
+    Pairs::from_vec(pairs)
 }
 
 #[test]
-fn pairs_of_one_successor(rt: HostRuntime) -> Result<(), Fail> {
-    let alloc = rt.alloc();
-    let pairs = pairs(alloc, &[(3, 1), (2, 1), (4, 3), (4, 1)])?;
+fn pairs_of_one_successor(rt: HostRuntime) {
+    let pairs = pairs(&rt, rt.alloc(), &[(3, 1), (2, 1), (4, 3), (4, 1)]);
     for (successor, wanted) in [(1, ""), (2, "2-1;"), (3, "3-1;"), (4, "4-1;4-3;")] {
-        let serial = Serial::new(successor).ok_or("no serial")?;
-        let found = shown(alloc, pairs.of_successor(serial))?;
-        assert_eq!(rt; found.as_str(), wanted);
+        let found = pairs.of_successor(serial(&rt, successor));
+        assert_eq!(rt; shown(&rt, rt.alloc(), found).as_str(), wanted);
     }
-    Ok(())
 }
 
 // How many follow one predecessor, and the least of them; 0 where there is none.
@@ -348,33 +356,37 @@ fn following(followers: &Followers, predecessor: u32) -> Option<(usize, u32)> {
 }
 
 #[test]
-fn pairs_of_one_predecessor(rt: HostRuntime) -> Result<(), Fail> {
-    let alloc = rt.alloc();
-    let followers = Followers::build(alloc, &pairs(alloc, &[(3, 1), (2, 1), (4, 3), (4, 1)])?)?;
+fn pairs_of_one_predecessor(rt: HostRuntime) {
+    let pairs = pairs(&rt, rt.alloc(), &[(3, 1), (2, 1), (4, 3), (4, 1)]);
+    let followers = Followers::build(rt.alloc(), &pairs).expect(&rt, "memory");
     for (predecessor, wanted) in [(1, (3, 2)), (2, (0, 0)), (3, (1, 4)), (4, (0, 0))] {
         assert_eq!(rt; following(&followers, predecessor), Some(wanted));
     }
-    Ok(())
 }
 
 // What goes from the first pairs to the second, and what comes.
-fn changed(alloc: Global, old: &Pairs, new: &Pairs) -> Result<String, Fail> {
-    let change = PairChange::between(alloc, old, new)?;
-    let mut text = shown(alloc, change.removed.as_slice())?;
-    text.push_str("+")?;
-    text.push_str(shown(alloc, change.added.as_slice())?.as_str())?;
-    Ok(text)
+fn changed(rt: &impl Abort, alloc: Global, old: &Pairs, new: &Pairs) -> (String, String) {
+    let change = PairChange::between(alloc, old, new).expect(rt, "memory");
+    (
+        shown(rt, alloc, change.removed.as_slice()),
+        shown(rt, alloc, change.added.as_slice()),
+    )
 }
 
 // A row is deleted, and one that arrives earlier is added in its place.
 #[test]
-fn pairs_that_go_and_come(rt: HostRuntime) -> Result<(), Fail> {
-    let alloc = rt.alloc();
-    let old = pairs(alloc, &[(2, 1), (3, 1), (4, 3)])?;
-    let new = pairs(alloc, &[(2, 5), (3, 5), (4, 3)])?;
-    let change = changed(alloc, &old, &new)?;
-    assert_eq!(rt; change.as_str(), "2-1;3-1;+2-5;3-5;");
-    let none = changed(alloc, &old, &old.clone()?)?;
-    assert_eq!(rt; none.as_str(), "+");
-    Ok(())
+fn pairs_that_go_and_come(rt: HostRuntime) {
+    let old = pairs(&rt, rt.alloc(), &[(2, 1), (3, 1), (4, 3)]);
+    let new = pairs(&rt, rt.alloc(), &[(2, 5), (3, 5), (4, 3)]);
+    let (removed, added) = changed(&rt, rt.alloc(), &old, &new);
+    assert_eq!(rt; removed.as_str(), "2-1;3-1;");
+    assert_eq!(rt; added.as_str(), "2-5;3-5;");
+}
+
+#[test]
+fn equal_pairs_change_nothing(rt: HostRuntime) {
+    let old = pairs(&rt, rt.alloc(), &[(2, 1), (3, 1), (4, 3)]);
+    let (removed, added) = changed(&rt, rt.alloc(), &old, &old.clone().expect(&rt, "memory"));
+    assert_eq!(rt; removed.as_str(), "");
+    assert_eq!(rt; added.as_str(), "");
 }

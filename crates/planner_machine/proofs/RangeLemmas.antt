@@ -74,7 +74,7 @@ module _ {D : Type 0} (fields : ℕ) (FitsName : Records → Record → Type 0) 
       let (row, there) = some_element (records_of name rows) some in
       let at = record_in name rows row there in
       let (before, fits) = good_row (FitsKind fields FitsName) rows row good at.0 in
-      subst IsName at.1 fits.1
+      subst IsName at.1 fits.name
 
 -- the links of defined lists are of names
 pub link_names : (all : Definitions) → AreDefinitions all → (link : Link) → IsDefinedLink all link → IsName link.app
@@ -98,7 +98,7 @@ link_names all are link (names, is, listed) =
         let row : List (List ℕ) = get_or some k [] in
         let (before, fits) = good_row (FitsKind PREDECESSOR_FIELDS FitsPredecessors) rows (get_or some k []) good
         (all_in (get_or some k []) (Contains-get_or some k [] within)) in
-        subst IsName (sym (get_or-map (λ (row : Record). field row PREDECESSOR) some k [] name within) ∙ is) fits.2.0
+        subst IsName (sym (get_or-map (λ (row : Record). field row PREDECESSOR) some k [] name within) ∙ is) fits.fits.0
 
 -- the run cycles of an application have their ranges
 pub record CycleRanges (cycle : RunCycle) : Type 0 where

@@ -73,7 +73,7 @@ loop-row-preserved g c =
       s.2,
       s.0.2 ∙ inv.3,
       flexible ∙ inv.4,
-      rw expects (fits.0),
+      rw expects fits.complete,
       inv.6 ++ fields_of c.in-Ok.record ∷ [],
       omega (arith, inv.7, length-append inv.6 (fields_of c.in-Ok.record ∷ [])),
       AllGood-more (FitsKind g.D.Definition.FIELDS g.D.Definition.FitsName) inv.6 (fields_of c.in-Ok.record) inv.8 fits,
@@ -91,7 +91,7 @@ returns-in-Err-clause-faulty g c =
     (List ℕ)). Some s.now) c.loop-row.row-iterator.rdr c.next.new.self.rdr c.in-Err.error.kind
     (strip_bom c.args.text.now) inv.10 inv.6
     (FitsKind g.D.Definition.FIELDS g.D.Definition.FitsName) g.D.Definition.FIELDS (c.loop-row.number + 1)
-    (λ before row fits. fits.0) inv.3 inv.11 inv.12 inv.5 inv.8 (omega (arith, inv.7)) s)
+    (λ before row fits. fits.complete) inv.3 inv.11 inv.12 inv.5 inv.8 (omega (arith, inv.7)) s)
 
 pub returns-clause-good : goal.returns-clause-good
 returns-clause-good g c =
