@@ -1,5 +1,6 @@
 mod AlikeLemmas
 mod ArrivalLemmas
+pub mod FitLemmas
 mod JobLemmas
 pub mod LookLemmas
 mod MoveLemmas

@@ -1,6 +1,4 @@
 -- The content that a value of the program stands for.
-use Rattle.std.specs.Prelude.{[], None}
-use Rattle.app_definitions.specs.Definitions.{no_definitions}
 use Rattle.occurrences.specs.declared.place.Deletion.{Deletion}
 use Rattle.occurrences.specs.declared.row.Row.{Row}
 use Rattle.planner_machine.specs.Content.{Content}
@@ -24,14 +22,4 @@ content_of kept = record {
   in_force = kept.in_force;
   pairs = kept.pairs;
   jobs = look_up (λ (job : Job). job.number) kept.jobs.items;
-}
-
--- nothing is defined, planned or kept
-abbrev pub no_content : Content
-no_content = record {
-  definitions = no_definitions;
-  sets = record { bounds = None; issued = 0; ltp = λ serial. None; cp = λ serial. None; history = λ serial. None; deletions = λ serial. None };
-  in_force = [];
-  pairs = [];
-  jobs = λ number. None;
 }

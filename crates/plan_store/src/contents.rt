@@ -62,13 +62,14 @@ ghost use Rattle.plan_store.specs.declared.room.Room.{Room as RoomValue};
 
 impl Content {
     ghost use Rattle.plan_store.specs.Changes.{Fits, after};
-    ghost use Rattle.plan_store.specs.Contents.{content_of, no_content};
+    ghost use Rattle.planner_machine.specs.Content.{nothing_known};
+    ghost use Rattle.plan_store.specs.Contents.{content_of};
     ghost use Rattle.plan_store.specs.Room.{HasRoom, HasRowRoom, HasSame, with_definitions, with_pairs_of};
     ghost use Rattle.plan_store.specs.declared.changes.DefinitionChange.TheVariants.{AsBefore};
 
     /// What a planner knows that was told nothing.
     pub fn new(alloc: Global) -> Content
-        ensures { content_of result ≡ no_content }
+        ensures { content_of result ≡ nothing_known }
     {
         Content {
             definitions: Definitions::new(alloc),

@@ -14,18 +14,26 @@ pub struct ListStore {
 impl ListStore {
     ghost use Rattle.std.specs.Prelude.{◌≡◌, option_copied};
     ghost use Rattle.planner_machine.specs.Sound.{IsSound};
-    ghost use Rattle.plan_store.specs.Contents.{content_of, no_content};
+    ghost use Rattle.planner_machine.specs.Content.{nothing_known};
+    ghost use Rattle.plan_store.specs.Contents.{content_of};
     ghost use Rattle.plan_store.specs.Lists.{listed};
 
     /// A store of what a planner knows that was told nothing.
     pub fn new(alloc: Global) -> ListStore
-        ensures empty { listed result ≡ no_content }
+        ensures empty { listed result ≡ nothing_known }
         ensures sound { IsSound (listed result) }
     {
         empty_content_is_sound();
         ListStore {
             content: Content::new(alloc),
         }
+    }
+
+    /// A store of this content.
+    pub fn from_content(content: Content) -> ListStore
+        ensures { listed result ≡ content_of content }
+    {
+        ListStore { content }
     }
 
     /// The content as a value.
