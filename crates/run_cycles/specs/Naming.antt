@@ -1,6 +1,7 @@
--- Words of private contracts alone, for the walk over all that run cycles name: a naming is a day and time, with what the
--- run cycle gives there, or none where it takes away.
-use Rattle.std.specs.Prelude.{◌≡◌, ℕ, ◌+◌, ◌<◌, ◌⊎◌, ◌↔◌, Bool, List, length, slice_index_or, Any, AllPairs, Contains, Option, Some, None, IsSomeAnd}
+-- Words of private contracts alone, for the walk over all that run cycles name: a naming is a day and time, with what
+-- the run cycle gives there, or none where it takes away.
+use Rattle.std.specs.Prelude.{◌≡◌, ℕ, ◌+◌, ◌<◌, ◌⊎◌, ◌↔◌, Bool, List, length, slice_index_or}
+use Rattle.std.specs.Prelude.{Any, AllPairs, Contains, Option, Some, None, IsSomeAnd}
 use Rattle.std.specs.FinMap as map
 use Rattle.plan_periods.specs.declared.periods.Period.{Period}
 use Rattle.run_cycles.specs.declared.cycles.CycleType.{CycleType}

@@ -1,4 +1,5 @@
-ghost use Rattle.std.specs.Prelude.{◌≡◌, ℕ, ◌↔◌, ◌+◌, ◌<◌, ◌≤◌, All, Some, IfOk, IfSome, IsTrue, length, slice_index, slice_index_or};
+ghost use Rattle.std.specs.Prelude.{◌≡◌, ℕ, ◌↔◌, ◌+◌, ◌<◌, ◌≤◌, All, Some, IfOk, IfSome, IsTrue};
+ghost use Rattle.std.specs.Prelude.{length, slice_index_or};
 ghost use Rattle.work_calendars.specs.Day.{last_planning_day};
 ghost use Rattle.work_calendars.specs.WorkIndex.{is_work_in};
 ghost use Rattle.run_cycles.specs.declared.named.Named.{Named};
@@ -81,7 +82,8 @@ fn all_decided(alloc: Global, namings: &[Naming]) -> Result<Vec<Named>, AllocErr
     Ok(list)
 }
 
-/// The named occurrences of the days from `from` to `to`, by day and time, none twice; none where `to` is before `from`.
+/// The named occurrences of the days from `from` to `to`, by day and time, none twice; none where `to` is before
+/// `from`.
 ///
 /// An occurrence is at a day and time at which some run cycle of type N names the day and no run cycle of type X does.
 /// With it go the run cycle of least name among those of type N, and its deadline. The run cycles are those of one

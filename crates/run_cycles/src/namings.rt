@@ -2,7 +2,8 @@ ghost use Rattle.std.specs.Prelude.{◌≡◌, ℕ, ◌↔◌, ◌≤◌, Any, A
 ghost use Rattle.work_calendars.specs.WorkIndex.{is_work_in};
 ghost use Rattle.plan_periods.specs.Period.{IsSoundPeriod};
 ghost use Rattle.run_cycles.specs.declared.namings.Naming.{Naming};
-ghost use Rattle.run_cycles.specs.Naming.{AddsNamings, InOrder, IsNamingOf, IsNamingWith, RisesByDay, given_by, naming_on};
+ghost use Rattle.run_cycles.specs.Naming.{AddsNamings, InOrder, IsNamingOf, IsNamingWith, RisesByDay};
+ghost use Rattle.run_cycles.specs.Naming.{given_by, naming_on};
 
 use crate::{CycleType, Deadline, JumpDays, Periods, RunCycle};
 use itertools::Itertools;
@@ -18,9 +19,9 @@ pub(crate) struct Given {
     pub(crate) deadline: Deadline,
 }
 
-/// A day and time that a run cycle names, with what it gives there, or none where it takes away. In their order those of
-/// one day and time stand together, what is taken away before what is given, and what is given by the names of its run
-/// cycles. So the first of them decides.
+/// A day and time that a run cycle names, with what it gives there, or none where it takes away. In their order those
+/// of one day and time stand together, what is taken away before what is given, and what is given by the names of its
+/// run cycles. So the first of them decides.
 #[derive(Clone, Copy, Debug, PartialEq, Eq, PartialOrd, Ord)]
 pub(crate) struct Naming {
     pub(crate) day: Day,

@@ -5,6 +5,7 @@ use crate::{CycleType, Deadline, Named, Offsets, Periods, Rule, RunCycle, genera
 use plan_periods::{Origins, Period};
 use std::alloc::{AllocError, Global};
 use std::process::Abort;
+use std::str::SplitWhitespace;
 use work_calendars::{Calendar, Day, DayStatus, Minute, Short, Weekday, WorkIndex};
 
 mod jump;
@@ -31,123 +32,153 @@ fn two_days(rt: &impl Abort, text: &str) -> (Day, Day) {
     (from, day(rt, words.next().unwrap_or("")))
 }
 
-// Every day is a work day.
-fn no_calendar(alloc: Global) -> Calendar {
-    Calendar::new(alloc)
+// The weekday of a digit, 1 for Monday.
+fn weekday_of(digit: u8) -> Option<Weekday> {
+    match digit {
+        b'1' => Some(Weekday::Monday),
+        b'2' => Some(Weekday::Tuesday),
+        b'3' => Some(Weekday::Wednesday),
+        b'4' => Some(Weekday::Thursday),
+        b'5' => Some(Weekday::Friday),
+        b'6' => Some(Weekday::Saturday),
+        b'7' => Some(Weekday::Sunday),
+        _ => None,
+    }
 }
 
-// Saturdays and Sundays are free.
-fn weekdays(alloc: Global) -> Calendar {
-    let mut calendar = Calendar::new(alloc);
-    calendar.set_weekday(Weekday::Saturday, DayStatus::Free);
-    calendar.set_weekday(Weekday::Sunday, DayStatus::Free);
-    calendar
+// Sets the weekdays of these digits free.
+fn set_weekdays_free(calendar: &mut Calendar, digits: &str) {
+    for digit in digits.bytes() {
+        if let Some(weekday) = weekday_of(digit) {
+            calendar.set_weekday(weekday, DayStatus::Free);
+        }
+    }
 }
 
-// No day is a work day.
-fn no_work(alloc: Global) -> Calendar {
-    let mut calendar = weekdays(alloc);
-    calendar.set_weekday(Weekday::Monday, DayStatus::Free);
-    calendar.set_weekday(Weekday::Tuesday, DayStatus::Free);
-    calendar.set_weekday(Weekday::Wednesday, DayStatus::Free);
-    calendar.set_weekday(Weekday::Thursday, DayStatus::Free);
-    calendar.set_weekday(Weekday::Friday, DayStatus::Free);
-    calendar
-}
-
-// Sets these days free.
-fn set_free(rt: &impl Abort, calendar: &mut Calendar, dates: &str) -> Result<(), AllocError> {
+// Sets these dates free, and those after a `+` to work.
+fn set_dates(rt: &impl Abort, calendar: &mut Calendar, dates: &str) -> Result<(), AllocError> {
     for date in dates.split_whitespace() {
-        calendar.set_date(day(rt, date), DayStatus::Free)?;
+        match date.strip_prefix('+') {
+            Some(date) => calendar.set_date(day(rt, date), DayStatus::Work)?,
+            None => calendar.set_date(day(rt, date), DayStatus::Free)?,
+        }
     }
     Ok(())
 }
 
-fn offsets_of(rt: &impl Abort, alloc: Global, items: &[i16]) -> Result<Offsets, AllocError> {
-    let items = Vec::from_slice(alloc, items)?;
+// The calendar whose free weekdays, by their digits or `-` for none, and dates the text gives.
+fn calendar_of(rt: &impl Abort, alloc: Global, text: &str) -> Result<Calendar, AllocError> {
+    let (digits, dates) = text.split_once(' ').unwrap_or((text, ""));
+    let mut calendar = Calendar::new(alloc);
+    set_weekdays_free(&mut calendar, digits);
+    set_dates(rt, &mut calendar, dates)?;
+    Ok(calendar)
+}
+
+fn index_of(rt: &impl Abort, alloc: Global, text: &str) -> Result<WorkIndex, AllocError> {
+    let calendar = calendar_of(rt, alloc, text)?;
+    WorkIndex::build(alloc, &calendar)
+}
+
+fn push_offset(
+    rt: &impl Abort,
+    offsets: &mut Vec<i16>,
+    offset: &str,
+    times: usize,
+) -> Result<(), AllocError> {
+    let offset: i16 = offset.parse().ok().expect(rt, "an offset");
+    for _ in 0..times {
+        offsets.push(offset)?;
+    }
+    Ok(())
+}
+
+// Offsets parted by commas, or so many times one, as `64x999`.
+fn push_offsets(rt: &impl Abort, offsets: &mut Vec<i16>, text: &str) -> Result<(), AllocError> {
+    if let Some((times, offset)) = text.split_once('x') {
+        let times = times.parse().ok().expect(rt, "a number");
+        return push_offset(rt, offsets, offset, times);
+    }
+    for offset in text.split(',') {
+        push_offset(rt, offsets, offset, 1)?;
+    }
+    Ok(())
+}
+
+fn offsets_of(rt: &impl Abort, alloc: Global, text: &str) -> Result<Offsets, AllocError> {
+    let mut items = Vec::new(alloc);
+    push_offsets(rt, &mut items, text)?;
     Ok(Offsets::from_vec(items).expect(rt, "offsets"))
 }
 
-// The run cycle `PAY,RC,N,WEEK,RULE,OFFSETS,2024-01-01,,08.00,0,18.00`.
-fn pay(
-    rt: &impl Abort,
-    alloc: Global,
-    rule: Rule,
-    offsets: &[i16],
-) -> Result<RunCycle, AllocError> {
-    let time = minute(rt, "18.00");
-    let (name, period) = (short(rt, "RC"), short(rt, "WEEK"));
-    let (in_effect, ia) = (day(rt, "2024-01-01"), minute(rt, "08.00"));
+fn rule_of(text: &str) -> Rule {
+    match text {
+        "E" => Rule::WorkDaysOnly,
+        "1" => Rule::Before,
+        "2" => Rule::After,
+        "3" => Rule::Same,
+        _ => Rule::Skip,
+    }
+}
+
+// The day, or none for `-`.
+fn day_or_none(rt: &impl Abort, text: &str) -> Option<Day> {
+    if text == "-" {
+        None
+    } else {
+        Some(day(rt, text))
+    }
+}
+
+fn word<'a>(words: &mut SplitWhitespace<'a>) -> &'a str {
+    words.next().unwrap_or("")
+}
+
+// A day after that of the occurrence, and a time.
+fn deadline_of(rt: &impl Abort, words: &mut SplitWhitespace<'_>) -> Deadline {
+    let days = word(words).parse().ok().expect(rt, "a number of days");
+    let time = minute(rt, word(words));
+    Deadline { days, time }
+}
+
+// A run cycle by its name, rule, offsets, the days from which on and before which it is in effect (`-` for none), time,
+// and deadline; one whose name begins with X takes away.
+fn cycle_of(rt: &impl Abort, alloc: Global, text: &str) -> Result<RunCycle, AllocError> {
+    let mut words = text.split_whitespace();
+    let name = word(&mut words);
+    let rule = rule_of(word(&mut words));
+    let offsets = offsets_of(rt, alloc, word(&mut words))?;
+    let in_effect = day(rt, word(&mut words));
+    let out_effect = day_or_none(rt, word(&mut words));
+    let ia = minute(rt, word(&mut words));
+    let deadline = deadline_of(rt, &mut words);
+    let kind = if name.starts_with('X') {
+        CycleType::Negative(None)
+    } else {
+        CycleType::Normal(deadline)
+    };
     Ok(RunCycle {
-        name,
-        kind: CycleType::Normal(Deadline { days: 0, time }),
-        period,
+        name: short(rt, name),
+        kind,
+        period: short(rt, "WEEK"),
         rule,
-        offsets: offsets_of(rt, alloc, offsets)?,
+        offsets,
         in_effect,
-        out_effect: None,
+        out_effect,
         ia,
     })
 }
 
-// The same, in effect from the first day of the text to the day before the second.
-fn pay_within(
-    rt: &impl Abort,
-    alloc: Global,
-    rule: Rule,
-    offsets: &[i16],
-    effect: &str,
-) -> Result<RunCycle, AllocError> {
-    let (in_effect, out_effect) = two_days(rt, effect);
-    let mut cycle = pay(rt, alloc, rule, offsets)?;
-    cycle.in_effect = in_effect;
-    cycle.out_effect = Some(out_effect);
-    Ok(cycle)
-}
-
-// The period `WEEK` alone.
-fn periods_of(rt: &impl Abort, alloc: Global, period: Period) -> Result<Periods, AllocError> {
-    let name = short(rt, "WEEK");
-    assert!(rt; period.check().is_ok());
-    let mut periods = Periods::new(alloc);
-    periods.insert(name, period)?;
-    Ok(periods)
-}
-
-// Intervals of so many days, from the origin on.
-fn of_days(
-    rt: &impl Abort,
-    alloc: Global,
-    origin: &str,
-    interval: u16,
-) -> Result<Periods, AllocError> {
-    let origin = day(rt, origin);
-    periods_of(rt, alloc, Period::All { origin, interval })
-}
-
-// Intervals of so many work days.
-fn of_work_days(
-    rt: &impl Abort,
-    alloc: Global,
-    origin: &str,
-    interval: u16,
-) -> Result<Periods, AllocError> {
-    let origin = day(rt, origin);
-    periods_of(rt, alloc, Period::Work { origin, interval })
-}
-
-// Origin and end, `-` for none.
-fn origin_of(rt: &impl Abort, entry: &str) -> (Day, Option<Day>) {
-    let (origin, end) = entry.split_once(' ').unwrap_or(("", ""));
-    let origin = day(rt, origin);
-    if end == "-" {
-        (origin, None)
-    } else {
-        (origin, Some(day(rt, end)))
+// Run cycles parted by `;`.
+fn cycles_of(rt: &impl Abort, alloc: Global, text: &str) -> Result<Vec<RunCycle>, AllocError> {
+    let mut cycles = Vec::new(alloc);
+    for cycle in text.split(';') {
+        cycles.push(cycle_of(rt, alloc, cycle)?)?;
     }
+    Ok(cycles)
 }
 
-// Intervals by origin and end, parted by `;`.
+// Intervals by origin and end, `-` for none, parted by `;`.
 fn origins_of(
     rt: &impl Abort,
     alloc: Global,
@@ -155,14 +186,35 @@ fn origins_of(
 ) -> Result<Vec<(Day, Option<Day>)>, AllocError> {
     let mut origins = Vec::new(alloc);
     for entry in text.split(';') {
-        origins.push(origin_of(rt, entry))?;
+        let (origin, end) = entry.split_once(' ').unwrap_or(("", ""));
+        origins.push((day(rt, origin), day_or_none(rt, end)))?;
     }
     Ok(origins)
 }
 
-fn listed(rt: &impl Abort, alloc: Global, text: &str) -> Result<Periods, AllocError> {
-    let origins = origins_of(rt, alloc, text)?;
-    periods_of(rt, alloc, Period::Listed(Origins::new(origins)))
+// A period by its letter, and its origin and interval or its origins.
+fn period_of(rt: &impl Abort, alloc: Global, text: &str) -> Result<Period, AllocError> {
+    let (kind, rest) = text.split_once(' ').unwrap_or(("", ""));
+    if kind == "N" {
+        return Ok(Period::Listed(Origins::new(origins_of(rt, alloc, rest)?)));
+    }
+    let (origin, interval) = rest.split_once(' ').unwrap_or(("", ""));
+    let origin = day(rt, origin);
+    let interval = interval.parse().ok().expect(rt, "an interval");
+    if kind == "A" {
+        Ok(Period::All { origin, interval })
+    } else {
+        Ok(Period::Work { origin, interval })
+    }
+}
+
+// The period `WEEK` alone.
+fn periods_of(rt: &impl Abort, alloc: Global, text: &str) -> Result<Periods, AllocError> {
+    let period = period_of(rt, alloc, text)?;
+    assert!(rt; period.check().is_ok());
+    let mut periods = Periods::new(alloc);
+    periods.insert(short(rt, "WEEK"), period)?;
+    Ok(periods)
 }
 
 fn have_own_names(cycles: &[RunCycle]) -> bool

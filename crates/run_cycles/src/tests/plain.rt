@@ -1,12 +1,10 @@
 //! The named days by the definition alone, day by day, and compared with what is generated.
 
-use crate::tests::{
-    generated, listed, of_days, of_work_days, pay_within, set_free, two_days, weekdays,
-};
+use crate::tests::{calendar_of, cycle_of, generated, offsets_of, periods_of, rule_of, two_days};
 use crate::{Named, Periods, Rule, RunCycle};
 use std::alloc::{AllocError, Global};
 use std::process::Abort;
-use work_calendars::{Calendar, Day, DayStatus, WorkIndex};
+use work_calendars::{Calendar, Day, WorkIndex};
 
 // A period as the plain program sees it: intervals by first and last day, an origin with how many days an interval
 // has and how many intervals matter, or an origin and how many work days an interval has.
@@ -203,180 +201,142 @@ fn is_on(named: Option<&Named>, d: u32) -> bool {
     }
 }
 
-// A calendar with its index, windows by first and last day, and the days from which on and before which the run
-// cycles are in effect.
-#[derive(Clone, Copy)]
-struct Question<'a> {
-    calendar: &'a Calendar,
-    index: &'a WorkIndex,
-    windows: [&'a str; 2],
-    effect: &'a str,
-}
-
-// Whether the run cycles name what the plain program finds for the first of them, which is alone.
-fn agree(
+// Whether the run cycle alone names what the plain program finds, in each of the windows.
+fn agrees(
     rt: &impl Abort,
     alloc: Global,
-    question: Question,
+    calendar: &Calendar,
     plain: Plain,
     periods: &Periods,
     cycles: &[RunCycle],
-    window: &str,
-) -> Result<bool, AllocError> {
-    let list = generated(
-        rt,
-        alloc,
-        question.index,
-        periods,
-        cycles,
-        two_days(rt, window),
-    )?;
-    Ok(are_plain(rt, &list, question.calendar, plain, cycles, window))
+    windows: &str,
+) -> Result<(), AllocError> {
+    let index = WorkIndex::build(alloc, calendar)?;
+    for window in windows.split(';') {
+        let (from, to) = two_days(rt, window);
+        let list = generated(rt, alloc, &index, periods, cycles, (from, to))?;
+        assert!(rt; are_plain(&list, calendar, plain, cycles, from, to));
+    }
+    Ok(())
 }
 
 fn are_plain(
-    rt: &impl Abort,
     list: &[Named],
     calendar: &Calendar,
     plain: Plain,
     cycles: &[RunCycle],
-    window: &str,
+    from: Day,
+    to: Day,
 ) -> bool {
     match cycles {
-        [cycle] => has_plain_days(list, calendar, plain, cycle, two_days(rt, window)),
+        [cycle] => has_plain_days(list, calendar, plain, cycle, (from, to)),
         _ => false,
     }
 }
 
-// Whether they agree in each of the windows.
-fn agree_in_windows(
+// The run cycle of the text, with this rule and these offsets.
+fn cycle_with(
     rt: &impl Abort,
     alloc: Global,
-    question: Question,
-    plain: Plain,
-    periods: &Periods,
-    cycles: &[RunCycle],
-) -> Result<bool, AllocError> {
-    let [first, second] = question.windows;
-    Ok(
-        agree(rt, alloc, question, plain, periods, cycles, first)?
-            && agree(rt, alloc, question, plain, periods, cycles, second)?,
-    )
+    text: &str,
+    rule: &str,
+    offsets: &str,
+) -> Result<Vec<RunCycle>, AllocError> {
+    let mut cycle = cycle_of(rt, alloc, text)?;
+    cycle.rule = rule_of(rule);
+    cycle.offsets = offsets_of(rt, alloc, offsets)?;
+    Ok(vec![in alloc; cycle]?)
 }
 
-// The same under this rule, with these offsets.
-fn agree_with(
-    rt: &impl Abort,
-    alloc: Global,
-    question: Question,
-    plain: Plain,
-    periods: &Periods,
-    rule: Rule,
-    offsets: &[i16],
-) -> Result<bool, AllocError> {
-    let cycles = vec![in alloc; pay_within(rt, alloc, rule, offsets, question.effect)?]?;
-    agree_in_windows(rt, alloc, question, plain, periods, &cycles)
-}
-
-// The same under every rule, with each of the lists of offsets.
-fn agree_under_all_rules(
-    rt: &impl Abort,
-    alloc: Global,
-    question: Question,
-    plain: Plain,
-    periods: &Periods,
-    table: &[&[i16]],
-) -> Result<(), AllocError> {
-    for rule in [
-        Rule::WorkDaysOnly,
-        Rule::Before,
-        Rule::After,
-        Rule::Same,
-        Rule::Skip,
-    ] {
-        for offsets in table {
-            let holds = agree_with(rt, alloc, question, plain, periods, rule, offsets)?;
-            assert!(rt; holds, "{rule:?} {offsets:?}");
+// The same under every rule, with each of the lists of offsets. The row has the calendar, the period, the run cycle,
+// the offsets, and the windows.
+fn pass(rt: &impl Abort, alloc: Global, plain: Plain, row: &str) -> Result<(), AllocError> {
+    let mut parts = row.split('|');
+    let calendar = calendar_of(rt, alloc, parts.next().unwrap_or(""))?;
+    let periods = periods_of(rt, alloc, parts.next().unwrap_or(""))?;
+    let cycle = parts.next().unwrap_or("");
+    let table = parts.next().unwrap_or("");
+    let windows = parts.next().unwrap_or("");
+    for rule in ["E", "1", "2", "3", "4"] {
+        for offsets in table.split_whitespace() {
+            let cycles = cycle_with(rt, alloc, cycle, rule, offsets)?;
+            agrees(rt, alloc, &calendar, plain, &periods, &cycles, windows)?;
         }
     }
     Ok(())
 }
 
-// Saturdays and Sundays are free, but not 13 January, and so are 10 January, all from 20 to 28 January, and
-// 14 February.
-fn winter(rt: &impl Abort, alloc: Global) -> Result<Calendar, AllocError> {
-    let (saturday, _) = two_days(rt, "2024-01-13 2024-01-13");
-    let mut calendar = weekdays(alloc);
-    calendar.set_date(saturday, DayStatus::Work)?;
-    set_free(
-        rt,
-        &mut calendar,
-        "2024-01-10 2024-01-22 2024-01-23 2024-01-24 2024-01-25 2024-01-26 2024-02-14",
-    )?;
-    Ok(calendar)
-}
-
-// January and half of February 2024, cut within the free days from 20 to 28 January.
-fn in_winter<'a>(calendar: &'a Calendar, index: &'a WorkIndex) -> Question<'a> {
-    Question {
-        calendar,
-        index,
-        windows: ["2024-01-01 2024-01-24", "2024-01-25 2024-02-15"],
-        effect: "2024-01-04 2024-02-13",
-    }
-}
-
-// Intervals of so many days.
-fn days_agree(
-    rt: &impl Abort,
-    alloc: Global,
-    question: Question,
-    interval: u16,
-    number: u32,
-) -> Result<(), AllocError> {
-    let plain = Plain::Days(19721, u32::from(interval), number);
-    let table = [&[1][..], &[-1], &[6], &[-3, 9], &[2, -7, 30, -999]];
-    let periods = of_days(rt, alloc, "2023-12-30", interval)?;
-    agree_under_all_rules(rt, alloc, question, plain, &periods, &table)
-}
-
+// January and half of February 2024, cut within the free days from 20 to 28 January. Saturdays and Sundays are free,
+// but not 13 January, and so are 10 January, all from 20 to 28 January, and 14 February.
 #[test]
 fn plain_days(rt: HostRuntime) -> Result<(), AllocError> {
-    let calendar = winter(&rt, rt.alloc())?;
-    let index = WorkIndex::build(rt.alloc(), &calendar)?;
-    for (interval, number) in [(1u16, 70), (7, 10), (33, 3)] {
-        let question = in_winter(&calendar, &index);
-        days_agree(&rt, rt.alloc(), question, interval, number)?;
+    let rows = [
+        (Plain::Days(19721, 1, 70), DAYS_1),
+        (Plain::Days(19721, 7, 10), DAYS_7),
+        (Plain::Days(19721, 33, 3), DAYS_33),
+        (Plain::Days(730, 9, 4), FIRST_DAYS),
+    ];
+    for (plain, row) in rows {
+        pass(&rt, rt.alloc(), plain, row)?;
     }
     Ok(())
 }
 
-// Intervals of so many work days.
-fn work_days_agree(
-    rt: &impl Abort,
-    alloc: Global,
-    question: Question,
-    interval: u16,
-) -> Result<(), AllocError> {
-    let plain = Plain::WorkDays(19728, u32::from(interval));
-    let table = [&[1][..], &[-1], &[4], &[-3, 9], &[2, -12, 30, -999]];
-    let periods = of_work_days(rt, alloc, "2024-01-06", interval)?;
-    agree_under_all_rules(rt, alloc, question, plain, &periods, &table)
-}
+const DAYS_1: &str =
+    "67 +2024-01-13 2024-01-10 2024-01-22 2024-01-23 2024-01-24 2024-01-25 2024-01-26 2024-02-14\
+|A 2023-12-30 1|RC E 1 2024-01-04 2024-02-13 08.00 0 18.00|1 -1 6 -3,9 2,-7,30,-999\
+|2024-01-01 2024-01-24;2024-01-25 2024-02-15";
+
+const DAYS_7: &str =
+    "67 +2024-01-13 2024-01-10 2024-01-22 2024-01-23 2024-01-24 2024-01-25 2024-01-26 2024-02-14\
+|A 2023-12-30 7|RC E 1 2024-01-04 2024-02-13 08.00 0 18.00|1 -1 6 -3,9 2,-7,30,-999\
+|2024-01-01 2024-01-24;2024-01-25 2024-02-15";
+
+const DAYS_33: &str =
+    "67 +2024-01-13 2024-01-10 2024-01-22 2024-01-23 2024-01-24 2024-01-25 2024-01-26 2024-02-14\
+|A 2023-12-30 33|RC E 1 2024-01-04 2024-02-13 08.00 0 18.00|1 -1 6 -3,9 2,-7,30,-999\
+|2024-01-01 2024-01-24;2024-01-25 2024-02-15";
+
+// The first days of all are free: no work day comes before them.
+const FIRST_DAYS: &str = "67|A 1972-01-01 9|RC E 1 1972-01-01 1972-01-22 08.00 0 18.00|1 2 -1 -8\
+|1972-01-01 1972-01-01;1972-01-02 1972-01-22";
 
 #[test]
 fn plain_work_days(rt: HostRuntime) -> Result<(), AllocError> {
-    let calendar = winter(&rt, rt.alloc())?;
-    let index = WorkIndex::build(rt.alloc(), &calendar)?;
-    for interval in [1u16, 5, 12] {
-        let question = in_winter(&calendar, &index);
-        work_days_agree(&rt, rt.alloc(), question, interval)?;
+    let rows = [
+        (Plain::WorkDays(19728, 1), WORK_DAYS_1),
+        (Plain::WorkDays(19728, 5), WORK_DAYS_5),
+        (Plain::WorkDays(19728, 12), WORK_DAYS_12),
+        (Plain::WorkDays(730, 9), FIRST_WORK_DAYS),
+    ];
+    for (plain, row) in rows {
+        pass(&rt, rt.alloc(), plain, row)?;
     }
     Ok(())
 }
 
+const WORK_DAYS_1: &str =
+    "67 +2024-01-13 2024-01-10 2024-01-22 2024-01-23 2024-01-24 2024-01-25 2024-01-26 2024-02-14\
+|W 2024-01-06 1|RC E 1 2024-01-04 2024-02-13 08.00 0 18.00|1 -1 4 -3,9 2,-12,30,-999\
+|2024-01-01 2024-01-24;2024-01-25 2024-02-15";
+
+const WORK_DAYS_5: &str =
+    "67 +2024-01-13 2024-01-10 2024-01-22 2024-01-23 2024-01-24 2024-01-25 2024-01-26 2024-02-14\
+|W 2024-01-06 5|RC E 1 2024-01-04 2024-02-13 08.00 0 18.00|1 -1 4 -3,9 2,-12,30,-999\
+|2024-01-01 2024-01-24;2024-01-25 2024-02-15";
+
+const WORK_DAYS_12: &str =
+    "67 +2024-01-13 2024-01-10 2024-01-22 2024-01-23 2024-01-24 2024-01-25 2024-01-26 2024-02-14\
+|W 2024-01-06 12|RC E 1 2024-01-04 2024-02-13 08.00 0 18.00|1 -1 4 -3,9 2,-12,30,-999\
+|2024-01-01 2024-01-24;2024-01-25 2024-02-15";
+
+const FIRST_WORK_DAYS: &str =
+    "67|W 1972-01-01 9|RC E 1 1972-01-01 1972-01-22 08.00 0 18.00|1 2 -1 -8\
+|1972-01-01 1972-01-01;1972-01-02 1972-01-22";
+
 // One to its own end, one to the day before the next origin, two that overlap, and an open one.
-fn listed_agree(rt: &impl Abort, alloc: Global, question: Question) -> Result<(), AllocError> {
+#[test]
+fn plain_listed(rt: HostRuntime) -> Result<(), AllocError> {
     let intervals = [
         (19700, Some(19730)),
         (19735, Some(19743)),
@@ -384,61 +344,10 @@ fn listed_agree(rt: &impl Abort, alloc: Global, question: Question) -> Result<()
         (19749, Some(19754)),
         (19758, None),
     ];
-    let plain = Plain::Intervals(&intervals);
-    let table = [&[1][..], &[-1], &[6], &[-3, 9], &[2, -7, 30, -999]];
-    let periods = listed(
-        rt,
-        alloc,
-        "2023-12-09 2024-01-08;2024-01-13 -;2024-01-22 2024-02-07;2024-01-27 2024-02-01;2024-02-05 -",
-    )?;
-    agree_under_all_rules(rt, alloc, question, plain, &periods, &table)
+    pass(&rt, rt.alloc(), Plain::Intervals(&intervals), LISTED)
 }
 
-#[test]
-fn plain_listed(rt: HostRuntime) -> Result<(), AllocError> {
-    let calendar = winter(&rt, rt.alloc())?;
-    let index = WorkIndex::build(rt.alloc(), &calendar)?;
-    listed_agree(&rt, rt.alloc(), in_winter(&calendar, &index))
-}
-
-fn first_days_agree(
-    rt: &impl Abort,
-    alloc: Global,
-    question: Question,
-    plain: Plain,
-    periods: &Periods,
-) -> Result<(), AllocError> {
-    let table = [&[1][..], &[2], &[-1], &[-8]];
-    agree_under_all_rules(rt, alloc, question, plain, periods, &table)
-}
-
-// The first days of all.
-fn at_first<'a>(calendar: &'a Calendar, index: &'a WorkIndex) -> Question<'a> {
-    Question {
-        calendar,
-        index,
-        windows: ["1972-01-01 1972-01-01", "1972-01-02 1972-01-22"],
-        effect: "1972-01-01 1972-01-22",
-    }
-}
-
-// The first days of all are free: no work day comes before them.
-#[test]
-fn plain_first_days(rt: HostRuntime) -> Result<(), AllocError> {
-    let calendar = weekdays(rt.alloc());
-    let index = WorkIndex::build(rt.alloc(), &calendar)?;
-    let periods = of_days(&rt, rt.alloc(), "1972-01-01", 9)?;
-    let plain = Plain::Days(730, 9, 4);
-    let question = at_first(&calendar, &index);
-    first_days_agree(&rt, rt.alloc(), question, plain, &periods)
-}
-
-#[test]
-fn plain_first_work_days(rt: HostRuntime) -> Result<(), AllocError> {
-    let calendar = weekdays(rt.alloc());
-    let index = WorkIndex::build(rt.alloc(), &calendar)?;
-    let periods = of_work_days(&rt, rt.alloc(), "1972-01-01", 9)?;
-    let plain = Plain::WorkDays(730, 9);
-    let question = at_first(&calendar, &index);
-    first_days_agree(&rt, rt.alloc(), question, plain, &periods)
-}
+const LISTED: &str =
+    "67 +2024-01-13 2024-01-10 2024-01-22 2024-01-23 2024-01-24 2024-01-25 2024-01-26 2024-02-14\
+|N 2023-12-09 2024-01-08;2024-01-13 -;2024-01-22 2024-02-07;2024-01-27 2024-02-01;2024-02-05 -\
+|RC E 1 2024-01-04 2024-02-13 08.00 0 18.00|1 -1 6 -3,9 2,-7,30,-999|2024-01-01 2024-01-24;2024-01-25 2024-02-15";

@@ -1,7 +1,7 @@
 ghost use Rattle.std.specs.Prelude.{◌≡◌, IfOk};
 
-use super::pay;
-use crate::{MAX_OFFSETS, Offsets, Periods, Rule, RunCycle};
+use super::cycle_of;
+use crate::{MAX_OFFSETS, Offsets, Periods, RunCycle};
 use plan_periods::Period;
 use std::alloc::{AllocError, Global};
 use std::test::Fail;
@@ -122,7 +122,7 @@ fn is_copied(cycle: &RunCycle) -> Result<bool, AllocError> {
 
 #[test]
 fn run_cycles_are_copied(rt: HostRuntime) -> Result<(), AllocError> {
-    let cycle = pay(&rt, rt.alloc(), Rule::After, &[1, -1])?;
+    let cycle = cycle_of(&rt, rt.alloc(), "RC 2 1,-1 2024-01-01 - 08.00 0 18.00")?;
     let holds = is_copied(&cycle)?;
     assert!(rt; holds);
     Ok(())
