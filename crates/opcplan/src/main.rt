@@ -1,7 +1,8 @@
 //! Answers the job stream on standard input.
 #![tactic(auto)]
 
-use planner_cli::{Desk, exit_status, run};
+use plan_store::ListStore;
+use planner_cli::{exit_status, run};
 use std::io::{self, BufReader, Write};
 use std::process::ExitCode;
 use words::Asked;
@@ -17,8 +18,8 @@ fn answer_input<R: AllocGlobal + Input + Print>(rt: &R) -> u8 {
     let mut writer = io::writer(rt);
     match BufReader::new(alloc, rt.reader()) {
         Ok(mut reader) => {
-            let mut desk = Desk::new(alloc);
-            exit_status(&run(alloc, &mut desk, &mut reader, &mut writer))
+            let mut store = ListStore::new(alloc);
+            exit_status(&run(alloc, &mut store, &mut reader, &mut writer))
         }
         Err(_) => memory_refused(rt),
     }

@@ -2,4 +2,9 @@ pub mod Progress
 pub mod RowLemmas
 pub mod DaysLemmas
 pub mod OutcomeLemmas
-pub mod DeskLemmas
+pub mod StoreLemmas
+pub mod PlanLemmas
+pub mod ChangeLemmas
+pub mod NameLemmas
+pub mod SoFar
+pub mod ServeLemmas

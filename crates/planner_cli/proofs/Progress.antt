@@ -1,7 +1,7 @@
 -- Lemmas on a run that has answered some items.
-use Rattle.std.proofs.Common.{◌≡◌, ℕ, ◌+◌, ◌≤◌, List, [], ◌∷◌, ◌++◌, length, take, refl, sym, ap, subst, ◌∙◌, arith, append_assoc, append-nil, zero-add}
+use Rattle.std.proofs.Common.{◌≡◌, ◌⊎◌, inl, inr, ℕ, ◌+◌, ◌≤◌, List, [], ◌∷◌, ◌++◌, length, take, refl, sym, ap, subst, ◌∙◌, arith, append_assoc, append-nil, zero-add}
 use Rattle.std.specs.Prelude.{Option, None, Some, IfSome, Bool, true, false, not, count_by, sum_by, cond, if◌then◌else◌}
-use Rattle.std.specs.Io.KnownBytes.{Appends}
+use Rattle.std.specs.Io.KnownBytes.{Appends, Keeps}
 use Rattle.std.specs.Io.Iter.{u64_saturate}
 use Rattle.std.proofs.lemmas.List.Sums.{sum_by-append}
 use Rattle.std.proofs.KnownBytes.{Appends-nil, Appends-trans, Appends-kept}
@@ -9,8 +9,10 @@ use Rattle.stream_items.specs.Items.{Item, items_of}
 use Rattle.stream_items.specs.Pages.{ItemRead}
 use Rattle.planner_cli.specs.Replies.{Answered, Reply, printed, prints, is_accepted, is_refused}
 use Rattle.planner_cli.specs.Meaning.{Answers, StepOf, tally_after, tally_of}
-use Rattle.planner_cli.specs.Faults.{cause_of, read_cause, tally_in, fault_line}
-use Rattle.planner_cli.specs.Runs.{EndsBy, IsFrontOf, ItemBreaks, Ran, Stopped}
+use Rattle.plan_store.specs.declared.stores.StoreFault.{StoreFault}
+use Rattle.plan_store.specs.declared.stores.StoreFault.TheVariants as Stores
+use Rattle.planner_cli.specs.Faults.{cause_of, read_cause, store_cause, tally_in, fault_line}
+use Rattle.planner_cli.specs.Runs.{EndsBy, IsFrontOf, ItemBreaks, LeavesInHand, Ran, Stopped, with_hand}
 use Rattle.planner_cli.specs.declared.tally.Tally.{Tally}
 use Rattle.stream_items.specs.declared.lines.ReadFault.{ReadFault}
 use Rattle.stream_items.specs.declared.lines.ReadFault.TheVariants as Reads
@@ -71,124 +73,156 @@ tally_of-more rs r met m n e accepted refused more_accepted more_refused =
     (saturates m.refused (count_by is_refused rs) _ (if met then 0 else 1) n.refused (ap (λ t. t.refused) e) more_refused
     (count_by-more is_refused rs r ∙ ap (λ b. count_by is_refused rs + (if b then 1 else 0)) (sym refused) ∙ ap (λ k. count_by is_refused rs + k) (sym (other_way met))))
 
--- how far a run has come: the items in `done` are answered, and the reader has `left`
-pub record Progress {S : Type 0} (Step : StepOf S) (s0 s : S) (w0 w now : Option (List ℕ)) (text : List ℕ) (tally : Tally) : Type 0 where
+-- what the reader has left, where it tells its bytes: the items in `done` come before
+abbrev pub IsLeft : List Item → Option (List ℕ) → List ℕ → Type 0
+IsLeft done now text = (left : List ℕ) × (now ≡ Some left) × (items_of text ≡ done ++ items_of left)
+
+-- how far a run has come: the items in `done` are answered
+pub record Progress {S : Type 0} (Step : StepOf S) (s0 s : S) (w0 w told now : Option (List ℕ)) (tally : Tally) : Type 0 where
   pub done : List Item
-  pub left : List ℕ
   pub replies : List Reply
-  pub now_is : now ≡ Some left
-  pub items : items_of text ≡ done ++ items_of left
+  pub read : IfSome told (IsLeft done now)
   pub answers : Answers Step s0 done replies s
   pub written : Appends w0 w (prints replies)
   pub tally_is : tally ≡ tally_of replies
 
-pub progress_starts : {S : Type 0} (Step : StepOf S) (s : S) (w a : Option (List ℕ)) (tally : Tally) → tally.accepted ≡ 0 → tally.refused ≡ 0 → IfSome a (λ text. Progress Step s s w w a text tally)
-progress_starts Step s w None tally e f = tt
-progress_starts Step s w (Some text) tally e f =
+nothing_read : (told : Option (List ℕ)) → IfSome told (IsLeft [] told)
+nothing_read None = tt
+nothing_read (Some text) = (text, refl, refl)
+
+pub progress_starts : {S : Type 0} (Step : StepOf S) (s : S) (w told : Option (List ℕ)) (tally : Tally) → tally.accepted ≡ 0 → tally.refused ≡ 0
+    → Progress Step s s w w told told tally
+progress_starts Step s w told tally e f =
     record {
       done = [];
-      left = text;
       replies = [];
-      now_is = refl;
-      items = refl;
+      read = nothing_read told;
       answers = (refl, refl);
       written = subst (Appends w w) (sym nothing_printed) (Appends-nil w);
       tally_is = ap (λ n. record { accepted = n; refused = tally.refused }) e ∙ ap (λ n. record { accepted = 0; refused = n }) f ∙ sym nothing_counted;
     }
 
+-- an item is read, and the next one is in hand
+one_read : (told b c : Option (List ℕ)) (done : List Item) (one : Option Item) (item : Item) → IfSome told (IsLeft done b)
+    → IfSome b (λ zs. ItemRead zs one c) → one ≡ Some item
+    → IfSome told (λ text. (left : List ℕ) × (c ≡ Some left) × (items_of text ≡ done ++ item ∷ items_of left))
+one_read None b c done one item so_far read met_it = tt
+one_read (Some text) b c done one item so_far read met_it =
+    let (left, now, items) = so_far in
+    let (ys, now', items') = subst (λ o. ItemRead left o c) met_it (subst (λ o. IfSome o (λ zs. ItemRead zs one c)) now read) in
+    (ys, now', items ∙ ap (λ l. done ++ l) items')
+
+left_more : (told c : Option (List ℕ)) (done : List Item) (item : Item)
+    → IfSome told (λ text. (left : List ℕ) × (c ≡ Some left) × (items_of text ≡ done ++ item ∷ items_of left))
+    → IfSome told (IsLeft (done ++ item ∷ []) c)
+left_more None c done item h = tt
+left_more (Some text) c done item h =
+    let (left, now, items) = h in
+    (left, now, items ∙ sym (append_assoc done (item ∷ []) (items_of left)))
+
 -- one more item is answered
-pub progress_answers : {S : Type 0} (Step : StepOf S) (s0 s s' : S) (w0 w w' b c : Option (List ℕ)) (text : List ℕ) (m n : Tally) (one : Option Item) (item : Item) (met : Bool)
-    → Progress Step s0 s w0 w b text m → IfSome b (λ zs. ItemRead zs one c) → one ≡ Some item
+pub progress_answers : {S : Type 0} (Step : StepOf S) (s0 s s' : S) (w0 w w' told b c : Option (List ℕ)) (m n : Tally) (one : Option Item) (item : Item) (met : Bool)
+    → Progress Step s0 s w0 w told b m → IfSome b (λ zs. ItemRead zs one c) → one ≡ Some item
     → ((out : List ℕ) × Answered (Step s item) s' out met × Appends w w' out)
     → n.accepted ≡ u64_saturate (m.accepted + (if met then 1 else 0)) → n.refused ≡ u64_saturate (m.refused + (if met then 0 else 1))
-    → Progress Step s0 s' w0 w' c text n
-progress_answers Step s0 s s' w0 w w' b c text m n one item met p read met_it answered more_accepted more_refused =
-    let (ys, now, items) = subst (λ o. ItemRead p.left o c) met_it (subst (λ o. IfSome o (λ zs. ItemRead zs one c)) p.now_is read) in
+    → Progress Step s0 s' w0 w' told c n
+progress_answers Step s0 s s' w0 w w' told b c m n one item met p read met_it answered more_accepted more_refused =
     let (out, r, wrote) = answered in
     record {
       done = p.done ++ item ∷ [];
-      left = ys;
       replies = p.replies ++ r.reply ∷ [];
-      now_is = now;
-      items = p.items ∙ ap (λ l. p.done ++ l) items ∙ sym (append_assoc p.done (item ∷ []) (items_of ys));
+      read = left_more told c p.done item (one_read told b c p.done one item p.read read met_it);
       answers = answers_more Step s0 s s' p.done p.replies item r.reply p.answers r.gives;
       written = subst (Appends w0 w') (sym (prints-append _ _ ∙ ap (λ l. prints p.replies ++ l) (prints-one _ ∙ sym r.prints.text_is)))
           (Appends-trans w0 w w' _ _ p.written wrote);
       tally_is = tally_of-more p.replies r.reply met m n p.tally_is r.prints.accepted_is r.prints.refused_is more_accepted more_refused;
     }
 
+all_read : (told b c : Option (List ℕ)) (done : List Item) (one : Option Item) → IfSome told (IsLeft done b)
+    → IfSome b (λ zs. ItemRead zs one c) → one ≡ None → IfSome told (λ text. items_of text ≡ done)
+all_read None b c done one so_far read none = tt
+all_read (Some text) b c done one so_far read none =
+    let (left, now, items) = so_far in
+    let last = subst (λ o. ItemRead left o c) none (subst (λ o. IfSome o (λ zs. ItemRead zs one c)) now read) in
+    items ∙ ap (λ l. done ++ l) last.0 ∙ append-nil done
+
 -- the stream has ended
-pub all_done : {S : Type 0} (Step : StepOf S) (s0 s : S) (w0 w b c : Option (List ℕ)) (text : List ℕ) (tally : Tally) (one : Option Item) → Progress Step s0 s w0 w b text tally → IfSome b (λ zs. ItemRead zs one c) → one ≡ None
-    → Ran Step s0 s w0 w text tally
-all_done Step s0 s w0 w b c text tally one p read none =
-    let last = subst (λ o. ItemRead p.left o c) none (subst (λ o. IfSome o (λ zs. ItemRead zs one c)) p.now_is read) in
-    let all : p.done ≡ items_of text = sym (append-nil p.done) ∙ ap (λ l. p.done ++ l) (sym last.0) ∙ sym p.items in
+pub all_done : {S : Type 0} (Step : StepOf S) (s0 s : S) (w0 w told b c : Option (List ℕ)) (tally : Tally) (one : Option Item) → Progress Step s0 s w0 w told b tally → IfSome b (λ zs. ItemRead zs one c) → one ≡ None
+    → Ran Step s0 s w0 w told tally
+all_done Step s0 s w0 w told b c tally one p read none =
     record {
+      items = p.done;
       replies = p.replies;
-      answers = subst (λ items. Answers Step s0 items p.replies s) all p.answers;
+      read = all_read told b c p.done one p.read read none;
+      answers = p.answers;
       written = p.written;
       tally_is = p.tally_is;
     }
+
+kept_appends : (w w' : Option (List ℕ)) → Keeps w w' → Appends w w' []
+kept_appends w w' kept = Appends-kept w w w' [] (Appends-nil w) kept
 
 nothing_front : (ys : List ℕ) → IsFrontOf [] ys
 nothing_front ys = (0, omega arith, refl)
 
 -- a fault of reading tells no more than its line, and changes nothing
-pub read_ends : {S : Type 0} (Step : StepOf S) (f : ReadFault) (s : S) (rest : List Item) → EndsBy Step (read_cause f) [] s s rest []
-read_ends Step Reads.Memory s rest = (refl, nothing_front [])
-read_ends Step Reads.Reader s rest = (refl, nothing_front [])
+pub read_ends : {S : Type 0} (Step : StepOf S) (f : ReadFault) (s : S) → EndsBy Step (read_cause f) [] s s None []
+read_ends Step Reads.Memory s = (refl, nothing_front [])
+read_ends Step Reads.Reader s = (refl, nothing_front [])
+
+none_in_hand : (told b : Option (List ℕ)) (done : List Item) → IfSome told (IsLeft done b)
+    → IfSome told (λ text. (rest : List Item) × (items_of text ≡ done ++ with_hand None rest))
+none_in_hand None b done h = tt
+none_in_hand (Some text) b done h = (items_of h.0, h.2)
 
 -- a fault between two items
-pub halts_between : {S : Type 0} (Step : StepOf S) (s0 s : S) (w0 w b : Option (List ℕ)) (text : List ℕ) (tally : Tally) (f : ReadFault) (fault : RunFault) → Progress Step s0 s w0 w b text tally
-    → cause_of fault ≡ read_cause f → tally_in fault ≡ tally → Stopped Step (λ _. []) s0 s w0 w text fault
-halts_between Step s0 s w0 w b text tally f fault p e told =
+pub halts_between : {S : Type 0} (Step : StepOf S) (s0 s : S) (w0 w told b : Option (List ℕ)) (tally : Tally) (f : ReadFault) (fault : RunFault) → Progress Step s0 s w0 w told b tally
+    → cause_of fault ≡ read_cause f → tally_in fault ≡ tally → Stopped Step (λ _. []) s0 s w0 w told fault
+halts_between Step s0 s w0 w told b tally f fault p e tallied =
     record {
       done = p.done;
-      rest = items_of p.left;
+      hand = None;
       replies = p.replies;
       between = s;
       tail = [];
-      items = p.items;
+      read = none_in_hand told b p.done p.read;
       answers = p.answers;
       written = subst (Appends w0 w) (sym (append-nil _)) p.written;
-      ending = subst (λ c. EndsBy Step c [] s s (items_of p.left) []) (sym e) (read_ends Step f s (items_of p.left));
-      tally_is = told ∙ p.tally_is;
+      ending = subst (λ c. EndsBy Step c [] s s None []) (sym e) (read_ends Step f s);
+      tally_is = tallied ∙ p.tally_is;
     }
 
+one_in_hand : (told c : Option (List ℕ)) (done : List Item) (item : Item)
+    → IfSome told (λ text. (left : List ℕ) × (c ≡ Some left) × (items_of text ≡ done ++ item ∷ items_of left))
+    → IfSome told (λ text. (rest : List Item) × (items_of text ≡ done ++ with_hand (Some item) rest))
+one_in_hand None c done item h = tt
+one_in_hand (Some text) c done item h = (items_of h.0, h.2)
+
+-- how it ends where one item was not answered
+breaks_end : {S : Type 0} (Step : StepOf S) (cause : Cause) (s s' : S) (w w' : Option (List ℕ)) (item : Item) → ItemBreaks Step cause s s' w w' item
+    → (tail : List ℕ) × EndsBy Step cause [] s s' (Some item) tail × Appends w w' tail
+breaks_end Step Memory s s' w w' item h = ([], (h.0, nothing_front []), kept_appends w w' h.1)
+breaks_end Step (Device Store) s s' w w' item h = ([], (h.0, nothing_front []), kept_appends w w' h.1)
+breaks_end Step (Device Reader) s s' w w' item h = absurd h
+breaks_end Step (Device Writer) s s' w w' item h = h
+
 -- a fault in the answer to an item
-pub halts_within : {S : Type 0} (Step : StepOf S) (s0 s s' : S) (w0 w w' b c : Option (List ℕ)) (text : List ℕ) (tally : Tally) (one : Option Item) (item : Item) (cause : Cause) (fault : RunFault)
-    → Progress Step s0 s w0 w b text tally → IfSome b (λ zs. ItemRead zs one c) → one ≡ Some item → cause_of fault ≡ cause → tally_in fault ≡ tally
-    → ItemBreaks Step cause s s' w w' item → Stopped Step (λ _. []) s0 s' w0 w' text fault
-halts_within Step s0 s s' w0 w w' b c text tally one item Memory fault p read met_it e told breaks =
-    let (ys, now, items) = subst (λ o. ItemRead p.left o c) met_it (subst (λ o. IfSome o (λ zs. ItemRead zs one c)) p.now_is read) in
+pub halts_within : {S : Type 0} (Step : StepOf S) (s0 s s' : S) (w0 w w' told b c : Option (List ℕ)) (tally : Tally) (one : Option Item) (item : Item) (cause : Cause) (fault : RunFault)
+    → Progress Step s0 s w0 w told b tally → IfSome b (λ zs. ItemRead zs one c) → one ≡ Some item → cause_of fault ≡ cause → tally_in fault ≡ tally
+    → ItemBreaks Step cause s s' w w' item → Stopped Step (λ _. []) s0 s' w0 w' told fault
+halts_within Step s0 s s' w0 w w' told b c tally one item cause fault p read met_it e tallied breaks =
+    let (tail, ending, appended) = breaks_end Step cause s s' w w' item breaks in
     record {
       done = p.done;
-      rest = item ∷ items_of ys;
-      replies = p.replies;
-      between = s;
-      tail = [];
-      items = p.items ∙ ap (λ l. p.done ++ l) items;
-      answers = p.answers;
-      written = subst (Appends w0 w') (sym (append-nil _)) (Appends-kept w0 w w' _ p.written breaks.1);
-      ending = subst (λ c'. EndsBy Step c' [] s s' (item ∷ items_of ys) []) (sym e) (breaks.0, nothing_front []);
-      tally_is = told ∙ p.tally_is;
-    }
-halts_within Step s0 s s' w0 w w' b c text tally one item (Device Store) fault p read met_it e told breaks = absurd breaks
-halts_within Step s0 s s' w0 w w' b c text tally one item (Device Reader) fault p read met_it e told breaks = absurd breaks
-halts_within Step s0 s s' w0 w w' b c text tally one item (Device Writer) fault p read met_it e told breaks =
-    let (ys, now, items) = subst (λ o. ItemRead p.left o c) met_it (subst (λ o. IfSome o (λ zs. ItemRead zs one c)) p.now_is read) in
-    let (tail, cut, appended) = breaks in
-    record {
-      done = p.done;
-      rest = item ∷ items_of ys;
+      hand = Some item;
       replies = p.replies;
       between = s;
       tail = tail;
-      items = p.items ∙ ap (λ l. p.done ++ l) items;
+      read = one_in_hand told c p.done item (one_read told b c p.done one item p.read read met_it);
       answers = p.answers;
       written = Appends-trans w0 w w' _ _ p.written appended;
-      ending = subst (λ c'. EndsBy Step c' [] s s' (item ∷ items_of ys) tail) (sym e) (item, items_of ys, refl, cut);
-      tally_is = told ∙ p.tally_is;
+      ending = subst (λ c'. EndsBy Step c' [] s s' (Some item) tail) (sym e) ending;
+      tally_is = tallied ∙ p.tally_is;
     }
 
 -- a front of nothing is nothing
@@ -196,30 +230,46 @@ front_of_nothing : (xs : List ℕ) → IsFrontOf xs [] → xs ≡ []
 front_of_nothing xs front = front.2 ∙ take_short front.0 [] (omega arith)
 
 -- how a run ended, once a front of the fault's line is written
-told_ending : {S : Type 0} (Step : StepOf S) (cause : Cause) (between t : S) (rest : List Item) (tail : List ℕ) (n : ℕ) → n ≤ length (fault_line cause)
-    → EndsBy Step cause [] between t rest tail → EndsBy Step cause (fault_line cause) between t rest (tail ++ take n (fault_line cause))
+told_ending : {S : Type 0} (Step : StepOf S) (cause : Cause) (between t : S) (hand : Option Item) (tail : List ℕ) (n : ℕ) → n ≤ length (fault_line cause)
+    → EndsBy Step cause [] between t hand tail → EndsBy Step cause (fault_line cause) between t hand (tail ++ take n (fault_line cause))
 unfolding fault_line
-told_ending Step Memory between t rest tail n fits h = (h.0, (n, fits, ap (λ l. l ++ take n (fault_line Memory)) (front_of_nothing tail h.1)))
-told_ending Step (Device Store) between t rest tail n fits h = (h.0, (n, fits, ap (λ l. l ++ take n (fault_line (Device Store))) (front_of_nothing tail h.1)))
-told_ending Step (Device Reader) between t rest tail n fits h = (h.0, (n, fits, ap (λ l. l ++ take n (fault_line (Device Reader))) (front_of_nothing tail h.1)))
-told_ending Step (Device Writer) between t rest tail n fits h =
-    subst (EndsBy Step (Device Writer) [] between t rest) (sym (ap (λ l. tail ++ l) (take_short n [] (omega arith)) ∙ append-nil tail)) h
+told_ending Step Memory between t hand tail n fits h = (h.0, (n, fits, ap (λ l. l ++ take n (fault_line Memory)) (front_of_nothing tail h.1)))
+told_ending Step (Device Store) between t hand tail n fits h = (h.0, (n, fits, ap (λ l. l ++ take n (fault_line (Device Store))) (front_of_nothing tail h.1)))
+told_ending Step (Device Reader) between t hand tail n fits h = (h.0, (n, fits, ap (λ l. l ++ take n (fault_line (Device Reader))) (front_of_nothing tail h.1)))
+told_ending Step (Device Writer) between t hand tail n fits h =
+    subst (EndsBy Step (Device Writer) [] between t hand) (sym (ap (λ l. tail ++ l) (take_short n [] (omega arith)) ∙ append-nil tail)) h
 
 -- a fault is told
-pub told : {S : Type 0} (Step : StepOf S) (s t : S) (w0 w w' : Option (List ℕ)) (text : List ℕ) (fault : RunFault) (cause : Cause) → Stopped Step (λ _. []) s t w0 w text fault → cause ≡ cause_of fault
-    → ((n : ℕ) × (n ≤ length (fault_line cause)) × Appends w w' (take n (fault_line cause))) → Stopped Step fault_line s t w0 w' text fault
-told Step s t w0 w w' text fault cause p e appended =
+pub told : {S : Type 0} (Step : StepOf S) (s t : S) (w0 w w' read : Option (List ℕ)) (fault : RunFault) (cause : Cause) → Stopped Step (λ _. []) s t w0 w read fault → cause ≡ cause_of fault
+    → ((n : ℕ) × (n ≤ length (fault_line cause)) × Appends w w' (take n (fault_line cause))) → Stopped Step fault_line s t w0 w' read fault
+told Step s t w0 w w' read fault cause p e appended =
     let (n, fits, more) = subst (λ c. (n : ℕ) × (n ≤ length (fault_line c)) × Appends w w' (take n (fault_line c))) e appended in
     let line = fault_line (cause_of fault) in
     record {
       done = p.done;
-      rest = p.rest;
+      hand = p.hand;
       replies = p.replies;
       between = p.between;
       tail = p.tail ++ take n line;
-      items = p.items;
+      read = p.read;
       answers = p.answers;
       written = subst (Appends w0 w') (append_assoc (prints p.replies) p.tail (take n line)) (Appends-trans w0 w w' _ _ p.written more);
-      ending = told_ending Step (cause_of fault) p.between t p.rest p.tail n fits p.ending;
+      ending = told_ending Step (cause_of fault) p.between t p.hand p.tail n fits p.ending;
       tally_is = p.tally_is;
     }
+
+keeps_itself : (w : Option (List ℕ)) → Keeps w w
+keeps_itself None = tt
+keeps_itself (Some x) = refl
+
+-- a store fails within an item
+pub store_breaks : {S : Type 0} (Step : StepOf S) (fault : StoreFault) (cause : Cause) (s s' : S) (w : Option (List ℕ)) (item : Item) → cause ≡ store_cause fault
+    → (fault ≡ Stores.Memory → s' ≡ s) → ((s' ≡ s) ⊎ ((reply : Reply) × Step s item reply s')) → ItemBreaks Step cause s s' w w item
+store_breaks Step Stores.Memory cause s s' w item is unchanged whole =
+    subst (λ c. ItemBreaks Step c s s' w w item) (sym is) (unchanged refl, keeps_itself w)
+store_breaks Step Stores.Device cause s s' w item is unchanged whole =
+    subst (λ c. ItemBreaks Step c s s' w w item) (sym is) (in_hand whole, keeps_itself w)
+  where
+    in_hand : ((s' ≡ s) ⊎ ((reply : Reply) × Step s item reply s')) → (s' ≡ s) ⊎ LeavesInHand Step s (Some item) s'
+    in_hand (inl same) = inl same
+    in_hand (inr did) = inr (item, refl, did)

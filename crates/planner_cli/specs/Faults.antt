@@ -4,6 +4,8 @@ use Rattle.planner_cli.specs.Replies.{ended}
 use Rattle.planner_cli.specs.declared.tally.Tally.{Tally}
 use Rattle.stream_items.specs.declared.lines.ReadFault.{ReadFault}
 use Rattle.stream_items.specs.declared.lines.ReadFault.TheVariants as Reads
+use Rattle.plan_store.specs.declared.stores.StoreFault.{StoreFault}
+use Rattle.plan_store.specs.declared.stores.StoreFault.TheVariants as Stores
 use Rattle.planner_cli.specs.declared.faults.Part.TheVariants.{Store, Reader, Writer}
 use Rattle.planner_cli.specs.declared.faults.Cause.{Cause}
 use Rattle.planner_cli.specs.declared.faults.Cause.TheVariants as Causes
@@ -27,6 +29,10 @@ fault_number (Causes.Device part) = 41
 abbrev pub read_cause : ReadFault → Cause
 read_cause Reads.Memory = Causes.Memory
 read_cause Reads.Reader = Causes.Device Reader
+
+abbrev pub store_cause : StoreFault → Cause
+store_cause Stores.Memory = Causes.Memory
+store_cause Stores.Device = Causes.Device Store
 
 -- the line that tells a fault; none where the writer failed
 unfoldable pub fault_line : Cause → List ℕ

@@ -2,12 +2,13 @@ pub mod Replies
 pub mod Outcomes
 pub mod Rows
 pub mod Kinds
-pub mod State
-pub mod Define
-pub mod Undefine
-pub mod Days
 pub mod Requests
+pub mod Texts
+pub mod Asked
 pub mod Steps
+pub mod Stores
+pub mod Verdicts
 pub mod Meaning
 pub mod Faults
 pub mod Runs
+pub mod Plans

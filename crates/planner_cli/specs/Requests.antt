@@ -1,14 +1,40 @@
 -- What a line asks of the planner.
-use Rattle.std.specs.Prelude.{Option, Some}
+use Rattle.std.specs.Prelude.{ℕ, List, Option, Some}
+use Rattle.occurrences.specs.declared.key.Key.{Key}
+use Rattle.planner_machine.specs.Statement.{Act, Add, AddCurrent, Change, Create, DailyExtend, Delete, Replan, Undefine}
 use Rattle.statements.specs.declared.statements.Statement.{Statement}
 use Rattle.statements.specs.declared.statements.Statement.TheVariants as statement
 use Rattle.planner_cli.specs.Kinds.{definitions_kind}
+use Rattle.planner_cli.specs.declared.requests.ChangeRequest.{ChangeRequest}
+use Rattle.planner_cli.specs.declared.requests.ChangeRequest.TheVariants as change
 use Rattle.planner_cli.specs.declared.requests.Request.{Request}
 use Rattle.planner_cli.specs.declared.requests.Request.TheVariants as request
 
--- what a statement asks; the other statements are not served yet: they are as a line that is no statement
+-- the key of an occurrence
+abbrev pub key_of : List ℕ → ℕ → Key
+key_of app ia = record { ia = ia; app = app }
+
+-- what a statement asks. Those that are not served yet ask nothing, as a line that is no statement
 abbrev pub request_of : Option Statement → Request
-request_of (Some (statement.Define kind job)) = request.Define (definitions_kind kind)
-request_of (Some (statement.Undefine kind name job)) = request.Undefine (definitions_kind kind) name
+request_of (Some (statement.Define kind job)) = request.Define job (definitions_kind kind)
 request_of (Some (statement.Days app from to)) = request.Days app from to
+request_of (Some (statement.Undefine kind name job)) = request.Change job (change.Undefine (definitions_kind kind) name)
+request_of (Some (statement.LtpCreate from to job)) = request.Change job (change.Create from to)
+request_of (Some (statement.LtpAdd app ia job)) = request.Change job (change.Add (key_of app ia))
+request_of (Some (statement.LtpDelete app ia job)) = request.Change job (change.Delete (key_of app ia))
+request_of (Some (statement.DpExtend to job)) = request.Change job (change.DailyExtend to)
+request_of (Some (statement.DpReplan job)) = request.Change job change.Replan
+request_of (Some (statement.CpAdd app ia job)) = request.Change job (change.AddCurrent (key_of app ia))
+request_of (Some (statement.CpChange action app ia job)) = request.Change job (change.Act action (key_of app ia))
 request_of _ = request.NotServed
+
+-- the change of the planner's machine that a request asks for
+abbrev pub change_of : ChangeRequest → Change
+change_of (change.Undefine kind name) = Undefine kind name
+change_of (change.Create from to) = Create from to
+change_of (change.Add key) = Add key
+change_of (change.Delete key) = Delete key
+change_of (change.DailyExtend to) = DailyExtend to
+change_of change.Replan = Replan
+change_of (change.AddCurrent key) = AddCurrent key
+change_of (change.Act action key) = Act action key

@@ -1,34 +1,37 @@
--- What each statement changes and is answered: the list of statements, and the step of the planner.
-use Rattle.std.specs.Prelude.{◌≡◌, Option}
-use Rattle.occurrences.specs.declared.refusal.Refusal.TheVariants.{NotAStatement, FaultyData}
-use Rattle.statements.specs.Statement.{Reads}
-use Rattle.statements.specs.declared.statements.Statement.{Statement}
-use Rattle.stream_items.specs.Items.{Item, NoStatement, Alone, WithBlock, Block}
-use Rattle.planner_cli.specs.Days.{AnswersDays}
-use Rattle.planner_cli.specs.Define.{TakesBlock}
+-- The step of the planner: what an item is answered, and the content after it.
+use Rattle.std.specs.Prelude.{◌≡◌, ℕ, List, [], Option, None, Some, Ok}
+use Rattle.occurrences.specs.declared.refusal.Refusal.TheVariants.{NotAStatement}
+use Rattle.run_cycles.specs.declared.named.Named.{Named}
+use Rattle.planner_machine.specs.Content.{Content}
+use Rattle.planner_machine.specs.Days.{ListsDays}
+use Rattle.planner_machine.specs.Statement.{Answer, Days, Statement, Steps}
+use Rattle.planner_machine.specs.Stream.{IsStatement}
+use Rattle.stream_items.specs.Items.{Item}
+use Rattle.planner_cli.specs.Asked.{Asks}
+use Rattle.planner_cli.specs.Outcomes.{answer_text, refusing}
 use Rattle.planner_cli.specs.Replies.{Reply}
-use Rattle.planner_cli.specs.Requests.{request_of}
-use Rattle.planner_cli.specs.State.{IsRefused, State}
-use Rattle.planner_cli.specs.Undefine.{TakesAway}
-use Rattle.planner_cli.specs.declared.requests.Request.{Request}
-use Rattle.planner_cli.specs.declared.requests.Request.TheVariants as request
+use Rattle.planner_cli.specs.Rows.{AreDaysLines}
 
--- what a line without data is answered; `define` needs them
-abbrev pub AnswersRequest : State → Request → Reply → State → Type 0
-AnswersRequest s request.NotServed reply t = IsRefused s NotAStatement reply t
-AnswersRequest s (request.Define kind) reply t = IsRefused s (FaultyData 0) reply t
-AnswersRequest s (request.Undefine kind name) reply t = TakesAway s kind name reply t
-AnswersRequest s (request.Days app from to) reply t = AnswersDays s.definitions app from to reply × (t ≡ s)
+-- the rows that a statement prints before its reply line
+abbrev pub ShowsRows : Statement → Content → Answer → List (List ℕ) → Type 0
+ShowsRows (Days app from to) c (Ok reply) rows =
+    (shown : List Named) × ListsDays c.definitions app from to shown × AreDaysLines shown rows
+ShowsRows statement c answer rows = rows ≡ []
 
--- what a line with data is answered; no other statement than `define` takes them
-abbrev pub AnswersData : State → Request → Block → Reply → State → Type 0
-AnswersData s (request.Define kind) block reply t = TakesBlock s kind block reply t
-AnswersData s _ block reply t = IsRefused s NotAStatement reply t
+-- a statement is answered by a step of the planner's machine, and the reply prints its rows and its answer
+pub record Serves (statement : Statement) (c : Content) (reply : Reply) (c' : Content) : Type 0 where
+  pub answer : Answer
+  pub steps : Steps statement c answer c'
+  pub rows : ShowsRows statement c answer reply.rows
+  pub line : reply.line ≡ answer_text answer
+  -- its values are such as a line and a block give
+  pub well_formed : IsStatement statement
 
--- one step of the planner: where s is known, the item gets this reply, and t is known after it
-abbrev pub Step : State → Item → Reply → State → Type 0
-Step s NoStatement reply t = IsRefused s NotAStatement reply t
-Step s (Alone line) reply t =
-    (read : Option Statement) × Reads line read × AnswersRequest s (request_of read) reply t
-Step s (WithBlock line block) reply t =
-    (read : Option Statement) × Reads line read × AnswersData s (request_of read) block reply t
+-- what is no statement, or none that is served, is refused, and nothing changes
+abbrev pub AnswersAsked : Option Statement → Content → Reply → Content → Type 0
+AnswersAsked None c reply c' = (reply ≡ refusing NotAStatement) × (c' ≡ c)
+AnswersAsked (Some statement) c reply c' = Serves statement c reply c'
+
+-- one step: where the content is c, the item gets this reply, and c' is left
+abbrev pub Step : Content → Item → Reply → Content → Type 0
+Step c item reply c' = (asked : Option Statement) × Asks item asked × AnswersAsked asked c reply c'

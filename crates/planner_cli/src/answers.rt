@@ -1,45 +1,75 @@
-//! Answers: the bytes that a statement prints, and whether it is accepted.
-ghost use Rattle.std.specs.Prelude.{◌≡◌, ℕ, List, flat_map, IfOk};
-ghost use Rattle.plan_listings.specs.Reply.{reply_text};
-ghost use Rattle.planner_cli.specs.Outcomes.{refusing};
+//! Answers on their way to print: the bytes of rows and reply lines.
+ghost use Rattle.std.specs.Prelude.{◌≡◌, ℕ, List, flat_map, IfErr, IfOk};
+ghost use Rattle.planner_cli.specs.Outcomes.{answer_text, answering};
 ghost use Rattle.planner_cli.specs.Replies.{ended, Prints};
+ghost use Rattle.plan_store.specs.declared.stores.StoreFault.TheVariants.{Memory};
 
 use crate::rows::append_line;
 use occurrences::{Refusal, Reply};
 use plan_listings::{refusal_line, reply_line};
+use plan_store::StoreFault;
+use planner_machine::Answer;
 use std::alloc::{AllocError, Global};
 
-/// The answer to a statement.
+/// What a statement prints.
 #[derive(Debug, Drop)]
-pub struct Answer {
-    /// All bytes that are printed: rows, if there are any, and the reply line.
+pub struct Printed {
+    /// All bytes: rows, if there are any, and the reply line.
     pub text: Vec<u8>,
     /// Whether the reply line begins with `ok`.
     pub is_accepted: bool,
 }
 
-/// The answer to a statement that is refused.
-#[tactic(auto, unfolding(crate::specs::Replies::printed, crate::specs::Replies::is_accepted, crate::specs::Replies::is_refused))]
-pub(crate) fn refused(alloc: Global, refusal: Refusal) -> Result<Answer, AllocError>
-    ensures { IfOk result (λ answer. Prints (refusing refusal) answer.text.items answer.is_accepted) }
+/// What an answer prints, after the bytes of the rows before it.
+pub(crate) fn print_answer(
+    alloc: Global,
+    rows: Vec<u8>,
+    answer: &Answer,
+) -> Result<Printed, AllocError>
+    ensures { IfOk result (λ printed. (lines : List (List ℕ)) → rows.items ≡ flat_map ended lines
+        → Prints (record { rows = lines; line = answer_text answer.now }) printed.text.items printed.is_accepted) }
 {
-    let mut text = Vec::new(alloc);
-    append_line(&mut text, &refusal_line(alloc, &refusal)?)?;
-    Ok(Answer {
+    match answer {
+        Ok(reply) => accepted(alloc, rows, reply),
+        Err(refusal) => refused(alloc, rows, refusal),
+    }
+}
+
+// What a refused statement prints.
+fn refused(alloc: Global, rows: Vec<u8>, refusal: &Refusal) -> Result<Printed, AllocError>
+    ensures { IfOk result (λ printed. (lines : List (List ℕ)) → rows.items ≡ flat_map ended lines
+        → Prints (record { rows = lines; line = refusal_text refusal.now }) printed.text.items printed.is_accepted) }
+{
+    let mut text = rows;
+    append_line(&mut text, &refusal_line(alloc, refusal)?)?;
+    Ok(Printed {
         text,
         is_accepted: false,
     })
 }
 
-/// The answer to a statement that is accepted, after the bytes of the rows that it prints.
-pub(crate) fn accepted(alloc: Global, rows: Vec<u8>, reply: Reply) -> Result<Answer, AllocError>
-    ensures { IfOk result (λ answer. (lines : List (List ℕ)) → rows.items ≡ flat_map ended lines
-        → Prints (record { rows = lines; line = reply_text reply }) answer.text.items answer.is_accepted) }
+ghost use Rattle.plan_listings.specs.Reply.{refusal_text, reply_text};
+
+// What an accepted statement prints.
+fn accepted(alloc: Global, rows: Vec<u8>, reply: &Reply) -> Result<Printed, AllocError>
+    ensures { IfOk result (λ printed. (lines : List (List ℕ)) → rows.items ≡ flat_map ended lines
+        → Prints (record { rows = lines; line = reply_text reply.now }) printed.text.items printed.is_accepted) }
 {
     let mut text = rows;
-    append_line(&mut text, &reply_line(alloc, &reply)?)?;
-    Ok(Answer {
+    append_line(&mut text, &reply_line(alloc, reply)?)?;
+    Ok(Printed {
         text,
         is_accepted: true,
     })
+}
+
+/// What an answer without rows prints.
+pub(crate) fn told(alloc: Global, answer: &Answer) -> Result<Printed, StoreFault>
+    ensures told { IfOk result (λ printed. Prints (answering answer.now) printed.text.items printed.is_accepted) }
+    ensures err { IfErr result (λ fault. fault ≡ Memory) }
+{
+    match print_answer(alloc, Vec::new(alloc), answer) {
+        Ok(printed) => Ok(printed),
+        Err(_) => Err(StoreFault::Memory),
+    }
 }

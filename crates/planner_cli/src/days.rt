@@ -3,72 +3,64 @@ ghost use Rattle.std.specs.Prelude.{◌≡◌, ◌↔◌, ◌≤◌, ℕ, IsTrue
 ghost use Rattle.work_calendars.specs.Day.{last_planning_day};
 ghost use Rattle.app_definitions.specs.Active.{IsActive, LacksCalendar, LacksPeriod};
 ghost use Rattle.occurrences.specs.declared.refusal.Refusal.{Refusal as RefusalValue};
-ghost use Rattle.planner_cli.specs.Days.{AnswersDays, AreBadDates, DaysRefused, ListsDays};
-ghost use Rattle.planner_cli.specs.Outcomes.{IsLeastRefusal};
+ghost use Rattle.planner_machine.specs.Content.{Content};
+ghost use Rattle.planner_machine.specs.Days.{AreBadDays, DaysRefused, ListsDays};
+ghost use Rattle.planner_machine.specs.Decision.{IsLeastRefusal};
+ghost use Rattle.planner_machine.specs.Statement.{Days as DaysStatement};
 ghost use Rattle.planner_cli.specs.Replies.{Prints, Reply as ReplyValue};
+ghost use Rattle.planner_cli.specs.Steps.{Serves};
+ghost use Rattle.planner_cli.specs.Stores.{AnswersBy};
 
-use crate::answers::{Answer, accepted, refused};
+use crate::answers::{Printed, print_answer};
 use crate::rows::days_rows;
 use app_definitions::{Application, Definitions, WorkIndexes};
 use occurrences::{Refusal, Reply};
+use plan_store::{Need, PlanStore, StoreFault, View};
+use planner_machine::LONGEST_WINDOW;
 use run_cycles::Named;
 use std::alloc::{AllocError, Global};
 use work_calendars::{App, Day};
 
-/// The most days that one question may cover, both ends counted.
-pub const LONGEST_WINDOW: u32 = 1461;
-
-/// Whether the days are out of order, past the last planning day, or too many.
-fn are_bad_dates(from: Day, to: Day) -> bool
-    ensures { IsTrue result ↔ AreBadDates from to }
+/// Lists the days that an application's run cycles name.
+pub(crate) fn answer_days<S: PlanStore>(
+    alloc: Global,
+    store: &mut S,
+    app: &App,
+    from: Day,
+    to: Day,
+) -> Result<Printed, StoreFault>
+    ensures { AnswersBy S.is_honest S.content S.failures store.old store.new result
+        (Serves (DaysStatement app.now from to) (S.content store.old)) }
 {
-    to < from || to > Day::LAST_PLANNING || from.number() + LONGEST_WINDOW <= to.number()
+    let view = store.read_window(Need::LongTerm)?;
+    match days(alloc, view.definitions(), app, from, to) {
+        Ok(printed) => Ok(printed),
+        Err(_) => Err(StoreFault::Memory),
+    }
 }
 
-/// The refusal of the least number that holds of the definitions of an active application, if one does.
-fn lacking(all: &Definitions, app: &App, application: &Application) -> Option<Refusal>
-    requires { IsActive all.now app.now application.now }
-    ensures some { IfSome result (λ r. (from to : ℕ) → IsLeastRefusal (DaysRefused all.now app.now from to) r) }
-    ensures none { IfNone result ((¬ (LacksCalendar all.now application.now)) × ¬ (LacksPeriod all.now app.now)) }
+// Lists the days that an application's run cycles name.
+fn days(
+    alloc: Global,
+    all: &Definitions,
+    app: &App,
+    from: Day,
+    to: Day,
+) -> Result<Printed, AllocError>
+    ensures { IfOk result (λ printed. (c : Content) → c.definitions ≡ all.now → (reply : ReplyValue)
+        × Serves (DaysStatement app.now from to) c reply c × Prints reply printed.text.items printed.is_accepted) }
 {
-    if all.lacks_calendar(application) {
-        return Some(Refusal::CalendarUndefined { app: *app });
-    }
-    if all.lacks_period(app) {
-        return Some(Refusal::PeriodUndefined { app: *app });
-    }
-    None
-}
-
-/// The application that a question is about, where nothing is wrong with the question; else the refusal of the least
-/// number that holds.
-fn application_for(all: &Definitions, app: &App, from: Day, to: Day) -> Result<Application, Refusal>
-    ensures active { IfOk result (IsActive all.now app.now) }
-    ensures planned { OnOk result (to ≤ last_planning_day) }
-    ensures good { OnOk result ((r : RefusalValue) → ¬ (DaysRefused all.now app.now from to r)) }
-    ensures refused { IfErr result (IsLeastRefusal (DaysRefused all.now app.now from to)) }
-{
-    match all.active(app) {
-        Some(application) => {
-            if let Some(refusal) = lacking(all, app, &application) {
-                return Err(refusal);
-            }
-            if are_bad_dates(from, to) {
-                return Err(Refusal::DatesOutOfRange);
-            }
-            Ok(application)
+    match named_days(alloc, all, app, from, to)? {
+        Ok(named) => {
+            let rows = days_rows(alloc, &named)?;
+            print_answer(alloc, rows, &Ok(Reply::Rows { rows: named.len() }))
         }
-        None => {
-            if are_bad_dates(from, to) {
-                return Err(Refusal::DatesOutOfRange);
-            }
-            Err(Refusal::NoActiveApplication)
-        }
+        Err(refusal) => print_answer(alloc, Vec::new(alloc), &Err(refusal)),
     }
 }
 
-/// The occurrences that an application's run cycles name from `from` to `to`, by day and time, or the refusal of the
-/// least number that holds. Errs for want of memory alone.
+// The occurrences that an application's run cycles name from `from` to `to`, by day and time, or the refusal of the
+// least number that holds. Errs for want of memory alone.
 fn named_days(
     alloc: Global,
     all: &Definitions,
@@ -77,9 +69,10 @@ fn named_days(
     to: Day,
 ) -> Result<Result<Vec<Named>, Refusal>, AllocError>
     ensures listed { IfOk result (λ answer. IfOk answer (λ list. ListsDays all.now app.now from to list.items)) }
-    ensures good { IfOk result (λ answer.
-        OnOk answer ((r : RefusalValue) → ¬ (DaysRefused all.now app.now from to r))) }
-    ensures refused { IfOk result (λ answer. IfErr answer (IsLeastRefusal (DaysRefused all.now app.now from to))) }
+    ensures good { IfOk result (λ answer. OnOk answer ((c : Content) → c.definitions ≡ all.now → (r : RefusalValue)
+        → ¬ (DaysRefused app.now from to c r))) }
+    ensures refused { IfOk result (λ answer. IfErr answer (λ r. (c : Content) → c.definitions ≡ all.now
+        → IsLeastRefusal (DaysRefused app.now from to c) r)) }
 {
     let application = match application_for(all, app, from, to) {
         Ok(application) => application,
@@ -90,22 +83,54 @@ fn named_days(
     Ok(Ok(list))
 }
 
-/// Lists the days that an application's run cycles name.
-pub(crate) fn days(
-    alloc: Global,
-    all: &Definitions,
-    app: &App,
-    from: Day,
-    to: Day,
-) -> Result<Answer, AllocError>
-    ensures { IfOk result (λ answer. (reply : ReplyValue) × AnswersDays all.now app.now from to reply
-        × Prints reply answer.text.items answer.is_accepted) }
+// The application that a question is about, where nothing is wrong with the question; else the refusal of the least
+// number that holds.
+fn application_for(all: &Definitions, app: &App, from: Day, to: Day) -> Result<Application, Refusal>
+    ensures active { IfOk result (IsActive all.now app.now) }
+    ensures planned { OnOk result (to ≤ last_planning_day) }
+    ensures good { OnOk result ((c : Content) → c.definitions ≡ all.now → (r : RefusalValue)
+        → ¬ (DaysRefused app.now from to c r)) }
+    ensures refused { IfErr result (λ r. (c : Content) → c.definitions ≡ all.now
+        → IsLeastRefusal (DaysRefused app.now from to c) r) }
 {
-    match named_days(alloc, all, app, from, to)? {
-        Ok(named) => {
-            let rows = days_rows(alloc, &named)?;
-            accepted(alloc, rows, Reply::Rows { rows: named.len() })
+    match all.active(app) {
+        Some(application) => {
+            if let Some(refusal) = lacking(all, app, &application) {
+                return Err(refusal);
+            }
+            if are_bad_days(from, to) {
+                return Err(Refusal::DatesOutOfRange);
+            }
+            Ok(application)
         }
-        Err(refusal) => refused(alloc, refusal),
+        None => {
+            if are_bad_days(from, to) {
+                return Err(Refusal::DatesOutOfRange);
+            }
+            Err(Refusal::NoActiveApplication)
+        }
     }
+}
+
+// Whether the days are out of order, past the last planning day, or too many.
+fn are_bad_days(from: Day, to: Day) -> bool
+    ensures { IsTrue result ↔ AreBadDays from to }
+{
+    to < from || to > Day::LAST_PLANNING || from.number() + LONGEST_WINDOW <= to.number()
+}
+
+// The refusal of the least number that holds of the definitions of an active application, if one does.
+fn lacking(all: &Definitions, app: &App, application: &Application) -> Option<Refusal>
+    requires { IsActive all.now app.now application.now }
+    ensures some { IfSome result (λ r. (c : Content) → c.definitions ≡ all.now → (from to : ℕ)
+        → IsLeastRefusal (DaysRefused app.now from to c) r) }
+    ensures none { IfNone result ((¬ (LacksCalendar all.now application.now)) × ¬ (LacksPeriod all.now app.now)) }
+{
+    if all.lacks_calendar(application) {
+        return Some(Refusal::CalendarUndefined { app: *app });
+    }
+    if all.lacks_period(app) {
+        return Some(Refusal::PeriodUndefined { app: *app });
+    }
+    None
 }

@@ -1,41 +1,49 @@
-//! `define`: the definitions of a data block.
-ghost use Rattle.std.specs.Prelude.{◌≡◌, IfOk, OnErr};
-ghost use Rattle.stream_items.specs.Pages.{block_shown, Fits};
-ghost use Rattle.planner_cli.specs.Define.{TakesBlock};
-ghost use Rattle.planner_cli.specs.Replies.{Answered};
+//! `define` and `undefine`: the definitions change, and the plans stay.
+ghost use Rattle.std.specs.Prelude.{◌≡◌, ◌↔◌, IsTrue};
+ghost use Rattle.app_definitions.specs.Definitions.{IsDefined};
+ghost use Rattle.planner_machine.specs.Content.{Content};
+ghost use Rattle.planner_machine.specs.Define as decided;
+ghost use Rattle.plan_store.specs.Verdicts.{VerdictIs};
+ghost use Rattle.plan_store.specs.Views.{shown};
 
-use crate::answers::{Answer, accepted, refused};
-use crate::desk::Desk;
-use app_definitions::{BlockFault, Kind, read_block};
+use app_definitions::{Block, Definitions, Kind};
 use occurrences::{Refusal, Reply};
-use std::alloc::{AllocError, Global};
-use stream_items::Block;
+use plan_store::{Change, DefinitionChange, Verdict, View};
+use std::alloc::Global;
+use work_calendars::Name;
 
-/// Takes in what a block of that kind defines. The answer is made before anything is changed.
-pub(crate) fn define(
-    alloc: Global,
-    desk: &mut Desk,
-    kind: Kind,
-    block: Block<'_>,
-) -> Result<Answer, AllocError>
-    requires { Fits block }
-    ensures answered { IfOk result (λ answer. Answered (TakesBlock desk.old kind (block_shown block.entry))
-        desk.new answer.text.items answer.is_accepted) }
-    ensures err { OnErr result (desk.new ≡ desk.old) }
+/// `define` with a block that was read: it is merged.
+pub(crate) fn define(alloc: Global, block: Block) -> Verdict
+    ensures { (c : Content) → VerdictIs (decided.define block) c result }
 {
-    let Block::Whole(bytes) = block else {
-        return refused(alloc, Refusal::FaultyData { record: 0 });
-    };
-    match read_block(alloc, kind, bytes) {
-        Ok(definitions) => {
-            let names = definitions.len();
-            let answer = accepted(alloc, Vec::new(alloc), Reply::Defined { names })?;
-            desk.definitions.merge(definitions)?;
-            Ok(answer)
-        }
-        Err(BlockFault::Faulty { number }) => {
-            refused(alloc, Refusal::FaultyData { record: number })
-        }
-        Err(BlockFault::Memory) => Err(AllocError),
+    let names = block.len();
+    let mut change = Change::none(alloc);
+    change.definitions = DefinitionChange::Merged(block);
+    Verdict::Done(change, Reply::Defined { names })
+}
+
+/// `undefine`: the definition of the name is taken away. Refused where there is none (13).
+pub(crate) fn undefine(alloc: Global, view: &View<'_>, kind: Kind, name: &Name) -> Verdict
+    ensures { (c : Content) → shown view.now ≡ c → VerdictIs (decided.undefine kind name.now) c result }
+{
+    if !is_defined(view.definitions(), kind, name) {
+        return Verdict::Refused(Refusal::NotDefined);
+    }
+    let mut change = Change::none(alloc);
+    change.definitions = DefinitionChange::Removed { kind, name: *name };
+    Verdict::Done(change, Reply::Undefined)
+}
+
+// Whether a name of that kind is defined.
+fn is_defined(all: &Definitions, kind: Kind, name: &Name) -> bool
+    ensures { IsTrue result ↔ IsDefined all.now kind name.now }
+{
+    match kind {
+        Kind::Applications => all.applications.get(name).is_some(),
+        Kind::Calendars => all.calendars.get(name).is_some(),
+        Kind::Periods => all.periods.get(name).is_some(),
+        Kind::Predecessors => all.predecessors.get(name).is_some(),
+        Kind::RunCycles => all.run_cycles.get(name).is_some(),
+        Kind::Options => false,
     }
 }

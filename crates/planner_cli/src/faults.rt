@@ -1,8 +1,9 @@
 //! What ends a run before its stream does.
 ghost use Rattle.std.specs.Prelude.{◌≡◌};
-ghost use Rattle.planner_cli.specs.Faults.{cause_of, read_cause, tally_in, fault_number};
+ghost use Rattle.planner_cli.specs.Faults.{cause_of, read_cause, store_cause, tally_in, fault_number};
 
 use crate::tally::Tally;
+use plan_store::StoreFault;
 use std::fmt;
 use stream_items::ReadFault;
 use thiserror::Error;
@@ -106,5 +107,15 @@ pub fn cause_of_read(fault: ReadFault) -> Cause
     match fault {
         ReadFault::Memory => Cause::Memory,
         ReadFault::Reader => Cause::Device(Part::Reader),
+    }
+}
+
+/// The cause that a fault of the store is.
+pub fn cause_of_store(fault: StoreFault) -> Cause
+    ensures { result ≡ store_cause fault }
+{
+    match fault {
+        StoreFault::Memory => Cause::Memory,
+        StoreFault::Device => Cause::Device(Part::Store),
     }
 }

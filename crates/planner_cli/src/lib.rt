@@ -1,26 +1,27 @@
 //! The planner's job stream: what each statement changes and is answered, and a run over a whole stream.
 //!
 //! ```text
-//! let mut desk = Desk::new(alloc);
-//! let outcome = run(alloc, &mut desk, &mut reader, &mut writer);
+//! let mut store = ListStore::new(alloc);
+//! let outcome = run(alloc, &mut store, &mut reader, &mut writer);
 //! let status = exit_status(&outcome);
 //! ```
 #![tactic(auto)]
 
 mod answers;
 mod days;
+mod decisions;
 mod define;
-mod desk;
 mod faults;
+mod jobs;
 mod kinds;
 mod requests;
 mod rows;
+mod steps;
 mod stream;
 mod tally;
-mod undefine;
+mod texts;
 mod writing;
 
-pub use desk::Desk;
 pub use faults::{Part, RunFault};
 pub use stream::{exit_status, run};
 pub use tally::Tally;

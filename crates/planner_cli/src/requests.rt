@@ -2,25 +2,58 @@
 ghost use Rattle.std.specs.Prelude.{◌≡◌, Option, IfOk};
 ghost use Rattle.statements.specs.Statement.{Reads};
 ghost use Rattle.statements.specs.declared.statements.Statement.{Statement as StatementValue};
-ghost use Rattle.planner_cli.specs.Requests.{request_of};
+ghost use Rattle.planner_machine.specs.Laws.{IsWellFormed};
+ghost use Rattle.planner_cli.specs.Requests.{change_of, request_of};
 
 use crate::kinds::definitions_kind;
 use app_definitions::Kind;
-use statements::{Statement, read_statement};
+use occurrences::{Action, Key};
+use statements::{JobNumber, Statement, read_statement};
 use std::alloc::{AllocError, Global};
-use work_calendars::{App, Day, Name};
+use work_calendars::{App, Day, Moment, Name};
+
+/// A change that carries a job number and no data.
+#[derive(Clone, Copy, Debug)]
+pub enum ChangeRequest {
+    /// To take the definition of a name away.
+    Undefine { kind: Kind, name: Name },
+    /// To make the long-term plan from one day to another.
+    Create { from: Day, to: Day },
+    /// To add an occurrence to the long-term plan.
+    Add { key: Key },
+    /// To take an occurrence out of the long-term plan.
+    Delete { key: Key },
+    /// To extend the current plan to a moment.
+    DailyExtend { to: Moment },
+    /// To make the current plan anew.
+    Replan,
+    /// To add an occurrence to the current plan.
+    AddCurrent { key: Key },
+    /// To change the status of an occurrence of the current plan.
+    Act { action: Action, key: Key },
+}
 
 /// What a line asks of the planner.
 #[derive(Clone, Copy, Debug)]
 pub enum Request {
     /// The line is no statement, or one that isn't served yet.
     NotServed,
-    /// To take definitions of a kind, from the data after it.
-    Define { kind: Kind },
-    /// To take the definition of a name away.
-    Undefine { kind: Kind, name: Name },
+    /// To take in the definitions of a kind, from the data after it.
+    Define {
+        number: JobNumber,
+        kind: Kind,
+    },
     /// The days that an application's run cycles name, from `from` to `to`.
-    Days { app: App, from: Day, to: Day },
+    Days {
+        app: App,
+        from: Day,
+        to: Day,
+    },
+    /// A change.
+    Change {
+        number: JobNumber,
+        change: ChangeRequest,
+    },
 }
 
 /// What a statement asks of the planner, or what a line that is none does.
@@ -28,19 +61,88 @@ fn request_of(read: &Option<Statement>) -> Request
     ensures { result ≡ request_of read.now }
 {
     match read {
-        Some(Statement::Define { kind, .. }) => Request::Define {
+        Some(Statement::Define { kind, job }) => Request::Define {
+            number: *job,
             kind: definitions_kind(*kind),
-        },
-        Some(Statement::Undefine { kind, name, .. }) => Request::Undefine {
-            kind: definitions_kind(*kind),
-            name: *name,
         },
         Some(Statement::Days { app, from, to }) => Request::Days {
             app: *app,
             from: *from,
             to: *to,
         },
+        Some(Statement::Undefine { kind, name, job }) => Request::Change {
+            number: *job,
+            change: ChangeRequest::Undefine {
+                kind: definitions_kind(*kind),
+                name: *name,
+            },
+        },
+        Some(Statement::LtpCreate { from, to, job }) => Request::Change {
+            number: *job,
+            change: ChangeRequest::Create {
+                from: *from,
+                to: *to,
+            },
+        },
+        Some(Statement::LtpAdd { app, ia, job }) => Request::Change {
+            number: *job,
+            change: ChangeRequest::Add {
+                key: Key { ia: *ia, app: *app },
+            },
+        },
+        Some(Statement::LtpDelete { app, ia, job }) => Request::Change {
+            number: *job,
+            change: ChangeRequest::Delete {
+                key: Key { ia: *ia, app: *app },
+            },
+        },
+        Some(Statement::DpExtend { to, job }) => Request::Change {
+            number: *job,
+            change: ChangeRequest::DailyExtend { to: *to },
+        },
+        Some(Statement::DpReplan { job }) => Request::Change {
+            number: *job,
+            change: ChangeRequest::Replan,
+        },
+        Some(Statement::CpAdd { app, ia, job }) => Request::Change {
+            number: *job,
+            change: ChangeRequest::AddCurrent {
+                key: Key { ia: *ia, app: *app },
+            },
+        },
+        Some(
+            Statement::CpChange {
+                action,
+                app,
+                ia,
+                job,
+            },
+        ) => Request::Change {
+            number: *job,
+            change: ChangeRequest::Act {
+                action: *action,
+                key: Key { ia: *ia, app: *app },
+            },
+        },
         _ => Request::NotServed,
+    }
+}
+
+/// Tells that the values of a change are such as a line gives: a first day is a day.
+pub(crate) fn tell_well_formed(change: &ChangeRequest)
+    ensures { IsWellFormed (change_of change.now) }
+{
+    match change {
+        ChangeRequest::Create { from, .. } => {
+            from.number();
+        }
+        ChangeRequest::Undefine { .. } => {}
+        ChangeRequest::Add { .. } => {}
+        ChangeRequest::Delete { .. } => {}
+        ChangeRequest::DailyExtend { .. } => {}
+        ChangeRequest::Replan => {}
+        ChangeRequest::AddCurrent { .. } => {}
+        ChangeRequest::Act { .. } => {}
     }
 }
 

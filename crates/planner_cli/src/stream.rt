@@ -1,39 +1,59 @@
 //! A run over a whole stream.
-ghost use Rattle.std.specs.Prelude.{◌≡◌, ◌≤◌, ℕ, List, [], length, take, IfOk, IfErr, IfSome};
+ghost use Rattle.std.specs.Prelude.{◌≡◌, ◌≤◌, ℕ, List, [], length, take, IfOk, IfErr};
 ghost use Rattle.std.specs.Io.KnownBytes.{Appends};
+ghost use Rattle.planner_machine.specs.Sound.{IsSound};
+ghost use Rattle.stream_items.specs.Items.{Item as ItemRead};
 ghost use Rattle.stream_items.specs.Pages.{item_of, FitsBlock};
-ghost use Rattle.planner_cli.specs.Faults.{fault_line, status_of};
+ghost use Rattle.planner_cli.specs.Faults.{cause_of, fault_line, status_of};
+ghost use Rattle.planner_cli.specs.Plans.{LeadsTo};
 ghost use Rattle.planner_cli.specs.Replies.{Answered};
 ghost use Rattle.planner_cli.specs.Runs.{ItemBreaks, Ran, Stopped};
 ghost use Rattle.planner_cli.specs.Steps.{Step};
+ghost use Rattle.planner_cli.specs.Stores.{IsBlamed};
+ghost use Rattle.planner_cli.specs.declared.faults.Cause.TheVariants.{Device};
+ghost use Rattle.planner_cli.specs.declared.faults.Part.TheVariants.{Store};
 
-use crate::desk::Desk;
-use crate::faults::{Cause, Part, RunFault, cause_of_read};
+use crate::faults::{Cause, Part, RunFault, cause_of_read, cause_of_store};
+use crate::steps::answer_item;
 use crate::tally::Tally;
 use crate::writing::write_out;
+use plan_store::PlanStore;
+use planner_machine::streams;
 use std::alloc::Global;
 use std::io::{BufRead, Write};
 use stream_items::{Item, Page};
 
-/// Answers the items of a stream in order, each by the bytes that its answer prints, and ends with
-/// the stream or at the first fault. A fault of memory, of the store or of the reader is told by a
-/// last line, `fault 40` or `fault 41`, for which no memory is taken; one of the writer is not.
-/// However long a line or a block is, no more than the first 1,026 bytes of one line and the first
-/// 262,145 bytes of one block are held.
-pub fn run<R: BufRead, W: Write>(
+/// Answers the items of a stream in order, each by a step of the planner on what the store keeps,
+/// and by the bytes that its reply prints. It ends with the stream or at the first fault. A fault
+/// of memory, of the store or of the reader is told by a last line, `fault 40` or `fault 41`, for
+/// which no memory is taken; one of the writer is not. However long a line or a block is, no more
+/// than the first 1,026 bytes of one line and the first 262,145 bytes of one block are held.
+pub fn run<S: PlanStore, R: BufRead, W: Write>(
     alloc: Global,
-    desk: &mut Desk,
+    store: &mut S,
     reader: &mut R,
     writer: &mut W,
 ) -> Result<Tally, RunFault>
-    // Where the reader tells its bytes, what the replies to them print is what was written, and nothing else.
-    ensures ran { IfOk result (λ tally. IfSome (R.remaining reader.old) (λ text.
-        Ran Step desk.old desk.new (W.contents writer.old) (W.contents writer.new) text tally)) }
-    // After a fault the answers to the items before it stand in the writer.
-    ensures fault { IfErr result (λ fault. IfSome (R.remaining reader.old) (λ text.
-        Stopped Step fault_line desk.old desk.new (W.contents writer.old) (W.contents writer.new) text fault)) }
+    // What an honest store keeps is sound.
+    requires { S.is_honest store.old → IsSound (S.content store.old) }
+    // What the replies print is what was written, and nothing else.
+    ensures ran { S.is_honest store.new → IfOk result (λ tally. Ran Step (S.content store.old) (S.content store.new)
+        (W.contents writer.old) (W.contents writer.new) (R.remaining reader.old) tally) }
+    // After a fault the replies to the items before it stand in the writer.
+    ensures fault { S.is_honest store.new → IfErr result (λ fault.
+        Stopped Step fault_line (S.content store.old) (S.content store.new)
+        (W.contents writer.old) (W.contents writer.new) (R.remaining reader.old) fault) }
+    // However it ends, what the store keeps is sound, and each occurrence stands where its fates put it.
+    ensures planned { S.is_honest store.new → (items : List ItemRead)
+        × LeadsTo items (S.content store.old) (S.content store.new) }
+    // The store is blamed only where its device failed, in this run or before.
+    ensures blames { IfErr result (λ fault. cause_of fault ≡ Device Store
+        → IsBlamed (S.failures store.old) (S.failures store.new)) }
+    ensures counts { S.failures store.old ≤ S.failures store.new }
+    ensures honest { S.is_honest store.new → S.is_honest store.old }
 {
-    match answer_all(alloc, desk, reader, writer) {
+    streams();
+    match answer_all(alloc, store, reader, writer) {
         Ok(tally) => Ok(tally),
         Err(fault) => {
             tell_fault(writer, fault.cause());
@@ -43,17 +63,24 @@ pub fn run<R: BufRead, W: Write>(
 }
 
 /// Answers the items of a stream up to its end or the first fault, which is not told yet.
-fn answer_all<R: BufRead, W: Write>(
+fn answer_all<S: PlanStore, R: BufRead, W: Write>(
     alloc: Global,
-    desk: &mut Desk,
+    store: &mut S,
     reader: &mut R,
     writer: &mut W,
 ) -> Result<Tally, RunFault>
-    ensures ran { IfOk result (λ tally. IfSome (R.remaining reader.old) (λ text.
-        Ran Step desk.old desk.new (W.contents writer.old) (W.contents writer.new) text tally)) }
-    ensures fault { IfErr result (λ fault. IfSome (R.remaining reader.old) (λ text.
-        Stopped Step (λ _. []) desk.old desk.new (W.contents writer.old) (W.contents writer.new) text fault)) }
+    requires { S.is_honest store.old → IsSound (S.content store.old) }
+    ensures ran { S.is_honest store.new → IfOk result (λ tally. Ran Step (S.content store.old) (S.content store.new)
+        (W.contents writer.old) (W.contents writer.new) (R.remaining reader.old) tally) }
+    ensures fault { S.is_honest store.new → IfErr result (λ fault.
+        Stopped Step (λ _. []) (S.content store.old) (S.content store.new)
+        (W.contents writer.old) (W.contents writer.new) (R.remaining reader.old) fault) }
+    ensures blames { IfErr result (λ fault. cause_of fault ≡ Device Store
+        → IsBlamed (S.failures store.old) (S.failures store.new)) }
+    ensures counts { S.failures store.old ≤ S.failures store.new }
+    ensures honest { S.is_honest store.new → S.is_honest store.old }
 {
+    streams();
     let mut page = Page::new(alloc);
     let mut tally = Tally::new();
     for _ in 0..u64::MAX {
@@ -63,7 +90,7 @@ fn answer_all<R: BufRead, W: Write>(
         let Some(item) = page.item() else {
             return Ok(tally);
         };
-        match answer_one(alloc, desk, item, writer) {
+        match answer_one(alloc, store, item, writer) {
             Ok(is_accepted) => tally.count(is_accepted),
             Err(cause) => return Err(RunFault::new(cause, tally)),
         }
@@ -71,28 +98,34 @@ fn answer_all<R: BufRead, W: Write>(
     Err(RunFault::new(Cause::Device(Part::Reader), tally))
 }
 
-/// Answers one item: first the change, then the bytes of the answer. Tells whether it was accepted.
-fn answer_one<W: Write>(
+/// Answers one item: the reply is made, then the store changes, then the reply is written and flushed. Tells whether it
+/// was accepted.
+fn answer_one<S: PlanStore, W: Write>(
     alloc: Global,
-    desk: &mut Desk,
+    store: &mut S,
     item: Item<'_>,
     writer: &mut W,
 ) -> Result<bool, Cause>
-    requires { FitsBlock item }
-    ensures ok { IfOk result (λ accepted. (text : List ℕ)
-        × Answered (Step desk.old (item_of item.entry)) desk.new text accepted
+    requires fits { FitsBlock item }
+    requires sound { S.is_honest store.old → IsSound (S.content store.old) }
+    ensures ok { S.is_honest store.new → IfOk result (λ accepted. (text : List ℕ)
+        × Answered (Step (S.content store.old) (item_of item.entry)) (S.content store.new) text accepted
         × Appends (W.contents writer.old) (W.contents writer.new) text) }
-    ensures err { IfErr result (λ cause. ItemBreaks Step cause desk.old desk.new
+    ensures err { S.is_honest store.new → IfErr result (λ cause.
+        ItemBreaks Step cause (S.content store.old) (S.content store.new)
         (W.contents writer.old) (W.contents writer.new) (item_of item.entry)) }
+    ensures blames { IfErr result (λ cause. cause ≡ Device Store
+        → IsBlamed (S.failures store.old) (S.failures store.new)) }
+    ensures counts { S.failures store.old ≤ S.failures store.new }
+    ensures honest { S.is_honest store.new → S.is_honest store.old }
 {
-    let answer = match desk.answer(alloc, item) {
-        Ok(answer) => answer,
-        Err(_) => return Err(Cause::Memory),
+    let printed = match answer_item(alloc, store, item) {
+        Ok(printed) => printed,
+        Err(fault) => return Err(cause_of_store(fault)),
     };
-    write_out(writer, &answer.text)?;
-    Ok(answer.is_accepted)
+    write_out(writer, &printed.text)?;
+    Ok(printed.is_accepted)
 }
-
 /// Writes the line that tells a fault, as far as the writer takes it.
 fn tell_fault<W: Write>(writer: &mut W, cause: Cause)
     ensures { (n : ℕ) × (n ≤ length (fault_line cause))

@@ -1,5 +1,6 @@
 //! Readers and writers that fail, and want of memory.
-use crate::{Desk, Part, RunFault, Tally, exit_status, run};
+use crate::{Part, RunFault, Tally, exit_status, run};
+use plan_store::ListStore;
 use std::alloc::{AllocError, Global};
 use std::io::{self, BufRead, ErrorKind, Read, Write};
 use std::process::Abort;
@@ -209,8 +210,8 @@ fn seen_of<R: BufRead>(
         calls,
         by,
     };
-    let mut desk = Desk::new(alloc);
-    let outcome = run(alloc, &mut desk, reader, &mut writer);
+    let mut store = ListStore::new(alloc);
+    let outcome = run(alloc, &mut store, reader, &mut writer);
     Ok(seen_in(&outcome, &writer.got))
 }
 

@@ -2,7 +2,8 @@
 use crate::differences::first_difference;
 use crate::listed::Ends;
 use crate::pieces::Pieces;
-use planner_cli::{Desk, exit_status, run};
+use plan_store::ListStore;
+use planner_cli::{exit_status, run};
 use std::alloc::{AllocError, Global};
 use std::io;
 
@@ -39,8 +40,8 @@ pub struct Wrong {
 fn run_stream(alloc: Global, text: &[u8], most: usize) -> Answered {
     let mut reader = Pieces { text, most };
     let mut replies = Vec::new(alloc);
-    let mut desk = Desk::new(alloc);
-    let outcome = run(alloc, &mut desk, &mut reader, &mut replies);
+    let mut store = ListStore::new(alloc);
+    let outcome = run(alloc, &mut store, &mut reader, &mut replies);
     Answered {
         replies,
         status: exit_status(&outcome),

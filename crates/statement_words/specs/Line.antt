@@ -1,5 +1,5 @@
 -- The words of a line.
-use Rattle.std.specs.Prelude.{◌==◌, ◌||◌, ℕ, Bool, true, false, not, List, [], ◌∷◌, filter}
+use Rattle.std.specs.Prelude.{◌==◌, ◌||◌, ℕ, Bool, true, false, not, List, [], ◌∷◌, ◌++◌, filter, flat_map}
 use Rattle.std.specs.Int.{is_in_range}
 use Rattle.std.specs.List.{slice_split}
 use Rattle.statement_words.specs.Grammar.{Text}
@@ -22,3 +22,8 @@ has_bytes (x ∷ xs) = true
 -- the line cut at each blank and tab; the pieces between two that stand together are no words
 abbrev pub words_of : List ℕ → List Text
 words_of line = filter has_bytes (slice_split is_blank line)
+
+-- words, parted by one blank each
+abbrev pub joined : List Text → List ℕ
+joined [] = []
+joined (word ∷ rest) = word ++ flat_map (λ more. 32 ∷ more) rest

@@ -8,7 +8,7 @@ mod values;
 
 pub use form::Form;
 pub use law::reads_what_is_written;
-pub use line::{first_word, is_line_text, words_in};
+pub use line::{first_word, is_line_text, joined_words, words_in};
 pub use values::Values;
 
 #[cfg(test)]

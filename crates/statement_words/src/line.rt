@@ -3,7 +3,7 @@ ghost use Rattle.std.specs.Bool.{OnTrue};
 ghost use Rattle.std.specs.List.{list_all, prefix_len};
 ghost use Rattle.std.specs.Str.{IsAscii};
 ghost use Rattle.statement_words.specs.Form.{texts};
-ghost use Rattle.statement_words.specs.Line.{is_blank as is_blank_byte, is_line_byte, is_word_byte, words_of};
+ghost use Rattle.statement_words.specs.Line.{is_blank as is_blank_byte, is_line_byte, is_word_byte, joined, words_of};
 
 use std::alloc::{AllocError, Global};
 use std::str::from_utf8;
@@ -20,6 +20,23 @@ pub fn words_in<'a>(alloc: Global, line: &'a [u8]) -> Result<Vec<&'a str>, Alloc
         rest = after;
     }
     Ok(words)
+}
+
+/// The words of a line of any bytes, joined by one blank.
+pub fn joined_words(alloc: Global, line: &[u8]) -> Result<Vec<u8>, AllocError>
+    ensures { IfOk result (λ text. text.items ≡ joined (words_of line.now)) }
+{
+    let mut text = Vec::new(alloc);
+    let Some((first, mut rest)) = next_word(line) else {
+        return Ok(text);
+    };
+    text.extend_from_slice(first)?;
+    while let Some((word, after)) = next_word(rest) {
+        text.push(b' ')?;
+        text.extend_from_slice(word)?;
+        rest = after;
+    }
+    Ok(text)
 }
 
 /// The line has printable ASCII and tabs alone: the bytes 20 to 7E hexadecimal and 09.

@@ -1,0 +1,203 @@
+-- Lemmas on calls that answer over a store.
+use Rattle.std.proofs.Common.{◌≡◌, ◌⊎◌, ℕ, zero, suc, ◌+◌, ◌-◌, ◌^◌, ◌≤◌, ◌∙◌, refl, sym, subst, inl, inr, arith, min}
+use Rattle.std.specs.Prelude.{Err, IfErr, IfOk, Ok, OnErr, Result}
+use Rattle.planner_machine.specs.Content.{Content}
+use Rattle.plan_store.specs.Stores.{Reads}
+use Rattle.plan_store.specs.declared.stores.StoreFault.{StoreFault}
+use Rattle.plan_store.specs.declared.stores.StoreFault.TheVariants.{Device, Memory}
+use Rattle.planner_cli.specs.Replies.{Prints, Reply}
+use Rattle.planner_cli.specs.Stores.{AnswersBy, IsBlamed}
+use Rattle.planner_cli.specs.declared.answers.Printed.{Printed}
+
+-- ---- counts of failures
+
+pub blamed_since : (a b c : ℕ) → a ≤ b → b ≤ c → IsBlamed b c → IsBlamed a c
+blamed_since a b c before after (inl more) = let h : min (b + 1) (2 ^ 64 - 1) ≤ c = more in inl (omega arith)
+blamed_since a b c before after (inr some) = cases a refl
+  where
+    cases : (n : ℕ) → n ≡ a → IsBlamed a c
+    cases zero is = inl (let h : a ≡ 0 = sym is in omega arith)
+    cases (suc n) is = inr (omega arith)
+
+pub blamed_still : (a b c : ℕ) → b ≤ c → IsBlamed a b → IsBlamed a c
+blamed_still a b c after (inl more) = inl (let h : min (a + 1) (2 ^ 64 - 1) ≤ b = more in omega arith)
+blamed_still a b c after (inr some) = inr some
+
+-- ---- results
+
+if_ok : {T E : Type 0} (r : Result T E) (P Q : T → Type 0) → ((x : T) → P x → Q x) → IfOk r P → IfOk r Q
+if_ok (Ok x) P Q f h = f x h
+if_ok (Err e) P Q f h = tt
+
+if_err : {T E : Type 0} (r : Result T E) (P Q : E → Type 0) → ((x : E) → P x → Q x) → IfErr r P → IfErr r Q
+if_err (Ok x) P Q f h = tt
+if_err (Err e) P Q f h = f e h
+
+on_err : {T E : Type 0} (r : Result T E) (P Q : Type 0) → (P → Q) → OnErr r P → OnErr r Q
+on_err (Ok x) P Q f h = tt
+on_err (Err e) P Q f h = f h
+
+always_on_err : {T E : Type 0} (r : Result T E) (P : Type 0) → P → OnErr r P
+always_on_err (Ok x) P h = tt
+always_on_err (Err e) P h = h
+
+-- ---- calls
+
+module _ {S : Type 0} (is_honest : S → Type 0) (content : S → Content) (failures : S → ℕ) where
+  -- a reply that one may give is one that the other may give
+  pub answers_so : (before now : S) (result : Result Printed StoreFault) (Does More : Reply → Content → Type 0)
+      → (is_honest now → (reply : Reply) (c : Content) → Does reply c → More reply c)
+      → AnswersBy is_honest content failures before now result Does
+      → AnswersBy is_honest content failures before now result More
+  answers_so before now result Does More more a = record {
+    answers = λ honest. if_ok result _ _ (λ printed h. record { reply = h.reply; gives = more honest h.reply (content now) h.gives; prints = h.prints }) (a.answers honest);
+    unchanged = a.unchanged;
+    whole = λ honest. on_err result _ _ (λ h. left honest h) (a.whole honest);
+    blames = a.blames;
+    counts = a.counts;
+    honest = a.honest;
+  }
+    where
+      left : is_honest now → ((content now ≡ content before) ⊎ ((reply : Reply) × Does reply (content now)))
+          → (content now ≡ content before) ⊎ ((reply : Reply) × More reply (content now))
+      left honest (inl same) = inl same
+      left honest (inr (reply, does)) = inr (reply, more honest reply (content now) does)
+
+  -- nothing was asked of the store
+  pub untouched : (store : S) (result : Result Printed StoreFault) (reply : Reply) (Does : Reply → Content → Type 0)
+      → Does reply (content store)
+      → IfOk result (λ printed. Prints reply printed.text.items printed.is_accepted)
+      → IfErr result (λ fault. fault ≡ Memory)
+      → AnswersBy is_honest content failures store store result Does
+  untouched store (Ok printed) reply Does does prints memory = record {
+    answers = λ honest. record { reply = reply; gives = does; prints = prints };
+    unchanged = λ honest. tt;
+    whole = λ honest. tt;
+    blames = tt;
+    counts = omega arith;
+    honest = λ honest. honest;
+  }
+  untouched store (Err fault) reply Does does prints memory = record {
+    answers = λ honest. tt;
+    unchanged = λ honest is. refl;
+    whole = λ honest. inl refl;
+    blames = λ is. absurd (let no : Memory ≡ Device = sym memory ∙ is in let h : ⊥ = cc no in h);
+    counts = omega arith;
+    honest = λ honest. honest;
+  }
+
+  -- memory was refused, and nothing was asked of the store since
+  pub refused_memory : (store : S) (Does : Reply → Content → Type 0)
+      → AnswersBy is_honest content failures store store (Err Memory) Does
+  refused_memory store Does = record {
+    answers = λ honest. tt;
+    unchanged = λ honest is. refl;
+    whole = λ honest. inl refl;
+    blames = λ is. absurd (let h : ⊥ = cc is in h);
+    counts = omega arith;
+    honest = λ honest. honest;
+  }
+
+  module _ {T : Type 0} (may_leave : S → Content → Type 0) (before mid : S) (read : Result T StoreFault) (IsRight : T → Type 0)
+      (reads : Reads is_honest content failures may_leave before mid read IsRight) where
+    -- the store was read before
+    pub after_read : (now : S) (result : Result Printed StoreFault) (Does : Content → Reply → Content → Type 0)
+        → AnswersBy is_honest content failures mid now result (Does (content mid))
+        → AnswersBy is_honest content failures before now result (Does (content before))
+    after_read now result Does a = record {
+      answers = λ honest. if_ok result _ _ (λ printed h. record { reply = h.reply; gives = subst (λ c. Does c h.reply (content now)) (same honest) h.gives; prints = h.prints }) (a.answers honest);
+      unchanged = λ honest. if_err result _ _ (λ fault h is. h is ∙ same honest) (a.unchanged honest);
+      whole = λ honest. on_err result _ _ (λ h. left honest h) (a.whole honest);
+      blames = if_err result _ _ (λ fault h is. blamed_since (failures before) (failures mid) (failures now) reads.counts a.counts (h is)) a.blames;
+      counts = let x = reads.counts in let y = a.counts in omega arith;
+      honest = λ honest. reads.honest (a.honest honest);
+    }
+      where
+        same : is_honest now → content mid ≡ content before
+        same honest = reads.same (a.honest honest)
+
+        left : is_honest now → ((content now ≡ content mid) ⊎ ((reply : Reply) × Does (content mid) reply (content now)))
+            → (content now ≡ content before) ⊎ ((reply : Reply) × Does (content before) reply (content now))
+        left honest (inl is) = inl (is ∙ same honest)
+        left honest (inr (reply, does)) = inr (reply, subst (λ c. Does c reply (content now)) (same honest) does)
+
+  -- the store could not be read
+  pub unread : {T : Type 0} (may_leave : S → Content → Type 0) (before now : S) (fault : StoreFault) (IsRight : T → Type 0)
+      (Does : Reply → Content → Type 0)
+      → Reads is_honest content failures may_leave before now (Err fault) IsRight
+      → AnswersBy is_honest content failures before now (Err fault) Does
+  unread may_leave before now fault IsRight Does reads = record {
+    answers = λ honest. tt;
+    unchanged = λ honest is. reads.same honest;
+    whole = λ honest. inl (reads.same honest);
+    blames = reads.blames;
+    counts = reads.counts;
+    honest = reads.honest;
+  }
+
+  module _ {T : Type 0} (may_leave : S → Content → Type 0) (before now : S) (read : Result T StoreFault) (IsRight : T → Type 0)
+      (reads : Reads is_honest content failures may_leave before now read IsRight) where
+    -- the store was read, and that is all
+    pub read_told : (printed : Printed) (Does : Reply → Content → Type 0)
+        → (is_honest now → (reply : Reply) × Does reply (content before) × Prints reply printed.text.items printed.is_accepted)
+        → AnswersBy is_honest content failures before now (Ok printed) Does
+    read_told printed Does told = record {
+      answers = λ honest. let (reply, does, prints) = told honest in
+          record { reply = reply; gives = subst (Does reply) (sym (reads.same honest)) does; prints = prints };
+      unchanged = λ honest. tt;
+      whole = λ honest. tt;
+      blames = tt;
+      counts = reads.counts;
+      honest = reads.honest;
+    }
+
+    pub read_refused : (Does : Reply → Content → Type 0) → AnswersBy is_honest content failures before now (Err Memory) Does
+    read_refused Does = record {
+      answers = λ honest. tt;
+      unchanged = λ honest is. reads.same honest;
+      whole = λ honest. inl (reads.same honest);
+      blames = λ is. absurd (let h : ⊥ = cc is in h);
+      counts = reads.counts;
+      honest = reads.honest;
+    }
+
+    pub read_answers : (result : Result Printed StoreFault) (reply : Reply) (Does : Reply → Content → Type 0)
+        → (is_honest now → Does reply (content before))
+        → IfOk result (λ printed. Prints reply printed.text.items printed.is_accepted)
+        → IfErr result (λ fault. fault ≡ Memory)
+        → AnswersBy is_honest content failures before now result Does
+    read_answers (Ok printed) reply Does does prints memory = read_told printed Does (λ honest. (reply, does honest, prints))
+    read_answers (Err fault) reply Does does prints memory =
+        subst (λ f. AnswersBy is_honest content failures before now (Err f) Does) (sym memory) (read_refused Does)
+
+-- ---- a change that is made
+
+module _ {S : Type 0} (is_honest : S → Type 0) (content : S → Content) (failures : S → ℕ) (before now : S) where
+  -- it was made
+  pub made : (printed : Printed) (reply : Reply) (Does : Reply → Content → Type 0) → (is_honest now → Does reply (content now))
+      → Prints reply printed.text.items printed.is_accepted → failures before ≤ failures now → (is_honest now → is_honest before)
+      → AnswersBy is_honest content failures before now (Ok printed) Does
+  made printed reply Does does prints counts honest' = record {
+    answers = λ honest. record { reply = reply; gives = does honest; prints = prints };
+    unchanged = λ honest. tt;
+    whole = λ honest. tt;
+    blames = tt;
+    counts = counts;
+    honest = honest';
+  }
+
+  -- it may be made
+  pub not_made : (fault : StoreFault) (Does : Reply → Content → Type 0)
+      → (is_honest now → fault ≡ Memory → content now ≡ content before)
+      → (is_honest now → (content now ≡ content before) ⊎ ((reply : Reply) × Does reply (content now)))
+      → (fault ≡ Device → IsBlamed (failures before) (failures now)) → failures before ≤ failures now
+      → (is_honest now → is_honest before)
+      → AnswersBy is_honest content failures before now (Err fault) Does
+  not_made fault Does unchanged whole blames counts honest' = record {
+    answers = λ honest. tt;
+    unchanged = unchanged;
+    whole = whole;
+    blames = blames;
+    counts = counts;
+    honest = honest';
+  }

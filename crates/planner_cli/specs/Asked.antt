@@ -1,0 +1,48 @@
+-- The statement of the planner's machine that an item is.
+use Rattle.std.specs.Prelude.{◌≡◌, ℕ, List, [], ◌∷◌, ◌++◌, Option, None, Some}
+use Rattle.app_definitions.specs.declared.kinds.Kind.{Kind}
+use Rattle.planner_machine.specs.Statement.{Days, DefineJob, Job, Statement}
+use Rattle.statements.specs.Statement.{Reads}
+use Rattle.statements.specs.declared.statements.Statement.{Statement as LineStatement}
+use Rattle.stream_items.specs.Items.{Alone, Block, Item, NoStatement, TooLong, Unended, Whole, WithBlock}
+use Rattle.planner_cli.specs.Requests.{change_of, request_of}
+use Rattle.planner_cli.specs.Texts.{data_text, line_text}
+use Rattle.planner_cli.specs.declared.requests.Request.{Request}
+use Rattle.planner_cli.specs.declared.requests.Request.TheVariants as request
+
+-- a line without data; `define` needs them
+abbrev pub asked_alone : List ℕ → Request → Option Statement
+asked_alone line request.NotServed = None
+asked_alone line (request.Define number kind) = Some (DefineJob number (line_text line) kind None)
+asked_alone line (request.Days app from to) = Some (Days app from to)
+asked_alone line (request.Change number change) = Some (Job number (line_text line) (change_of change))
+
+-- `define` and its data: their bytes, or none where they are too many or have no end
+abbrev pub define_asked : List ℕ → ℕ → Kind → Block → Statement
+define_asked line number kind (Whole bytes) = DefineJob number (data_text line bytes) kind (Some bytes)
+define_asked line number kind TooLong = DefineJob number (line_text line) kind None
+define_asked line number kind Unended = DefineJob number (line_text line) kind None
+
+-- a line with data, which no other statement takes
+abbrev pub asked_with : List ℕ → Block → Request → Option Statement
+asked_with line block (request.Define number kind) = Some (define_asked line number kind block)
+asked_with line block _ = None
+
+-- the item is this statement of the machine, or none that is served
+abbrev pub Asks : Item → Option Statement → Type 0
+Asks NoStatement asked = asked ≡ None
+Asks (Alone line) asked = (read : Option LineStatement) × Reads line read × (asked ≡ asked_alone line (request_of read))
+Asks (WithBlock line block) asked =
+    (read : Option LineStatement) × Reads line read × (asked ≡ asked_with line block (request_of read))
+
+-- a statement that may be missing
+abbrev pub if_asked : Option Statement → List Statement
+if_asked None = []
+if_asked (Some statement) = statement ∷ []
+
+-- the items are these statements, in order
+abbrev pub AreAsked : List Item → List Statement → Type 0
+AreAsked [] stream = stream ≡ []
+AreAsked (item ∷ items) stream =
+    (asked : Option Statement) × (rest : List Statement) × (stream ≡ if_asked asked ++ rest) × Asks item asked
+    × AreAsked items rest

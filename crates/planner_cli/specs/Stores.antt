@@ -1,0 +1,32 @@
+-- What a call that answers does to a store.
+use Rattle.std.specs.Prelude.{◌≡◌, ◌⊎◌, ℕ, ◌<◌, ◌≤◌, IfErr, IfOk, OnErr, Result}
+use Rattle.planner_machine.specs.Content.{Content}
+use Rattle.planner_cli.specs.Replies.{Answered, Reply}
+use Rattle.planner_cli.specs.declared.answers.Printed.{Printed}
+use Rattle.plan_store.specs.Faults.{MoreFailures}
+use Rattle.plan_store.specs.declared.stores.StoreFault.{StoreFault}
+use Rattle.plan_store.specs.declared.stores.StoreFault.TheVariants.{Device, Memory}
+
+-- the device is blamed only where it failed, since then or before
+abbrev pub IsBlamed : ℕ → ℕ → Type 0
+IsBlamed before now = MoreFailures before now ⊎ (0 < before)
+
+-- a store before and after a call, and what the call answers
+pub record Answering {S T : Type 0} (is_honest : S → Type 0) (content : S → Content) (failures : S → ℕ) (before now : S)
+    (result : Result T StoreFault) (Gives : T → Content → Type 0) (MayLeave : Content → Type 0) : Type 0 where
+  -- the answer of an honest store is right for the content that it is left with
+  pub answers : is_honest now → IfOk result (λ given. Gives given (content now))
+  -- where memory is refused, its content stays
+  pub unchanged : is_honest now → IfErr result (λ fault. fault ≡ Memory → content now ≡ content before)
+  -- where the device fails, its content stays, or is that after the change
+  pub whole : is_honest now → OnErr result ((content now ≡ content before) ⊎ MayLeave (content now))
+  pub blames : IfErr result (λ fault. fault ≡ Device → IsBlamed (failures before) (failures now))
+  pub counts : failures before ≤ failures now
+  pub honest : is_honest now → is_honest before
+
+-- a call that answers by printing: the reply is one that this may give
+abbrev pub AnswersBy : {S : Type 0} (is_honest : S → Type 0) (content : S → Content) (failures : S → ℕ)
+    (before now : S) → Result Printed StoreFault → (Reply → Content → Type 0) → Type 0
+AnswersBy is_honest content failures before now result Does =
+    Answering is_honest content failures before now result
+    (λ printed c. Answered Does c printed.text.items printed.is_accepted) (λ c. (reply : Reply) × Does reply c)

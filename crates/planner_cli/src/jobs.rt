@@ -1,0 +1,125 @@
+//! Changes with job numbers: a job that was answered is answered as then, and any other is decided, made, and kept
+//! with its answer in the same change.
+ghost use Rattle.std.specs.Prelude.{◌≡◌, ◌≢◌, ◌⊎◌, None, Some, Err, Option};
+ghost use Rattle.planner_machine.specs.Content.{Content};
+ghost use Rattle.planner_machine.specs.Jobs.{AnswersJob};
+ghost use Rattle.planner_machine.specs.Sound.{IsSound};
+ghost use Rattle.planner_machine.specs.Statement.{Answer as AnswerValue, decision_of};
+ghost use Rattle.plan_store.specs.Changes.{Fits, after};
+ghost use Rattle.plan_store.specs.Stores.{Reads};
+ghost use Rattle.planner_cli.specs.Outcomes.{answering};
+ghost use Rattle.planner_cli.specs.Stores.{AnswersBy};
+ghost use Rattle.planner_cli.specs.Verdicts.{FitsVerdict, IsKeptAnswer, answer_in, change_asked, job_left, left_by};
+
+use crate::answers::{Printed, told};
+use crate::decisions::{Asked, decide, need_of};
+use occurrences::{Refusal, Reply};
+use plan_store::{Change, PlanStore, StoreFault, Verdict};
+use planner_machine::{Answer, Job, JobText};
+use std::alloc::Global;
+
+/// Answers a change that carries a job number. A job that is kept under the number is answered as then, or refused
+/// where its text is another (12), and nothing changes.
+pub(crate) fn answer_job<S: PlanStore>(
+    alloc: Global,
+    store: &mut S,
+    number: u64,
+    text: JobText,
+    asked: Asked,
+) -> Result<Printed, StoreFault>
+    requires { S.is_honest store.old → IsSound (S.content store.old) }
+    ensures { AnswersBy S.is_honest S.content S.failures store.old store.new result (λ reply c. (answer : AnswerValue)
+        × AnswersJob number text (decision_of (change_asked asked)) (S.content store.old) answer c
+        × (reply ≡ answering answer)) }
+{
+    match kept_answer(store, number, &text)? {
+        Some(answer) => told(alloc, &answer),
+        None => perform(alloc, store, number, text, asked),
+    }
+}
+
+// The answer of the job that is kept under the number, if there is one.
+fn kept_answer<S: PlanStore>(
+    store: &mut S,
+    number: u64,
+    text: &JobText,
+) -> Result<Option<Answer>, StoreFault>
+    ensures { Reads S.is_honest S.content S.failures S.may_leave store.old store.new result
+        (IsKeptAnswer ((S.content store.old).jobs number) text.now) }
+{
+    match store.job(number)? {
+        Some(job) => Ok(Some(answer_of(job, text))),
+        None => Ok(None),
+    }
+}
+
+// What a job that is kept answers to that text.
+fn answer_of(job: &Job, text: &JobText) -> Answer
+    ensures { IsKeptAnswer (Some job.now) text.now (Some result) }
+{
+    if job.text.as_slice() == text.as_slice() {
+        job.reply
+    } else {
+        Err(Refusal::JobWithAnotherText)
+    }
+}
+
+// Decides a change under whose number no job is kept, and makes it.
+fn perform<S: PlanStore>(
+    alloc: Global,
+    store: &mut S,
+    number: u64,
+    text: JobText,
+    asked: Asked,
+) -> Result<Printed, StoreFault>
+    requires sound { S.is_honest store.old → IsSound (S.content store.old) }
+    requires new { S.is_honest store.old → (S.content store.old).jobs number ≡ None }
+    ensures { AnswersBy S.is_honest S.content S.failures store.old store.new result (λ reply c. (answer : AnswerValue)
+        × AnswersJob number text (decision_of (change_asked asked)) (S.content store.old) answer c
+        × (reply ≡ answering answer)) }
+{
+    let need = need_of(&asked);
+    let view = store.read_window(need)?;
+    let Ok(verdict) = decide(alloc, &view, asked) else {
+        return Err(StoreFault::Memory);
+    };
+    settle(alloc, store, number, text, verdict)
+}
+
+// Makes what a verdict says: the reply is made first, then the change, in which the job is kept.
+fn settle<S: PlanStore>(
+    alloc: Global,
+    store: &mut S,
+    number: u64,
+    text: JobText,
+    verdict: Verdict,
+) -> Result<Printed, StoreFault>
+    requires fits { S.is_honest store.old → FitsVerdict verdict (S.content store.old) }
+    requires new { S.is_honest store.old → (S.content store.old).jobs number ≡ None }
+    ensures { AnswersBy S.is_honest S.content S.failures store.old store.new result (λ reply c.
+        (c ≡ job_left number text verdict (S.content store.old)) × (reply ≡ answering (answer_in verdict))) }
+{
+    let (mut change, answer) = parts_of(alloc, verdict);
+    let printed = told(alloc, &answer)?;
+    change.job = Some(Job {
+        number,
+        text,
+        reply: answer,
+    });
+    match store.apply(alloc, change) {
+        Ok(()) => Ok(printed),
+        Err(fault) => Err(fault),
+    }
+}
+
+// The change of a verdict, and its answer. A refusal changes nothing.
+fn parts_of(alloc: Global, verdict: Verdict) -> (Change, Answer)
+    ensures answer { result.1 ≡ answer_in verdict }
+    ensures fits { (c : Content) → FitsVerdict verdict c → Fits result.0 c }
+    ensures leaves { (c : Content) → FitsVerdict verdict c → after result.0 c ≡ left_by verdict c }
+{
+    match verdict {
+        Verdict::Done(change, reply) => (change, Ok(reply)),
+        Verdict::Refused(refusal) => (Change::none(alloc), Err(refusal)),
+    }
+}
