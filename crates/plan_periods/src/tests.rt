@@ -1,4 +1,4 @@
-ghost use Rattle.std.specs.Prelude.{◌≡◌};
+ghost use Rattle.std.specs.Prelude.{◌≡◌, IfOk};
 ghost use Rattle.work_calendars.specs.Day.{IsDay};
 
 use crate::{Intervals, MAX_INTERVAL, Origins, Period, PeriodFault};
@@ -91,40 +91,67 @@ fn numbers_faults(rt: HostRuntime) {
     assert_eq!(rt; PeriodFault::NoOrigin.number(), 4);
 }
 
-#[test]
-fn gives_origins_back(rt: HostRuntime) -> Result<(), Fail> {
-    let entries = [(day(NEW_YEAR), None), (day(19754), Some(day(19760)))];
-    let origins = Origins::new(entries.as_slice().to_vec(rt.alloc())?);
-    assert_eq!(rt; origins.len(), 2);
-    assert!(rt; !origins.is_empty());
-    assert_eq!(rt; origins.as_slice(), entries.as_slice());
-    assert_eq!(rt; origins.into_vec().as_slice(), entries.as_slice());
-    Ok(())
+// Whether these are the origins, as they are lent and as a vector.
+fn are_origins(origins: Origins, entries: &[(Day, Option<Day>)]) -> bool {
+    let lent = origins.len() == entries.len() && origins.as_slice() == entries;
+    let some = !origins.is_empty();
+    let items = origins.into_vec();
+    lent && some && items.as_slice() == entries
+}
+
+fn gives_back(alloc: Global, entries: &[(Day, Option<Day>)]) -> Result<bool, AllocError> {
+    let items = entries.to_vec(alloc)?;
+    Ok(are_origins(Origins::new(items), entries))
 }
 
 #[test]
-fn clones_periods(rt: HostRuntime) -> Result<(), Fail> {
-    let origin = day(NEW_YEAR);
-    let all = Period::All {
-        origin,
-        interval: 7,
+fn gives_origins_back(rt: HostRuntime) -> Result<(), AllocError> {
+    let entries = [(day(NEW_YEAR), None), (day(19754), Some(day(19760)))];
+    assert!(rt; gives_back(rt.alloc(), &entries)?);
+    Ok(())
+}
+
+// A copy equals what it was made of.
+fn copied(period: &Period) -> Result<Period, AllocError>
+    ensures { IfOk result (λ copy. copy ≡ period.now) }
+{
+    period.clone()
+}
+
+// Whether the period is one of this letter and interval, or lists the origin alone and another with its end.
+fn is_it(period: &Period, letter: char, length: u16) -> bool {
+    match period {
+        Period::All { interval, .. } => letter == 'A' && *interval == length,
+        Period::Work { interval, .. } => letter == 'W' && *interval == length,
+        Period::Listed(origins) => {
+            let entries = [(day(NEW_YEAR), None), (day(19754), Some(day(19760)))];
+            letter == 'N' && origins.as_slice() == entries.as_slice()
+        }
     }
-    .clone()?;
-    assert!(rt; matches!(&all, Period::All { interval: 7, .. }));
+}
+
+fn copy_is(period: &Period, letter: char, length: u16) -> Result<bool, AllocError> {
+    let copy = copied(period)?;
+    Ok(is_it(&copy, letter, length))
+}
+
+fn list_is_copied(alloc: Global) -> Result<bool, AllocError> {
+    let months = listed(alloc, &[(19723, None), (19754, Some(19760))])?;
+    copy_is(&months, 'N', 0)
+}
+
+#[test]
+fn clones_periods(rt: HostRuntime) -> Result<(), AllocError> {
+    let origin = day(NEW_YEAR);
+    let (interval, work_days) = (7, 5);
+    let all = Period::All { origin, interval };
+    assert!(rt; copy_is(&all, 'A', interval)?);
     let work = Period::Work {
         origin,
-        interval: 5,
-    }
-    .clone()?;
-    assert!(rt; matches!(&work, Period::Work { interval: 5, .. }));
-    let months = listed(rt.alloc(), &[(19723, None), (19754, Some(19760))])?.clone()?;
-    let Period::Listed(origins) = months else {
-        return Err(Fail::from("a list stays a list"));
+        interval: work_days,
     };
-    assert_eq!(rt;
-        origins.as_slice(),
-        [(origin, None), (day(19754), Some(day(19760)))].as_slice()
-    );
+    assert!(rt; copy_is(&work, 'W', work_days)?);
+    assert!(rt; list_is_copied(rt.alloc())?);
     Ok(())
 }
 
