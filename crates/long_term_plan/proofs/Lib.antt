@@ -6,3 +6,4 @@ mod MakingLemmas
 mod RefusalLemmas
 mod CreateLemmas
 mod ExtendLemmas
+mod PartingLemmas

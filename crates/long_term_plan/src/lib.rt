@@ -8,6 +8,7 @@ mod drafts;
 mod extension;
 mod lists;
 mod making;
+mod parting;
 mod refusals;
 
 pub use addition::add;
