@@ -20,3 +20,6 @@ pub use list_store::ListStore;
 pub use room::Room;
 pub use stores::{Need, PlanStore, StoreFault};
 pub use views::View;
+
+#[cfg(test)]
+mod tests;
