@@ -60,8 +60,7 @@ impl Definitions {
     }
 
     /// Takes a block's definitions in, each in place of the one of its name, and answers how many names the block
-    /// gave. A
-    /// merge that is refused for memory changes nothing.
+    /// gave. A merge that is refused for memory changes nothing.
     pub fn merge(&mut self, block: Block) -> Result<usize, AllocError>
         ensures ok { OnOk result (self.new ≡ merged self.old block) }
         ensures counted { IfOk result (λ n. n ≡ names_given block) }

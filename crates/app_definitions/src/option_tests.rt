@@ -1,13 +1,11 @@
 // Blocks of options, accepted and refused, and what they make of the definitions. What they give comes from the
-// format's
-// own words.
+// format's own words.
 use crate::Kind;
 use crate::merge_tests::play;
 use crate::tests::pass;
-use std::test::Fail;
 
 #[test]
-fn accepted(rt: HostRuntime) -> Result<(), Fail> {
+fn accepted(rt: HostRuntime) {
     let rows = play(
         &rt,
         rt.alloc(),
@@ -39,9 +37,8 @@ fn accepted(rt: HostRuntime) -> Result<(), Fail> {
           =OA>PLANT 24|\
           !Odefault_calendar = \"\"\"PLANT\"\"\"\r\n>1|\
           =OA>PLANT 504",
-    )?;
+    );
     assert_eq!(rt; rows, 28);
-    Ok(())
 }
 
 #[test]
@@ -101,7 +98,7 @@ fn refused(rt: HostRuntime) {
 }
 
 #[test]
-fn a_refused_block_keeps_the_options(rt: HostRuntime) -> Result<(), Fail> {
+fn a_refused_block_keeps_the_options(rt: HostRuntime) {
     let rows = play(
         &rt,
         rt.alloc(),
@@ -109,14 +106,13 @@ fn a_refused_block_keeps_the_options(rt: HostRuntime) -> Result<(), Fail> {
           +Omax_extension_hours = 505\n>refused 1|\
           +Omax_extension_hours = 24\n>1|\
           =OA>DEFAULT 24",
-    )?;
+    );
     assert_eq!(rt; rows, 4);
-    Ok(())
 }
 
 // A block puts both options in place, and no name takes options away.
 #[test]
-fn replaced(rt: HostRuntime) -> Result<(), Fail> {
+fn replaced(rt: HostRuntime) {
     let rows = play(
         &rt,
         rt.alloc(),
@@ -125,7 +121,6 @@ fn replaced(rt: HostRuntime) -> Result<(), Fail> {
           =OA>PLANT 24|\
           +Omax_extension_hours = 48\n>1|\
           =OA>DEFAULT 48",
-    )?;
+    );
     assert_eq!(rt; rows, 5);
-    Ok(())
 }

@@ -2,11 +2,9 @@
 use crate::{BlockFault, Kind, LONGEST_BLOCK, read_block, read_options, read_run_cycles};
 use std::alloc::Global;
 use std::process::Abort;
-use std::test::Fail;
 
 // 0 where the block is accepted, the number of the faulty record where it isn't, 99 for want of memory, and 98 for a
-// block
-// that no caller may hand in.
+// block that no caller may hand in.
 fn fault(alloc: Global, kind: Kind, text: &[u8]) -> usize {
     if text.len() > LONGEST_BLOCK {
         return 98;
@@ -284,33 +282,32 @@ fn periods(rt: HostRuntime) {
 
 // 65,536 records, of which the second repeats the first.
 #[test]
-fn many_equal_records(rt: HostRuntime) -> Result<(), Fail> {
+fn many_equal_records(rt: HostRuntime) {
     let mut text = Vec::new(rt.alloc());
     for _ in 0..65536_u32 {
-        text.extend_from_slice(b"A,A\n")?;
+        text.extend_from_slice(b"A,A\n").expect(&rt, "memory");
     }
     assert_eq!(rt; fault(rt.alloc(), Kind::Predecessors, &text), 2);
-    Ok(())
 }
 
 // As many predecessors of one application as a block can well hold.
 #[test]
-fn long_block(rt: HostRuntime) -> Result<(), Fail> {
+fn long_block(rt: HostRuntime) {
     let mut text = Vec::new(rt.alloc());
     for n in 0..32768_u32 {
-        text.extend_from_slice(b"A,A")?;
-        text.push(b'A' + (n / 676 % 26) as u8)?;
-        text.push(b'A' + (n / 26 % 26) as u8)?;
-        text.push(b'A' + (n % 26) as u8)?;
+        text.extend_from_slice(b"A,A").expect(&rt, "memory");
+        text.push(b'A' + (n / 676 % 26) as u8).expect(&rt, "memory");
+        text.push(b'A' + (n / 26 % 26) as u8).expect(&rt, "memory");
+        text.push(b'A' + (n % 26) as u8).expect(&rt, "memory");
         text.push(if n < 17576 {
             b'A'
         } else if n < 35152 {
             b'B'
         } else {
             b'C'
-        })?;
-        text.push(b'\n')?;
+        })
+        .expect(&rt, "memory");
+        text.push(b'\n').expect(&rt, "memory");
     }
     assert_eq!(rt; fault(rt.alloc(), Kind::Predecessors, &text), 0);
-    Ok(())
 }
