@@ -38,6 +38,7 @@ pub(crate) fn add_days(
     let apps = all.applications.names(alloc)?;
     let named = named_drafts(alloc, all, apps.as_slice(), first, bounds.last_day)?;
     let new = new_drafts(alloc, view, named.as_slice())?;
+    drop(named);
     if would_hold_too_many(view, bounds, new.as_slice()) {
         return Ok(Verdict::Refused(Refusal::TooManyRows));
     }
@@ -72,6 +73,7 @@ fn make_drafts(
     let rows = numbered_rows(alloc, view.issued(), new)?;
     let planned = joined(alloc, view.ltp(), rows.as_slice())?;
     let live = live_rows(alloc, planned.as_slice(), view.cp(), view.history())?;
+    drop(planned);
     let pairs = pair_change(alloc, view.pairs(), &live, &links)?;
     let change = Change {
         definitions: DefinitionChange::AsBefore,
