@@ -38,9 +38,10 @@ fn need_of_change(change: &ChangeRequest) -> Need
     ensures { result ≡ need_of_change change.now }
 {
     match change {
-        ChangeRequest::Undefine { .. } | ChangeRequest::Create { .. } | ChangeRequest::Replan => {
-            Need::LongTerm
-        }
+        ChangeRequest::Undefine { .. }
+        | ChangeRequest::Create { .. }
+        | ChangeRequest::Extend { .. }
+        | ChangeRequest::Replan => Need::LongTerm,
         ChangeRequest::Add { key }
         | ChangeRequest::Delete { key }
         | ChangeRequest::AddCurrent { key }
@@ -72,6 +73,7 @@ fn decide_change(
     match change {
         ChangeRequest::Undefine { kind, name } => Ok(undefine(alloc, view, *kind, name)),
         ChangeRequest::Create { from, to } => long_term_plan::create(alloc, view, *from, *to),
+        ChangeRequest::Extend { to } => long_term_plan::extend(alloc, view, *to),
         ChangeRequest::Add { key } => long_term_plan::add(alloc, view, key),
         ChangeRequest::Delete { key } => long_term_plan::delete(alloc, view, key),
         ChangeRequest::DailyExtend { to } => daily_planning::extend(alloc, view, *to),

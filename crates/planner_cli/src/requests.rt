@@ -19,6 +19,8 @@ pub enum ChangeRequest {
     Undefine { kind: Kind, name: Name },
     /// To make the long-term plan from one day to another.
     Create { from: Day, to: Day },
+    /// To extend the long-term plan to a day.
+    Extend { to: Day },
     /// To add an occurrence to the long-term plan.
     Add { key: Key },
     /// To take an occurrence out of the long-term plan.
@@ -84,6 +86,10 @@ fn request_of(read: &Option<Statement>) -> Request
                 to: *to,
             },
         },
+        Some(Statement::LtpExtend { to, job }) => Request::Change {
+            number: *job,
+            change: ChangeRequest::Extend { to: *to },
+        },
         Some(Statement::LtpAdd { app, ia, job }) => Request::Change {
             number: *job,
             change: ChangeRequest::Add {
@@ -137,6 +143,7 @@ pub(crate) fn tell_well_formed(change: &ChangeRequest)
             from.number();
         }
         ChangeRequest::Undefine { .. } => {}
+        ChangeRequest::Extend { .. } => {}
         ChangeRequest::Add { .. } => {}
         ChangeRequest::Delete { .. } => {}
         ChangeRequest::DailyExtend { .. } => {}
