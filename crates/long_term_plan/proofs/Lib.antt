@@ -7,3 +7,7 @@ mod RefusalLemmas
 mod CreateLemmas
 mod ExtendLemmas
 mod PartingLemmas
+mod ModifyingLemmas
+mod ChangedLemmas
+mod ModifyPlanLemmas
+mod ModifyAllLemmas

@@ -1,15 +1,30 @@
 -- What `ltp-modify-all` and `ltp-modify-one` make of the rows of the long-term plan.
-use Rattle.std.specs.Prelude.{◌≡◌, ◌⊎◌, ℕ, Bool, List, Contains, Option, None, Some, filter, is_none}
+use Rattle.std.specs.Prelude.{◌≡◌, ◌⊎◌, ℕ, ◌+◌, ◌<◌, Bool, List, Contains, Option, None, Some, filter, is_none, length}
 use Rattle.std.specs.List.{AllPairs, filter_map}
 use Rattle.app_definitions.specs.Active.{IsActive}
 use Rattle.app_definitions.specs.declared.applications.Application.{Application}
 use Rattle.app_definitions.specs.declared.definitions.Definitions.{Definitions}
+use Rattle.occurrences.specs.declared.place.Place.TheVariants.{LongTerm}
+use Rattle.occurrences.specs.declared.refusal.Refusal.TheVariants.{TooManyRows}
+use Rattle.occurrences.specs.declared.reply.Reply.{Reply}
+use Rattle.occurrences.specs.declared.reply.Reply.TheVariants.{Made}
 use Rattle.occurrences.specs.declared.row.Row.{Row}
+use Rattle.occurrences.specs.declared.serial.TheConstants.{GREATEST_SERIAL}
+use Rattle.external_dependencies.specs.declared.links.Link.{Link}
 use Rattle.planner_machine.specs.declared.content.Draft.{Draft}
-use Rattle.planner_machine.specs.Modify.{looks_at, modified}
+use Rattle.planner_machine.specs.declared.limits.TheConstants.{MOST_PLANNED_ROWS}
+use Rattle.planner_machine.specs.Content.{Content, Sets}
+use Rattle.planner_machine.specs.Drafts.{AreDrafts, IsMade}
+use Rattle.planner_machine.specs.Modify.{NamesAhead, looks_at, modified, modify_move, taken}
 use Rattle.planner_machine.specs.ModifyAll.{IsAnyApp, is_any_app}
 use Rattle.planner_machine.specs.ModifyOne.{IsThatApp, is_that_app}
+use Rattle.planner_machine.specs.Moves.{each, size, with_made}
+use Rattle.planner_machine.specs.Plans.{HoldTooMany}
 use Rattle.plan_lists.specs.Rows.{HasEachOnce, of_row}
+use Rattle.plan_store.specs.Views.{IsAny, ListsSet}
+use Rattle.plan_store.specs.declared.changes.Verdict.{Verdict}
+use Rattle.plan_store.specs.declared.changes.Verdict.TheVariants.{Done, Refused}
+use Rattle.long_term_plan.specs.Making.{MakesSets}
 
 -- the applications that a statement looks at: all, or one
 abbrev pub looks : Option (List ℕ) → List ℕ → Bool
@@ -47,3 +62,48 @@ pub record AreParted (becomes : Row → Option Row) (rows planned gone changed :
   pub stay : planned ≡ filter_map becomes rows
   pub go : gone ≡ filter (λ row. is_none (becomes row)) rows
   pub change : AreChanged becomes rows changed
+
+-- the lists part the rows of the long-term plan
+pub record PartsPlan (s : Sets) (only : Option (List ℕ)) (named : List Draft) (planned gone changed : List Row) : Type
+    0 where
+  pub rows : List Row
+  pub lists : ListsSet of_row s.ltp IsAny rows
+  pub parts : AreParted (outcome only named) rows planned gone changed
+
+-- the plans would hold more rows than they may, or the serials would pass the greatest
+abbrev pub AreTooMany : Sets → ℕ → ℕ → Type 0
+AreTooMany s kept new = (MOST_PLANNED_ROWS < kept + size s.cp s.issued + new) ⊎ (GREATEST_SERIAL < s.issued + new)
+
+-- the sets where the rows are modified by the drafts that are named, and the new ones are made
+abbrev pub modified_sets : Option (List ℕ) → List Draft → List Draft → Sets → Sets
+modified_sets only named new s = with_made LongTerm new (each (modify_move (looks_at (looks only)) named) s)
+
+-- the answer counts those that are made, and those that are withdrawn
+abbrev pub modified_reply : Option (List ℕ) → List Draft → List Draft → Sets → Reply
+modified_reply only named new s =
+    Made (length new) (size (λ serial. taken (looks_at (looks only)) named (s.ltp serial)) s.issued)
+
+-- the rows are modified, and counted in the reply
+abbrev pub ModifiesRows : Content → List Link → Option (List ℕ) → List Draft → List Draft → Verdict → Type 0
+ModifiesRows c links only named new (Done change reply) =
+    MakesSets c (modified_sets only named new c.sets) links change × (reply ≡ modified_reply only named new c.sets)
+ModifiesRows c links only named new (Refused refusal) = ⊥
+
+-- they are modified and the sets don't hold too many, or they would hold too many
+abbrev pub IsModifiedOrTooMany : Content → List Link → Option (List ℕ) → List Draft → List Draft → Verdict → Type 0
+IsModifiedOrTooMany c links only named new (Done change reply) =
+    (HoldTooMany (modified_sets only named new c.sets) → ⊥) × ModifiesRows c links only named new (Done change reply)
+IsModifiedOrTooMany c links only named new (Refused refusal) =
+    HoldTooMany (modified_sets only named new c.sets) × (refusal ≡ TooManyRows)
+
+-- what is named from the plan end on for the applications that the statement looks at
+abbrev pub NamesThen : Content → Option (List ℕ) → Draft → Type 0
+NamesThen c only = NamesAhead (Looks only) c.definitions c.sets.bounds
+
+-- the plan is modified by what is named, or would hold too many rows
+pub record ModifiesPlan (c : Content) (only : Option (List ℕ)) (links : List Link) (verdict : Verdict) : Type 0 where
+  pub named : List Draft
+  pub are_named : AreDrafts (NamesThen c only) named
+  pub new : List Draft
+  pub are_new : AreDrafts (IsMade (NamesThen c only) c.sets) new
+  pub outcome : IsModifiedOrTooMany c links only named new verdict

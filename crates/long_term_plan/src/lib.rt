@@ -8,6 +8,7 @@ mod drafts;
 mod extension;
 mod lists;
 mod making;
+mod modification;
 mod parting;
 mod refusals;
 
@@ -15,6 +16,7 @@ pub use addition::add;
 pub use creation::create;
 pub use deletion::delete;
 pub use extension::extend;
+pub use modification::modify_all;
 
 #[cfg(test)]
 mod tests;

@@ -99,7 +99,7 @@ fn make_drafts(
 }
 
 // The rows of both lists.
-fn joined(alloc: Global, first: &[Row], second: &[Row]) -> Result<Vec<Row>, AllocError>
+pub(crate) fn joined(alloc: Global, first: &[Row], second: &[Row]) -> Result<Vec<Row>, AllocError>
     ensures { IfOk result (λ rows. rows.items ≡ first.now ++ second.now) }
 {
     let mut rows = Vec::with_capacity(alloc, first.len() + second.len())?;
@@ -109,7 +109,11 @@ fn joined(alloc: Global, first: &[Row], second: &[Row]) -> Result<Vec<Row>, Allo
 }
 
 // The rows of drafts, under the serials after those issued.
-fn numbered_rows(alloc: Global, issued: u32, drafts: &[Draft]) -> Result<Vec<Row>, AllocError>
+pub(crate) fn numbered_rows(
+    alloc: Global,
+    issued: u32,
+    drafts: &[Draft],
+) -> Result<Vec<Row>, AllocError>
     requires { issued + length drafts.now ≤ GREATEST_SERIAL }
     ensures { IfOk result (λ rows. rows.items ≡ numbered issued drafts.now) }
 {

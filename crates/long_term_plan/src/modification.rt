@@ -1,0 +1,162 @@
+ghost use Rattle.std.specs.Prelude.{◌≡◌, ◌↔◌, ◌+◌, ◌≤◌, ℕ, List, length, map, IfOk, IsTrue, Option, Some, false};
+ghost use Rattle.work_calendars.specs.Day.{last_planning_day};
+ghost use Rattle.occurrences.specs.declared.serial.TheConstants.{GREATEST_SERIAL};
+ghost use Rattle.planner_machine.specs.declared.content.Draft.{Draft as DraftValue};
+ghost use Rattle.planner_machine.specs.Content.{Content};
+ghost use Rattle.planner_machine.specs.Modify.{withdrawn};
+ghost use Rattle.planner_machine.specs.ModifyAll.{modify_all};
+ghost use Rattle.planner_machine.specs.Sound.{IsSound};
+ghost use Rattle.planner_machine.proofs.RowsSound.{RowsSound};
+ghost use Rattle.plan_store.specs.Verdicts.{VerdictIs};
+ghost use Rattle.plan_store.specs.Views.{Shows, shown};
+ghost use Rattle.long_term_plan.specs.Modifying.{AreAsked, AreTooMany, ModifiesPlan, ModifiesRows, PartsPlan, modified_sets};
+
+use crate::drafts::{named_drafts, new_drafts};
+use crate::lists::defined_lists;
+use crate::making::{joined, numbered_rows};
+use crate::parting::{changed_rows, staying_rows, withdrawn_rows};
+use crate::refusals::lacking_definition;
+use app_definitions::Definitions;
+use external_dependencies::{Links, find_loop};
+use occurrences::{Deletion, GREATEST_SERIAL, Reason, Refusal, Reply, Row};
+use plan_pairs::{live_rows, pair_change, single};
+use plan_store::{Change, DefinitionChange, Moves, Need, Verdict, View};
+use planner_machine::{Bounds, Draft, MOST_PLANNED_ROWS};
+use std::alloc::{AllocError, Global};
+use work_calendars::{App, Day};
+
+/// `ltp-modify-all`: the long-term plan from the plan end on, as the definitions are now, with all lists that are
+/// defined in force. Refused where there is no plan (20), where an active application lacks its calendar (22) or a
+/// period (23), where the lists have a loop (25), and where the rows would be too many (31).
+pub fn modify_all(alloc: Global, view: &View<'_>) -> Result<Verdict, AllocError>
+    ensures { IfOk result (λ verdict. (c : Content) → Shows Need.LongTerm view.now c → IsSound c
+        → VerdictIs modify_all c verdict) }
+{
+    let Some(bounds) = view.bounds() else {
+        return Ok(Verdict::Refused(Refusal::NoPlan));
+    };
+    if let Some(refusal) = lacking_definition(view.definitions()) {
+        return Ok(Verdict::Refused(refusal));
+    }
+    let links = defined_lists(alloc, view.definitions())?;
+    if let Some(app) = find_loop(alloc, &links)? {
+        return Ok(Verdict::Refused(Refusal::Loop { app }));
+    }
+    modify(alloc, view, &bounds, &None, links)
+}
+
+// What is decided where the statement looks at all applications, or at one, and these lists come into force.
+fn modify(
+    alloc: Global,
+    view: &View<'_>,
+    bounds: &Bounds,
+    only: &Option<App>,
+    links: Links,
+) -> Result<Verdict, AllocError>
+    ensures { IfOk result (λ verdict. IsSound (shown view.now) → (shown view.now).sets.bounds ≡ Some bounds.now
+        → ModifiesPlan (shown view.now) only.now links verdict) }
+{
+    let all = view.definitions();
+    let apps = asked(alloc, all, only)?;
+    let last = last_planned(bounds);
+    let drafts = named_drafts(alloc, all, apps.as_slice(), bounds.plan_end, last)?;
+    let named = drafts.as_slice();
+    let made = new_drafts(alloc, view, named)?;
+    let new = made.as_slice();
+    let rows = view.ltp();
+    let kept = staying_rows(alloc, rows, only, named)?;
+    if are_too_many(view, kept.len(), new.len()) {
+        return Ok(Verdict::Refused(Refusal::TooManyRows));
+    }
+    let gone = withdrawn_rows(alloc, rows, only, named)?;
+    let changed = changed_rows(alloc, rows, only, named)?;
+    change_rows(alloc, view, links, kept.as_slice(), gone, changed, new)
+}
+
+// The last day of the plan, which is no later than the last planning day.
+fn last_planned(bounds: &Bounds) -> Day
+    ensures within { result ≤ last_planning_day }
+    ensures same { bounds.now.last_day ≤ last_planning_day → result ≡ bounds.now.last_day }
+{
+    if bounds.last_day > Day::LAST_PLANNING {
+        return Day::LAST_PLANNING;
+    }
+    bounds.last_day
+}
+
+// Whether the plans would hold too many rows, or too many serials were issued.
+fn are_too_many(view: &View<'_>, kept: usize, new: usize) -> bool
+    ensures too_many { IsSound (shown view.now) → IsTrue result ↔ AreTooMany (shown view.now).sets kept new }
+    ensures serials { result ≡ false → (shown view.now).sets.issued + new ≤ GREATEST_SERIAL }
+{
+    let planned = kept.saturating_add(view.cp().len());
+    let rows = planned.saturating_add(new);
+    let issued = (view.issued() as usize).saturating_add(new);
+    rows > MOST_PLANNED_ROWS || issued > GREATEST_SERIAL as usize
+}
+
+// The names of the applications that the statement looks at.
+fn asked(alloc: Global, all: &Definitions, only: &Option<App>) -> Result<Vec<App>, AllocError>
+    ensures { IfOk result (λ apps. AreAsked all.now only.now apps.items) }
+{
+    match only {
+        Some(app) => single(alloc, *app),
+        None => all.applications.names(alloc),
+    }
+}
+
+// Rows go and change, new ones come, the pairs follow, and all else stays.
+fn change_rows(
+    alloc: Global,
+    view: &View<'_>,
+    links: Links,
+    kept: &[Row],
+    gone: Vec<Row>,
+    changed: Vec<Row>,
+    new: &[Draft],
+) -> Result<Verdict, AllocError>
+    requires { (shown view.now).sets.issued + length new.now ≤ GREATEST_SERIAL }
+    ensures { IfOk result (λ verdict. IsSound (shown view.now) → (only : Option (List ℕ)) (named : List DraftValue)
+        → PartsPlan (shown view.now).sets only named kept.now gone.items changed.items
+        → RowsSound (modified_sets only named new.now (shown view.now).sets)
+        → ModifiesRows (shown view.now) links only named new.now verdict) }
+{
+    let put = numbered_rows(alloc, view.issued(), new)?;
+    let planned = joined(alloc, kept, put.as_slice())?;
+    let live = live_rows(alloc, planned.as_slice(), view.cp(), view.history())?;
+    let pairs = pair_change(alloc, view.pairs(), &live, &links)?;
+    let reply = Reply::Made {
+        made: new.len(),
+        withdrawn: gone.len(),
+    };
+    let deleted = deletions_of(alloc, gone.as_slice())?;
+    let change = Change {
+        definitions: DefinitionChange::AsBefore,
+        bounds: None,
+        issued: Some(view.issued() + new.len() as u32),
+        in_force: Some(links),
+        ltp: Moves { gone, changed, put },
+        cp: Moves::none(alloc),
+        history: Moves::none(alloc),
+        deletions: Moves {
+            gone: Vec::new(alloc),
+            changed: Vec::new(alloc),
+            put: deleted,
+        },
+        pairs,
+        job: None,
+    };
+    Ok(Verdict::Done(change, reply))
+}
+
+// The rows as the deletions have them.
+fn deletions_of(alloc: Global, rows: &[Row]) -> Result<Vec<Deletion>, AllocError>
+    ensures { IfOk result (λ deletions. deletions.items ≡ map withdrawn rows.now) }
+{
+    rows.iter()
+        .map(|row| Deletion {
+            row: *row,
+            reason: Reason::Withdrawn,
+        })
+        .collect(alloc)
+}
