@@ -11,3 +11,5 @@ mod ModifyingLemmas
 mod ChangedLemmas
 mod ModifyPlanLemmas
 mod ModifyAllLemmas
+mod ModifyOneLemmas
+mod OneListLemmas

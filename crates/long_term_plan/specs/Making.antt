@@ -35,6 +35,14 @@ LacksDefinition all (Some (PeriodUndefined app)) =
     IsLeastName (HasNoCalendar all) None × IsLeastName (HasNoPeriod all) (Some app)
 LacksDefinition all (Some _) = ⊥
 
+-- what that application lacks where it is active: its calendar, and else a period
+abbrev pub LacksOwnDefinition : Definitions → List ℕ → Option Refusal → Type 0
+LacksOwnDefinition all app None = (HasNoCalendar all app → ⊥) × (HasNoPeriod all app → ⊥)
+LacksOwnDefinition all app (Some (CalendarUndefined least)) = (least ≡ app) × HasNoCalendar all app
+LacksOwnDefinition all app (Some (PeriodUndefined least)) =
+    (HasNoCalendar all app → ⊥) × (least ≡ app) × HasNoPeriod all app
+LacksOwnDefinition all app (Some _) = ⊥
+
 -- the sets with these bounds, and with the drafts made in the long-term plan
 abbrev pub planned_sets : Bounds → List Draft → Sets → Sets
 planned_sets b new s = with_made LongTerm new (with_bounds b s)

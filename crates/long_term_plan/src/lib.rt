@@ -16,7 +16,7 @@ pub use addition::add;
 pub use creation::create;
 pub use deletion::delete;
 pub use extension::extend;
-pub use modification::modify_all;
+pub use modification::{modify_all, modify_one};
 
 #[cfg(test)]
 mod tests;

@@ -1,11 +1,13 @@
-ghost use Rattle.std.specs.Prelude.{◌≡◌, IfOk, map};
-ghost use Rattle.planner_machine.specs.InForce.{AreLinks, IsDefinedLink};
-ghost use Rattle.long_term_plan.specs.Lists.{link_of};
+ghost use Rattle.std.specs.Prelude.{◌≡◌, ◌↔◌, Contains, IfOk, filter, map};
+ghost use Rattle.external_dependencies.specs.declared.links.Link.{Link as LinkValue};
+ghost use Rattle.planner_machine.specs.InForce.{AreLinks, IsDefinedLink, PutsOne};
+ghost use Rattle.long_term_plan.specs.Lists.{is_of_other, link_of, link_to};
 
+use crate::parting::looks;
 use app_definitions::Definitions;
 use external_dependencies::{Link, Links};
 use std::alloc::{AllocError, Global};
-use work_calendars::App;
+use work_calendars::{App, Name};
 
 // All lists that are defined.
 pub(crate) fn defined_lists(alloc: Global, all: &Definitions) -> Result<Links, AllocError>
@@ -29,4 +31,63 @@ fn links_of(alloc: Global, listed: &[(App, App)]) -> Result<Vec<Link>, AllocErro
             predecessor: *predecessor,
         })
         .collect(alloc)
+}
+
+// For one application the list that is defined, and for all others those that were in force.
+pub(crate) fn lists_of_one(
+    alloc: Global,
+    all: &Definitions,
+    before: &Links,
+    app: &App,
+) -> Result<Links, AllocError>
+    ensures { IfOk result (λ links. PutsOne app.now all.now before.now links) }
+{
+    let mut links = own_links(alloc, all, app)?;
+    let others = other_links(alloc, before.as_slice(), app)?;
+    links.extend_from_slice(others.as_slice())?;
+    let lists = Links::from_vec(links);
+    let _in_order = lists.as_slice();
+    Ok(lists)
+}
+
+// The links of the list that is defined for the application.
+fn own_links(alloc: Global, all: &Definitions, app: &App) -> Result<Vec<Link>, AllocError>
+    ensures { IfOk result (λ links. (link : LinkValue)
+        → Contains links.items link ↔ ((link.app ≡ app.now) × IsDefinedLink all.now link)) }
+{
+    match all.predecessors.get(app) {
+        Some(names) => links_to(alloc, app, names.as_slice()),
+        None => Ok(Vec::new(alloc)),
+    }
+}
+
+// The links of the application to these predecessors.
+fn links_to(alloc: Global, app: &App, names: &[Name]) -> Result<Vec<Link>, AllocError>
+    ensures { IfOk result (λ links. links.items ≡ map (link_to app.now) names.now) }
+{
+    names
+        .iter()
+        .map(|name| Link {
+            app: *app,
+            predecessor: *name,
+        })
+        .collect(alloc)
+}
+
+// The links of other applications.
+fn other_links(alloc: Global, links: &[Link], app: &App) -> Result<Vec<Link>, AllocError>
+    ensures { IfOk result (λ others. others.items ≡ filter (is_of_other app.now) links.now) }
+{
+    links
+        .iter()
+        .copied()
+        .filter(|link| is_of_other(link, app))
+        .collect(alloc)
+}
+
+// Whether the link is of another application.
+fn is_of_other(link: &Link, app: &App) -> bool
+    ensures { result ≡ is_of_other app.now link.now }
+{
+    !looks(&link.app, &Some(*app))
 }

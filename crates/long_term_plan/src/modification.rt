@@ -5,6 +5,7 @@ ghost use Rattle.planner_machine.specs.declared.content.Draft.{Draft as DraftVal
 ghost use Rattle.planner_machine.specs.Content.{Content};
 ghost use Rattle.planner_machine.specs.Modify.{withdrawn};
 ghost use Rattle.planner_machine.specs.ModifyAll.{modify_all};
+ghost use Rattle.planner_machine.specs.ModifyOne.{modify_one};
 ghost use Rattle.planner_machine.specs.Sound.{IsSound};
 ghost use Rattle.planner_machine.proofs.RowsSound.{RowsSound};
 ghost use Rattle.plan_store.specs.Verdicts.{VerdictIs};
@@ -12,10 +13,10 @@ ghost use Rattle.plan_store.specs.Views.{Shows, shown};
 ghost use Rattle.long_term_plan.specs.Modifying.{AreAsked, AreTooMany, ModifiesPlan, ModifiesRows, PartsPlan, modified_sets};
 
 use crate::drafts::{named_drafts, new_drafts};
-use crate::lists::defined_lists;
+use crate::lists::{defined_lists, lists_of_one};
 use crate::making::{joined, numbered_rows};
 use crate::parting::{changed_rows, staying_rows, withdrawn_rows};
-use crate::refusals::lacking_definition;
+use crate::refusals::{lacking_definition, lacking_own_definition};
 use app_definitions::Definitions;
 use external_dependencies::{Links, find_loop};
 use occurrences::{Deletion, GREATEST_SERIAL, Reason, Refusal, Reply, Row};
@@ -43,6 +44,30 @@ pub fn modify_all(alloc: Global, view: &View<'_>) -> Result<Verdict, AllocError>
         return Ok(Verdict::Refused(Refusal::Loop { app }));
     }
     modify(alloc, view, &bounds, &None, links)
+}
+
+/// `ltp-modify-one`: the same for one application, whose list alone comes into force. Refused where there is no plan (20),
+/// where the application is active and lacks its calendar (22) or a period (23), where the lists would have a loop (25),
+/// where it isn't active (26), and where the rows would be too many (31).
+pub fn modify_one(alloc: Global, view: &View<'_>, app: &App) -> Result<Verdict, AllocError>
+    ensures { IfOk result (λ verdict. (c : Content) → Shows Need.LongTerm view.now c → IsSound c
+        → VerdictIs (modify_one app.now) c verdict) }
+{
+    let Some(bounds) = view.bounds() else {
+        return Ok(Verdict::Refused(Refusal::NoPlan));
+    };
+    let all = view.definitions();
+    if let Some(refusal) = lacking_own_definition(all, app) {
+        return Ok(Verdict::Refused(refusal));
+    }
+    let links = lists_of_one(alloc, all, view.in_force(), app)?;
+    if let Some(least) = find_loop(alloc, &links)? {
+        return Ok(Verdict::Refused(Refusal::Loop { app: least }));
+    }
+    if all.active(app).is_none() {
+        return Ok(Verdict::Refused(Refusal::NoActiveApplication));
+    }
+    modify(alloc, view, &bounds, &Some(*app), links)
 }
 
 // What is decided where the statement looks at all applications, or at one, and these lists come into force.

@@ -113,7 +113,7 @@ fn looks_at(row: &Row, only: &Option<App>) -> bool
 }
 
 // Whether the statement looks at the application.
-fn looks(app: &App, only: &Option<App>) -> bool
+pub(crate) fn looks(app: &App, only: &Option<App>) -> bool
     ensures { result ≡ looks only.now app.now }
 {
     match only {

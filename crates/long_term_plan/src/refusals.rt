@@ -1,7 +1,8 @@
-ghost use Rattle.long_term_plan.specs.Making.{LacksDefinition};
+ghost use Rattle.long_term_plan.specs.Making.{LacksDefinition, LacksOwnDefinition};
 
 use app_definitions::Definitions;
 use occurrences::Refusal;
+use work_calendars::App;
 
 // The refusal of the least application that lacks its calendar, or else of the least one that lacks a period.
 pub(crate) fn lacking_definition(all: &Definitions) -> Option<Refusal>
@@ -12,4 +13,18 @@ pub(crate) fn lacking_definition(all: &Definitions) -> Option<Refusal>
     }
     let app = all.least_without_period()?;
     Some(Refusal::PeriodUndefined { app })
+}
+
+// The refusal of an application that is active and lacks its calendar, or else a period.
+pub(crate) fn lacking_own_definition(all: &Definitions, app: &App) -> Option<Refusal>
+    ensures { LacksOwnDefinition all.now app.now result }
+{
+    let application = all.active(app)?;
+    if all.lacks_calendar(&application) {
+        return Some(Refusal::CalendarUndefined { app: *app });
+    }
+    if all.lacks_period(app) {
+        return Some(Refusal::PeriodUndefined { app: *app });
+    }
+    None
 }
