@@ -1,7 +1,7 @@
 -- What a line asks of the planner.
 use Rattle.std.specs.Prelude.{ℕ, List, Option, Some}
 use Rattle.occurrences.specs.declared.key.Key.{Key}
-use Rattle.planner_machine.specs.Statement.{Act, Add, AddCurrent, Change, Create, DailyExtend, Delete, Extend, Replan, Undefine}
+use Rattle.planner_machine.specs.Statement.{Act, Add, AddCurrent, Change, Create, DailyExtend, Delete, Extend, ModifyAll, ModifyOne, Replan, Undefine}
 use Rattle.statements.specs.declared.statements.Statement.{Statement}
 use Rattle.statements.specs.declared.statements.Statement.TheVariants as statement
 use Rattle.planner_cli.specs.Kinds.{definitions_kind}
@@ -21,6 +21,8 @@ request_of (Some (statement.Days app from to)) = request.Days app from to
 request_of (Some (statement.Undefine kind name job)) = request.Change job (change.Undefine (definitions_kind kind) name)
 request_of (Some (statement.LtpCreate from to job)) = request.Change job (change.Create from to)
 request_of (Some (statement.LtpExtend to job)) = request.Change job (change.Extend to)
+request_of (Some (statement.LtpModifyAll job)) = request.Change job change.ModifyAll
+request_of (Some (statement.LtpModifyOne app job)) = request.Change job (change.ModifyOne app)
 request_of (Some (statement.LtpAdd app ia job)) = request.Change job (change.Add (key_of app ia))
 request_of (Some (statement.LtpDelete app ia job)) = request.Change job (change.Delete (key_of app ia))
 request_of (Some (statement.DpExtend to job)) = request.Change job (change.DailyExtend to)
@@ -34,6 +36,8 @@ abbrev pub change_of : ChangeRequest → Change
 change_of (change.Undefine kind name) = Undefine kind name
 change_of (change.Create from to) = Create from to
 change_of (change.Extend to) = Extend to
+change_of change.ModifyAll = ModifyAll
+change_of (change.ModifyOne app) = ModifyOne app
 change_of (change.Add key) = Add key
 change_of (change.Delete key) = Delete key
 change_of (change.DailyExtend to) = DailyExtend to

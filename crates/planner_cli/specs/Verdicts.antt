@@ -52,6 +52,8 @@ abbrev pub need_of_change : ChangeRequest → Need
 need_of_change (request.Undefine kind name) = need.LongTerm
 need_of_change (request.Create from to) = need.LongTerm
 need_of_change (request.Extend to) = need.LongTerm
+need_of_change request.ModifyAll = need.LongTerm
+need_of_change (request.ModifyOne app) = need.LongTerm
 need_of_change (request.Add key) = need.Key key
 need_of_change (request.Delete key) = need.Key key
 need_of_change (request.DailyExtend to) = need.Daily to

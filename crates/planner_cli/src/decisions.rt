@@ -41,6 +41,8 @@ fn need_of_change(change: &ChangeRequest) -> Need
         ChangeRequest::Undefine { .. }
         | ChangeRequest::Create { .. }
         | ChangeRequest::Extend { .. }
+        | ChangeRequest::ModifyAll
+        | ChangeRequest::ModifyOne { .. }
         | ChangeRequest::Replan => Need::LongTerm,
         ChangeRequest::Add { key }
         | ChangeRequest::Delete { key }
@@ -74,6 +76,8 @@ fn decide_change(
         ChangeRequest::Undefine { kind, name } => Ok(undefine(alloc, view, *kind, name)),
         ChangeRequest::Create { from, to } => long_term_plan::create(alloc, view, *from, *to),
         ChangeRequest::Extend { to } => long_term_plan::extend(alloc, view, *to),
+        ChangeRequest::ModifyAll => long_term_plan::modify_all(alloc, view),
+        ChangeRequest::ModifyOne { app } => long_term_plan::modify_one(alloc, view, app),
         ChangeRequest::Add { key } => long_term_plan::add(alloc, view, key),
         ChangeRequest::Delete { key } => long_term_plan::delete(alloc, view, key),
         ChangeRequest::DailyExtend { to } => daily_planning::extend(alloc, view, *to),

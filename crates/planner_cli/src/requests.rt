@@ -21,6 +21,10 @@ pub enum ChangeRequest {
     Create { from: Day, to: Day },
     /// To extend the long-term plan to a day.
     Extend { to: Day },
+    /// To make the rest of the long-term plan what the definitions name now.
+    ModifyAll,
+    /// To do so for one application.
+    ModifyOne { app: App },
     /// To add an occurrence to the long-term plan.
     Add { key: Key },
     /// To take an occurrence out of the long-term plan.
@@ -90,6 +94,14 @@ fn request_of(read: &Option<Statement>) -> Request
             number: *job,
             change: ChangeRequest::Extend { to: *to },
         },
+        Some(Statement::LtpModifyAll { job }) => Request::Change {
+            number: *job,
+            change: ChangeRequest::ModifyAll,
+        },
+        Some(Statement::LtpModifyOne { app, job }) => Request::Change {
+            number: *job,
+            change: ChangeRequest::ModifyOne { app: *app },
+        },
         Some(Statement::LtpAdd { app, ia, job }) => Request::Change {
             number: *job,
             change: ChangeRequest::Add {
@@ -144,6 +156,8 @@ pub(crate) fn tell_well_formed(change: &ChangeRequest)
         }
         ChangeRequest::Undefine { .. } => {}
         ChangeRequest::Extend { .. } => {}
+        ChangeRequest::ModifyAll => {}
+        ChangeRequest::ModifyOne { .. } => {}
         ChangeRequest::Add { .. } => {}
         ChangeRequest::Delete { .. } => {}
         ChangeRequest::DailyExtend { .. } => {}
