@@ -1,5 +1,6 @@
 -- How the first word of a line comes off its front.
-use Rattle.std.proofs.Common.{◌≡◌, ◌≢◌, ◌∙◌, ◌+◌, ◌-◌, ℕ, Bool, true, false, not, refl, sym, ap, List, [], ◌∷◌, take, drop, one-add, inl, inr, ◌⊎◌, filter, length, arith}
+use Rattle.std.proofs.Common.{◌≡◌, ◌≢◌, ◌∙◌, ◌+◌, ◌-◌, ℕ, Bool, true, false, not, refl, sym, ap, List, [], ◌∷◌, take}
+use Rattle.std.proofs.Common.{drop, one-add, inl, inr, ◌⊎◌, filter, length, arith}
 use Rattle.std.specs.List.{onto_first, prefix_len, slice_split}
 use Rattle.std.proofs.lemmas.List.{take_rest}
 use Rattle.statement_words.specs.Grammar.{Text}
@@ -18,7 +19,8 @@ module _ (p : ℕ → Bool) where
   drop_front [] = refl
   drop_front (x ∷ xs) = go (bool_cases (p x)) (drop_front xs)
     where
-      go : (p x ≡ true) ⊎ (p x ≡ false) → words xs ≡ words (drop (prefix_len p xs) xs) → words (x ∷ xs) ≡ words (drop (prefix_len p (x ∷ xs)) (x ∷ xs))
+      go : (p x ≡ true) ⊎ (p x ≡ false) → words xs ≡ words (drop (prefix_len p xs) xs)
+          → words (x ∷ xs) ≡ words (drop (prefix_len p (x ∷ xs)) (x ∷ xs))
       go (inl t) rest = rw (t, one-add) rest
       go (inr f) rest = rw f (rw f refl)
 
@@ -30,7 +32,8 @@ module _ (p : ℕ → Bool) where
   begins [] = inl refl
   begins (x ∷ xs) = go (bool_cases (p x)) (begins xs)
     where
-      go : (p x ≡ true) ⊎ (p x ≡ false) → Begins (drop (prefix_len p xs) xs) → Begins (drop (prefix_len p (x ∷ xs)) (x ∷ xs))
+      go : (p x ≡ true) ⊎ (p x ≡ false) → Begins (drop (prefix_len p xs) xs)
+          → Begins (drop (prefix_len p (x ∷ xs)) (x ∷ xs))
       go (inl t) rest = rw (t, one-add) rest
       go (inr f) rest = rw f (inr (x, xs, refl, f))
 
@@ -46,7 +49,12 @@ module _ (p : ℕ → Bool) where
     where
       go : (p x ≡ true) ⊎ (p x ≡ false) → Cut xs (prefix_len other xs) → Cut (x ∷ xs) (prefix_len other (x ∷ xs))
       go (inl t) c = record { parts = slice_split p xs; pieces = rw t refl; rest = rw t (rw t refl) }
-      go (inr f) c = record { parts = c.parts; pieces = rw (f, one-add) (ap (onto_first x) c.pieces); rest = rw (f, one-add) c.rest }
+      go (inr f) c =
+          record {
+            parts = c.parts;
+            pieces = rw (f, one-add) (ap (onto_first x) c.pieces);
+            rest = rw (f, one-add) c.rest;
+          }
 
   none_left : (t : Text) → Begins t → prefix_len other t ≡ 0 → words t ≡ []
   none_left t (inl e) z = ap words e
@@ -57,15 +65,21 @@ module _ (p : ℕ → Bool) where
       some : (m : ℕ) → 1 + m ≡ 0 → ⊥
       some m e = omega arith
 
-  one_off : (t : Text) → prefix_len other t ≢ 0 → words t ≡ take (prefix_len other t) t ∷ words (drop (prefix_len other t) t)
-  one_off t ne = ap (filter has_bytes) (cut t).pieces ∙ keeps t ne (cut t).parts ∙ ap (λ ws. take (prefix_len other t) t ∷ ws) (cut t).rest
+  one_off : (t : Text) → prefix_len other t ≢ 0
+      → words t ≡ take (prefix_len other t) t ∷ words (drop (prefix_len other t) t)
+  one_off t ne =
+      ap (filter has_bytes) (cut t).pieces ∙ keeps t ne (cut t).parts
+      ∙ ap (λ ws. take (prefix_len other t) t ∷ ws) (cut t).rest
     where
-      keeps : (t : Text) → prefix_len other t ≢ 0 → (parts : List Text) → filter has_bytes (take (prefix_len other t) t ∷ parts) ≡ take (prefix_len other t) t ∷ filter has_bytes parts
+      keeps : (t : Text) → prefix_len other t ≢ 0 → (parts : List Text)
+          → filter has_bytes (take (prefix_len other t) t ∷ parts)
+          ≡ take (prefix_len other t) t ∷ filter has_bytes parts
       keeps [] ne parts = absurd (ne refl)
       keeps (x ∷ xs) ne parts = go (bool_cases (p x)) ne
         where
           go : (p x ≡ true) ⊎ (p x ≡ false) → prefix_len other (x ∷ xs) ≢ 0
-              → filter has_bytes (take (prefix_len other (x ∷ xs)) (x ∷ xs) ∷ parts) ≡ take (prefix_len other (x ∷ xs)) (x ∷ xs) ∷ filter has_bytes parts
+              → filter has_bytes (take (prefix_len other (x ∷ xs)) (x ∷ xs) ∷ parts)
+              ≡ take (prefix_len other (x ∷ xs)) (x ∷ xs) ∷ filter has_bytes parts
           go (inl t) n = absurd (n (rw t refl))
           go (inr f) n = rw (f, one-add) refl
 
@@ -74,13 +88,15 @@ module _ (p : ℕ → Bool) where
 abbrev pub part_from : Text → ℕ → Text
 part_from t k = take (length t - k) (drop k t)
 
-pub no_word : (line : Text) (b n : ℕ) → b ≡ prefix_len is_blank line → n ≡ prefix_len (other is_blank) (part_from line b) → n ≡ 0 → words_of line ≡ []
+pub no_word : (line : Text) (b n : ℕ) → b ≡ prefix_len is_blank line
+    → n ≡ prefix_len (other is_blank) (part_from line b) → n ≡ 0 → words_of line ≡ []
 no_word line b n is count zero_is =
     let text : part_from line b ≡ drop (prefix_len is_blank line) line = take_rest line b ∙ ap (λ k. drop k line) is in
     drop_front is_blank line
     ∙ none_left is_blank _ (begins is_blank line) (ap (prefix_len (other is_blank)) (sym text) ∙ sym count ∙ zero_is)
 
-pub first_off : (line : Text) (b n : ℕ) → b ≡ prefix_len is_blank line → n ≡ prefix_len (other is_blank) (part_from line b) → n ≢ 0
+pub first_off : (line : Text) (b n : ℕ) → b ≡ prefix_len is_blank line
+    → n ≡ prefix_len (other is_blank) (part_from line b) → n ≢ 0
     → words_of line ≡ take n (part_from line b) ∷ words_of (part_from (part_from line b) n)
 first_off line b n is count some =
     let text : part_from line b ≡ drop (prefix_len is_blank line) line = take_rest line b ∙ ap (λ k. drop k line) is in

@@ -1,5 +1,6 @@
 -- What the lexer of `clap` makes of a word of each look.
-use Rattle.std.proofs.Common.{◌≡◌, ◌∙◌, ◌==◌, Bool, true, false, refl, sym, ap, subst, arith, zero, suc, true≢false, ℕ, [], ◌∷◌, Option, Some, None, inl, inr, ◌⊎◌}
+use Rattle.std.proofs.Common.{◌≡◌, ◌∙◌, ◌==◌, Bool, true, false, refl, sym, ap, subst, arith, zero, suc, true≢false, ℕ}
+use Rattle.std.proofs.Common.{[], ◌∷◌, Option, Some, None, inl, inr, ◌⊎◌}
 use Rattle.std.specs.Str.{bytes_eq}
 use Rattle.std.specs.List.{list_any}
 use Rattle.clap.specs.Lexer.{long_of, short_of}
@@ -29,7 +30,12 @@ long_read x xs = go (list_any (λ b. b == 61) (x ∷ xs)) refl
   where
     go : (b : Bool) → list_any (λ b. b == 61) (x ∷ xs) ≡ b → IsRead (45 ∷ 45 ∷ x ∷ xs) (long_look (x ∷ xs))
     go true e = rw e (record { not_dashes = refl; long_is = rw e refl })
-    go false e = rw e (record { not_dashes = refl; long_is = rw e (ap (λ t. Some (t, None)) (before_first-Lacks 61 (x ∷ xs) (lacks (x ∷ xs) e))) })
+    go false e =
+        rw e
+        (record {
+          not_dashes = refl;
+          long_is = rw e (ap (λ t. Some (t, None)) (before_first-Lacks 61 (x ∷ xs) (lacks (x ∷ xs) e)));
+        })
 
 dash_read : (xs : Text) → IsRead (45 ∷ xs) (dash_look xs)
 dash_read [] = tt

@@ -1,12 +1,14 @@
 -- The rows that stand for uses, and one more use.
-use Rattle.std.proofs.Common.{◌≡◌, ◌∙◌, ◌&&◌, ◌||◌, Bool, cond, true, false, not, refl, sym, ap, ℕ, List, [], ◌∷◌, ◌++◌, Option, Some, None, map, inl, inr, ◌⊎◌}
+use Rattle.std.proofs.Common.{◌≡◌, ◌∙◌, ◌&&◌, ◌||◌, Bool, cond, true, false, not, refl, sym, ap, ℕ, List, [], ◌∷◌, ◌++◌}
+use Rattle.std.proofs.Common.{Option, Some, None, map, inl, inr, ◌⊎◌}
 use Rattle.std.specs.List.{fold}
 use Rattle.std.specs.Str.{bytes_eq}
 use Rattle.std.proofs.lemmas.List.{map-append}
 use Rattle.clap.specs.Faults.{check_fault, defaults_fault, settle_fault, use_fault}
 use Rattle.clap.specs.Kinds.{Kinds, or_else}
 use Rattle.clap.specs.Takes.{is_given}
-use Rattle.clap.specs.Walk.{Held, Row, Rule, arg_by_id, at_row, first_of, has_row, more_values, settled, finished, with_default, used, with_values}
+use Rattle.clap.specs.Walk.{Held, Row, Rule, arg_by_id, at_row, first_of, has_row, more_values, settled, finished}
+use Rattle.clap.specs.Walk.{with_default, used, with_values}
 use Rattle.clap.specs.declared.builder.value_parser.Reading.TheVariants.{AsWritten}
 use Rattle.clap.specs.declared.parser.matches.ValueSource.TheVariants.{CommandLine}
 use Rattle.statement_words.specs.Grammar.{Text, Use, is_used, value_in}
@@ -33,7 +35,8 @@ pub given-rows_for : (us : List Use) (name : Text) → is_given name (rows_for u
 given-rows_for [] name = refl
 given-rows_for (u ∷ us) name = go (bool_cases (bytes_eq u.0 name)) (given-rows_for us name)
   where
-    go : (bytes_eq u.0 name ≡ true) ⊎ (bytes_eq u.0 name ≡ false) → is_given name (rows_for us) ≡ is_used name us → is_given name (rows_for (u ∷ us)) ≡ is_used name (u ∷ us)
+    go : (bytes_eq u.0 name ≡ true) ⊎ (bytes_eq u.0 name ≡ false) → is_given name (rows_for us) ≡ is_used name us
+        → is_given name (rows_for (u ∷ us)) ≡ is_used name (u ∷ us)
     go (inl t) rest = rw t refl
     go (inr f) rest = rw f rest
 
@@ -41,11 +44,13 @@ pub first-rows_for : (us : List Use) (name : Text) → first_of name (rows_for u
 first-rows_for [] name = refl
 first-rows_for (u ∷ us) name = go (bool_cases (bytes_eq u.0 name)) (first-rows_for us name)
   where
-    go : (bytes_eq u.0 name ≡ true) ⊎ (bytes_eq u.0 name ≡ false) → first_of name (rows_for us) ≡ value_in us name → first_of name (rows_for (u ∷ us)) ≡ value_in (u ∷ us) name
+    go : (bytes_eq u.0 name ≡ true) ⊎ (bytes_eq u.0 name ≡ false) → first_of name (rows_for us) ≡ value_in us name
+        → first_of name (rows_for (u ∷ us)) ≡ value_in (u ∷ us) name
     go (inl t) rest = rw t refl
     go (inr f) rest = rw f rest
 
-at_no_row : (us : List Use) (name : Text) (change : Row → List Row) (missing : List Row) → is_used name us ≡ false → at_row name change missing (rows_for us) ≡ rows_for us ++ missing
+at_no_row : (us : List Use) (name : Text) (change : Row → List Row) (missing : List Row) → is_used name us ≡ false
+    → at_row name change missing (rows_for us) ≡ rows_for us ++ missing
 at_no_row [] name change missing e = refl
 at_no_row (u ∷ us) name change missing e =
     let q = neither (bytes_eq u.0 name) (is_used name us) e in
@@ -56,10 +61,12 @@ append_none [] = refl
 append_none (x ∷ xs) = ap (λ ys. x ∷ ys) (append_none xs)
 
 -- a first use of a name puts its row at the end
-pub used_first : (us : List Use) (name value : Text) (long : Option Text) (index : Option ℕ) (required : Bool) → is_used name us ≡ false
+pub used_first : (us : List Use) (name value : Text) (long : Option Text) (index : Option ℕ) (required : Bool)
+    → is_used name us ≡ false
     → used (set_rule name long index required) (value ∷ []) (rows_for us) ≡ rows_for (us ++ (name, value) ∷ [])
 used_first us name value long index required e =
-    ap (λ rs. with_values name AsWritten CommandLine (value ∷ []) rs) (at_no_row us name (λ _. []) [] e ∙ append_none (rows_for us))
+    ap (λ rs. with_values name AsWritten CommandLine (value ∷ []) rs)
+    (at_no_row us name (λ _. []) [] e ∙ append_none (rows_for us))
     ∙ at_no_row us name (more_values CommandLine (value ∷ [])) _ e ∙ sym (map-append row_for us ((name, value) ∷ []))
 
 -- a use fails where the name has a row
@@ -67,7 +74,8 @@ pub use_clean : (us : List Use) (name value : Text) (long : Option Text) (index 
     → clean (use_fault false (set_rule name long index required) (value ∷ []) (rows_for us)) ≡ not (is_used name us)
 use_clean us name value long index required = go (bool_cases (is_used name us))
   where
-    go : (is_used name us ≡ true) ⊎ (is_used name us ≡ false) → clean (use_fault false (set_rule name long index required) (value ∷ []) (rows_for us)) ≡ not (is_used name us)
+    go : (is_used name us ≡ true) ⊎ (is_used name us ≡ false)
+        → clean (use_fault false (set_rule name long index required) (value ∷ []) (rows_for us)) ≡ not (is_used name us)
     go (inl t) = rw (has_row-rows_for us name ∙ t, t) refl
     go (inr f) = rw (has_row-rows_for us name ∙ f, f) refl
 
@@ -83,13 +91,15 @@ pub settle_clean : (c : List Rule) (us : List Use) (name value : Text) → IsSet
     → clean (settle_fault c false (held_at us (Some (name, value ∷ [])))) ≡ not (is_used name us)
 settle_clean c us name value s = rw s.is (use_clean us name value s.long s.index s.required)
 
-pub settled_first : (c : List Rule) (us : List Use) (name value : Text) → IsSet name (arg_by_id c name) → is_used name us ≡ false
+pub settled_first : (c : List Rule) (us : List Use) (name value : Text) → IsSet name (arg_by_id c name)
+    → is_used name us ≡ false
     → settled c (held_at us (Some (name, value ∷ []))) ≡ held_at (us ++ (name, value) ∷ []) None
 settled_first c us name value s e =
     rw s.is (ap (λ rs. record (held_at [] None) { rows = rs }) (used_first us name value s.long s.index s.required e))
 
 -- a use with no value fails
-pub settle_none : (c : List Rule) (us : List Use) (name : Text) → IsSet name (arg_by_id c name) → clean (settle_fault c false (held_at us (Some (name, [])))) ≡ false
+pub settle_none : (c : List Rule) (us : List Use) (name : Text) → IsSet name (arg_by_id c name)
+    → clean (settle_fault c false (held_at us (Some (name, [])))) ≡ false
 settle_none c us name s = rw s.is refl
 
 -- ---- the end of the words

@@ -1,18 +1,26 @@
 -- A walk of `clap` gives what the grammar gives.
-use Rattle.std.proofs.Common.{◌≡◌, ◌∙◌, ◌&&◌, ◌||◌, Bool, cond, true, false, not, refl, sym, ap, ℕ, List, [], ◌∷◌, ◌++◌, Option, Some, None, option_map, true≢false, inl, inr, ◌⊎◌, append-nil, nat_lt}
+use Rattle.std.proofs.Common.{◌≡◌, ◌∙◌, ◌&&◌, ◌||◌, Bool, cond, true, false, not, refl, sym, ap, ℕ, List, [], ◌∷◌, ◌++◌}
+use Rattle.std.proofs.Common.{Option, Some, None, option_map, true≢false, inl, inr, ◌⊎◌, append-nil, nat_lt}
 use Rattle.std.specs.List.{list_any}
 use Rattle.std.specs.Option.{option_and_then}
 use Rattle.std.specs.Str.{bytes_eq}
 use Rattle.clap.specs.Lexer.{short_of}
 use Rattle.clap.specs.Faults.{settle_fault}
-use Rattle.clap.specs.Walk.{Held, Row, Rule, Step, Walk, arg_by_id, arg_by_index, arg_by_long, idle, option, option_word, settled, used}
-use Rattle.statement_words.specs.Grammar.{Layout, Look, Text, Use, accepted, alone, before_rest, first_use, is_complete, is_distinct, is_option, is_stray, is_stray_look, is_used, joined, look_of, plain, stray, uses_of, value_use, word_use}
+use Rattle.clap.specs.Walk.{Held, Row, Rule, Step, Walk, arg_by_id, arg_by_index, arg_by_long, idle, option}
+use Rattle.clap.specs.Walk.{option_word, settled, used}
+use Rattle.statement_words.specs.Grammar.{Layout, Look, Text, Use, accepted, alone, before_rest, first_use, is_complete}
+use Rattle.statement_words.specs.Grammar.{is_distinct, is_option, is_stray, is_stray_look, is_used, joined, look_of}
+use Rattle.statement_words.specs.Grammar.{plain, stray, uses_of, value_use, word_use}
 use Rattle.statement_words.proofs.Ends.{ends}
 use Rattle.statement_words.proofs.Looks.{Cuts, IsRead, reads}
 use Rattle.statement_words.proofs.Rules.{IsSet, knows, rules_built, set_rule}
-use Rattle.statement_words.proofs.Rows.{clean, held_at, rows_for, settle_clean, settle_none, settled_first, use_clean, used_first}
-use Rattle.statement_words.proofs.Turns.{IsFound, IsKnown, defers, defers_end, long_takes, long_turn, long_waits, outcome, split_or, turn_long, turn_plain, turned, walk_in, word_takes, word_turn}
-use Rattle.statement_words.proofs.Uses.{bool_cases, distinct_more, eq_self, is_used-middle, neither, refused_use, taken_use, when_true, when_false}
+use Rattle.statement_words.proofs.Rows.{clean, held_at, rows_for, settle_clean, settle_none, settled_first, use_clean}
+use Rattle.statement_words.proofs.Rows.{used_first}
+use Rattle.statement_words.proofs.Turns.{IsFound, IsKnown, defers, defers_end, long_takes, long_turn, long_waits}
+use Rattle.statement_words.proofs.Turns.{outcome, split_or, turn_long, turn_plain, turned, walk_in, word_takes}
+use Rattle.statement_words.proofs.Turns.{word_turn}
+use Rattle.statement_words.proofs.Uses.{bool_cases, distinct_more, eq_self, is_used-middle, neither, refused_use}
+use Rattle.statement_words.proofs.Uses.{taken_use, when_true, when_false}
 
 -- the place of the next plain word, by whether there was one
 abbrev pub position : Bool → ℕ
@@ -56,7 +64,8 @@ module _ (l : Layout) where
       go stray r h = absurd (true≢false h)
 
   -- a value that is pending counts as used, where its name was not
-  late : (us : List Use) (name v : Text) (b : Bool) (words : List Text) → IsSet name (arg_by_id c name) → list_any is_stray words ≡ false
+  late : (us : List Use) (name v : Text) (b : Bool) (words : List Text) → IsSet name (arg_by_id c name)
+      → list_any is_stray words ≡ false
       → outcome c (walk_in (held_at us (Some (name, v ∷ []))) idle (position b)) words
       ≡ cond (is_used name us) None (outcome c (walk_in (held_at (us ++ (name, v) ∷ []) None) idle (position b)) words)
   late us name v b words s none =
@@ -68,13 +77,16 @@ module _ (l : Layout) where
       h = held_at us (Some (name, v ∷ []))
 
       deferred : (ws : List Text) → list_any is_stray ws ≡ false
-          → outcome c (walk_in h idle (position b)) ws ≡ cond (clean (settle_fault c false h)) (outcome c (walk_in (settled c h) idle (position b)) ws) None
+          → outcome c (walk_in h idle (position b)) ws
+          ≡ cond (clean (settle_fault c false h)) (outcome c (walk_in (settled c h) idle (position b)) ws) None
       deferred [] e = defers_end c h (position b)
-      deferred (x ∷ xs) e = defers c h (position b) x xs (known_word b x (neither (is_stray x) (list_any is_stray xs) e).0)
+      deferred (x ∷ xs) e =
+          defers c h (position b) x xs (known_word b x (neither (is_stray x) (list_any is_stray xs) e).0)
 
       go : (is_used name us ≡ true) ⊎ (is_used name us ≡ false)
           → cond (not (is_used name us)) (outcome c (walk_in (settled c h) idle (position b)) words) None
-          ≡ cond (is_used name us) None (outcome c (walk_in (held_at (us ++ (name, v) ∷ []) None) idle (position b)) words)
+          ≡ cond (is_used name us) None
+          (outcome c (walk_in (held_at (us ++ (name, v) ∷ []) None) idle (position b)) words)
       go (inl t) = rw t refl
       go (inr f) =
           rw f (ap (λ (x : Held). outcome c (walk_in x idle (position b)) words) (settled_first c us name v s f))
@@ -92,21 +104,28 @@ module _ (l : Layout) where
   Claim words = (waits : Option Text) (us : List Use) (b : Bool) → Waits waits → is_distinct us ≡ true → Taken us b
       → outcome c (walk_for us waits b) words ≡ read_on us (uses_of l waits words)
 
-  next_use : (us : List Use) (name v : Text) (b : Bool) (words : List Text) → Claim words → is_distinct us ≡ true → Taken (us ++ (name, v) ∷ []) b
-      → cond (is_used name us) None (outcome c (walk_in (held_at (us ++ (name, v) ∷ []) None) idle (position b)) words) ≡ read_on us (before_rest name v (uses_of l None words))
+  next_use : (us : List Use) (name v : Text) (b : Bool) (words : List Text) → Claim words → is_distinct us ≡ true
+      → Taken (us ++ (name, v) ∷ []) b
+      → cond (is_used name us) None (outcome c (walk_in (held_at (us ++ (name, v) ∷ []) None) idle (position b)) words)
+      ≡ read_on us (before_rest name v (uses_of l None words))
   next_use us name v b words rest d taken = go (bool_cases (is_used name us))
     where
       go : (is_used name us ≡ true) ⊎ (is_used name us ≡ false)
-          → cond (is_used name us) None (outcome c (walk_in (held_at (us ++ (name, v) ∷ []) None) idle (position b)) words) ≡ read_on us (before_rest name v (uses_of l None words))
+          → cond (is_used name us) None
+          (outcome c (walk_in (held_at (us ++ (name, v) ∷ []) None) idle (position b)) words)
+          ≡ read_on us (before_rest name v (uses_of l None words))
       go (inl t) = rw t (sym (ap (option_map rows_for) (refused_use l us name v (uses_of l None words) t)))
       go (inr f) =
-          rw f (rest None (us ++ (name, v) ∷ []) b tt (distinct_more us name v d f) taken ∙ sym (ap (option_map rows_for) (taken_use l us name v (uses_of l None words))))
+          rw f
+          (rest None (us ++ (name, v) ∷ []) b tt (distinct_more us name v d f) taken
+          ∙ sym (ap (option_map rows_for) (taken_use l us name v (uses_of l None words))))
 
   used_more : (us : List Use) (u : Use) (name : Text) → is_used name us ≡ true → is_used name (us ++ u ∷ []) ≡ true
   used_more [] u name e = absurd (true≢false (sym e))
   used_more (x ∷ us) u name e = go (bytes_eq x.0 name) e (λ h. used_more us u name h)
     where
-      go : (b : Bool) → (b || is_used name us) ≡ true → (is_used name us ≡ true → is_used name (us ++ u ∷ []) ≡ true) → (b || is_used name (us ++ u ∷ [])) ≡ true
+      go : (b : Bool) → (b || is_used name us) ≡ true → (is_used name us ≡ true → is_used name (us ++ u ∷ []) ≡ true)
+          → (b || is_used name (us ++ u ∷ [])) ≡ true
       go true h rest = refl
       go false h rest = rest h
 
@@ -115,15 +134,20 @@ module _ (l : Layout) where
 
   -- ---- a word where an option may stand
 
-  module _ (word : Text) (words : List Text) (us : List Use) (b : Bool) (rest : Claim words) (d : is_distinct us ≡ true) (taken : Taken us b) (none : list_any is_stray words ≡ false) where
+  module _ (word : Text) (words : List Text) (us : List Use) (b : Bool) (rest : Claim words) (d : is_distinct us ≡ true)
+      (taken : Taken us b) (none : list_any is_stray words ≡ false) where
     h : Held
     h = held_at us None
 
-    first_alone : (name : Text) → Cuts word (Some (name, None)) → outcome c (walk_in (held_at us None) idle (position b)) (word ∷ words) ≡ read_on us (cond (is_option l name) (uses_of l (Some name) words) None)
-    first_alone name cuts = turn_long c (held_at us None) idle (position b) word words name None cuts ∙ go (bool_cases (is_option l name))
+    first_alone : (name : Text) → Cuts word (Some (name, None))
+        → outcome c (walk_in (held_at us None) idle (position b)) (word ∷ words)
+        ≡ read_on us (cond (is_option l name) (uses_of l (Some name) words) None)
+    first_alone name cuts =
+        turn_long c (held_at us None) idle (position b) word words name None cuts ∙ go (bool_cases (is_option l name))
       where
         go : (is_option l name ≡ true) ⊎ (is_option l name ≡ false)
-            → long_turn c (held_at us None) idle (position b) word words None (arg_by_long c name) ≡ read_on us (cond (is_option l name) (uses_of l (Some name) words) None)
+            → long_turn c (held_at us None) idle (position b) word words None (arg_by_long c name)
+            ≡ read_on us (cond (is_option l name) (uses_of l (Some name) words) None)
         go (inl t) =
             let s = (knows l).known name t in
             ap (long_turn c (held_at us None) idle (position b) word words None) s.is
@@ -135,23 +159,52 @@ module _ (l : Layout) where
             ∙ ap (read_on us) (sym (when_false _ (uses_of l (Some name) words) None f))
 
     first_joined : (name v : Text) → Cuts word (Some (name, Some v))
-        → outcome c (walk_in (held_at us None) idle (position b)) (word ∷ words) ≡ read_on us (cond (is_option l name) (before_rest name v (uses_of l None words)) None)
-    first_joined name v cuts = turn_long c (held_at us None) idle (position b) word words name (Some v) cuts ∙ go (bool_cases (is_option l name))
+        → outcome c (walk_in (held_at us None) idle (position b)) (word ∷ words)
+        ≡ read_on us (cond (is_option l name) (before_rest name v (uses_of l None words)) None)
+    first_joined name v cuts =
+        turn_long c (held_at us None) idle (position b) word words name (Some v) cuts
+        ∙ go (bool_cases (is_option l name))
       where
         unused : (s : IsSet name (arg_by_long c name)) → (is_used name us ≡ true) ⊎ (is_used name us ≡ false)
-            → cond (not (is_used name us)) (outcome c (walk_in (record (held_at us None) { rows = used (set_rule name s.long s.index s.required) (v ∷ []) (rows_for us) }) idle (position b)) words) None
-            ≡ cond (is_used name us) None (outcome c (walk_in (held_at (us ++ (name, v) ∷ []) None) idle (position b)) words)
+            → cond (not (is_used name us))
+            (outcome c
+            (walk_in
+            (record
+            (held_at us None) {
+              rows =
+                  used (set_rule name s.long s.index s.required) (v ∷ []) (rows_for us);
+            })
+            idle (position b))
+            words)
+            None
+            ≡ cond (is_used name us) None
+            (outcome c (walk_in (held_at (us ++ (name, v) ∷ []) None) idle (position b)) words)
         unused s (inl t) = rw t refl
         unused s (inr f) =
-            rw f (ap (λ (rs : List Row). outcome c (walk_in (record (held_at us None) { rows = rs }) idle (position b)) words) (used_first us name v s.long s.index s.required f))
+            rw f
+            (ap
+            (λ (rs : List Row). outcome c (walk_in (record (held_at us None) { rows = rs }) idle (position b))
+            words)
+            (used_first us name v s.long s.index s.required f))
 
         go : (is_option l name ≡ true) ⊎ (is_option l name ≡ false)
-            → long_turn c (held_at us None) idle (position b) word words (Some v) (arg_by_long c name) ≡ read_on us (cond (is_option l name) (before_rest name v (uses_of l None words)) None)
+            → long_turn c (held_at us None) idle (position b) word words (Some v) (arg_by_long c name)
+            ≡ read_on us (cond (is_option l name) (before_rest name v (uses_of l None words)) None)
         go (inl t) =
             let s = (knows l).known name t in
             ap (long_turn c (held_at us None) idle (position b) word words (Some v)) s.is
             ∙ long_takes c (held_at us None) idle (position b) word words name v s.long s.index s.required
-            ∙ ap (λ a. cond a (outcome c (walk_in (record (held_at us None) { rows = used (set_rule name s.long s.index s.required) (v ∷ []) (rows_for us) }) idle (position b)) words) None)
+            ∙ ap (λ a. cond a
+            (outcome c
+            (walk_in
+            (record
+            (held_at us None) {
+              rows =
+                  used (set_rule name s.long s.index s.required) (v ∷ []) (rows_for us);
+            })
+            idle (position b))
+            words)
+            None)
             (use_clean us name v s.long s.index s.required)
             ∙ unused s (bool_cases (is_used name us))
             ∙ next_use us name v b words rest d (taken_more us (name, v) b taken)
@@ -160,11 +213,15 @@ module _ (l : Layout) where
             ap (long_turn c (held_at us None) idle (position b) word words (Some v)) ((knows l).unknown name f)
             ∙ ap (read_on us) (sym (when_false _ (before_rest name v (uses_of l None words)) None f))
 
-    first_plain : Cuts word None → short_of word ≡ None → outcome c (walk_in (held_at us None) idle (position b)) (word ∷ words) ≡ read_on us (word_use l.word word (uses_of l None words))
-    first_plain cuts short = turn_plain c (held_at us None) idle (position b) word words cuts short ∙ go b taken l.word refl
+    first_plain : Cuts word None → short_of word ≡ None
+        → outcome c (walk_in (held_at us None) idle (position b)) (word ∷ words)
+        ≡ read_on us (word_use l.word word (uses_of l None words))
+    first_plain cuts short =
+        turn_plain c (held_at us None) idle (position b) word words cuts short ∙ go b taken l.word refl
       where
         go : (b : Bool) → Taken us b → (w : Option Text) → l.word ≡ w
-            → word_turn c (held_at us None) idle (position b) word words (arg_by_index c (position b)) ≡ read_on us (word_use w word (uses_of l None words))
+            → word_turn c (held_at us None) idle (position b) word words (arg_by_index c (position b))
+            ≡ read_on us (word_use w word (uses_of l None words))
         go true had None e = ap (word_turn c (held_at us None) idle 2 word words) (knows l).word_once
         go true had (Some name) e =
             ap (word_turn c (held_at us None) idle 2 word words) (knows l).word_once
@@ -181,10 +238,12 @@ module _ (l : Layout) where
             some_same p q = cc
 
             here : (other : Text) → name ≡ other → is_used other (us ++ (name, word) ∷ []) ≡ true
-            here other same = ap (λ (x : Text). is_used x (us ++ (name, word) ∷ [])) (sym same) ∙ is_used-middle us name word []
+            here other same =
+                ap (λ (x : Text). is_used x (us ++ (name, word) ∷ [])) (sym same) ∙ is_used-middle us name word []
 
     pub first_step : (k : Look) → IsRead word k → is_stray_look k ≡ false
-        → outcome c (walk_in (held_at us None) idle (position b)) (word ∷ words) ≡ read_on us (first_use l k word (λ waits. uses_of l waits words))
+        → outcome c (walk_in (held_at us None) idle (position b)) (word ∷ words)
+        ≡ read_on us (first_use l k word (λ waits. uses_of l waits words))
     first_step plain r e = first_plain r.0 r.1
     first_step (alone name) r e = first_alone name r
     first_step (joined name v) r e = first_joined name v r
@@ -194,12 +253,17 @@ module _ (l : Layout) where
 
     module _ (name : Text) (is : is_option l name ≡ true) where
       value_plain : Cuts word None → short_of word ≡ None
-          → outcome c (walk_in (held_at us (Some (name, []))) (option name) (position b)) (word ∷ words) ≡ read_on us (before_rest name word (uses_of l None words))
+          → outcome c (walk_in (held_at us (Some (name, []))) (option name) (position b)) (word ∷ words)
+          ≡ read_on us (before_rest name word (uses_of l None words))
       value_plain cuts short =
           turn_plain c (held_at us (Some (name, []))) (option name) (position b) word words cuts short
-          ∙ ap (λ found. turned c (held_at us (Some (name, []))) (option name) (position b) word words [] (by_rule found)) s.is
+          ∙ ap
+          (λ found. turned c (held_at us (Some (name, []))) (option name) (position b) word words []
+          (by_rule found))
+          s.is
           ∙ ap (λ a. turned c (held_at us (Some (name, []))) (option name) (position b) word words []
-          (held_at us (Some (name, word ∷ [])), Step.next (cond (nat_lt (cond a 1 0) 1) (option name) idle))) (eq_self name)
+          (held_at us (Some (name, word ∷ [])), Step.next (cond (nat_lt (cond a 1 0) 1) (option name) idle)))
+          (eq_self name)
           ∙ late us name word b words s none
           ∙ next_use us name word b words rest d (taken_more us (name, word) b taken)
         where
@@ -207,27 +271,38 @@ module _ (l : Layout) where
           s = (knows l).by_id name is
 
           by_rule : Option Rule → Held × Step
-          by_rule found = ((option_word found name word (held_at us (Some (name, [])))).0, Step.next (option_word found name word (held_at us (Some (name, [])))).1)
+          by_rule found = (
+            (option_word found name word (held_at us (Some (name, [])))).0,
+            Step.next (option_word found name word (held_at us (Some (name, [])))).1,
+          )
 
-      value_long : (other : Text) (v : Option Text) → Cuts word (Some (other, v)) → outcome c (walk_in (held_at us (Some (name, []))) (option name) (position b)) (word ∷ words) ≡ None
-      value_long other v cuts = turn_long c (held_at us (Some (name, []))) (option name) (position b) word words other v cuts ∙ go v (long_found other)
+      value_long : (other : Text) (v : Option Text) → Cuts word (Some (other, v))
+          → outcome c (walk_in (held_at us (Some (name, []))) (option name) (position b)) (word ∷ words) ≡ None
+      value_long other v cuts =
+          turn_long c (held_at us (Some (name, []))) (option name) (position b) word words other v cuts
+          ∙ go v (long_found other)
         where
           fails : clean (settle_fault c false (held_at us (Some (name, [])))) ≡ false
           fails = settle_none c us name ((knows l).by_id name is)
 
-          go : (v : Option Text) → IsFound (arg_by_long c other) → long_turn c (held_at us (Some (name, []))) (option name) (position b) word words v (arg_by_long c other) ≡ None
+          go : (v : Option Text) → IsFound (arg_by_long c other)
+              → long_turn c (held_at us (Some (name, []))) (option name) (position b) word words v (arg_by_long c other)
+              ≡ None
           go v (inl n) = ap (long_turn c (held_at us (Some (name, []))) (option name) (position b) word words v) n
           go None (inr s) =
               ap (long_turn c (held_at us (Some (name, []))) (option name) (position b) word words None) s.1.is
-              ∙ long_waits c (held_at us (Some (name, []))) (option name) (position b) word words s.0 s.1.long s.1.index s.1.required
+              ∙ long_waits c (held_at us (Some (name, []))) (option name) (position b) word words s.0 s.1.long s.1.index
+              s.1.required
               ∙ when_false _ _ None fails
           go (Some v) (inr s) =
               ap (long_turn c (held_at us (Some (name, []))) (option name) (position b) word words (Some v)) s.1.is
-              ∙ long_takes c (held_at us (Some (name, []))) (option name) (position b) word words s.0 v s.1.long s.1.index s.1.required
+              ∙ long_takes c (held_at us (Some (name, []))) (option name) (position b) word words s.0 v s.1.long
+              s.1.index s.1.required
               ∙ split_or (settle_fault c false (held_at us (Some (name, [])))) _ _ ∙ when_false _ _ None fails
 
       pub value_step : (k : Look) → IsRead word k → is_stray_look k ≡ false
-          → outcome c (walk_in (held_at us (Some (name, []))) (option name) (position b)) (word ∷ words) ≡ read_on us (value_use k name word (λ waits. uses_of l waits words))
+          → outcome c (walk_in (held_at us (Some (name, []))) (option name) (position b)) (word ∷ words)
+          ≡ read_on us (value_use k name word (λ waits. uses_of l waits words))
       value_step plain r e = value_plain r.0 r.1
       value_step (alone other) r e = value_long other None r
       value_step (joined other v) r e = value_long other (Some v) r
@@ -235,15 +310,19 @@ module _ (l : Layout) where
 
   -- ---- all the words
 
-  ends_idle : (us : List Use) (b : Bool) → is_distinct us ≡ true → outcome c (walk_for us None b) [] ≡ read_on us (Some [])
+  ends_idle : (us : List Use) (b : Bool) → is_distinct us ≡ true
+      → outcome c (walk_for us None b) [] ≡ read_on us (Some [])
   unfolding outcome
   ends_idle us b d =
-      ends l us ∙ ap (λ a. option_map rows_for (cond (a && is_complete l us) (Some us) None)) (sym d) ∙ ap (λ xs. option_map rows_for (accepted l xs)) (sym (append-nil us))
+      ends l us ∙ ap (λ a. option_map rows_for (cond (a && is_complete l us) (Some us) None)) (sym d)
+      ∙ ap (λ xs. option_map rows_for (accepted l xs)) (sym (append-nil us))
 
-  ends_waiting : (us : List Use) (name : Text) (b : Bool) → is_option l name ≡ true → outcome c (walk_for us (Some name) b) [] ≡ None
+  ends_waiting : (us : List Use) (name : Text) (b : Bool) → is_option l name ≡ true
+      → outcome c (walk_for us (Some name) b) [] ≡ None
   unfolding outcome
   ends_waiting us name b is =
-      split_or (settle_fault c false (held_at us (Some (name, [])))) _ _ ∙ when_false _ _ None (settle_none c us name ((knows l).by_id name is))
+      split_or (settle_fault c false (held_at us (Some (name, [])))) _ _
+      ∙ when_false _ _ None (settle_none c us name ((knows l).by_id name is))
 
   pub walks : (words : List Text) → list_any is_stray words ≡ false → Claim words
   unfolding uses_of

@@ -1,5 +1,6 @@
 -- No line is two statements.
-use Rattle.std.proofs.Common.{◌≡◌, ◌∙◌, ◌<◌, ◌^◌, ℕ, List, ◌∷◌, Bool, true, Option, Some, None, cond, refl, sym, ap, ap₂, subst, codes, arith}
+use Rattle.std.proofs.Common.{◌≡◌, ◌∙◌, ◌<◌, ◌^◌, ℕ, List, ◌∷◌, Bool, true, Option, Some, None, cond, refl, sym, ap}
+use Rattle.std.proofs.Common.{ap₂, subst, codes, arith}
 use Rattle.std.specs.Fmt.{decimal}
 use Rattle.std.specs.List.{list_all}
 use Rattle.std.specs.Str.{bytes_eq}
@@ -11,7 +12,8 @@ use Rattle.work_calendars.specs.Spelling.{SpellsDay, SpellsMoment}
 use Rattle.statements.specs.Arguments.{HasArguments}
 use Rattle.statements.specs.Words.{function_text, kind_text, listed_text}
 use Rattle.statements.specs.Statement.{IsLineOf, IsWrittenIn, Reads, statement_of}
-use Rattle.statements.specs.Values.{HasApp, HasDay, HasFunction, HasJob, HasKind, HasListed, HasMoment, HasName, HasText, Reading}
+use Rattle.statements.specs.Values.{HasApp, HasDay, HasFunction, HasJob, HasKind, HasListed, HasMoment, HasName}
+use Rattle.statements.specs.Values.{HasText, Reading}
 use Rattle.statements.specs.Verb.{layout_for, verb_text}
 use Rattle.statements.specs.declared.arguments.Arguments.{Arguments}
 use Rattle.statements.specs.declared.statements.Statement.{Statement}
@@ -110,7 +112,8 @@ function_by-text function.ModifyOne = refl
 function_by-text function.Replan = refl
 
 same_function : (x y : FunctionWord) → function_text x ≡ function_text y → x ≡ y
-same_function x y e = let same : Some x ≡ Some y = sym (function_by-text x) ∙ ap function_by e ∙ function_by-text y in cc
+same_function x y e =
+    let same : Some x ≡ Some y = sym (function_by-text x) ∙ ap function_by e ∙ function_by-text y in cc
 
 abbrev listed_by : Text → Option Listed
 listed_by t = or_else (bytes_eq t (codes "ltp")) listed.Ltp
@@ -164,7 +167,8 @@ one_moment us key c d p q =
     SpellsMoment-one_moment p.0 c d p.2 (subst (λ t. SpellsMoment t d) (sym (one_text us key p.0 q.0 p.1 q.1)) q.2)
 
 -- what has at most one value is read in one way
-one_reading : {A : Type 0} (Has : A → Type 0) → ((x y : A) → Has x → Has y → x ≡ y) → (o p : Option A) → Reading Has o → Reading Has p → o ≡ p
+one_reading : {A : Type 0} (Has : A → Type 0) → ((x y : A) → Has x → Has y → x ≡ y) → (o p : Option A) → Reading Has o
+    → Reading Has p → o ≡ p
 one_reading Has one None None r s = refl
 one_reading Has one None (Some y) r s = absurd (r y s)
 one_reading Has one (Some x) None r s = absurd (s x r)
@@ -177,7 +181,9 @@ one_arguments us a b p q i =
       app = one_reading (HasApp us) (one_app us) a.app b.app p.app q.app i;
       from = one_reading (HasDay us (codes "from")) (one_day us (codes "from")) a.from b.from p.from q.from i;
       to = one_reading (HasDay us (codes "to")) (one_day us (codes "to")) a.to b.to p.to q.to i;
-      to_moment = one_reading (HasMoment us (codes "to")) (one_moment us (codes "to")) a.to_moment b.to_moment p.to_moment q.to_moment i;
+      to_moment =
+          one_reading (HasMoment us (codes "to")) (one_moment us (codes "to")) a.to_moment b.to_moment p.to_moment
+          q.to_moment i;
       ia = one_reading (HasMoment us (codes "ia")) (one_moment us (codes "ia")) a.ia b.ia p.ia q.ia i;
       name = one_reading (HasName us) (one_name us) a.name b.name p.name q.name i;
       kind = one_reading (HasKind us) (one_kind us) a.kind b.kind p.kind q.kind i;
@@ -190,7 +196,8 @@ one_arguments us a b p q i =
 
 -- the name, the values and the arguments of words that are a statement
 
-one_verb : (name : Text) (after words : List Text) (v : Verb) (s : Statement) → words ≡ name ∷ after → name ≡ verb_text v → (w : IsWrittenIn words s) → (w.verb ≡ v) × (w.after ≡ after)
+one_verb : (name : Text) (after words : List Text) (v : Verb) (s : Statement) → words ≡ name ∷ after
+    → name ≡ verb_text v → (w : IsWrittenIn words s) → (w.verb ≡ v) × (w.after ≡ after)
 one_verb name after words v s e named w =
     let both : verb_text w.verb ∷ w.after ≡ name ∷ after = sym w.name_first ∙ e in
     let first : verb_text w.verb ≡ name = cc in
@@ -200,9 +207,12 @@ one_verb name after words v s e named w =
 one_written : (words : List Text) (s t : Statement) → IsWrittenIn words s → IsWrittenIn words t → s ≡ t
 one_written words s t p q =
     let (v, rest) = one_verb (verb_text q.verb) q.after words q.verb s q.name_first refl p in
-    let read : Some p.uses ≡ Some q.uses = sym p.reading ∙ ap₂ (λ w after. reading_of (layout_for w) after) v rest ∙ q.reading in
+    let read : Some p.uses ≡ Some q.uses =
+    sym p.reading ∙ ap₂ (λ w after. reading_of (layout_for w) after) v rest ∙ q.reading in
     let uses : p.uses ≡ q.uses = cc in
-    let arguments = one_arguments q.uses p.arguments q.arguments (subst (λ (us : List Use). HasArguments us p.arguments) uses p.values) q.values in
+    let arguments =
+    one_arguments q.uses p.arguments q.arguments
+    (subst (λ (us : List Use). HasArguments us p.arguments) uses p.values) q.values in
     let says : Some s ≡ Some t = sym p.says ∙ ap₂ statement_of v arguments ∙ q.says in
     cc
 
@@ -210,16 +220,21 @@ pub one_statement : (line : List ℕ) (s t : Statement) → IsLineOf s line → 
 one_statement line s t p q = one_written (words_of line) s t p.1 q.1
 
 -- words that aren't read as the name's layout says are no statement
-pub no_values : (line name : Text) (after : List Text) (v : Verb) → words_of line ≡ name ∷ after → name ≡ verb_text v → reading_of (layout_for v) after ≡ None
+pub no_values : (line name : Text) (after : List Text) (v : Verb) → words_of line ≡ name ∷ after → name ≡ verb_text v
+    → reading_of (layout_for v) after ≡ None
     → (s : Statement) → ¬ (IsLineOf s line)
 no_values line name after v e named none s p =
     let w = p.1 in
     let (same, rest) = one_verb name after (words_of line) v s e named w in
-    let no : None ≡ Some w.uses = sym none ∙ sym (ap₂ (λ u words. reading_of (layout_for u) words) same rest) ∙ w.reading in cc
+    let no : None ≡ Some w.uses =
+    sym none ∙ sym (ap₂ (λ u words. reading_of (layout_for u) words) same rest) ∙ w.reading in cc
 
 -- and those that are, are the statement that their values make, or none
-pub read_values : (line name : Text) (after : List Text) (v : Verb) (us : List Use) (a : Arguments) (o : Option Statement) → list_all is_line_byte line ≡ true
-    → words_of line ≡ name ∷ after → name ≡ verb_text v → reading_of (layout_for v) after ≡ Some us → HasArguments us a → o ≡ statement_of v a → Reads line o
+pub read_values : (line name : Text) (after : List Text) (v : Verb) (us : List Use) (a : Arguments)
+    (o : Option Statement)
+    → list_all is_line_byte line ≡ true
+    → words_of line ≡ name ∷ after → name ≡ verb_text v → reading_of (layout_for v) after ≡ Some us → HasArguments us a
+    → o ≡ statement_of v a → Reads line o
 read_values line name after v us a (Some s) printable e named read values made = (
   printable,
   record {
@@ -236,7 +251,9 @@ read_values line name after v us a (Some s) printable e named read values made =
 read_values line name after v us a None printable e named read values made = λ s p.
     let w = p.1 in
     let (same, rest) = one_verb name after (words_of line) v s e named w in
-    let both : Some w.uses ≡ Some us = sym w.reading ∙ ap₂ (λ u words. reading_of (layout_for u) words) same rest ∙ read in
+    let both : Some w.uses ≡ Some us =
+    sym w.reading ∙ ap₂ (λ u words. reading_of (layout_for u) words) same rest ∙ read in
     let uses : w.uses ≡ us = cc in
-    let arguments = one_arguments us w.arguments a (subst (λ (u : List Use). HasArguments u w.arguments) uses w.values) values in
+    let arguments =
+    one_arguments us w.arguments a (subst (λ (u : List Use). HasArguments u w.arguments) uses w.values) values in
     let no : None ≡ Some s = made ∙ sym (ap₂ statement_of same arguments) ∙ w.says in cc

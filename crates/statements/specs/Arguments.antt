@@ -1,7 +1,8 @@
 -- The values of a line's options, and of its word without one.
 use Rattle.std.specs.Prelude.{◌≡◌, List, is_some, codes}
 use Rattle.statement_words.specs.Grammar.{Use, value_in}
-use Rattle.statements.specs.Values.{HasApp, HasDay, HasFunction, HasJob, HasKind, HasListed, HasMoment, HasName, Reading}
+use Rattle.statements.specs.Values.{HasApp, HasDay, HasFunction, HasJob, HasKind, HasListed, HasMoment, HasName}
+use Rattle.statements.specs.Values.{Reading}
 use Rattle.statements.specs.declared.arguments.Arguments.{Arguments}
 
 -- these are the values that have the forms of their options

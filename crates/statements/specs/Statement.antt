@@ -1,5 +1,6 @@
 -- The grammar of statements: which lines a statement is written as.
-use Rattle.std.specs.Prelude.{◌≡◌, ◌∷◌, ◌||◌, ℕ, Bool, true, false, List, Option, Some, None, option_map, option_and_then, if◌then◌else◌, length, nat_le}
+use Rattle.std.specs.Prelude.{◌≡◌, ◌∷◌, ◌||◌, ℕ, Bool, true, false, List, Option, Some, None, option_map}
+use Rattle.std.specs.Prelude.{option_and_then, if◌then◌else◌, length, nat_le}
 use Rattle.std.specs.List.{list_all}
 use Rattle.statement_words.specs.Grammar.{Text, Use, reading_of}
 use Rattle.statement_words.specs.Line.{is_line_byte, words_of}
@@ -45,7 +46,8 @@ undefine_of kind name job = only_if (fits_kind kind name) (Some (statement.Undef
 abbrev pub ltp_trial_of : Arguments → FunctionWord → Option Statement
 ltp_trial_of a function.Create = if a.has_app then None else of_two statement.LtpTrialCreate a.from a.to
 ltp_trial_of a function.Extend = if a.has_from || a.has_app then None else of_one statement.LtpTrialExtend a.to
-ltp_trial_of a function.ModifyAll = if a.has_from || a.has_to || a.has_app then None else Some statement.LtpTrialModifyAll
+ltp_trial_of a function.ModifyAll =
+    if a.has_from || a.has_to || a.has_app then None else Some statement.LtpTrialModifyAll
 ltp_trial_of a function.ModifyOne = if a.has_from || a.has_to then None else of_one statement.LtpTrialModifyOne a.app
 ltp_trial_of a function.Replan = None
 
@@ -64,7 +66,8 @@ change_of change a = of_three (statement.CpChange change) a.app a.ia a.job
 -- the statement of that name which these values make, if they make one
 abbrev pub statement_of : Verb → Arguments → Option Statement
 statement_of verb.Define a = of_two statement.Define a.kind a.job
-statement_of verb.Undefine a = option_and_then (λ kind. option_and_then (λ name. option_and_then (undefine_of kind name) a.job) a.name) a.kind
+statement_of verb.Undefine a =
+    option_and_then (λ kind. option_and_then (λ name. option_and_then (undefine_of kind name) a.job) a.name) a.kind
 statement_of verb.Days a = of_three statement.Days a.app a.from a.to
 statement_of verb.LtpCreate a = of_three statement.LtpCreate a.from a.to a.job
 statement_of verb.LtpExtend a = of_two statement.LtpExtend a.to a.job

@@ -1,4 +1,12 @@
 //! The statements of a job stream: which lines are statements, and what each of them says.
+//!
+//! ```text
+//! let line = b"define --job 7 periods";
+//! let want = Statement::Define { kind: KindWord::Periods, job: JobNumber::from_text("7")? };
+//! assert!(rt; read_statement(alloc, line)? == Some(want));
+//! // a line that is no statement
+//! assert!(rt; read_statement(alloc, b"define calendars")?.is_none());
+//! ```
 #![tactic(auto)]
 
 mod arguments;

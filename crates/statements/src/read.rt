@@ -1,6 +1,7 @@
 //! Lines are read as statements.
 ghost use Rattle.std.specs.Prelude.{◌≡◌, IfOk};
-ghost use Rattle.statements.specs.Statement.{Reads, change_of, dp_trial_of, fits_kind, list_of, ltp_trial_of, statement_of};
+ghost use Rattle.statements.specs.Statement.{Reads, change_of, dp_trial_of, fits_kind, list_of};
+ghost use Rattle.statements.specs.Statement.{ltp_trial_of, statement_of};
 
 use crate::arguments::Arguments;
 use crate::values::arguments_in;

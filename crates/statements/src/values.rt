@@ -1,7 +1,8 @@
 //! Values in words.
 ghost use Rattle.std.specs.Prelude.{◌≡◌, is_some};
 ghost use Rattle.statement_words.specs.Grammar.{value_in};
-ghost use Rattle.statements.specs.Values.{HasApp, HasDay, HasFunction, HasJob, HasKind, HasListed, HasMoment, HasName, Reading};
+ghost use Rattle.statements.specs.Values.{HasApp, HasDay, HasFunction, HasJob, HasKind, HasListed};
+ghost use Rattle.statements.specs.Values.{HasMoment, HasName, Reading};
 ghost use Rattle.statements.specs.Arguments.{HasArguments};
 
 use crate::arguments::Arguments;

@@ -1,5 +1,6 @@
 -- Lemmas on fronts of lists: what a buffer with a limit holds.
-use Rattle.std.proofs.Common.{◌≡◌, ℕ, zero, suc, ◌-◌, ◌<◌, ◌≤◌, List, [], ◌∷◌, ◌++◌, length, length-append, length-take, max, take, refl, sym, ap, subst, ◌∙◌, arith, append_assoc, append-nil, take_all}
+use Rattle.std.proofs.Common.{◌≡◌, ℕ, zero, suc, ◌-◌, ◌<◌, ◌≤◌, List, [], ◌∷◌, ◌++◌, length, length-append, length-take}
+use Rattle.std.proofs.Common.{max, take, refl, sym, ap, subst, ◌∙◌, arith, append_assoc, append-nil, take_all}
 use Rattle.std.specs.Prelude.{Option, None, Some, IfSome, IsTrue, ◌↔◌, ◌==◌, Bool, true, false, if◌then◌else◌}
 use Rattle.std.specs.Io.BufRead.{take_through, strip_last, ends_with_byte}
 use Rattle.std.proofs.BufReadLemmas.{take_through_nonempty}
@@ -22,7 +23,8 @@ take_parts (suc n) (x ∷ xs) ys =
 pub kept_parts : (limit : ℕ) (held xs ys : List ℕ) → kept limit (kept limit held xs) ys ≡ kept limit held (xs ++ ys)
 kept_parts limit held xs ys =
     let n = limit - length held in
-    let room : limit - length (held ++ take n xs) ≡ n - length (take n xs) = omega (arith, length-append held (take n xs)) in
+    let room : limit - length (held ++ take n xs) ≡ n - length (take n xs) =
+    omega (arith, length-append held (take n xs)) in
     append_assoc held (take n xs) (take (limit - length (held ++ take n xs)) ys)
     ∙ ap (λ l. held ++ l) (ap (λ k. take n xs ++ take k ys) room ∙ sym (take_parts n xs ys))
 
@@ -36,8 +38,10 @@ pub kept_none : (limit : ℕ) (held : List ℕ) → held ≡ kept limit held []
 kept_none limit held = sym (ap (λ l. held ++ l) (take_short (limit - length held) [] (omega arith)) ∙ append-nil held)
 
 -- a buffer after two parts, one after the other
-pub kept_grown : (limit : ℕ) (held seen part mid new : List ℕ) → mid ≡ kept limit held seen → new ≡ kept limit mid part → new ≡ kept limit held (seen ++ part)
-kept_grown limit held seen part mid new first second = second ∙ ap (λ l. kept limit l part) first ∙ kept_parts limit held seen part
+pub kept_grown : (limit : ℕ) (held seen part mid new : List ℕ) → mid ≡ kept limit held seen → new ≡ kept limit mid part
+    → new ≡ kept limit held (seen ++ part)
+kept_grown limit held seen part mid new first second =
+    second ∙ ap (λ l. kept limit l part) first ∙ kept_parts limit held seen part
 
 -- where a text has a byte, its first line has one
 pub some_through : (xs : List ℕ) → 0 < length xs → 0 < length (take_through 10 xs)
@@ -49,14 +53,18 @@ some_through (x ∷ xs) some = at (x == 10)
     at false = omega arith
 
 -- a line was there exactly where some bytes of it were taken
-pub some_taken : (known : Option (List ℕ)) (taken : List ℕ) (b : Bool) → (IsTrue b ↔ (0 < length taken)) → IfSome known (λ xs. taken ≡ take_through 10 xs) → IfSome known (λ xs. IsTrue b ↔ (0 < length xs))
+pub some_taken : (known : Option (List ℕ)) (taken : List ℕ) (b : Bool) → (IsTrue b ↔ (0 < length taken))
+    → IfSome known (λ xs. taken ≡ take_through 10 xs) → IfSome known (λ xs. IsTrue b ↔ (0 < length xs))
 some_taken None taken b h e = tt
-some_taken (Some xs) taken b h e =
-    (λ yes. take_through_nonempty 10 xs (subst (λ l. 0 < length l) e (h.0 yes)), λ some. h.1 (subst (λ l. 0 < length l) (sym e) (some_through xs some)))
+some_taken (Some xs) taken b h e = (
+  λ yes. take_through_nonempty 10 xs (subst (λ l. 0 < length l) e (h.0 yes)),
+  λ some. h.1 (subst (λ l. 0 < length l) (sym e) (some_through xs some)),
+)
 
 -- how much a buffer with a limit holds
 pub kept_bound : (limit : ℕ) (held bs : List ℕ) → length (kept limit held bs) ≤ max limit (length held)
-kept_bound limit held bs = omega (arith, length-append held (take (limit - length held) bs), length-take (limit - length held) bs)
+kept_bound limit held bs =
+    omega (arith, length-append held (take (limit - length held) bs), length-take (limit - length held) bs)
 
 -- a list without its last byte
 pub strip_last_shorter : (byte : ℕ) (xs : List ℕ) → length (strip_last byte xs) ≤ length xs

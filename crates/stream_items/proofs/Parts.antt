@@ -1,13 +1,17 @@
 -- Lemmas on items that are read line by line.
-use Rattle.std.proofs.Common.{◌≡◌, ◌≢◌, ℕ, ◌+◌, ◌-◌, ◌<◌, ◌≤◌, inl, inr, List, [], ◌∷◌, ◌++◌, length, take, refl, sym, ap, subst, ◌∙◌, arith, append_assoc, append-nil, length-take-le, true≢false}
+use Rattle.std.proofs.Common.{◌≡◌, ◌≢◌, ℕ, ◌+◌, ◌-◌, ◌<◌, ◌≤◌, inl, inr, List, [], ◌∷◌, ◌++◌, length, take, refl, sym}
+use Rattle.std.proofs.Common.{ap, subst, ◌∙◌, arith, append_assoc, append-nil, length-take-le, true≢false}
 use Rattle.std.proofs.lemmas.Bool.{lt-leb}
 use Rattle.std.proofs.Math.Seq.{take-append_seam}
-use Rattle.std.specs.Prelude.{Option, None, Some, IfSome, IsTrue, ◌↔◌, Bool, true, false, not, nat_le, ◌==◌, if◌then◌else◌}
+use Rattle.std.specs.Prelude.{Option, None, Some, IfSome, IsTrue, ◌↔◌, Bool, true, false, not, nat_le, ◌==◌}
+use Rattle.std.specs.Prelude.{if◌then◌else◌}
 use Rattle.std.specs.Option.{option_map}
 use Rattle.std.specs.Io.BufRead.{take_through, drop_through, DropsThrough}
 use Rattle.stream_items.specs.Buffers.{kept}
 use Rattle.stream_items.specs.Lines.{raw_lines, line_of, longest_line, line_room, opens_data, ends_data, kind_of}
-use Rattle.stream_items.specs.Items.{Item, Alone, WithBlock, Whole, TooLong, Unended, bytes_before_end, block_of, statement_item, items_of_line, items_of_lines, items_of, longest_block, block_room, end_room}
+use Rattle.stream_items.specs.Items.{Item, Alone, WithBlock, Whole, TooLong, Unended, bytes_before_end, block_of}
+use Rattle.stream_items.specs.Items.{statement_item, items_of_line, items_of_lines, items_of, longest_block, block_room}
+use Rattle.stream_items.specs.Items.{end_room}
 use Rattle.stream_items.specs.Blocks.{BlockRead, block_held, ending_of}
 use Rattle.stream_items.specs.Pages.{ItemRead, PartRead, held_alone, held_with_data, item_held, listed}
 use Rattle.stream_items.specs.declared.line_kinds.LineKind.{LineKind}
@@ -17,24 +21,31 @@ use Rattle.stream_items.specs.declared.blocks.Ending.TheVariants as Endings
 use Rattle.stream_items.specs.declared.pages.Held.{Held}
 use Rattle.stream_items.specs.declared.pages.Held.TheVariants as Helds
 use Rattle.stream_items.proofs.Kept.{take_short, take_parts}
-use Rattle.stream_items.proofs.Text.{Holds, holds_front, raw_lines-first, ends_data-held, opens_data-held, kind_of-held, statement-held, le_or_lt}
+use Rattle.stream_items.proofs.Text.{Holds, holds_front, raw_lines-first, ends_data-held, opens_data-held, kind_of-held}
+use Rattle.stream_items.proofs.Text.{statement-held, le_or_lt}
 
 -- a line of data that ends them
-before_end-ends : (raw : List ℕ) (rest : List (List ℕ)) → ends_data (line_of raw) ≡ true → bytes_before_end (raw ∷ rest) ≡ Some []
+before_end-ends : (raw : List ℕ) (rest : List (List ℕ)) → ends_data (line_of raw) ≡ true
+    → bytes_before_end (raw ∷ rest) ≡ Some []
 unfolding bytes_before_end
-before_end-ends raw rest e = ap (λ b. if b then Some [] else option_map (λ bytes. raw ++ bytes) (bytes_before_end rest)) e
+before_end-ends raw rest e =
+    ap (λ b. if b then Some [] else option_map (λ bytes. raw ++ bytes) (bytes_before_end rest)) e
 
 -- and one that doesn't
-before_end-more : (raw : List ℕ) (rest : List (List ℕ)) → ends_data (line_of raw) ≡ false → bytes_before_end (raw ∷ rest) ≡ option_map (λ bytes. raw ++ bytes) (bytes_before_end rest)
+before_end-more : (raw : List ℕ) (rest : List (List ℕ)) → ends_data (line_of raw) ≡ false
+    → bytes_before_end (raw ∷ rest) ≡ option_map (λ bytes. raw ++ bytes) (bytes_before_end rest)
 unfolding bytes_before_end
-before_end-more raw rest e = ap (λ b. if b then Some [] else option_map (λ bytes. raw ++ bytes) (bytes_before_end rest)) e
+before_end-more raw rest e =
+    ap (λ b. if b then Some [] else option_map (λ bytes. raw ++ bytes) (bytes_before_end rest)) e
 
-items-in_data : (raw : List ℕ) (rest : List (List ℕ)) (b : Bool) → ends_data (line_of raw) ≡ b → items_of_lines true (raw ∷ rest) ≡ items_of_lines (not b) rest
+items-in_data : (raw : List ℕ) (rest : List (List ℕ)) (b : Bool) → ends_data (line_of raw) ≡ b
+    → items_of_lines true (raw ∷ rest) ≡ items_of_lines (not b) rest
 unfolding items_of_lines
 items-in_data raw rest b e = ap (λ t. items_of_lines (not t) rest) e
 
 -- bytes that come in two parts before the end
-option_map-parts : (xs ys : List ℕ) (o : Option (List ℕ)) → option_map (λ b. xs ++ b) (option_map (λ b. ys ++ b) o) ≡ option_map (λ b. (xs ++ ys) ++ b) o
+option_map-parts : (xs ys : List ℕ) (o : Option (List ℕ))
+    → option_map (λ b. xs ++ b) (option_map (λ b. ys ++ b) o) ≡ option_map (λ b. (xs ++ ys) ++ b) o
 option_map-parts xs ys None = refl
 option_map-parts xs ys (Some b) = ap Some (sym (append_assoc xs ys b))
 
@@ -47,7 +58,8 @@ pub drop_through_shorter : (xs : List ℕ) → length (drop_through 10 xs) ≤ l
 drop_through_shorter [] = omega arith
 drop_through_shorter (x ∷ xs) = at (x == 10) (drop_through_shorter xs)
   where
-    at : (b : Bool) → length (drop_through 10 xs) ≤ length xs - 1 → length (if b then xs else drop_through 10 xs) ≤ length (x ∷ xs) - 1
+    at : (b : Bool) → length (drop_through 10 xs) ≤ length xs - 1
+        → length (if b then xs else drop_through 10 xs) ≤ length (x ∷ xs) - 1
     at true h = omega arith
     at false h = omega arith
 
@@ -64,27 +76,44 @@ pub record Reading (xs : List ℕ) (now : Option (List ℕ)) (held : List ℕ) :
 pub reading_starts : (a : Option (List ℕ)) (held : List ℕ) → held ≡ [] → IfSome a (λ xs. Reading xs a held)
 reading_starts None held e = tt
 reading_starts (Some xs) held e =
-    record { seen = []; left = xs; now_is = refl; held_is = e ∙ sym (take_short block_room [] (omega arith)); block = option_map-nothing _; items = refl; shorter = omega arith }
+    record {
+      seen = [];
+      left = xs;
+      now_is = refl;
+      held_is = e ∙ sym (take_short block_room [] (omega arith));
+      block = option_map-nothing _;
+      items = refl;
+      shorter = omega arith;
+    }
 
 -- what is known of a line whose front of so many bytes is held
 pub record FrontLine (room : ℕ) (zs : List ℕ) (line : List ℕ) : Type 0 where
   pub some : 0 < length zs
   pub line_is : line ≡ line_of (take room (take_through 10 zs))
 
-pub front_line : (b : Option (List ℕ)) (room : ℕ) (any : Bool) (old head line : List ℕ) → any ≡ true → old ≡ [] → IfSome b (λ zs. IsTrue any ↔ (0 < length zs))
-    → IfSome b (λ zs. head ≡ kept room old (take_through 10 zs)) → line ≡ line_of head → IfSome b (λ zs. FrontLine room zs line)
+pub front_line : (b : Option (List ℕ)) (room : ℕ) (any : Bool) (old head line : List ℕ) → any ≡ true → old ≡ []
+    → IfSome b (λ zs. IsTrue any ↔ (0 < length zs))
+    → IfSome b (λ zs. head ≡ kept room old (take_through 10 zs)) → line ≡ line_of head
+    → IfSome b (λ zs. FrontLine room zs line)
 front_line None room any old head line met clear some kept_is trimmed = tt
 front_line (Some zs) room any old head line met clear some kept_is trimmed =
     record {
       some = some.0 met;
-      line_is = trimmed ∙ ap line_of (kept_is ∙ ap (λ l. kept room l (take_through 10 zs)) clear ∙ ap (λ n. take n (take_through 10 zs)) {x = room - 0} {y = room} (omega arith));
+      line_is =
+          trimmed
+          ∙ ap line_of
+          (kept_is ∙ ap (λ l. kept room l (take_through 10 zs)) clear
+          ∙ ap (λ n. take n (take_through 10 zs)) {x = room - 0} {y = room} (omega arith));
     }
 
-ends_as_held : (zs line : List ℕ) (b : Bool) → FrontLine end_room zs line → ends_data line ≡ b → ends_data (line_of (take_through 10 zs)) ≡ b
+ends_as_held : (zs line : List ℕ) (b : Bool) → FrontLine end_room zs line → ends_data line ≡ b
+    → ends_data (line_of (take_through 10 zs)) ≡ b
 ends_as_held zs line b d e = sym (ends_data-held _ _ (holds_front 2 zs)) ∙ sym (ap ends_data d.line_is) ∙ e
 
-pub reading_on : (xs : List ℕ) (b c : Option (List ℕ)) (held held' line : List ℕ) → Reading xs b held → IfSome b (λ zs. FrontLine end_room zs line)
-    → IfSome b (λ zs. held' ≡ kept block_room held (take_through 10 zs)) → DropsThrough b c 10 → ends_data line ≡ false → Reading xs c held'
+pub reading_on : (xs : List ℕ) (b c : Option (List ℕ)) (held held' line : List ℕ) → Reading xs b held
+    → IfSome b (λ zs. FrontLine end_room zs line)
+    → IfSome b (λ zs. held' ≡ kept block_room held (take_through 10 zs)) → DropsThrough b c 10 → ends_data line ≡ false
+    → Reading xs c held'
 reading_on xs b c held held' line r here grown rest e =
     let zs = r.left in
     let raw = take_through 10 zs in
@@ -97,29 +126,38 @@ reading_on xs b c held held' line r here grown rest e =
       now_is = subst (λ o. IfSome o (λ ys. c ≡ Some (drop_through 10 ys))) r.now_is rest;
       held_is = subst (λ o. IfSome o (λ ys. held' ≡ kept block_room held (take_through 10 ys))) r.now_is grown
           ∙ ap (λ h. kept block_room h raw) r.held_is ∙ sym (take_parts block_room r.seen raw);
-      block = r.block ∙ ap (option_map (λ b. r.seen ++ b)) (ap bytes_before_end lines ∙ before_end-more _ _ more) ∙ option_map-parts r.seen raw _;
+      block =
+          r.block ∙ ap (option_map (λ b. r.seen ++ b)) (ap bytes_before_end lines ∙ before_end-more _ _ more)
+          ∙ option_map-parts r.seen raw _;
       items = r.items ∙ ap (items_of_lines true) lines ∙ items-in_data _ _ false more;
       shorter = omega (arith, r.shorter, drop_through_shorter zs);
     }
 
 -- what a front of one byte more than n tells of all bytes
 whole_or_long : (n : ℕ) (seen held : List ℕ) → held ≡ take (n + 1) seen
-    → (if nat_le (length seen) n then Whole seen else TooLong) ≡ block_held (if nat_le (length held) n then Endings.Whole else Endings.TooLong) held
+    → (if nat_le (length seen) n then Whole seen else TooLong)
+    ≡ block_held (if nat_le (length held) n then Endings.Whole else Endings.TooLong) held
 whole_or_long n seen held h = elim (le_or_lt (length seen) n) [
   | inl short ↦
       let same : held ≡ seen = h ∙ take_short (n + 1) seen (omega arith) in
-      subst (λ l. (if nat_le (length seen) n then Whole seen else TooLong) ≡ block_held (if nat_le (length l) n then Endings.Whole else Endings.TooLong) l) (sym same) (alike (nat_le (length seen) n))
+      subst
+      (λ l. (if nat_le (length seen) n then Whole seen else TooLong)
+      ≡ block_held (if nat_le (length l) n then Endings.Whole else Endings.TooLong) l)
+      (sym same) (alike (nat_le (length seen) n))
   | inr long ↦
       let size : length held ≡ n + 1 = ap length h ∙ length-take-le (n + 1) seen (omega arith) in
       let over : nat_le (length held) n ≡ false = lt-leb (length held) n (omega arith) in
-      ap (λ b. if b then Whole seen else TooLong) (lt-leb (length seen) n long) ∙ sym (ap (λ b. block_held (if b then Endings.Whole else Endings.TooLong) held) over)
+      ap (λ b. if b then Whole seen else TooLong) (lt-leb (length seen) n long)
+      ∙ sym (ap (λ b. block_held (if b then Endings.Whole else Endings.TooLong) held) over)
 ]
   where
-    alike : (b : Bool) → (if b then Whole seen else TooLong) ≡ block_held (if b then Endings.Whole else Endings.TooLong) seen
+    alike : (b : Bool)
+        → (if b then Whole seen else TooLong) ≡ block_held (if b then Endings.Whole else Endings.TooLong) seen
     alike true = refl
     alike false = refl
 
-block_of-some : (seen : List ℕ) → block_of (Some seen) ≡ (if nat_le (length seen) longest_block then Whole seen else TooLong)
+block_of-some : (seen : List ℕ)
+    → block_of (Some seen) ≡ (if nat_le (length seen) longest_block then Whole seen else TooLong)
 unfolding block_of
 block_of-some seen = refl
 
@@ -127,7 +165,8 @@ items_of-lines : (ys : List ℕ) → items_of_lines false (raw_lines ys) ≡ ite
 unfolding items_of
 items_of-lines ys = refl
 
-pub reading_ends : (xs : List ℕ) (b c : Option (List ℕ)) (held held' line : List ℕ) → Reading xs b held → IfSome b (λ zs. FrontLine end_room zs line)
+pub reading_ends : (xs : List ℕ) (b c : Option (List ℕ)) (held held' line : List ℕ) → Reading xs b held
+    → IfSome b (λ zs. FrontLine end_room zs line)
     → IfSome b (λ zs. held' ≡ kept block_room held (take_through 10 zs)) → DropsThrough b c 10 → ends_data line ≡ true
     → BlockRead xs (ending_of (length held)) (take (length held) held') c
 reading_ends xs b c held held' line r here grown rest e =
@@ -136,14 +175,18 @@ reading_ends xs b c held held' line r here grown rest e =
     let d : FrontLine end_room zs line = subst (λ o. IfSome o (λ ys. FrontLine end_room ys line)) r.now_is here in
     let lines = raw_lines-first zs d.some in
     let last = ends_as_held zs line true d e in
-    let grown' : held' ≡ kept block_room held raw = subst (λ o. IfSome o (λ ys. held' ≡ kept block_room held (take_through 10 ys))) r.now_is grown in
+    let grown' : held' ≡ kept block_room held raw =
+    subst (λ o. IfSome o (λ ys. held' ≡ kept block_room held (take_through 10 ys))) r.now_is grown in
     let back : take (length held) held' ≡ held = ap (take (length held)) grown' ∙ take-append_seam held _ in
     let before : bytes_before_end (raw_lines xs) ≡ Some r.seen =
-    r.block ∙ ap (option_map (λ bs. r.seen ++ bs)) (ap bytes_before_end lines ∙ before_end-ends _ _ last) ∙ ap Some (append-nil r.seen) in
+    r.block ∙ ap (option_map (λ bs. r.seen ++ bs)) (ap bytes_before_end lines ∙ before_end-ends _ _ last)
+    ∙ ap Some (append-nil r.seen) in
     record {
       left = drop_through 10 zs;
       rest_is = subst (λ o. IfSome o (λ ys. c ≡ Some (drop_through 10 ys))) r.now_is rest;
-      block = ap block_of before ∙ block_of-some r.seen ∙ whole_or_long longest_block r.seen held r.held_is ∙ ap (block_held (ending_of (length held))) (sym back);
+      block =
+          ap block_of before ∙ block_of-some r.seen ∙ whole_or_long longest_block r.seen held r.held_is
+          ∙ ap (block_held (ending_of (length held))) (sym back);
       items = r.items ∙ ap (items_of_lines true) lines ∙ items-in_data _ _ true last ∙ items_of-lines _;
       shorter = omega (arith, r.shorter, drop_through_shorter zs);
     }
@@ -169,50 +212,68 @@ nothing_left [] any h e = refl
 nothing_left (z ∷ zs) any h e = absurd (true≢false (sym (h.1 (omega arith)) ∙ e))
 
 pub reading_missing : (xs : List ℕ) (b c : Option (List ℕ)) (held held' : List ℕ) (any : Bool) → Reading xs b held
-    → IfSome b (λ zs. IsTrue any ↔ (0 < length zs)) → DropsThrough b c 10 → any ≡ false → BlockRead xs Endings.Unended held' c
+    → IfSome b (λ zs. IsTrue any ↔ (0 < length zs)) → DropsThrough b c 10 → any ≡ false
+    → BlockRead xs Endings.Unended held' c
 reading_missing xs b c held held' any r some rest e =
     let zs = r.left in
-    let none : zs ≡ [] = nothing_left zs any (subst (λ o. IfSome o (λ ys. IsTrue any ↔ (0 < length ys))) r.now_is some) e in
+    let none : zs ≡ [] =
+    nothing_left zs any (subst (λ o. IfSome o (λ ys. IsTrue any ↔ (0 < length ys))) r.now_is some) e in
     let before : bytes_before_end (raw_lines xs) ≡ None =
-    r.block ∙ ap (λ ys. option_map (λ bs. r.seen ++ bs) (bytes_before_end (raw_lines ys))) none ∙ ap (option_map (λ bs. r.seen ++ bs)) no_block in
+    r.block ∙ ap (λ ys. option_map (λ bs. r.seen ++ bs) (bytes_before_end (raw_lines ys))) none
+    ∙ ap (option_map (λ bs. r.seen ++ bs)) no_block in
     record {
       left = [];
-      rest_is = subst (λ o. IfSome o (λ ys. c ≡ Some (drop_through 10 ys))) r.now_is rest ∙ ap (λ ys. Some (drop_through 10 ys)) none;
+      rest_is =
+          subst (λ o. IfSome o (λ ys. c ≡ Some (drop_through 10 ys))) r.now_is rest
+          ∙ ap (λ ys. Some (drop_through 10 ys)) none;
       block = ap block_of (before ∙ sym no_block) ∙ no_end;
-      items = r.items ∙ ap (λ ys. items_of_lines true (raw_lines ys)) none ∙ no_items true ∙ sym (no_items false) ∙ items_of-lines [];
+      items =
+          r.items ∙ ap (λ ys. items_of_lines true (raw_lines ys)) none ∙ no_items true ∙ sym (no_items false)
+          ∙ items_of-lines [];
       shorter = omega arith;
     }
 
-items_of-first : (xs : List ℕ) → 0 < length xs → let line = line_of (take_through 10 xs) in let rest = raw_lines (drop_through 10 xs) in
+items_of-first : (xs : List ℕ) → 0 < length xs →
+    let line = line_of (take_through 10 xs) in
+    let rest = raw_lines (drop_through 10 xs) in
     items_of xs ≡ items_of_line (kind_of line) line rest ++ items_of_lines (opens_data line) rest
 unfolding items_of items_of_lines
 items_of-first xs some = ap (items_of_lines false) (raw_lines-first xs some)
 
-statement-alone : (line : List ℕ) (rest : List (List ℕ)) → opens_data line ≡ false → statement_item line rest ≡ Alone line
+statement-alone : (line : List ℕ) (rest : List (List ℕ)) → opens_data line ≡ false
+    → statement_item line rest ≡ Alone line
 unfolding statement_item
 statement-alone line rest e = ap (λ b. if b then WithBlock line (block_of (bytes_before_end rest)) else Alone line) e
 
-statement-data : (line : List ℕ) (rest : List (List ℕ)) → opens_data line ≡ true → statement_item line rest ≡ WithBlock line (block_of (bytes_before_end rest))
+statement-data : (line : List ℕ) (rest : List (List ℕ)) → opens_data line ≡ true
+    → statement_item line rest ≡ WithBlock line (block_of (bytes_before_end rest))
 unfolding statement_item
 statement-data line rest e = ap (λ b. if b then WithBlock line (block_of (bytes_before_end rest)) else Alone line) e
 
-line-alone : (kind : LineKind) (held line block : List ℕ) (rest : List (List ℕ)) → (kind ≡ Kinds.Statement → held ≡ line) → opens_data line ≡ false
+line-alone : (kind : LineKind) (held line block : List ℕ) (rest : List (List ℕ))
+    → (kind ≡ Kinds.Statement → held ≡ line) → opens_data line ≡ false
     → items_of_line kind line rest ≡ listed (item_held (held_alone kind) held block)
 unfolding items_of_line
 line-alone Kinds.Skipped held line block rest whole e = refl
 line-alone Kinds.NoStatement held line block rest whole e = refl
-line-alone Kinds.Statement held line block rest whole e = ap (λ item. item ∷ []) (statement-alone line rest e ∙ ap Alone (sym (whole refl)))
+line-alone Kinds.Statement held line block rest whole e =
+    ap (λ item. item ∷ []) (statement-alone line rest e ∙ ap Alone (sym (whole refl)))
 
-line-data : (kind : LineKind) (held line block : List ℕ) (end : Ending) (rest : List (List ℕ)) → (kind ≡ Kinds.Statement → held ≡ line) → opens_data line ≡ true
-    → block_of (bytes_before_end rest) ≡ block_held end block → items_of_line kind line rest ≡ listed (item_held (held_with_data kind end) held block)
+line-data : (kind : LineKind) (held line block : List ℕ) (end : Ending) (rest : List (List ℕ))
+    → (kind ≡ Kinds.Statement → held ≡ line) → opens_data line ≡ true
+    → block_of (bytes_before_end rest) ≡ block_held end block
+    → items_of_line kind line rest ≡ listed (item_held (held_with_data kind end) held block)
 unfolding items_of_line
 line-data Kinds.Skipped held line block end rest whole e b = refl
 line-data Kinds.NoStatement held line block end rest whole e b = refl
 line-data Kinds.Statement held line block end rest whole e b =
-    ap (λ item. item ∷ []) (statement-data line rest e ∙ ap (WithBlock line) b ∙ ap (λ l. WithBlock l (block_held end block)) (sym (whole refl)))
+    ap (λ item. item ∷ [])
+    (statement-data line rest e ∙ ap (WithBlock line) b
+    ∙ ap (λ l. WithBlock l (block_held end block)) (sym (whole refl)))
 
 -- no line: the text has ended
-pub part_end : (a c : Option (List ℕ)) (any : Bool) → IfSome a (λ xs. IsTrue any ↔ (0 < length xs)) → DropsThrough a c 10 → any ≡ false
+pub part_end : (a c : Option (List ℕ)) (any : Bool) → IfSome a (λ xs. IsTrue any ↔ (0 < length xs))
+    → DropsThrough a c 10 → any ≡ false
     → IfSome a (λ xs. PartRead xs None c) × IfSome a (λ xs. xs ≡ [])
 part_end None c any some rest e = (tt, tt)
 part_end (Some xs) c any some rest e =
@@ -227,9 +288,11 @@ part_end (Some xs) c any some rest e =
     )
 
 holds_line : (xs line : List ℕ) → FrontLine line_room xs line → Holds longest_line line (line_of (take_through 10 xs))
-holds_line xs line h = subst (λ l. Holds longest_line l (line_of (take_through 10 xs))) (sym h.line_is) (holds_front longest_line xs)
+holds_line xs line h =
+    subst (λ l. Holds longest_line l (line_of (take_through 10 xs))) (sym h.line_is) (holds_front longest_line xs)
 
-pub part_alone : (a c : Option (List ℕ)) (line block : List ℕ) → IfSome a (λ xs. FrontLine line_room xs line) → DropsThrough a c 10 → opens_data line ≡ false
+pub part_alone : (a c : Option (List ℕ)) (line block : List ℕ) → IfSome a (λ xs. FrontLine line_room xs line)
+    → DropsThrough a c 10 → opens_data line ≡ false
     → IfSome a (λ xs. PartRead xs (item_held (held_alone (kind_of line)) line block) c)
 part_alone None c line block first rest e = tt
 part_alone (Some xs) c line block first rest e =
@@ -242,14 +305,18 @@ part_alone (Some xs) c line block first rest e =
     record {
       left = drop_through 10 xs;
       rest_is = rest;
-      items = items_of-first xs first.some ∙ ap (λ l. l ++ items_of_lines (opens_data whole) later) (found ∙ ap one (sym (kind_of-held line whole h)))
+      items =
+          items_of-first xs first.some
+          ∙ ap (λ l. l ++ items_of_lines (opens_data whole) later) (found ∙ ap one (sym (kind_of-held line whole h)))
           ∙ ap (λ b. one (kind_of line) ++ items_of_lines b later) closed
           ∙ ap (λ l. one (kind_of line) ++ l) (items_of-lines (drop_through 10 xs));
       shorter = drop_through_shorter xs;
     }
 
-pub part_with_data : (a b c : Option (List ℕ)) (line block : List ℕ) (end : Ending) → IfSome a (λ xs. FrontLine line_room xs line) → DropsThrough a b 10 → opens_data line ≡ true
-    → IfSome b (λ zs. BlockRead zs end block c) → IfSome a (λ xs. PartRead xs (item_held (held_with_data (kind_of line) end) line block) c)
+pub part_with_data : (a b c : Option (List ℕ)) (line block : List ℕ) (end : Ending)
+    → IfSome a (λ xs. FrontLine line_room xs line) → DropsThrough a b 10 → opens_data line ≡ true
+    → IfSome b (λ zs. BlockRead zs end block c)
+    → IfSome a (λ xs. PartRead xs (item_held (held_with_data (kind_of line) end) line block) c)
 part_with_data None b c line block end first rest e read = tt
 part_with_data (Some xs) b c line block end first rest e read =
     let whole = line_of (take_through 10 xs) in
@@ -262,7 +329,9 @@ part_with_data (Some xs) b c line block end first rest e read =
     record {
       left = data'.left;
       rest_is = data'.rest_is;
-      items = items_of-first xs first.some ∙ ap (λ l. l ++ items_of_lines (opens_data whole) later) (found ∙ ap one (sym (kind_of-held line whole h)))
+      items =
+          items_of-first xs first.some
+          ∙ ap (λ l. l ++ items_of_lines (opens_data whole) later) (found ∙ ap one (sym (kind_of-held line whole h)))
           ∙ ap (λ b. one (kind_of line) ++ items_of_lines b later) opened
           ∙ ap (λ l. one (kind_of line) ++ l) data'.items;
       shorter = omega (arith, data'.shorter, drop_through_shorter xs);
@@ -281,19 +350,26 @@ skips_nothing None = tt
 skips_nothing (Some text) = record { left = text; now_is = refl; items = refl }
 
 -- one more line without an item
-pub skips_more : (text : List ℕ) (b c : Option (List ℕ)) (one : Option Item) → one ≡ None → Skipped text b → IfSome b (λ zs. PartRead zs one c) → Skipped text c
+pub skips_more : (text : List ℕ) (b c : Option (List ℕ)) (one : Option Item) → one ≡ None → Skipped text b
+    → IfSome b (λ zs. PartRead zs one c) → Skipped text c
 skips_more text b c one none s read =
     let part = subst (λ o. IfSome o (λ zs. PartRead zs one c)) s.now_is read in
-    record { left = part.left; now_is = part.rest_is; items = s.items ∙ part.items ∙ ap (λ o. listed o ++ items_of part.left) none }
+    record {
+      left = part.left;
+      now_is = part.rest_is;
+      items = s.items ∙ part.items ∙ ap (λ o. listed o ++ items_of part.left) none;
+    }
 
 -- then an item
-item_met : (text : List ℕ) (b c : Option (List ℕ)) (one : Item) → Skipped text b → IfSome b (λ zs. PartRead zs (Some one) c) → ItemRead text (Some one) c
+item_met : (text : List ℕ) (b c : Option (List ℕ)) (one : Item) → Skipped text b
+    → IfSome b (λ zs. PartRead zs (Some one) c) → ItemRead text (Some one) c
 item_met text b c one s read =
     let part = subst (λ o. IfSome o (λ zs. PartRead zs (Some one) c)) s.now_is read in
     (part.left, part.rest_is, s.items ∙ part.items)
 
 -- or the end
-end_met : (text : List ℕ) (b c : Option (List ℕ)) → Skipped text b → IfSome b (λ zs. PartRead zs None c) → IfSome b (λ zs. zs ≡ []) → ItemRead text None c
+end_met : (text : List ℕ) (b c : Option (List ℕ)) → Skipped text b → IfSome b (λ zs. PartRead zs None c)
+    → IfSome b (λ zs. zs ≡ []) → ItemRead text None c
 end_met text b c s read end =
     let part = subst (λ o. IfSome o (λ zs. PartRead zs None c)) s.now_is read in
     let none : s.left ≡ [] = subst (λ o. IfSome o (λ zs. zs ≡ [])) s.now_is end in
@@ -305,8 +381,10 @@ end_met text b c s read end =
     empty (x ∷ xs) h = absurd (omega arith)
 
 -- what is held is no skipped line: an item was met, or the end
-pub skipping_ends : (text : List ℕ) (b c : Option (List ℕ)) (held : Held) (line block : List ℕ) → held ≢ Helds.Skipped → Skipped text b
-    → IfSome b (λ zs. PartRead zs (item_held held line block) c) → (held ≡ Helds.Nothing → IfSome b (λ zs. zs ≡ [])) → ItemRead text (item_held held line block) c
+pub skipping_ends : (text : List ℕ) (b c : Option (List ℕ)) (held : Held) (line block : List ℕ) → held ≢ Helds.Skipped
+    → Skipped text b
+    → IfSome b (λ zs. PartRead zs (item_held held line block) c) → (held ≡ Helds.Nothing → IfSome b (λ zs. zs ≡ []))
+    → ItemRead text (item_held held line block) c
 skipping_ends text b c Helds.Nothing line block other s read end = end_met text b c s read (end refl)
 skipping_ends text b c Helds.Skipped line block other s read end = absurd (other refl)
 skipping_ends text b c Helds.NoStatement line block other s read end = item_met text b c _ s read

@@ -1,23 +1,30 @@
 -- Lemmas on the lines of a text, and on lines of which only the front is held.
-use Rattle.std.proofs.Common.{◌≡◌, ◌≢◌, ℕ, zero, suc, ◌+◌, ◌-◌, ◌<◌, ◌≤◌, ◌⊎◌, inl, inr, List, [], ◌∷◌, length, take, get_or, refl, sym, ap, subst, ◌∙◌, arith, lt-ltb, All, ne_eqb, eq-eqb, true≢false, take_all, take-take, length-take-le}
-use Rattle.std.specs.Prelude.{◌==◌, ◌&&◌, Bool, true, false, if◌then◌else◌, nat_lt, bytes_eq, nat_eq, ◌||◌, is_none, codes}
+use Rattle.std.proofs.Common.{◌≡◌, ◌≢◌, ℕ, zero, suc, ◌+◌, ◌-◌, ◌<◌, ◌≤◌, ◌⊎◌, inl, inr, List, [], ◌∷◌, length, take}
+use Rattle.std.proofs.Common.{get_or, refl, sym, ap, subst, ◌∙◌, arith, lt-ltb, All, ne_eqb, eq-eqb, true≢false}
+use Rattle.std.proofs.Common.{take_all, take-take, length-take-le}
+use Rattle.std.specs.Prelude.{◌==◌, ◌&&◌, Bool, true, false, if◌then◌else◌, nat_lt, bytes_eq, nat_eq, ◌||◌, is_none}
+use Rattle.std.specs.Prelude.{codes}
 use Rattle.std.specs.List.{onto_first, list_all}
 use Rattle.std.proofs.lemmas.List.Elements.{All-nil, All-cons}
 use Rattle.std.specs.Io.BufRead.{take_through, drop_through, strip_last, ends_with_byte}
 use Rattle.statement_words.specs.Line.{is_line_byte}
-use Rattle.stream_items.specs.Lines.{raw_lines, line_of, longest_line, opens_data, ends_data, kind_of, first_word, is_comment, is_define}
+use Rattle.stream_items.specs.Lines.{raw_lines, line_of, longest_line, opens_data, ends_data, kind_of, first_word}
+use Rattle.stream_items.specs.Lines.{is_comment, is_define}
 use Rattle.stream_items.specs.declared.line_kinds.LineKind.TheVariants.{Skipped, NoStatement, Statement}
 
 -- the lines of a text after a byte that is no line feed
-onto_first-lines : (x : ℕ) (ys : List ℕ) → (0 < length ys → raw_lines ys ≡ take_through 10 ys ∷ raw_lines (drop_through 10 ys))
+onto_first-lines : (x : ℕ) (ys : List ℕ)
+    → (0 < length ys → raw_lines ys ≡ take_through 10 ys ∷ raw_lines (drop_through 10 ys))
     → onto_first x (raw_lines ys) ≡ (x ∷ take_through 10 ys) ∷ raw_lines (drop_through 10 ys)
 unfolding raw_lines
 onto_first-lines x [] h = refl
 onto_first-lines x (y ∷ ys) h = ap (onto_first x) (h (omega arith))
 
 -- the first line, as its first byte is a line feed or not
-first_line_by : (x : ℕ) (xs : List ℕ) (b : Bool) → (0 < length xs → raw_lines xs ≡ take_through 10 xs ∷ raw_lines (drop_through 10 xs))
-    → (if b then (x ∷ []) ∷ raw_lines xs else onto_first x (raw_lines xs)) ≡ (if b then x ∷ [] else x ∷ take_through 10 xs) ∷ raw_lines (if b then xs else drop_through 10 xs)
+first_line_by : (x : ℕ) (xs : List ℕ) (b : Bool)
+    → (0 < length xs → raw_lines xs ≡ take_through 10 xs ∷ raw_lines (drop_through 10 xs))
+    → (if b then (x ∷ []) ∷ raw_lines xs else onto_first x (raw_lines xs))
+    ≡ (if b then x ∷ [] else x ∷ take_through 10 xs) ∷ raw_lines (if b then xs else drop_through 10 xs)
 first_line_by x xs true h = refl
 first_line_by x xs false h = onto_first-lines x xs h
 
@@ -33,11 +40,14 @@ no_feed zero xs h = All-nil (λ x. x ≢ 10)
 no_feed (suc n) [] h = absurd (omega arith)
 no_feed (suc n) (x ∷ xs) h = at (x == 10) refl (no_feed n xs) h
   where
-    at : (b : Bool) → (x == 10) ≡ b → (n < length (take_through 10 xs) → All (λ y. y ≢ 10) (take n (take_through 10 xs)))
+    at : (b : Bool) → (x == 10) ≡ b
+        → (n < length (take_through 10 xs) → All (λ y. y ≢ 10) (take n (take_through 10 xs)))
         → suc n < length (if b then x ∷ [] else x ∷ take_through 10 xs)
         → All (λ y. y ≢ 10) (take (suc n) (if b then x ∷ [] else x ∷ take_through 10 xs))
     at true is rest less = absurd (omega arith)
-    at false is rest less = All-cons (λ y. y ≢ 10) x (take n (take_through 10 xs)) (λ e. true≢false (sym (eq-eqb x 10 e) ∙ is)) (rest (omega arith))
+    at false is rest less =
+        All-cons (λ y. y ≢ 10) x (take n (take_through 10 xs)) (λ e. true≢false (sym (eq-eqb x 10 e) ∙ is))
+        (rest (omega arith))
 
 -- a test that fails chooses the second
 no_cut : (a b : Bool) (p q : List ℕ) → b ≡ false → (if a && b then p else q) ≡ q
@@ -52,11 +62,15 @@ strip_last-none byte (x ∷ xs) none =
     no_cut (nat_lt 0 (length (x ∷ xs))) (get_or (x ∷ xs) (length (x ∷ xs) - 1) 0 == byte) _ _ (ne_eqb _ byte last)
 
 -- a list without its last byte still has the front that it had
-pub strip_last-front : (byte m : ℕ) (xs : List ℕ) → m < length xs → (m ≤ length (strip_last byte xs)) × (take m (strip_last byte xs) ≡ take m xs)
+pub strip_last-front : (byte m : ℕ) (xs : List ℕ) → m < length xs
+    → (m ≤ length (strip_last byte xs)) × (take m (strip_last byte xs) ≡ take m xs)
 strip_last-front byte m xs more = at (ends_with_byte byte xs)
   where
-    at : (b : Bool) → (m ≤ length (if b then take (length xs - 1) xs else xs)) × (take m (if b then take (length xs - 1) xs else xs) ≡ take m xs)
-    at true = (omega (arith, length-take-le (length xs - 1) xs (omega arith)), take-take m (length xs - 1) xs (omega arith))
+    at : (b : Bool)
+        → (m ≤ length (if b then take (length xs - 1) xs else xs))
+        × (take m (if b then take (length xs - 1) xs else xs) ≡ take m xs)
+    at true =
+        (omega (arith, length-take-le (length xs - 1) xs (omega arith)), take-take m (length xs - 1) xs (omega arith))
     at false = (omega arith, refl)
 
 pub le_or_lt : (n m : ℕ) → (n ≤ m) ⊎ (m < n)
@@ -68,7 +82,8 @@ le_or_lt (suc n) (suc m) = elim (le_or_lt n m) [ inl h ↦ inl (omega arith) | i
 pub record Holds (m : ℕ) (held line : List ℕ) : Type 0 where
   pub or_long : (held ≡ line) ⊎ ((m < length held) × (m < length line) × (take m held ≡ take m line))
 
-pub holds_front : (m : ℕ) (xs : List ℕ) → Holds m (line_of (take (m + 2) (take_through 10 xs))) (line_of (take_through 10 xs))
+pub holds_front : (m : ℕ) (xs : List ℕ)
+    → Holds m (line_of (take (m + 2) (take_through 10 xs))) (line_of (take_through 10 xs))
 unfolding line_of
 holds_front m xs =
     let raw = take_through 10 xs in
@@ -83,7 +98,8 @@ holds_front m xs =
           let line = strip_last-front 13 (m + 1) (strip_last 10 raw) (omega (arith, cut.0)) in
           let same : take m (strip_last 13 front) ≡ take m (strip_last 13 (strip_last 10 raw)) =
           (strip_last-front 13 m front (omega arith)).1 ∙ take-take m (m + 2) raw (omega arith)
-          ∙ sym ((strip_last-front 13 m (strip_last 10 raw) (omega (arith, cut.0))).1 ∙ (strip_last-front 10 m raw (omega arith)).1) in
+          ∙ sym ((strip_last-front 13 m (strip_last 10 raw) (omega (arith, cut.0))).1
+          ∙ (strip_last-front 10 m raw (omega arith)).1) in
           record {
             or_long = inr (
               subst (λ l. m < length (strip_last 13 l)) (sym whole) (omega (arith, held.0)),
@@ -124,7 +140,12 @@ opens_data-held held line h = elim h.or_long [
 -- too long a line is no statement
 too_long : (line : List ℕ) → longest_line < length line → kind_of line ≡ NoStatement
 unfolding kind_of
-too_long line long = ap (λ b. if b then NoStatement else (if is_comment line || is_none (first_word line) then Skipped else (if list_all is_line_byte line then Statement else NoStatement))) (lt-ltb _ _ long)
+too_long line long =
+    ap
+    (λ b. if b then NoStatement else
+    (if is_comment line || is_none (first_word line) then Skipped else
+    (if list_all is_line_byte line then Statement else NoStatement)))
+    (lt-ltb _ _ long)
 
 -- what a line is of which this is held
 pub kind_of-held : (held line : List ℕ) → Holds longest_line held line → kind_of held ≡ kind_of line

@@ -2,10 +2,13 @@
 //! They are read one at a time from a [`std::io::BufRead`], however it cuts its bytes.
 //!
 //! ```text
+//! let mut reader = b"define\nA\n/*\nx\n".as_slice();
 //! let mut page = Page::new(alloc);
 //! page.read_item(&mut reader)?;
-//! match page.item() {
-//!     Some(Item::Alone(line)) => ..
+//! // the line `define`, and the bytes `A\n` after it
+//! assert!(rt; matches!(page.item(), Some(Item::WithBlock(_, Block::Whole(b"A\n")))));
+//! page.read_item(&mut reader)?;
+//! assert!(rt; matches!(page.item(), Some(Item::Alone(b"x"))));
 //! ```
 #![tactic(auto)]
 

@@ -39,6 +39,7 @@ fn keep(held: &mut Vec<u8>, limit: usize, bytes: &[u8]) -> Result<(), ReadFault>
     ensures err { OnErr result (held.new.items ≡ held.old.items) }
     ensures bound { length held.new.items ≤ max limit (length held.old.items) }
 {
+    // A buffer past its limit keeps what it has: none here is, and no caller has to show it.
     let room = limit.saturating_sub(held.len()).min(bytes.len());
     match held.extend_from_slice(&bytes[..room]) {
         Ok(()) => Ok(()),

@@ -6,8 +6,11 @@ use Rattle.statement_words.proofs.form.command_of.Given as goal
 
 abbrev pub invariant-loop-required : goal.invariant-loop-required
 invariant-loop-required l =
-    app_of l.command ≡ app_with (text_in l.form.word) (map (choice true) (texts (take l.required-index l.required-items)))
+    app_of l.command
+    ≡ app_with (text_in l.form.word) (map (choice true) (texts (take l.required-index l.required-items)))
 
 abbrev pub invariant-loop-optional : goal.invariant-loop-optional
 invariant-loop-optional l = app_of l.command
-    ≡ app_with (text_in l.form.word) (map (choice true) (texts l.form.required.now) ++ map (choice false) (texts (take l.optional-index l.optional-items)))
+    ≡ app_with (text_in l.form.word)
+    (map (choice true) (texts l.form.required.now)
+    ++ map (choice false) (texts (take l.optional-index l.optional-items)))

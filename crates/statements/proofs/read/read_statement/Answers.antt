@@ -16,7 +16,8 @@ returns-in-Some-2 c =
     let words : words_of c.args.line.now ≡ name ∷ after = search rules in
     let named : name ≡ verb_text verb = search rules in
     let read : reading_of (layout_for verb) after ≡ Some c.in-Some-2.values = search rules in
-    read_values c.args.line.now name after verb c.in-Some-2.values c.arguments_in.result c.statement_of.result printable words named read c.arguments_in.ensures c.statement_of.ensures
+    read_values c.args.line.now name after verb c.in-Some-2.values c.arguments_in.result c.statement_of.result printable
+    words named read c.arguments_in.ensures c.statement_of.ensures
 
 pub returns : goal.returns
 returns c =

@@ -5,6 +5,7 @@ use Rattle.stream_items.proofs.Parts.{Reading}
 use Rattle.stream_items.proofs.blocks.read_block.Given as goal
 
 abbrev pub invariant-loop : goal.invariant-loop
-invariant-loop g l = IfSome (g.R.Read.remaining l.initial.reader) (λ xs. Reading xs (g.R.Read.remaining l.reader) l.block.items)
+invariant-loop g l =
+    IfSome (g.R.Read.remaining l.initial.reader) (λ xs. Reading xs (g.R.Read.remaining l.reader) l.block.items)
     × (length l.line.items ≤ max end_room (length l.initial.line.items))
     × (length l.block.items ≤ block_room)

@@ -8,4 +8,5 @@ loop-i-preserved c = (search rules, All-more (λ x. x ≢ 10) _ _ 0 (search rule
 pub returns-clause-before : goal.returns-clause-before
 returns-clause-before c =
     let i = c.loop-i.i in
-    subst (All (λ x. x ≢ 10)) (take-take (i - 1) i c.args.bytes.now (omega arith)) (All-take (λ x. x ≢ 10) (i - 1) _ c.loop-i.invariant.1)
+    subst (All (λ x. x ≢ 10)) (take-take (i - 1) i c.args.bytes.now (omega arith))
+    (All-take (λ x. x ≢ 10) (i - 1) _ c.loop-i.invariant.1)

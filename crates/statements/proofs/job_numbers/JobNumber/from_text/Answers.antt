@@ -11,11 +11,16 @@ returns-then-not-has_first_digit-clause-none c = λ n h e.
 
 pub returns-in_err-number-clause-none : goal.returns-in_err-number-clause-none
 returns-in_err-number-clause-none c = rw c.from_residual.ensures (λ n h e.
-    let same : None ≡ Some n = sym c.in_err-number.was ∙ c.ok.ensures.value ∙ ap result_ok (read_number c.args.text.now n c.parse.result h e c.parse.ensures.value.0) in cc)
+    let same : None ≡ Some n =
+    sym c.in_err-number.was ∙ c.ok.ensures.value
+    ∙ ap result_ok (read_number c.args.text.now n c.parse.result h e c.parse.ensures.value.0) in
+    cc)
 
 pub returns-then-number-gt999999999-clause-none : goal.returns-then-number-gt999999999-clause-none
 returns-then-number-gt999999999-clause-none c = λ n h e.
-    let same : Some c.in_ok-number.number ≡ Some n = sym c.in_ok-number.was ∙ c.ok.ensures.value ∙ ap result_ok (read_number c.args.text.now n c.parse.result h e c.parse.ensures.value.0) in
+    let same : Some c.in_ok-number.number ≡ Some n =
+    sym c.in_ok-number.was ∙ c.ok.ensures.value
+    ∙ ap result_ok (read_number c.args.text.now n c.parse.result h e c.parse.ensures.value.0) in
     let is : c.in_ok-number.number ≡ n = cc in
     absurd (omega (arith, is, h, c.if-number-gt999999999.true))
 

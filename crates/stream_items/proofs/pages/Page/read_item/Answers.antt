@@ -10,4 +10,5 @@ returns-then-ne-clause-read g c =
     let part = c.in_ok-held.ensures in
     let other : c.in_ok-held.held ≢ Skipped = search rules in
     if_some_weaken (g.R.Read.remaining c.args.reader.now) _ _
-    (λ text s. skipping_ends text _ _ c.in_ok-held.held _ _ other s part.part (λ e. part.end (ap Ok e))) c.loop.invariant.1
+    (λ text s. skipping_ends text _ _ c.in_ok-held.held _ _ other s part.part (λ e. part.end (ap Ok e)))
+    c.loop.invariant.1

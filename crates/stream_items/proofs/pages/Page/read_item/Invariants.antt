@@ -5,4 +5,6 @@ use Rattle.stream_items.proofs.Parts.{Skipped}
 use Rattle.stream_items.proofs.pages.Page.read_item.Given as goal
 
 abbrev pub invariant-loop : goal.invariant-loop
-invariant-loop g l = (l.self.held ≡ Nothing) × IfSome (g.R.Read.remaining l.initial.reader) (λ text. Skipped text (g.R.Read.remaining l.reader))
+invariant-loop g l =
+    (l.self.held ≡ Nothing)
+    × IfSome (g.R.Read.remaining l.initial.reader) (λ text. Skipped text (g.R.Read.remaining l.reader))

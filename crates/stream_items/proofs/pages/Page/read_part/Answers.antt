@@ -23,12 +23,14 @@ returns-else-opens_data-clause-part g c =
     let a = g.R.Read.remaining c.args.reader.now in
     let any : c.in_ok-read_line.field-0 ≡ true = search rules in
     let line = c.trim_line_end.new.line.items in
-    let first = front_line a line_room _ _ _ _ any c.clear.ensures.items read.some read.head c.trim_line_end.ensures.line in
+    let first =
+    front_line a line_room _ _ _ _ any c.clear.ensures.items read.some read.head c.trim_line_end.ensures.line in
     let closed : opens_data line ≡ false = search rules in
     let kind : c.kind_of-kind.result ≡ kind_of line = search rules in
     let held : c.held_alone.result ≡ held_alone (kind_of line) = c.held_alone.ensures ∙ ap held_alone kind in
     let block = c.read_line.new.all.items in
-    subst (λ h. IfSome a (λ xs. PartRead xs (item_held h line block) (g.R.Read.remaining c.read_line.new.reader))) (sym held)
+    subst (λ h. IfSome a (λ xs. PartRead xs (item_held h line block) (g.R.Read.remaining c.read_line.new.reader)))
+    (sym held)
     (part_alone a (g.R.Read.remaining c.read_line.new.reader) line block first read.rest closed)
 
 pub returns-in_ok-ending-clause-part : goal.returns-in_ok-ending-clause-part
@@ -37,11 +39,14 @@ returns-in_ok-ending-clause-part g c =
     let a = g.R.Read.remaining c.args.reader.now in
     let any : c.in_ok-read_line.field-0 ≡ true = search rules in
     let line = c.trim_line_end.new.line.items in
-    let first = front_line a line_room _ _ _ _ any c.clear.ensures.items read.some read.head c.trim_line_end.ensures.line in
+    let first =
+    front_line a line_room _ _ _ _ any c.clear.ensures.items read.some read.head c.trim_line_end.ensures.line in
     let opened : opens_data line ≡ true = search rules in
     let kind : c.kind_of-kind.result ≡ kind_of line = search rules in
-    let held : c.held_with_data.result ≡ held_with_data (kind_of line) c.in_ok-ending.ending = c.held_with_data.ensures ∙ ap (λ k. held_with_data k c.in_ok-ending.ending) kind in
+    let held : c.held_with_data.result ≡ held_with_data (kind_of line) c.in_ok-ending.ending =
+    c.held_with_data.ensures ∙ ap (λ k. held_with_data k c.in_ok-ending.ending) kind in
     let left = g.R.Read.remaining c.read_block.new.reader in
     let block = c.read_block.new.block.items in
     subst (λ h. IfSome a (λ xs. PartRead xs (item_held h line block) left)) (sym held)
-    (part_with_data a (g.R.Read.remaining c.read_line.new.reader) left line block c.in_ok-ending.ending first read.rest opened c.in_ok-ending.ensures.read)
+    (part_with_data a (g.R.Read.remaining c.read_line.new.reader) left line block c.in_ok-ending.ending first read.rest
+    opened c.in_ok-ending.ensures.read)
