@@ -285,6 +285,15 @@ class Planner:
         self.planned, self.current, self.history, self.deleted = {}, {}, {}, {}  # by serial
         self.pairs, self.in_force, self.jobs, self.calendars = set(), {}, {}, {}
 
+    def copy(self):
+        """A planner that goes its own way from here; a definition, a row and a list are never changed in place."""
+        other = Planner()
+        other.__dict__.update(self.__dict__)
+        other.defined = {kind: dict(names) for kind, names in self.defined.items()}
+        for held in ("planned", "current", "history", "deleted", "jobs"):
+            setattr(other, held, dict(getattr(self, held)))
+        return other
+
     # Definitions
 
     def active(self):
