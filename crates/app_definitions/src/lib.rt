@@ -48,12 +48,3 @@ pub use periods::DefinedPeriod;
 pub use predecessors::Predecessors;
 pub use records::{BlockFault, LONGEST_BLOCK};
 pub use work_indexes::WorkIndexes;
-
-#[cfg(test)]
-mod cycle_tests;
-#[cfg(test)]
-mod merge_tests;
-#[cfg(test)]
-mod option_tests;
-#[cfg(test)]
-mod tests;

@@ -35,6 +35,3 @@ pub use live::{Arrival, Live, nearest};
 pub use loops::find_loop;
 pub use pairs::{Pair, Pairs, resolve_all};
 pub use rows::{PlacedRow, Rows};
-
-#[cfg(test)]
-mod tests;

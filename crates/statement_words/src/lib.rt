@@ -22,6 +22,3 @@ pub use form::Form;
 pub use law::reads_what_is_written;
 pub use line::{first_word, is_line_text, joined_words, words_in};
 pub use values::Values;
-
-#[cfg(test)]
-mod tests;

@@ -24,6 +24,3 @@ pub use read::read_statement;
 pub use statements::Statement;
 pub use verbs::Verb;
 pub use words::{FunctionWord, KindWord, Listed};
-
-#[cfg(test)]
-mod tests;

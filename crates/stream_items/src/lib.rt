@@ -26,6 +26,3 @@ pub use limits::limits_hold;
 pub use line_kinds::LONGEST_LINE;
 pub use lines::ReadFault;
 pub use pages::Page;
-
-#[cfg(test)]
-mod tests;

@@ -1,7 +1,7 @@
 // What blocks make of the definitions, and what is left where names are taken away. A name's definition is the one
 // that the last block with the name gives, whole.
-use crate::tests::halves;
-use crate::{
+use crate::blocks::halves;
+use app_definitions::{
     Application, Block, BlockFault, ByName, DefinedPeriod, Definitions, Kind, LONGEST_BLOCK,
     Options, Predecessors, RunCycles, read_block,
 };
@@ -401,7 +401,8 @@ fn merged(rt: HostRuntime) {
           +CA,SAT,FREE\nB,SUN,WORK\nA,2024-01-10,FREE\nA,TUE,WORK\n>2|\
           +PA,N,2024-01-01,\nB,W,2024-01-01,5\nA,N,2024-02-01,2024-02-10\nC,A,2024-05-05,9\n>3|\
           +LA,X\nB,Z\nA,Y\n>2|\
-          +RA,R,N,P,E,1,2024-01-01,,08.00,0,17.00\nA,S,X,P,E,1,2024-01-01,,08.00,,\nB,R,N,P,E,1,2024-01-01,,08.00,0,17.00\n>2|\
+          +RA,R,N,P,E,1,2024-01-01,,08.00,0,17.00\nA,S,X,P,E,1,2024-01-01,,08.00,,\n\
+          B,R,N,P,E,1,2024-01-01,,08.00,0,17.00\n>2|\
           +Omax_extension_hours = 24\n>1|\
           +AA,P,\n>1|\
           +CA,MON,FREE\n>1|\

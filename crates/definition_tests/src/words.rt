@@ -1,5 +1,5 @@
 //! What a form takes, on words that are written out.
-use crate::{Form, first_word, is_line_text, words_in};
+use statement_words::{Form, first_word, is_line_text, words_in};
 
 static REQUIRED: [&str; 2] = ["app", "from"];
 

@@ -1,6 +1,6 @@
 //! Statements as they stand on lines, and lines that are no statement.
-use crate::{JobNumber, KindWord, Listed, Statement, read_statement};
 use occurrences::Action;
+use statements::{JobNumber, KindWord, Listed, Statement, read_statement};
 use std::alloc::Global;
 use std::process::Abort;
 use work_calendars::{App, Day, Moment, Name};

@@ -1,8 +1,8 @@
 //! Texts and the items that they read as.
-use crate::{Block, Item, Page};
 use std::alloc::{AllocError, Global};
 use std::process::Abort;
 use std::test::Fail;
+use stream_items::{Block, Item, Page};
 
 /// `front`, then a byte so many times, and then `back`.
 fn filled(

@@ -1,5 +1,5 @@
 // Blocks, accepted and refused. What they give comes from the format's own words.
-use crate::{BlockFault, Kind, LONGEST_BLOCK, read_block, read_options, read_run_cycles};
+use app_definitions::{BlockFault, Kind, LONGEST_BLOCK, read_block, read_options, read_run_cycles};
 use std::alloc::Global;
 use std::process::Abort;
 

@@ -1,5 +1,4 @@
-use crate::components::components;
-use crate::{
+use external_dependencies::{
     Followers, Link, Links, Live, Pair, PairChange, Pairs, PlacedRow, Rows, arrival_order,
     find_loop, link_order, nearest, nearest_arrives_last, nearest_is_unique, pair_order,
     pairs_depend_on_set, pairs_have_no_loop, resolve_all, rising_is_unique,
@@ -55,6 +54,7 @@ fn loop_in(rt: &impl Abort, alloc: Global, text: &str) -> App {
 fn loops_of_lists(rt: HostRuntime) {
     for (text, least) in [
         ("A B; B C; C B", "B"),
+        ("A B; B C; C B D", "B"),
         ("A A", "NONE"),
         ("A A B; B B A", "A"),
         ("A Q; P Q Z; Q R; R S; S P A2; Z S", "P"),
@@ -78,29 +78,27 @@ fn no_lists_have_no_loop(rt: HostRuntime) {
     assert_eq!(rt; find_loop(rt.alloc(), &links).expect(&rt, "memory"), None);
 }
 
-// The edges of a graph of four nodes: from the first to the second, and the second and the third to one another and
-// on to the fourth.
-fn edges(rt: &impl Abort, alloc: Global) -> Vec<Vec<usize>> {
-    let mut edges = Vec::new(alloc);
-    for ends in [
-        [1].as_slice(),
-        [2].as_slice(),
-        [1, 3].as_slice(),
-        [].as_slice(),
-    ] {
-        edges
-            .push(ends.to_vec(alloc).expect(rt, "memory"))
-            .expect(rt, "memory");
-    }
-    edges
+fn numbered(rt: &impl Abort, alloc: Global, number: u32) -> App {
+    let name = format!(in alloc; "A{number}").expect(rt, "memory");
+    app(rt, &name)
 }
 
-// Answers don't rest on these numbers, but the time of `find_loop` does: components are closed from the end on.
+// The applications A0 to A200000, each with the next one as its predecessor.
+fn chain(rt: &impl Abort, alloc: Global) -> Links {
+    let mut links = Vec::new(alloc);
+    for number in 0..200_000u32 {
+        let app = numbered(rt, alloc, number);
+        let predecessor = numbered(rt, alloc, number.wrapping_add(1));
+        links.push(Link { app, predecessor }).expect(rt, "memory");
+    }
+    Links::from_vec(links)
+}
+
+// The components of lists are told apart in one pass: a search from each application would outlast the test.
 #[test]
-fn numbers_of_components(rt: HostRuntime) {
-    let edges = edges(&rt, rt.alloc());
-    let numbers = components(rt.alloc(), edges.as_slice()).expect(&rt, "memory");
-    assert_eq!(rt; numbers.as_slice(), [3, 1, 1, 0].as_slice());
+fn long_chain_has_no_loop(rt: HostRuntime) {
+    let links = chain(&rt, rt.alloc());
+    assert_eq!(rt; find_loop(rt.alloc(), &links).expect(&rt, "memory"), None);
 }
 
 // The links, as `APP PREDECESSOR;`.

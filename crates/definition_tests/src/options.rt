@@ -1,8 +1,8 @@
 // Blocks of options, accepted and refused, and what they make of the definitions. What they give comes from the
 // format's own words.
-use crate::Kind;
-use crate::merge_tests::play;
-use crate::tests::pass;
+use crate::blocks::pass;
+use crate::merges::play;
+use app_definitions::Kind;
 
 #[test]
 fn accepted(rt: HostRuntime) {
