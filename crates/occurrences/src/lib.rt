@@ -20,8 +20,6 @@ mod reply;
 mod row;
 mod serial;
 mod status;
-#[cfg(test)]
-mod tests;
 
 pub use key::Key;
 pub use laws::{key_order, places, row_order, status_changes};

@@ -20,6 +20,3 @@ pub use faults::PeriodFault;
 pub use intervals::{Interval, Intervals};
 pub use origins::Origins;
 pub use periods::{MAX_INTERVAL, Period};
-
-#[cfg(test)]
-mod tests;

@@ -12,7 +12,6 @@ pub mod NamedLemmas
 pub mod NamingLemmas
 pub mod OccurrenceLemmas
 pub mod OrderLemmas
-pub mod OwnNames
 pub mod PeriodsLemmas
 pub mod PlaceLemmas
 pub mod ReachLemmas

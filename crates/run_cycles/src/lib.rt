@@ -29,6 +29,3 @@ pub use naming::names;
 pub use offsets::{MAX_OFFSET, MAX_OFFSETS, Offsets};
 pub use periods::Periods;
 pub use rules::Rule;
-
-#[cfg(test)]
-mod tests;

@@ -21,8 +21,6 @@ mod minutes;
 mod moments;
 mod names;
 mod statuses;
-#[cfg(test)]
-mod tests;
 mod work_index;
 
 pub use calendars::Calendar;

@@ -1,8 +1,8 @@
 ghost use Rattle.plan_periods.specs.Period.{IsSoundPeriod};
 
 use super::{cycle_of, index_of, period_of, two_days};
-use crate::{JumpDays, Offsets, Rule, RunCycle, names};
 use plan_periods::Period;
+use run_cycles::{JumpDays, Offsets, Rule, RunCycle, names};
 use std::alloc::{AllocError, Global};
 use std::process::Abort;
 use work_calendars::{CountedIndex, Day, WorkIndex};

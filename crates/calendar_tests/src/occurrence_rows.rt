@@ -1,4 +1,4 @@
-use super::*;
+use occurrences::{Action, Key, Origin, Place, Reason, Refusal, Row, Serial, Status, next_status};
 use std::alloc::{AllocError, Global};
 use std::fmt::Write;
 use std::test::Fail;

@@ -1,8 +1,8 @@
 ghost use Rattle.std.specs.Prelude.{◌≡◌, IfOk};
 
 use super::cycle_of;
-use crate::{MAX_OFFSETS, Offsets, Periods, RunCycle};
 use plan_periods::Period;
+use run_cycles::{MAX_OFFSETS, Offsets, Periods, RunCycle};
 use std::alloc::{AllocError, Global};
 use std::test::Fail;
 use work_calendars::{Day, Short};

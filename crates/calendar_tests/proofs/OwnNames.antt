@@ -1,5 +1,6 @@
 -- That no two run cycles have one name, name by name.
-use Rattle.std.proofs.Common.{◌≡◌, ℕ, ◌+◌, ◌<◌, ◌≤◌, true, false, List, length, get_or, ap, sym, subst, ◌∙◌, ⊎_elim, arith}
+use Rattle.std.proofs.Common.{◌≡◌, ℕ, ◌+◌, ◌<◌, ◌≤◌, true, false, List, length, get_or, ap, sym, subst, ◌∙◌, ⊎_elim}
+use Rattle.std.proofs.Common.{arith}
 use Rattle.std.specs.Prelude.{nat_eq}
 use Rattle.std.specs.Cmp.Lexicographic.{pointwise, nat_list_eq_equiv}
 use Rattle.std.proofs.lemmas.Bool.{cases_lt}
@@ -23,13 +24,16 @@ abbrev pub OwnAt : List RunCycle → ℕ → ℕ → Type 0
 OwnAt cycles k n =
     (p : ℕ) (e : RunCycle) → p < n → ¬ ((get_or cycles p e).name ≡ (get_or cycles k e).name)
 
-pub own_at_more : (cycles : List RunCycle) (k n : ℕ) (a b : RunCycle) → n < length cycles → k < length cycles → get_or cycles n a ≡ a → get_or cycles k b ≡ b → pointwise nat_eq a.name b.name ≡ false → OwnAt cycles k n → OwnAt cycles k (n + 1)
+pub own_at_more : (cycles : List RunCycle) (k n : ℕ) (a b : RunCycle) →
+    n < length cycles → k < length cycles → get_or cycles n a ≡ a →
+    get_or cycles k b ≡ b → pointwise nat_eq a.name b.name ≡ false → OwnAt cycles k n → OwnAt cycles k (n + 1)
 own_at_more cycles k n a b in-n in-k at-n at-k differs so p e lt same =
     ⊎_elim
     (λ below. so p e below same)
     (λ from.
     let here : p ≡ n = omega (arith, lt, from) in
-    let first : (get_or cycles p e).name ≡ a.name = ap (λ m. (get_or cycles m e).name) here ∙ ap (λ c. c.name) (get_or_default cycles n e a in-n ∙ at-n) in
+    let first : (get_or cycles p e).name ≡ a.name = ap (λ m. (get_or cycles m e).name) here ∙
+    ap (λ c. c.name) (get_or_default cycles n e a in-n ∙ at-n) in
     let second : (get_or cycles k e).name ≡ b.name = ap (λ c. c.name) (get_or_default cycles k e b in-k ∙ at-k) in
     apart a.name b.name differs (sym first ∙ same ∙ second))
     (cases_lt p n)

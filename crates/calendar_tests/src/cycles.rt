@@ -1,8 +1,8 @@
 ghost use Rattle.std.specs.Prelude.{IsTrue};
 ghost use Rattle.run_cycles.specs.Occurrence.{HaveOwnNames};
 
-use crate::{CycleType, Deadline, Named, Offsets, Periods, Rule, RunCycle, generate};
 use plan_periods::{Origins, Period};
+use run_cycles::{CycleType, Deadline, Named, Offsets, Periods, Rule, RunCycle, generate};
 use std::alloc::{AllocError, Global};
 use std::process::Abort;
 use std::str::SplitWhitespace;
@@ -26,7 +26,7 @@ fn minute(rt: &impl Abort, text: &str) -> Minute {
 }
 
 // The first two days of a text.
-fn two_days(rt: &impl Abort, text: &str) -> (Day, Day) {
+pub(crate) fn two_days(rt: &impl Abort, text: &str) -> (Day, Day) {
     let mut words = text.split_whitespace();
     let from = day(rt, words.next().unwrap_or(""));
     (from, day(rt, words.next().unwrap_or("")))
@@ -185,7 +185,7 @@ fn origins_of(
     text: &str,
 ) -> Result<Vec<(Day, Option<Day>)>, AllocError> {
     let mut origins = Vec::new(alloc);
-    for entry in text.split(';') {
+    for entry in text.split_terminator(';') {
         let (origin, end) = entry.split_once(' ').unwrap_or(("", ""));
         origins.push((day(rt, origin), day_or_none(rt, end)))?;
     }
@@ -193,7 +193,7 @@ fn origins_of(
 }
 
 // A period by its letter, and its origin and interval or its origins.
-fn period_of(rt: &impl Abort, alloc: Global, text: &str) -> Result<Period, AllocError> {
+pub(crate) fn period_of(rt: &impl Abort, alloc: Global, text: &str) -> Result<Period, AllocError> {
     let (kind, rest) = text.split_once(' ').unwrap_or(("", ""));
     if kind == "N" {
         return Ok(Period::Listed(Origins::new(origins_of(rt, alloc, rest)?)));

@@ -1,8 +1,8 @@
 //! What run cycles name, by rows of text. A row has five parts, parted by `|`: the calendar, the period, the run
 //! cycles, the window, and what they name.
 
-use crate::Named;
-use crate::tests::{cycles_of, generated, index_of, periods_of, two_days};
+use crate::cycles::{cycles_of, generated, index_of, periods_of, two_days};
+use run_cycles::Named;
 use std::alloc::{AllocError, Global};
 use std::process::Abort;
 use std::str::Split;

@@ -1,13 +1,21 @@
 ghost use Rattle.std.specs.Prelude.{◌≡◌, IfOk};
 
-use crate::days::{DAYS, FIRST_NUMBER, LAST_NUMBER, LAST_PLANNING_NUMBER};
-use crate::{
-    Calendar, CountedIndex, Day, DayStatus, Minute, Moment, Name, Short, Weekday, WorkIndex,
-};
 use std::alloc::{AllocError, Global};
 use std::cmp::Ordering;
 use std::process::Abort;
 use std::test::Fail;
+use work_calendars::{
+    Calendar, CountedIndex, Day, DayStatus, Minute, Moment, Name, Short, Weekday, WorkIndex,
+};
+
+// The numbers of 1972-01-01, 2071-12-31 and 2068-12-31 from an almanac, and how many days the first two span.
+const FIRST: u32 = 730;
+
+const LAST: u32 = 37_254;
+
+const LAST_PLANNING: u32 = 36_159;
+
+const DAYS: usize = 36_525;
 
 // Asserts what holds of the row of a table.
 fn assert_row(rt: &impl Abort, holds: bool, text: &str) {
@@ -144,7 +152,7 @@ fn number_of(day: Option<Day>) -> u32 {
 
 #[test]
 fn days_have_a_first_and_a_last(rt: HostRuntime) {
-    let (first, last) = (FIRST_NUMBER as u32, LAST_NUMBER as u32);
+    let (first, last) = (FIRST, LAST);
     let found = [
         Day::FIRST.number(),
         Day::LAST.number(),
@@ -162,7 +170,7 @@ fn days_have_a_first_and_a_last(rt: HostRuntime) {
         number_of(Day::LAST.minus(last - first)),
         number_of(Day::LAST.minus(last - first + 1)),
     ];
-    let planned = LAST_PLANNING_NUMBER as u32;
+    let planned = LAST_PLANNING;
     let (second, earlier) = (first + 1, last - 1);
     let wanted = [
         first, last, planned, 0, first, last, 0, 0, second, earlier, 0, last, 0, first, 0,
