@@ -1,5 +1,6 @@
 -- Periods of work days: their intervals, by how many work days come before each.
-use Rattle.std.proofs.Common.{◌≡◌, ℕ, ◌+◌, ◌-◌, ◌*◌, ◌/◌, ◌%◌, ◌<◌, ◌≤◌, ℤ, Bool, List, Some, IsTrue, inl, inr, ⊎_elim, sym, subst, ap, ◌∙◌, refl, arith}
+use Rattle.std.proofs.Common.{◌≡◌, ℕ, ◌+◌, ◌-◌, ◌*◌, ◌/◌, ◌%◌, ◌<◌, ◌≤◌, ℤ, Bool, List, Some, IsTrue, inl, inr}
+use Rattle.std.proofs.Common.{⊎_elim, sym, subst, ap, ◌∙◌, refl, arith}
 use Rattle.std.specs.Prelude.{Any}
 use Rattle.std.proofs.Math.Nat.{div-mul-le_self, mul-le-mul_right}
 use Rattle.std.proofs.lemmas.Bool.{cases_lt}
@@ -35,7 +36,8 @@ place_above c b n p k is below e =
 module _ (work : ℕ → Bool) (o n : ℕ) (some : 0 < n) where
   -- the place of a work day among the intervals, at so many work days before the first of its interval
   abbrev pub At : ℕ → Offset → ℕ → Type 0
-  At b k d = IsGivenAt WorkDaysOnly work (work_days_before work o + b * n) (Some (work_days_before work o + b * n + n)) k d
+  At b k d = IsGivenAt WorkDaysOnly work (work_days_before work o + b * n)
+      (Some (work_days_before work o + b * n + n)) k d
 
   block_counts : (b : ℕ) (k : Offset) (d : ℕ) → At b k d → IsCountedDay (Work o n) k work d
   block_counts b (FromFirst k) d (x, at, nth) =
@@ -43,18 +45,31 @@ module _ (work : ℕ → Bool) (o n : ℕ) (some : 0 < n) where
       let place : work_days_before work d ≡ x = nth.place in
       let is : x + 1 ≡ work_days_before work o + b * n + k = at.1 in
       let low : o ≤ d = from_first work o d on (omega (arith, at.0)) in
-      let count : work_days_among work o (d - o) ≡ work_days_before work d - work_days_before work o = among_origin work o d low in
-      (on, low, place_below (work_days_among work o (d - o)) b n (k - 1) k (omega (arith, at.0)) (omega (arith, at.0, at.2)) (omega (arith, at.0)))
+      let count : work_days_among work o (d - o) ≡ work_days_before work d - work_days_before work o =
+      among_origin work o d low in (
+        on,
+        low,
+        place_below (work_days_among work o (d - o)) b n (k - 1) k (omega (
+          arith,
+          at.0,
+        )) (omega (arith, at.0, at.2)) (omega (arith, at.0)),
+      )
   block_counts b (FromLast k) d (x, at, nth) =
       let on : IsTrue (work d) = nth.is_work in
       let place : work_days_before work d ≡ x = nth.place in
       let start : work_days_before work o + b * n ≤ x = at.1 in
       let is : x + k ≡ work_days_before work o + b * n + n = at.2 in
       let low : o ≤ d = from_first work o d on (omega arith) in
-      let count : work_days_among work o (d - o) ≡ work_days_before work d - work_days_before work o = among_origin work o d low in
-      (on, low, place_above (work_days_among work o (d - o)) b n (n - k) k (omega arith) (omega (arith, at.0)) (omega arith))
+      let count : work_days_among work o (d - o) ≡ work_days_before work d - work_days_before work o =
+      among_origin work o d low in (
+        on,
+        low,
+        place_above (work_days_among work o (d - o)) b n
+            (n - k) k (omega arith) (omega (arith, at.0)) (omega arith),
+      )
 
-  counted_block : (k : Offset) (d : ℕ) → IsCountedDay (Work o n) k work d → At ((work_days_before work d - work_days_before work o) / n) k d
+  counted_block : (k : Offset) (d : ℕ) → IsCountedDay (Work o n) k work d →
+      At ((work_days_before work d - work_days_before work o) / n) k d
   counted_block (FromFirst k) d (on, low, has) =
       let c = work_days_before work d - work_days_before work o in
       let rises = work_days_before-mono work o d low in
@@ -81,7 +96,9 @@ module _ (work : ℕ → Bool) (o n : ℕ) (some : 0 < n) where
     pub blocks_start : (first : ℕ) (old : List ℕ) → AddsDays (InBlocks first first) old old
     blocks_start first old = adds_none (InBlocks first first) old (λ d h. omega (arith, h.2.1, h.2.2))
 
-    pub blocks_more : (first next : ℕ) → first ≤ next → (old mid new : List ℕ) → AddsDays (InBlocks first next) old mid → AddsDays (IsInWindow low high (At next) offsets) mid new → AddsDays (InBlocks first (next + 1)) old new
+    pub blocks_more : (first next : ℕ) → first ≤ next → (old mid new : List ℕ) →
+        AddsDays (InBlocks first next) old mid → AddsDays (IsInWindow low high (At next) offsets) mid new →
+        AddsDays (InBlocks first (next + 1)) old new
     blocks_more first next from old mid new before then =
         adds_both (InBlocks first next) (IsInWindow low high (At next) offsets) (InBlocks first (next + 1)) old mid new
         (λ d. (
@@ -89,7 +106,8 @@ module _ (work : ℕ → Bool) (o n : ℕ) (some : 0 < n) where
               let (b, f, t, any) = block in
               ⊎_elim
               (λ under. inl (l, u, (b, f, under, any)))
-              (λ over. let e : b ≡ next = omega (arith, t, over) in inr (l, u, (let P : ℕ → Type 0 = λ z. Any (λ k. At z (offset_of k) d) offsets in subst P e any)))
+              (λ over. let e : b ≡ next = omega (arith, t, over) in
+              inr (l, u, (let P : ℕ → Type 0 = λ z. Any (λ k. At z (offset_of k) d) offsets in subst P e any)))
               (cases_lt b next)),
           λ s. ⊎_elim
               (λ h. (h.0, h.1, (h.2.0, h.2.1, omega (arith, h.2.2), h.2.3)))
@@ -99,9 +117,13 @@ module _ (work : ℕ → Bool) (o n : ℕ) (some : 0 < n) where
         before then
 
     -- the intervals from the one that the window begins in to the one that it ends in give all its counted days
-    pub blocks_all : (from to next : ℕ) → from ≤ low → high ≤ to + 1 → (work_days_before work to - work_days_before work o) / n + 1 ≤ next → (old new : List ℕ) → AddsDays (InBlocks ((work_days_before work from - work_days_before work o) / n) next) old new → AddsDays (IsInWindow low high (λ k d. IsCountedDay (Work o n) k work d) offsets) old new
+    pub blocks_all : (from to next : ℕ) → from ≤ low → high ≤ to + 1 →
+        (work_days_before work to - work_days_before work o) / n + 1 ≤ next →
+        (old new : List ℕ) → AddsDays (InBlocks ((work_days_before work from - work_days_before work o) / n) next)
+        old new → AddsDays (IsInWindow low high (λ k d. IsCountedDay (Work o n) k work d) offsets) old new
     blocks_all from to next begins ends past old new =
-        adds_same (InBlocks ((work_days_before work from - work_days_before work o) / n) next) (IsInWindow low high (λ k d. IsCountedDay (Work o n) k work d) offsets) old new
+        adds_same (InBlocks ((work_days_before work from - work_days_before work o) / n) next)
+        (IsInWindow low high (λ k d. IsCountedDay (Work o n) k work d) offsets) old new
         (λ d. (
           (λ (l, u, some_block).
               let (b, f, t, any) = some_block in
@@ -111,6 +133,14 @@ module _ (work : ℕ → Bool) (o n : ℕ) (some : 0 < n) where
               let early = work_days_before-mono work from d (omega (arith, l, begins)) in
               let late = work_days_before-mono work d to (omega (arith, u, ends)) in
               let first = div_rises (work_days_before work from - work_days_before work o) c n some (omega arith) in
-              let last = div_rises c (work_days_before work to - work_days_before work o) n some (omega arith) in
-              (l, u, (c / n, first, omega (arith, last, past), (any.0, any.1, any.2, any.3, counted_block (offset_of any.1) d any.4))),
+              let last = div_rises c (work_days_before work to - work_days_before work o) n some (omega arith) in (
+                l,
+                u,
+                (
+                  c / n,
+                  first,
+                  omega (arith, last, past),
+                  (any.0, any.1, any.2, any.3, counted_block (offset_of any.1) d any.4),
+                ),
+              ),
         ))

@@ -1,5 +1,6 @@
 -- Which occurrences the first namings of days and times give.
-use Rattle.std.proofs.Common.{◌≡◌, ℕ, zero, suc, ◌+◌, ◌<◌, ◌≤◌, ◌⊎◌, ◌↔◌, Bool, List, [], ◌∷◌, ◌++◌, Option, Some, None, length, get_or, inl, inr, ⊎_elim, sym, subst, ap, ◌∙◌, refl, arith}
+use Rattle.std.proofs.Common.{◌≡◌, ℕ, zero, suc, ◌+◌, ◌<◌, ◌≤◌, ◌⊎◌, ◌↔◌, Bool, List, [], ◌∷◌, ◌++◌, Option, Some}
+use Rattle.std.proofs.Common.{None, length, get_or, inl, inr, ⊎_elim, sym, subst, ap, ◌∙◌, refl, arith}
 use Rattle.std.specs.Prelude.{All, Any, Contains, IsSomeAnd}
 use Rattle.std.proofs.lemmas.Bool.{cases_lt}
 use Rattle.std.proofs.lemmas.List.{get_or_default}
@@ -12,8 +13,10 @@ use Rattle.run_cycles.specs.declared.named.Named.{Named}
 use Rattle.run_cycles.specs.declared.namings.Given.{Given}
 use Rattle.run_cycles.specs.declared.namings.Naming.{Naming}
 use Rattle.run_cycles.specs.NamedDay.{NamesDay}
-use Rattle.run_cycles.specs.Naming.{DecidesAt, GivesAtMost, InOrder, IsDecidedBefore, IsFirstAt, IsNamingOf, IsNamingWith, IsNotAfter, IsTogether, given_by, named_by}
-use Rattle.run_cycles.specs.Occurrence.{PeriodMap, HasDeadline, HaveOwnNames, IsEarlier, IsNameAtMost, IsNegative, IsNormal, IsOccurrence, IsOccurrenceBetween, ListsInOrder, NamesAt, TakesAt}
+use Rattle.run_cycles.specs.Naming.{DecidesAt, GivesAtMost, InOrder, IsDecidedBefore, IsFirstAt, IsNamingOf}
+use Rattle.run_cycles.specs.Naming.{IsNamingWith, IsNotAfter, IsTogether, given_by, named_by}
+use Rattle.run_cycles.specs.Occurrence.{PeriodMap, HasDeadline, HaveOwnNames, IsEarlier, IsNameAtMost, IsNegative}
+use Rattle.run_cycles.specs.Occurrence.{IsNormal, IsOccurrence, IsOccurrenceBetween, ListsInOrder, NamesAt, TakesAt}
 use Rattle.run_cycles.proofs.NameLemmas.{at_most_itself}
 use Rattle.run_cycles.proofs.OccurrenceLemmas.{one_occurrence}
 use Rattle.run_cycles.proofs.OrderLemmas.{lists_none, lists_push, lists_same}
@@ -22,7 +25,9 @@ none_some : {X : Type 0} (x : X) → ¬ (None ≡ Some x)
 none_some x e = cc
 
 -- a place that isn't the first of its day and time decides nothing
-pub not_first : (xs : List Naming) (n : ℕ) → n < length xs → ¬ ((j : ℕ) (z : Naming) → j + 1 ≡ n → ¬ (IsTogether (get_or xs j z) (get_or xs n z))) → (x : Named) → ¬ (DecidesAt xs n x)
+pub not_first : (xs : List Naming) (n : ℕ) → n < length xs →
+    ¬ ((j : ℕ) (z : Naming) → j + 1 ≡ n → ¬ (IsTogether (get_or xs j z) (get_or xs n z))) →
+    (x : Named) → ¬ (DecidesAt xs n x)
 not_first xs n in' later x (y, g, in2, first, given, is) =
     later (λ j z e same.
     let at-n : get_or xs n z ≡ y = get_or_default xs n z y in' ∙ first.0 in
@@ -30,7 +35,8 @@ not_first xs n in' later x (y, g, in2, first, given, is) =
     first.1 j e (subst (λ a. IsTogether a y) at-j (subst (λ b. IsTogether (get_or xs j z) b) at-n same)))
 
 -- what lies in a planned window is planned
-pub all_planned : (from to last : ℕ) → to ≤ last → (xs : List Naming) → ((x : Naming) → Contains xs x → (from ≤ x.day) × (x.day ≤ to)) → All (λ x. x.day ≤ last) xs
+pub all_planned : (from to last : ℕ) → to ≤ last → (xs : List Naming) →
+    ((x : Naming) → Contains xs x → (from ≤ x.day) × (x.day ≤ to)) → All (λ x. x.day ≤ last) xs
 all_planned from to last high xs within k d in' =
     let at = within (get_or xs k d) (k, in', get_or_default xs k _ d in') in
     omega (arith, at.1)
@@ -42,7 +48,8 @@ day_le a b h = ⊎_elim (λ l. omega (arith, l)) (λ p. let e = p.0 in omega ari
 
 time_le : (a b : Naming) → IsNotAfter a b → a.day ≡ b.day → a.time ≤ b.time
 time_le a b h same =
-    ⊎_elim (λ l. absurd (omega (arith, l, same))) (λ p. ⊎_elim (λ l. omega (arith, l)) (λ q. let e = q.0 in omega arith) p.1) h
+    ⊎_elim (λ l. absurd (omega (arith, l, same))) (λ p. ⊎_elim (λ l. omega (arith, l)) (λ q. let e =
+    q.0 in omega arith) p.1) h
 
 gives_le : (a b : Naming) → IsNotAfter a b → IsTogether a b → GivesAtMost a.given b.given
 gives_le a b h same =
@@ -73,7 +80,8 @@ together_or_not a b =
 
 module _ (xs : List Naming) (order : InOrder xs) where
   -- what stands before the first of a day and time is of an earlier one
-  pub before_first : (n : ℕ) (b : Naming) → IsFirstAt xs n b → n < length xs → (k : ℕ) (a : Naming) → get_or xs k a ≡ a → k < n → ¬ (IsTogether a b)
+  pub before_first : (n : ℕ) (b : Naming) → IsFirstAt xs n b →
+      n < length xs → (k : ℕ) (a : Naming) → get_or xs k a ≡ a → k < n → ¬ (IsTogether a b)
   before_first zero b first in' k a at less same = omega (arith, less)
   before_first (suc m) b first in' k a at less same =
       let c : Naming = get_or xs m b in
@@ -83,7 +91,8 @@ module _ (xs : List Naming) (order : InOrder xs) where
       let apart : ¬ (IsTogether c b) = first.1 m (omega arith) in
       ⊎_elim
       (λ (l : k < m).
-      let a-c : IsNotAfter a c = subst (λ y. IsNotAfter y c) (sym (get_or_default xs k a b (omega (arith, l, in'))) ∙ at) (order k m b l (omega (arith, in'))) in
+      let a-c : IsNotAfter a c = subst (λ y. IsNotAfter y c) (sym (get_or_default xs k a b (omega (arith, l, in'))) ∙
+      at) (order k m b l (omega (arith, in'))) in
       let day : c.day ≡ b.day = let d = same.0 in omega (arith, day_le a c a-c, day_le c b c-b) in
       let day-a : a.day ≡ c.day = same.0 ∙ sym day in
       let time : c.time ≡ b.time = let t = same.1 in omega (arith, time_le a c a-c day-a, time_le c b c-b day) in
@@ -95,13 +104,15 @@ module _ (xs : List Naming) (order : InOrder xs) where
       (cases_lt k m)
 
   -- the first of a day and time comes before all others of it
-  pub first_gives : (n : ℕ) (b : Naming) → IsFirstAt xs n b → n < length xs → (z : Naming) → Contains xs z → IsTogether b z → GivesAtMost b.given z.given
+  pub first_gives : (n : ℕ) (b : Naming) → IsFirstAt xs n b →
+      n < length xs → (z : Naming) → Contains xs z → IsTogether b z → GivesAtMost b.given z.given
   first_gives n b first in' z (k, in2, at) same =
       ⊎_elim
       (λ (l : k < n). absurd (before_first n b first in' k z at l (sym same.0, sym same.1)))
       (λ (g : n ≤ k). ⊎_elim
       (λ (l : n < k).
-      let b-z : IsNotAfter b z = subst (λ y. IsNotAfter b y) at (subst (λ y. IsNotAfter y (get_or xs k z)) (get_or_default xs n z b in' ∙ first.0) (order n k z l in2)) in
+      let b-z : IsNotAfter b z = subst (λ y. IsNotAfter b y) at
+      (subst (λ y. IsNotAfter y (get_or xs k z)) (get_or_default xs n z b in' ∙ first.0) (order n k z l in2)) in
       gives_le b z b-z same)
       (λ (g' : k ≤ n).
       let e : k ≡ n = omega (arith, g, g') in
@@ -110,22 +121,40 @@ module _ (xs : List Naming) (order : InOrder xs) where
       (cases_lt n k))
       (cases_lt k n)
 
-  pub first_is_later : (n : ℕ) (b : Naming) → IsFirstAt xs n b → n < length xs → (k : ℕ) (a : Naming) → get_or xs k a ≡ a → k < n → (a.day < b.day) ⊎ ((a.day ≡ b.day) × (a.time < b.time))
+  pub first_is_later : (n : ℕ) (b : Naming) → IsFirstAt xs n b →
+      n < length xs → (k : ℕ) (a : Naming) → get_or xs k a ≡ a →
+      k < n → (a.day < b.day) ⊎ ((a.day ≡ b.day) × (a.time < b.time))
   first_is_later n b first in' k a at less =
       let apart = before_first n b first in' k a at less in
-      let a-b : IsNotAfter a b = subst (λ y. IsNotAfter a y) first.0 (subst (λ y. IsNotAfter y (get_or xs n b)) (get_or_default xs k b a (omega (arith, less, in')) ∙ at) (order k n b less in')) in
+      let a-b : IsNotAfter a b = subst (λ y. IsNotAfter a y) first.0
+      (subst (λ y. IsNotAfter y (get_or xs n b)) (get_or_default xs k b a (omega (arith, less, in')) ∙
+      at) (order k n b less in')) in
       ⊎_elim (λ l. inl l) (λ p. inr (p.0, ⊎_elim (λ l. l) (λ q. absurd (apart (p.0, q.0))) p.1)) a-b
 
   -- each naming has a first of its day and time
-  pub first_of : (j : ℕ) (z : Naming) → j < length xs → get_or xs j z ≡ z → (k : ℕ) × (y : Naming) × (k < length xs) × IsFirstAt xs k y × IsTogether y z
+  pub first_of : (j : ℕ) (z : Naming) → j < length xs → get_or xs j z ≡ z →
+      (k : ℕ) × (y : Naming) × (k < length xs) × IsFirstAt xs k y × IsTogether y z
   first_of zero z in' at = (0, z, in', (at, λ j e. absurd (omega (arith, e))), (refl, refl))
   first_of (suc m) z in' at =
       ⊎_elim
       (λ same.
       let c : Naming = get_or xs m z in
-      let (k, y, in2, first, together) = first_of m c (omega (arith, in')) (get_or_default xs m c z (omega (arith, in'))) in
+      let (k, y, in2, first, together) = first_of m c (omega (
+        arith,
+        in',
+      )) (get_or_default xs m c z (omega (arith, in'))) in
       (k, y, in2, first, (together.0 ∙ same.0, together.1 ∙ same.1)))
-      (λ apart. (suc m, z, in', (at, λ j e h. apart (let is : j ≡ m = omega (arith, e) in subst (λ i. IsTogether (get_or xs i z) z) is h)), (refl, refl)))
+      (λ apart. (
+        suc m,
+        z,
+        in',
+        (
+          at,
+          λ j e h. apart (let is : j ≡ m =
+              omega (arith, e) in subst (λ i. IsTogether (get_or xs i z) z) is h),
+        ),
+        (refl, refl),
+      ))
       (together_or_not (get_or xs m z) z)
 
   -- ---- the list of what is decided
@@ -153,12 +182,19 @@ module _ (xs : List Naming) (order : InOrder xs) where
     λ s. ⊎_elim (λ (k, less, at). (k, omega (arith, less), at)) (λ at. (n, omega arith, at)) s,
   )
 
-  pub decided_stays : (n : ℕ) (list : List Named) → ((x : Named) → ¬ (DecidesAt xs n x)) → ListsInOrder (IsDecidedBefore xs n) list → ListsInOrder (IsDecidedBefore xs (n + 1)) list
+  pub decided_stays : (n : ℕ) (list : List Named) → ((x : Named) → ¬ (DecidesAt xs n x)) →
+      ListsInOrder (IsDecidedBefore xs n) list → ListsInOrder (IsDecidedBefore xs (n + 1)) list
   decided_stays n list none h =
       lists_same (IsDecidedBefore xs n) (IsDecidedBefore xs (n + 1)) list h
-      (λ x. ((λ b. (next_or_before n x).1 (inl b)), λ b. ⊎_elim (λ a. a) (λ d. absurd (none x d)) ((next_or_before n x).0 b)))
+      (λ x. (
+        (λ b. (next_or_before n x).1 (inl b)),
+        λ b. ⊎_elim
+            (λ a. a) (λ d. absurd (none x d)) ((next_or_before n x).0 b),
+      ))
 
-  pub decided_grows : (n : ℕ) (list : List Named) (new : Named) → DecidesAt xs n new → ((x : Named) → DecidesAt xs n x → new ≡ x) → ListsInOrder (IsDecidedBefore xs n) list → ListsInOrder (IsDecidedBefore xs (n + 1)) (list ++ new ∷ [])
+  pub decided_grows : (n : ℕ) (list : List Named) (new : Named) →
+      DecidesAt xs n new → ((x : Named) → DecidesAt xs n x → new ≡ x) →
+      ListsInOrder (IsDecidedBefore xs n) list → ListsInOrder (IsDecidedBefore xs (n + 1)) (list ++ new ∷ [])
   decided_grows n list new at only h =
       lists_push (IsDecidedBefore xs n) (IsDecidedBefore xs (n + 1)) list new h (decided_later n new at)
       (λ y. (
@@ -168,7 +204,8 @@ module _ (xs : List Naming) (order : InOrder xs) where
 
 -- ---- what run cycles give and take
 
-given_normal : (kind : CycleType) (name : List ℕ) (g : Given) → Some g ≡ given_by kind name → HasDeadline kind g.deadline × (g.run_cycle ≡ name)
+given_normal : (kind : CycleType) (name : List ℕ) (g : Given) →
+    Some g ≡ given_by kind name → HasDeadline kind g.deadline × (g.run_cycle ≡ name)
 given_normal (Normal own) name g e =
     let is : g ≡ record { run_cycle = name; deadline = own } = cc in
     (ap (λ h. h.deadline) is, ap (λ h. h.run_cycle) is)
@@ -178,31 +215,53 @@ taken_negative : (kind : CycleType) (name : List ℕ) → None ≡ given_by kind
 taken_negative (Normal own) name e = cc
 taken_negative (Negative own) name e = tt
 
-normal_at_most : (kind : CycleType) (name : List ℕ) (g : Given) → IsNormal kind → GivesAtMost (Some g) (given_by kind name) → IsNameAtMost g.run_cycle name
+normal_at_most : (kind : CycleType) (name : List ℕ) (g : Given) →
+    IsNormal kind → GivesAtMost (Some g) (given_by kind name) → IsNameAtMost g.run_cycle name
 normal_at_most (Normal own) name g n h = h
 normal_at_most (Negative own) name g n h = absurd n
 
-negative_first : (kind : CycleType) (name : List ℕ) (g : Given) → IsNegative kind → ¬ (GivesAtMost (Some g) (given_by kind name))
+negative_first : (kind : CycleType) (name : List ℕ) (g : Given) →
+    IsNegative kind → ¬ (GivesAtMost (Some g) (given_by kind name))
 negative_first (Normal own) name g n h = n
 negative_first (Negative own) name g n h = h
 
-naming_parts : (o : Option Period) (work : ℕ → Bool) (x : Naming) (c : RunCycle) → IsSomeAnd o (λ p. IsNamingWith p work x c) → (x.time ≡ c.ia) × (x.given ≡ given_by c.kind c.name) × IsSomeAnd o (λ p. NamesDay c p work x.day)
+naming_parts : (o : Option Period) (work : ℕ → Bool) (x : Naming) (c : RunCycle) →
+    IsSomeAnd o (λ p. IsNamingWith p work x c) → (x.time ≡ c.ia) ×
+    (x.given ≡ given_by c.kind c.name) × IsSomeAnd o (λ p. NamesDay c p work x.day)
 naming_parts None work x c h = absurd h
 naming_parts (Some p) work x c h = (h.0, h.1, h.2)
 
-parts_naming : (o : Option Period) (work : ℕ → Bool) (x : Naming) (c : RunCycle) → x.time ≡ c.ia → x.given ≡ given_by c.kind c.name → IsSomeAnd o (λ p. NamesDay c p work x.day) → IsSomeAnd o (λ p. IsNamingWith p work x c)
+parts_naming : (o : Option Period) (work : ℕ → Bool) (x : Naming) (c : RunCycle) →
+    x.time ≡ c.ia → x.given ≡ given_by c.kind c.name → IsSomeAnd o (λ p. NamesDay c p work x.day) →
+    IsSomeAnd o (λ p. IsNamingWith p work x c)
 parts_naming None work x c t g h = absurd h
 parts_naming (Some p) work x c t g h = (t, g, h)
 
-module _ (cycles : List RunCycle) (periods : PeriodMap) (work : ℕ → Bool) (from to : ℕ) (xs : List Naming) (order : InOrder xs) (each : (x : Naming) → Contains xs x ↔ ((from ≤ x.day) × (x.day ≤ to) × Any (IsNamingOf periods work x) cycles)) where
+module _ (cycles : List RunCycle) (periods : PeriodMap) (work : ℕ →
+    Bool) (from to : ℕ) (xs : List Naming) (order : InOrder xs) (each : (x : Naming) →
+    Contains xs x ↔ ((from ≤ x.day) × (x.day ≤ to) × Any (IsNamingOf periods work x) cycles)) where
   -- a run cycle that names a day and time stands in the list
-  stands : (c : RunCycle) (d t : ℕ) → Contains cycles c → from ≤ d → d ≤ to → NamesAt periods work d t c → Contains xs (record { day = d; time = t; given = given_by c.kind c.name })
+  stands : (c : RunCycle) (d t : ℕ) → Contains cycles c → from ≤ d →
+      d ≤ to → NamesAt periods work d t c → Contains xs (record { day = d; time = t; given = given_by c.kind c.name })
   stands c d t (k, in', at) low high names =
       let z : Naming = record { day = d; time = t; given = given_by c.kind c.name } in
-      (each z).1 (low, high, (k, c, in', at, parts_naming (map.get periods c.period) work z c (sym names.0) refl names.1))
+      (each z).1 (
+        low,
+        high,
+        (
+          k,
+          c,
+          in',
+          at,
+          parts_naming (map.get periods c.period) work z c
+              (sym names.0) refl names.1,
+        ),
+      )
 
   -- the occurrence that the first of a day and time gives
-  gives_occurrence : (k : ℕ) (y : Naming) (g : Given) → k < length xs → IsFirstAt xs k y → y.given ≡ Some g → IsOccurrenceBetween cycles periods work from (to + 1) (named_by y.day y.time g)
+  gives_occurrence : (k : ℕ) (y : Naming) (g : Given) → k < length xs →
+      IsFirstAt xs k y → y.given ≡ Some g → IsOccurrenceBetween cycles periods work from (to + 1)
+      (named_by y.day y.time g)
   gives_occurrence k y g in' first given =
       let here = (each y).0 (k, in', first.0) in
       let low : from ≤ y.day = here.0 in
@@ -210,10 +269,15 @@ module _ (cycles : List RunCycle) (periods : PeriodMap) (work : ℕ → Bool) (f
       let (i, c, in-c, at-c, naming) = here.2 in
       let parts = naming_parts (map.get periods c.period) work y c naming in
       let normal = given_normal c.kind c.name g (sym given ∙ parts.1) in
-      let reaches : (e : RunCycle) → Contains cycles e → NamesAt periods work y.day y.time e → GivesAtMost (Some g) (given_by e.kind e.name)
+      let reaches : (e : RunCycle) → Contains cycles e → NamesAt periods work y.day y.time e →
+      GivesAtMost (Some g) (given_by e.kind e.name)
       = λ e in-e names.
       subst (λ o. GivesAtMost o (given_by e.kind e.name)) given
-      (first_gives xs order k y first in' (record { day = y.day; time = y.time; given = given_by e.kind e.name }) (stands e y.day y.time in-e low high names) (refl, refl)) in (
+      (first_gives xs order k y first in' (record {
+        day = y.day;
+        time = y.time;
+        given = given_by e.kind e.name;
+      }) (stands e y.day y.time in-e low high names) (refl, refl)) in (
         low,
         omega (arith, high),
         record {
@@ -227,18 +291,26 @@ module _ (cycles : List RunCycle) (periods : PeriodMap) (work : ℕ → Bool) (f
         },
       )
 
-  decided_occurs : (x : Named) → IsDecidedBefore xs (length xs) x → IsOccurrenceBetween cycles periods work from (to + 1) x
+  decided_occurs : (x : Named) → IsDecidedBefore xs (length xs) x →
+      IsOccurrenceBetween cycles periods work from (to + 1) x
   decided_occurs x (k, less, by) =
       let (y, g, in', first, given, is) = by in
-      subst (λ z. IsOccurrenceBetween cycles periods work from (to + 1) z) (sym is) (gives_occurrence k y g in' first given)
+      subst (λ z. IsOccurrenceBetween cycles periods work from (to + 1) z)
+      (sym is) (gives_occurrence k y g in' first given)
 
   -- the first of an occurrence's day and time takes nothing away
-  not_taken : (x : Named) (y : Naming) → IsOccurrence cycles periods work x → Contains xs y → y.day ≡ x.day → y.time ≡ x.time → y.given ≡ None → ⊥
+  not_taken : (x : Named) (y : Naming) → IsOccurrence cycles periods work x →
+      Contains xs y → y.day ≡ x.day → y.time ≡ x.time → y.given ≡ None → ⊥
   not_taken x y occurs in' day time none =
       let (i, c, in-c, at-c, naming) = ((each y).0 in').2 in
       let parts = naming_parts (map.get periods c.period) work y c naming in
       let negative = taken_negative c.kind c.name (sym none ∙ parts.1) in
-      let names : NamesAt periods work x.day x.time c = (sym parts.0 ∙ time, let P : ℕ → Type 0 = λ d. IsSomeAnd (map.get periods c.period) (λ p. NamesDay c p work d) in subst P day parts.2) in
+      let names : NamesAt periods work x.day x.time c = (
+        sym parts.0 ∙
+            time,
+        let P : ℕ → Type 0 = λ d. IsSomeAnd (map.get periods c.period) (λ p. NamesDay c p work d) in
+            subst P day parts.2,
+      ) in
       let P : RunCycle → Type 0 = λ e. ¬ (TakesAt periods work x.day x.time e) in
       subst P at-c (occurs.kept i c in-c) (negative, names)
 
@@ -246,7 +318,8 @@ module _ (cycles : List RunCycle) (periods : PeriodMap) (work : ℕ → Bool) (f
   some_or_none None = inl refl
   some_or_none (Some g) = inr (g, refl)
 
-  occurs_decided : HaveOwnNames cycles → (x : Named) → IsOccurrenceBetween cycles periods work from (to + 1) x → IsDecidedBefore xs (length xs) x
+  occurs_decided : HaveOwnNames cycles → (x : Named) → IsOccurrenceBetween cycles periods work from (to + 1) x →
+      IsDecidedBefore xs (length xs) x
   occurs_decided own x (low, high, occurs) =
       let (i, c, in-c, at-c, by) = occurs.given in
       let (due, names, name) = by in
@@ -257,12 +330,15 @@ module _ (cycles : List RunCycle) (periods : PeriodMap) (work : ℕ → Bool) (f
       (λ none. absurd (not_taken x y occurs (k, in-k, first.0) same.0 same.1 none))
       (λ (g, given).
       let there = gives_occurrence k y g in-k first given in
-      let is : x ≡ named_by y.day y.time g = one_occurrence cycles periods work x (named_by y.day y.time g) own occurs there.2 (sym same.0) (sym same.1) in
+      let is : x ≡ named_by y.day y.time g = one_occurrence cycles periods work x
+      (named_by y.day y.time g) own occurs there.2 (sym same.0) (sym same.1) in
       (k, in-k, (y, g, in-k, first, given, is)))
       (some_or_none y.given)
 
   -- the list of what is decided is that of the occurrences
-  pub lists_decided : HaveOwnNames cycles → (list : List Named) → ListsInOrder (IsDecidedBefore xs (length xs)) list → ListsInOrder (IsOccurrenceBetween cycles periods work from (to + 1)) list
+  pub lists_decided : HaveOwnNames cycles → (list : List Named) →
+      ListsInOrder (IsDecidedBefore xs (length xs)) list → ListsInOrder
+      (IsOccurrenceBetween cycles periods work from (to + 1)) list
   lists_decided own list h =
       lists_same (IsDecidedBefore xs (length xs)) (IsOccurrenceBetween cycles periods work from (to + 1)) list h
       (λ x. (decided_occurs x, occurs_decided own x))

@@ -1,5 +1,6 @@
 -- What is gathered on a walk over the intervals that meet a range.
-use Rattle.std.proofs.Common.{◌≡◌, ℕ, zero, suc, ◌+◌, ◌*◌, ◌<◌, ◌≤◌, ◌⊎◌, ◌↔◌, ℤ, Bool, List, [], ◌∷◌, Some, None, length, get_or, inl, inr, ⊎_elim, sym, subst, refl, arith}
+use Rattle.std.proofs.Common.{◌≡◌, ℕ, zero, suc, ◌+◌, ◌*◌, ◌<◌, ◌≤◌, ◌⊎◌, ◌↔◌, ℤ, Bool, List, [], ◌∷◌, Some, None}
+use Rattle.std.proofs.Common.{length, get_or, inl, inr, ⊎_elim, sym, subst, refl, arith}
 use Rattle.std.proofs.Math.Nat.{mul-le-mul_right}
 use Rattle.std.specs.Prelude.{Contains}
 use Rattle.plan_periods.specs.declared.intervals.Interval.{Interval}
@@ -22,7 +23,8 @@ any_in P (x ∷ xs) (inr h) =
     let (y, (k, within, at), p) = any_in P xs h in
     (y, (suc k, omega (arith, within), at), p)
 
-in_any : (P : Interval → Type 0) (xs : List Interval) (x : Interval) (k : ℕ) → k < length xs → get_or xs k x ≡ x → P x → AnyIn P xs
+in_any : (P : Interval → Type 0) (xs : List Interval) (x : Interval) (k : ℕ) →
+    k < length xs → get_or xs k x ≡ x → P x → AnyIn P xs
 in_any P [] x k within at p = absurd (omega (arith, within))
 in_any P (y ∷ xs) x zero within at p = inl (subst P (sym at) p)
 in_any P (y ∷ xs) x (suc k) within at p = inr (in_any P xs x k (omega (arith, within)) at p)
@@ -32,10 +34,14 @@ abbrev pub IsGathering : (ℕ → Interval → Type 0) → List ℕ → List Int
 IsGathering G old whole days left =
     (d : ℕ) → (Contains days d ⊎ AnyIn (G d) left) ↔ (Contains old d ⊎ AnyIn (G d) whole)
 
-pub gathering_starts : (G : ℕ → Interval → Type 0) (old : List ℕ) (whole : List Interval) → IsGathering G old whole old whole
+pub gathering_starts : (G : ℕ → Interval → Type 0) (old : List ℕ) (whole : List Interval) →
+    IsGathering G old whole old whole
 gathering_starts G old whole d = ((λ h. h), λ h. h)
 
-pub gathering_goes_on : (G : ℕ → Interval → Type 0) (old : List ℕ) (whole : List Interval) (days new : List ℕ) (left after : List Interval) (x : Interval) → left ≡ x ∷ after → AddsDays (λ d. G d x) days new → IsGathering G old whole days left → IsGathering G old whole new after
+pub gathering_goes_on : (G : ℕ → Interval → Type 0) (old : List ℕ)
+    (whole : List Interval) (days new : List ℕ) (left after : List Interval) (x : Interval) →
+    left ≡ x ∷ after → AddsDays (λ d. G d x) days new → IsGathering G old whole days left →
+    IsGathering G old whole new after
 gathering_goes_on G old whole days new left after x e adds so d =
     let P : List Interval → Type 0 = λ l. (Contains days d ⊎ AnyIn (G d) l) ↔ (Contains old d ⊎ AnyIn (G d) whole) in
     let at = subst P e (so d) in (
@@ -43,7 +49,9 @@ gathering_goes_on G old whole days new left after x e adds so d =
       λ h. ⊎_elim (λ o. inl ((adds d).1 (inl o))) (λ s. ⊎_elim (λ g. inl ((adds d).1 (inr g))) (λ r. inr r) s) (at.1 h),
     )
 
-pub gathering_ends : (G : ℕ → Interval → Type 0) (old : List ℕ) (whole : List Interval) (days : List ℕ) (left : List Interval) → left ≡ [] → IsGathering G old whole days left → AddsDays (λ d. AnyIn (G d) whole) old days
+pub gathering_ends : (G : ℕ → Interval → Type 0) (old : List ℕ)
+    (whole : List Interval) (days : List ℕ) (left : List Interval) →
+    left ≡ [] → IsGathering G old whole days left → AddsDays (λ d. AnyIn (G d) whole) old days
 gathering_ends G old whole days left e so d =
     let P : List Interval → Type 0 = λ l. (Contains days d ⊎ AnyIn (G d) l) ↔ (Contains old d ⊎ AnyIn (G d) whole) in
     let at = subst P e (so d) in
@@ -60,7 +68,10 @@ abbrev pub Given : ℕ → ℕ → Rule → (ℕ → Bool) → List ℤ → ℕ 
 Given low high rule work offsets d i = IsInWindow low high (GivesIn rule work i.first i.last) offsets d
 
 -- the intervals of the walk give what those of the period give that meet the range
-pub walk_gives : (period : Period) (from to low high : ℕ) (rule : Rule) (work : ℕ → Bool) (offsets : List ℤ) (left : List Interval) → ListsMeeting period from to left → (d : ℕ) → AnyIn (Given low high rule work offsets d) left ↔ IsInWindow low high (GivesInMet period rule work from to) offsets d
+pub walk_gives : (period : Period) (from to low high : ℕ) (rule : Rule) (work : ℕ →
+    Bool) (offsets : List ℤ) (left : List Interval) → ListsMeeting period from to left →
+    (d : ℕ) → AnyIn (Given low high rule work offsets d) left ↔
+    IsInWindow low high (GivesInMet period rule work from to) offsets d
 walk_gives period from to low high rule work offsets left lists d = (
   (λ h.
       let (x, has, given) = any_in (Given low high rule work offsets d) left h in
@@ -79,7 +90,8 @@ walk_gives period from to low high rule work offsets left lists d = (
 
 -- ---- counts
 
-pub visits_some : (period : Period) (x : Interval) (before after : ℕ) → IsInterval period x.first x.last → CountsVisits period (Some x) before after → before + 1 ≤ after
+pub visits_some : (period : Period) (x : Interval) (before after : ℕ) →
+    IsInterval period x.first x.last → CountsVisits period (Some x) before after → before + 1 ≤ after
 visits_some (AllDays o n) x before after is h = omega (arith, h)
 visits_some (Work o n) x before after is h = absurd is
 visits_some (Listed entries) x before after is h = omega (arith, h.0)

@@ -13,13 +13,16 @@ use Rattle.run_cycles.proofs.Iff.{Any-weaker}
 use Rattle.run_cycles.specs.NamedDay.{GivesDay, IsShiftedDay}
 
 -- where the work days of intervals count alone, a day is given by an interval that counts it
-pub gives_counted : (period : Period) (work : ℕ → Bool) (d : ℕ) (k : Offset) → ((o n : ℕ) → ¬ (period ≡ Work o n)) → GivesDay period WorkDaysOnly work d k ≡ IsCountedInInterval period k work d
+pub gives_counted : (period : Period) (work : ℕ → Bool) (d : ℕ) (k : Offset) →
+    ((o n : ℕ) → ¬ (period ≡ Work o n)) → GivesDay period WorkDaysOnly work d k ≡ IsCountedInInterval period k work d
 gives_counted (Work o n) work d k no_work = absurd (no_work o n refl)
 gives_counted (AllDays o n) work d k no_work = refl
 gives_counted (Listed entries) work d k no_work = refl
 
 -- where offsets count all days, a day is given by a raw day that becomes it
-pub gives_shifted : (period : Period) (rule : Rule) (work : ℕ → Bool) (d : ℕ) (k : Offset) → ((o n : ℕ) → ¬ (period ≡ Work o n)) → ¬ (rule ≡ WorkDaysOnly) → GivesDay period rule work d k ≡ IsShiftedDay period rule work d k
+pub gives_shifted : (period : Period) (rule : Rule) (work : ℕ → Bool) (d : ℕ) (k : Offset) →
+    ((o n : ℕ) → ¬ (period ≡ Work o n)) → ¬ (rule ≡ WorkDaysOnly) →
+    GivesDay period rule work d k ≡ IsShiftedDay period rule work d k
 gives_shifted (Work o n) rule work d k no_work no_rule = absurd (no_work o n refl)
 gives_shifted (AllDays o n) WorkDaysOnly work d k no_work no_rule = absurd (no_rule refl)
 gives_shifted (AllDays o n) Before work d k no_work no_rule = refl
@@ -32,19 +35,25 @@ gives_shifted (Listed entries) After work d k no_work no_rule = refl
 gives_shifted (Listed entries) Same work d k no_work no_rule = refl
 gives_shifted (Listed entries) Skip work d k no_work no_rule = refl
 
-module _ (period : Period) (rule : Rule) (work : ℕ → Bool) (d low high : ℕ) (offsets : List ℤ) (no_work : (o n : ℕ) → ¬ (period ≡ Work o n)) (no_rule : ¬ (rule ≡ WorkDaysOnly)) (sources : (x : ℕ) → IsDay x → (IsShifted rule work x d ↔ ((low ≤ x) × (x ≤ high)))) where
+module _ (period : Period) (rule : Rule) (work : ℕ → Bool) (d low high : ℕ) (offsets : List ℤ) (no_work : (o n : ℕ) →
+    ¬ (period ≡ Work o n)) (no_rule : ¬ (rule ≡ WorkDaysOnly)) (sources : (x : ℕ) →
+    IsDay x → (IsShifted rule work x d ↔ ((low ≤ x) × (x ≤ high)))) where
   -- the days that raw days within the range give
-  pub given_from_raw : Any (λ k. IsRawDayWithin low high period (offset_of k)) offsets ↔ Any (λ k. GivesDay period rule work d (offset_of k)) offsets
+  pub given_from_raw : Any (λ k. IsRawDayWithin low high period (offset_of k)) offsets ↔
+      Any (λ k. GivesDay period rule work d (offset_of k)) offsets
   given_from_raw = (
-    Any-weaker (λ k. IsRawDayWithin low high period (offset_of k)) (λ k. GivesDay period rule work d (offset_of k)) offsets
+    Any-weaker (λ k. IsRawDayWithin low high period (offset_of k))
+        (λ k. GivesDay period rule work d (offset_of k)) offsets
         (λ k (x, from, to, raw).
         let P : Type 0 → Type 0 = λ T. T in
         let given : IsShiftedDay period rule work d (offset_of k) = (x, raw, (sources x raw.0).1 (from, to)) in
         subst P (sym (gives_shifted period rule work d (offset_of k) no_work no_rule)) given),
-    Any-weaker (λ k. GivesDay period rule work d (offset_of k)) (λ k. IsRawDayWithin low high period (offset_of k)) offsets
+    Any-weaker (λ k. GivesDay period rule work d (offset_of k))
+        (λ k. IsRawDayWithin low high period (offset_of k)) offsets
         (λ k h.
         let P : Type 0 → Type 0 = λ T. T in
-        let given : IsShiftedDay period rule work d (offset_of k) = subst P (gives_shifted period rule work d (offset_of k) no_work no_rule) h in
+        let given : IsShiftedDay period rule work d (offset_of k) =
+        subst P (gives_shifted period rule work d (offset_of k) no_work no_rule) h in
         let (x, raw, shifted) = given in
         let within = (sources x raw.0).0 shifted in
         (x, within.0, within.1, raw)),

@@ -1,5 +1,6 @@
 -- Days at offsets, as numbers before an end.
-use Rattle.std.proofs.Common.{◌≡◌, ℕ, ◌+◌, ◌<◌, ◌≤◌, ◌↔◌, Bool, IsTrue, Option, Some, None, IfSome, option_map, sym, subst, ◌∙◌, arith}
+use Rattle.std.proofs.Common.{◌≡◌, ℕ, ◌+◌, ◌<◌, ◌≤◌, ◌↔◌, Bool, IsTrue, Option, Some, None, IfSome, option_map, sym}
+use Rattle.std.proofs.Common.{subst, ◌∙◌, arith}
 use Rattle.work_calendars.specs.Day.{IsDay}
 use Rattle.run_cycles.specs.Offset.{Offset, FromFirst, FromLast}
 use Rattle.run_cycles.specs.RawDay.{IsDayAt}
@@ -10,7 +11,8 @@ below_end x None = ((λ h. tt), λ h. tt)
 below_end x (Some last) = ((λ h. omega (arith, h)), λ h. omega (arith, h))
 
 -- the day at an offset is the number there before the end of the interval
-pub place_is_day : (k : Offset) (first : ℕ) (last : Option ℕ) (x : ℕ) → IsPlaceAt k first (option_map (λ l. l + 1) last) x ↔ IsDayAt k first last x
+pub place_is_day : (k : Offset) (first : ℕ) (last : Option ℕ) (x : ℕ) →
+    IsPlaceAt k first (option_map (λ l. l + 1) last) x ↔ IsDayAt k first last x
 place_is_day (FromFirst k) first last x =
     ((λ h. (h.0, h.1, (below_end x last).1 h.2)), λ h. (h.0, h.1, (below_end x last).0 h.2))
 place_is_day (FromLast k) first None x = ((λ h. absurd h), λ h. absurd h)
@@ -24,13 +26,26 @@ none_some x e = cc
 
 module _ (k : Offset) (first low high : ℕ) (last : Option ℕ) where
   -- no number at the offset, so no day
-  pub none_within : (o : Option ℕ) → o ≡ None → ((x : ℕ) → IsPlaceAt k first (option_map (λ l. l + 1) last) x → o ≡ Some x) → ¬ (IsDayAtWithin low high k first last)
+  pub none_within : (o : Option ℕ) → o ≡ None → ((x : ℕ) → IsPlaceAt k first (option_map (λ l. l + 1) last) x →
+      o ≡ Some x) → ¬ (IsDayAtWithin low high k first last)
   none_within o none only h = none_some h.0 (sym none ∙ only h.0 ((place_is_day k first last h.0).1 h.4))
 
   -- the number at the offset is the day there, which lies in the range or doesn't
-  pub some_within : (o : Option ℕ) (x : ℕ) (b : Bool) → o ≡ Some x → IsPlaceAt k first (option_map (λ l. l + 1) last) x → ((y : ℕ) → IsPlaceAt k first (option_map (λ l. l + 1) last) y → o ≡ Some y) → IsDay low → IsDay high → (IsTrue b ↔ ((low ≤ x) × (x ≤ high))) → IsTrue b ↔ IsDayAtWithin low high k first last
+  pub some_within : (o : Option ℕ) (x : ℕ) (b : Bool) → o ≡ Some x →
+      IsPlaceAt k first (option_map (λ l. l + 1) last) x → ((y : ℕ) →
+      IsPlaceAt k first (option_map (λ l. l + 1) last) y → o ≡ Some y) →
+      IsDay low → IsDay high → (IsTrue b ↔ ((low ≤ x) × (x ≤ high))) → IsTrue b ↔ IsDayAtWithin low high k first last
   some_within o x b is at only in_low in_high says = (
-    (λ t. let within = says.0 t in (x, within.0, within.1, (omega (arith, within.0, in_low), omega (arith, within.1, in_high)), (place_is_day k first last x).0 at)),
+    (λ t. let within = says.0 t in (
+      x,
+      within.0,
+      within.1,
+      (
+        omega (arith, within.0, in_low),
+        omega (arith, within.1, in_high),
+      ),
+      (place_is_day k first last x).0 at,
+    )),
     λ h.
         let same : x ≡ h.0 = same_some x h.0 (sym is ∙ only h.0 ((place_is_day k first last h.0).1 h.4)) in
         says.1 (subst (λ y. (low ≤ y) × (y ≤ high)) (sym same) (h.1, h.2)),

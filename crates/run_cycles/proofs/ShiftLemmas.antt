@@ -1,5 +1,6 @@
 -- Which raw days become a given day.
-use Rattle.std.proofs.Common.{◌≡◌, ℕ, ◌<◌, ◌≤◌, ◌↔◌, Bool, true, false, MatchBool, IsTrue, IsFalse, refl, sym, subst, arith}
+use Rattle.std.proofs.Common.{◌≡◌, ℕ, ◌<◌, ◌≤◌, ◌↔◌, Bool, true, false, MatchBool, IsTrue, IsFalse, refl, sym, subst}
+use Rattle.std.proofs.Common.{arith}
 use Rattle.work_calendars.specs.WorkDay.{IsNextWorkDay, IsPreviousWorkDay}
 use Rattle.run_cycles.specs.declared.rules.Rule.{Rule}
 use Rattle.run_cycles.specs.declared.rules.Rule.TheVariants.{WorkDaysOnly, Before, After, Same, Skip}
@@ -22,7 +23,9 @@ clash b p q = cc
 
 -- from the work day d up to the day before e, each day becomes d by rule 1: e is the next work day,
 -- or there is none, and each day is before e
-pub shifted_before : (work : ℕ → Bool) (d e x : ℕ) → IsTrue (work d) → d < e → ((y : ℕ) → d < y → y < e → IsFalse (work y)) → (e ≤ x → IsTrue (work e)) → (IsShifted Before work x d ↔ ((d ≤ x) × (x < e)))
+pub shifted_before : (work : ℕ → Bool) (d e x : ℕ) → IsTrue (work d) →
+    d < e → ((y : ℕ) → d < y → y < e → IsFalse (work y)) → (e ≤ x → IsTrue (work e)) →
+    (IsShifted Before work x d ↔ ((d ≤ x) × (x < e)))
 shifted_before work d e x on lt none ends =
     elim (work x) as (λ b. work x ≡ b → (MatchBool b (d ≡ x) (IsPreviousWorkDay work x d) ↔ ((d ≤ x) × (x < e)))) [
       | true ↦ λ is.
@@ -45,7 +48,9 @@ shifted_before work d e x on lt none ends =
 
 -- from the day after e up to the work day d, each day becomes d by rule 2: e is the work day before d,
 -- or there is none, and each day is after e
-pub shifted_after : (work : ℕ → Bool) (d e x : ℕ) → IsTrue (work d) → e < d → ((y : ℕ) → e < y → y < d → IsFalse (work y)) → (x ≤ e → IsTrue (work e)) → (IsShifted After work x d ↔ ((e < x) × (x ≤ d)))
+pub shifted_after : (work : ℕ → Bool) (d e x : ℕ) → IsTrue (work d) →
+    e < d → ((y : ℕ) → e < y → y < d → IsFalse (work y)) → (x ≤ e → IsTrue (work e)) →
+    (IsShifted After work x d ↔ ((e < x) × (x ≤ d)))
 shifted_after work d e x on lt none ends =
     elim (work x) as (λ b. work x ≡ b → (MatchBool b (d ≡ x) (IsNextWorkDay work x d) ↔ ((e < x) × (x ≤ d)))) [
       | true ↦ λ is.
@@ -80,17 +85,22 @@ alone work d x on =
     elim (work x) as (λ b. work x ≡ b → (MatchBool b (d ≡ x) ⊥ ↔ ((d ≤ x) × (x ≤ d)))) [
       | true ↦ λ is. ((λ same. (omega arith, omega arith)), λ within. omega (arith, within.0, within.1))
       | false ↦ λ is.
-          let P : ℕ → Type 0 = λ n. IsTrue (work n) in
-          ((λ h. absurd h), λ within. clash (work x) (let same : d ≡ x = omega (arith, within.0, within.1) in subst P same on) is)
+          let P : ℕ → Type 0 = λ n. IsTrue (work n) in (
+            (λ h. absurd h),
+            λ within. clash (work x) (let same : d ≡ x =
+                omega (arith, within.0, within.1) in subst P same on) is,
+          )
     ] refl
 
 pub shifted_skip : (work : ℕ → Bool) (d x : ℕ) → IsTrue (work d) → (IsShifted Skip work x d ↔ ((d ≤ x) × (x ≤ d)))
 shifted_skip work d x on = alone work d x on
 
-pub shifted_work_days_only : (work : ℕ → Bool) (d x : ℕ) → IsTrue (work d) → (IsShifted WorkDaysOnly work x d ↔ ((d ≤ x) × (x ≤ d)))
+pub shifted_work_days_only : (work : ℕ → Bool) (d x : ℕ) → IsTrue (work d) →
+    (IsShifted WorkDaysOnly work x d ↔ ((d ≤ x) × (x ≤ d)))
 shifted_work_days_only work d x on = alone work d x on
 
-shifted_from_work : (work : ℕ → Bool) (d x : ℕ) (Moved : Type 0) → (Moved → IsTrue (work d)) → MatchBool (work x) (d ≡ x) Moved → IsTrue (work d)
+shifted_from_work : (work : ℕ → Bool) (d x : ℕ) (Moved : Type 0) →
+    (Moved → IsTrue (work d)) → MatchBool (work x) (d ≡ x) Moved → IsTrue (work d)
 shifted_from_work work d x Moved moved =
     elim (work x) as (λ b. work x ≡ b → MatchBool b (d ≡ x) Moved → IsTrue (work d)) [
       | true ↦ λ is h. let P : ℕ → Type 0 = λ n. IsTrue (work n) in subst P (sym h) is
@@ -98,7 +108,8 @@ shifted_from_work work d x Moved moved =
     ] refl
 
 -- by every other rule only work days are named
-pub shifted_is_work : (rule : Rule) (work : ℕ → Bool) (d x : ℕ) → ¬ (rule ≡ Same) → IsShifted rule work x d → IsTrue (work d)
+pub shifted_is_work : (rule : Rule) (work : ℕ → Bool) (d x : ℕ) →
+    ¬ (rule ≡ Same) → IsShifted rule work x d → IsTrue (work d)
 shifted_is_work WorkDaysOnly work d x other h = shifted_from_work work d x _ (λ m. absurd m) h
 shifted_is_work Before work d x other h = shifted_from_work work d x (IsPreviousWorkDay work x d) (λ m. m.is_work) h
 shifted_is_work After work d x other h = shifted_from_work work d x (IsNextWorkDay work x d) (λ m. m.is_work) h

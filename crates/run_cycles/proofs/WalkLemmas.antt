@@ -19,14 +19,17 @@ holds_day (FromFirst k) first end x h = (omega (arith, h.0, h.1), h.2)
 holds_day (FromLast k) first (Some last) x h = (h.1, omega (arith, h.0, h.2))
 holds_day (FromLast k) first None x h = absurd h
 
-pub holds_work_day : (k : Offset) (work : ℕ → Bool) (first : ℕ) (end : Option ℕ) (d : ℕ) → IsWorkDayAt work k first end d → HoldsDay first end d
+pub holds_work_day : (k : Offset) (work : ℕ → Bool) (first : ℕ) (end : Option ℕ) (d : ℕ) →
+    IsWorkDayAt work k first end d → HoldsDay first end d
 holds_work_day (FromFirst k) work first end d h = h.1
 holds_work_day (FromLast k) work first (Some last) d h = h.1
 holds_work_day (FromLast k) work first None d h = absurd h
 
-module _ (period : Period) (low high : ℕ) (offsets : List ℤ) (left : List Interval) (lists : ListsMeeting period low high left) where
+module _ (period : Period) (low high : ℕ) (offsets : List ℤ)
+    (left : List Interval) (lists : ListsMeeting period low high left) where
   -- an offset has a day within the range in one of the intervals of the walk, where it has one in any of the period
-  pub raw_by_walk : Any (λ i. Any (λ k. IsDayAtWithin low high (offset_of k) i.first i.last) offsets) left ↔ Any (λ k. IsRawDayWithin low high period (offset_of k)) offsets
+  pub raw_by_walk : Any (λ i. Any (λ k. IsDayAtWithin low high (offset_of k) i.first i.last) offsets) left ↔
+      Any (λ k. IsRawDayWithin low high period (offset_of k)) offsets
   raw_by_walk = (
     (λ h.
         let (n, i, within, at, any) = h in
@@ -46,9 +49,11 @@ module _ (period : Period) (low high : ℕ) (offsets : List ℤ) (left : List In
 itself : (d : ℕ) → d ≤ d
 itself d = omega arith
 
-module _ (period : Period) (work : ℕ → Bool) (d : ℕ) (offsets : List ℤ) (left : List Interval) (lists : ListsMeeting period d d left) where
+module _ (period : Period) (work : ℕ → Bool) (d : ℕ) (offsets : List ℤ)
+    (left : List Interval) (lists : ListsMeeting period d d left) where
   -- an offset counts the day in one of the intervals of the walk, where it counts it in any of the period
-  pub counted_by_walk : Any (λ i. Any (λ k. IsWorkDayAt work (offset_of k) i.first i.last d) offsets) left ↔ Any (λ k. IsCountedInInterval period (offset_of k) work d) offsets
+  pub counted_by_walk : Any (λ i. Any (λ k. IsWorkDayAt work (offset_of k) i.first i.last d) offsets) left ↔
+      Any (λ k. IsCountedInInterval period (offset_of k) work d) offsets
   counted_by_walk = (
     (λ h.
         let (n, i, within, at, any) = h in
@@ -58,6 +63,14 @@ module _ (period : Period) (work : ℕ → Bool) (d : ℕ) (offsets : List ℤ) 
         let (j, k, inside, there, found) = h in
         let (first, end, interval, is) = found in
         let i : Interval = record { first = first; last = end } in
-        let (n, within, at) = (lists.each i).1 (interval, (d, holds_work_day (offset_of k) work first end d is, itself d, itself d)) in
+        let (n, within, at) = (lists.each i).1 (
+          interval,
+          (
+            d,
+            holds_work_day (offset_of k) work first end d is,
+            itself d,
+            itself d,
+          ),
+        ) in
         (n, i, within, at, (j, k, inside, there, is)),
   )

@@ -18,7 +18,8 @@ pub record Jump : Type 0 where
   pub asked : ℕ
 
 -- the list has the days from `from` to `to` that the run cycle, with this period, names, rising, each once
-pub record ListsNamedDays (cycle : RunCycle) (period : Period) (work : ℕ → Bool) (from to : ℕ) (list : List ℕ) : Type 0 where
+pub record ListsNamedDays (cycle : RunCycle) (period : Period) (work : ℕ →
+    Bool) (from to : ℕ) (list : List ℕ) : Type 0 where
   pub exactly : (d : ℕ) → Contains list d ↔ ((from ≤ d) × (d ≤ to) × NamesDay cycle period work d)
   pub rising : AllPairs (λ a b. a < b) list
 

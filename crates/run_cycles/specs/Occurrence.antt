@@ -1,5 +1,6 @@
 -- Named occurrences: the days and times at which an application's run cycles name it, with run cycle and deadline.
-use Rattle.std.specs.Prelude.{◌≡◌, ◌≢◌, ℕ, ◌+◌, ◌<◌, ◌≤◌, ◌⊎◌, ◌↔◌, Bool, IsFalse, List, IsSomeAnd, Any, All, AllPairs, Contains}
+use Rattle.std.specs.Prelude.{◌≡◌, ◌≢◌, ℕ, ◌+◌, ◌<◌, ◌≤◌, ◌⊎◌, ◌↔◌, Bool, IsFalse, List, IsSomeAnd, Any, All}
+use Rattle.std.specs.Prelude.{AllPairs, Contains}
 use Rattle.std.specs.Ordering.{nat_cmp, is_gt}
 use Rattle.std.specs.Cmp.Lexicographic.{slice_cmp}
 use Rattle.std.specs.FinMap as map
@@ -59,8 +60,8 @@ IsGivenBy periods work x cycle =
     × NamesAt periods work x.day x.time cycle
     × (x.run_cycle ≡ cycle.name)
 
--- the run cycles name the occurrence: one of type N gives it, none of those that name its day and time has a lesser name,
--- and none of type X names its day and time
+-- the run cycles name the occurrence: one of type N gives it, none of those that name its day and time has a lesser
+-- name, and none of type X names its day and time
 pub record IsOccurrence (cycles : List RunCycle) (periods : PeriodMap) (work : ℕ → Bool) (x : Named) : Type 0 where
   pub given : Any (IsGivenBy periods work x) cycles
   pub least : All (λ cycle. GivesAt periods work x.day x.time cycle → IsNameAtMost x.run_cycle cycle.name) cycles

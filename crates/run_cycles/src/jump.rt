@@ -1,4 +1,5 @@
-ghost use Rattle.std.specs.Prelude.{◌≡◌, ℕ, ◌↔◌, ◌+◌, ◌*◌, ◌^◌, ◌<◌, ◌≤◌, Some, Any, IfOk, IfSome, OnOk, All, length, option_map, [], ◌∷◌, MatchOption};
+ghost use Rattle.std.specs.Prelude.{◌≡◌, ℕ, ◌↔◌, ◌+◌, ◌*◌, ◌^◌, ◌<◌, ◌≤◌, Some, Any, IfOk, IfSome, OnOk, All, length};
+ghost use Rattle.std.specs.Prelude.{option_map, [], ◌∷◌, MatchOption};
 ghost use Rattle.work_calendars.specs.WorkDay.{work_days_before};
 ghost use Rattle.work_calendars.specs.WorkIndex.{is_work_in};
 ghost use Rattle.plan_periods.specs.Period.{IsIntervalLength, IsSoundPeriod};
@@ -8,7 +9,8 @@ ghost use Rattle.run_cycles.specs.CountedDay.{IsCountedDay};
 ghost use Rattle.run_cycles.specs.Jump.{IsAfterPreviousWork, IsBeforeNextWork, IsRawRange};
 ghost use Rattle.run_cycles.specs.NamedDay.{IsValidOn};
 ghost use Rattle.run_cycles.specs.Offset.{IsOffset, offset_of};
-ghost use Rattle.run_cycles.specs.Searches.{AddsDays, AsksAtMost, GivesPlace, GivesIn, GivesInMet, IsGivenAt, IsInWindow, questions_of};
+ghost use Rattle.run_cycles.specs.Searches.{AddsDays, AsksAtMost, GivesPlace, GivesIn, GivesInMet, IsGivenAt};
+ghost use Rattle.run_cycles.specs.Searches.{IsInWindow, questions_of};
 ghost use Rattle.run_cycles.specs.Searches.{AddsWithin, KeepsWithin, reach_of};
 ghost use Rattle.run_cycles.specs.Shift.{IsMoved};
 ghost use Rattle.run_cycles.specs.declared.rules.Rule.TheVariants.{WorkDaysOnly};
@@ -146,7 +148,8 @@ fn push_days(
     requires start { start < 2 ^ 32 }
     requires offsets { All IsOffset offsets.now }
     ensures days { OnOk result (AddsDays
-        (IsInWindow window.now.low window.now.high (IsGivenAt rule (is_work_in index.old.statuses) start end) offsets.now)
+        (IsInWindow window.now.low window.now.high
+        (IsGivenAt rule (is_work_in index.old.statuses) start end) offsets.now)
         days.old.items days.new.items) }
     ensures asked { OnOk result (AsksAtMost (length offsets.now * questions_of rule) index.old index.new) }
 {
@@ -374,8 +377,8 @@ impl<'a> JumpDays<'a> {
     ghost use Rattle.std.specs.Prelude.{◌≡◌, AllPairs, Contains};
     ghost use Rattle.run_cycles.specs.Jump.{AsksFew, ListsNamedDays, WalksRawRange};
 
-    /// The days from `from` to `to` that the run cycle names, whose period this is; none where `to` is before `from`. The
-    /// index is handed in with no question asked.
+    /// The days from `from` to `to` that the run cycle names, whose period this is; none where `to` is before `from`.
+    /// The index is handed in with no question asked.
     pub fn new(
         alloc: Global,
         cycle: &RunCycle,

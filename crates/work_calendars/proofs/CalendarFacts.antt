@@ -14,10 +14,13 @@ module _ {X : Type 0} where
   lookup-find q [] = refl
   lookup-find q (e ∷ es) = ap (cond (is_eq (nat_cmp q e.0)) (Some e.1)) (lookup-find q es)
 
-  pub lookup-listed : (q : ℕ) (es : List (ℕ × X)) → lookup (is_at (nat_cmp q)) es ≡ map.get (map.from_entries {R = nat_cmp} es) q
+  pub lookup-listed : (q : ℕ) (es : List (ℕ × X)) → lookup (is_at (nat_cmp q)) es ≡ map.get (map.from_entries {R =
+      nat_cmp} es) q
   lookup-listed q es = lookup-find q es ∙ sym (get-from_entries nat_cmp_total es q)
 
-  pub listed_after_insert : (es fs : List (ℕ × X)) (k : ℕ) (v : X) → ((q : ℕ) → lookup (is_at (nat_cmp q)) fs ≡ cond (is_at (nat_cmp k) q) (Some v) (lookup (is_at (nat_cmp q)) es)) → map.from_entries {R = nat_cmp} fs ≡ map.insert (map.from_entries es) k v
+  pub listed_after_insert : (es fs : List (ℕ × X)) (k : ℕ) (v : X) →
+      ((q : ℕ) → lookup (is_at (nat_cmp q)) fs ≡ cond (is_at (nat_cmp k) q) (Some v) (lookup (is_at (nat_cmp q)) es)) →
+      map.from_entries {R = nat_cmp} fs ≡ map.insert (map.from_entries es) k v
   listed_after_insert es fs k v h =
       same_map nat_cmp_total nat_cmp-IsAntisymmetric _ _ (λ q.
       sym (lookup-listed q fs) ∙ h q

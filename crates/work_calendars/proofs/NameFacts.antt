@@ -1,5 +1,6 @@
 -- Names are ASCII, and how one is put into an array.
-use Rattle.std.proofs.Common.{◌≡◌, ◌⊎◌, inl, inr, sym, ap, subst, ◌∙◌, ℕ, ◌-◌, ◌<◌, ◌≤◌, List, ◌++◌, take, drop, length, IsTrue, slice_index, arith, length-append}
+use Rattle.std.proofs.Common.{◌≡◌, ◌⊎◌, inl, inr, sym, ap, subst, ◌∙◌, ℕ, ◌-◌, ◌<◌, ◌≤◌, List, ◌++◌, take, drop}
+use Rattle.std.proofs.Common.{length, IsTrue, slice_index, arith, length-append}
 use Rattle.std.specs.Str.{IsUtf8}
 use Rattle.std.specs.List.{All}
 use Rattle.std.proofs.Math.ListN.{replicate, length-replicate}
@@ -14,7 +15,8 @@ ascii : (b : ℕ) → IsTrue (is_name_byte b) → b < 128
 unfolding is_name_byte
 ascii b h = grind (arith, nat_tests)
 
-ascii_at : (name : List ℕ) → All (λ b. IsTrue (is_name_byte b)) name → (i : ℕ) → (i < length name) ⊎ (length name ≤ i) → slice_index name i < 128
+ascii_at : (name : List ℕ) → All (λ b. IsTrue (is_name_byte b)) name →
+    (i : ℕ) → (i < length name) ⊎ (length name ≤ i) → slice_index name i < 128
 ascii_at name all i (inl h) = ascii _ (all i 0 h)
 ascii_at name all i (inr h) =
     let e : slice_index name i ≡ 0 = get_or_past name i 0 h in
@@ -24,7 +26,8 @@ pub IsUtf8-name : (longest : ℕ) (name : List ℕ) → IsNameWithin longest nam
 IsUtf8-name longest name h =
     IsUtf8-from_ascii name (λ i. ascii_at name h.alphabet i (cases_lt i (length name)))
 
-held : (size : ℕ) (name : List ℕ) → IsNameWithin size name → HoldsName size (name ++ replicate (size - length name) 0) (length name)
+held : (size : ℕ) (name : List ℕ) → IsNameWithin size name →
+    HoldsName size (name ++ replicate (size - length name) 0) (length name)
 held size name h =
     let first : take (length name) (name ++ replicate (size - length name) 0) ≡ name = take-append_seam name _ in
     let fits : length name ≤ size = h.fits in
@@ -35,8 +38,11 @@ held size name h =
       named = subst (IsNameWithin size) (sym first) h;
     }
 
-pub HoldsName-copied : (size : ℕ) (name copied zeros : List ℕ) → IsNameWithin size name → copied ≡ name → zeros ≡ replicate size 0 → HoldsName size (copied ++ drop (length name) zeros) (length name)
+pub HoldsName-copied : (size : ℕ) (name copied zeros : List ℕ) →
+    IsNameWithin size name → copied ≡ name → zeros ≡ replicate size 0 →
+    HoldsName size (copied ++ drop (length name) zeros) (length name)
 HoldsName-copied size name copied zeros h e z =
     let same : name ++ replicate (size - length name) 0 ≡ copied ++ drop (length name) zeros
-    = sym (ap (λ s. s ++ drop (length name) zeros) e ∙ ap (λ s. name ++ drop (length name) s) z ∙ ap (λ s. name ++ s) (drop-replicate (length name) size 0)) in
+    = sym (ap (λ s. s ++ drop (length name) zeros) e ∙ ap (λ s. name ++ drop (length name) s) z ∙
+    ap (λ s. name ++ s) (drop-replicate (length name) size 0)) in
     subst (λ bytes. HoldsName size bytes (length name)) same (held size name h)

@@ -1,5 +1,6 @@
 -- What is spelled is read, and only that.
-use Rattle.std.proofs.Common.{true, false, ◌≡◌, inl, sym, ap, subst, ◌∙◌, refl, ℕ, ◌+◌, ◌-◌, ◌*◌, ◌/◌, ◌%◌, ◌<◌, ◌≤◌, List, [], ◌∷◌, ◌++◌, take, drop, length, slice_index, ℤ, pos, negsuc, ◌≤ℤ◌, arith}
+use Rattle.std.proofs.Common.{true, false, ◌≡◌, inl, sym, ap, subst, ◌∙◌, refl, ℕ, ◌+◌, ◌-◌, ◌*◌, ◌/◌, ◌%◌, ◌<◌, ◌≤◌}
+use Rattle.std.proofs.Common.{List, [], ◌∷◌, ◌++◌, take, drop, length, slice_index, ℤ, pos, negsuc, ◌≤ℤ◌, arith}
 use Rattle.std.specs.Prelude.{nat_eq}
 use Rattle.std.specs.Cmp.Lexicographic.{pointwise, bytes_decides}
 use Rattle.std.proofs.lemmas.Int.{by_lt_z}
@@ -14,14 +15,22 @@ use Rattle.work_calendars.specs.Day.{IsDay, first_day, last_day}
 use Rattle.std.proofs.Common.{length-append}
 use Rattle.std.proofs.Common.{append_assoc, slice_set, length-drop}
 use Rattle.std.proofs.Math.ListN.{drop_of_length-le}
-use Rattle.std.proofs.Math.Seq.{take-append_seam, take-append-add, drop-append-add, get_or-append_seam, set-append_seam, drop-cons, take-length}
+use Rattle.std.proofs.Math.Seq.{take-append_seam, take-append-add, drop-append-add, get_or-append_seam}
+use Rattle.std.proofs.Math.Seq.{set-append_seam, drop-cons, take-length}
 use Rattle.std.proofs.lemmas.List.{take-append-drop, append-nil}
 use Rattle.work_calendars.specs.Moment.{day_of_moment, minute_of_moment}
 use Rattle.work_calendars.specs.Spelling.{digit, date_spelling, clock_spelling, SpellsDay, SpellsMinute, SpellsMoment}
 
 epoch : Date
 epoch =
-    record { year = pos 1970; month = 1; day = 1; year_in = omega (arith, signed_arith); month_in = omega arith; day_in = omega arith }
+    record {
+      year = pos 1970;
+      month = 1;
+      day = 1;
+      year_in = omega (arith, signed_arith);
+      month_in = omega arith;
+      day_in = omega arith;
+    }
 
 -- a date on or after the epoch has a year that is no negative number
 pub natural_year : (date : Date) (day : ℕ) → epoch_day date ≡ pos day → pos 0 ≤ℤ date.year
@@ -38,7 +47,8 @@ day_number (pos n) a b =
     (n, (omega (arith, signed_arith), omega (arith, signed_arith)), refl)
 day_number (negsuc n) a b = absurd (omega (arith, signed_arith))
 
-pub day_number-epoch_day : (date : Date) (z : ℤ) → pos first_day ≤ℤ z → z ≤ℤ pos last_day → z ≡ epoch_day date → (d : ℕ) × IsDay d × (epoch_day date ≡ pos d)
+pub day_number-epoch_day : (date : Date) (z : ℤ) → pos first_day ≤ℤ z →
+    z ≤ℤ pos last_day → z ≡ epoch_day date → (d : ℕ) × IsDay d × (epoch_day date ≡ pos d)
 day_number-epoch_day date z a b e =
     let n = day_number z a b in
     (n.0, n.1, sym e ∙ n.2)
@@ -74,7 +84,9 @@ SpellsDay-one_text s t day p q =
 same_two : (m n : ℕ) → m < 100 → n < 100 → digit (m / 10) ≡ digit (n / 10) → digit (m % 10) ≡ digit (n % 10) → m ≡ n
 same_two m n a b tens ones = omega arith
 
-same_four : (m n : ℕ) → m < 10000 → n < 10000 → digit (m / 1000) ≡ digit (n / 1000) → digit (m / 100 % 10) ≡ digit (n / 100 % 10) → digit (m / 10 % 10) ≡ digit (n / 10 % 10) → digit (m % 10) ≡ digit (n % 10) → m ≡ n
+same_four : (m n : ℕ) → m < 10000 → n < 10000 → digit (m / 1000) ≡ digit (n / 1000) →
+    digit (m / 100 % 10) ≡ digit (n / 100 % 10) → digit (m / 10 % 10) ≡ digit (n / 10 % 10) →
+    digit (m % 10) ≡ digit (n % 10) → m ≡ n
 same_four m n a b p q r s = omega arith
 
 pub SpellsDay-one_day : (text : List ℕ) (c d : ℕ) → SpellsDay text c → SpellsDay text d → c ≡ d
@@ -83,9 +95,11 @@ SpellsDay-one_day text c d p q =
     = sym p.text_is ∙ q.text_is in
     let pf = days_fit text c p in
     let qf = days_fit text d q in
-    let at : (k : ℕ) → slice_index (date_spelling p.year p.date.month p.date.day) k ≡ slice_index (date_spelling q.year q.date.month q.date.day) k
+    let at : (k : ℕ) → slice_index (date_spelling p.year p.date.month p.date.day) k ≡ slice_index
+    (date_spelling q.year q.date.month q.date.day) k
     = λ k. ap (λ s. slice_index s k) e in
-    let year : p.year ≡ q.year = same_four p.year q.year (year_fits text c p) (year_fits text d q) (at 0) (at 1) (at 2) (at 3) in
+    let year : p.year ≡ q.year = same_four p.year q.year (year_fits text c p)
+    (year_fits text d q) (at 0) (at 1) (at 2) (at 3) in
     let month : p.date.month ≡ q.date.month = same_two _ _ pf.0 qf.0 (at 5) (at 6) in
     let day : p.date.day ≡ q.date.day = same_two _ _ pf.1 qf.1 (at 8) (at 9) in
     let number : epoch_day p.date ≡ epoch_day q.date
@@ -99,7 +113,8 @@ length-SpellsDay text day s = ap length s.text_is
 
 -- v is the number that the two digits at that place spell, if they do
 abbrev pub ReadsTwo : List ℕ → ℕ → ℕ → Type 0
-ReadsTwo text at v = (n : ℕ) → n < 100 → slice_index text at ≡ digit (n / 10) → slice_index text (at + 1) ≡ digit (n % 10) → v ≡ n
+ReadsTwo text at v = (n : ℕ) → n < 100 → slice_index text at ≡ digit (n / 10) →
+    slice_index text (at + 1) ≡ digit (n % 10) → v ≡ n
 
 pub record ReadsDate (text : List ℕ) (century rest month day : ℕ) : Type 0 where
   pub century_is : ReadsTwo text 0 century
@@ -112,7 +127,8 @@ pub record HasParts (date : Date) (century rest month day : ℕ) : Type 0 where
   pub month_is : date.month ≡ month
   pub day_is : date.day ≡ day
 
-pub parts_read : (text : List ℕ) (d century rest month day : ℕ) (s : SpellsDay text d) → ReadsDate text century rest month day → HasParts s.date century rest month day
+pub parts_read : (text : List ℕ) (d century rest month day : ℕ) (s : SpellsDay text d) →
+    ReadsDate text century rest month day → HasParts s.date century rest month day
 parts_read text d century rest month day s r =
     let at : (k : ℕ) → slice_index text k ≡ slice_index (date_spelling s.year s.date.month s.date.day) k
     = λ k. ap (λ t. slice_index t k) s.text_is in
@@ -132,16 +148,24 @@ parts_read text d century rest month day s r =
     }
 
 -- the numbers are those of a date
-pub IsDate-parts : (date : Date) (century rest month day : ℕ) → HasParts date century rest month day → IsDate (pos (century * 100 + rest)) (pos month) (pos day)
+pub IsDate-parts : (date : Date) (century rest month day : ℕ) →
+    HasParts date century rest month day → IsDate (pos (century * 100 + rest)) (pos month) (pos day)
 IsDate-parts date century rest month day h =
     let whole : IsDate date.year (pos date.month) (pos date.day)
-    = (date.year_in, (omega (arith, signed_arith, date.month_in), omega (arith, signed_arith, date.month_in)), (omega (arith, signed_arith, date.day_in), omega (arith, signed_arith, date.day_in))) in
+    = (
+      date.year_in,
+      (omega (arith, signed_arith, date.month_in), omega (arith, signed_arith, date.month_in)),
+      (omega (arith, signed_arith, date.day_in), omega (arith, signed_arith, date.day_in)),
+    ) in
     rw (h.year_is, h.month_is, h.day_is) at whole
 
 -- and the date of those numbers has the same day number
-pub epoch_day-parts : (date other : Date) (century rest month day : ℕ) → HasParts date century rest month day → IsYmd (pos (century * 100 + rest)) (pos month) (pos day) other → epoch_day other ≡ epoch_day date
+pub epoch_day-parts : (date other : Date) (century rest month day : ℕ) →
+    HasParts date century rest month day → IsYmd (pos (century * 100 + rest)) (pos month) (pos day) other →
+    epoch_day other ≡ epoch_day date
 epoch_day-parts date other century rest month day h y =
-    epoch_day_same other date (y.0 ∙ sym h.year_is) (same_natural _ _ y.1 ∙ sym h.month_is) (same_natural _ _ y.2 ∙ sym h.day_is)
+    epoch_day_same other date (y.0 ∙ sym h.year_is) (same_natural _ _ y.1 ∙
+    sym h.month_is) (same_natural _ _ y.2 ∙ sym h.day_is)
 
 pub impossible : {P : Type 0} → false ≡ true → P
 impossible e = absurd (cc)
@@ -161,7 +185,8 @@ SpellsMinute-one_text s t minute p q = p.text_is ∙ sym q.text_is
 pub SpellsMinute-one_minute : (text : List ℕ) (c d : ℕ) → SpellsMinute text c → SpellsMinute text d → c ≡ d
 SpellsMinute-one_minute text c d p q =
     let e : clock_spelling (c / 60) (c % 60) ≡ clock_spelling (d / 60) (d % 60) = sym p.text_is ∙ q.text_is in
-    let at : (k : ℕ) → slice_index (clock_spelling (c / 60) (c % 60)) k ≡ slice_index (clock_spelling (d / 60) (d % 60)) k
+    let at : (k : ℕ) → slice_index (clock_spelling (c / 60) (c % 60)) k ≡ slice_index
+    (clock_spelling (d / 60) (d % 60)) k
     = λ k. ap (λ s. slice_index s k) e in
     let below : (c < 1440) × (d < 1440) = (p.in_range, q.in_range) in
     let hour : c / 60 ≡ d / 60 = same_two _ _ (omega arith) (omega arith) (at 0) (at 1) in
@@ -171,7 +196,8 @@ SpellsMinute-one_minute text c d p q =
 pub length-SpellsMinute : (text : List ℕ) (minute : ℕ) → SpellsMinute text minute → length text ≡ 5
 length-SpellsMinute text minute s = ap length s.text_is
 
-pub minute_read : (text : List ℕ) (m hour minute : ℕ) → SpellsMinute text m → ReadsTwo text 0 hour → ReadsTwo text 3 minute → hour * 60 + minute ≡ m
+pub minute_read : (text : List ℕ) (m hour minute : ℕ) → SpellsMinute text m →
+    ReadsTwo text 0 hour → ReadsTwo text 3 minute → hour * 60 + minute ≡ m
 minute_read text m hour minute s h r =
     let at : (k : ℕ) → slice_index text k ≡ slice_index (clock_spelling (m / 60) (m % 60)) k
     = λ k. ap (λ t. slice_index t k) s.text_is in
@@ -205,14 +231,17 @@ moment_parts text moment s =
     let front : take 10 (s.day_text ++ 47 ∷ s.minute_text) ≡ s.day_text
     = subst (λ n. take n (s.day_text ++ 47 ∷ s.minute_text) ≡ s.day_text) ten (take-append_seam s.day_text _) in
     let seam : slice_index (s.day_text ++ 47 ∷ s.minute_text) 10 ≡ 47
-    = subst (λ n. slice_index (s.day_text ++ 47 ∷ s.minute_text) n ≡ 47) ten (get_or-append_seam s.day_text 47 s.minute_text 0) in
+    = subst (λ n. slice_index (s.day_text ++ 47 ∷ s.minute_text) n ≡ 47) ten
+    (get_or-append_seam s.day_text 47 s.minute_text 0) in
     let back : drop 11 (s.day_text ++ 47 ∷ s.minute_text) ≡ s.minute_text
-    = subst (λ n. drop (n + 1) (s.day_text ++ 47 ∷ s.minute_text) ≡ s.minute_text) ten (drop-append-add s.day_text (47 ∷ s.minute_text) 1) in
+    = subst (λ n. drop (n + 1) (s.day_text ++ 47 ∷ s.minute_text) ≡ s.minute_text) ten
+    (drop-append-add s.day_text (47 ∷ s.minute_text) 1) in
     record {
       len = ap length s.text_is ∙ length-append s.day_text (47 ∷ s.minute_text) ∙ (omega arith);
       between = ap (λ t. slice_index t 10) s.text_is ∙ seam;
       day = subst (λ t. SpellsDay t (day_of_moment moment)) (sym (ap (take 10) s.text_is ∙ front)) s.spells_day;
-      minute = subst (λ t. SpellsMinute t (minute_of_moment moment)) (sym (ap (drop 11) s.text_is ∙ back)) s.spells_minute;
+      minute = subst (λ t. SpellsMinute t (minute_of_moment moment))
+          (sym (ap (drop 11) s.text_is ∙ back)) s.spells_minute;
     }
 
 pub SpellsMoment-from_parts : (text : List ℕ) (moment : ℕ) → HasMomentParts text moment → SpellsMoment text moment
@@ -224,7 +253,8 @@ SpellsMoment-from_parts text moment h =
       minute_text = drop 11 text;
       spells_day = h.day;
       spells_minute = h.minute;
-      text_is = sym (take-append-drop 10 text) ∙ ap (λ s. take 10 text ++ s) (drop-cons text 10 0 within ∙ ap (λ b. b ∷ drop 11 text) h.between);
+      text_is = sym (take-append-drop 10 text) ∙ ap (λ s. take 10 text ++ s) (drop-cons text 10 0 within ∙
+          ap (λ b. b ∷ drop 11 text) h.between);
     }
 
 pub SpellsMoment-one_moment : (text : List ℕ) (c d : ℕ) → SpellsMoment text c → SpellsMoment text d → c ≡ d
@@ -236,7 +266,9 @@ SpellsMoment-one_moment text c d p q =
     omega arith
 
 -- the text of a moment, as it is put together from those of its day and minute
-pub moment_written : (day rest minute : List ℕ) → length day ≡ 10 → length rest ≡ 6 → take 11 (slice_set (day ++ rest) 10 47) ++ (minute ++ drop 5 (drop 11 (slice_set (day ++ rest) 10 47))) ≡ day ++ 47 ∷ minute
+pub moment_written : (day rest minute : List ℕ) → length day ≡ 10 →
+    length rest ≡ 6 → take 11 (slice_set (day ++ rest) 10 47) ++
+    (minute ++ drop 5 (drop 11 (slice_set (day ++ rest) 10 47))) ≡ day ++ 47 ∷ minute
 moment_written day [] minute ten six = absurd (omega arith)
 moment_written day (x ∷ rest) minute ten six =
     let whole : slice_set (day ++ x ∷ rest) 10 47 ≡ day ++ 47 ∷ rest

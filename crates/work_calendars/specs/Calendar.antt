@@ -17,7 +17,11 @@ pub record CalendarEntries : Type 0 where
 -- entries are stored as the pair of their fields
 abbrev pub entries_code : Coded DayStatus → Coded CalendarEntries
 entries_code s =
-    code_by (List (Option DayStatus) × map.FinMap nat_cmp DayStatus) (coded× (coded_list (coded_option s)) (map.code coded_ℕ s)) (λ e. (e.weekdays, e.dates)) (λ p. record { weekdays = p.0; dates = p.1 }) (λ _. refl)
+    code_by (List (Option DayStatus) × map.FinMap nat_cmp DayStatus)
+    (coded× (coded_list (coded_option s)) (map.code coded_ℕ s)) (λ e. (
+      e.weekdays,
+      e.dates,
+    )) (λ p. record { weekdays = p.0; dates = p.1 }) (λ _. refl)
 
 abbrev pub is_work_status : DayStatus → Bool
 is_work_status Work = true

@@ -1,8 +1,9 @@
--- The limits that this crate's definitions cite, each with its value once more. The law `limits_hold` has this record for
--- its contract, so a limit that is changed is refused until its line here changes too.
+-- The limits that this crate's definitions cite, each with its value once more. The law `limits_hold` has this record
+-- for its contract, so a limit that is changed is refused until its line here changes too.
 --
--- A crate that has limits has such a page: in specs/Limits.antt a record `AreLimits` with a line `name : limit ≡ number`
--- for each of them, and in src/limits.rt a public function `limits_hold` without arguments, whose one clause is the record.
+-- A crate that has limits has such a page: in specs/Limits.antt a record `AreLimits` with a line `name : limit ≡
+-- number` for each of them, and in src/limits.rt a public function `limits_hold` without arguments, whose one clause is
+-- the record.
 use Rattle.std.specs.Prelude.{◌≡◌}
 use Rattle.work_calendars.specs.Day.{first_day, last_day, last_planning_day}
 use Rattle.work_calendars.specs.Minute.{minutes_per_day}

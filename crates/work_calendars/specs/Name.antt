@@ -1,5 +1,6 @@
 -- Names: how they are spelled, and how one is kept in an array.
-use Rattle.std.specs.Prelude.{◌≡◌, ℕ, ◌-◌, ◌<◌, ◌≤◌, Bool, not, ◌||◌, ◌==◌, IsTrue, List, ◌++◌, length, take, slice_index, codes}
+use Rattle.std.specs.Prelude.{◌≡◌, ℕ, ◌-◌, ◌<◌, ◌≤◌, Bool, not, ◌||◌, ◌==◌, IsTrue, List, ◌++◌, length, take}
+use Rattle.std.specs.Prelude.{slice_index, codes}
 use Rattle.std.specs.Char.{is_ascii_digit, is_ascii_uppercase}
 use Rattle.std.specs.List.{All, list_any}
 use Rattle.std.proofs.Common.{sym, ap, subst, ◌∙◌}
@@ -42,6 +43,7 @@ pub length-held : (size : ℕ) (bytes : List ℕ) (len : ℕ) → HoldsName size
 length-held size bytes len h =
     length-take-le len bytes (let P : ℕ → Type 0 = λ n. len ≤ n in subst P (sym h.full) h.within)
 
-pub padded_name-held : (size : ℕ) (bytes : List ℕ) (len : ℕ) → HoldsName size bytes len → padded_name size (take len bytes) ≡ bytes
+pub padded_name-held : (size : ℕ) (bytes : List ℕ) (len : ℕ) →
+    HoldsName size bytes len → padded_name size (take len bytes) ≡ bytes
 padded_name-held size bytes len h =
     ap (λ n. take len bytes ++ replicate (size - n) 0) (length-held size bytes len h) ∙ sym h.padded

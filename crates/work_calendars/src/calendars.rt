@@ -2,7 +2,8 @@ ghost use Rattle.std.specs.Prelude.{◌≡◌, ℕ, ◌+◌, ◌<◌, Bool, fals
 ghost use Rattle.std.specs.FinMap as map;
 ghost use Rattle.std.specs.List.{slice_index_or};
 ghost use Rattle.std.specs.Prelude.{None};
-ghost use Rattle.work_calendars.specs.Calendar.{CalendarEntries, is_work_day, is_work_status, is_work_weekday, weekday_status, no_entries, with_weekday, with_date, without_dates};
+ghost use Rattle.work_calendars.specs.Calendar.{CalendarEntries, is_work_day, is_work_status, is_work_weekday};
+ghost use Rattle.work_calendars.specs.Calendar.{weekday_status, no_entries, with_weekday, with_date, without_dates};
 ghost use Rattle.work_calendars.specs.Day.{first_day};
 ghost use Rattle.work_calendars.specs.WorkIndex.{AreStatuses};
 ghost use Rattle.jiff.specs.Words.{monday_zero};

@@ -1,7 +1,8 @@
 ghost use Rattle.std.specs.Prelude.{◌≡◌, ℕ, ◌↔◌, ◌+◌, ◌<◌, IsNone, IsSome, IfSome};
 ghost use Rattle.work_calendars.specs.CountedIndex.{nothing_asked, one_asked};
 ghost use Rattle.work_calendars.specs.Day.{last_day};
-ghost use Rattle.work_calendars.specs.WorkDay.{work_days_before, IsNthWorkDay, IsNextWorkDay, IsPreviousWorkDay, HasNoWorkDayAfter, HasNoWorkDayBefore};
+ghost use Rattle.work_calendars.specs.WorkDay.{work_days_before, IsNthWorkDay, IsNextWorkDay, IsPreviousWorkDay};
+ghost use Rattle.work_calendars.specs.WorkDay.{HasNoWorkDayAfter, HasNoWorkDayBefore};
 ghost use Rattle.work_calendars.specs.WorkIndex.{is_work_in};
 
 use crate::{Day, WorkIndex};

@@ -25,7 +25,8 @@ fn digit_value(byte: u8) -> u32
 pub(crate) fn two_digits_value(text: &[u8], at: usize) -> u32
     requires { at + 1 < length text.now }
     ensures below { result < 100 }
-    ensures value { (n : ℕ) → n < 100 → slice_index text.now at ≡ digit (n / 10) → slice_index text.now (at + 1) ≡ digit (n % 10) → result ≡ n }
+    ensures value { (n : ℕ) → n < 100 → slice_index text.now at ≡ digit (n / 10)
+        → slice_index text.now (at + 1) ≡ digit (n % 10) → result ≡ n }
 {
     digit_value(text[at]) * 10 + digit_value(text[at + 1])
 }

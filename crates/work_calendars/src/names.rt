@@ -1,11 +1,13 @@
 ghost use Rattle.std.specs.Prelude.{◌≡◌, ℕ, ◌↔◌, nat_eq, length, List, take, Some, IsTrue, IsSome, IfSome, refl};
-ghost use Rattle.std.specs.Cmp.Lexicographic.{pointwise, slice_cmp, nat_list_eq_equiv, nat_list_cmp_total, texts_ties, texts_po};
+ghost use Rattle.std.specs.Cmp.Lexicographic.{pointwise, slice_cmp, nat_list_eq_equiv, nat_list_cmp_total};
+ghost use Rattle.std.specs.Cmp.Lexicographic.{texts_ties, texts_po};
 ghost use Rattle.std.specs.Cmp.{partial_equiv_from_equiv};
 ghost use Rattle.std.specs.Cmp.Rules.{hashing};
 ghost use Rattle.std.specs.Ordering.{nat_cmp};
 ghost use Rattle.std.specs.Hash as fed;
 ghost use Rattle.std.proofs.Common.{rules};
-ghost use Rattle.work_calendars.specs.Name.{is_name_byte, IsNameWithin, HoldsName, padded_name, padded_name-held, length-held};
+ghost use Rattle.work_calendars.specs.Name.{is_name_byte, IsNameWithin, HoldsName, padded_name, padded_name-held};
+ghost use Rattle.work_calendars.specs.Name.{length-held};
 
 use std::cmp::Ordering;
 use std::hash::{Hash, Hasher};
@@ -43,7 +45,10 @@ impl<const LONGEST: usize> Model for NameWithin<LONGEST> {
 
     ghost inverse = { λ s. record { bytes = padded_name LONGEST s; len = length s } };
 
-    ghost inverse_ok = { λ n h i. record { bytes = padded_name-held LONGEST n.bytes n.len h i; len = length-held LONGEST n.bytes n.len h i } };
+    ghost inverse_ok = { λ n h i. record {
+      bytes = padded_name-held LONGEST n.bytes n.len h i;
+      len = length-held LONGEST n.bytes n.len h i;
+    } };
 }
 
 #[tactic(auto, unfolding(crate::specs::Name::is_name_byte))]

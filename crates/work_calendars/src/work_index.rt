@@ -1,7 +1,9 @@
-ghost use Rattle.std.specs.Prelude.{◌≡◌, ℕ, ◌↔◌, ◌+◌, ◌<◌, ◌≤◌, Bool, IsNone, IsSome, IfSome, IfOk, List, [], ◌∷◌, ◌++◌, cond};
+ghost use Rattle.std.specs.Prelude.{◌≡◌, ℕ, ◌↔◌, ◌+◌, ◌<◌, ◌≤◌, Bool, IsNone, IsSome, IfSome, IfOk, List, [], ◌∷◌};
+ghost use Rattle.std.specs.Prelude.{◌++◌, cond};
 ghost use Rattle.work_calendars.specs.Calendar.{is_work_day};
 ghost use Rattle.work_calendars.specs.Day.{first_day, last_day};
-ghost use Rattle.work_calendars.specs.WorkDay.{work_days_before, IsNthWorkDay, IsNextWorkDay, IsPreviousWorkDay, HasNoWorkDayAfter, HasNoWorkDayBefore};
+ghost use Rattle.work_calendars.specs.WorkDay.{work_days_before, IsNthWorkDay, IsNextWorkDay, IsPreviousWorkDay};
+ghost use Rattle.work_calendars.specs.WorkDay.{HasNoWorkDayAfter, HasNoWorkDayBefore};
 ghost use Rattle.work_calendars.specs.WorkIndex.{is_work_in};
 
 use crate::days::{DAYS, FIRST_NUMBER, LAST_NUMBER};

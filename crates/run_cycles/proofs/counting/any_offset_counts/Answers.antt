@@ -5,4 +5,5 @@ use Rattle.run_cycles.proofs.counting.any_offset_counts.Goals as goal
 
 pub returns : goal.returns
 returns c =
-    and_so _ _ _ c.any_interval_counts.ensures (counted_by_walk c.args.period.now (is_work_in c.args.index.now) c.args.day c.args.offsets.now c.new.result.left c.new.ensures.left)
+    and_so _ _ _ c.any_interval_counts.ensures (counted_by_walk c.args.period.now
+    (is_work_in c.args.index.now) c.args.day c.args.offsets.now c.new.result.left c.new.ensures.left)

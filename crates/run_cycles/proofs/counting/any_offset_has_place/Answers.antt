@@ -20,12 +20,21 @@ pub returns : goal.returns
 returns c =
     let lt = c.lt.ensures in
     let from : c.args.origin ≤ c.args.day = grind (arith, nat_tests) in
-    let same : work_days_among (is_work_in c.args.index.now) c.args.origin (c.args.day - c.args.origin) ≡ c.rank.result - c.rank-2.result =
+    let same : work_days_among (is_work_in c.args.index.now) c.args.origin
+    (c.args.day - c.args.origin) ≡ c.rank.result - c.rank-2.result =
     among_origin (is_work_in c.args.index.now) c.args.origin c.args.day from ∙ cc in (
-      (λ t. Any-weaker (λ k. HasPlace (offset_of k) c.args.interval (c.rank.result - c.rank-2.result)) (λ k. IsCountedDay (Work c.args.origin c.args.interval) (offset_of k) (is_work_in c.args.index.now) c.args.day) c.args.offsets.now
-          (λ k h. (sym c.is_work.ensures ∙ c.if-not-is_work.false, from, let P : ℕ → Type 0 = λ n. HasPlace (offset_of k) c.args.interval n in subst P (sym same) h))
+      (λ t. Any-weaker (λ k. HasPlace (offset_of k) c.args.interval (c.rank.result - c.rank-2.result))
+          (λ k. IsCountedDay (Work c.args.origin c.args.interval)
+          (offset_of k) (is_work_in c.args.index.now) c.args.day) c.args.offsets.now
+          (λ k h. (
+            sym c.is_work.ensures ∙ c.if-not-is_work.false,
+            from,
+            let P : ℕ → Type 0 = λ n. HasPlace (offset_of k) c.args.interval n in subst P (sym same) h,
+          ))
           (c.any_has_place.ensures.0 t)),
-      λ h. c.any_has_place.ensures.1 (Any-weaker (λ k. IsCountedDay (Work c.args.origin c.args.interval) (offset_of k) (is_work_in c.args.index.now) c.args.day) (λ k. HasPlace (offset_of k) c.args.interval (c.rank.result - c.rank-2.result)) c.args.offsets.now
+      λ h. c.any_has_place.ensures.1 (Any-weaker (λ k. IsCountedDay
+          (Work c.args.origin c.args.interval) (offset_of k) (is_work_in c.args.index.now) c.args.day)
+          (λ k. HasPlace (offset_of k) c.args.interval (c.rank.result - c.rank-2.result)) c.args.offsets.now
           (λ k g. let P : ℕ → Type 0 = λ n. HasPlace (offset_of k) c.args.interval n in subst P same g.2)
           h),
     )

@@ -7,16 +7,19 @@ use Rattle.run_cycles.proofs.counting.rank_after.Goals as goal
 
 pub overflow_add-result : goal.overflow_add-result
 overflow_add-result c =
-    let in_range : IsDay c.args.day = IsDay-work_in c.args.index.now c.args.day (sym c.is_work.ensures ∙ c.if-is_work.true) in
+    let in_range : IsDay c.args.day = IsDay-work_in c.args.index.now c.args.day (sym c.is_work.ensures ∙
+    c.if-is_work.true) in
     let few = work_days_before-le (is_work_in c.args.index.now) c.args.day in
     omega (arith, in_range.1)
 
 pub returns-then-is_work : goal.returns-then-is_work
 returns-then-is_work c =
-    let one = work_days_before-work (is_work_in c.args.index.now) c.args.day (sym c.is_work.ensures ∙ c.if-is_work.true) in
+    let one = work_days_before-work (is_work_in c.args.index.now) c.args.day (sym c.is_work.ensures ∙
+    c.if-is_work.true) in
     omega arith
 
 pub returns-else-is_work : goal.returns-else-is_work
 returns-else-is_work c =
-    let none = work_days_before-free (is_work_in c.args.index.now) c.args.day (sym c.is_work.ensures ∙ c.if-is_work.false) in
+    let none = work_days_before-free (is_work_in c.args.index.now) c.args.day (sym c.is_work.ensures ∙
+    c.if-is_work.false) in
     omega arith

@@ -11,10 +11,14 @@ use Rattle.run_cycles.proofs.generation.generate.Goals as goal
 pub all_decided-requires-clause-planned : goal.all_decided-requires-clause-planned
 all_decided-requires-clause-planned c =
     let P : List Naming → Type 0 = λ l. All (λ x. x.day ≤ last_planning_day) l in
-    subst P (sym c.deref.ensures.value) (all_planned c.args.from c.args.to last_planning_day c.requires.planned c.in_ok-namings.namings.items (λ x h. let n = (c.in_ok-namings.ensures.each x).0 h in (n.0, n.1)))
+    subst P (sym c.deref.ensures.value) (all_planned c.args.from
+    c.args.to last_planning_day c.requires.planned c.in_ok-namings.namings.items (λ x h. let n =
+    (c.in_ok-namings.ensures.each x).0 h in (n.0, n.1)))
 
 pub returns : goal.returns
 returns c =
     let P : List Naming → Type 0 = λ l. ListsInOrder (IsDecidedBefore l (length l)) c.in_ok-list.list.items in
-    lists_decided c.args.cycles.now c.args.periods.now (is_work_in c.args.index.now) c.args.from c.args.to c.in_ok-namings.namings.items c.in_ok-namings.ensures.order c.in_ok-namings.ensures.each c.requires.names c.in_ok-list.list.items
+    lists_decided c.args.cycles.now c.args.periods.now (is_work_in c.args.index.now)
+    c.args.from c.args.to c.in_ok-namings.namings.items c.in_ok-namings.ensures.order
+    c.in_ok-namings.ensures.each c.requires.names c.in_ok-list.list.items
     (subst P c.deref.ensures.value c.in_ok-list.ensures)

@@ -5,5 +5,7 @@ use Rattle.run_cycles.proofs.jump.push_days.Given as goal
 
 abbrev pub invariant-loop-offset : goal.invariant-loop-offset
 invariant-loop-offset l =
-    AddsDays (IsInWindow l.window.low l.window.high (IsGivenAt l.rule (is_work_in l.initial.index.statuses) l.start l.end) (take l.offset-index l.offsets)) l.initial.days.items l.days.items
+    AddsDays (IsInWindow l.window.low l.window.high (IsGivenAt l.rule
+    (is_work_in l.initial.index.statuses) l.start l.end)
+    (take l.offset-index l.offsets)) l.initial.days.items l.days.items
     × AsksAtMost (l.offset-index * questions_of l.rule) l.initial.index l.index

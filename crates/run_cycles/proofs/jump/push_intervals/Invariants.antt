@@ -13,7 +13,8 @@ invariant-loop-interval l =
     × (l.intervals.from ≡ l.initial.intervals.from)
     × (l.intervals.to ≡ l.initial.intervals.to)
     × ((x : Interval) → Contains l.intervals.left x → IsInterval l.fn.period x.first x.last)
-    × IsGathering (Given l.window.low l.window.high l.rule (is_work_in l.initial.index.statuses) l.offsets) l.initial.days.items l.initial.intervals.left l.days.items l.intervals.left
+    × IsGathering (Given l.window.low l.window.high l.rule (is_work_in l.initial.index.statuses) l.offsets)
+    l.initial.days.items l.initial.intervals.left l.days.items l.intervals.left
     × AsksAtMost (l.intervals.visited * (2 * length l.offsets + 2)) l.initial.index l.index
 
 abbrev pub decreases-loop-interval : goal.decreases-loop-interval

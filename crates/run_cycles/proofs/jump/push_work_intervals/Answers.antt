@@ -42,13 +42,17 @@ loop-place-preserved c =
     let offsets = c.args.offsets.now in
     let mid = c.loop-place.days.items in
     let new = c.push_days.new.days.items in
-    let G : List Bool → ℕ → ℕ → Type 0 = λ t r m. AddsDays (IsInWindow low high (IsGivenAt WorkDaysOnly (is_work_in t) (r + place * m) (Some (r + place * m + m))) offsets) mid new in
+    let G : List Bool → ℕ → ℕ → Type 0 = λ t r m. AddsDays (IsInWindow low high
+    (IsGivenAt WorkDaysOnly (is_work_in t) (r + place * m) (Some (r + place * m + m))) offsets) mid new in
     let before : c.rank-before_origin.result ≡ work_days_before (is_work_in s) o = c.rank-before_origin.ensures.value in
     let length : c.from-length.result ≡ n = c.from-length.ensures in
-    let same : G c.loop-place.index.statuses c.rank-before_origin.result c.from-length.result ≡ G s (work_days_before (is_work_in s) o) n = λ i. G (inv.0 i) (before i) (length i) in
+    let same : G c.loop-place.index.statuses c.rank-before_origin.result c.from-length.result ≡ G s
+    (work_days_before (is_work_in s) o) n = λ i. G (inv.0 i) (before i) (length i) in
     let P : Type 0 → Type 0 = λ T. T in (
       c.in_ok-push_days.ensures.asked.0 ∙ inv.0,
-      λ some. blocks_more (is_work_in s) o n some low high offsets (c.saturating_sub.result / c.from-length.result) place c.loop-place.auto.place c.args.days.now.items mid new (inv.1 some) (subst P same c.in_ok-push_days.ensures.days),
+      λ some. blocks_more (is_work_in s) o n some low high offsets
+          (c.saturating_sub.result / c.from-length.result) place c.loop-place.auto.place c.args.days.now.items mid new
+          (inv.1 some) (subst P same c.in_ok-push_days.ensures.days),
     )
 
 pub returns-clause-days : goal.returns-clause-days
@@ -66,14 +70,20 @@ returns-clause-days c =
     let one : c.rank-before_origin.new.self.statuses ≡ s = ap statuses c.rank-before_origin.ensures.counted in
     let two : c.rank.new.self.statuses ≡ s = ap statuses c.rank.ensures.counted ∙ one in
     let before : c.rank-before_origin.result ≡ work_days_before (is_work_in s) o = c.rank-before_origin.ensures.value in
-    let from : c.rank.result ≡ work_days_before (is_work_in s) c.args.from = c.rank.ensures.value ∙ ap (λ t. work_days_before (is_work_in t) c.args.from) one in
-    let to : c.rank-2.result ≡ work_days_before (is_work_in s) c.args.to = c.rank-2.ensures.value ∙ ap (λ t. work_days_before (is_work_in t) c.args.to) two in
+    let from : c.rank.result ≡ work_days_before (is_work_in s) c.args.from =
+    c.rank.ensures.value ∙ ap (λ t. work_days_before (is_work_in t) c.args.from) one in
+    let to : c.rank-2.result ≡ work_days_before (is_work_in s) c.args.to =
+    c.rank-2.ensures.value ∙ ap (λ t. work_days_before (is_work_in t) c.args.to) two in
     let length : c.from-length.result ≡ n = c.from-length.ensures in
-    let first : c.saturating_sub.result / c.from-length.result ≡ (work_days_before (is_work_in s) c.args.from - work_days_before (is_work_in s) o) / n
+    let first : c.saturating_sub.result / c.from-length.result ≡
+    (work_days_before (is_work_in s) c.args.from - work_days_before (is_work_in s) o) / n
     = ap (λ x. x / c.from-length.result) c.saturating_sub.ensures ∙ (λ i. (from i - before i) / length i) in
-    let last : c.saturating_sub-2.result / c.from-length.result ≡ (work_days_before (is_work_in s) c.args.to - work_days_before (is_work_in s) o) / n
+    let last : c.saturating_sub-2.result / c.from-length.result ≡
+    (work_days_before (is_work_in s) c.args.to - work_days_before (is_work_in s) o) / n
     = ap (λ x. x / c.from-length.result) c.saturating_sub-2.ensures ∙ (λ i. (to i - before i) / length i) in
     let past : c.saturating_sub-2.result / c.from-length.result + 1 ≤ place = c.loop-place-test.false in
     let Q : ℕ → Type 0 = λ x. x + 1 ≤ place in
-    let Blocks : ℕ → Type 0 = λ f. AddsDays (InBlocks (is_work_in s) o n some low high offsets f place) c.args.days.now.items c.loop-place.days.items in
-    blocks_all (is_work_in s) o n some low high offsets c.args.from c.args.to place c.requires.low c.requires.high (subst Q last past) c.args.days.now.items c.loop-place.days.items (subst Blocks first (inv.1 some))
+    let Blocks : ℕ → Type 0 = λ f. AddsDays (InBlocks (is_work_in s) o n some low high offsets f place)
+    c.args.days.now.items c.loop-place.days.items in
+    blocks_all (is_work_in s) o n some low high offsets c.args.from c.args.to place c.requires.low c.requires.high
+    (subst Q last past) c.args.days.now.items c.loop-place.days.items (subst Blocks first (inv.1 some))

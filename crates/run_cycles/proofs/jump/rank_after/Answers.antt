@@ -14,7 +14,8 @@ pub returns-then-is_work-clause-value : goal.returns-then-is_work-clause-value
 returns-then-is_work-clause-value c =
     let statuses : CountedStatuses → List Bool = λ s. s.statuses in
     let on : is_work_in c.args.index.now.statuses c.args.day ≡ true
-    = ap (λ s. is_work_in s c.args.day) (sym (ap statuses c.rank-before.ensures.counted)) ∙ sym c.is_work.ensures.value ∙ c.if-is_work.true in
+    = ap (λ s. is_work_in s c.args.day) (sym (ap statuses c.rank-before.ensures.counted)) ∙
+    sym c.is_work.ensures.value ∙ c.if-is_work.true in
     let one = work_days_before-work (is_work_in c.args.index.now.statuses) c.args.day on in
     omega arith
 
@@ -22,6 +23,7 @@ pub returns-else-is_work-clause-value : goal.returns-else-is_work-clause-value
 returns-else-is_work-clause-value c =
     let statuses : CountedStatuses → List Bool = λ s. s.statuses in
     let off : is_work_in c.args.index.now.statuses c.args.day ≡ false
-    = ap (λ s. is_work_in s c.args.day) (sym (ap statuses c.rank-before.ensures.counted)) ∙ sym c.is_work.ensures.value ∙ c.if-is_work.false in
+    = ap (λ s. is_work_in s c.args.day) (sym (ap statuses c.rank-before.ensures.counted)) ∙
+    sym c.is_work.ensures.value ∙ c.if-is_work.false in
     let none = work_days_before-free (is_work_in c.args.index.now.statuses) c.args.day off in
     omega arith

@@ -3,7 +3,8 @@ use Rattle.std.specs.Iterator.{YieldsFirst}
 use Rattle.std.proofs.lemmas.Iterator.Adapters.{YieldsList-from_vec}
 use Rattle.itertools.specs.KMerge.{SourcesGive}
 use Rattle.run_cycles.specs.declared.namings.Naming.{Naming}
-use Rattle.run_cycles.proofs.MergeLemmas.{each_sorted_by, first_order, in_order_by, merge_has, run_drains_from, sources_give, whole_run}
+use Rattle.run_cycles.proofs.MergeLemmas.{each_sorted_by, first_order, in_order_by, merge_has, run_drains_from}
+use Rattle.run_cycles.proofs.MergeLemmas.{sources_give, whole_run}
 use Rattle.run_cycles.proofs.namings.merged.Goals as goal
 
 pub returns-clause-each : goal.returns-clause-each
@@ -12,7 +13,8 @@ returns-clause-each c =
     let (p, from, whole, gives) = c.in_ok-merge.ensures.items in
     let road = YieldsList-from_vec ss c.into_iter.ensures.rest (search rules) in
     let is : p.items ≡ ss = whole_run p c.into_iter.result ss from whole road in
-    let Gives : List (List Naming) → Type 0 = λ us. SourcesGive (λ (s r : List Naming). r ≡ s) (YieldsFirst (λ (left : List Naming). left)) us ss in
+    let Gives : List (List Naming) → Type 0 = λ us. SourcesGive
+    (λ (s r : List Naming). r ≡ s) (YieldsFirst (λ (left : List Naming). left)) us ss in
     let all = gives ss (subst Gives (sym is) (sources_give ss)) in
     let (q, from2, whole2, same) = c.in_ok-list.ensures.runs in
     let (rest, permutes, none) = all q.items q.whole (run_drains_from q c.in_ok-merge.merge from2) in
@@ -24,7 +26,10 @@ returns-clause-order c =
     let (p, from, whole, gives) = c.in_ok-merge.ensures.in_order in
     let road = YieldsList-from_vec ss c.into_iter.ensures.rest (search rules) in
     let is : p.items ≡ ss = whole_run p c.into_iter.result ss from whole road in
-    let Gives : List (List Naming) → Type 0 = λ us. SourcesGive (λ (s r : List Naming). r ≡ s) (YieldsFirst (λ (left : List Naming). left)) us ss in
-    let ordered = gives (first_order _ (λ x y. refl)) ss (subst Gives (sym is) (sources_give ss)) (each_sorted_by _ (λ x y. refl) ss c.requires) in
+    let Gives : List (List Naming) → Type 0 = λ us. SourcesGive
+    (λ (s r : List Naming). r ≡ s) (YieldsFirst (λ (left : List Naming). left)) us ss in
+    let ordered = gives (first_order _ (λ x y. refl)) ss (subst Gives (sym is) (sources_give ss))
+    (each_sorted_by _ (λ x y. refl) ss c.requires) in
     let (q, from2, whole2, same) = c.in_ok-list.ensures.runs in
-    rw same (in_order_by _ (λ x y. refl) q.items (ordered q.items q.whole (run_drains_from q c.in_ok-merge.merge from2)))
+    rw same (in_order_by _ (λ x y. refl) q.items (ordered q.items q.whole
+    (run_drains_from q c.in_ok-merge.merge from2)))

@@ -11,7 +11,9 @@ returns-else-self-clause-steps c =
     let next = c.self.inside.next in
     let end = c.self.inside.end in
     rw (← c.self.view_is, c.in-All.is) (stepped_next origin n next end c.if-self.false
-    ∙ ap (λ x. x ∷ stepped (origin + (next + 1) * n) n (end - (next + 1))) (step_is (origin + next * n) n c.step_interval-step.result c.step_interval-step.ensures.first c.step_interval-step.ensures.last))
+    ∙ ap (λ x. x ∷ stepped (origin + (next + 1) * n) n (end - (next + 1)))
+    (step_is (origin + next * n) n c.step_interval-step.result
+    c.step_interval-step.ensures.first c.step_interval-step.ensures.last))
 
 pub returns-else-self-clause-goes : goal.returns-else-self-clause-goes
 returns-else-self-clause-goes c = progress_first _ _ _ (returns-else-self-clause-steps c)

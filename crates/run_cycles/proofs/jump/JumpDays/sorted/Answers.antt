@@ -16,6 +16,7 @@ returns-clause-exactly c =
     let is = dedup_is _ _ _ c.dedup.ensures.filtered in
     λ d.
     let P : List ℕ → Type 0 = λ l. Contains l d in (
-      (λ h. Contains-permutation _ _ d (IsPermutation-sym _ _ c.sort_unstable.ensures.permutation) (Contains-from_dedup _ _ d (subst P is h))),
+      (λ h. Contains-permutation _ _ d (IsPermutation-sym _ _ c.sort_unstable.ensures.permutation)
+          (Contains-from_dedup _ _ d (subst P is h))),
       λ h. subst P (sym is) (Contains-dedup_nat _ d (Contains-permutation _ _ d c.sort_unstable.ensures.permutation h)),
     )

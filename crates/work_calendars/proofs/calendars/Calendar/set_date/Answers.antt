@@ -5,5 +5,6 @@ pub returns-clause-ok : goal.returns-clause-ok
 returns-clause-ok c =
     rw (← c.self.view_is) (λ i. record {
       weekdays = c.self.inside.weekdays;
-      dates = listed_after_insert c.self.inside.dates.entries c.insert.new.self.entries c.args.day c.args.status c.in_ok-insert.ensures.updates.0 i;
+      dates = listed_after_insert c.self.inside.dates.entries
+          c.insert.new.self.entries c.args.day c.args.status c.in_ok-insert.ensures.updates.0 i;
     })

@@ -13,4 +13,5 @@ returns c =
     let past : last_day < first_day + 7 * c.weeks._week = omega arith in
     let len : first_day + length new ≡ last_day + 1
     = rw c.truncate.ensures.items (let n = length-take-le DAYS old (omega arith) in omega arith) in
-    AreStatuses-first c.args.self.now (first_day + 7 * c.weeks._week) old new c.weeks.invariant past len (λ i h. c.truncate.ensures.by_index i false (omega arith))
+    AreStatuses-first c.args.self.now (first_day + 7 * c.weeks._week) old new c.weeks.invariant past len
+    (λ i h. c.truncate.ensures.by_index i false (omega arith))

@@ -1,6 +1,7 @@
 use Rattle.std.proofs.Common.{◌≡◌, sym, subst, ◌∙◌}
 use Rattle.work_calendars.specs.Spelling.{SpellsDay}
-use Rattle.work_calendars.proofs.SpellingFacts.{impossible, same_text, no_same_text, same_natural, parts_read, IsDate-parts, epoch_day-parts, SpellsDay-one_day}
+use Rattle.work_calendars.proofs.SpellingFacts.{impossible, same_text, no_same_text, same_natural, parts_read}
+use Rattle.work_calendars.proofs.SpellingFacts.{IsDate-parts, epoch_day-parts, SpellsDay-one_day}
 use Rattle.work_calendars.proofs.days.Day.from_bytes.Goals as goal
 
 pub returns-in_err-date-clause-valid : goal.returns-in_err-date-clause-valid
@@ -25,7 +26,12 @@ returns-in_err-day-clause-valid c =
             month_is = c.two_digits_value-month.ensures.value;
             day_is = c.two_digits_value-day.ensures.value;
           }) in
-          c.in_err-day.ensures.valid.1 (s.0, s.1.in_range, epoch_day-parts s.1.date c.in_ok-date.date _ _ _ _ parts ymd ∙ s.1.number),
+          c.in_err-day.ensures.valid.1 (
+            s.0,
+            s.1.in_range,
+            epoch_day-parts
+                s.1.date c.in_ok-date.date _ _ _ _ parts ymd ∙ s.1.number,
+          ),
     )
 
 pub returns-then-eq-clause-only : goal.returns-then-eq-clause-only
@@ -47,5 +53,6 @@ returns-else-eq-clause-valid c =
           }) in
           let number = epoch_day-parts s.1.date c.in_ok-date.date _ _ _ _ parts ymd ∙ s.1.number in
           let same : s.0 ≡ c.in_ok-day.day = same_natural s.0 c.in_ok-day.day (sym number ∙ day.1) in
-          no_same_text c.args.text.now c.write_text.new.text c.if-eq.ensures (c.write_text.ensures.only _ (subst (SpellsDay c.args.text.now) same s.1)),
+          no_same_text c.args.text.now c.write_text.new.text c.if-eq.ensures
+          (c.write_text.ensures.only _ (subst (SpellsDay c.args.text.now) same s.1)),
     )

@@ -8,7 +8,16 @@ pub returns-clause-spelled : goal.returns-clause-spelled
 returns-clause-spelled c =
     let range = c.to_plain-date.result.year_in in
     let year : c.to_plain-date.result.year ≡ pos c.natural-year.result = omega (arith, ints) in
-    rw (c.digit.ensures, c.digit-2.ensures, c.digit-3.ensures, c.digit-4.ensures, c.digit-5.ensures, c.digit-6.ensures, c.digit-7.ensures, c.digit-8.ensures) (record {
+    rw (
+      c.digit.ensures,
+      c.digit-2.ensures,
+      c.digit-3.ensures,
+      c.digit-4.ensures,
+      c.digit-5.ensures,
+      c.digit-6.ensures,
+      c.digit-7.ensures,
+      c.digit-8.ensures,
+    ) (record {
       date = c.to_plain-date.result;
       year = c.natural-year.result;
       is_year = year;

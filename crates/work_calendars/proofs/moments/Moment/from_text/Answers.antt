@@ -5,7 +5,8 @@ use Rattle.work_calendars.proofs.moments.Moment.from_text.Goals as goal
 
 pub returns-clause-value : goal.returns-clause-value
 returns-clause-value c =
-    subst (λ t. SpellsMoment t c.new.result) c.as_bytes-text.ensures.value (SpellsMoment-from_parts c.as_bytes-text.result.now c.new.result (record {
+    subst (λ t. SpellsMoment t c.new.result) c.as_bytes-text.ensures.value
+    (SpellsMoment-from_parts c.as_bytes-text.result.now c.new.result (record {
       len = c.if-text-ne16.false;
       between = c.if-text-ne47.false;
       day = subst (SpellsDay _) (sym c.new.ensures.day) c.in_ok-day.ensures.value;

@@ -5,7 +5,8 @@ use Rattle.work_calendars.proofs.moments.Moment.write_text.Goals as goal
 
 pub returns-clause-spelled : goal.returns-clause-spelled
 returns-clause-spelled c =
-    let ten : length c.copy_from_slice.new.self ≡ 10 = ap length c.copy_from_slice.ensures.after ∙ c.write_text.array_long in
+    let ten : length c.copy_from_slice.new.self ≡ 10 = ap length c.copy_from_slice.ensures.after ∙
+    c.write_text.array_long in
     let six : length (drop 10 c.args.text.now) ≡ 6 = omega (arith, length-drop 10 c.args.text.now) in
     let e = moment_written c.copy_from_slice.new.self (drop 10 c.args.text.now) c.copy_from_slice-2.new.self ten six in
     subst (λ t. SpellsMoment t c.args.self) (sym e) (record {

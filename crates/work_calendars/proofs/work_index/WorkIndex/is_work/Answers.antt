@@ -11,4 +11,5 @@ returns c =
     let len = c.self.invariant.statuses_len in
     let within : c.place.result < length statuses = omega arith in
     let at : c.place.result ≡ c.args.day - first_day = omega arith in
-    rw (← c.self.view_is) (c.index.ensures ∙ get_or_default statuses _ _ false within ∙ ap (λ i. slice_index_or statuses i false) at ∙ sym (is_work_in-at statuses c.args.day c.place.ensures.in_range))
+    rw (← c.self.view_is) (c.index.ensures ∙ get_or_default statuses _ _ false within ∙
+    ap (λ i. slice_index_or statuses i false) at ∙ sym (is_work_in-at statuses c.args.day c.place.ensures.in_range))

@@ -8,9 +8,13 @@ use Rattle.work_calendars.proofs.work_index.WorkIndex.next_work.Goals as goal
 pub returns-clause-none : goal.returns-clause-none
 returns-clause-none c =
     let e : first_day + (c.place.result + 1) ≡ c.args.day + 1 = omega arith in
-    none_is_next (is_work_in c.args.self.now) (last_day + 1) (is_work_in-past _) c.args.day _ _ (c.count_before.ensures ∙ ap (work_days_before (is_work_in c.args.self.now)) e) c.nth.ensures.found.1 c.nth.ensures.value
+    none_is_next (is_work_in c.args.self.now) (last_day + 1)
+    (is_work_in-past _) c.args.day _ _ (c.count_before.ensures ∙
+    ap (work_days_before (is_work_in c.args.self.now)) e) c.nth.ensures.found.1 c.nth.ensures.value
 
 pub returns-clause-value : goal.returns-clause-value
 returns-clause-value c =
     let e : first_day + (c.place.result + 1) ≡ c.args.day + 1 = omega arith in
-    value_is_next (is_work_in c.args.self.now) (last_day + 1) (is_work_in-past _) c.args.day _ _ (c.count_before.ensures ∙ ap (work_days_before (is_work_in c.args.self.now)) e) c.nth.ensures.value
+    value_is_next (is_work_in c.args.self.now) (last_day + 1)
+    (is_work_in-past _) c.args.day _ _ (c.count_before.ensures ∙
+    ap (work_days_before (is_work_in c.args.self.now)) e) c.nth.ensures.value

@@ -8,4 +8,6 @@ pub returns-clause-none : goal.returns-clause-none
 returns-clause-none c =
     let count = c.self.invariant.days_len in
     let len = c.self.inside.days.ok in
-    rw (← c.self.view_is) (none_is_nth (is_work_in c.self.inside.statuses.items) (last_day + 1) (is_work_in-past _) c.args.place _ (λ h. let e : c.args.place < length c.deref.result.now = omega arith in search rules) (search rules))
+    rw (← c.self.view_is) (none_is_nth (is_work_in c.self.inside.statuses.items)
+    (last_day + 1) (is_work_in-past _) c.args.place _ (λ h. let e : c.args.place < length c.deref.result.now =
+    omega arith in search rules) (search rules))

@@ -16,10 +16,12 @@ pub returns-clause-none : goal.returns-clause-none
 returns-clause-none c =
     let e = c.place-days.ensures.value in
     let count = c.count_before-count.ensures ∙ ap (work_days_before (is_work_in c.args.self.now)) e in
-    none_is_previous (is_work_in c.args.self.now) (last_day + 1) (is_work_in-past _) c.args.day _ _ (omega arith) (omega arith) c.nth.ensures.found.1 c.nth.ensures.value
+    none_is_previous (is_work_in c.args.self.now) (last_day + 1)
+    (is_work_in-past _) c.args.day _ _ (omega arith) (omega arith) c.nth.ensures.found.1 c.nth.ensures.value
 
 pub returns-clause-value : goal.returns-clause-value
 returns-clause-value c =
     let e = c.place-days.ensures.value in
     let count = c.count_before-count.ensures ∙ ap (work_days_before (is_work_in c.args.self.now)) e in
-    value_is_previous (is_work_in c.args.self.now) (last_day + 1) (is_work_in-past _) c.args.day _ _ (omega arith) c.nth.ensures.value
+    value_is_previous (is_work_in c.args.self.now) (last_day + 1)
+    (is_work_in-past _) c.args.day _ _ (omega arith) c.nth.ensures.value
