@@ -1,5 +1,5 @@
 -- The records of applications: application, status, calendar.
-use Rattle.std.specs.Prelude.{◌≡◌, ◌↔◌, ◌⊎◌, ℕ, List, [], codes, IsTrue}
+use Rattle.std.specs.Prelude.{◌≡◌, ◌↔◌, ◌⊎◌, [], codes, IsTrue}
 use Rattle.std.specs.Prelude.{get_or}
 use Rattle.work_calendars.specs.Name.{IsName}
 use Rattle.app_definitions.specs.declared.applications.Application.{Application}

@@ -1,5 +1,5 @@
 -- The columns of records, in figures. A column that moves is refused until this page says the same.
-use Rattle.std.specs.Prelude.{◌≡◌, List, [], ◌∷◌, ℕ, refl}
+use Rattle.std.specs.Prelude.{◌≡◌, [], ◌∷◌, refl}
 use Rattle.app_definitions.specs.declared.columns.TheConstants.{NAME, APPLICATION_STATUS, APPLICATION_CALENDAR}
 use Rattle.app_definitions.specs.declared.columns.TheConstants.{CALENDAR_ENTRY, CALENDAR_STATUS, PREDECESSOR}
 use Rattle.app_definitions.specs.declared.columns.TheConstants.{PERIOD_TYPE, PERIOD_ORIGIN, PERIOD_LENGTH}

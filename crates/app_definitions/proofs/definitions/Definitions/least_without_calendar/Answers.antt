@@ -8,8 +8,6 @@ use Rattle.app_definitions.specs.declared.applications.Application.{Application}
 use Rattle.app_definitions.specs.declared.definitions.Definitions.{Definitions}
 use Rattle.app_definitions.proofs.LeastLemmas.{before_all, before_none, before_skip, before_take, least_alike}
 use Rattle.app_definitions.proofs.definitions.Definitions.least_without_calendar.Goals as goal
-use Rattle.app_definitions.proofs.definitions.Definitions.least_without_calendar.Goals.{else-application-via-then-application+else-lacks_calendar}
-use Rattle.app_definitions.proofs.definitions.Definitions.least_without_calendar.Goals.{else-application-via-else-application}
 
 -- an application that is active and lacks one
 abbrev Holds : Definitions → List ℕ → Application → Type 0
@@ -35,9 +33,9 @@ pub loop-app-preserved : goal.loop-app-preserved
 loop-app-preserved c =
     let all = c.args.self.now in
     let not : ¬ (Holds all c.in-Some.app.now c.in-Some.application.now) = elim c.else-application.branch [
-      | else-application-via-then-application+else-lacks_calendar w ↦ λ h. false≢true
+      | goal.else-application-via-then-application+else-lacks_calendar w ↦ λ h. false≢true
           (sym w.if-lacks_calendar.false ∙ w.lacks_calendar.ensures.1 h.1)
-      | else-application-via-else-application w ↦ λ h. false≢true (sym w.if-application.false ∙ h.0)
+      | goal.else-application-via-else-application w ↦ λ h. false≢true (sym w.if-application.false ∙ h.0)
     ] in
     before_skip (Holds all) all.applications c.loop-app.app-iterator c.next.new.self c.loop-app.least
     c.in-Some.app.now c.in-Some.application.now
