@@ -1,0 +1,11 @@
+-- What holds of a value that is there.
+use Rattle.std.specs.Prelude.{Result, Ok, Err, IfOk, OnOk}
+
+pub if_ok : {A E : Type 0} (r : Result A E) (P Q : A → Type 0) → ((a : A) → P a → Q a) → IfOk r P → IfOk r Q
+if_ok (Ok a) P Q f h = f a h
+if_ok (Err e) P Q f h = tt
+
+pub on_ok : {A E : Type 0} (r : Result A E) (P : A → Type 0) (Q : Type 0) → ((a : A) → P a → Q) → IfOk r P
+    → OnOk r Q
+on_ok (Ok a) P Q f h = f a h
+on_ok (Err e) P Q f h = tt

@@ -1,0 +1,397 @@
+-- What the statements do to the tables.
+use Rattle.std.proofs.Common.{◌≡◌, ◌&&◌, ◌/◌, ◌≢◌, ℕ, Bool, true, false, not, cond, ◌==◌}
+use Rattle.std.proofs.Common.{List, [], ◌∷◌, ◌++◌, append-nil, length, map, filter, Some, Ok, refl, sym}
+use Rattle.std.proofs.Common.{ap, subst, ◌∙◌, IsTrue, arith, slice_get}
+use Rattle.std.specs.List.{AllByRecursion, flat_map, filter_map}
+use Rattle.std.specs.List.Sorted.{IsPermutation}
+use Rattle.std.proofs.lemmas.Bool.Decides.{nat_tests}
+use Rattle.sqlite_keyed.proofs.ListLemmas.{all-append, all_both, all_of, filter_all}
+use Rattle.sqlite.specs.Order.{Row}
+use Rattle.sqlite.specs.Term.{col}
+use Rattle.sqlite.specs.Tree.{Trees, put_row, rowid}
+use Rattle.sqlite.specs.View.{is_int}
+use Rattle.sqlite.specs.Source.TheVariants.{Values}
+use Rattle.sqlite.specs.Command.TheVariants.{Insert, Delete}
+use Rattle.sqlite.specs.Effect.{value_rows}
+use Rattle.sqlite.specs.Listing.{understood}
+use Rattle.sqlite.specs.Rowids.TheVariants.{Chosen, Given}
+use Rattle.sqlite.specs.Change.{created, next_tree}
+use Rattle.sqlite.specs.Clock.{timed}
+use Rattle.sqlite.specs.Program.{overlay}
+use Rattle.sqlite.specs.Does.{lacks_sequence}
+use Rattle.sqlite.specs.Schema.{Schema}
+use Rattle.sqlite.specs.State.{State, CommitsShowing, ExecutesInside, IsUnchanged, Shown, ShowsRows, Survives}
+use Rattle.sqlite.specs.declared.types.Value.TheVariants.{Null}
+use Rattle.sqlite.proofs.StateLemmas.{survives_weaker}
+use Rattle.sqlite.specs.Table.{Table as Described}
+use Rattle.sqlite.specs.Query.{IsAnswer}
+use Rattle.sqlite_rules.specs.Action as action
+use Rattle.sqlite_rules.specs.Calls.{ids_of}
+use Rattle.plan_schema.proofs.CycleLemmas.{cycles_alone}
+use Rattle.sqlite.proofs.Callers.{IsPlain, never_commits, one_step, reads_as, runs_as, statement_of}
+use Rattle.sqlite_rules.specs.Action.{deed_for, work_by, works}
+use Rattle.sqlite_schema.specs.Names.{same_name}
+use Rattle.sqlite_schema.specs.Rules.{parent_key}
+use Rattle.sqlite_value.specs.Keys.{joined}
+use Rattle.sqlite_rules.specs.Cast.{cast_row}
+use Rattle.sqlite_rules.specs.Edit.{Applies, edit_of, is_taken, with_rowid}
+use Rattle.sqlite_schema.specs.declared.schema.Keys.TheVariants.{Enforced}
+use Rattle.plan_schema.specs.Cells.{delete_tests, insert_terms, select_terms, width}
+use Rattle.plan_schema.specs.Rows.{AreOfKinds, HaveRowids, IsMade, IsMadeWhole, IsPlan, IsAlone, Stands}
+use Rattle.plan_schema.specs.Rows.{Tables, matches, placed, shown, stored, tables_of, with_cells}
+use Rattle.plan_schema.specs.Rows.{with_rows, without_key}
+use Rattle.plan_schema.specs.Schema.{after, before, checks, columns, key, name, no_schema, orders, place}
+use Rattle.plan_schema.specs.Schema.{plan_schema, primary, references, table, table_at, tree, uniques}
+use Rattle.plan_schema.specs.Texts.{create_sql, delete_sql, insert_sql, select_sql}
+use Rattle.plan_schema.specs.declared.tables.Table.{Table}
+use Rattle.plan_schema.specs.declared.tables.Table.TheVariants.{Meta, CalendarEntry, Period, Application}
+use Rattle.plan_schema.specs.declared.tables.Table.TheVariants.{RunCycle, Offset, Predecessor, LinkInForce}
+use Rattle.plan_schema.specs.declared.tables.Table.TheVariants.{LongTerm, Current, History, Deletion}
+use Rattle.plan_schema.specs.declared.tables.Table.TheVariants.{Dependency, Job}
+use Rattle.plan_schema.proofs.Meanings.{create_is, create_plain, delete_is, delete_plain, insert_is}
+use Rattle.plan_schema.proofs.Meanings.{insert_plain, made, select_is, select_plain}
+use Rattle.plan_schema.proofs.RowLemmas.{left_after, put_is_placed, rowids_filter, rowids_placed}
+use Rattle.plan_schema.proofs.Steps.{creates, deletes, inserts, plain_query, plain_rows}
+
+found : (t : Table) → slice_get plan_schema.tables (place t) ≡ Some (table t)
+found Meta = refl
+found CalendarEntry = refl
+found Period = refl
+found Application = refl
+found RunCycle = refl
+found Offset = refl
+found Predecessor = refl
+found LinkInForce = refl
+found LongTerm = refl
+found Current = refl
+found History = refl
+found Deletion = refl
+found Dependency = refl
+found Job = refl
+
+-- what holds of each table of the schema
+each : (P : Described → Type 0) → AllByRecursion P plan_schema.tables → (t : Table) → P (table t)
+each P all Meta = all.0
+each P all CalendarEntry = all.1.0
+each P all Period = all.1.1.0
+each P all Application = all.1.1.1.0
+each P all RunCycle = all.1.1.1.1.0
+each P all Offset = all.1.1.1.1.1.0
+each P all Predecessor = all.1.1.1.1.1.1.0
+each P all LinkInForce = all.1.1.1.1.1.1.1.0
+each P all LongTerm = all.1.1.1.1.1.1.1.1.0
+each P all Current = all.1.1.1.1.1.1.1.1.1.0
+each P all History = all.1.1.1.1.1.1.1.1.1.1.0
+each P all Deletion = all.1.1.1.1.1.1.1.1.1.1.1.0
+each P all Dependency = all.1.1.1.1.1.1.1.1.1.1.1.1.0
+each P all Job = all.1.1.1.1.1.1.1.1.1.1.1.1.1.0
+
+-- a row that is put in sets nothing off
+quiet : (t : Table) (b : Bool) → flat_map (λ child. filter_map (λ ref. work_by 0 (tree t) [] child ref (deed_for
+    Enforced b ref) (parent_key plan_schema.tables ref)) child.references) plan_schema.tables ≡ []
+unfolding same_name joined
+quiet Meta true = refl
+quiet Meta false = refl
+quiet CalendarEntry true = refl
+quiet CalendarEntry false = refl
+quiet Period true = refl
+quiet Period false = refl
+quiet Application true = refl
+quiet Application false = refl
+quiet RunCycle true = refl
+quiet RunCycle false = refl
+quiet Offset true = refl
+quiet Offset false = refl
+quiet Predecessor true = refl
+quiet Predecessor false = refl
+quiet LinkInForce true = refl
+quiet LinkInForce false = refl
+quiet LongTerm true = refl
+quiet LongTerm false = refl
+quiet Current true = refl
+quiet Current false = refl
+quiet History true = refl
+quiet History false = refl
+quiet Deletion true = refl
+quiet Deletion false = refl
+quiet Dependency true = refl
+quiet Dependency false = refl
+quiet Job true = refl
+quiet Job false = refl
+
+quiet_insert : (t : Table) (news : List Row) → works plan_schema Enforced 0 (tree t) [] news ≡ []
+quiet_insert t news = quiet t (length news == 0)
+
+-- nor does one that is taken out, of a run cycle only where it has no offsets
+settles : (t : Table) (values : Row) (db next : Trees) (found : List Row) → HaveRowids (db (tree t))
+    → IsAlone t values (tables_of db) → IsPermutation (map (λ r. rowid r ∷ []) (filter (matches t values) (db (tree
+    t)))) found
+    → action.Writes plan_schema Enforced db (edit_of db (table t) (ids_of found) Given 0 []) (Ok next)
+    → Applies plan_schema Enforced db (edit_of db (table t) (ids_of found) Given 0 []) next
+unfolding same_name joined
+settles Meta values db next found rowids free same h = one_step plan_schema Enforced db next (edit_of db (table
+    Meta) (ids_of found) Given 0 []) refl h
+settles CalendarEntry values db next found rowids free same h =
+    one_step plan_schema Enforced db next (edit_of db (table CalendarEntry) (ids_of found) Given 0 []) refl h
+settles Period values db next found rowids free same h = one_step plan_schema Enforced db next (edit_of db (table
+    Period) (ids_of found) Given 0 []) refl h
+settles Application values db next found rowids free same h = one_step plan_schema Enforced db next (edit_of db
+    (table Application) (ids_of found) Given 0 []) refl h
+settles RunCycle values db next found rowids free same h = cycles_alone values db next found rowids free same h
+settles Offset values db next found rowids free same h = one_step plan_schema Enforced db next (edit_of db (table
+    Offset) (ids_of found) Given 0 []) refl h
+settles Predecessor values db next found rowids free same h = one_step plan_schema Enforced db next (edit_of db
+    (table Predecessor) (ids_of found) Given 0 []) refl h
+settles LinkInForce values db next found rowids free same h = one_step plan_schema Enforced db next (edit_of db
+    (table LinkInForce) (ids_of found) Given 0 []) refl h
+settles LongTerm values db next found rowids free same h = one_step plan_schema Enforced db next (edit_of db (table
+    LongTerm) (ids_of found) Given 0 []) refl h
+settles Current values db next found rowids free same h = one_step plan_schema Enforced db next (edit_of db (table
+    Current) (ids_of found) Given 0 []) refl h
+settles History values db next found rowids free same h = one_step plan_schema Enforced db next (edit_of db (table
+    History) (ids_of found) Given 0 []) refl h
+settles Deletion values db next found rowids free same h = one_step plan_schema Enforced db next (edit_of db (table
+    Deletion) (ids_of found) Given 0 []) refl h
+settles Dependency values db next found rowids free same h = one_step plan_schema Enforced db next (edit_of db
+    (table Dependency) (ids_of found) Given 0 []) refl h
+settles Job values db next found rowids free same h = one_step plan_schema Enforced db next (edit_of db (table Job)
+    (ids_of found) Given 0 []) refl h
+
+given_rows : (t : Table) (cells : Row) → value_rows cells (width t) (length (insert_terms t) / width t)
+    (insert_terms t) ≡ stored t cells ∷ []
+given_rows Meta cells = refl
+given_rows CalendarEntry cells = refl
+given_rows Period cells = refl
+given_rows Application cells = refl
+given_rows RunCycle cells = refl
+given_rows Offset cells = refl
+given_rows Predecessor cells = refl
+given_rows LinkInForce cells = refl
+given_rows LongTerm cells = refl
+given_rows Current cells = refl
+given_rows History cells = refl
+given_rows Deletion cells = refl
+given_rows Dependency cells = refl
+given_rows Job cells = refl
+
+own : (t : Table) (db : Trees) → overlay db [] (tree t) ≡ db (tree t)
+own Meta db = refl
+own CalendarEntry db = refl
+own Period db = refl
+own Application db = refl
+own RunCycle db = refl
+own Offset db = refl
+own Predecessor db = refl
+own LinkInForce db = refl
+own LongTerm db = refl
+own Current db = refl
+own History db = refl
+own Deletion db = refl
+own Dependency db = refl
+own Job db = refl
+
+same_tables : (t : Table) (rows : List Row) (old new : Trees) → AllByRecursion (λ d. d.tree ≢ tree t
+    → new d.tree ≡ old d.tree) plan_schema.tables → new (tree t) ≡ rows
+    → tables_of new ≡ with_rows t rows (tables_of old)
+same_tables t rows old new others here = λ i u. go u (tree u == tree t) refl i
+  where
+    go : (u : Table) (b : Bool) → (tree u == tree t) ≡ b → new (tree u) ≡ cond b rows (old (tree u))
+    go u true e = let same : tree u ≡ tree t = grind (arith, nat_tests) in ap new same ∙ here
+    go u false e = each (λ d. d.tree ≢ tree t → new d.tree ≡ old d.tree) others u (λ same. absurd (grind (
+      arith,
+      nat_tests,
+    )))
+
+one_fresh : (a : Bool) → (not a && true) ≡ true → a ≡ false
+one_fresh true h = cc
+one_fresh false h = refl
+
+one_int : (a : Bool) → (a && true) ≡ true → a ≡ true
+one_int true h = refl
+one_int false h = cc
+
+rowids_in : (t : Table) (rows : List Row) (old : Tables) (new : Tables) → new ≡ with_rows t rows old
+    → HaveRowids rows → ((u : Table) → HaveRowids (old u)) → (u : Table) → HaveRowids (new u)
+rowids_in t rows old new is here all u = subst (λ (tables : Tables). HaveRowids (tables u)) (sym is) (go (tree u ==
+    tree t))
+  where
+    go : (b : Bool) → HaveRowids (cond b rows (old u))
+    go true = here
+    go false = all u
+
+pub inserted : (t : Table) (cells : Row) (old new : State) (count : ℕ) → IsPlan old → AreOfKinds t cells
+    → ExecutesInside 0 (insert_sql t) cells old new (Ok count)
+    → Stands old new (with_cells t cells (tables_of old.now.trees))
+inserted t cells old new count plan kinds h =
+    let w = runs_as (insert_sql t) cells old new plan_schema plan.schema (Insert (place t) (Values (insert_terms t)
+    (width t))) (insert_is t) (insert_plain t) count h.0 in
+    let step = inserts plan_schema (place t) (name t) (tree t) (columns t) (key t) (primary t) (uniques t) (orders
+    t) (checks t) (references t) (found t) (quiet_insert t) old new (insert_terms t) (width t) cells
+    (statement_of (insert_sql t) (understood plan_schema (insert_sql t))) count plan.schema w in
+    let was = old.now.trees (tree t) in
+    let row = with_rowid Chosen was (stored t cells) in
+    let given : value_rows (cells ++ []) (width t) (length (insert_terms t) / width t) (insert_terms t) ≡ stored t
+    cells ∷ []
+    = ap (λ c. value_rows c (width t) (length (insert_terms t) / width t) (insert_terms t)) (append-nil cells)
+    ∙ given_rows t cells in
+    let applies = subst (λ l. Applies plan_schema Enforced old.now.trees (edit_of old.now.trees (table t) [] Chosen
+    0 l) new.now.trees) given step.1 in
+    let same : with_rowid Chosen was (cast_row (table t) (stored t cells)) ≡ row =
+    ap (with_rowid Chosen was) kinds in
+    let fresh : is_taken was row ≡ false = subst (λ r. is_taken was r ≡ false) same (one_fresh _ applies.fresh) in
+    let keyed : IsTrue (is_int (rowid row)) = subst (λ r. IsTrue (is_int (rowid r))) same (one_int _ applies.keyed)
+    in
+    let here : new.now.trees (tree t) ≡ placed row was = applies.rows ∙ ap (λ r. put_row r was) same
+    ∙ put_is_placed row was fresh in
+    let all = same_tables t (placed row was) old.now.trees new.now.trees applies.tables here in
+    record {
+      plan = record {
+        schema = step.0;
+        rowids = rowids_in t (placed row was) (tables_of old.now.trees) (tables_of new.now.trees) all
+            (rowids_placed row was keyed fresh (plan.rowids t)) plan.rowids;
+      };
+      rows_are = all;
+      committed = h.1.committed_is;
+      mode = h.1.mode;
+    }
+
+pub deleted : (t : Table) (values : Row) (old new : State) (count : ℕ) → IsPlan old
+    → IsAlone t values (tables_of old.now.trees) → ExecutesInside 0 (delete_sql t) values old new (Ok count)
+    → Stands old new (without_key t values (tables_of old.now.trees))
+deleted t values old new count plan free h =
+    let q = plain_query (tree t) (delete_tests t) (col 1 0 ∷ []) in
+    let was = old.now.trees (tree t) in
+    let left = filter (λ r. not (matches t values r)) was in
+    let seen = λ (found : List Row) (a : IsAnswer q (overlay old.now.trees []) values found).
+    plain_rows (tree t) (delete_tests t) (col 1 0 ∷ []) old.now.trees values found (own t old.now.trees) a in
+    let w = runs_as (delete_sql t) values old new plan_schema plan.schema (Delete (place t) (record {
+      lets =
+          [];
+      body = q;
+    }))
+    (delete_is t) (delete_plain t) count h.0 in
+    let step = deletes plan_schema (place t) (name t) (tree t) (columns t) (key t) (primary t) (uniques t) (orders
+    t) (checks t)
+    (references t) (found t) old new q values
+    (λ rows next a writes. settles t values old.now.trees next rows (plan.rowids t) free (seen rows a) writes)
+    (statement_of (delete_sql t) (understood plan_schema (delete_sql t))) count plan.schema w in
+    let here : new.now.trees (tree t) ≡ left
+    = step.1.2.rows ∙ left_after (matches t values) was step.1.0 (plan.rowids t) (seen step.1.0 step.1.1) in
+    let all = same_tables t left old.now.trees new.now.trees step.1.2.tables here in
+    record {
+      plan = record {
+        schema = step.0;
+        rowids = rowids_in t left (tables_of old.now.trees) (tables_of new.now.trees) all
+            (rowids_filter (λ r. not (matches t values r)) was (plan.rowids t)) plan.rowids;
+      };
+      rows_are = all;
+      committed = h.1.committed_is;
+      mode = h.1.mode;
+    }
+
+-- ---- the tables are made
+
+grown : (t : Table) → (after t).tables ≡ (before t).tables ++ table t ∷ []
+grown Meta = refl
+grown CalendarEntry = refl
+grown Period = refl
+grown Application = refl
+grown RunCycle = refl
+grown Offset = refl
+grown Predecessor = refl
+grown LinkInForce = refl
+grown LongTerm = refl
+grown Current = refl
+grown History = refl
+grown Deletion = refl
+grown Dependency = refl
+grown Job = refl
+
+next_is : (t : Table) → next_tree (before t) ≡ tree t
+next_is Meta = refl
+next_is CalendarEntry = refl
+next_is Period = refl
+next_is Application = refl
+next_is RunCycle = refl
+next_is Offset = refl
+next_is Predecessor = refl
+next_is LinkInForce = refl
+next_is LongTerm = refl
+next_is Current = refl
+next_is History = refl
+next_is Deletion = refl
+next_is Dependency = refl
+next_is Job = refl
+
+uncounted : (t : Table) → lacks_sequence (created (before t) (table_at 0 t)) ≡ false
+uncounted Meta = refl
+uncounted CalendarEntry = refl
+uncounted Period = refl
+uncounted Application = refl
+uncounted RunCycle = refl
+uncounted Offset = refl
+uncounted Predecessor = refl
+uncounted LinkInForce = refl
+uncounted LongTerm = refl
+uncounted Current = refl
+uncounted History = refl
+uncounted Deletion = refl
+uncounted Dependency = refl
+uncounted Job = refl
+
+pub makes : (t : Table) (old new : State) (count : ℕ) → IsMade old (before t)
+    → ExecutesInside 0 (create_sql t) [] old new (Ok count) → IsMade new (after t)
+makes t old new count has h =
+    let is = create_is t in
+    let step = creates (before t) (table_at 0 t) (create_sql t) is.0 is.1 is.2 (create_plain t) (uncounted t) old
+    new count has.schema h.0 in
+    let others = all_both (λ d. new.now.trees d.tree ≡ old.now.trees d.tree) (λ d. old.now.trees d.tree ≡ []) (λ d.
+    new.now.trees d.tree ≡ []) (λ d same none. same ∙ none)
+    (before t).tables step.2 has.empty in
+    let here : new.now.trees (tree t) ≡ [] = subst (λ n. new.now.trees n ≡ []) (next_is t) step.1 in
+    record {
+      schema = step.0 ∙ made t;
+      empty = subst (AllByRecursion (λ d. new.now.trees d.tree ≡ [])) (sym (grown t)) (all-append (λ d.
+          new.now.trees d.tree ≡ []) (before t).tables (table t ∷ []) others (here, tt));
+      mode = h.1.mode;
+    }
+
+-- all tables are made
+pub all_made : (s : State) → IsMade s plan_schema → IsMadeWhole s
+all_made s is = record {
+  plan = record {
+    schema = is.schema;
+    rowids = λ t. subst HaveRowids (sym (each (λ d. s.now.trees d.tree ≡ [])
+        is.empty t)) tt;
+  };
+  rows_are = λ i t. each (λ d. s.now.trees d.tree ≡ []) is.empty t i;
+  mode = is.mode;
+}
+
+pub none_made : (s : State) → s.now.schema ≡ no_schema → IsTrue s.in_transaction → IsMade s (before Meta)
+none_made s is mode = record { schema = is; empty = tt; mode = mode }
+
+-- ---- the rows are read
+
+pub reads : (t : Table) (old new : State) (rows : List Row) → old.now.schema ≡ plan_schema
+    → Shown (select_sql t) [] old new rows
+    → IsPermutation (map (shown t) (tables_of old.now.trees t)) rows
+reads t old new rows has h =
+    let was = old.now.trees (tree t) in
+    let answers = reads_as (select_sql t) [] old new plan_schema has _ (select_is t).0 (select_plain t) (select_is
+    t).1 rows h in
+    subst (λ l. IsPermutation (map (shown t) l) rows) (filter_all (λ _. true) was (all_of _ (λ _. refl) was))
+    (plain_rows (tree t) [] (select_terms t) old.now.trees [] rows (own t old.now.trees) (answers.answer Null))
+
+-- a query changes nothing
+pub unchanged_by : (schema : Schema) (sql : List ℕ) (old new : State) (rows : List Row)
+    → IsPlain (understood schema sql) → old.now.schema ≡ schema → Shown sql [] old new rows → IsUnchanged old new
+unfolding Shown
+unchanged_by schema sql old new rows plain has h =
+    let none = (subst IsPlain (ap (λ s. understood s sql) (sym has) ∙ h.1.is) plain).0 in
+    (subst (ShowsRows old new sql h.0 (timed [] h.0.formats h.1.now) rows) none h.2).3
+
+pub quiet_by : (schema : Schema) (sql : List ℕ) (old new : State) → IsPlain (understood schema sql)
+    → Survives old new (CommitsShowing sql [] old) → Survives old new (λ _. old.now.schema ≡ schema → ⊥)
+quiet_by schema sql old new plain = survives_weaker old new _ _ (λ _ db c has. never_commits sql [] old db (subst
+    (λ s. IsPlain (understood s sql)) (sym has) plain) c)

@@ -1,0 +1,25 @@
+use Rattle.sqlite.specs.Held.{state}
+use Rattle.plan_schema.specs.Schema.{plan_schema}
+use Rattle.plan_schema.specs.Texts.{select_sql}
+use Rattle.plan_schema.proofs.Meanings.{select_plain}
+use Rattle.plan_schema.proofs.ResultLemmas.{if_ok, on_ok}
+use Rattle.plan_schema.proofs.StepLemmas.{quiet_by, reads, unchanged_by}
+use Rattle.plan_schema.proofs.statements.select.Goals as goal
+
+pub returns-clause-rows : goal.returns-clause-rows
+returns-clause-rows g c clean has =
+    if_ok c.query_all.result _ _ (λ rows h. reads c.args.table (state g.S.Store c.args.conn.now) (state g.S.Store
+    c.query_all.new.self) rows.items has h)
+    (rw c.select_text.ensures at (c.query_all.ensures.ok clean))
+
+pub returns-clause-same : goal.returns-clause-same
+returns-clause-same g c clean has =
+    on_ok c.query_all.result _ _ (λ rows h. unchanged_by plan_schema (select_sql c.args.table) (state g.S.Store
+    c.args.conn.now) (state g.S.Store c.query_all.new.self) rows.items (select_plain c.args.table) has h)
+    (rw c.select_text.ensures at (c.query_all.ensures.ok clean))
+
+pub returns-clause-survives : goal.returns-clause-survives
+returns-clause-survives g c =
+    quiet_by plan_schema (select_sql c.args.table) (state g.S.Store c.args.conn.now) (state g.S.Store
+    c.query_all.new.self) (select_plain c.args.table)
+    (rw c.select_text.ensures at c.query_all.ensures.survives)

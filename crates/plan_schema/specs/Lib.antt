@@ -1,0 +1,4 @@
+pub mod Texts
+pub mod Schema
+pub mod Cells
+pub mod Rows

@@ -1,0 +1,11 @@
+//! The tables of the plan: their schema, and statements that put rows of values into them, take rows out and show them.
+#![tactic(auto)]
+
+mod making;
+mod statements;
+mod tables;
+mod texts;
+
+pub use making::make_tables;
+pub use statements::{delete, insert, select};
+pub use tables::Table;
