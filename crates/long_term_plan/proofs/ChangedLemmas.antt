@@ -1,5 +1,6 @@
 -- A change that modifies the long-term plan, and what it makes of a content.
-use Rattle.std.proofs.Common.{◌≡◌, ◌↔◌, ◌⊎◌, ℕ, ◌+◌, ◌++◌, List, [], length, map, refl, sym, ap, subst, ◌∙◌, inl, inr, arith, Option, None, Some}
+use Rattle.std.proofs.Common.{◌≡◌, ◌↔◌, ◌⊎◌, ℕ, ◌+◌, ◌++◌, List, [], length, map, refl, sym, ap, subst, ◌∙◌, inl, inr}
+use Rattle.std.proofs.Common.{arith, Option, None, Some}
 use Rattle.std.specs.Prelude.{is_some, option_map, unwrap_or, if◌then◌else◌}
 use Rattle.std.specs.List.{Contains}
 use Rattle.std.proofs.lemmas.List.Elements.{Contains-append_cases, Contains-append_left, Contains-append_right}
@@ -33,7 +34,8 @@ use Rattle.long_term_plan.specs.Making.{MakesSets, numbered}
 use Rattle.long_term_plan.specs.Modifying.{AreParted, Looks, looks, modified_sets, outcome}
 use Rattle.long_term_plan.proofs.DeleteLemmas.{serial_is}
 use Rattle.long_term_plan.proofs.MakingLemmas.{cp_stays, deletions_stay, history_stays, ltp_gains}
-use Rattle.long_term_plan.proofs.ModifyingLemmas.{count_planned, fits_parted, gone_in, gone_look, gone_once, look_withdrawn, moved_ltp, once_withdrawn, planned_has}
+use Rattle.long_term_plan.proofs.ModifyingLemmas.{count_planned, fits_parted, gone_in, gone_look, gone_once}
+use Rattle.long_term_plan.proofs.ModifyingLemmas.{look_withdrawn, moved_ltp, once_withdrawn, planned_has}
 use Rattle.long_term_plan.proofs.NumberLemmas.{made_listed, numbered_high, numbered_look, numbered_made, planned_after}
 
 -- the test of applications says what the relation says
@@ -69,78 +71,79 @@ module _ (all : Definitions) (c : Sets) (sound : RowsSound c) (only : Option (Li
 
 module _ (all : Definitions) (c : Sets) (sound : RowsSound c) (rows : List Row)
     (lists : ListsSet of_row c.ltp IsAny rows) (only : Option (List ℕ)) (named : List Draft)
-    (planned gone changed : List Row) (is : AreParted (outcome only named) rows planned gone changed) (new : List Draft) where
-  abbrev mid : Sets
-  mid = middle all c sound only named
+    (planned gone changed : List Row) (is : AreParted (outcome only named) rows planned gone changed) (new : List Draft)
+  where
+    abbrev mid : Sets
+    mid = middle all c sound only named
 
-  mid_sound : RowsSound mid
-  mid_sound = middle_sound all c sound only named
+    mid_sound : RowsSound mid
+    mid_sound = middle_sound all c sound only named
 
-  abbrev target : Sets
-  target = modified_sets only named new c
+    abbrev target : Sets
+    target = modified_sets only named new c
 
-  in_plan : (serial : ℕ) (row : Row) (m : Option Row) → made c.issued new serial ≡ m
-      → (seat_made LongTerm m (seat mid serial)).ltp ≡ Some row
-      → (Contains planned row ⊎ Contains (numbered c.issued new) row) × (row.serial ≡ serial)
-  in_plan serial row None none at =
-      let own = serial_is mid mid_sound serial row at in (
-        inl ((planned_has c sound rows lists only named planned gone changed is row).1
-            (subst (λ n. mid.ltp n ≡ Some row) (sym own) at)),
-        own,
-      )
-  in_plan serial row (Some other) some at =
-      let same : other ≡ row = cc in
-      let here = made_listed c.issued new serial row (some ∙ at) in (inr here.0, here.1)
+    in_plan : (serial : ℕ) (row : Row) (m : Option Row) → made c.issued new serial ≡ m
+        → (seat_made LongTerm m (seat mid serial)).ltp ≡ Some row
+        → (Contains planned row ⊎ Contains (numbered c.issued new) row) × (row.serial ≡ serial)
+    in_plan serial row None none at =
+        let own = serial_is mid mid_sound serial row at in (
+          inl ((planned_has c sound rows lists only named planned gone changed is row).1
+              (subst (λ n. mid.ltp n ≡ Some row) (sym own) at)),
+          own,
+        )
+    in_plan serial row (Some other) some at =
+        let same : other ≡ row = cc in
+        let here = made_listed c.issued new serial row (some ∙ at) in (inr here.0, here.1)
 
-  in_lists : (row : Row) → Contains (planned ++ numbered c.issued new) row
-      ↔ (target.ltp row.serial ≡ Some row)
-  in_lists row = (
-    (λ there. elim (Contains-append_cases planned (numbered c.issued new) row there) [
-      | inl stays ↦
-          let at = (planned_has c sound rows lists only named planned gone changed is row).0 stays in
-          sym (ltp_gains mid mid_sound new row.serial (made c.issued new row.serial))
-          ∙ ap (λ m. or_else m (mid.ltp row.serial)) (none_made row at) ∙ at
-      | inr put ↦ ap (λ m. (seat_made LongTerm m (seat mid row.serial)).ltp) (numbered_made c.issued new row put)
-    ]),
-    λ at. elim (in_plan row.serial row (made c.issued new row.serial) refl at).0 [
-      | inl was ↦ Contains-append_left planned (numbered c.issued new) row was
-      | inr put ↦ Contains-append_right planned (numbered c.issued new) row put
-    ],
-  )
-    where
-      none_made : (row : Row) → mid.ltp row.serial ≡ Some row → made c.issued new row.serial ≡ None
-      none_made row at = by_made (made c.issued new row.serial) refl
-        where
-          by_made : (m : Option Row) → made c.issued new row.serial ≡ m → m ≡ None
-          by_made None some = refl
-          by_made (Some other) some =
-              let (there, same) = made_listed c.issued new row.serial other some in
-              let high = numbered_high c.issued new other there in
-              let empty = ap (λ (s : Seat). s.ltp) (mid_sound.unissued row.serial (inr (omega (arith, high, same)))) in
-              let no : None ≡ Some row = sym empty ∙ at in cc
+    in_lists : (row : Row) → Contains (planned ++ numbered c.issued new) row
+        ↔ (target.ltp row.serial ≡ Some row)
+    in_lists row = (
+      (λ there. elim (Contains-append_cases planned (numbered c.issued new) row there) [
+        | inl stays ↦
+            let at = (planned_has c sound rows lists only named planned gone changed is row).0 stays in
+            sym (ltp_gains mid mid_sound new row.serial (made c.issued new row.serial))
+            ∙ ap (λ m. or_else m (mid.ltp row.serial)) (none_made row at) ∙ at
+        | inr put ↦ ap (λ m. (seat_made LongTerm m (seat mid row.serial)).ltp) (numbered_made c.issued new row put)
+      ]),
+      λ at. elim (in_plan row.serial row (made c.issued new row.serial) refl at).0 [
+        | inl was ↦ Contains-append_left planned (numbered c.issued new) row was
+        | inr put ↦ Contains-append_right planned (numbered c.issued new) row put
+      ],
+    )
+      where
+        none_made : (row : Row) → mid.ltp row.serial ≡ Some row → made c.issued new row.serial ≡ None
+        none_made row at = by_made (made c.issued new row.serial) refl
+          where
+            by_made : (m : Option Row) → made c.issued new row.serial ≡ m → m ≡ None
+            by_made None some = refl
+            by_made (Some other) some =
+                let (there, same) = made_listed c.issued new row.serial other some in
+                let high = numbered_high c.issued new other there in
+                let empty = ap (λ (s : Seat). s.ltp) (mid_sound.unissued row.serial (inr (omega (arith, high, same)))) in
+                let no : None ≡ Some row = sym empty ∙ at in cc
 
-  -- the rows of the plans and of history then
-  pub lists_then : RowsSound target → (cp : List CurrentRow) → ListsSet of_current c.cp IsAny cp
-      → (history : List Row) → ListsSet of_row c.history IsAny history
-      → HasLists target (planned ++ numbered c.issued new) cp history
-  lists_then keeps cp cp_are history history_are = record {
-    sound = keeps;
-    ltp = in_lists;
-    cp = λ x. subst (λ (o : Option CurrentRow). Contains cp x ↔ (o ≡ Some x))
-        (cp_stays mid mid_sound new x.row.serial (made c.issued new x.row.serial) refl)
-        (of_set of_current c.cp cp cp_are x);
-    history = λ x. subst (λ (o : Option Row). Contains history x ↔ (o ≡ Some x))
-        (history_stays mid mid_sound new x.serial (made c.issued new x.serial) refl)
-        (of_set of_row c.history history history_are x);
-  }
+    -- the rows of the plans and of history then
+    pub lists_then : RowsSound target → (cp : List CurrentRow) → ListsSet of_current c.cp IsAny cp
+        → (history : List Row) → ListsSet of_row c.history IsAny history
+        → HasLists target (planned ++ numbered c.issued new) cp history
+    lists_then keeps cp cp_are history history_are = record {
+      sound = keeps;
+      ltp = in_lists;
+      cp = λ x. subst (λ (o : Option CurrentRow). Contains cp x ↔ (o ≡ Some x))
+          (cp_stays mid mid_sound new x.row.serial (made c.issued new x.row.serial) refl)
+          (of_set of_current c.cp cp cp_are x);
+      history = λ x. subst (λ (o : Option Row). Contains history x ↔ (o ≡ Some x))
+          (history_stays mid mid_sound new x.serial (made c.issued new x.serial) refl)
+          (of_set of_row c.history history history_are x);
+    }
 
-  -- how many rows the plans have then
-  pub planned_then : size_of_plans target
-      ≡ length planned + size c.cp c.issued + length new
-  planned_then =
-      let all_rows = planned_after mid new (λ serial past. mid_sound.unissued serial (inr past)) in
-      let stay = count_planned c sound rows lists only named planned gone changed is in
-      omega (arith, all_rows, stay)
+    -- how many rows the plans have then
+    pub planned_then : size_of_plans target
+        ≡ length planned + size c.cp c.issued + length new
+    planned_then =
+        let all_rows = planned_after mid new (λ serial past. mid_sound.unissued serial (inr past)) in
+        let stay = count_planned c sound rows lists only named planned gone changed is in
+        omega (arith, all_rows, stay)
 
 module _ (c : Content) (sound : IsSound c) (links : List Link) (rows : List Row)
     (lists : ListsSet of_row c.sets.ltp IsAny rows) (only : Option (List ℕ)) (named new : List Draft)

@@ -4,7 +4,8 @@ use Rattle.std.proofs.lemmas.Bool.{cases_lt}
 use Rattle.app_definitions.specs.Active.{HasNoCalendar, HasNoPeriod}
 use Rattle.occurrences.specs.Refusal.{refusal_number}
 use Rattle.occurrences.specs.declared.refusal.Refusal.{Refusal}
-use Rattle.occurrences.specs.declared.refusal.Refusal.TheVariants.{CalendarUndefined, DatesOutOfRange, Loop, PeriodUndefined, PlanExists, TooManyRows}
+use Rattle.occurrences.specs.declared.refusal.Refusal.TheVariants.{CalendarUndefined, DatesOutOfRange, Loop}
+use Rattle.occurrences.specs.declared.refusal.Refusal.TheVariants.{PeriodUndefined, PlanExists, TooManyRows}
 use Rattle.occurrences.specs.declared.reply.Reply.TheVariants.{Made}
 use Rattle.external_dependencies.specs.Loop.{IsLeastOnLoop}
 use Rattle.external_dependencies.specs.declared.links.Link.{Link}
@@ -21,7 +22,8 @@ use Rattle.planner_machine.proofs.SoundLemmas.{rows_sound}
 use Rattle.plan_store.specs.Verdicts.{VerdictIs}
 use Rattle.plan_store.specs.declared.changes.Verdict.{Verdict}
 use Rattle.plan_store.specs.declared.changes.Verdict.TheVariants.{Done, Refused}
-use Rattle.long_term_plan.specs.Making.{AddsDays, AreDaysAdded, IsMadeOrTooMany, KeepsRowsSound, LacksDefinition, planned_sets}
+use Rattle.long_term_plan.specs.Making.{AddsDays, AreDaysAdded, IsMadeOrTooMany, KeepsRowsSound, LacksDefinition}
+use Rattle.long_term_plan.specs.Making.{planned_sets}
 use Rattle.long_term_plan.proofs.MakingLemmas.{changes_plans}
 use Rattle.long_term_plan.proofs.RefusalLemmas.{no_loop}
 

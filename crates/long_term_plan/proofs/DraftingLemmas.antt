@@ -1,12 +1,16 @@
 -- Drafts that the calendars name, and those of them that are new.
-use Rattle.std.proofs.Common.{◌≡◌, ◌≢◌, ◌↔◌, ℕ, ◌+◌, ◌<◌, ◌≤◌, ◌++◌, Bool, true, false, List, [], ◌∷◌, length, filter, map, get_or, refl, rules, sym, ap, append_assoc, subst, ◌∙◌, inl, inr, arith, Option, None, Some}
+use Rattle.std.proofs.Common.{◌≡◌, ◌≢◌, ◌↔◌, ℕ, ◌+◌, ◌<◌, ◌≤◌, ◌++◌, Bool, true, false, List, [], ◌∷◌, length, filter}
+use Rattle.std.proofs.Common.{map, get_or, refl, rules, sym, ap, append_assoc, subst, ◌∙◌, inl, inr, arith, Option}
+use Rattle.std.proofs.Common.{None, Some}
 use Rattle.std.specs.Prelude.{Any, nat_le, not, unwrap_or, IsSome, IsTrue, if◌then◌else◌}
 use Rattle.std.specs.FinMap as map
 use Rattle.std.specs.List.{Contains}
 use Rattle.std.proofs.lemmas.Bool.{false≢true, le-leb, leb-true}
 use Rattle.std.specs.Ordering.{is_ge, nat_cmp}
 use Rattle.std.proofs.lemmas.List.{append-nil, map-append}
-use Rattle.std.proofs.lemmas.List.Elements.{All-contains, Contains-append_cases, Contains-append_left, Contains-append_right, Contains-get_or, Contains-push, Contains-push_cases, filter-append}
+use Rattle.std.proofs.lemmas.List.Elements.{All-contains, Contains-append_cases, Contains-append_left}
+use Rattle.std.proofs.lemmas.List.Elements.{Contains-append_right, Contains-get_or, Contains-push, Contains-push_cases}
+use Rattle.std.proofs.lemmas.List.Elements.{filter-append}
 use Rattle.std.proofs.lemmas.List.Kept.{AllPairs-filter}
 use Rattle.std.proofs.lemmas.List.Quantifiers.{all_pairs_push}
 use Rattle.work_calendars.specs.Minute.{IsMinute}
@@ -30,7 +34,8 @@ use Rattle.planner_machine.specs.Drafts.{AreDrafts, IsMade, IsNamed, NamesWithin
 use Rattle.planner_machine.specs.Sound.{AreDefinitions}
 use Rattle.plan_store.specs.Views.{IsDeletedKey, IsPlannedRow}
 use Rattle.plan_pairs.proofs.ListLemmas.{filter_has, filter_keeps, none}
-use Rattle.long_term_plan.specs.Drafting.{AddsDrafts, AreCollected, AreDraftsOf, AreInOrder, AreNew, HaveOwnKeys, IsNamedFrom, IsNewKey, NamesFor, drafts_from, is_from}
+use Rattle.long_term_plan.specs.Drafting.{AddsDrafts, AreCollected, AreDraftsOf, AreInOrder, AreNew, HaveOwnKeys}
+use Rattle.long_term_plan.specs.Drafting.{IsNamedFrom, IsNewKey, NamesFor, drafts_from, is_from}
 use Rattle.long_term_plan.proofs.PairwiseLemmas.{append_pairs, front_pairs, last_pairs, map_pairs}
 
 -- ---- times of named occurrences

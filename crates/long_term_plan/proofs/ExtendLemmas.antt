@@ -1,10 +1,12 @@
 -- Extension of the long-term plan is what the machine decides.
-use Rattle.std.proofs.Common.{◌≡◌, ◌≢◌, ◌∙◌, ℕ, ◌+◌, ◌<◌, ◌≤◌, List, length, refl, sym, subst, inl, inr, arith, None, Some}
+use Rattle.std.proofs.Common.{◌≡◌, ◌≢◌, ◌∙◌, ℕ, ◌+◌, ◌<◌, ◌≤◌, List, length, refl, sym, subst, inl, inr, arith, None}
+use Rattle.std.proofs.Common.{Some}
 use Rattle.std.proofs.lemmas.Bool.{cases_lt}
 use Rattle.app_definitions.specs.Active.{HasNoCalendar, HasNoPeriod}
 use Rattle.occurrences.specs.Refusal.{refusal_number}
 use Rattle.occurrences.specs.declared.refusal.Refusal.{Refusal}
-use Rattle.occurrences.specs.declared.refusal.Refusal.TheVariants.{CalendarUndefined, DatesOutOfRange, Loop, NoPlan, PeriodUndefined, TooManyRows}
+use Rattle.occurrences.specs.declared.refusal.Refusal.TheVariants.{CalendarUndefined, DatesOutOfRange, Loop, NoPlan}
+use Rattle.occurrences.specs.declared.refusal.Refusal.TheVariants.{PeriodUndefined, TooManyRows}
 use Rattle.occurrences.specs.declared.reply.Reply.TheVariants.{Made}
 use Rattle.external_dependencies.specs.Loop.{IsLeastOnLoop}
 use Rattle.external_dependencies.specs.declared.links.Link.{Link}
@@ -22,7 +24,8 @@ use Rattle.planner_machine.proofs.SoundLemmas.{rows_sound}
 use Rattle.plan_store.specs.Verdicts.{VerdictIs}
 use Rattle.plan_store.specs.declared.changes.Verdict.{Verdict}
 use Rattle.plan_store.specs.declared.changes.Verdict.TheVariants.{Done, Refused}
-use Rattle.long_term_plan.specs.Making.{AddsDays, AreDaysAdded, IsMadeOrTooMany, KeepsRowsSound, LacksDefinition, planned_sets}
+use Rattle.long_term_plan.specs.Making.{AddsDays, AreDaysAdded, IsMadeOrTooMany, KeepsRowsSound, LacksDefinition}
+use Rattle.long_term_plan.specs.Making.{planned_sets}
 use Rattle.long_term_plan.proofs.MakingLemmas.{changes_plans}
 use Rattle.long_term_plan.proofs.RefusalLemmas.{no_loop}
 

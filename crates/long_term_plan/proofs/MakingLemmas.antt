@@ -1,5 +1,6 @@
 -- A change that makes drafts in the long-term plan, and what it makes of a content.
-use Rattle.std.proofs.Common.{◌≡◌, ◌↔◌, ◌⊎◌, ℕ, ◌+◌, ◌<◌, ◌++◌, List, [], length, refl, sym, ap, subst, ◌∙◌, inl, inr, arith, Option, None, Some}
+use Rattle.std.proofs.Common.{◌≡◌, ◌↔◌, ◌⊎◌, ℕ, ◌+◌, ◌<◌, ◌++◌, List, [], length, refl, sym, ap, subst, ◌∙◌, inl, inr}
+use Rattle.std.proofs.Common.{arith, Option, None, Some}
 use Rattle.std.specs.Prelude.{unwrap_or}
 use Rattle.std.specs.List.{Contains}
 use Rattle.std.proofs.lemmas.List.Elements.{Contains-append_cases, Contains-append_left, Contains-append_right}
@@ -32,7 +33,8 @@ use Rattle.long_term_plan.specs.Drafting.{AreNew, NamesFor}
 use Rattle.long_term_plan.specs.Making.{AreDaysAdded, MakesSets, numbered, planned_sets}
 use Rattle.long_term_plan.proofs.DeleteLemmas.{serial_is}
 use Rattle.long_term_plan.proofs.DraftingLemmas.{named_for_all, new_are, same_drafts}
-use Rattle.long_term_plan.proofs.NumberLemmas.{made_listed, numbered_high, numbered_look, numbered_made, numbered_once, planned_after}
+use Rattle.long_term_plan.proofs.NumberLemmas.{made_listed, numbered_high, numbered_look, numbered_made, numbered_once}
+use Rattle.long_term_plan.proofs.NumberLemmas.{planned_after}
 use Rattle.plan_pairs.proofs.SetLemmas.{fits_nothing, fits_put, moves_nothing, moves_put}
 
 -- what a change is that makes the drafts

@@ -4,7 +4,8 @@ use Rattle.std.proofs.lemmas.Bool.{cases_lt}
 use Rattle.app_definitions.specs.Active.{HasNoCalendar, HasNoPeriod}
 use Rattle.occurrences.specs.Refusal.{refusal_number}
 use Rattle.occurrences.specs.declared.refusal.Refusal.{Refusal}
-use Rattle.occurrences.specs.declared.refusal.Refusal.TheVariants.{CalendarUndefined, Loop, NoPlan, PeriodUndefined, TooManyRows}
+use Rattle.occurrences.specs.declared.refusal.Refusal.TheVariants.{CalendarUndefined, Loop, NoPlan, PeriodUndefined}
+use Rattle.occurrences.specs.declared.refusal.Refusal.TheVariants.{TooManyRows}
 use Rattle.external_dependencies.specs.Loop.{IsLeastOnLoop}
 use Rattle.external_dependencies.specs.declared.links.Link.{Link}
 use Rattle.planner_machine.specs.declared.content.Bounds.{Bounds}
@@ -82,43 +83,44 @@ module _ (c : Content) where
       )
 
       module _ (sound : IsSound c) (none : IsLeastOnLoop links None) (named new : List Draft)
-          (are_named : AreDrafts (NamesThen c None) named) (are_new : AreDrafts (IsMade (NamesThen c None) c.sets) new) where
-        abbrev target : Sets
-        target = modified_sets None named new c.sets
+          (are_named : AreDrafts (NamesThen c None) named) (are_new : AreDrafts (IsMade (NamesThen c None) c.sets) new)
+        where
+          abbrev target : Sets
+          target = modified_sets None named new c.sets
 
-        does : ModifiesAll c.definitions c.sets (modified_reply None named new c.sets) target
-        does = modifies c sound None named new are_named are_new
+          does : ModifiesAll c.definitions c.sets (modified_reply None named new c.sets) target
+          does = modifies c sound None named new are_named are_new
 
-        none_holds : (HoldTooMany target → ⊥) → (q : Refusal) → Holds q → ⊥
-        none_holds few NoPlan is = some is
-        none_holds few (CalendarUndefined app) is = defined.0 app is.0
-        none_holds few (PeriodUndefined app) is = defined.1 app is.0
-        none_holds few (Loop app) is = no_loop PutsAll all_is_one c links puts none app is
-        none_holds few TooManyRows (reply, s, makes, over) =
-            let same = modify_does_one is_any_app IsAnyApp any_tests c.definitions c.sets reply
-            (modified_reply None named new c.sets) s target (rows_sound c sound) makes does in
-            few (subst HoldTooMany same.1 over)
-        none_holds few _ is = is
+          none_holds : (HoldTooMany target → ⊥) → (q : Refusal) → Holds q → ⊥
+          none_holds few NoPlan is = some is
+          none_holds few (CalendarUndefined app) is = defined.0 app is.0
+          none_holds few (PeriodUndefined app) is = defined.1 app is.0
+          none_holds few (Loop app) is = no_loop PutsAll all_is_one c links puts none app is
+          none_holds few TooManyRows (reply, s, makes, over) =
+              let same = modify_does_one is_any_app IsAnyApp any_tests c.definitions c.sets reply
+              (modified_reply None named new c.sets) s target (rows_sound c sound) makes does in
+              few (subst HoldTooMany same.1 over)
+          none_holds few _ is = is
 
-        decided : (verdict : Verdict) → IsModifiedOrTooMany c links None named new verdict
-            → VerdictIs modify_all c verdict
-        decided (Refused refusal) (over, same) =
-            subst (λ r. VerdictIs modify_all c (Refused r)) (sym same) (
-              (
-                (modified_reply None named new c.sets, target, does, over),
-                from_number 31 (omega arith) (λ lt. some) (λ lt. defined.0) (λ lt. defined.1)
-                    (λ lt. no_loop PutsAll all_is_one c links puts none),
-              ),
-              refl,
-            )
-        decided (Done change reply) (few, made) = (
-          made.0.fits,
-          (
-            none_holds few,
-            changes_plans ModifiesAll PutsAll c target links change reply made.0
-                (subst (λ r. ModifiesAll c.definitions c.sets r target) (sym made.1) does) puts,
-          ),
-        )
+          decided : (verdict : Verdict) → IsModifiedOrTooMany c links None named new verdict
+              → VerdictIs modify_all c verdict
+          decided (Refused refusal) (over, same) =
+              subst (λ r. VerdictIs modify_all c (Refused r)) (sym same) (
+                (
+                  (modified_reply None named new c.sets, target, does, over),
+                  from_number 31 (omega arith) (λ lt. some) (λ lt. defined.0) (λ lt. defined.1)
+                      (λ lt. no_loop PutsAll all_is_one c links puts none),
+                ),
+                refl,
+              )
+          decided (Done change reply) (few, made) = (
+            made.0.fits,
+            (
+              none_holds few,
+              changes_plans ModifiesAll PutsAll c target links change reply made.0
+                  (subst (λ r. ModifiesAll c.definitions c.sets r target) (sym made.1) does) puts,
+            ),
+          )
 
       pub verdict_is : IsSound c → IsLeastOnLoop links None → (verdict : Verdict) → ModifiesPlan c None links verdict
           → VerdictIs modify_all c verdict

@@ -4,7 +4,8 @@ use Rattle.std.proofs.lemmas.Bool.{cases_lt}
 use Rattle.app_definitions.specs.Active.{HasNoCalendar, HasNoPeriod}
 use Rattle.occurrences.specs.Refusal.{refusal_number}
 use Rattle.occurrences.specs.declared.refusal.Refusal.{Refusal}
-use Rattle.occurrences.specs.declared.refusal.Refusal.TheVariants.{CalendarUndefined, Loop, NoActiveApplication, NoPlan, PeriodUndefined, TooManyRows}
+use Rattle.occurrences.specs.declared.refusal.Refusal.TheVariants.{CalendarUndefined, Loop, NoActiveApplication, NoPlan}
+use Rattle.occurrences.specs.declared.refusal.Refusal.TheVariants.{PeriodUndefined, TooManyRows}
 use Rattle.external_dependencies.specs.Loop.{IsLeastOnLoop}
 use Rattle.external_dependencies.specs.declared.links.Link.{Link}
 use Rattle.planner_machine.specs.declared.content.Bounds.{Bounds}

@@ -1,5 +1,6 @@
 -- What a modification names, and what follows for the rows.
-use Rattle.std.proofs.Common.{◌≡◌, ◌↔◌, ℕ, ◌+◌, ◌≤◌, List, length, refl, sym, ap, subst, inl, inr, arith, Option, None, Some}
+use Rattle.std.proofs.Common.{◌≡◌, ◌↔◌, ℕ, ◌+◌, ◌≤◌, List, length, refl, sym, ap, subst, inl, inr, arith, Option, None}
+use Rattle.std.proofs.Common.{Some}
 use Rattle.std.specs.Prelude.{IsSome, filter, is_none}
 use Rattle.std.specs.List.{filter_map}
 use Rattle.work_calendars.specs.Day.{last_planning_day}
@@ -22,7 +23,8 @@ use Rattle.planner_machine.proofs.SoundLemmas.{rows_sound}
 use Rattle.plan_lists.specs.Rows.{of_row}
 use Rattle.plan_store.specs.Views.{IsAny, ListsSet}
 use Rattle.long_term_plan.specs.Drafting.{NamesFor}
-use Rattle.long_term_plan.specs.Modifying.{AreAsked, AreParted, AreTooMany, Looks, NamesThen, looks, modified_reply, modified_sets, outcome}
+use Rattle.long_term_plan.specs.Modifying.{AreAsked, AreParted, AreTooMany, Looks, NamesThen, looks, modified_reply}
+use Rattle.long_term_plan.specs.Modifying.{modified_sets, outcome}
 use Rattle.long_term_plan.proofs.ChangedLemmas.{looks_tests, planned_then}
 use Rattle.long_term_plan.proofs.DraftingLemmas.{same_drafts}
 use Rattle.long_term_plan.proofs.PartingLemmas.{mapped_all, mapped_has, mapped_once}
@@ -85,7 +87,8 @@ module _ (c : Content) (sound : IsSound c) (only : Option (List ℕ)) (named new
       → RowsSound (modified_sets only named new c.sets)
   unfolding between
   stays_sound b planned are =
-      modify_keeps (looks only) (Looks only) (looks_tests only) c.definitions c.sets (rows_sound c sound) named b planned
+      modify_keeps (looks only) (Looks only) (looks_tests only) c.definitions c.sets (rows_sound c sound) named b
+      planned
       new are
 
   pub too_many : (rows : List Row) → ListsSet of_row c.sets.ltp IsAny rows → (kept : List Row)

@@ -1,5 +1,6 @@
 -- What a modification changes, and what it makes of the sets.
-use Rattle.std.proofs.Common.{◌≡◌, ◌↔◌, ℕ, ◌≤◌, Bool, true, false, List, [], ◌∷◌, length, filter, map, refl, sym, ap, subst, ◌∙◌, inl, inr, Option, None, Some, cond}
+use Rattle.std.proofs.Common.{◌≡◌, ◌↔◌, ℕ, ◌≤◌, Bool, true, false, List, [], ◌∷◌, length, filter, map, refl, sym, ap}
+use Rattle.std.proofs.Common.{subst, ◌∙◌, inl, inr, Option, None, Some, cond}
 use Rattle.std.specs.Prelude.{is_none, is_some, nat_eq, option_map, if◌then◌else◌}
 use Rattle.std.specs.List.{Contains}
 use Rattle.std.specs.Option.{option_and_then}
@@ -114,7 +115,8 @@ module _ (c : Sets) (sound : RowsSound c) (rows : List Row) (lists : ListsSet of
         by_look (Some x) at_p o at_o =
             let (there, same) = look_some serial_of (filter goes rows) serial x at_p in
             let (in_rows, passes) = filter_has goes rows x there in
-            let here : o ≡ Some x = sym at_o ∙ look_rows serial ∙ subst (λ n. c.ltp n ≡ Some x) same (stands x in_rows) in
+            let here : o ≡ Some x = sym at_o ∙ look_rows serial
+            ∙ subst (λ n. c.ltp n ≡ Some x) same (stands x in_rows) in
             sym (ap (keep goes) here ∙ ap (λ (b : Bool). if b then Some x else None) passes)
         by_look None at_p None at_o = refl
         by_look None at_p (Some x) at_o = by_test (goes x) refl
@@ -123,7 +125,8 @@ module _ (c : Sets) (sound : RowsSound c) (rows : List Row) (lists : ListsSet of
             by_test false fails = refl
             by_test true passes =
                 let (there, same) = look_some serial_of rows serial x at_o in
-                absurd (look_none serial_of (filter goes rows) serial at_p x (filter_keeps goes rows x there passes) same)
+                absurd (look_none serial_of (filter goes rows) serial at_p x (filter_keeps goes rows x there passes)
+                same)
 
     pub gone_look : (serial : ℕ) → look_up serial_of gone serial ≡ keep goes (c.ltp serial)
     gone_look serial =

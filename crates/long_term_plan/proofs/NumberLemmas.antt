@@ -1,5 +1,6 @@
 -- Rows that are made under the serials after those issued.
-use Rattle.std.proofs.Common.{◌≡◌, ◌≢◌, ℕ, zero, suc, ◌+◌, ◌-◌, ◌<◌, ◌≤◌, ◌++◌, true, false, cond, List, [], ◌∷◌, length, refl, sym, ap, ap₂, subst, ◌∙◌, inl, inr, arith, Option, None, Some}
+use Rattle.std.proofs.Common.{◌≡◌, ◌≢◌, ℕ, zero, suc, ◌+◌, ◌-◌, ◌<◌, ◌≤◌, ◌++◌, true, false, cond, List, [], ◌∷◌}
+use Rattle.std.proofs.Common.{length, refl, sym, ap, ap₂, subst, ◌∙◌, inl, inr, arith, Option, None, Some}
 use Rattle.std.specs.Prelude.{nat_eq, nat_lt, option_map, slice_get, if◌then◌else◌}
 use Rattle.std.specs.List.{Contains}
 use Rattle.std.proofs.lemmas.Bool.{cases_eq, cases_lt, eq-eqb, le-ltb, lt-ltb, ne_eqb}
@@ -112,61 +113,62 @@ numbered_more n (x ∷ front) draft number is =
 
 -- ---- how many rows the plans have then
 
-module _ (c : Sets) (drafts : List Draft) (unissued : (serial : ℕ) → c.issued < serial → seat c serial ≡ empty_seat) where
-  abbrev after : Sets
-  after = with_made LongTerm drafts c
+module _ (c : Sets) (drafts : List Draft) (unissued : (serial : ℕ) → c.issued < serial → seat c serial ≡ empty_seat)
+  where
+    abbrev after : Sets
+    after = with_made LongTerm drafts c
 
-  ltp_low : (n : ℕ) → n ≤ c.issued → size after.ltp n ≡ size c.ltp n
-  ltp_low zero le = refl
-  ltp_low (suc n) le =
-      ap₂ (λ x (m : Option Row). x + bit (seat_made LongTerm m (seat c (suc n))).ltp) (ltp_low n (omega (arith, le)))
-      (made_low c.issued drafts (suc n) le)
+    ltp_low : (n : ℕ) → n ≤ c.issued → size after.ltp n ≡ size c.ltp n
+    ltp_low zero le = refl
+    ltp_low (suc n) le =
+        ap₂ (λ x (m : Option Row). x + bit (seat_made LongTerm m (seat c (suc n))).ltp) (ltp_low n (omega (arith, le)))
+        (made_low c.issued drafts (suc n) le)
 
-  cp_low : (n : ℕ) → n ≤ c.issued → size after.cp n ≡ size c.cp n
-  cp_low zero le = refl
-  cp_low (suc n) le =
-      ap₂ (λ x (m : Option Row). x + bit (seat_made LongTerm m (seat c (suc n))).cp) (cp_low n (omega (arith, le)))
-      (made_low c.issued drafts (suc n) le)
+    cp_low : (n : ℕ) → n ≤ c.issued → size after.cp n ≡ size c.cp n
+    cp_low zero le = refl
+    cp_low (suc n) le =
+        ap₂ (λ x (m : Option Row). x + bit (seat_made LongTerm m (seat c (suc n))).cp) (cp_low n (omega (arith, le)))
+        (made_low c.issued drafts (suc n) le)
 
-  one_made : (k : ℕ) → k < length drafts → (row : Row) × (made c.issued drafts (suc (c.issued + k)) ≡ Some row)
-  one_made k lt =
-      let new : nat_lt c.issued (suc (c.issued + k)) ≡ true = lt-ltb c.issued (suc (c.issued + k)) (omega arith) in
-      let place : suc (c.issued + k) - suc c.issued ≡ k = omega arith in
-      let (draft, at) = slice_at drafts k lt in
-      (numbered_row (suc (c.issued + k)) draft, rw (new, place, at) refl)
-    where
-      slice_at : (ds : List Draft) (i : ℕ) → i < length ds → (d : Draft) × (slice_get ds i ≡ Some d)
-      slice_at [] i lt = absurd (omega (arith, lt))
-      slice_at (d ∷ ds) zero lt = (d, refl)
-      slice_at (d ∷ ds) (suc i) lt = slice_at ds i (omega (arith, lt))
+    one_made : (k : ℕ) → k < length drafts → (row : Row) × (made c.issued drafts (suc (c.issued + k)) ≡ Some row)
+    one_made k lt =
+        let new : nat_lt c.issued (suc (c.issued + k)) ≡ true = lt-ltb c.issued (suc (c.issued + k)) (omega arith) in
+        let place : suc (c.issued + k) - suc c.issued ≡ k = omega arith in
+        let (draft, at) = slice_at drafts k lt in
+        (numbered_row (suc (c.issued + k)) draft, rw (new, place, at) refl)
+      where
+        slice_at : (ds : List Draft) (i : ℕ) → i < length ds → (d : Draft) × (slice_get ds i ≡ Some d)
+        slice_at [] i lt = absurd (omega (arith, lt))
+        slice_at (d ∷ ds) zero lt = (d, refl)
+        slice_at (d ∷ ds) (suc i) lt = slice_at ds i (omega (arith, lt))
 
-  ltp_high : (k : ℕ) → k ≤ length drafts → size after.ltp (c.issued + k) ≡ size c.ltp c.issued + k
-  ltp_high zero le =
-      let same : c.issued + 0 ≡ c.issued = omega arith in
-      let low = ltp_low c.issued (omega arith) in
-      ap (size after.ltp) same ∙ low ∙ omega arith
-  ltp_high (suc k) le =
-      let next : c.issued + suc k ≡ suc (c.issued + k) = omega arith in
-      let before = ltp_high k (omega (arith, le)) in
-      let (row, at) = one_made k (omega (arith, le)) in
-      let one : bit (after.ltp (suc (c.issued + k))) ≡ 1 =
-      ap (λ (m : Option Row). bit (seat_made LongTerm m (seat c (suc (c.issued + k)))).ltp) at in
-      ap (size after.ltp) next ∙ omega (arith, before, one)
+    ltp_high : (k : ℕ) → k ≤ length drafts → size after.ltp (c.issued + k) ≡ size c.ltp c.issued + k
+    ltp_high zero le =
+        let same : c.issued + 0 ≡ c.issued = omega arith in
+        let low = ltp_low c.issued (omega arith) in
+        ap (size after.ltp) same ∙ low ∙ omega arith
+    ltp_high (suc k) le =
+        let next : c.issued + suc k ≡ suc (c.issued + k) = omega arith in
+        let before = ltp_high k (omega (arith, le)) in
+        let (row, at) = one_made k (omega (arith, le)) in
+        let one : bit (after.ltp (suc (c.issued + k))) ≡ 1 =
+        ap (λ (m : Option Row). bit (seat_made LongTerm m (seat c (suc (c.issued + k)))).ltp) at in
+        ap (size after.ltp) next ∙ omega (arith, before, one)
 
-  cp_high : (k : ℕ) → k ≤ length drafts → size after.cp (c.issued + k) ≡ size c.cp c.issued
-  cp_high zero le =
-      let same : c.issued + 0 ≡ c.issued = omega arith in
-      ap (size after.cp) same ∙ cp_low c.issued (omega arith)
-  cp_high (suc k) le =
-      let next : c.issued + suc k ≡ suc (c.issued + k) = omega arith in
-      let before = cp_high k (omega (arith, le)) in
-      let (row, at) = one_made k (omega (arith, le)) in
-      let zero_more : bit (after.cp (suc (c.issued + k))) ≡ 0 =
-      ap (λ (m : Option Row). bit (seat_made LongTerm m (seat c (suc (c.issued + k)))).cp) at in
-      ap (size after.cp) next ∙ omega (arith, before, zero_more)
+    cp_high : (k : ℕ) → k ≤ length drafts → size after.cp (c.issued + k) ≡ size c.cp c.issued
+    cp_high zero le =
+        let same : c.issued + 0 ≡ c.issued = omega arith in
+        ap (size after.cp) same ∙ cp_low c.issued (omega arith)
+    cp_high (suc k) le =
+        let next : c.issued + suc k ≡ suc (c.issued + k) = omega arith in
+        let before = cp_high k (omega (arith, le)) in
+        let (row, at) = one_made k (omega (arith, le)) in
+        let zero_more : bit (after.cp (suc (c.issued + k))) ≡ 0 =
+        ap (λ (m : Option Row). bit (seat_made LongTerm m (seat c (suc (c.issued + k)))).cp) at in
+        ap (size after.cp) next ∙ omega (arith, before, zero_more)
 
-  pub planned_after : planned after ≡ planned c + length drafts
-  planned_after =
-      let ltp = ltp_high (length drafts) (omega arith) in
-      let cp = cp_high (length drafts) (omega arith) in
-      omega (arith, ltp, cp)
+    pub planned_after : planned after ≡ planned c + length drafts
+    planned_after =
+        let ltp = ltp_high (length drafts) (omega arith) in
+        let cp = cp_high (length drafts) (omega arith) in
+        omega (arith, ltp, cp)

@@ -1,8 +1,10 @@
 -- Rows of the long-term plan, parted by what becomes of them.
-use Rattle.std.proofs.Common.{◌≡◌, ◌≢◌, zero, suc, ◌++◌, Bool, true, false, List, [], ◌∷◌, filter, get_or, refl, sym, ap, subst, ◌∙◌, inl, inr, arith, Option, None, Some}
+use Rattle.std.proofs.Common.{◌≡◌, ◌≢◌, zero, suc, ◌++◌, Bool, true, false, List, [], ◌∷◌, filter, get_or, refl, sym}
+use Rattle.std.proofs.Common.{ap, subst, ◌∙◌, inl, inr, arith, Option, None, Some}
 use Rattle.std.specs.Prelude.{is_none, if◌then◌else◌}
 use Rattle.std.specs.List.{Contains, cons_option, filter_map}
-use Rattle.std.proofs.lemmas.List.Elements.{All-from_get_or, Contains-append_left, Contains-get_or, Contains-push, Contains-push_cases, filter-append, filter_map-append}
+use Rattle.std.proofs.lemmas.List.Elements.{All-from_get_or, Contains-append_left, Contains-get_or, Contains-push}
+use Rattle.std.proofs.lemmas.List.Elements.{Contains-push_cases, filter-append, filter_map-append}
 use Rattle.std.proofs.lemmas.List.Kept.{AllPairs-cons}
 use Rattle.std.proofs.lemmas.List.Quantifiers.{all_pairs_push}
 use Rattle.occurrences.proofs.KeyLemmas.{key_other, key_strict, other_key, same_key}

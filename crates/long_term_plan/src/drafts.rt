@@ -7,7 +7,8 @@ ghost use Rattle.planner_machine.specs.Content.{midnight};
 ghost use Rattle.planner_machine.specs.Drafts.{AreDrafts, draft_of};
 ghost use Rattle.planner_machine.specs.Sound.{AreDefinitions};
 ghost use Rattle.plan_store.specs.Views.{shown};
-ghost use Rattle.long_term_plan.specs.Drafting.{AddsDrafts, AreInOrder, AreNew, HaveOwnKeys, IsNewKey, NamesFor, drafts_from};
+ghost use Rattle.long_term_plan.specs.Drafting.{AddsDrafts, AreInOrder, AreNew, HaveOwnKeys, IsNewKey, NamesFor};
+ghost use Rattle.long_term_plan.specs.Drafting.{drafts_from};
 
 use app_definitions::{Definitions, WorkIndexes};
 use occurrences::{Key, Origin};

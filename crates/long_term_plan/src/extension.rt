@@ -16,7 +16,8 @@ use planner_machine::{Bounds, LONGEST_WINDOW};
 use std::alloc::{AllocError, Global};
 use work_calendars::Day;
 
-/// `ltp-extend`: the long-term plan ends with a later day, and all lists that are defined come into force. Refused where
+/// `ltp-extend`: the long-term plan ends with a later day, and all lists that are defined come into force. Refused
+/// where
 /// there is no plan (20), where an active application lacks its calendar (22) or a period (23), where the day isn't
 /// later or lies past a limit (24), where the lists have a loop (25), and where the rows would be too many (31).
 pub fn extend(alloc: Global, view: &View<'_>, to: Day) -> Result<Verdict, AllocError>

@@ -1,4 +1,11 @@
 //! What the statements on the long-term plan decide. A decision sees the content through a window, and changes nothing.
+//!
+//! ```text
+//! let view = store.read_window(Need::LongTerm)?;
+//! if let Verdict::Done(change, reply) = create(alloc, &view, first, last)? {
+//!     store.apply(alloc, change)?; // reply: how many occurrences were made
+//! }
+//! ```
 #![tactic(auto)]
 
 mod addition;

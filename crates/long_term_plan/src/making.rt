@@ -1,4 +1,4 @@
-ghost use Rattle.std.specs.Prelude.{◌≡◌, ◌↔◌, ◌+◌, ◌++◌, ◌≤◌, ℕ, List, length, IfOk, IsTrue, false};
+ghost use Rattle.std.specs.Prelude.{◌≡◌, ◌↔◌, ◌+◌, ◌≤◌, ℕ, List, length, IfOk, IsTrue, false};
 ghost use Rattle.work_calendars.specs.Day.{last_planning_day};
 ghost use Rattle.occurrences.specs.Serial.{IsSerial};
 ghost use Rattle.occurrences.specs.declared.serial.TheConstants.{GREATEST_SERIAL};
@@ -8,12 +8,13 @@ ghost use Rattle.planner_machine.specs.Moves.{numbered_row};
 ghost use Rattle.planner_machine.specs.Plans.{HoldTooMany};
 ghost use Rattle.planner_machine.specs.Sound.{IsSound};
 ghost use Rattle.plan_store.specs.Views.{shown};
-ghost use Rattle.long_term_plan.specs.Making.{AddsDays, AreDaysAdded, KeepsRowsSound, MakesDrafts, numbered, planned_sets};
+ghost use Rattle.long_term_plan.specs.Making.{AddsDays, AreDaysAdded, KeepsRowsSound, MakesDrafts, numbered};
+ghost use Rattle.long_term_plan.specs.Making.{planned_sets};
 
 use crate::drafts::{named_drafts, new_drafts};
 use external_dependencies::Links;
 use occurrences::{GREATEST_SERIAL, Refusal, Reply, Row, Serial};
-use plan_pairs::{live_rows, pair_change};
+use plan_pairs::{live_rows_with, pair_change};
 use plan_store::{Change, DefinitionChange, Moves, Verdict, View};
 use planner_machine::{Bounds, Draft, MOST_PLANNED_ROWS};
 use std::alloc::{AllocError, Global};
@@ -42,7 +43,7 @@ pub(crate) fn add_days(
     if would_hold_too_many(view, bounds, new.as_slice()) {
         return Ok(Verdict::Refused(Refusal::TooManyRows));
     }
-    make_drafts(alloc, view, bounds, links, new.as_slice())
+    make_drafts(alloc, view, bounds, links, new)
 }
 
 // Whether the plans would hold too many rows, or too many serials were issued.
@@ -51,9 +52,8 @@ fn would_hold_too_many(view: &View<'_>, bounds: &Bounds, new: &[Draft]) -> bool
         → IsTrue result ↔ HoldTooMany (planned_sets bounds.now new.now (shown view.now).sets) }
     ensures serials { result ≡ false → (shown view.now).sets.issued + length new.now ≤ GREATEST_SERIAL }
 {
-    let planned = view.ltp().len().saturating_add(view.cp().len());
-    let rows = planned.saturating_add(new.len());
-    let issued = (view.issued() as usize).saturating_add(new.len());
+    let rows = view.ltp().len() + view.cp().len() + new.len();
+    let issued = view.issued() as usize + new.len();
     rows > MOST_PLANNED_ROWS || issued > GREATEST_SERIAL as usize
 }
 
@@ -63,22 +63,22 @@ fn make_drafts(
     view: &View<'_>,
     bounds: &Bounds,
     links: Links,
-    new: &[Draft],
+    new: Vec<Draft>,
 ) -> Result<Verdict, AllocError>
-    requires { (shown view.now).sets.issued + length new.now ≤ GREATEST_SERIAL }
+    requires { (shown view.now).sets.issued + length new.items ≤ GREATEST_SERIAL }
     ensures { IfOk result (λ verdict. IsSound (shown view.now)
-        → KeepsRowsSound (shown view.now) bounds.now new.now
-        → MakesDrafts (shown view.now) bounds.now links new.now verdict) }
+        → KeepsRowsSound (shown view.now) bounds.now new.items
+        → MakesDrafts (shown view.now) bounds.now links new.items verdict) }
 {
-    let rows = numbered_rows(alloc, view.issued(), new)?;
-    let planned = joined(alloc, view.ltp(), rows.as_slice())?;
-    let live = live_rows(alloc, planned.as_slice(), view.cp(), view.history())?;
-    drop(planned);
+    let made = new.len();
+    let rows = numbered_rows(alloc, view.issued(), new.as_slice())?;
+    drop(new);
+    let live = live_rows_with(alloc, view.ltp(), &rows, view.cp(), view.history())?;
     let pairs = pair_change(alloc, view.pairs(), &live, &links)?;
     let change = Change {
         definitions: DefinitionChange::AsBefore,
         bounds: Some(*bounds),
-        issued: Some(view.issued() + new.len() as u32),
+        issued: Some(view.issued() + made as u32),
         in_force: Some(links),
         ltp: Moves {
             gone: Vec::new(alloc),
@@ -91,21 +91,8 @@ fn make_drafts(
         pairs,
         job: None,
     };
-    let reply = Reply::Made {
-        made: new.len(),
-        withdrawn: 0,
-    };
-    Ok(Verdict::Done(change, reply))
-}
-
-// The rows of both lists.
-pub(crate) fn joined(alloc: Global, first: &[Row], second: &[Row]) -> Result<Vec<Row>, AllocError>
-    ensures { IfOk result (λ rows. rows.items ≡ first.now ++ second.now) }
-{
-    let mut rows = Vec::with_capacity(alloc, first.len() + second.len())?;
-    rows.extend_from_slice(first)?;
-    rows.extend_from_slice(second)?;
-    Ok(rows)
+    let withdrawn = 0;
+    Ok(Verdict::Done(change, Reply::Made { made, withdrawn }))
 }
 
 // The rows of drafts, under the serials after those issued.

@@ -10,17 +10,18 @@ ghost use Rattle.planner_machine.specs.Sound.{IsSound};
 ghost use Rattle.planner_machine.proofs.RowsSound.{RowsSound};
 ghost use Rattle.plan_store.specs.Verdicts.{VerdictIs};
 ghost use Rattle.plan_store.specs.Views.{Shows, shown};
-ghost use Rattle.long_term_plan.specs.Modifying.{AreAsked, AreTooMany, ModifiesPlan, ModifiesRows, PartsPlan, modified_sets};
+ghost use Rattle.long_term_plan.specs.Modifying.{AreAsked, AreTooMany, ModifiesPlan, ModifiesRows, PartsPlan};
+ghost use Rattle.long_term_plan.specs.Modifying.{modified_sets};
 
 use crate::drafts::{named_drafts, new_drafts};
 use crate::lists::{defined_lists, lists_of_one};
-use crate::making::{joined, numbered_rows};
+use crate::making::numbered_rows;
 use crate::parting::{changed_rows, staying_rows, withdrawn_rows};
 use crate::refusals::{lacking_definition, lacking_own_definition};
 use app_definitions::Definitions;
 use external_dependencies::{Links, find_loop};
 use occurrences::{Deletion, GREATEST_SERIAL, Reason, Refusal, Reply, Row};
-use plan_pairs::{live_rows, pair_change, single};
+use plan_pairs::{live_rows_with, pair_change, single};
 use plan_store::{Change, DefinitionChange, Moves, Need, Verdict, View};
 use planner_machine::{Bounds, Draft, MOST_PLANNED_ROWS};
 use std::alloc::{AllocError, Global};
@@ -46,8 +47,10 @@ pub fn modify_all(alloc: Global, view: &View<'_>) -> Result<Verdict, AllocError>
     modify(alloc, view, &bounds, &None, links)
 }
 
-/// `ltp-modify-one`: the same for one application, whose list alone comes into force. Refused where there is no plan (20),
-/// where the application is active and lacks its calendar (22) or a period (23), where the lists would have a loop (25),
+/// `ltp-modify-one`: the same for one application, whose list alone comes into force. Refused where there is no plan
+/// (20),
+/// where the application is active and lacks its calendar (22) or a period (23), where the lists would have a loop
+/// (25),
 /// where it isn't active (26), and where the rows would be too many (31).
 pub fn modify_one(alloc: Global, view: &View<'_>, app: &App) -> Result<Verdict, AllocError>
     ensures { IfOk result (λ verdict. (c : Content) → Shows Need.LongTerm view.now c → IsSound c
@@ -84,18 +87,17 @@ fn modify(
     let all = view.definitions();
     let apps = asked(alloc, all, only)?;
     let last = last_planned(bounds);
-    let drafts = named_drafts(alloc, all, apps.as_slice(), bounds.plan_end, last)?;
-    let named = drafts.as_slice();
-    let made = new_drafts(alloc, view, named)?;
-    let new = made.as_slice();
+    let named = named_drafts(alloc, all, apps.as_slice(), bounds.plan_end, last)?;
     let rows = view.ltp();
-    let kept = staying_rows(alloc, rows, only, named)?;
-    if are_too_many(view, kept.len(), new.len()) {
+    let kept = staying_rows(alloc, rows, only, &named)?;
+    let new = new_drafts(alloc, view, &named)?;
+    if are_too_many(view, &kept, &new) {
         return Ok(Verdict::Refused(Refusal::TooManyRows));
     }
-    let gone = withdrawn_rows(alloc, rows, only, named)?;
-    let changed = changed_rows(alloc, rows, only, named)?;
-    change_rows(alloc, view, links, kept.as_slice(), gone, changed, new)
+    let gone = withdrawn_rows(alloc, rows, only, &named)?;
+    let changed = changed_rows(alloc, rows, only, &named)?;
+    drop(named);
+    change_rows(alloc, view, links, kept, gone, changed, &new)
 }
 
 // The last day of the plan, which is no later than the last planning day.
@@ -110,13 +112,13 @@ fn last_planned(bounds: &Bounds) -> Day
 }
 
 // Whether the plans would hold too many rows, or too many serials were issued.
-fn are_too_many(view: &View<'_>, kept: usize, new: usize) -> bool
-    ensures too_many { IsSound (shown view.now) → IsTrue result ↔ AreTooMany (shown view.now).sets kept new }
-    ensures serials { result ≡ false → (shown view.now).sets.issued + new ≤ GREATEST_SERIAL }
+fn are_too_many(view: &View<'_>, kept: &[Row], new: &[Draft]) -> bool
+    ensures too_many { IsSound (shown view.now)
+        → IsTrue result ↔ AreTooMany (shown view.now).sets (length kept.now) (length new.now) }
+    ensures serials { result ≡ false → (shown view.now).sets.issued + length new.now ≤ GREATEST_SERIAL }
 {
-    let planned = kept.saturating_add(view.cp().len());
-    let rows = planned.saturating_add(new);
-    let issued = (view.issued() as usize).saturating_add(new);
+    let rows = kept.len() + view.cp().len() + new.len();
+    let issued = view.issued() as usize + new.len();
     rows > MOST_PLANNED_ROWS || issued > GREATEST_SERIAL as usize
 }
 
@@ -135,20 +137,20 @@ fn change_rows(
     alloc: Global,
     view: &View<'_>,
     links: Links,
-    kept: &[Row],
+    kept: Vec<Row>,
     gone: Vec<Row>,
     changed: Vec<Row>,
     new: &[Draft],
 ) -> Result<Verdict, AllocError>
     requires { (shown view.now).sets.issued + length new.now ≤ GREATEST_SERIAL }
     ensures { IfOk result (λ verdict. IsSound (shown view.now) → (only : Option (List ℕ)) (named : List DraftValue)
-        → PartsPlan (shown view.now).sets only named kept.now gone.items changed.items
+        → PartsPlan (shown view.now).sets only named kept.items gone.items changed.items
         → RowsSound (modified_sets only named new.now (shown view.now).sets)
         → ModifiesRows (shown view.now) links only named new.now verdict) }
 {
     let put = numbered_rows(alloc, view.issued(), new)?;
-    let planned = joined(alloc, kept, put.as_slice())?;
-    let live = live_rows(alloc, planned.as_slice(), view.cp(), view.history())?;
+    let live = live_rows_with(alloc, &kept, &put, view.cp(), view.history())?;
+    drop(kept);
     let pairs = pair_change(alloc, view.pairs(), &live, &links)?;
     let reply = Reply::Made {
         made: new.len(),

@@ -20,7 +20,7 @@ pub(crate) fn staying_rows(
     ensures { AreInOrder named.now
         → IfOk result (λ kept. kept.items ≡ filter_map (outcome only.now named.now) rows.now) }
 {
-    let mut kept = Vec::new(alloc);
+    let mut kept = Vec::with_capacity(alloc, rows.len())?;
     for row in rows {
         if let Some(now) = outcome(row, only, named) {
             kept.push(now)?;

@@ -18,7 +18,8 @@ reply_text (reply.Defined names) = counted (codes "ok defined") names
 reply_text reply.Undefined = codes "ok undefined"
 reply_text (reply.Made made withdrawn) = counted (codes "ok made") made ++ counted (codes " withdrawn") withdrawn
 reply_text (reply.Numbered serial) = counted (codes "ok serial") serial
-reply_text (reply.Changed serial status) = counted (codes "ok serial") serial ++ codes " status " ++ status_letter status ∷ []
+reply_text (reply.Changed serial status) = counted (codes "ok serial") serial ++ codes " status "
+    ++ status_letter status ∷ []
 reply_text (reply.Moved moved carried completed deleted) =
     counted (codes "ok moved") moved ++ counted (codes " carried") carried
     ++ counted (codes " completed") completed ++ counted (codes " deleted") deleted

@@ -26,7 +26,8 @@ fn push_rows(
     sign: u8,
     letter: Option<u8>,
 ) -> Result<(), AllocError>
-    ensures { OnOk result (all.new.items ≡ all.old.items ++ map (λ row. record { row = row; sign = sign; letter = letter }) rows.now) }
+    ensures { OnOk result (all.new.items ≡ all.old.items
+        ++ map (λ row. record { row = row; sign = sign; letter = letter }) rows.now) }
 {
     for row in rows {
         all.push(Signed {
@@ -66,7 +67,8 @@ fn append_letter(text: &mut Vec<u8>, letter: Option<u8>) -> Result<(), AllocErro
 
 // Appends the line of a row, and a line feed.
 fn append_signed(text: &mut Vec<u8>, shown: &Signed) -> Result<(), AllocError>
-    ensures { OnOk result ((line : List ℕ) × IsSignedText shown.now line × (text.new.items ≡ text.old.items ++ ended line)) }
+    ensures { OnOk result ((line : List ℕ) × IsSignedText shown.now line
+        × (text.new.items ≡ text.old.items ++ ended line)) }
 {
     text.push(shown.sign)?;
     text.push(b' ')?;
@@ -78,7 +80,8 @@ fn append_signed(text: &mut Vec<u8>, shown: &Signed) -> Result<(), AllocError>
 
 // The lines of the rows, in their order.
 fn signed_lines(alloc: Global, rows: &[Signed]) -> Result<Vec<u8>, AllocError>
-    ensures { IfOk result (λ text. (lines : List (List ℕ)) × AreLinesOf IsSignedText rows.now lines × (text.items ≡ flat_map ended lines)) }
+    ensures { IfOk result (λ text. (lines : List (List ℕ)) × AreLinesOf IsSignedText rows.now lines
+        × (text.items ≡ flat_map ended lines)) }
 {
     let mut text = Vec::new(alloc);
     for row in rows {

@@ -2,7 +2,8 @@
 ghost use Rattle.std.specs.Prelude.{◌≡◌, ◌+◌, ◌%◌, ◌≤◌, ◌++◌, ℕ, List};
 ghost use Rattle.arrayvec.specs.ArrayVec.{array_vec_len};
 ghost use Rattle.work_calendars.specs.Spelling.{digit};
-ghost use Rattle.plan_listings.specs.Row.{AreTimesText, IsEndText, IsMarkedText, IsMomentText, IsPairText, IsRowText, front_text, name_text, origin_text, serial_text};
+ghost use Rattle.plan_listings.specs.Row.{AreTimesText, IsEndText, IsMarkedText, IsMomentText, IsPairText, IsRowText};
+ghost use Rattle.plan_listings.specs.Row.{front_text, name_text, origin_text, serial_text};
 
 use crate::days::{append_day, append_minute};
 use crate::line::{append, append_left};

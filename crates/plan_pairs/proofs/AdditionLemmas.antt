@@ -1,5 +1,6 @@
 -- An occurrence that is added by hand is what the machine adds.
-use Rattle.std.proofs.Common.{◌≡◌, ◌≢◌, ◌⊎◌, ℕ, suc, ◌+◌, ◌<◌, ◌≤◌, true, false, List, [], ◌∷◌, ◌++◌, refl, sym, ap, subst, ◌∙◌, inl, inr, arith, Option, Some, None}
+use Rattle.std.proofs.Common.{◌≡◌, ◌≢◌, ◌⊎◌, ℕ, suc, ◌+◌, ◌<◌, ◌≤◌, true, false, List, [], ◌∷◌, ◌++◌, refl, sym, ap}
+use Rattle.std.proofs.Common.{subst, ◌∙◌, inl, inr, arith, Option, Some, None}
 use Rattle.std.specs.Prelude.{nat_eq, unwrap_or, Ok, Err, if◌then◌else◌}
 use Rattle.std.specs.List.{Contains}
 use Rattle.std.proofs.lemmas.Bool.{cases_eq, cases_lt, eqb-true, eqb-false}
@@ -10,11 +11,11 @@ use Rattle.work_calendars.specs.Moment.{day_of_moment, minute_of_moment, moment_
 use Rattle.occurrences.specs.Place.{IsLive}
 use Rattle.occurrences.specs.Refusal.{refusal_number}
 use Rattle.occurrences.specs.declared.key.Key.{Key}
-use Rattle.occurrences.specs.declared.place.CurrentRow.{CurrentRow}
 use Rattle.occurrences.specs.declared.place.Place.{Place}
 use Rattle.occurrences.specs.declared.place.Place.TheVariants.{LongTerm as InLongTerm, Current as InCurrent}
 use Rattle.occurrences.specs.declared.refusal.Refusal.{Refusal}
-use Rattle.occurrences.specs.declared.refusal.Refusal.TheVariants.{DatesOutOfRange, KeyIsLive, NoActiveApplication, NoPlan, TooManyRows}
+use Rattle.occurrences.specs.declared.refusal.Refusal.TheVariants.{DatesOutOfRange, KeyIsLive, NoActiveApplication}
+use Rattle.occurrences.specs.declared.refusal.Refusal.TheVariants.{NoPlan, TooManyRows}
 use Rattle.occurrences.specs.declared.reply.Reply.TheVariants.{Numbered}
 use Rattle.occurrences.specs.declared.row.Row.{Row}
 use Rattle.occurrences.specs.declared.serial.TheConstants.{GREATEST_SERIAL}
@@ -31,7 +32,7 @@ use Rattle.planner_machine.specs.InForce.{PutsNone}
 use Rattle.planner_machine.specs.Laws.{Follows}
 use Rattle.planner_machine.specs.Moves.{bit, numbered_row, or_else, size, with_made}
 use Rattle.planner_machine.specs.Pairs.{ArePairs}
-use Rattle.planner_machine.specs.Plans.{ChangesPlans, HoldTooMany, IsPlannedApp, WouldHoldTooMany, planned}
+use Rattle.planner_machine.specs.Plans.{ChangesPlans, HoldTooMany, IsPlannedApp, planned}
 use Rattle.planner_machine.specs.Sound.{IsSound}
 use Rattle.planner_machine.proofs.AddLemmas.{add_sound, not_outside}
 use Rattle.planner_machine.proofs.MadeLemmas.{made_follows}
@@ -39,13 +40,15 @@ use Rattle.planner_machine.proofs.RowsSound.{RowsSound}
 use Rattle.planner_machine.proofs.SeatLemmas.{cases_issued, one_place}
 use Rattle.planner_machine.proofs.SoundLemmas.{rows_sound}
 use Rattle.plan_lists.specs.Rows.{of_current, of_deletion, of_row}
-use Rattle.plan_store.specs.Changes.{Fits, FitsSet, MovesNothing, after, jobs_after, moved_set, pairs_after, redefined, sets_after}
+use Rattle.plan_store.specs.Changes.{Fits, FitsSet, after, jobs_after, moved_set, pairs_after, redefined}
+use Rattle.plan_store.specs.Changes.{sets_after}
 use Rattle.plan_store.specs.Verdicts.{VerdictIs}
 use Rattle.plan_store.specs.declared.changes.Change.{Change}
 use Rattle.plan_store.specs.declared.changes.Verdict.{Verdict}
 use Rattle.plan_store.specs.declared.changes.Verdict.TheVariants.{Done, Refused}
 use Rattle.plan_store.proofs.ViewLemmas.{size_same}
-use Rattle.plan_pairs.specs.Additions.{AddsRow, HasRoomForOne, IsAddable, IsAdditionOf, IsNewRow, IsNewSerial, IsPutIn, place_in}
+use Rattle.plan_pairs.specs.Additions.{AddsRow, HasRoomForOne, IsAddable, IsAdditionOf, IsNewRow}
+use Rattle.plan_pairs.specs.Additions.{place_in}
 use Rattle.plan_pairs.specs.LiveRows.{AreLiveRows}
 use Rattle.plan_pairs.specs.declared.additions.Plan.{Plan}
 use Rattle.plan_pairs.specs.declared.additions.Plan.TheVariants.{LongTerm, Current}
@@ -206,14 +209,19 @@ module _ (c : Content) (sound : IsSound c) (plan : Plan) (key : Key) where
   at_least n none out inactive live most _ q = absurd q
 
   pub new_no_plan : c.sets.bounds ≡ None → IsNewRow c plan key (Err NoPlan)
-  new_no_plan none = (none, at_least 20 (λ _. omega arith) (λ _ _ _. omega arith) (λ _. omega arith) (λ _. omega arith) (omega arith))
+  new_no_plan none =
+      (none, at_least 20 (λ _. omega arith) (λ _ _ _. omega arith) (λ _. omega arith) (λ _. omega arith) (omega arith))
 
   module _ (b : Bounds) (bounded : c.sets.bounds ≡ Some b) where
     planned_already : {n : ℕ} → c.sets.bounds ≡ None → n ≤ 20
     planned_already none = let no : None ≡ Some b = sym none ∙ bounded in absurd cc
 
     pub new_outside : IsOutside b key.ia (place_in plan) → IsNewRow c plan key (Err DatesOutOfRange)
-    new_outside out = ((b, bounded, out), at_least 24 planned_already (λ _ _ _. omega arith) (λ _. omega arith) (λ _. omega arith) (omega arith))
+    new_outside out = (
+      (b, bounded, out),
+      at_least 24 planned_already (λ _ _ _. omega arith) (λ _. omega arith) (λ _. omega arith)
+          (omega arith),
+    )
 
     module _ (inside : IsOutside b key.ia (place_in plan) → ⊥) where
       inside_already : {n : ℕ} → (b' : Bounds) → c.sets.bounds ≡ Some b' → IsOutside b' key.ia (place_in plan) → n ≤ 24
@@ -237,11 +245,16 @@ module _ (c : Content) (sound : IsSound c) (plan : Plan) (key : Key) where
               omega (arith, arrives.1, are.last, are.ended)
 
       pub new_inactive : (IsPlannedApp c.definitions key.app → ⊥) → IsNewRow c plan key (Err NoActiveApplication)
-      new_inactive inactive = (inactive, at_least 26 planned_already inside_already (λ _. omega arith) (λ _. omega arith) (omega arith))
+      new_inactive inactive =
+          (inactive, at_least 26 planned_already inside_already (λ _. omega arith) (λ _. omega arith) (omega arith))
 
       module _ (active : IsPlannedApp c.definitions key.app) where
         pub new_live : IsLiveKey c.sets key → IsNewRow c plan key (Err KeyIsLive)
-        new_live live = (live, at_least 27 planned_already inside_already (λ no. absurd (no active)) (λ _. omega arith) (omega arith))
+        new_live live = (
+          live,
+          at_least 27 planned_already inside_already (λ no. absurd (no active)) (λ _. omega arith)
+              (omega arith),
+        )
 
         module _ (free : IsLiveKey c.sets key → ⊥) where
           more : planned (with_made (place_in plan) (added key ∷ []) c.sets) ≡ planned c.sets + 1
@@ -251,7 +264,8 @@ module _ (c : Content) (sound : IsSound c) (plan : Plan) (key : Key) where
           pub new_too_many : (HasRoomForOne c.sets → ⊥) → IsNewRow c plan key (Err TooManyRows)
           new_too_many none = (
             (Numbered (c.sets.issued + 1), with_made (place_in plan) (added key ∷ []) c.sets, (refl, refl), held),
-            at_least 31 planned_already inside_already (λ no. absurd (no active)) (λ live. absurd (free live)) (omega arith),
+            at_least 31 planned_already inside_already (λ no. absurd (no active)) (λ live. absurd (free live))
+                (omega arith),
           )
             where
               held : HoldTooMany (with_made (place_in plan) (added key ∷ []) c.sets)
@@ -315,51 +329,61 @@ module _ (c : Content) (sound : IsSound c) (key : Key) where
     current_is LongTerm is inside serial = moves_nothing of_current change.cp c.sets.cp
         (record { gone = is.none_current_gone; changed = is.none_current_changed; put = is.put.1 }) serial
         ∙ part_same InLongTerm key c.sets rows b bounded inside free (λ (s : Seat). s.cp) refl refl serial
-    current_is Current is inside serial = moves_one of_current change.cp c.sets.cp (waiting made_row) is.none_current_gone
+    current_is Current is inside serial = moves_one of_current change.cp c.sets.cp (waiting made_row)
+        is.none_current_gone
         is.none_current_changed is.put.1 serial
         ∙ part_after (InCurrent W) key c.sets rows b bounded inside free (λ (s : Seat). s.cp) serial
 
     history_is : (plan : Plan) → (IsOutside b key.ia (place_in plan) → ⊥) → (serial : ℕ)
         → c.sets.history serial ≡ (seat (with_made (place_in plan) (added key ∷ []) c.sets) serial).history
-    history_is LongTerm inside = part_same InLongTerm key c.sets rows b bounded inside free (λ (s : Seat). s.history) refl refl
-    history_is Current inside = part_same (InCurrent W) key c.sets rows b bounded inside free (λ (s : Seat). s.history) refl refl
+    history_is LongTerm inside = part_same InLongTerm key c.sets rows b bounded inside free (λ (s : Seat). s.history)
+        refl refl
+    history_is Current inside = part_same (InCurrent W) key c.sets rows b bounded inside free (λ (s : Seat). s.history)
+        refl refl
 
     deletions_are : (plan : Plan) → (IsOutside b key.ia (place_in plan) → ⊥) → (serial : ℕ)
         → c.sets.deletions serial ≡ (seat (with_made (place_in plan) (added key ∷ []) c.sets) serial).deletions
-    deletions_are LongTerm inside = part_same InLongTerm key c.sets rows b bounded inside free (λ (s : Seat). s.deletions) refl refl
-    deletions_are Current inside = part_same (InCurrent W) key c.sets rows b bounded inside free (λ (s : Seat). s.deletions) refl refl
+    deletions_are LongTerm inside = part_same InLongTerm key c.sets rows b bounded inside free
+        (λ (s : Seat). s.deletions) refl refl
+    deletions_are Current inside = part_same (InCurrent W) key c.sets rows b bounded inside free
+        (λ (s : Seat). s.deletions) refl refl
 
-    module _ (plan : Plan) (is : IsAdditionOf c plan made_row change) (inside : IsOutside b key.ia (place_in plan) → ⊥) where
-      pub addition_fits : Fits change c
-      addition_fits = record {
-        ltp = fits_planned plan is inside;
-        cp = fits_current plan is inside;
-        history = fits_nothing of_row change.history c.sets.history is.history;
-        deletions = fits_nothing of_deletion change.deletions c.sets.deletions is.deletions;
-        job = λ job kept. let no : None ≡ Some job = sym is.job ∙ kept in cc;
-      }
+    module _ (plan : Plan) (is : IsAdditionOf c plan made_row change) (inside : IsOutside b key.ia (place_in plan) → ⊥)
+      where
+        pub addition_fits : Fits change c
+        addition_fits = record {
+          ltp = fits_planned plan is inside;
+          cp = fits_current plan is inside;
+          history = fits_nothing of_row change.history c.sets.history is.history;
+          deletions = fits_nothing of_deletion change.deletions c.sets.deletions is.deletions;
+          job = λ job kept. let no : None ≡ Some job = sym is.job ∙ kept in cc;
+        }
 
-      sets_are : sets_after change c.sets ≡ with_made (place_in plan) (added key ∷ []) c.sets
-      sets_are = λ i. record {
-        bounds = ap (λ o. or_else o c.sets.bounds) is.bounds i;
-        issued = ap (λ o. unwrap_or o c.sets.issued) is.issued i;
-        ltp = λ serial. planned_is plan is inside serial i;
-        cp = λ serial. current_is plan is inside serial i;
-        history = λ serial. (moves_nothing of_row change.history c.sets.history is.history serial ∙ history_is plan inside serial) i;
-        deletions = λ serial. (moves_nothing of_deletion change.deletions c.sets.deletions is.deletions serial ∙ deletions_are plan inside serial) i;
-      }
+        sets_are : sets_after change c.sets ≡ with_made (place_in plan) (added key ∷ []) c.sets
+        sets_are = λ i. record {
+          bounds = ap (λ o. or_else o c.sets.bounds) is.bounds i;
+          issued = ap (λ o. unwrap_or o c.sets.issued) is.issued i;
+          ltp = λ serial. planned_is plan is inside serial i;
+          cp = λ serial. current_is plan is inside serial i;
+          history = λ serial. (moves_nothing of_row change.history c.sets.history is.history serial
+              ∙ history_is plan inside serial) i;
+          deletions = λ serial. (moves_nothing of_deletion change.deletions c.sets.deletions is.deletions serial
+              ∙ deletions_are plan inside serial) i;
+        }
 
-      pub addition_does : ChangesPlans (Adds (place_in plan) key) PutsNone c (Numbered (c.sets.issued + 1)) (after change c)
-      addition_does = record {
-        rows = (refl, sets_are);
-        lists = ap (λ o. unwrap_or o c.in_force) is.in_force;
-        pairs =
-            let lists : unwrap_or change.in_force c.in_force ≡ c.in_force = ap (λ o. unwrap_or o c.in_force) is.in_force in
-            subst (λ l. ArePairs c.pairs l (sets_after change c.sets) (pairs_after change.pairs c.pairs)) (sym lists)
-            (subst (λ s. ArePairs c.pairs c.in_force s (pairs_after change.pairs c.pairs)) (sym sets_are) is.pairs);
-        definitions = ap (λ d. redefined d c.definitions) is.definitions;
-        jobs = ap (λ j. jobs_after j c.jobs) is.job;
-      }
+        pub addition_does : ChangesPlans (Adds (place_in plan) key) PutsNone c (Numbered (c.sets.issued + 1))
+            (after change c)
+        addition_does = record {
+          rows = (refl, sets_are);
+          lists = ap (λ o. unwrap_or o c.in_force) is.in_force;
+          pairs =
+              let lists : unwrap_or change.in_force c.in_force ≡ c.in_force =
+              ap (λ o. unwrap_or o c.in_force) is.in_force in
+              subst (λ l. ArePairs c.pairs l (sets_after change c.sets) (pairs_after change.pairs c.pairs)) (sym lists)
+              (subst (λ s. ArePairs c.pairs c.in_force s (pairs_after change.pairs c.pairs)) (sym sets_are) is.pairs);
+          definitions = ap (λ d. redefined d c.definitions) is.definitions;
+          jobs = ap (λ j. jobs_after j c.jobs) is.job;
+        }
 
 done_is : (c : Content) → IsSound c → (plan : Plan) (key : Key)
     → ((q : Refusal) → AddRefused (place_in plan) key c q → ⊥) → (verdict : Verdict)
@@ -379,7 +403,8 @@ done_is c sound plan key none (Refused refusal) is = absurd is
 pub verdict_is : (c : Content) → IsSound c → (plan : Plan) (row : Row) → IsAddable c plan row → (verdict : Verdict)
     → AddsRow c plan row verdict → VerdictIs (add (place_in plan) row.key) c verdict
 verdict_is c sound plan row able verdict adds =
-    done_is c sound plan row.key able.unrefused verdict (subst (λ (r : Row). AddsRow c plan r verdict) able.numbered adds)
+    done_is c sound plan row.key able.unrefused verdict
+    (subst (λ (r : Row). AddsRow c plan r verdict) able.numbered adds)
 
 -- the live occurrences with the new one
 pub addable_live : (c : Content) → IsSound c → (plan : Plan) (row : Row) → IsAddable c plan row
@@ -390,6 +415,7 @@ addable_live c sound plan row able rows are =
     let (b, bounded) = some_of c.sets.bounds (λ h. able.unrefused NoPlan h) in
     let inside = λ (out : IsOutside b row.key.ia (place_in plan)). able.unrefused DatesOutOfRange (b, bounded, out) in
     let free = λ (live : IsLiveKey c.sets row.key). able.unrefused KeyIsLive live in
-    let is = live_with (place_in plan) row.key c.sets (rows_sound c sound) b bounded inside free rows are (plan_is_live plan) in
+    let is = live_with (place_in plan) row.key c.sets (rows_sound c sound) b bounded inside free rows are
+    (plan_is_live plan) in
     subst (λ (r : Row). AreLiveRows (with_made (place_in plan) (added row.key ∷ []) c.sets)
     (rows ++ (record { row = r; place = place_in plan }) ∷ [])) (sym able.numbered) is

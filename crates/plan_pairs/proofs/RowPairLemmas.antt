@@ -1,5 +1,6 @@
 -- The pairs of one row, link by link.
-use Rattle.std.proofs.Common.{◌≡◌, ◌↔◌, ◌⊎◌, ℕ, ◌≤◌, List, [], ◌∷◌, ◌++◌, refl, sym, ap, subst, ◌∙◌, inl, inr, arith, Option, Some, None}
+use Rattle.std.proofs.Common.{◌≡◌, ◌↔◌, ◌⊎◌, ℕ, List, [], ◌∷◌, ◌++◌, refl, sym, ap, subst, ◌∙◌, inl, inr, arith}
+use Rattle.std.proofs.Common.{Some, None}
 use Rattle.std.specs.List.{Contains}
 use Rattle.std.proofs.lemmas.List.Elements.{Contains-append_left, Contains-push, Contains-push_cases}
 use Rattle.occurrences.specs.declared.key.Key.{Key}
@@ -74,17 +75,18 @@ module _ (s : Sets) (row : Row) where
 
         forward : Contains (now ++ (record { successor = row.serial; predecessor = serial }) ∷ []) pair
             → IsPairBy s row (list ++ link ∷ []) pair
-        forward there = elim (Contains-push_cases now (record { successor = row.serial; predecessor = serial }) pair there) [
-          | inl old ↦ wider pair ((so_far pair).0 old)
-          | inr is ↦ record {
-            successor = ap (λ (p : Pair). p.successor) is;
-            link = link;
-            listed = Contains-push list link;
-            near = near;
-            nearest = nearest;
-            predecessor = same ∙ ap (λ (p : Pair). p.predecessor) is;
-          }
-        ]
+        forward there =
+            elim (Contains-push_cases now (record { successor = row.serial; predecessor = serial }) pair there) [
+              | inl old ↦ wider pair ((so_far pair).0 old)
+              | inr is ↦ record {
+                successor = ap (λ (p : Pair). p.successor) is;
+                link = link;
+                listed = Contains-push list link;
+                near = near;
+                nearest = nearest;
+                predecessor = same ∙ ap (λ (p : Pair). p.predecessor) is;
+              }
+            ]
 
         backward : IsPairBy s row (list ++ link ∷ []) pair
             → Contains (now ++ (record { successor = row.serial; predecessor = serial }) ∷ []) pair
@@ -110,7 +112,8 @@ module _ (s : Sets) (row : Row) where
     )
 
   -- all links of the row's list
-  pub by_all : (links list : List Link) → ((link : Link) → Contains list link ↔ (Contains links link × (link.app ≡ row.key.app)))
+  pub by_all : (links list : List Link)
+      → ((link : Link) → Contains list link ↔ (Contains links link × (link.app ≡ row.key.app)))
       → (pair : Pair) → IsPairBy s row list pair ↔ IsRowPair links s row pair
   by_all links list list_is pair = (forward, backward)
     where

@@ -1,7 +1,8 @@
 -- Pairs from scratch, and those that stay.
 use Rattle.std.proofs.Common.{◌≡◌, ◌↔◌, ◌⊎◌, ℕ, List, [], ◌∷◌, ◌++◌, sym, ap, subst, ◌∙◌, inl, inr}
 use Rattle.std.specs.List.{Contains}
-use Rattle.std.proofs.lemmas.List.Elements.{Contains-append_cases, Contains-append_left, Contains-append_right, Contains-push, Contains-push_cases}
+use Rattle.std.proofs.lemmas.List.Elements.{Contains-append_cases, Contains-append_left, Contains-append_right}
+use Rattle.std.proofs.lemmas.List.Elements.{Contains-push, Contains-push_cases}
 use Rattle.occurrences.specs.Place.{IsLive, IsOpen}
 use Rattle.occurrences.specs.declared.key.Key.{Key}
 use Rattle.occurrences.specs.declared.place.Place.{Place}
@@ -28,18 +29,28 @@ pub record IsHeldPair (before : List Pair) (rows : List PlacedRow) (pair : Pair)
 
 -- the pairs of all rows from scratch, and those that some rows hold
 abbrev pub AreSoFar : List PlacedRow → List Link → List Pair → List PlacedRow → List Pair → Type 0
-AreSoFar all links before rows pairs = (pair : Pair) → Contains pairs pair ↔ (IsPairOf all links pair ⊎ IsHeldPair before rows pair)
+AreSoFar all links before rows pairs = (pair : Pair) → Contains pairs pair
+    ↔ (IsPairOf all links pair ⊎ IsHeldPair before rows pair)
 
 module _ (all : List PlacedRow) (links : List Link) (before : List Pair) where
-  pub held_none : (pairs : List Pair) → ((pair : Pair) → Contains pairs pair ↔ IsPairOf all links pair) → AreSoFar all links before [] pairs
+  pub held_none : (pairs : List Pair) → ((pair : Pair) → Contains pairs pair ↔ IsPairOf all links pair)
+      → AreSoFar all links before [] pairs
   held_none pairs are pair = (
     (λ there. inl ((are pair).0 there)),
     λ is. elim is [ inl open' ↦ (are pair).1 open' | inr held ↦ absurd (none held.placed held.stands) ],
   )
 
-  module _ (rows : List PlacedRow) (pairs : List Pair) (so_far : AreSoFar all links before rows pairs) (placed : PlacedRow) where
+  module _ (rows : List PlacedRow) (pairs : List Pair) (so_far : AreSoFar all links before rows pairs)
+      (placed : PlacedRow) where
     wider : (pair : Pair) → IsHeldPair before rows pair → IsHeldPair before (rows ++ placed ∷ []) pair
-    wider pair held = record { placed = held.placed; stands = Contains-append_left rows (placed ∷ []) held.placed held.stands; closed = held.closed; successor = held.successor; had = held.had }
+    wider pair held =
+        record {
+          placed = held.placed;
+          stands = Contains-append_left rows (placed ∷ []) held.placed held.stands;
+          closed = held.closed;
+          successor = held.successor;
+          had = held.had;
+        }
 
     pub held_skip : IsOpen placed.place → AreSoFar all links before (rows ++ placed ∷ []) pairs
     held_skip waits pair = (
@@ -47,30 +58,63 @@ module _ (all : List PlacedRow) (links : List Link) (before : List Pair) where
       λ is. (so_far pair).1 (elim is [
         | inl open' ↦ inl open'
         | inr held ↦ elim (Contains-push_cases rows placed held.placed held.stands) [
-          | inl old ↦ inr (record { placed = held.placed; stands = old; closed = held.closed; successor = held.successor; had = held.had })
+          | inl old ↦
+              inr (record {
+                placed = held.placed;
+                stands = old;
+                closed = held.closed;
+                successor = held.successor;
+                had = held.had;
+              })
           | inr same ↦ absurd (held.closed (subst (λ (p : PlacedRow). IsOpen p.place) same waits))
         ]
       ]),
     )
 
-    pub held_more : (IsOpen placed.place → ⊥) → (own : List Pair) → ((pair : Pair) → Contains own pair ↔ (Contains before pair × (pair.successor ≡ placed.row.serial))) → AreSoFar all links before (rows ++ placed ∷ []) (pairs ++ own)
+    pub held_more : (IsOpen placed.place → ⊥) → (own : List Pair)
+        → ((pair : Pair) → Contains own pair ↔ (Contains before pair × (pair.successor ≡ placed.row.serial)))
+        → AreSoFar all links before (rows ++ placed ∷ []) (pairs ++ own)
     held_more closed own own_is pair = (
       (λ there. elim (Contains-append_cases pairs own pair there) [
         | inl old ↦ elim ((so_far pair).0 old) [ inl open' ↦ inl open' | inr held ↦ inr (wider pair held) ]
-        | inr new ↦ let is = (own_is pair).0 new in inr (record { placed = placed; stands = Contains-push rows placed; closed = closed; successor = sym is.1; had = is.0 })
+        | inr new ↦ let is = (own_is pair).0 new in inr
+            (record {
+              placed = placed;
+              stands = Contains-push rows placed;
+              closed = closed;
+              successor = sym is.1;
+              had =
+                  is.0;
+            })
       ]),
       λ is. elim is [
         | inl open' ↦ Contains-append_left pairs own pair ((so_far pair).1 (inl open'))
         | inr held ↦ elim (Contains-push_cases rows placed held.placed held.stands) [
-          | inl old ↦ Contains-append_left pairs own pair ((so_far pair).1 (inr (record { placed = held.placed; stands = old; closed = held.closed; successor = held.successor; had = held.had })))
-          | inr same ↦ Contains-append_right pairs own pair ((own_is pair).1 (held.had, sym held.successor ∙ ap (λ (p : PlacedRow). p.row.serial) (sym same)))
+          | inl old ↦ Contains-append_left pairs own pair
+              ((so_far pair).1
+              (inr (record {
+                placed = held.placed;
+                stands = old;
+                closed = held.closed;
+                successor = held.successor;
+                had = held.had;
+              })))
+          | inr same ↦ Contains-append_right pairs own pair
+              ((own_is pair).1 (held.had, sym held.successor ∙ ap (λ (p : PlacedRow). p.row.serial) (sym same)))
         ]
       ],
     )
 
 -- the nearest among arrivals is that among the same arrivals
-pub same_nearest : (P Q : Arrival → Type 0) → ((x : Arrival) → P x → Q x) → ((x : Arrival) → Q x → P x) → (key : Key) (app : List ℕ) (near : Arrival) → IsNearest P key app near → IsNearest Q key app near
-same_nearest P Q to from key app near is = record { live = to near is.live; candidate = is.candidate; greatest = λ other live. is.greatest other (from other live); last = λ other live. is.last other (from other live) }
+pub same_nearest : (P Q : Arrival → Type 0) → ((x : Arrival) → P x → Q x) → ((x : Arrival) → Q x → P x)
+    → (key : Key) (app : List ℕ) (near : Arrival) → IsNearest P key app near → IsNearest Q key app near
+same_nearest P Q to from key app near is = record {
+  live = to near is.live;
+  candidate = is.candidate;
+  greatest =
+      λ other live. is.greatest other (from other live);
+  last = λ other live. is.last other (from other live);
+}
 
 open_is_live : (place : Place) → IsOpen place → IsLive place
 open_is_live LongTerm waits = tt
@@ -86,7 +130,8 @@ module _ (s : Sets) (rows : List PlacedRow) (are : AreLiveRows s rows) where
   live_from x (p, there, live, arrives) = (p.row.serial, p, (are.only p there).0, live, arrives)
 
   -- the pairs of the list from scratch, with those that it holds, are the pairs after a statement
-  pub pairs_are : (links : List Link) (before pairs : List Pair) → AreSoFar rows links before rows pairs → HasPairsAfter before links s pairs
+  pub pairs_are : (links : List Link) (before pairs : List Pair) → AreSoFar rows links before rows pairs
+      → HasPairsAfter before links s pairs
   pairs_are links before pairs so_far pair = (forward pair, backward pair)
     where
       forward : (pair : Pair) → Contains pairs pair → IsOpenPair links s pair ⊎ IsKeptPair before s pair
@@ -98,7 +143,8 @@ module _ (s : Sets) (rows : List PlacedRow) (are : AreLiveRows s rows) where
           app = is.app;
           listed = is.listed;
           near = is.near;
-          nearest = same_nearest (IsLiveIn rows) (LiveAt s) live_from live_to is.placed.row.key is.app is.near is.nearest;
+          nearest = same_nearest (IsLiveIn rows) (LiveAt s) live_from live_to is.placed.row.key is.app is.near
+              is.nearest;
           predecessor = is.predecessor;
         })
         | inr held ↦ inr (record {
@@ -112,17 +158,19 @@ module _ (s : Sets) (rows : List PlacedRow) (are : AreLiveRows s rows) where
 
       backward : (pair : Pair) → IsOpenPair links s pair ⊎ IsKeptPair before s pair → Contains pairs pair
       backward pair cases = (so_far pair).1 (elim cases [
-        | inl is ↦ let in_list = are.all pair.successor is.placed is.stands (open_is_live is.placed.place is.waits) in inl (record {
-          placed = is.placed;
-          stands = in_list.0;
-          waits = is.waits;
-          successor = in_list.1;
-          app = is.app;
-          listed = is.listed;
-          near = is.near;
-          nearest = same_nearest (LiveAt s) (IsLiveIn rows) live_to live_from is.placed.row.key is.app is.near is.nearest;
-          predecessor = is.predecessor;
-        })
+        | inl is ↦ let in_list = are.all pair.successor is.placed is.stands (open_is_live is.placed.place is.waits) in
+            inl (record {
+              placed = is.placed;
+              stands = in_list.0;
+              waits = is.waits;
+              successor = in_list.1;
+              app = is.app;
+              listed = is.listed;
+              near = is.near;
+              nearest = same_nearest (LiveAt s) (IsLiveIn rows) live_to live_from is.placed.row.key is.app is.near
+                  is.nearest;
+              predecessor = is.predecessor;
+            })
         | inr kept ↦ let in_list = are.all pair.successor kept.placed kept.stands kept.live in inr (record {
           placed = kept.placed;
           stands = in_list.0;

@@ -1,6 +1,12 @@
 //! What both plans share: the live occurrences as a list, an addition by hand, and the pairs after a statement, found
 //! from scratch: those of open occurrences with their nearest predecessors, and of those that are live and no longer
 //! open the pairs that they had.
+//!
+//! ```text
+//! // the pairs once some rows joined the long-term plan, and what leads to them from those before
+//! let rows = live_rows_with(alloc, view.ltp(), &made, view.cp(), view.history())?;
+//! let change = pair_change(alloc, view.pairs(), &rows, view.in_force())?;
+//! ```
 #![tactic(auto)]
 
 mod additions;
@@ -12,7 +18,7 @@ mod singles;
 
 pub use additions::{Plan, add};
 pub use change::pair_change;
-pub use listing::live_rows;
+pub use listing::{live_rows, live_rows_with};
 pub use row_pairs::row_pairs_of;
 pub use scratch::settled_pairs;
 pub use singles::single;

@@ -1,4 +1,4 @@
-ghost use Rattle.std.specs.Prelude.{IfOk, OnOk};
+ghost use Rattle.std.specs.Prelude.{◌++◌, IfOk, OnOk};
 ghost use Rattle.planner_machine.specs.Content.{Sets};
 ghost use Rattle.plan_pairs.specs.LiveRows.{AddsCurrent, AddsRows, AreLiveRows, HasLists};
 
@@ -16,8 +16,24 @@ pub fn live_rows(
     ensures { IfOk result (λ rows. (s : Sets) → HasLists s planned.now current.now history.now
         → AreLiveRows s rows) }
 {
-    let mut rows = Vec::new(alloc);
+    live_rows_with(alloc, planned, &[], current, history)
+}
+
+/// The live occurrences, where the first two lists together are the long-term plan. Its one list has no room to spare.
+pub fn live_rows_with(
+    alloc: Global,
+    planned: &[Row],
+    made: &[Row],
+    current: &[CurrentRow],
+    history: &[Row],
+) -> Result<Rows, AllocError>
+    ensures { IfOk result (λ rows. (s : Sets) → HasLists s (planned.now ++ made.now) current.now history.now
+        → AreLiveRows s rows) }
+{
+    let count = planned.len() + made.len() + current.len() + history.len();
+    let mut rows = Vec::with_capacity(alloc, count)?;
     push_rows(&mut rows, planned, Place::LongTerm)?;
+    push_rows(&mut rows, made, Place::LongTerm)?;
     push_current(&mut rows, current)?;
     push_rows(&mut rows, history, Place::History)?;
     Ok(Rows::from_vec(rows))

@@ -27,7 +27,8 @@ none_is (Some x) is = cc
 pub returns-in-Some : goal.returns-in-Some
 returns-in-Some c content shows sound =
     let view = shown c.args.view.now in
-    let unplanned : view.sets.bounds ≡ None = sym c.bounds.ensures ∙ none_is c.bounds.result (sym c.if-is_some.ensures) in
+    let unplanned : view.sets.bounds ≡ None = sym c.bounds.ensures
+    ∙ none_is c.bounds.result (sym c.if-is_some.ensures) in
     let lacking : LacksDefinition view.definitions (Some c.in-Some.refusal) =
     subst (λ (all : Definitions). LacksDefinition all (Some c.in-Some.refusal)) c.definitions.ensures
     c.in-Some.ensures in

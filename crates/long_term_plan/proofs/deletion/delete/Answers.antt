@@ -27,12 +27,21 @@ returns-then-is_none c content shows sound =
 
 pub returns-in_default : goal.returns-in_default
 returns-in_default c content shows sound =
-    let some : (shown c.args.view.now).sets.bounds ≢ None = λ none. some_is c.bounds.result c.if-is_none.ensures (c.bounds.ensures ∙ none) in
-    let bounded = subst (λ (x : Content). x.sets.bounds ≢ None) shows some in
-    ((no_row content c.args.key.now (subst (λ (x : Content). IsPlannedRow x.sets c.args.key.now None) shows c.in_default.ensures), least_no_row c.args.key.now content bounded), refl)
+    let some : (shown c.args.view.now).sets.bounds ≢ None =
+    λ none. some_is c.bounds.result c.if-is_none.ensures (c.bounds.ensures ∙ none) in
+    let bounded = subst (λ (x : Content). x.sets.bounds ≢ None) shows some in (
+      (
+        no_row content c.args.key.now (subst (λ (x : Content). IsPlannedRow x.sets c.args.key.now None) shows
+            c.in_default.ensures),
+        least_no_row c.args.key.now content bounded,
+      ),
+      refl,
+    )
 
 pub returns : goal.returns
 returns c = weaker c.delete_row.result _ _ (λ verdict done content shows sound.
-    let some : (shown c.args.view.now).sets.bounds ≢ None = λ none. some_is c.bounds.result c.if-is_none.ensures (c.bounds.ensures ∙ none) in
+    let some : (shown c.args.view.now).sets.bounds ≢ None =
+    λ none. some_is c.bounds.result c.if-is_none.ensures (c.bounds.ensures ∙ none) in
     let P : Content → Type 0 = λ x. IsSound x → VerdictIs (ltp_delete c.args.key.now) x verdict in
-    subst P shows (λ is. verdict_is (shown c.args.view.now) is c.args.key.now c.in-Some.row some c.in-Some.ensures.0 c.in-Some.ensures.1 verdict (done is c.in-Some.ensures.0)) sound) c.delete_row.ensures
+    subst P shows (λ is. verdict_is (shown c.args.view.now) is c.args.key.now c.in-Some.row some c.in-Some.ensures.0
+    c.in-Some.ensures.1 verdict (done is c.in-Some.ensures.0)) sound) c.delete_row.ensures

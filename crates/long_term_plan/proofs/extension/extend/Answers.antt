@@ -42,16 +42,20 @@ returns-then-is_bad_last_day c content shows sound =
     let view = shown c.args.view.now in
     let planned : view.sets.bounds ≡ Some c.in-Some.bounds = sym c.bounds.ensures ∙ c.in-Some.is in
     let defined : LacksDefinition view.definitions None =
-    subst (λ (all : Definitions). LacksDefinition all None) c.definitions.ensures c.in_default-lacking_definition.ensures in
-    subst (λ x. VerdictIs (extend c.args.to) x (Refused DatesOutOfRange)) shows
-    (bad_day c.args.to view c.in-Some.bounds planned defined (c.is_bad_last_day.ensures.0 c.if-is_bad_last_day.true), refl)
+    subst (λ (all : Definitions). LacksDefinition all None) c.definitions.ensures
+    c.in_default-lacking_definition.ensures in
+    subst (λ x. VerdictIs (extend c.args.to) x (Refused DatesOutOfRange)) shows (
+      bad_day c.args.to view c.in-Some.bounds planned defined (c.is_bad_last_day.ensures.0 c.if-is_bad_last_day.true),
+      refl,
+    )
 
 pub returns-in-Some-2 : goal.returns-in-Some-2
 returns-in-Some-2 c content shows sound =
     let view = shown c.args.view.now in
     let planned : view.sets.bounds ≡ Some c.in-Some.bounds = sym c.bounds.ensures ∙ c.in-Some.is in
     let defined : LacksDefinition view.definitions None =
-    subst (λ (all : Definitions). LacksDefinition all None) c.definitions.ensures c.in_default-lacking_definition.ensures in
+    subst (λ (all : Definitions). LacksDefinition all None) c.definitions.ensures
+    c.in_default-lacking_definition.ensures in
     let good : IsBadLastDay c.in-Some.bounds c.args.to → ⊥ =
     λ bad. false≢true (sym c.if-is_bad_last_day.false ∙ c.is_bad_last_day.ensures.1 bad) in
     let puts : AreLinks (IsDefinedLink view.definitions) c.in_ok-links.links =
@@ -69,7 +73,8 @@ returns c = weaker c.add_days.result _ _ (λ verdict adds content shows sound.
     let sound_view : IsSound view = subst IsSound (sym shows) sound in
     let planned : view.sets.bounds ≡ Some b = sym c.bounds.ensures ∙ c.in-Some.is in
     let defined : LacksDefinition view.definitions None =
-    subst (λ (all : Definitions). LacksDefinition all None) c.definitions.ensures c.in_default-lacking_definition.ensures in
+    subst (λ (all : Definitions). LacksDefinition all None) c.definitions.ensures
+    c.in_default-lacking_definition.ensures in
     let good : IsBadLastDay b c.args.to → ⊥ =
     λ bad. false≢true (sym c.if-is_bad_last_day.false ∙ c.is_bad_last_day.ensures.1 bad) in
     let puts : AreLinks (IsDefinedLink view.definitions) c.in_ok-links.links =

@@ -22,7 +22,8 @@ own_are all app names at links is link = (
   λ (own, (others, at', has)).
       let both : Some others ≡ Some names = sym at' ∙ ap (map_of.get all.predecessors) own ∙ at in
       let one : others ≡ names = cc in
-      let same : link_to app link.predecessor ≡ link = λ i. record { app = sym own i; predecessor = link.predecessor } in
+      let same : link_to app link.predecessor ≡ link =
+      λ i. record { app = sym own i; predecessor = link.predecessor } in
       subst (λ l. Contains l link) (sym is) (subst (Contains (map (link_to app) names)) same
       (Contains-map (link_to app) names link.predecessor (subst (λ l. Contains l link.predecessor) one has))),
 )

@@ -46,12 +46,12 @@ pub returns : goal.returns
 returns c = weaker c.make_drafts.result _ _ (λ verdict made sound keeps.
     let content = shown c.args.view.now in
     let b = c.args.bounds.now in
-    let new = c.as_slice-4.result.now in
-    let tested : new ≡ c.as_slice-3.result.now = c.as_slice-4.ensures.value ∙ sym c.as_slice-3.ensures.value in
+    let new = c.in_ok-new.new.items in
+    let tested : new ≡ c.as_slice-3.result.now = sym c.as_slice-3.ensures.value in
     let are = days_added content sound b c.args.first c.definitions-all.result.now
     c.definitions-all.ensures c.in_ok-apps.apps.items c.as_slice.result.now c.in_ok-apps.ensures
     c.as_slice.ensures.value c.in_ok-named.named.items c.as_slice-2.result.now c.in_ok-named.ensures
-    c.as_slice-2.ensures.value c.in_ok-new.new.items new c.in_ok-new.ensures c.as_slice-4.ensures.value in
+    c.as_slice-2.ensures.value c.in_ok-new.new.items new c.in_ok-new.ensures refl in
     record {
       new = new;
       are_new = are;

@@ -2,6 +2,7 @@ use Rattle.std.proofs.Common.{◌≡◌, ◌+◌, ◌++◌, ◌∙◌, List, Som
 use Rattle.external_dependencies.specs.Pair.{pair_cmp}
 use Rattle.external_dependencies.specs.Rising.{IsRising}
 use Rattle.external_dependencies.specs.declared.pairs.Pair.{Pair}
+use Rattle.occurrences.specs.declared.reply.Reply.TheVariants.{Made}
 use Rattle.occurrences.specs.declared.row.Row.{Row}
 use Rattle.planner_machine.specs.Pairs.{ArePairs}
 use Rattle.planner_machine.proofs.SoundLemmas.{rows_sound}
@@ -17,31 +18,46 @@ returns c sound keeps =
     let content = shown c.args.view.now in
     let b = c.args.bounds.now in
     let links = c.args.links in
-    let new = c.args.new.now in
+    let new = c.args.new.items in
     let s = planned_sets b new content.sets in
     let rows = rows_sound content sound in
     let lists = lists_then content.sets rows new b keeps c.ltp.result.now c.ltp.ensures.rows c.cp.result.now
     c.cp.ensures.rows c.history.result.now c.history.ensures in
-    let put : c.as_slice.result.now ≡ numbered content.sets.issued new =
-    c.as_slice.ensures.value ∙ c.in_ok-rows.ensures ∙ ap (λ n. numbered n new) c.issued.ensures in
-    let planned : c.as_slice-2.result.now ≡ c.ltp.result.now ++ numbered content.sets.issued new =
-    c.as_slice-2.ensures.value ∙ c.in_ok-planned.ensures ∙ ap (λ l. c.ltp.result.now ++ l) put in
+    let put : c.in_ok-rows.rows.items ≡ numbered content.sets.issued new =
+    c.in_ok-rows.ensures ∙ ap (λ l. numbered c.issued.result l) c.as_slice.ensures.value
+    ∙ ap (λ n. numbered n new) c.issued.ensures in
+    let planned : c.ltp.result.now ++ c.deref.result.now ≡ c.ltp.result.now ++ numbered content.sets.issued new =
+    ap (λ l. c.ltp.result.now ++ l) (c.deref.ensures.value ∙ put) in
     let live = c.in_ok-live.ensures s
     (subst (λ (list : List Row). HasLists s list c.cp.result.now c.history.result.now) (sym planned) lists) in
-    let pairs = c.in_ok-pairs.ensures s live (subst (λ (ps : List Pair). IsRising pair_cmp ps) (sym c.pairs.ensures) sound.pairs.settled.rising) in (
+    let made : c.len-made.result ≡ length new = c.len-made.ensures ∙ c.args.new.ok.0 in
+    let pairs = c.in_ok-pairs.ensures s live
+    (subst (λ (ps : List Pair). IsRising pair_cmp ps) (sym c.pairs.ensures) sound.pairs.settled.rising) in (
       making_is content sound b links new _ (record {
         gone = c.new.ensures.items;
         unchanged = c.new-2.ensures.items;
-        put = c.in_ok-rows.ensures ∙ ap (λ n. numbered n new) c.issued.ensures;
+        put = put;
         cp = record { gone = c.none.ensures.gone; changed = c.none.ensures.changed; put = c.none.ensures.put };
-        history = record { gone = c.none-2.ensures.gone; changed = c.none-2.ensures.changed; put = c.none-2.ensures.put };
-        deletions = record { gone = c.none-3.ensures.gone; changed = c.none-3.ensures.changed; put = c.none-3.ensures.put };
+        history = record {
+          gone = c.none-2.ensures.gone;
+          changed = c.none-2.ensures.changed;
+          put =
+              c.none-2.ensures.put;
+        };
+        deletions = record {
+          gone = c.none-3.ensures.gone;
+          changed = c.none-3.ensures.changed;
+          put =
+              c.none-3.ensures.put;
+        };
         bounds = refl;
-        issued = ap (λ n. Some (n + length new)) c.issued-2.ensures;
+        issued = ap (λ n. Some (n + c.len-made.result)) c.issued-2.ensures
+            ∙ ap (λ n. Some (content.sets.issued + n)) made;
         in_force = refl;
         definitions = refl;
         job = refl;
-        pairs = subst (λ before. ArePairs before links s (pairs_after c.in_ok-pairs.pairs before)) c.pairs.ensures pairs;
+        pairs = subst (λ before. ArePairs before links s (pairs_after c.in_ok-pairs.pairs before)) c.pairs.ensures
+            pairs;
       }),
-      refl,
+      ap (λ n. Made n 0) made,
     )

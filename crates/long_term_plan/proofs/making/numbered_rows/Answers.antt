@@ -27,4 +27,5 @@ loop-draft-preserved c =
 
 pub returns : goal.returns
 returns c =
-    c.loop-draft.invariant.0 ∙ ap (numbered c.args.issued) (take_all c.loop-draft.draft-index c.args.drafts.now (omega arith))
+    c.loop-draft.invariant.0 ∙ ap (numbered c.args.issued)
+    (take_all c.loop-draft.draft-index c.args.drafts.now (omega arith))

@@ -32,7 +32,8 @@ returns-in-Some-2 c content shows sound =
     let view = shown c.args.view.now in
     let planned : view.sets.bounds ≡ Some c.in-Some.bounds = sym c.bounds.ensures ∙ c.in-Some.is in
     let defined : LacksDefinition view.definitions None =
-    subst (λ (all : Definitions). LacksDefinition all None) c.definitions.ensures c.in_default-lacking_definition.ensures in
+    subst (λ (all : Definitions). LacksDefinition all None) c.definitions.ensures
+    c.in_default-lacking_definition.ensures in
     let puts : AreLinks (IsDefinedLink view.definitions) c.in_ok-links.links =
     subst (λ (all : Definitions). AreLinks (IsDefinedLink all) c.in_ok-links.links) c.definitions-2.ensures
     c.in_ok-links.ensures in
@@ -47,7 +48,8 @@ returns c = weaker c.modify.result _ _ (λ verdict modifies content shows sound.
     let sound_view : IsSound view = subst IsSound (sym shows) sound in
     let planned : view.sets.bounds ≡ Some c.in-Some.bounds = sym c.bounds.ensures ∙ c.in-Some.is in
     let defined : LacksDefinition view.definitions None =
-    subst (λ (all : Definitions). LacksDefinition all None) c.definitions.ensures c.in_default-lacking_definition.ensures in
+    subst (λ (all : Definitions). LacksDefinition all None) c.definitions.ensures
+    c.in_default-lacking_definition.ensures in
     let puts : AreLinks (IsDefinedLink view.definitions) c.in_ok-links.links =
     subst (λ (all : Definitions). AreLinks (IsDefinedLink all) c.in_ok-links.links) c.definitions-2.ensures
     c.in_ok-links.ensures in

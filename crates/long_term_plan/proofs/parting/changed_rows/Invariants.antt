@@ -5,4 +5,5 @@ use Rattle.long_term_plan.proofs.parting.changed_rows.Given as goal
 
 -- the rows so far
 abbrev pub invariant-loop-row : goal.invariant-loop-row
-invariant-loop-row l = AreInOrder l.named → AreChanged (outcome l.only l.named) (take l.row-index l.rows) l.changed.items
+invariant-loop-row l = AreInOrder l.named → AreChanged (outcome l.only l.named) (take l.row-index l.rows)
+    l.changed.items

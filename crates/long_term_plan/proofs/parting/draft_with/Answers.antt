@@ -21,7 +21,8 @@ returns-in-Ok c order =
     c.binary_search_by_key.result is.bound
     (is.position (λ (d : Draft). d.key) (answers_always _ _ _ (λ f a r q called. search rules))) in
     let here : (at < length named) × HoldsAt (λ (d : Draft). d.key ≡ c.args.key.now) named at =
-    subst (λ (r : Result ℕ ℕ). IfOk r (λ i. (i < length named) × HoldsAt (λ (d : Draft). d.key ≡ c.args.key.now) named i))
+    subst (λ (r : Result ℕ ℕ). IfOk r (λ i. (i < length named)
+    × HoldsAt (λ (d : Draft). d.key ≡ c.args.key.now) named i))
     c.in-Ok.is place in
     let stands : get_or named at draft ≡ draft = sym c.index-named-at.is in
     sym (draft_there c.args.key.now named draft order (at, here.0, stands)

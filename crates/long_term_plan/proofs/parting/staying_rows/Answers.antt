@@ -20,7 +20,8 @@ loop-row-preserved c order =
       | in-Some+in_ok-push w ↦
           let at : f row ≡ Some w.in-Some.now = sym (c.outcome.ensures order) ∙ w.in-Some.is in
           rw (w.kept-is, w.in_ok-push.ensures.items)
-          (ap (λ xs. xs ++ w.in-Some.now ∷ []) before ∙ sym (mapped_more f (take index rows) row (Some w.in-Some.now) at))
+          (ap (λ xs. xs ++ w.in-Some.now ∷ []) before ∙ sym
+          (mapped_more f (take index rows) row (Some w.in-Some.now) at))
       | in_default w ↦
           let at : f row ≡ None = sym (c.outcome.ensures order) ∙ w.in_default.is in
           rw w.kept-is
@@ -32,4 +33,5 @@ loop-row-preserved c order =
 pub returns : goal.returns
 returns c order =
     c.loop-row.invariant order
-    ∙ ap (filter_map (outcome c.args.only.now c.args.named.now)) (take_all c.loop-row.row-index c.args.rows.now (omega arith))
+    ∙ ap (filter_map (outcome c.args.only.now c.args.named.now))
+    (take_all c.loop-row.row-index c.args.rows.now (omega arith))

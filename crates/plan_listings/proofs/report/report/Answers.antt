@@ -12,7 +12,8 @@ returns c =
     ok_map c.signed_lines.result _ (λ text. IsReport c.args.rows.items text.items) (λ text h. record {
       shown = c.sort_unstable_by_key.new.self.items;
       exactly = is.permutation;
-      rising = sorted_by_rows (λ x. x.row) _ (is.sorted (λ x. x.row) (answers_always _ _ _ (λ f a r q called. search rules)));
+      rising = sorted_by_rows (λ x. x.row) _
+          (is.sorted (λ x. x.row) (answers_always _ _ _ (λ f a r q called. search rules)));
       lines = h.0;
       are_lines = subst (λ xs. AreLinesOf IsSignedText xs h.0) c.as_slice.ensures.value h.1;
       prints = h.2;

@@ -20,7 +20,8 @@ returns-in-Ok c = weaker c.add_row.result _ _ (λ verdict done content shows sou
     subst P shows (λ is.
     let new = c.in-Ok.ensures is in
     subst (λ (k : Key). VerdictIs (decided (place_in c.args.plan) k) (shown c.args.view.now) verdict) new.1
-    (verdict_is (shown c.args.view.now) is c.args.plan c.in-Ok.row new.0 verdict (done is new.0))) sound) c.add_row.ensures
+    (verdict_is (shown c.args.view.now) is c.args.plan c.in-Ok.row new.0 verdict (done is new.0))) sound)
+    c.add_row.ensures
 
 pub returns-in-Err : goal.returns-in-Err
 returns-in-Err c content shows sound =

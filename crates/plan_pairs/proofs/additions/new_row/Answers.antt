@@ -3,15 +3,12 @@ use Rattle.std.specs.Prelude.{IfSome, Ok, is_some}
 use Rattle.std.proofs.lemmas.Bool.{false≢true}
 use Rattle.work_calendars.specs.Minute.{minutes_per_day}
 use Rattle.app_definitions.specs.Active.{IsActive}
-use Rattle.app_definitions.specs.declared.applications.Application.{Application}
 use Rattle.app_definitions.specs.declared.definitions.Definitions.{Definitions}
 use Rattle.occurrences.specs.declared.row.Origin.TheVariants.{Added}
 use Rattle.occurrences.specs.declared.row.Row.{Row}
-use Rattle.external_dependencies.specs.declared.rows.PlacedRow.{PlacedRow}
-use Rattle.planner_machine.specs.Add.{IsLiveKey, IsOutside}
 use Rattle.planner_machine.specs.Plans.{IsPlannedApp}
 use Rattle.plan_store.specs.Views.{IsLiveRow, shown}
-use Rattle.plan_pairs.specs.Additions.{IsNewRow, place_in}
+use Rattle.plan_pairs.specs.Additions.{IsNewRow}
 use Rattle.plan_pairs.proofs.AdditionLemmas.{due_is, new_row, new_too_many}
 use Rattle.plan_pairs.proofs.additions.new_row.Goals as goal
 
@@ -29,13 +26,15 @@ returns-in_default-new_serial c sound =
     let key = c.args.key.now in
     let bounded : content.sets.bounds ≡ Some c.in-Some.bounds = sym c.bounds.ensures ∙ c.in-Some.is in
     let has : is_some c.active.result ≡ true = c.if-is_none.ensures in
-    let active : IsPlannedApp content.definitions key.app = subst (λ (all : Definitions). IsPlannedApp all key.app) c.definitions.ensures
+    let active : IsPlannedApp content.definitions key.app =
+    subst (λ (all : Definitions). IsPlannedApp all key.app) c.definitions.ensures
     (there_is (IsActive c.definitions.result.now key.app) c.active.result has c.active.ensures.found) in
     let none = none_is c.live_row.result (sym c.is_some.ensures ∙ c.if-is_some.false) in
     let free = subst (IsLiveRow content.sets key) none (c.live_row.ensures sound.serials) in
     new_too_many content sound c.args.plan key c.in-Some.bounds bounded
     (λ out. false≢true (sym c.if-is_outside.false ∙ c.is_outside.ensures.1 out)) active
-    (λ (serial, p, stands, live, keyed). free serial p stands live keyed) (c.in_default-new_serial.ensures sound.serials)
+    (λ (serial, p, stands, live, keyed). free serial p stands live keyed)
+    (c.in_default-new_serial.ensures sound.serials)
 
 pub returns : goal.returns
 returns c sound =
@@ -43,7 +42,8 @@ returns c sound =
     let key = c.args.key.now in
     let bounded : content.sets.bounds ≡ Some c.in-Some.bounds = sym c.bounds.ensures ∙ c.in-Some.is in
     let has : is_some c.active.result ≡ true = c.if-is_none.ensures in
-    let active : IsPlannedApp content.definitions key.app = subst (λ (all : Definitions). IsPlannedApp all key.app) c.definitions.ensures
+    let active : IsPlannedApp content.definitions key.app =
+    subst (λ (all : Definitions). IsPlannedApp all key.app) c.definitions.ensures
     (there_is (IsActive c.definitions.result.now key.app) c.active.result has c.active.ensures.found) in
     let none = none_is c.live_row.result (sym c.is_some.ensures ∙ c.if-is_some.false) in
     let free = subst (IsLiveRow content.sets key) none (c.live_row.ensures sound.serials) in
@@ -51,7 +51,8 @@ returns c sound =
     let made = new_row content sound c.args.plan key c.in-Some.bounds bounded
     (λ out. false≢true (sym c.if-is_outside.false ∙ c.is_outside.ensures.1 out)) active
     (λ (n, p, stands, live, keyed). free n p stands live keyed) room in
-    let due : c.new.result ≡ key.ia + minutes_per_day = due_is key.ia c.day.result c.in-Some-next.due c.minute.result c.new.result
+    let due : c.new.result ≡ key.ia + minutes_per_day =
+    due_is key.ia c.day.result c.in-Some-next.due c.minute.result c.new.result
     c.new.ensures.value c.in-Some-next.ensures.value c.day.ensures.value c.minute.ensures.value in
     subst (λ (row : Row). IsNewRow content c.args.plan key (Ok row))
     (λ i. record { key = key; serial = sym serial i; deadline = sym due i; origin = Added }) made

@@ -38,9 +38,13 @@ returns c = weaker c.pair_change.result _ _ (λ change are sound able.
     let more = addable_live content sound c.args.plan row able before (c.in_ok-live_rows.ensures content.sets has) in
     let placed : c.push.new.self.items ≡ before ++ (record { row = row; place = place_in c.args.plan }) ∷ [] =
     c.in_ok-push.ensures.items
-    ∙ ap (λ (rs : List PlacedRow). rs ++ (record { row = row; place = c.place-place.result }) ∷ []) c.into_vec-placed.ensures
+    ∙ ap (λ (rs : List PlacedRow). rs ++ (record { row = row; place = c.place-place.result }) ∷ [])
+    c.into_vec-placed.ensures
     ∙ ap (λ (p : Place). before ++ (record { row = row; place = p }) ∷ []) c.place-place.ensures in
-    let listed : AreLiveRows s c.from_vec-rows.result = subst (AreLiveRows s) (sym (c.from_vec-rows.ensures ∙ placed)) more in
+    let listed : AreLiveRows s c.from_vec-rows.result =
+    subst (AreLiveRows s) (sym (c.from_vec-rows.ensures ∙ placed)) more in
     let from = are s listed (subst (IsRising pair_cmp) (sym c.pairs.ensures) sound.pairs.settled.rising) in
-    let turned = subst (λ (ps : List Pair). ArePairs ps c.in_force.result.now s (pairs_after change ps)) c.pairs.ensures from in
-    subst (λ (ls : List Link). ArePairs content.pairs ls s (pairs_after change content.pairs)) c.in_force.ensures turned) c.pair_change.ensures
+    let turned = subst (λ (ps : List Pair). ArePairs ps c.in_force.result.now s (pairs_after change ps)) c.pairs.ensures
+    from in
+    subst (λ (ls : List Link). ArePairs content.pairs ls s (pairs_after change content.pairs)) c.in_force.ensures
+    turned) c.pair_change.ensures

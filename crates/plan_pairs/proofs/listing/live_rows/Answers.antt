@@ -1,14 +1,15 @@
-use Rattle.std.proofs.Common.{subst, sym}
-use Rattle.occurrences.specs.declared.place.Place.TheVariants.{LongTerm}
-use Rattle.plan_pairs.specs.LiveRows.{AddsRows, AreLiveRows}
-use Rattle.plan_pairs.proofs.RowLemmas.{are_live}
+use Rattle.std.proofs.Common.{List, subst, sym}
+use Rattle.std.specs.Prelude.{IfOk, Result, Ok, Err}
+use Rattle.std.proofs.lemmas.List.{append-nil}
+use Rattle.occurrences.specs.declared.row.Row.{Row}
+use Rattle.plan_pairs.specs.LiveRows.{HasLists}
 use Rattle.plan_pairs.proofs.listing.live_rows.Goals as goal
 
+weaker : {A E : Type 0} (r : Result A E) (P Q : A → Type 0) → ((a : A) → P a → Q a) → IfOk r P → IfOk r Q
+weaker (Ok a) P Q f is = f a is
+weaker (Err e) P Q f is = tt
+
 pub returns : goal.returns
-returns c s has =
-    let r1 = c.push_rows.new.rows.items in
-    let first = subst (λ old. AddsRows c.args.planned.now LongTerm old r1) c.new-rows.ensures.items c.in_ok-push_rows.ensures in
-    let live = are_live s c.args.planned.now c.args.current.now c.args.history.now has
-    r1 c.push_current.new.rows.items c.push_rows-2.new.rows.items
-    first c.in_ok-push_current.ensures c.in_ok-push_rows-2.ensures in
-    subst (AreLiveRows s) (sym c.from_vec.ensures) live
+returns c = weaker c.live_rows_with.result _ _ (λ rows live s has.
+    live s (subst (λ (planned : List Row). HasLists s planned c.args.current.now c.args.history.now)
+    (sym (append-nil c.args.planned.now)) has)) c.live_rows_with.ensures

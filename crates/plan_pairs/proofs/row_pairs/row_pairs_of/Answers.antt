@@ -1,9 +1,8 @@
-use Rattle.std.proofs.Common.{◌≡◌, ◌↔◌, ◌+◌, ◌++◌, ◌∷◌, ◌∙◌, List, [], take, sym, ap, subst, arith, Option, Some, None}
+use Rattle.std.proofs.Common.{◌≡◌, ◌↔◌, ◌+◌, ◌++◌, ◌∷◌, ◌∙◌, List, [], take, sym, ap, subst, arith}
 use Rattle.std.specs.List.{Contains}
 use Rattle.std.proofs.lemmas.List.{take_more, take_all}
 use Rattle.external_dependencies.specs.Nearest.{IsNearestAnswer}
 use Rattle.external_dependencies.specs.declared.links.Link.{Link}
-use Rattle.external_dependencies.specs.declared.pairs.Pair.{Pair}
 use Rattle.planner_machine.specs.Pairs.{LiveAt}
 use Rattle.plan_store.specs.Views.{shown}
 use Rattle.plan_pairs.proofs.RowPairLemmas.{ArePairsBy, by_all, by_more, by_none, by_skip}
@@ -28,9 +27,12 @@ loop-link-preserved c sound =
     ∙ ap (λ x. take index list ++ x ∷ []) (sym c.link-item.is) in
     let more : ArePairsBy s row (take index list ++ link ∷ []) c.match-nearest.own.items = elim c.match-nearest.branch [
       | in-Some+in_ok-push w ↦
-          let pushed : w.push.new.self.items ≡ now ++ (record { successor = row.serial; predecessor = w.in-Some.predecessor }) ∷ [] = w.in_ok-push.ensures.items in
+          let pushed : w.push.new.self.items ≡ now
+          ++ (record { successor = row.serial; predecessor = w.in-Some.predecessor }) ∷ [] =
+          w.in_ok-push.ensures.items in
           let found = subst (IsNearestAnswer (LiveAt s) row.key link.predecessor) w.in-Some.is answer in
-          rw (w.own-is, pushed) (by_more s row (take index list) now (c.loop-link.invariant sound) link w.in-Some.predecessor found)
+          rw (w.own-is, pushed) (by_more s row (take index list) now (c.loop-link.invariant sound) link
+          w.in-Some.predecessor found)
       | in_default w ↦
           let found = subst (IsNearestAnswer (LiveAt s) row.key link.predecessor) w.in_default.is answer in
           rw w.own-is (by_skip s row (take index list) now (c.loop-link.invariant sound) link found)
@@ -45,7 +47,8 @@ returns c sound pair =
     let list = c.list-link-items.result.now in
     let all = subst (λ ls. ArePairsBy content.sets row ls c.loop-link.own.items)
     (take_all c.loop-link.link-index list (omega arith)) (c.loop-link.invariant sound) in
-    let listed = subst (λ (links : List Link). (link : Link) → Contains list link ↔ (Contains links link × (link.app ≡ row.key.app)))
+    let listed = subst (λ (links : List Link). (link : Link) → Contains list link
+    ↔ (Contains links link × (link.app ≡ row.key.app)))
     c.in_force.ensures c.list-link-items.ensures.all in
     let is = by_all content.sets row content.in_force list listed pair in
     let same = c.from_vec.ensures pair in

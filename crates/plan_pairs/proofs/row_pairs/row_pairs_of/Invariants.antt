@@ -6,4 +6,5 @@ use Rattle.plan_pairs.proofs.row_pairs.row_pairs_of.Given as goal
 
 -- the pairs by the links so far
 abbrev pub invariant-loop-link : goal.invariant-loop-link
-invariant-loop-link l = AreNumbered (shown l.view).sets → ArePairsBy (shown l.view).sets l.row (take l.link-index l.link-items) l.own.items
+invariant-loop-link l = AreNumbered (shown l.view).sets
+    → ArePairsBy (shown l.view).sets l.row (take l.link-index l.link-items) l.own.items
