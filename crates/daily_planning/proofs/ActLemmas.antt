@@ -1,5 +1,6 @@
 -- An action on an occurrence of the current plan is what the machine does.
-use Rattle.std.proofs.Common.{◌≡◌, ◌≢◌, ◌⊎◌, ℕ, ◌≤◌, zero, suc, Bool, true, false, List, [], ◌∷◌, map, refl, arith, sym, ap, subst, ◌∙◌, inl, inr, Some, None, Option}
+use Rattle.std.proofs.Common.{◌≡◌, ◌≢◌, ◌⊎◌, ℕ, ◌≤◌, zero, suc, Bool, true, false, List, [], ◌∷◌, map, refl, arith, sym}
+use Rattle.std.proofs.Common.{ap, subst, ◌∙◌, inl, inr, Some, None, Option}
 use Rattle.std.specs.Prelude.{nat_eq, cond, option_map, unwrap_or, if◌then◌else◌}
 use Rattle.std.specs.List.{Contains}
 use Rattle.std.proofs.lemmas.Bool.{eqb-true, eqb-false, eq-eqb, ne_eqb}
@@ -11,7 +12,8 @@ use Rattle.occurrences.specs.declared.place.CurrentRow.{CurrentRow}
 use Rattle.occurrences.specs.declared.place.Place.{Place}
 use Rattle.occurrences.specs.declared.place.Place.TheVariants.{LongTerm, Current, History, Deleted}
 use Rattle.occurrences.specs.declared.refusal.Refusal.{Refusal}
-use Rattle.occurrences.specs.declared.refusal.Refusal.TheVariants.{NoPlan, NoSuchOccurrence, PredecessorUncompleted, StatusForbids}
+use Rattle.occurrences.specs.declared.refusal.Refusal.TheVariants.{NoPlan, NoSuchOccurrence, PredecessorUncompleted}
+use Rattle.occurrences.specs.declared.refusal.Refusal.TheVariants.{StatusForbids}
 use Rattle.occurrences.specs.declared.reply.Reply.TheVariants.{Changed}
 use Rattle.occurrences.specs.declared.row.Row.{Row}
 use Rattle.occurrences.specs.declared.status.Action.{Action}
@@ -20,7 +22,8 @@ use Rattle.occurrences.specs.declared.status.Status.{Status}
 use Rattle.occurrences.specs.declared.status.Status.TheVariants.{W, S, E, C, D}
 use Rattle.external_dependencies.specs.Nearest.{arrival_of}
 use Rattle.external_dependencies.specs.declared.rows.PlacedRow.{PlacedRow}
-use Rattle.planner_machine.specs.Act.{ActionRefused, Acts, IsCurrent, IsUncompleted, acted, acted_status, action_move, cp_action}
+use Rattle.planner_machine.specs.Act.{ActionRefused, Acts, IsCurrent, IsUncompleted, acted, acted_status, action_move}
+use Rattle.planner_machine.specs.Act.{cp_action}
 use Rattle.planner_machine.specs.Content.{Content, Seat, Sets, StandsAt}
 use Rattle.planner_machine.specs.Fate.{place_after_action}
 use Rattle.planner_machine.specs.InForce.{PutsNone}
@@ -76,8 +79,10 @@ module _ (c : Content) (sound : IsSound c) (action : Action) (changed : CurrentR
         | true ↦ λ e. elim (deleted_or_not x.status) [
           | inl gone ↦ ap (acted_status action) gone ∙ stays_deleted action ∙ sym gone
           | inr live ↦
-              let mine : IsCurrent c.sets key serial x.status = record { row = x.row; stands = at; keyed = same_key x.row.key key e; live = live } in
-              absurd (eqb-false _ _ other (one_current key action c.sets rows changed.row.serial serial is.was x.status there mine).0)
+              let mine : IsCurrent c.sets key serial x.status =
+              record { row = x.row; stands = at; keyed = same_key x.row.key key e; live = live } in
+              absurd (eqb-false _ _ other (one_current key action c.sets rows changed.row.serial serial is.was x.status
+              there mine).0)
         ]
       ] refl
 
@@ -107,7 +112,9 @@ module _ (c : Content) (sound : IsSound c) (action : Action) (changed : CurrentR
       → (if b then Some changed else c.sets.cp serial) ≡ option_map
       (λ (x : CurrentRow). record x { status = acted key action x.row x.status }) (c.sets.cp serial)) [
         | true ↦ λ e.
-            let here : c.sets.cp serial ≡ Some (record { row = changed.row; status = is.was }) = subst (λ n. c.sets.cp n ≡ Some (record { row = changed.row; status = is.was })) (eqb-true _ _ e) is.stands in
+            let here : c.sets.cp serial ≡ Some (record { row = changed.row; status = is.was }) =
+            subst (λ n. c.sets.cp n ≡ Some (record { row = changed.row; status = is.was })) (eqb-true _ _ e)
+            is.stands in
             let status : acted key action changed.row is.was ≡ changed.status = own_status in
             sym (ap (option_map (λ (x : CurrentRow). record x { status = acted key action x.row x.status })) here
             ∙ ap (λ s. Some (record { row = changed.row; status = s })) status)
@@ -122,7 +129,8 @@ module _ (c : Content) (sound : IsSound c) (action : Action) (changed : CurrentR
   sets' = each (action_move key action) c.sets
 
   at_own : sets'.cp changed.row.serial ≡ Some changed
-  at_own = sym (cp_is changed.row.serial) ∙ ap (λ (b : Bool). if b then Some changed else c.sets.cp changed.row.serial) (eq-eqb changed.row.serial changed.row.serial refl)
+  at_own = sym (cp_is changed.row.serial) ∙ ap (λ (b : Bool). if b then Some changed else c.sets.cp changed.row.serial)
+      (eq-eqb changed.row.serial changed.row.serial refl)
 
   at_other : (serial : ℕ) → nat_eq changed.row.serial serial ≡ false → sets'.cp serial ≡ c.sets.cp serial
   at_other serial other = sym (cp_is serial) ∙ ap (λ (b : Bool). if b then Some changed else c.sets.cp serial) other
@@ -136,10 +144,13 @@ module _ (c : Content) (sound : IsSound c) (action : Action) (changed : CurrentR
 
     listed_after : (x : CurrentRow) → Contains (map (replaced changed) cp) x → sets'.cp x.row.serial ≡ Some x
     listed_after x has =
-        let (z, in_cp, at) = contains_map of_current of_current (replaced changed) (λ y. same_serial y (nat_eq y.row.serial changed.row.serial) refl) cp x has in
-        subst (λ (y : CurrentRow). sets'.cp y.row.serial ≡ Some y) at (by_serial z in_cp (nat_eq z.row.serial changed.row.serial) refl)
+        let (z, in_cp, at) = contains_map of_current of_current (replaced changed)
+        (λ y. same_serial y (nat_eq y.row.serial changed.row.serial) refl) cp x has in
+        subst (λ (y : CurrentRow). sets'.cp y.row.serial ≡ Some y) at
+        (by_serial z in_cp (nat_eq z.row.serial changed.row.serial) refl)
       where
-        same_serial : (y : CurrentRow) (b : Bool) → nat_eq y.row.serial changed.row.serial ≡ b → (if b then changed else y).row.serial ≡ y.row.serial
+        same_serial : (y : CurrentRow) (b : Bool) → nat_eq y.row.serial changed.row.serial ≡ b
+            → (if b then changed else y).row.serial ≡ y.row.serial
         same_serial y true e = sym (eqb-true _ _ e)
         same_serial y false e = refl
 
@@ -149,19 +160,21 @@ module _ (c : Content) (sound : IsSound c) (action : Action) (changed : CurrentR
         by_serial z has false e = at_other z.row.serial (turned _ _ e) ∙ stands_in z has
 
     after_listed : (x : CurrentRow) → sets'.cp x.row.serial ≡ Some x → Contains (map (replaced changed) cp) x
-    after_listed x at = elim (nat_eq changed.row.serial x.row.serial) as (λ b. nat_eq changed.row.serial x.row.serial ≡ b → Contains (map (replaced changed) cp) x) [
-      | true ↦ λ e.
-          let both : Some changed ≡ Some x = sym at_own ∙ ap (λ n. sets'.cp n) (eqb-true _ _ e) ∙ at in
-          let same : changed ≡ x = cc in
-          let was : CurrentRow = record { row = changed.row; status = is.was } in
-          let has : Contains cp was = (lists.exactly was).1 (is.stands, tt) in
-          let turns : replaced changed was ≡ changed = ap (λ (b : Bool). if b then changed else was) (eq-eqb changed.row.serial changed.row.serial refl) in
-          subst (Contains (map (replaced changed) cp)) (turns ∙ same) (map_contains (replaced changed) cp was has)
-      | false ↦ λ e.
-          let has : Contains cp x = (lists.exactly x).1 (sym (at_other x.row.serial e) ∙ at, tt) in
-          let turns : replaced changed x ≡ x = ap (λ (b : Bool). if b then changed else x) (turned _ _ e) in
-          subst (Contains (map (replaced changed) cp)) turns (map_contains (replaced changed) cp x has)
-    ] refl
+    after_listed x at = elim (nat_eq changed.row.serial x.row.serial) as
+        (λ b. nat_eq changed.row.serial x.row.serial ≡ b → Contains (map (replaced changed) cp) x) [
+          | true ↦ λ e.
+              let both : Some changed ≡ Some x = sym at_own ∙ ap (λ n. sets'.cp n) (eqb-true _ _ e) ∙ at in
+              let same : changed ≡ x = cc in
+              let was : CurrentRow = record { row = changed.row; status = is.was } in
+              let has : Contains cp was = (lists.exactly was).1 (is.stands, tt) in
+              let turns : replaced changed was ≡ changed =
+              ap (λ (b : Bool). if b then changed else was) (eq-eqb changed.row.serial changed.row.serial refl) in
+              subst (Contains (map (replaced changed) cp)) (turns ∙ same) (map_contains (replaced changed) cp was has)
+          | false ↦ λ e.
+              let has : Contains cp x = (lists.exactly x).1 (sym (at_other x.row.serial e) ∙ at, tt) in
+              let turns : replaced changed x ≡ x = ap (λ (b : Bool). if b then changed else x) (turned _ _ e) in
+              subst (Contains (map (replaced changed) cp)) turns (map_contains (replaced changed) cp x has)
+        ] refl
 
     -- the lists after the action
     pub lists_after : (ltp : List Row) → ListsSet of_row c.sets.ltp IsAny ltp → (history : List Row)
@@ -174,8 +187,10 @@ module _ (c : Content) (sound : IsSound c) (action : Action) (changed : CurrentR
     }
 
   module _ (change : Change) (d : ChangesStatus c action changed change) where
-    none_moves : {X : Type 0} (row_of : X → Row) (moves : Moves X) (set : ℕ → Option X) → MovesNothing moves → FitsSet row_of moves set
-    none_moves row_of moves set n = fits_moves row_of moves [] [] n.gone n.changed n.put set (once_nothing row_of) (once_nothing row_of)
+    none_moves : {X : Type 0} (row_of : X → Row) (moves : Moves X) (set : ℕ → Option X) → MovesNothing moves
+        → FitsSet row_of moves set
+    none_moves row_of moves set n = fits_moves row_of moves [] [] n.gone n.changed n.put set (once_nothing row_of)
+        (once_nothing row_of)
         (λ x has. absurd (nothing x has)) (λ x has. absurd (nothing x has))
 
     only : (x : CurrentRow) → Contains (changed ∷ []) x → changed ≡ x
@@ -184,13 +199,18 @@ module _ (c : Content) (sound : IsSound c) (action : Action) (changed : CurrentR
 
     fits_cp : FitsSet of_current change.cp c.sets.cp
     fits_cp = record {
-      gone_once = subst (λ xs. Rattle.plan_lists.specs.Rows.HasEachOnce of_current xs) (sym d.gone) (once_nothing of_current);
-      changed_once = subst (λ xs. Rattle.plan_lists.specs.Rows.HasEachOnce of_current xs) (sym d.one_changed) (once_one of_current changed);
-      put_once = subst (λ xs. Rattle.plan_lists.specs.Rows.HasEachOnce of_current xs) (sym d.put) (once_nothing of_current);
+      gone_once = subst (λ xs. Rattle.plan_lists.specs.Rows.HasEachOnce of_current xs) (sym d.gone)
+          (once_nothing of_current);
+      changed_once = subst (λ xs. Rattle.plan_lists.specs.Rows.HasEachOnce of_current xs) (sym d.one_changed)
+          (once_one of_current changed);
+      put_once = subst (λ xs. Rattle.plan_lists.specs.Rows.HasEachOnce of_current xs) (sym d.put)
+          (once_nothing of_current);
       goes = λ x has. absurd (nothing x (subst (λ l. Contains l x) d.gone has));
       changes = λ x has.
-          let P : CurrentRow → Type 0 = λ y. (was : CurrentRow) × (c.sets.cp y.row.serial ≡ Some was) × (arrival_of was.row ≡ arrival_of y.row) in
-          subst P (only x (subst (λ l. Contains l x) d.one_changed has)) (record { row = changed.row; status = is.was }, is.stands, refl);
+          let P : CurrentRow → Type 0 = λ y. (was : CurrentRow) × (c.sets.cp y.row.serial ≡ Some was)
+          × (arrival_of was.row ≡ arrival_of y.row) in
+          subst P (only x (subst (λ l. Contains l x) d.one_changed has))
+          (record { row = changed.row; status = is.was }, is.stands, refl);
       stays = λ x has. ap (λ l. look_up (λ (y : CurrentRow). y.row.serial) l x.row.serial) d.gone;
       new = λ x has. absurd (nothing x (subst (λ l. Contains l x) d.put has));
     }
@@ -204,7 +224,8 @@ module _ (c : Content) (sound : IsSound c) (action : Action) (changed : CurrentR
       job = λ job at. let none = d.job in cc;
     }
 
-    one_changes : (serial : ℕ) (o : Option CurrentRow) (b : Bool) → or_else (cond b (Some changed) None) o ≡ (if b then Some changed else o)
+    one_changes : (serial : ℕ) (o : Option CurrentRow) (b : Bool)
+        → or_else (cond b (Some changed) None) o ≡ (if b then Some changed else o)
     one_changes serial o true = refl
     one_changes serial o false = refl
 
@@ -218,17 +239,29 @@ module _ (c : Content) (sound : IsSound c) (action : Action) (changed : CurrentR
       issued = ap (λ o. unwrap_or o c.sets.issued) d.issued i;
       ltp = λ serial. moved_is of_row change.ltp [] [] [] d.ltp.gone d.ltp.changed d.ltp.put c.sets.ltp serial i;
       cp = λ serial. cp_after serial i;
-      history = λ serial. moved_is of_row change.history [] [] [] d.history.gone d.history.changed d.history.put c.sets.history serial i;
-      deletions = λ serial. moved_is of_deletion change.deletions [] [] [] d.deletions.gone d.deletions.changed d.deletions.put c.sets.deletions serial i;
+      history = λ serial. moved_is of_row change.history [] [] [] d.history.gone d.history.changed d.history.put
+          c.sets.history serial i;
+      deletions = λ serial. moved_is of_deletion change.deletions [] [] [] d.deletions.gone d.deletions.changed
+          d.deletions.put c.sets.deletions serial i;
     }
 
-    pub action_does : Fits change c × ChangesPlans (Acts key action) PutsNone c (Changed changed.row.serial changed.status) (after change c)
+    pub action_does : Fits change c × ChangesPlans (Acts key action) PutsNone c
+        (Changed changed.row.serial changed.status) (after change c)
     action_does = (
       fits_action,
       subst (ChangesPlans (Acts key action) PutsNone c (Changed changed.row.serial changed.status))
-          (sym (after_moves change c d.definitions d.in_force d.job sets' sets_are (pairs_after change.pairs c.pairs) refl))
+          (sym (after_moves change c d.definitions d.in_force d.job sets' sets_are (pairs_after change.pairs c.pairs)
+          refl))
           (record {
-            rows = record { serial = changed.row.serial; status = is.was; new_status = changed.status; there = there; allowed = is.allowed; replies = refl; becomes = refl };
+            rows = record {
+              serial = changed.row.serial;
+              status = is.was;
+              new_status = changed.status;
+              there = there;
+              allowed = is.allowed;
+              replies = refl;
+              becomes = refl;
+            };
             lists = refl;
             pairs = d.pairs;
             definitions = refl;
@@ -281,7 +314,10 @@ module _ (key : Key) (action : Action) (c : Content) where
 
   pub refused_no_row : c.sets.bounds ≢ None → IsCurrentRow c.sets key None
       → VerdictIs (cp_action key action) c (Refused NoSuchOccurrence)
-  refused_no_row some none = (((λ serial status is. none serial (record { row = is.row; status = status }) is.stands is.keyed is.live), least), refl)
+  refused_no_row some none = (
+    ((λ serial status is. none serial (record { row = is.row; status = status }) is.stands is.keyed is.live), least),
+    refl,
+  )
     where
       least : (q : Refusal) → ActionRefused key action c q → 28 ≤ refusal_number q
       least NoPlan q = absurd (some q)

@@ -53,7 +53,13 @@ no_pairs_move change removed added pairs = rw (removed, added) (filter_everythin
 pub after_moves : (change : Change) (c : Content) → change.definitions ≡ AsBefore → change.in_force ≡ None
     → change.job ≡ None → (s : Sets) → sets_after change c.sets ≡ s → (pairs : List Pair)
     → pairs_after change.pairs c.pairs ≡ pairs
-    → after change c ≡ record { definitions = c.definitions; sets = s; in_force = c.in_force; pairs = pairs; jobs = c.jobs }
+    → after change c ≡ record {
+      definitions = c.definitions;
+      sets = s;
+      in_force = c.in_force;
+      pairs = pairs;
+      jobs = c.jobs;
+    }
 after_moves change c definitions in_force job s sets pairs moved =
     let all : redefined change.definitions c.definitions ≡ c.definitions = ap
     (λ d. redefined d c.definitions) definitions in

@@ -1,5 +1,6 @@
 -- What a daily plan changes, and that it is a daily plan.
-use Rattle.std.proofs.Common.{◌≡◌, ◌↔◌, ℕ, ◌<◌, Bool, true, false, not, List, [], length, map, refl, sym, ap, subst, ◌∙◌, Option, Some, None}
+use Rattle.std.proofs.Common.{◌≡◌, ◌↔◌, ℕ, ◌<◌, Bool, true, false, not, List, [], length, map, refl, sym, ap, subst}
+use Rattle.std.proofs.Common.{◌∙◌, Option, Some, None}
 use Rattle.std.specs.Prelude.{nat_lt, option_map, is_some, filter, if◌then◌else◌}
 use Rattle.std.specs.List.{Contains}
 use Rattle.std.proofs.lemmas.Bool.{ltb-true, lt-ltb}
@@ -12,7 +13,9 @@ use Rattle.occurrences.specs.declared.row.Row.{Row}
 use Rattle.planner_machine.specs.declared.content.Bounds.{Bounds}
 use Rattle.planner_machine.specs.Content.{Content}
 use Rattle.planner_machine.specs.DailyExtend.{ExtendsDaily}
-use Rattle.planner_machine.specs.DailyPlan.{arrives_before, arrives_later, carried, completed, daily, daily_reply, deleted, deleted_in_plan, is_completed, is_deleted, is_uncompleted, moved, waiting}
+use Rattle.planner_machine.specs.DailyPlan.{arrives_before, arrives_later, carried, completed, daily, daily_reply}
+use Rattle.planner_machine.specs.DailyPlan.{deleted, deleted_in_plan, is_completed, is_deleted, is_uncompleted, moved}
+use Rattle.planner_machine.specs.DailyPlan.{waiting}
 use Rattle.planner_machine.specs.InForce.{PutsNone}
 use Rattle.planner_machine.specs.Moves.{keep, or_else, size}
 use Rattle.planner_machine.specs.Plans.{ChangesPlans}
@@ -26,9 +29,11 @@ use Rattle.plan_store.specs.declared.changes.Change.{Change}
 use Rattle.plan_store.specs.declared.changes.DefinitionChange.TheVariants.{AsBefore}
 use Rattle.plan_store.proofs.ViewLemmas.{once_from_rows}
 use Rattle.daily_planning.specs.DailyPlans.{DoesDaily, is_finished}
-use Rattle.daily_planning.proofs.ChangeLemmas.{after_moves, current_alone, current_issued, current_numbered, fits_moves, moved_is, no_pairs_move, planned_alone, planned_numbered}
+use Rattle.daily_planning.proofs.ChangeLemmas.{after_moves, current_alone, current_issued, current_numbered, fits_moves}
+use Rattle.daily_planning.proofs.ChangeLemmas.{moved_is, no_pairs_move, planned_alone, planned_numbered}
 use Rattle.daily_planning.proofs.PairLemmas.{daily_pairs}
-use Rattle.daily_planning.proofs.SetLemmas.{contains_filter, contains_map, count_filter, filter_lists, look_filter, look_listed, look_map, once_map, once_nothing}
+use Rattle.daily_planning.proofs.SetLemmas.{contains_filter, contains_map, count_filter, filter_lists, look_filter}
+use Rattle.daily_planning.proofs.SetLemmas.{look_listed, look_map, once_map, once_nothing}
 
 -- the long-term plan keeps what doesn't arrive before t
 left : (t : ℕ) (o : Option Row) → (if is_some (keep (arrives_before t) o) then None else o) ≡ keep (arrives_later t) o
@@ -148,7 +153,8 @@ module _ (t : ℕ) (b : Bounds) (c : Content) (sound : IsSound c) (is : c.sets.b
         (option_map deleted_in_plan (deleted (c.sets.cp serial))) (c.sets.deletions serial)
     deletions_after serial =
         moved_is of_deletion change.deletions [] []
-        (map deleted_in_plan (filter is_dropped cp)) d.deletions_gone d.deletions_changed d.deletions_put c.sets.deletions serial
+        (map deleted_in_plan (filter is_dropped cp)) d.deletions_gone d.deletions_changed d.deletions_put
+        c.sets.deletions serial
         ∙ ap (λ (o : Option Deletion). or_else o (c.sets.deletions serial))
         (look_map of_current of_deletion deleted_in_plan (λ x. refl) (filter is_dropped cp) serial
         ∙ ap (option_map deleted_in_plan) (cp_look is_dropped serial))
@@ -209,7 +215,12 @@ module _ (t : ℕ) (b : Bounds) (c : Content) (sound : IsSound c) (is : c.sets.b
           (filter_lists of_current c.sets.cp is_done cp cp_lists).rows))
           (λ x there. absurd (Rattle.daily_planning.proofs.SetLemmas.nothing x there)) history_new;
       deletions = fits_moves of_deletion change.deletions []
-          (map deleted_in_plan (filter is_dropped cp)) d.deletions_gone d.deletions_changed d.deletions_put c.sets.deletions (once_nothing of_deletion) (once_map of_current of_deletion deleted_in_plan (λ x. refl) (filter is_dropped cp) (once_from_rows of_current (filter is_dropped cp) (filter_lists of_current c.sets.cp is_dropped cp cp_lists).rows)) (λ x there. absurd (Rattle.daily_planning.proofs.SetLemmas.nothing x there)) deletions_new;
+          (map deleted_in_plan (filter is_dropped cp)) d.deletions_gone d.deletions_changed d.deletions_put
+          c.sets.deletions (once_nothing of_deletion)
+          (once_map of_current of_deletion deleted_in_plan (λ x. refl) (filter is_dropped cp)
+          (once_from_rows of_current (filter is_dropped cp)
+          (filter_lists of_current c.sets.cp is_dropped cp cp_lists).rows))
+          (λ x there. absurd (Rattle.daily_planning.proofs.SetLemmas.nothing x there)) deletions_new;
       job = λ job at. let none = d.job in cc;
     }
 
@@ -228,7 +239,13 @@ module _ (t : ℕ) (b : Bounds) (c : Content) (sound : IsSound c) (is : c.sets.b
       subst (ChangesPlans (ExtendsDaily t) PutsNone c reply)
           (sym (after_moves change c d.definitions d.in_force d.job (daily t c.sets) sets_are c.pairs
           (no_pairs_move change.pairs d.removed d.added c.pairs)))
-          (record { rows = (replied, refl); lists = refl; pairs = daily_pairs t c.sets rows c.in_force c.pairs sound.pairs.settled; definitions = refl; jobs = refl }),
+          (record {
+            rows = (replied, refl);
+            lists = refl;
+            pairs = daily_pairs t c.sets rows c.in_force c.pairs sound.pairs.settled;
+            definitions = refl;
+            jobs = refl;
+          }),
     )
 
     pub daily_replied : (m k n l : ℕ) → m ≡ size (λ serial. moved t (c.sets.ltp serial)) c.sets.issued

@@ -24,7 +24,12 @@ use Rattle.planner_machine.proofs.SeatLemmas.{IsMove, after, going, stands_after
 -- the nearest among arrivals is that among the same arrivals
 same_nearest : (P Q : Arrival → Type 0) → ((x : Arrival) → P x → Q x) → ((x : Arrival) → Q x → P x)
     → (row : Row) (app : List ℕ) (near : Arrival) → IsNearest P row.key app near → IsNearest Q row.key app near
-same_nearest P Q to from row app near is = record { live = to near is.live; candidate = is.candidate; greatest = λ other live. is.greatest other (from other live); last = λ other live. is.last other (from other live) }
+same_nearest P Q to from row app near is = record {
+  live = to near is.live;
+  candidate = is.candidate;
+  greatest = λ other live. is.greatest other (from other live);
+  last = λ other live. is.last other (from other live);
+}
 
 open_or_not : (place : Place) → IsOpen place ⊎ (IsOpen place → ⊥)
 open_or_not LongTerm = inl tt

@@ -1,8 +1,9 @@
 -- A row that waits again: its pairs are found anew, and all others stay.
-use Rattle.std.proofs.Common.{◌≡◌, ◌≢◌, ◌↔◌, ◌⊎◌, ℕ, Bool, true, false, List, ◌++◌, filter, refl, sym, ap, subst, ◌∙◌, inl, inr, Some, None, Option}
+use Rattle.std.proofs.Common.{◌≡◌, ◌≢◌, ◌⊎◌, ℕ, Bool, true, false, List, ◌++◌, filter, refl, sym, ap, subst, ◌∙◌}
+use Rattle.std.proofs.Common.{inl, inr, Some}
 use Rattle.std.specs.Prelude.{nat_eq, not, if◌then◌else◌}
 use Rattle.std.specs.List.{Contains}
-use Rattle.std.proofs.lemmas.Bool.{cases_eq, eqb-true, eqb-false, ne_eqb, eq-eqb}
+use Rattle.std.proofs.lemmas.Bool.{cases_eq, ne_eqb, eq-eqb}
 use Rattle.std.proofs.lemmas.List.Elements.{Contains-append_cases, Contains-append_left, Contains-append_right}
 use Rattle.occurrences.specs.Place.{IsLive, IsOpen}
 use Rattle.occurrences.specs.Status.{changed_status}
@@ -17,12 +18,11 @@ use Rattle.occurrences.specs.declared.status.Status.TheVariants.{W, S, E, C, D}
 use Rattle.external_dependencies.specs.Change.{Leads}
 use Rattle.external_dependencies.specs.Nearest.{IsNearest, arrival_of}
 use Rattle.external_dependencies.specs.declared.change.PairChange.{PairChange}
-use Rattle.external_dependencies.specs.declared.links.Link.{Link}
 use Rattle.external_dependencies.specs.declared.live.Arrival.{Arrival}
 use Rattle.external_dependencies.specs.declared.pairs.Pair.{Pair}
 use Rattle.external_dependencies.specs.declared.rows.PlacedRow.{PlacedRow}
-use Rattle.planner_machine.specs.Act.{acted, acted_status, action_move}
-use Rattle.planner_machine.specs.Content.{Content, Seat, Sets, StandsAt, alone}
+use Rattle.planner_machine.specs.Act.{acted_status, action_move}
+use Rattle.planner_machine.specs.Content.{Content, Sets, StandsAt, alone}
 use Rattle.planner_machine.specs.Fate.{place_after_action}
 use Rattle.planner_machine.specs.Moves.{each, has_key}
 use Rattle.planner_machine.specs.Pairs.{ArePairs, IsKeptPair, IsOpenPair, LiveAt}
@@ -34,7 +34,8 @@ use Rattle.planner_machine.proofs.SoundLemmas.{rows_sound}
 use Rattle.plan_store.specs.Changes.{pairs_after}
 use Rattle.plan_pairs.specs.LiveRows.{HasPairsAfter}
 use Rattle.plan_pairs.specs.RowPairs.{IsRowPair}
-use Rattle.plan_pairs.proofs.ChangeLemmas.{pairs_after_are, pairs_after_rise, pairs_same}
+use Rattle.plan_store.proofs.PairLemmas.{pairs_after_rising}
+use Rattle.plan_pairs.proofs.ChangeLemmas.{pairs_after_are, pairs_same}
 use Rattle.plan_pairs.proofs.ListLemmas.{filter_has, filter_keeps}
 use Rattle.plan_pairs.proofs.ScratchLemmas.{same_nearest}
 use Rattle.daily_planning.specs.Actions.{IsActedOn, LeadsToRowPairs}
@@ -100,7 +101,8 @@ module _ (c : Content) (sound : IsSound c) (changed : CurrentRow) (is : IsActedO
   -- a row under another serial stays where it is
   other_on : (n : ℕ) (p : PlacedRow) → n ≢ serial → StandsAt c.sets n p → StandsAt sets' n p
   other_on n p other there =
-      let same : place_after_action key Reset p.row p.place ≡ p.place = place_stays c sound Reset changed is n p other there in
+      let same : place_after_action key Reset p.row p.place ≡ p.place =
+      place_stays c sound Reset changed is n p other there in
       on n p there ∙ ap (alone p.row) same
 
   other_back : (n : ℕ) (q : PlacedRow) → n ≢ serial → StandsAt sets' n q → StandsAt c.sets n q
@@ -119,7 +121,8 @@ module _ (c : Content) (sound : IsSound c) (changed : CurrentRow) (is : IsActedO
   own_stands : StandsAt sets' serial own
   own_stands =
       let was : CurrentRow = record { row = changed.row; status = is.was } in
-      let there = on serial (record { row = changed.row; place = Current is.was }) (stands_in_cp c.sets rows serial was is.stands) in
+      let there = on serial (record { row = changed.row; place = Current is.was })
+      (stands_in_cp c.sets rows serial was is.stands) in
       there ∙ ap (λ (s : Status). alone changed.row (Current s)) (own_status c sound Reset changed is ∙ waiting)
 
   is_own : (n : ℕ) (q : PlacedRow) → n ≡ serial → StandsAt sets' n q → own ≡ q
@@ -198,7 +201,8 @@ module _ (c : Content) (sound : IsSound c) (changed : CurrentRow) (is : IsActedO
           app = o.app;
           listed = o.listed;
           near = o.near;
-          nearest = same_nearest (LiveAt c.sets) (LiveAt sets') live_on live_back o.placed.row.key o.app o.near o.nearest;
+          nearest = same_nearest (LiveAt c.sets) (LiveAt sets') live_on live_back o.placed.row.key o.app o.near
+              o.nearest;
           predecessor = o.predecessor;
         }
 
@@ -210,7 +214,8 @@ module _ (c : Content) (sound : IsSound c) (changed : CurrentRow) (is : IsActedO
           app = o.app;
           listed = o.listed;
           near = o.near;
-          nearest = same_nearest (LiveAt sets') (LiveAt c.sets) live_back live_on o.placed.row.key o.app o.near o.nearest;
+          nearest = same_nearest (LiveAt sets') (LiveAt c.sets) live_back live_on o.placed.row.key o.app o.near
+              o.nearest;
           predecessor = o.predecessor;
         }
 
@@ -222,21 +227,25 @@ module _ (c : Content) (sound : IsSound c) (changed : CurrentRow) (is : IsActedO
           app = r.app;
           listed = r.listed;
           near = r.near;
-          nearest = same_nearest (LiveAt c.sets) (LiveAt sets') live_on live_back changed.row.key r.app r.near r.nearest;
+          nearest = same_nearest (LiveAt c.sets) (LiveAt sets') live_on live_back changed.row.key r.app r.near
+              r.nearest;
           predecessor = r.predecessor;
         }
 
         row_back : pair.successor ≡ serial → (o : IsOpenPair c.in_force sets' pair)
             → IsRowPair c.in_force c.sets changed.row pair
         row_back same o =
-            let row : o.placed.row ≡ changed.row = sym (ap (λ (p : PlacedRow). p.row) (is_own pair.successor o.placed same o.stands)) in
+            let row : o.placed.row ≡ changed.row = sym
+            (ap (λ (p : PlacedRow). p.row) (is_own pair.successor o.placed same o.stands)) in
             record {
               successor = sym same;
               app = o.app;
-              listed = subst (λ (r : Row). Rattle.external_dependencies.specs.Link.Lists c.in_force r.key.app o.app) row o.listed;
+              listed = subst (λ (r : Row). Rattle.external_dependencies.specs.Link.Lists c.in_force r.key.app o.app) row
+                  o.listed;
               near = o.near;
               nearest = subst (λ (r : Row). IsNearest (LiveAt c.sets) r.key o.app o.near) row
-                  (same_nearest (LiveAt sets') (LiveAt c.sets) live_back live_on o.placed.row.key o.app o.near o.nearest);
+                  (same_nearest (LiveAt sets') (LiveAt c.sets) live_back live_on o.placed.row.key o.app o.near
+                  o.nearest);
               predecessor = o.predecessor;
             }
 
@@ -271,4 +280,4 @@ module _ (c : Content) (sound : IsSound c) (changed : CurrentRow) (is : IsActedO
 
     pub reset_are : ArePairs c.pairs c.in_force sets' (pairs_after change c.pairs)
     reset_are = pairs_same c.pairs c.in_force sets' now (pairs_after change c.pairs) are_after
-        (pairs_after_rise change c.pairs sound.pairs.settled.rising) (pairs_after_are change c.pairs now all_leads)
+        (pairs_after_rising change c.pairs sound.pairs.settled.rising) (pairs_after_are change c.pairs now all_leads)

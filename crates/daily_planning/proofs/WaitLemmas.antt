@@ -1,5 +1,6 @@
 -- The least predecessor that isn't complete.
-use Rattle.std.proofs.Common.{◌≡◌, ◌↔◌, ℕ, ◌+◌, ◌<◌, ◌≤◌, List, length, get_or, refl, arith, sym, ap, subst, ◌∙◌, inl, inr}
+use Rattle.std.proofs.Common.{◌≡◌, ◌↔◌, ℕ, ◌+◌, ◌<◌, ◌≤◌, List, length, get_or, refl, arith, sym, ap, subst, ◌∙◌, inl}
+use Rattle.std.proofs.Common.{inr}
 use Rattle.std.specs.List.{AllWithin, Contains}
 use Rattle.std.specs.Ordering.{MatchOrdering}
 use Rattle.std.specs.declared.cmp.Ordering.TheVariants.{Less}
@@ -37,14 +38,16 @@ module _ (c : Content) (serial : ℕ) (list : List Pair) (rising : IsRising pair
       waits (subst IsDone at (done k (pair_of serial n) (omega arith) lt))
 
   before : (a b : Pair) → pair_cmp a b ≡ Less → a.successor ≡ b.successor → a.predecessor < b.predecessor
-  before a b less same = elim (subst (λ o. MatchOrdering o (PairBefore a b) (a ≡ b) (PairBefore b a)) less (pairs_ordered.ranks a b)) [
-    | inl first ↦ omega (arith, first, same)
-    | inr both ↦ both.1
-  ]
+  before a b less same =
+      elim (subst (λ o. MatchOrdering o (PairBefore a b) (a ≡ b) (PairBefore b a)) less (pairs_ordered.ranks a b)) [
+        | inl first ↦ omega (arith, first, same)
+        | inr both ↦ both.1
+      ]
 
   pub first_waits : (index : ℕ) → index < length list → AllWithin IsDone list 0 index → (pair : Pair)
       → get_or list index pair ≡ pair → (IsDone pair → ⊥) → IsLeastUncompleted c serial pair.predecessor
-  first_waits index inside done pair at waits = ((subst (Contains c.pairs) (sym (of_serial pair own)) has.0, waits), least)
+  first_waits index inside done pair at waits =
+      ((subst (Contains c.pairs) (sym (of_serial pair own)) has.0, waits), least)
     where
       has : Contains c.pairs pair × (pair.successor ≡ serial)
       has = (all pair).0 (index, inside, at)
@@ -59,13 +62,19 @@ module _ (c : Content) (serial : ℕ) (list : List Pair) (rising : IsRising pair
             | inl early ↦ absurd (lacks (subst IsDone is (done k (pair_of serial m) (omega arith) early)))
             | inr late ↦ elim (cases_eq index k) [
               | inl same ↦
-                  let e : get_or list index (pair_of serial m) ≡ pair_of serial m = ap (λ n. get_or list n (pair_of serial m)) same ∙ is in
-                  let one : get_or list index (pair_of serial m) ≡ pair = get_or_default list index (pair_of serial m) pair inside ∙ at in
+                  let e : get_or list index (pair_of serial m) ≡ pair_of serial m =
+                  ap (λ n. get_or list n (pair_of serial m)) same ∙ is in
+                  let one : get_or list index (pair_of serial m) ≡ pair =
+                  get_or_default list index (pair_of serial m) pair inside ∙ at in
                   let p : m ≡ pair.predecessor = ap (λ (x : Pair). x.predecessor) (sym e ∙ one) in omega (arith, p)
               | inr other ↦
-                  let less : pair_cmp (get_or list index pair) (get_or list k pair) ≡ Less = rising index k pair (omega (arith, late, other)) lt in
-                  let e : get_or list k pair ≡ pair_of serial m = get_or_default list k pair (pair_of serial m) lt ∙ is in
-                  let here : pair_cmp pair (pair_of serial m) ≡ Less = subst (λ x. pair_cmp x (pair_of serial m) ≡ Less) at (subst (λ y. pair_cmp (get_or list index pair) y ≡ Less) e less) in
+                  let less : pair_cmp (get_or list index pair) (get_or list k pair) ≡ Less =
+                  rising index k pair (omega (arith, late, other)) lt in
+                  let e : get_or list k pair ≡ pair_of serial m = get_or_default list k pair (pair_of serial m) lt
+                  ∙ is in
+                  let here : pair_cmp pair (pair_of serial m) ≡ Less =
+                  subst (λ x. pair_cmp x (pair_of serial m) ≡ Less) at
+                  (subst (λ y. pair_cmp (get_or list index pair) y ≡ Less) e less) in
                   let below : pair.predecessor < m = before pair (pair_of serial m) here own in
                   omega (arith, below)
             ]

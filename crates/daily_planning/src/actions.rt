@@ -7,7 +7,8 @@ ghost use Rattle.planner_machine.specs.Sound.{AreNumbered, IsSound};
 ghost use Rattle.plan_store.specs.Changes.{pairs_after};
 ghost use Rattle.plan_store.specs.Verdicts.{VerdictIs};
 ghost use Rattle.plan_store.specs.Views.{IsCurrentRow, Shows, shown};
-ghost use Rattle.daily_planning.specs.Actions.{ArePairsActed, ChangesStatus, IsActedOn, LeadsToRowPairs, WaitsFor, replaced};
+ghost use Rattle.daily_planning.specs.Actions.{ArePairsActed, ChangesStatus, IsActedOn, LeadsToRowPairs, WaitsFor};
+ghost use Rattle.daily_planning.specs.Actions.{replaced};
 
 use external_dependencies::{PairChange, Pairs};
 use occurrences::{Action, CurrentRow, Key, Refusal, Reply, Row, Serial, next_status};

@@ -1,5 +1,13 @@
-//! What the statements on the current plan decide: a daily plan hands a day on to the next, an action changes the status
-//! of an occurrence, and an addition makes one.
+//! What the statements on the current plan decide: a daily plan hands a day on to the next, an action changes the
+//! status of an occurrence, and an addition makes one. A decision sees the content through a window, and changes
+//! nothing.
+//!
+//! ```text
+//! let view = store.read_window(Need::Daily(to))?;
+//! if let Verdict::Done(change, reply) = extend(alloc, &view, to)? {
+//!     store.apply(alloc, change)?; // reply: how many were moved, carried, completed and deleted
+//! }
+//! ```
 #![tactic(auto)]
 
 mod actions;

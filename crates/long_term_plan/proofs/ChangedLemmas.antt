@@ -119,7 +119,8 @@ module _ (all : Definitions) (c : Sets) (sound : RowsSound c) (rows : List Row)
             by_made (Some other) some =
                 let (there, same) = made_listed c.issued new row.serial other some in
                 let high = numbered_high c.issued new other there in
-                let empty = ap (λ (s : Seat). s.ltp) (mid_sound.unissued row.serial (inr (omega (arith, high, same)))) in
+                let empty = ap (λ (s : Seat). s.ltp)
+                (mid_sound.unissued row.serial (inr (omega (arith, high, same)))) in
                 let no : None ≡ Some row = sym empty ∙ at in cc
 
     -- the rows of the plans and of history then

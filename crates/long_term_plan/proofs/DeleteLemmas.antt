@@ -166,8 +166,7 @@ module _ (c : Content) (sound : IsSound c) (row : Row) (stands : c.sets.ltp row.
     rows = record {
       serial = row.serial;
       planned = record { row = row; stands = stands; keyed = refl };
-      replies =
-          refl;
+      replies = refl;
       becomes = sets_are;
     };
     lists = ap (λ o. unwrap_or o c.in_force) is.in_force;

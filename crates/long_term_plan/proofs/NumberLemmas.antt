@@ -98,7 +98,7 @@ numbered_once n (draft ∷ more) =
     (Contains-get_or (numbered (suc n) more) i (numbered_row (suc n) draft) lt) in omega (arith, high, same)))
     (numbered_once (suc n) more)
 
-numbered_length : (n : ℕ) (drafts : List Draft) → length (numbered n drafts) ≡ length drafts
+pub numbered_length : (n : ℕ) (drafts : List Draft) → length (numbered n drafts) ≡ length drafts
 numbered_length n [] = refl
 numbered_length n (draft ∷ more) = ap suc (numbered_length (suc n) more)
 

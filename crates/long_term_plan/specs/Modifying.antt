@@ -4,6 +4,7 @@ use Rattle.std.specs.List.{AllPairs, filter_map}
 use Rattle.app_definitions.specs.Active.{IsActive}
 use Rattle.app_definitions.specs.declared.applications.Application.{Application}
 use Rattle.app_definitions.specs.declared.definitions.Definitions.{Definitions}
+use Rattle.occurrences.specs.declared.place.CurrentRow.{CurrentRow}
 use Rattle.occurrences.specs.declared.place.Place.TheVariants.{LongTerm}
 use Rattle.occurrences.specs.declared.refusal.Refusal.TheVariants.{TooManyRows}
 use Rattle.occurrences.specs.declared.reply.Reply.{Reply}
@@ -20,7 +21,8 @@ use Rattle.planner_machine.specs.ModifyAll.{IsAnyApp, is_any_app}
 use Rattle.planner_machine.specs.ModifyOne.{IsThatApp, is_that_app}
 use Rattle.planner_machine.specs.Moves.{each, size, with_made}
 use Rattle.planner_machine.specs.Plans.{HoldTooMany}
-use Rattle.plan_lists.specs.Rows.{HasEachOnce, of_row}
+use Rattle.plan_lists.specs.Rows.{HasEachOnce, of_current, of_row}
+use Rattle.plan_pairs.specs.LiveRows.{HasLists}
 use Rattle.plan_store.specs.Views.{IsAny, ListsSet}
 use Rattle.plan_store.specs.declared.changes.Verdict.{Verdict}
 use Rattle.plan_store.specs.declared.changes.Verdict.TheVariants.{Done, Refused}
@@ -69,6 +71,11 @@ pub record PartsPlan (s : Sets) (only : Option (List ℕ)) (named : List Draft) 
   pub rows : List Row
   pub lists : ListsSet of_row s.ltp IsAny rows
   pub parts : AreParted (outcome only named) rows planned gone changed
+
+-- the sets have these rows in the long-term plan, and in the current plan and history what the sets before have
+abbrev pub HavePlanned : Sets → List Row → Sets → Type 0
+HavePlanned before planned s = (cp : List CurrentRow) → ListsSet of_current before.cp IsAny cp → (history : List Row)
+    → ListsSet of_row before.history IsAny history → HasLists s planned cp history
 
 -- the plans would hold more rows than they may, or the serials would pass the greatest
 abbrev pub AreTooMany : Sets → ℕ → ℕ → Type 0

@@ -24,6 +24,3 @@ pub use creation::create;
 pub use deletion::delete;
 pub use extension::extend;
 pub use modification::{modify_all, modify_one};
-
-#[cfg(test)]
-mod tests;

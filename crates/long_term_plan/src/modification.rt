@@ -1,17 +1,23 @@
-ghost use Rattle.std.specs.Prelude.{◌≡◌, ◌↔◌, ◌+◌, ◌≤◌, ℕ, List, length, map, IfOk, IsTrue, Option, Some, false};
+ghost use Rattle.std.specs.Prelude.{◌≡◌, ◌↔◌, ◌+◌, ◌++◌, ◌≤◌, ℕ, List, [], length, map, IfOk, IsTrue};
+ghost use Rattle.std.specs.Prelude.{Option, Some, false};
+ghost use Rattle.std.specs.List.{filter_map};
 ghost use Rattle.work_calendars.specs.Day.{last_planning_day};
+ghost use Rattle.occurrences.specs.declared.row.Row.{Row as RowValue};
 ghost use Rattle.occurrences.specs.declared.serial.TheConstants.{GREATEST_SERIAL};
 ghost use Rattle.planner_machine.specs.declared.content.Draft.{Draft as DraftValue};
-ghost use Rattle.planner_machine.specs.Content.{Content};
+ghost use Rattle.planner_machine.specs.Content.{Content, Sets};
 ghost use Rattle.planner_machine.specs.Modify.{withdrawn};
 ghost use Rattle.planner_machine.specs.ModifyAll.{modify_all};
 ghost use Rattle.planner_machine.specs.ModifyOne.{modify_one};
+ghost use Rattle.planner_machine.specs.Moves.{size};
 ghost use Rattle.planner_machine.specs.Sound.{IsSound};
-ghost use Rattle.planner_machine.proofs.RowsSound.{RowsSound};
 ghost use Rattle.plan_store.specs.Verdicts.{VerdictIs};
 ghost use Rattle.plan_store.specs.Views.{Shows, shown};
-ghost use Rattle.long_term_plan.specs.Modifying.{AreAsked, AreTooMany, ModifiesPlan, ModifiesRows, PartsPlan};
-ghost use Rattle.long_term_plan.specs.Modifying.{modified_sets};
+ghost use Rattle.plan_pairs.specs.LiveRows.{AreLiveRows};
+ghost use Rattle.long_term_plan.specs.Drafting.{AreInOrder};
+ghost use Rattle.long_term_plan.specs.Making.{numbered};
+ghost use Rattle.long_term_plan.specs.Modifying.{AreAsked, AreTooMany, HavePlanned, ModifiesPlan, ModifiesRows};
+ghost use Rattle.long_term_plan.specs.Modifying.{PartsPlan, modified_sets, outcome};
 
 use crate::drafts::{named_drafts, new_drafts};
 use crate::lists::{defined_lists, lists_of_one};
@@ -19,7 +25,7 @@ use crate::making::numbered_rows;
 use crate::parting::{changed_rows, staying_rows, withdrawn_rows};
 use crate::refusals::{lacking_definition, lacking_own_definition};
 use app_definitions::Definitions;
-use external_dependencies::{Links, find_loop};
+use external_dependencies::{Links, Rows, find_loop};
 use occurrences::{Deletion, GREATEST_SERIAL, Reason, Refusal, Reply, Row};
 use plan_pairs::{live_rows_with, pair_change, single};
 use plan_store::{Change, DefinitionChange, Moves, Need, Verdict, View};
@@ -73,7 +79,8 @@ pub fn modify_one(alloc: Global, view: &View<'_>, app: &App) -> Result<Verdict, 
     modify(alloc, view, &bounds, &Some(*app), links)
 }
 
-// What is decided where the statement looks at all applications, or at one, and these lists come into force.
+// What is decided where the statement looks at all applications, or at one, and these lists come into force. What is
+// named is let go before the pairs are found.
 fn modify(
     alloc: Global,
     view: &View<'_>,
@@ -89,15 +96,16 @@ fn modify(
     let last = last_planned(bounds);
     let named = named_drafts(alloc, all, apps.as_slice(), bounds.plan_end, last)?;
     let rows = view.ltp();
-    let kept = staying_rows(alloc, rows, only, &named)?;
     let new = new_drafts(alloc, view, &named)?;
-    if are_too_many(view, &kept, &new) {
-        return Ok(Verdict::Refused(Refusal::TooManyRows));
-    }
     let gone = withdrawn_rows(alloc, rows, only, &named)?;
     let changed = changed_rows(alloc, rows, only, &named)?;
-    drop(named);
-    change_rows(alloc, view, links, kept, gone, changed, &new)
+    if are_too_many(view, &gone, &new) {
+        return Ok(Verdict::Refused(Refusal::TooManyRows));
+    }
+    let put = numbered_rows(alloc, view.issued(), &new)?;
+    let stay_so = are_none(&gone, &changed);
+    let live = live_then(alloc, view, rows, only, named, stay_so, &put)?;
+    change_rows(alloc, view, links, &live, gone, changed, put)
 }
 
 // The last day of the plan, which is no later than the last planning day.
@@ -111,15 +119,49 @@ fn last_planned(bounds: &Bounds) -> Day
     bounds.last_day
 }
 
-// Whether the plans would hold too many rows, or too many serials were issued.
-fn are_too_many(view: &View<'_>, kept: &[Row], new: &[Draft]) -> bool
-    ensures too_many { IsSound (shown view.now)
-        → IsTrue result ↔ AreTooMany (shown view.now).sets (length kept.now) (length new.now) }
+// Whether the plans would hold too many rows without those that go and with the new ones, or too many serials were
+// issued.
+fn are_too_many(view: &View<'_>, gone: &[Row], new: &[Draft]) -> bool
+    ensures too_many { IsSound (shown view.now) → (kept : ℕ)
+        → kept + length gone.now ≡ size (shown view.now).sets.ltp (shown view.now).sets.issued
+        → IsTrue result ↔ AreTooMany (shown view.now).sets kept (length new.now) }
     ensures serials { result ≡ false → (shown view.now).sets.issued + length new.now ≤ GREATEST_SERIAL }
 {
-    let rows = kept.len() + view.cp().len() + new.len();
+    let rows = view.ltp().len() + view.cp().len() + new.len();
     let issued = view.issued() as usize + new.len();
-    rows > MOST_PLANNED_ROWS || issued > GREATEST_SERIAL as usize
+    rows > MOST_PLANNED_ROWS + gone.len() || issued > GREATEST_SERIAL as usize
+}
+
+// Whether no row goes or changes.
+fn are_none(gone: &[Row], changed: &[Row]) -> bool
+    ensures { IsTrue result → (gone.now ≡ []) × (changed.now ≡ []) }
+{
+    gone.is_empty() && changed.is_empty()
+}
+
+// The live occurrences then. The rows of the plan are copied only where they don't all stay as they are.
+fn live_then(
+    alloc: Global,
+    view: &View<'_>,
+    rows: &[Row],
+    only: &Option<App>,
+    named: Vec<Draft>,
+    stay_so: bool,
+    put: &[Row],
+) -> Result<Rows, AllocError>
+    ensures { AreInOrder named.items
+        → (IsTrue stay_so → filter_map (outcome only.now named.items) rows.now ≡ rows.now)
+        → IfOk result (λ live. (s : Sets)
+        → HavePlanned (shown view.now).sets (filter_map (outcome only.now named.items) rows.now ++ put.now) s
+        → AreLiveRows s live) }
+{
+    if stay_so {
+        drop(named);
+        return live_rows_with(alloc, rows, put, view.cp(), view.history());
+    }
+    let kept = staying_rows(alloc, rows, only, &named)?;
+    drop(named);
+    live_rows_with(alloc, &kept, put, view.cp(), view.history())
 }
 
 // The names of the applications that the statement looks at.
@@ -137,30 +179,30 @@ fn change_rows(
     alloc: Global,
     view: &View<'_>,
     links: Links,
-    kept: Vec<Row>,
+    live: &Rows,
     gone: Vec<Row>,
     changed: Vec<Row>,
-    new: &[Draft],
+    put: Vec<Row>,
 ) -> Result<Verdict, AllocError>
-    requires { (shown view.now).sets.issued + length new.now ≤ GREATEST_SERIAL }
-    ensures { IfOk result (λ verdict. IsSound (shown view.now) → (only : Option (List ℕ)) (named : List DraftValue)
-        → PartsPlan (shown view.now).sets only named kept.items gone.items changed.items
-        → RowsSound (modified_sets only named new.now (shown view.now).sets)
-        → ModifiesRows (shown view.now) links only named new.now verdict) }
+    requires { (shown view.now).sets.issued + length put.items ≤ GREATEST_SERIAL }
+    ensures { IfOk result (λ verdict. IsSound (shown view.now)
+        → (only : Option (List ℕ)) (named new : List DraftValue) (planned : List RowValue)
+        → PartsPlan (shown view.now).sets only named planned gone.items changed.items
+        → put.items ≡ numbered (shown view.now).sets.issued new
+        → AreLiveRows (modified_sets only named new (shown view.now).sets) live.now
+        → ModifiesRows (shown view.now) links only named new verdict) }
 {
-    let put = numbered_rows(alloc, view.issued(), new)?;
-    let live = live_rows_with(alloc, &kept, &put, view.cp(), view.history())?;
-    drop(kept);
-    let pairs = pair_change(alloc, view.pairs(), &live, &links)?;
+    let made = put.len();
+    let pairs = pair_change(alloc, view.pairs(), live, &links)?;
     let reply = Reply::Made {
-        made: new.len(),
+        made,
         withdrawn: gone.len(),
     };
     let deleted = deletions_of(alloc, gone.as_slice())?;
     let change = Change {
         definitions: DefinitionChange::AsBefore,
         bounds: None,
-        issued: Some(view.issued() + new.len() as u32),
+        issued: Some(view.issued() + made as u32),
         in_force: Some(links),
         ltp: Moves { gone, changed, put },
         cp: Moves::none(alloc),

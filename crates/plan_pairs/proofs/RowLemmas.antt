@@ -82,8 +82,7 @@ wider list current p is =
     record {
       status = is.status;
       listed = Contains-append_left list (current ∷ []) _ is.listed;
-      placed =
-          is.placed;
+      placed = is.placed;
       stays = is.stays;
     }
 

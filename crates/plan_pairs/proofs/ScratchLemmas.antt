@@ -83,8 +83,7 @@ module _ (all : List PlacedRow) (links : List Link) (before : List Pair) where
               stands = Contains-push rows placed;
               closed = closed;
               successor = sym is.1;
-              had =
-                  is.0;
+              had = is.0;
             })
       ]),
       λ is. elim is [
@@ -111,8 +110,7 @@ pub same_nearest : (P Q : Arrival → Type 0) → ((x : Arrival) → P x → Q x
 same_nearest P Q to from key app near is = record {
   live = to near is.live;
   candidate = is.candidate;
-  greatest =
-      λ other live. is.greatest other (from other live);
+  greatest = λ other live. is.greatest other (from other live);
   last = λ other live. is.last other (from other live);
 }
 

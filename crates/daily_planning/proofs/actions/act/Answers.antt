@@ -7,22 +7,30 @@ use Rattle.daily_planning.proofs.actions.act.Goals as goal
 
 pub returns-in_default : goal.returns-in_default
 returns-in_default c sound some is =
-    refused_status c.args.current.now.row.key c.args.action (shown c.args.view.now) some c.args.current.now is (sym c.next_status.ensures ∙ c.in_default.is)
+    refused_status c.args.current.now.row.key c.args.action (shown c.args.view.now) some c.args.current.now is
+    (sym c.next_status.ensures ∙ c.in_default.is)
 
 pub returns-in-Some-waited_for : goal.returns-in-Some-waited_for
 returns-in-Some-waited_for c sound some is =
     let content = shown c.args.view.now in
     let current = c.args.current.now in
     let changed : CurrentRow = record { row = current.row; status = c.in-Some.status } in
-    let acted : IsActedOn content c.args.action changed = record { was = current.status; stands = is.0; live = is.2; allowed = sym c.next_status.ensures ∙ c.in-Some.is } in
+    let acted : IsActedOn content c.args.action changed =
+    record { was = current.status; stands = is.0; live = is.2; allowed = sym c.next_status.ensures ∙ c.in-Some.is }
+    in
     action_waits content sound c.args.action changed acted some c.in-Some-waited_for.predecessor
-    (subst (WaitsFor content c.args.action current.row.serial) c.in-Some-waited_for.is (c.waited_for.ensures sound.serials))
+    (subst (WaitsFor content c.args.action current.row.serial) c.in-Some-waited_for.is
+    (c.waited_for.ensures sound.serials))
 
 pub returns : goal.returns
 returns c sound some is =
     let content = shown c.args.view.now in
     let current = c.args.current.now in
     let changed : CurrentRow = record { row = current.row; status = c.in-Some.status } in
-    let acted : IsActedOn content c.args.action changed = record { was = current.status; stands = is.0; live = is.2; allowed = sym c.next_status.ensures ∙ c.in-Some.is } in
-    action_done content sound c.args.action changed acted c.in_ok-change.change (c.in_ok-change.ensures sound acted) some
-    (subst (WaitsFor content c.args.action current.row.serial) c.in_default-waited_for.is (c.waited_for.ensures sound.serials))
+    let acted : IsActedOn content c.args.action changed =
+    record { was = current.status; stands = is.0; live = is.2; allowed = sym c.next_status.ensures ∙ c.in-Some.is }
+    in
+    action_done content sound c.args.action changed acted c.in_ok-change.change (c.in_ok-change.ensures sound acted)
+    some
+    (subst (WaitsFor content c.args.action current.row.serial) c.in_default-waited_for.is
+    (c.waited_for.ensures sound.serials))

@@ -1,4 +1,4 @@
-use Rattle.std.proofs.Common.{◌≡◌, inl, inr, sym, subst}
+use Rattle.std.proofs.Common.{inl, inr, sym, subst}
 use Rattle.std.specs.Prelude.{IfOk, Result, Ok, Err}
 use Rattle.occurrences.specs.declared.status.Action.{Action}
 use Rattle.external_dependencies.specs.declared.change.PairChange.{PairChange}
@@ -33,13 +33,15 @@ returns-in-Start c sound acted =
       ]
     ] in
     let change : PairChange = record { removed = c.new.result; added = c.new-in-Start.result } in
-    let stay = action_pairs key action leaves content.sets (rows_sound content sound) content.in_force content.pairs sound.pairs.settled in
+    let stay = action_pairs key action leaves content.sets (rows_sound content sound) content.in_force content.pairs
+    sound.pairs.settled in
     subst (ArePairs content.pairs content.in_force (each (action_move key action) content.sets))
     (sym (no_pairs_move change c.new.ensures c.new-in-Start.ensures content.pairs)) stay
 
 pub returns-in-Reset : goal.returns-in-Reset
 returns-in-Reset c = weaker c.reset_pairs.result
-    (λ (change : PairChange). IsSound (shown c.args.view.now) → LeadsToRowPairs (shown c.args.view.now) c.args.changed.now.row change) _ (λ change leads sound acted.
+    (λ (change : PairChange). IsSound (shown c.args.view.now)
+    → LeadsToRowPairs (shown c.args.view.now) c.args.changed.now.row change) _ (λ change leads sound acted.
     let content = shown c.args.view.now in
     let changed = c.args.changed.now in
     let reset = subst (λ (a : Action). IsActedOn content a changed) c.in-Reset.is acted in

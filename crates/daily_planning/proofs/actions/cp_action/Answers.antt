@@ -28,13 +28,16 @@ returns-then-is_none c content shows sound =
 
 pub returns-in_default : goal.returns-in_default
 returns-in_default c content shows sound =
-    let some : (shown c.args.view.now).sets.bounds ≢ None = λ none. some_is c.bounds.result c.if-is_none.ensures (c.bounds.ensures ∙ none) in
+    let some : (shown c.args.view.now).sets.bounds ≢ None =
+    λ none. some_is c.bounds.result c.if-is_none.ensures (c.bounds.ensures ∙ none) in
     refused_no_row c.args.key.now c.args.action content (subst (λ (x : Content). x.sets.bounds ≢ None) shows some)
     (subst (λ (x : Content). IsCurrentRow x.sets c.args.key.now None) shows c.in_default.ensures)
 
 pub returns : goal.returns
 returns c = weaker c.act.result _ _ (λ verdict done content shows sound.
-    let some : (shown c.args.view.now).sets.bounds ≢ None = λ none. some_is c.bounds.result c.if-is_none.ensures (c.bounds.ensures ∙ none) in
+    let some : (shown c.args.view.now).sets.bounds ≢ None =
+    λ none. some_is c.bounds.result c.if-is_none.ensures (c.bounds.ensures ∙ none) in
     let P : Content → Type 0 = λ x. IsSound x → VerdictIs (decided c.args.key.now c.args.action) x verdict in
-    subst P shows (λ is. subst (λ (k : Key). VerdictIs (decided k c.args.action) (shown c.args.view.now) verdict) c.in-Some.ensures.1
+    subst P shows (λ is. subst (λ (k : Key). VerdictIs (decided k c.args.action) (shown c.args.view.now) verdict)
+    c.in-Some.ensures.1
     (done is some (c.in-Some.ensures.0, refl, c.in-Some.ensures.2))) sound) c.act.ensures

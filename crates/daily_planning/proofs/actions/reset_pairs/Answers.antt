@@ -1,8 +1,7 @@
-use Rattle.std.proofs.Common.{◌≡◌, ◌↔◌, ◌++◌, ◌∙◌, List, ap, subst, sym}
+use Rattle.std.proofs.Common.{◌≡◌, ◌↔◌, ◌++◌, ◌∙◌, List, ap, subst}
 use Rattle.std.specs.Prelude.{IfOk, Result, Ok, Err}
 use Rattle.std.specs.List.{Contains}
 use Rattle.external_dependencies.specs.declared.pairs.Pair.{Pair}
-use Rattle.plan_store.specs.Views.{shown}
 use Rattle.daily_planning.proofs.actions.reset_pairs.Goals as goal
 
 weaker : {A E : Type 0} (r : Result A E) (P Q : A → Type 0) → ((a : A) → P a → Q a) → IfOk r P → IfOk r Q
@@ -16,8 +15,10 @@ returns c = weaker c.between.result _ _ (λ change leads sound. record {
       let slice = c.of_successor.result.now in
       let items : c.extend_from_slice.new.self.items ≡ slice = c.in_ok-extend_from_slice.ensures.items
       ∙ ap (λ (l : List Pair). l ++ slice) c.new-had.ensures.items in
-      let is = subst (λ (l : List Pair). Contains c.from_vec-had.result pair ↔ Contains l pair) items (c.from_vec-had.ensures pair) in
-      let of = subst (λ (ps : List Pair). Contains slice pair ↔ (Contains ps pair × (pair.successor ≡ c.args.row.now.serial)))
+      let is = subst (λ (l : List Pair). Contains c.from_vec-had.result pair ↔ Contains l pair) items
+      (c.from_vec-had.ensures pair) in
+      let of = subst (λ (ps : List Pair). Contains slice pair
+      ↔ (Contains ps pair × (pair.successor ≡ c.args.row.now.serial)))
       c.pairs.ensures (c.of_successor.ensures.all pair) in
       ((λ there. of.0 (is.0 there)), λ both. is.1 (of.1 both));
   now = c.in_ok-now.now;

@@ -22,8 +22,14 @@ pub returns : goal.returns
 returns c = weaker c.pair_change.result _ _ (λ change are sound action acted.
     let content = shown c.args.view.now in
     let s = each (action_move c.args.changed.now.row.key action) content.sets in
-    let has = lists_after content sound action c.args.changed.now acted c.cp.result.now c.cp.ensures.rows c.ltp.result.now c.ltp.ensures.rows c.history.result.now c.history.ensures in
-    let listed = subst (λ (list : List CurrentRow). HasLists s c.ltp.result.now list c.history.result.now) (sym (c.as_slice.ensures.value ∙ c.in_ok-current.ensures)) has in
-    let from = are s (c.in_ok-rows.ensures s listed) (subst (IsRising pair_cmp) (sym c.pairs.ensures) sound.pairs.settled.rising) in
-    let turned = subst (λ (ps : List Pair). ArePairs ps c.in_force.result.now s (pairs_after change ps)) c.pairs.ensures from in
-    subst (λ (ls : List Link). ArePairs content.pairs ls s (pairs_after change content.pairs)) c.in_force.ensures turned) c.pair_change.ensures
+    let has = lists_after content sound action c.args.changed.now acted c.cp.result.now c.cp.ensures.rows
+    c.ltp.result.now c.ltp.ensures.rows c.history.result.now c.history.ensures in
+    let listed = subst (λ (list : List CurrentRow). HasLists s c.ltp.result.now list c.history.result.now)
+    (sym (c.as_slice.ensures.value ∙ c.in_ok-current.ensures)) has in
+    let from =
+    are s (c.in_ok-rows.ensures s listed) (subst (IsRising pair_cmp) (sym c.pairs.ensures)
+    sound.pairs.settled.rising) in
+    let turned = subst (λ (ps : List Pair). ArePairs ps c.in_force.result.now s (pairs_after change ps)) c.pairs.ensures
+    from in
+    subst (λ (ls : List Link). ArePairs content.pairs ls s (pairs_after change content.pairs)) c.in_force.ensures
+    turned) c.pair_change.ensures

@@ -6,4 +6,5 @@ use Rattle.plan_store.specs.Views.{shown}
 use Rattle.daily_planning.proofs.actions.waited_for.Given as goal
 
 abbrev pub invariant-loop-pair : goal.invariant-loop-pair
-invariant-loop-pair l = AreNumbered (shown l.view).sets → AllWithin (λ (pair : Pair). IsCompleteAt (shown l.view).sets pair.predecessor) l.pair-items 0 l.pair-index
+invariant-loop-pair l = AreNumbered (shown l.view).sets
+    → AllWithin (λ (pair : Pair). IsCompleteAt (shown l.view).sets pair.predecessor) l.pair-items 0 l.pair-index

@@ -18,7 +18,8 @@ returns c sound is =
       history = record none.history { put = c.in_ok-completed.completed };
       deletions = record none.deletions { put = c.in_ok-deleted.deleted };
     } in
-    daily_replied t b (shown c.args.view.now) sound is c.in_ok-moved.moved.items c.cp-rows.result.now c.in_ok-moved.ensures.rows c.cp-rows.ensures.rows change
+    daily_replied t b (shown c.args.view.now) sound is c.in_ok-moved.moved.items c.cp-rows.result.now
+    c.in_ok-moved.ensures.rows c.cp-rows.ensures.rows change
     (record {
       definitions = nothing.definitions;
       bounds = refl;
@@ -41,7 +42,10 @@ returns c sound is =
       job = nothing.job;
     })
     c.len.result c.count_uncompleted.result c.len-2.result c.len-3.result
-    (let e : c.len.result ≡ length c.in_ok-moved.moved.items = omega arith in e ∙ c.in_ok-moved.ensures.count sound.serials)
+    (let e : c.len.result ≡ length c.in_ok-moved.moved.items = omega arith in
+    e ∙ c.in_ok-moved.ensures.count sound.serials)
     c.count_uncompleted.ensures
-    (let e : c.len-2.result ≡ length c.in_ok-completed.completed.items = omega arith in e ∙ ap length c.in_ok-completed.ensures)
-    (let e : c.len-3.result ≡ length c.in_ok-deleted.deleted.items = omega arith in e ∙ ap length c.in_ok-deleted.ensures)
+    (let e : c.len-2.result ≡ length c.in_ok-completed.completed.items = omega arith in
+    e ∙ ap length c.in_ok-completed.ensures)
+    (let e : c.len-3.result ≡ length c.in_ok-deleted.deleted.items = omega arith in
+    e ∙ ap length c.in_ok-deleted.ensures)

@@ -34,8 +34,7 @@ returns c sound stands =
         history = record {
           gone = c.none-2.ensures.gone;
           changed = c.none-2.ensures.changed;
-          put =
-              c.none-2.ensures.put;
+          put = c.none-2.ensures.put;
         };
         definitions = refl;
         bounds = refl;

@@ -41,14 +41,12 @@ returns c sound keeps =
         history = record {
           gone = c.none-2.ensures.gone;
           changed = c.none-2.ensures.changed;
-          put =
-              c.none-2.ensures.put;
+          put = c.none-2.ensures.put;
         };
         deletions = record {
           gone = c.none-3.ensures.gone;
           changed = c.none-3.ensures.changed;
-          put =
-              c.none-3.ensures.put;
+          put = c.none-3.ensures.put;
         };
         bounds = refl;
         issued = ap (λ n. Some (n + c.len-made.result)) c.issued-2.ensures

@@ -1,5 +1,6 @@
-use Rattle.std.proofs.Common.{◌≡◌, ◌≢◌, ◌∙◌, ℕ, List, ap, filter, length, refl, sym, subst, Option, Result, Ok, Err}
-use Rattle.std.specs.Prelude.{IfOk, is_none}
+use Rattle.std.proofs.Common.{◌≡◌, ◌≢◌, ◌+◌, ◌++◌, ◌∙◌, ℕ, List, ap, arith, filter, length, refl, sym, subst}
+use Rattle.std.proofs.Common.{Option, Result, Ok, Err}
+use Rattle.std.specs.Prelude.{IfOk, IsTrue, is_none}
 use Rattle.std.specs.List.{AllPairs, filter_map}
 use Rattle.std.proofs.lemmas.Bool.{false≢true}
 use Rattle.occurrences.specs.declared.row.Row.{Row}
@@ -7,16 +8,22 @@ use Rattle.external_dependencies.specs.declared.links.Link.{Link}
 use Rattle.planner_machine.specs.declared.content.Draft.{Draft}
 use Rattle.planner_machine.specs.Content.{Content}
 use Rattle.planner_machine.specs.Drafts.{AreDrafts, IsMade}
+use Rattle.planner_machine.specs.Moves.{size}
 use Rattle.planner_machine.specs.Plans.{HoldTooMany}
-use Rattle.planner_machine.proofs.RowsSound.{RowsSound}
+use Rattle.planner_machine.proofs.SoundLemmas.{rows_sound}
 use Rattle.plan_store.specs.Views.{shown}
 use Rattle.plan_store.specs.declared.changes.Verdict.{Verdict}
 use Rattle.plan_store.specs.declared.changes.Verdict.TheVariants.{Done, Refused}
+use Rattle.plan_pairs.specs.LiveRows.{AreLiveRows, HasLists}
 use Rattle.long_term_plan.specs.Drafting.{AreInOrder, AreNew}
+use Rattle.long_term_plan.specs.Making.{numbered}
 use Rattle.long_term_plan.specs.Modifying.{AreChanged, IsModifiedOrTooMany, ModifiesRows, NamesThen, PartsPlan}
 use Rattle.long_term_plan.specs.Modifying.{modified_sets, outcome}
+use Rattle.long_term_plan.proofs.ChangedLemmas.{lists_then}
 use Rattle.long_term_plan.proofs.DraftingLemmas.{new_are}
 use Rattle.long_term_plan.proofs.ModifyPlanLemmas.{named_then, stays_sound, too_many}
+use Rattle.long_term_plan.proofs.NumberLemmas.{numbered_length}
+use Rattle.long_term_plan.proofs.PartingLemmas.{counts, stays_whole}
 use Rattle.long_term_plan.proofs.modification.modify.Goals as goal
 
 weaker : {A E : Type 0} (r : Result A E) (P Q : A → Type 0) → ((a : A) → P a → Q a) → IfOk r P → IfOk r Q
@@ -28,6 +35,14 @@ named_drafts-requires-clause-apart c =
     subst (λ (apps : List (List ℕ)). AllPairs (λ (a b : List ℕ). a ≢ b) apps) (sym c.as_slice.ensures.value)
     c.in_ok-apps.ensures.apart
 
+pub change_rows-requires : goal.change_rows-requires
+change_rows-requires c =
+    let few = c.are_too_many.ensures.serials c.if-are_too_many.false in
+    let count : length c.in_ok-put.put.items ≡ length c.deref-5.result.now =
+    ap length c.in_ok-put.ensures ∙ numbered_length c.issued.result c.deref-6.result.now
+    ∙ ap length (c.deref-6.ensures.value ∙ sym c.deref-5.ensures.value) in
+    omega (arith, few, count)
+
 pub returns-then-are_too_many : goal.returns-then-are_too_many
 returns-then-are_too_many c sound planned =
     let content = shown c.args.view.now in
@@ -35,25 +50,31 @@ returns-then-are_too_many c sound planned =
     let rows = c.ltp-rows.result.now in
     let named = c.in_ok-named.named.items in
     let new = c.in_ok-new.new.items in
-    let kept = c.in_ok-kept.kept.items in
+    let gone = c.in_ok-gone.gone.items in
+    let changed = c.in_ok-changed.changed.items in
+    let kept = filter_map (outcome only named) rows in
     let are_named = named_then content sound c.args.bounds.now planned only c.definitions-all.result.now
     c.definitions-all.ensures c.in_ok-apps.apps.items c.as_slice.result.now c.in_ok-apps.ensures
     c.as_slice.ensures.value
     c.last_planned-last.result c.last_planned-last.ensures.same named named c.in_ok-named.ensures refl in
     let are_new : AreDrafts (IsMade (NamesThen content only) content.sets) new =
     new_are (NamesThen content only) content.sets named new are_named
-    (subst (λ (ds : List Draft). AreNew content.sets ds new) c.deref-2.ensures.value c.in_ok-new.ensures) in
-    let stay : kept ≡ filter_map (outcome only named) rows =
-    subst (λ (ds : List Draft). AreInOrder ds → kept ≡ filter_map (outcome only ds) rows) c.deref.ensures.value
-    c.in_ok-kept.ensures are_named.rising in
-    let many = too_many content sound only named new rows c.ltp-rows.ensures.rows kept stay _ _
-    (ap length c.deref-3.ensures.value) (ap length c.deref-4.ensures.value) in
+    (subst (λ (ds : List Draft). AreNew content.sets ds new) c.deref.ensures.value c.in_ok-new.ensures) in
+    let go : gone ≡ filter (λ (r : Row). is_none (outcome only named r)) rows =
+    subst (λ (ds : List Draft). AreInOrder ds → gone ≡ filter (λ (r : Row). is_none (outcome only ds r)) rows)
+    c.deref-2.ensures.value c.in_ok-gone.ensures are_named.rising in
+    let counted : length kept + length c.deref-4.result.now ≡ size content.sets.ltp content.sets.issued =
+    ap (λ (l : List Row). length kept + length l) (c.deref-4.ensures.value ∙ go) ∙ counts (outcome only named) rows
+    ∙ c.ltp-rows.ensures.count sound.serials in
+    let tested = c.are_too_many.ensures.too_many sound (length kept) counted in
+    let many = too_many content sound only named new rows c.ltp-rows.ensures.rows kept refl (length kept)
+    (length c.deref-5.result.now) refl (ap length c.deref-5.ensures.value) in
     record {
       named = named;
       are_named = are_named;
       new = new;
       are_new = are_new;
-      outcome = (many.0 ((c.are_too_many.ensures.too_many sound).0 c.if-are_too_many.true), refl);
+      outcome = (many.0 (tested.0 c.if-are_too_many.true), refl);
     }
 
 done : (c : Content) (links : List Link) (only : Option (List ℕ)) (named new : List Draft) (verdict : Verdict)
@@ -69,42 +90,54 @@ returns c = weaker c.change_rows.result _ _ (λ verdict made sound planned.
     let rows = c.ltp-rows.result.now in
     let named = c.in_ok-named.named.items in
     let new = c.in_ok-new.new.items in
-    let kept = c.in_ok-kept.kept.items in
+    let gone = c.in_ok-gone.gone.items in
+    let changed = c.in_ok-changed.changed.items in
+    let kept = filter_map (outcome only named) rows in
     let are_named = named_then content sound c.args.bounds.now planned only c.definitions-all.result.now
     c.definitions-all.ensures c.in_ok-apps.apps.items c.as_slice.result.now c.in_ok-apps.ensures
     c.as_slice.ensures.value
     c.last_planned-last.result c.last_planned-last.ensures.same named named c.in_ok-named.ensures refl in
     let are_new : AreDrafts (IsMade (NamesThen content only) content.sets) new =
     new_are (NamesThen content only) content.sets named new are_named
-    (subst (λ (ds : List Draft). AreNew content.sets ds new) c.deref-2.ensures.value c.in_ok-new.ensures) in
-    let stay : kept ≡ filter_map (outcome only named) rows =
-    subst (λ (ds : List Draft). AreInOrder ds → kept ≡ filter_map (outcome only ds) rows) c.deref.ensures.value
-    c.in_ok-kept.ensures are_named.rising in
-    let many = too_many content sound only named new rows c.ltp-rows.ensures.rows kept stay _ _
-    (ap length c.deref-3.ensures.value) (ap length c.deref-4.ensures.value) in
-    let parts : PartsPlan content.sets only named kept c.in_ok-gone.gone.items c.in_ok-changed.changed.items = record {
+    (subst (λ (ds : List Draft). AreNew content.sets ds new) c.deref.ensures.value c.in_ok-new.ensures) in
+    let go : gone ≡ filter (λ (r : Row). is_none (outcome only named r)) rows =
+    subst (λ (ds : List Draft). AreInOrder ds → gone ≡ filter (λ (r : Row). is_none (outcome only ds r)) rows)
+    c.deref-2.ensures.value c.in_ok-gone.ensures are_named.rising in
+    let counted : length kept + length c.deref-4.result.now ≡ size content.sets.ltp content.sets.issued =
+    ap (λ (l : List Row). length kept + length l) (c.deref-4.ensures.value ∙ go) ∙ counts (outcome only named) rows
+    ∙ c.ltp-rows.ensures.count sound.serials in
+    let tested = c.are_too_many.ensures.too_many sound (length kept) counted in
+    let many = too_many content sound only named new rows c.ltp-rows.ensures.rows kept refl (length kept)
+    (length c.deref-5.result.now) refl (ap length c.deref-5.ensures.value) in
+    let change : AreChanged (outcome only named) rows changed =
+    subst (λ (ds : List Draft). AreInOrder ds → AreChanged (outcome only ds) rows changed) c.deref-3.ensures.value
+    c.in_ok-changed.ensures are_named.rising in
+    let parts : PartsPlan content.sets only named kept gone changed =
+    record {
       rows = rows;
       lists = c.ltp-rows.ensures.rows;
-      parts = record {
-        stay = stay;
-        go = subst (λ (ds : List Draft). AreInOrder ds
-            → c.in_ok-gone.gone.items ≡ filter (λ (r : Row). is_none (outcome only ds r)) rows) c.deref-5.ensures.value
-            c.in_ok-gone.ensures are_named.rising;
-        change = subst (λ (ds : List Draft). AreInOrder ds
-            → AreChanged (outcome only ds) rows c.in_ok-changed.changed.items) c.deref-6.ensures.value
-            c.in_ok-changed.ensures are_named.rising;
-      };
+      parts = record { stay = refl; go = go; change = change };
     } in
-    let made' : ModifiesRows content c.args.links only named new verdict =
-    subst (λ (ds : List Draft). RowsSound (modified_sets only named ds content.sets)
-    → ModifiesRows content c.args.links only named ds verdict) c.deref-7.ensures.value (made sound only named parts)
-    (stays_sound content sound only named new c.args.bounds.now planned are_new) in
+    let s = modified_sets only named new content.sets in
+    let put : c.in_ok-put.put.items ≡ numbered content.sets.issued new =
+    c.in_ok-put.ensures ∙ ap (λ (l : List Draft). numbered c.issued.result l) c.deref-6.ensures.value
+    ∙ ap (λ n. numbered n new) c.issued.ensures in
+    let lists = lists_then content.definitions content.sets (rows_sound content sound) rows c.ltp-rows.ensures.rows only
+    named kept gone changed parts.parts new (stays_sound content sound only named new c.args.bounds.now planned are_new)
+    in
+    let whole : IsTrue c.are_none-stay_so.result → kept ≡ rows =
+    λ is. let none = c.are_none-stay_so.ensures is in
+    stays_whole (outcome only named) rows gone changed go change (sym c.deref-7.ensures.value ∙ none.0)
+    (sym c.deref-8.ensures.value ∙ none.1) in
+    let live : AreLiveRows s c.in_ok-live.live = c.in_ok-live.ensures are_named.rising whole s
+    (λ cp cp_are history history_are. subst (λ (l : List Row). HasLists s (kept ++ l) cp history)
+    (sym (c.deref-9.ensures.value ∙ put)) (lists cp cp_are history history_are)) in
     record {
       named = named;
       are_named = are_named;
       new = new;
       are_new = are_new;
       outcome = done content c.args.links only named new verdict
-          (λ over. false≢true (sym c.if-are_too_many.false
-          ∙ (c.are_too_many.ensures.too_many sound).1 (many.1 over))) made';
+          (λ over. false≢true (sym c.if-are_too_many.false ∙ tested.1 (many.1 over)))
+          (made sound only named new kept parts put live);
     }) c.change_rows.ensures

@@ -1,4 +1,4 @@
-use crate::create;
+use long_term_plan::create;
 use occurrences::Reply;
 use plan_store::{ListStore, Need, PlanStore, Verdict};
 use work_calendars::Day;

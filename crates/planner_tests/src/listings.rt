@@ -1,7 +1,7 @@
-use crate::{
+use occurrences::{Key, Origin, Refusal, Reply, Row, Serial, Status};
+use plan_listings::{
     days_line, dp_report, ltp_report, marked_line, pair_line, refusal_line, reply_line, row_line,
 };
-use occurrences::{Key, Origin, Refusal, Reply, Row, Serial, Status};
 use run_cycles::Named;
 use std::test::Fail;
 use work_calendars::{App, Day, Minute, Moment, Short};
