@@ -4,8 +4,6 @@
 #![tactic(auto)]
 
 #[cfg(test)]
-mod daily;
-#[cfg(test)]
 mod listings;
 #[cfg(test)]
 mod long_term;
