@@ -1,0 +1,5 @@
+pub mod Arrivals
+pub mod Listing
+pub mod Pairs
+pub mod Rules
+pub mod Seats

@@ -1,0 +1,36 @@
+-- Pairs of occurrences that are no longer open.
+use Rattle.std.specs.Prelude.{◌≡◌, ℕ, zero, suc, List, slice_index_or, Contains, Option, Some, None}
+use Rattle.std.specs.List.{All}
+use Rattle.occurrences.specs.Place.{IsComplete, IsLive, IsOpen}
+use Rattle.occurrences.specs.declared.place.Place.{Place}
+use Rattle.external_dependencies.specs.Nearest.{IsCandidate, arrival_of}
+use Rattle.external_dependencies.specs.declared.pairs.Pair.{Pair}
+use Rattle.external_dependencies.specs.declared.rows.PlacedRow.{PlacedRow}
+use Rattle.planner_machine.specs.Content.{Sets, StandsAt}
+use Rattle.planner_machine.specs.Pairs.{IsClosedAt, IsCompleteAt}
+
+-- the row at a serial of a table by serials
+abbrev pub at_serial : List (Option PlacedRow) → ℕ → Option PlacedRow
+at_serial table zero = None
+at_serial table (suc k) = slice_index_or table k None
+
+-- live and no longer open
+abbrev pub IsClosedPlace : Place → Type 0
+IsClosedPlace place = IsLive place × (IsOpen place → ⊥)
+
+-- there is a predecessor, it is complete, and it arrives as one may
+abbrev pub HasComplete : PlacedRow → Option PlacedRow → Type 0
+HasComplete successor None = ⊥
+HasComplete successor (Some predecessor) = IsComplete predecessor.place
+    × IsCandidate successor.row.key predecessor.row.key.app (arrival_of predecessor.row)
+
+-- so it is where the successor is live and no longer open
+abbrev pub FitsRows : Option PlacedRow → Option PlacedRow → Type 0
+FitsRows None predecessor = Unit {0}
+FitsRows (Some successor) predecessor = IsClosedPlace successor.place → HasComplete successor predecessor
+
+-- the same of the sets: the predecessor of what is live and no longer open is complete, and arrives as one may
+abbrev pub FitsAt : Sets → Pair → Type 0
+FitsAt s pair = IsClosedAt s pair.successor → IsCompleteAt s pair.predecessor
+    × ((p q : PlacedRow) → StandsAt s pair.successor p → StandsAt s pair.predecessor q
+    → IsCandidate p.row.key q.row.key.app (arrival_of q.row))

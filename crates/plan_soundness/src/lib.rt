@@ -1,0 +1,23 @@
+//! Whether what a planner keeps is sound, where it was read from a place that anyone may have written to.
+#![tactic(auto)]
+
+mod arrivals;
+mod bounds;
+mod jobs;
+mod keys;
+mod links;
+mod listing;
+mod pairs;
+mod rows;
+mod rules;
+mod seats;
+mod sizes;
+
+pub use bounds::has_bounds;
+pub use jobs::has_kept_jobs;
+pub use links::has_no_loop;
+pub use listing::placed_rows;
+pub use pairs::{has_complete_predecessors, has_settled_pairs};
+pub use rows::has_sound_rows;
+pub use rules::{has_arrivals, has_own_keys, is_numbered};
+pub use sizes::has_sizes;

@@ -1,0 +1,132 @@
+ghost use Rattle.std.specs.Prelude.{◌≡◌, ◌↔◌, IfOk, IsTrue, Option};
+ghost use Rattle.std.specs.List.{All, Contains};
+ghost use Rattle.external_dependencies.specs.Nearest.{IsCandidate, arrival_of};
+ghost use Rattle.external_dependencies.specs.Pair.{pair_cmp};
+ghost use Rattle.external_dependencies.specs.Rising.{IsRising};
+ghost use Rattle.external_dependencies.specs.declared.pairs.Pair.{Pair as PairValue};
+ghost use Rattle.planner_machine.proofs.RowsSound.{RowsSound};
+ghost use Rattle.planner_machine.specs.Pairs.{ArePairs};
+ghost use Rattle.planner_machine.specs.Sound.{AreNumbered};
+ghost use Rattle.plan_store.specs.Contents.{content_of};
+ghost use Rattle.plan_soundness.specs.Pairs.{FitsAt, FitsRows, HasComplete, IsClosedPlace, at_serial};
+
+use crate::listing::placed_rows;
+use crate::seats::{row_of, table_of};
+use external_dependencies::{Pair, Pairs, PlacedRow};
+use occurrences::{Place, Row};
+use plan_pairs::{live_rows, settled_pairs};
+use plan_store::Content;
+use std::alloc::{AllocError, Global};
+
+// Whether each of the pairs is one of the others.
+fn all_among(pairs: &[Pair], others: &Pairs) -> bool
+    ensures { IsTrue result ↔ All (Contains others.now) pairs.now }
+{
+    for pair in pairs {
+        if !others.contains(pair) {
+            return false;
+        }
+    }
+    true
+}
+
+// Whether both have the same pairs.
+fn same_pairs(pairs: &Pairs, others: &Pairs) -> bool
+    ensures { (IsTrue result ↔ (All (Contains others.now) pairs.now × All (Contains pairs.now) others.now))
+        × IsRising pair_cmp pairs.now }
+{
+    all_among(pairs.as_slice(), others) && all_among(others.as_slice(), pairs)
+}
+
+/// Whether the pairs are those that follow from the rows and the lists in force, where the rows are sound: of open
+/// occurrences those with their nearest predecessors, and no others but of occurrences that are live and no longer
+/// open.
+pub fn has_settled_pairs(alloc: Global, content: &Content) -> Result<bool, AllocError>
+    ensures { RowsSound (content_of content.now).sets → IfOk result (λ b. IsTrue b
+        ↔ ArePairs (content_of content.now).pairs (content_of content.now).in_force
+        (content_of content.now).sets (content_of content.now).pairs) }
+{
+    let rows = live_rows(alloc, &content.ltp, &content.cp, &content.history)?;
+    let settled = settled_pairs(alloc, &content.pairs, &rows, &content.in_force)?;
+    Ok(same_pairs(&content.pairs, &settled))
+}
+
+// Whether the place is live and no longer open.
+fn is_closed(place: Place) -> bool
+    ensures { IsTrue result ↔ IsClosedPlace place }
+{
+    place.is_live() && !place.is_open()
+}
+
+// Whether a row arrives as a predecessor of another may.
+fn arrives_in_time(successor: &Row, predecessor: &Row) -> bool
+    ensures { IsTrue result ↔ IsCandidate successor.now.key predecessor.now.key.app (arrival_of predecessor.now) }
+{
+    let own = successor.key.ia.number();
+    let earlier = predecessor.key.ia.number();
+    if predecessor.key.app == successor.key.app {
+        earlier < own
+    } else {
+        earlier <= own
+    }
+}
+
+// Whether there is a predecessor, and it is complete and arrives as one may.
+fn has_complete(successor: &PlacedRow, predecessor: &Option<PlacedRow>) -> bool
+    ensures { IsTrue result ↔ HasComplete successor.now predecessor.now }
+{
+    match predecessor {
+        None => false,
+        Some(predecessor) => {
+            predecessor.place.is_complete() && arrives_in_time(&successor.row, &predecessor.row)
+        }
+    }
+}
+
+// Whether so it is, where the successor is live and no longer open.
+fn fits_rows(successor: &Option<PlacedRow>, predecessor: &Option<PlacedRow>) -> bool
+    ensures { IsTrue result ↔ FitsRows successor.now predecessor.now }
+{
+    match successor {
+        None => true,
+        Some(successor) => !is_closed(successor.place) || has_complete(successor, predecessor),
+    }
+}
+
+// Whether so it is of a pair.
+fn fits(table: &[Option<PlacedRow>], pair: &Pair) -> bool
+    ensures { IsTrue result ↔ FitsRows (at_serial table.now pair.now.successor)
+        (at_serial table.now pair.now.predecessor) }
+{
+    fits_rows(
+        &row_of(table, pair.successor),
+        &row_of(table, pair.predecessor),
+    )
+}
+
+// Whether so it is of all pairs.
+fn all_fit(table: &[Option<PlacedRow>], pairs: &[Pair]) -> bool
+    ensures { IsTrue result ↔ All (λ (pair : PairValue). FitsRows (at_serial table.now pair.successor)
+        (at_serial table.now pair.predecessor)) pairs.now }
+{
+    for pair in pairs {
+        if !fits(table, pair) {
+            return false;
+        }
+    }
+    true
+}
+
+/// Whether what is live and no longer open has only predecessors that are complete and arrive as they may, where the
+/// rows are numbered.
+pub fn has_complete_predecessors(alloc: Global, content: &Content) -> Result<bool, AllocError>
+    ensures { AreNumbered (content_of content.now).sets → IfOk result (λ b. IsTrue b
+        ↔ ((pair : PairValue) → Contains (content_of content.now).pairs pair
+        → FitsAt (content_of content.now).sets pair)) }
+{
+    let all = placed_rows(alloc, content)?;
+    match table_of(alloc, content.issued, &all)? {
+        Some(table) => Ok(all_fit(&table, content.pairs.as_slice())),
+        None => Ok(false),
+    }
+}
