@@ -13,5 +13,5 @@ mod rows;
 
 pub use days::days_line;
 pub use replies::{refusal_line, reply_line};
-pub use report::{dp_report, ltp_report};
+pub use report::{Signed, dp_report, ltp_report};
 pub use rows::{marked_line, pair_line, row_line};

@@ -10,13 +10,13 @@ use std::alloc::{AllocError, Global};
 
 /// A row of a trial, and what would come of it.
 #[derive(Clone, Copy)]
-pub(crate) struct Signed {
+pub struct Signed {
     /// The row, as it would be made, or as it is.
-    pub(crate) row: Row,
+    pub row: Row,
     /// What would come of it.
-    pub(crate) sign: u8,
+    pub sign: u8,
     /// The letter of its status, where the trial shows one.
-    pub(crate) letter: Option<u8>,
+    pub letter: Option<u8>,
 }
 
 // Adds rows behind one sign.

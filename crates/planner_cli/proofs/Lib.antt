@@ -8,3 +8,8 @@ pub mod ChangeLemmas
 pub mod NameLemmas
 pub mod SoFar
 pub mod ServeLemmas
+pub mod ShownLists
+pub mod MovedLemmas
+pub mod TrialLemmas
+pub mod RerunLemmas
+pub mod TrialServes

@@ -4,16 +4,18 @@ use Rattle.std.specs.Prelude.{All, None, Option, Some}
 use Rattle.std.proofs.lemmas.List.Elements.{All-cons}
 use Rattle.planner_machine.specs.Content.{Content}
 use Rattle.planner_machine.specs.Sound.{IsSound}
-use Rattle.planner_machine.specs.Statement.{Answer, Statement}
+use Rattle.planner_machine.specs.Rerun.{job_number}
+use Rattle.planner_machine.specs.Statement.{Answer, Days, DefineJob, Job, ListPairs, ListRows, Statement, Trial}
 use Rattle.planner_machine.specs.Stream.{IsStatement, Runs, RunsByFate, RunsSound}
 use Rattle.stream_items.specs.Items.{Item}
 use Rattle.planner_cli.specs.Asked.{AreAsked, Asks}
-use Rattle.planner_cli.specs.Faults.{cause_of}
+use Rattle.planner_cli.specs.Faults.{cause_of, fault_line}
 use Rattle.planner_cli.specs.Meaning.{Answers}
-use Rattle.planner_cli.specs.Plans.{LeadsTo}
+use Rattle.planner_cli.specs.Outcomes.{answering}
+use Rattle.planner_cli.specs.Plans.{AreAnswered, LeadsTo, RanPlan, StoppedPlan}
 use Rattle.planner_cli.specs.Replies.{Reply}
 use Rattle.planner_cli.specs.Runs.{EndsBy, LeavesInHand, Ran, Stopped}
-use Rattle.planner_cli.specs.Steps.{AnswersAsked, Step}
+use Rattle.planner_cli.specs.Steps.{AnswersAsked, Serves, Step}
 use Rattle.planner_cli.specs.declared.faults.Cause.{Cause}
 use Rattle.planner_cli.specs.declared.faults.Cause.TheVariants.{Device, Memory}
 use Rattle.planner_cli.specs.declared.faults.Part.TheVariants.{Reader, Store, Writer}
@@ -30,35 +32,71 @@ asked_sound law (Some s) c c' reply sound h =
 pub step_sound : RunsSound → (c c' : Content) (item : Item) (reply : Reply) → IsSound c → Step c item reply c' → IsSound c'
 step_sound law c c' item reply sound (asked, asks, h) = asked_sound law asked c c' reply sound h
 
--- the statements of the items that were answered
-record Led (items : List Item) (c c' : Content) : Type 0 where
-  stream : List Statement
-  answers : List Answer
-  asked : AreAsked items stream
-  well_formed : All IsStatement stream
-  run : Runs stream c answers c'
+-- what a job's reply shows: its answer alone
+abbrev pub TellsJob : Statement → Answer → Reply → Type 0
+TellsJob s answer reply = (number : ℕ) → job_number s ≡ Some number → reply ≡ answering answer
 
-led_on : (item : Item) (items : List Item) (asked : Option Statement) (c between c' : Content) (reply : Reply) → Asks item asked
-    → AnswersAsked asked c reply between → Led items between c' → Led (item ∷ items) c c'
-led_on item items None c between c' reply asks h rest = record {
+-- how the replies stand to the statements of the items and to their answers
+abbrev pub TellsAsked : Option Statement → (List Statement → List Answer → Type 0) → List Statement → List Answer → Reply → Type 0
+TellsAsked None More stream answers reply = More stream answers
+TellsAsked (Some s) More stream answers reply =
+    (rest : List Statement) × (a : Answer) × (later : List Answer) × (stream ≡ s ∷ rest) × (answers ≡ a ∷ later)
+    × TellsJob s a reply × More rest later
+
+abbrev pub Tells : List Item → List Statement → List Answer → List Reply → Type 0
+Tells [] stream answers replies = Unit {0}
+Tells (item ∷ items) stream answers replies =
+    (asked : Option Statement) × (reply : Reply) × (rest : List Reply) × (replies ≡ reply ∷ rest) × Asks item asked
+    × TellsAsked asked (λ stream' answers'. Tells items stream' answers' rest) stream answers reply
+
+job_told : (s : Statement) (c c' : Content) (reply : Reply) (h : Serves s c reply c') → TellsJob s h.answer reply
+job_told (DefineJob job text kind given) c c' reply h number is = λ i. record { rows = h.rows i; line = h.line i }
+job_told (Job job text change) c c' reply h number is = λ i. record { rows = h.rows i; line = h.line i }
+job_told (Days app from to) c c' reply h number is = absurd (let no : ⊥ = cc is in no)
+job_told (Trial change) c c' reply h number is = absurd (let no : ⊥ = cc is in no)
+job_told (ListRows listed app) c c' reply h number is = absurd (let no : ⊥ = cc is in no)
+job_told (ListPairs app) c c' reply h number is = absurd (let no : ⊥ = cc is in no)
+
+-- the statements of the items that were answered
+pub record Led (items : List Item) (replies : List Reply) (c c' : Content) : Type 0 where
+  pub stream : List Statement
+  pub answers : List Answer
+  pub asked : AreAsked items stream
+  pub well_formed : All IsStatement stream
+  pub run : Runs stream c answers c'
+  pub tells : Tells items stream answers replies
+
+led_on : (item : Item) (items : List Item) (asked : Option Statement) (c between c' : Content) (reply : Reply) (replies all : List Reply)
+    → all ≡ reply ∷ replies → Asks item asked
+    → AnswersAsked asked c reply between → Led items replies between c' → Led (item ∷ items) all c c'
+led_on item items None c between c' reply replies all is asks h rest = record {
   stream = rest.stream;
   answers = rest.answers;
   asked = (None, rest.stream, refl, asks, rest.asked);
   well_formed = rest.well_formed;
   run = subst (λ x. Runs rest.stream x rest.answers c') h.1 rest.run;
+  tells = (None, reply, replies, is, asks, rest.tells);
 }
-led_on item items (Some s) c between c' reply asks h rest = record {
+led_on item items (Some s) c between c' reply replies all is asks h rest = record {
   stream = s ∷ rest.stream;
   answers = h.answer ∷ rest.answers;
   asked = (Some s, rest.stream, refl, asks, rest.asked);
   well_formed = All-cons IsStatement s rest.stream h.well_formed rest.well_formed;
   run = (between, h.steps, rest.run);
+  tells = (Some s, reply, replies, is, asks, (rest.stream, h.answer, rest.answers, refl, refl, job_told s c between reply h, rest.tells));
 }
 
-led : (items : List Item) (replies : List Reply) (c c' : Content) → Answers Step c items replies c' → Led items c c'
-led [] replies c c' h = record { stream = []; answers = []; asked = refl; well_formed = λ k d lt. absurd (omega (arith, lt)); run = h.1 }
+pub led : (items : List Item) (replies : List Reply) (c c' : Content) → Answers Step c items replies c' → Led items replies c c'
+led [] replies c c' h = record {
+  stream = [];
+  answers = [];
+  asked = refl;
+  well_formed = λ k d lt. absurd (omega (arith, lt));
+  run = h.1;
+  tells = tt;
+}
 led (item ∷ items) replies c c' (reply, rest, between, e, (asked, asks, h), later) =
-    led_on item items asked c between c' reply asks h (led items rest between c' later)
+    led_on item items asked c between c' reply rest replies e asks h (led items rest between c' later)
 
 pub leads : RunsSound → RunsByFate → (items : List Item) (replies : List Reply) (c c' : Content) → IsSound c → Answers Step c items replies c' → LeadsTo items c c'
 leads law fates items replies c c' sound h =
@@ -74,19 +112,32 @@ leads law fates items replies c c' sound h =
     }
 
 pub ran_leads : RunsSound → RunsByFate → (c c' : Content) (w w' read : Option (List ℕ)) (tally : Tally) → IsSound c → Ran Step c c' w w' read tally
-    → (items : List Item) × LeadsTo items c c'
-ran_leads law fates c c' w w' read tally sound h = (h.items, leads law fates h.items h.replies c c' sound h.answers)
+    → RanPlan c c' w w' read tally
+ran_leads law fates c c' w w' read tally sound h =
+    record { ran = h; leads = leads law fates h.items h.replies c c' sound h.answers }
+
+-- what was answered before a fault
+pub record Reached (done : List Item) (replies : List Reply) (c c' : Content) (hand : Option Item) : Type 0 where
+  pub items : List Item
+  pub told : List Reply
+  pub are_answered : AreAnswered done hand items
+  pub answers : Answers Step c items told c'
 
 -- where nothing changed since, or the item in hand was answered
-since : RunsSound → RunsByFate → (done : List Item) (replies : List Reply) (c between c' : Content) (hand : Option Item) → IsSound c → Answers Step c done replies between
-    → (c' ≡ between) ⊎ LeavesInHand Step between hand c' → (items : List Item) × LeadsTo items c c'
-since law fates done replies c between c' hand sound h (inl same) =
-    (done, leads law fates done replies c c' sound (subst (Answers Step c done replies) (sym same) h))
-since law fates done replies c between c' hand sound h (inr (item, is, (reply, step))) = (
-  done ++ item ∷ [],
-  leads law fates (done ++ item ∷ []) (replies ++ reply ∷ []) c c' sound
-      (answers_more Step c between c' done replies item reply h step),
-)
+since : (done : List Item) (replies : List Reply) (c between c' : Content) (hand : Option Item) → Answers Step c done replies between
+    → (c' ≡ between) ⊎ LeavesInHand Step between hand c' → Reached done replies c c' hand
+since done replies c between c' hand h (inl same) = record {
+  items = done;
+  told = replies;
+  are_answered = inl refl;
+  answers = subst (Answers Step c done replies) (sym same) h;
+}
+since done replies c between c' hand h (inr (item, is, (reply, step))) = record {
+  items = done ++ item ∷ [];
+  told = replies ++ reply ∷ [];
+  are_answered = inr (item, is, refl);
+  answers = answers_more Step c between c' done replies item reply h step;
+}
 
 ended : (cause : Cause) (line : List ℕ) (between c' : Content) (hand : Option Item) (tail : List ℕ) → EndsBy Step cause line between c' hand tail
     → (c' ≡ between) ⊎ LeavesInHand Step between hand c'
@@ -95,8 +146,18 @@ ended (Device Store) line between c' hand tail h = h.0
 ended (Device Reader) line between c' hand tail h = inl h.0
 ended (Device Writer) line between c' hand tail (item, is, (reply, step, front)) = inr (item, is, (reply, step))
 
-pub stopped_leads : RunsSound → RunsByFate → (line : Cause → List ℕ) (c c' : Content) (w w' read : Option (List ℕ)) (fault : RunFault) → IsSound c
-    → Stopped Step line c c' w w' read fault → (items : List Item) × LeadsTo items c c'
-stopped_leads law fates line c c' w w' read fault sound h =
-    since law fates h.done h.replies c h.between c' h.hand sound h.answers
-    (ended (cause_of fault) (line (cause_of fault)) h.between c' h.hand h.tail h.ending)
+pub reached : (line : Cause → List ℕ) (c c' : Content) (w w' read : Option (List ℕ)) (fault : RunFault) (h : Stopped Step line c c' w w' read fault)
+    → Reached h.done h.replies c c' h.hand
+reached line c c' w w' read fault h =
+    since h.done h.replies c h.between c' h.hand h.answers (ended (cause_of fault) (line (cause_of fault)) h.between c' h.hand h.tail h.ending)
+
+pub stopped_leads : RunsSound → RunsByFate → (c c' : Content) (w w' read : Option (List ℕ)) (fault : RunFault) → IsSound c
+    → Stopped Step fault_line c c' w w' read fault → StoppedPlan c c' w w' read fault
+stopped_leads law fates c c' w w' read fault sound h =
+    let at = reached fault_line c c' w w' read fault h in
+    record {
+      stopped = h;
+      items = at.items;
+      are_answered = at.are_answered;
+      leads = leads law fates at.items at.told c c' sound at.answers;
+    }

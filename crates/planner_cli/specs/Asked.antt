@@ -1,11 +1,11 @@
 -- The statement of the planner's machine that an item is.
 use Rattle.std.specs.Prelude.{◌≡◌, ℕ, List, [], ◌∷◌, ◌++◌, Option, None, Some}
 use Rattle.app_definitions.specs.declared.kinds.Kind.{Kind}
-use Rattle.planner_machine.specs.Statement.{Days, DefineJob, Job, Statement}
+use Rattle.planner_machine.specs.Statement.{Days, DefineJob, Job, Statement, Trial}
 use Rattle.statements.specs.Statement.{Reads}
 use Rattle.statements.specs.declared.statements.Statement.{Statement as LineStatement}
 use Rattle.stream_items.specs.Items.{Alone, Block, Item, NoStatement, TooLong, Unended, Whole, WithBlock}
-use Rattle.planner_cli.specs.Requests.{change_of, request_of}
+use Rattle.planner_cli.specs.Requests.{change_of, daily_change, plan_change, request_of}
 use Rattle.planner_cli.specs.Texts.{data_text, line_text}
 use Rattle.planner_cli.specs.declared.requests.Request.{Request}
 use Rattle.planner_cli.specs.declared.requests.Request.TheVariants as request
@@ -16,6 +16,8 @@ asked_alone line request.NotServed = None
 asked_alone line (request.Define number kind) = Some (DefineJob number (line_text line) kind None)
 asked_alone line (request.Days app from to) = Some (Days app from to)
 asked_alone line (request.Change number change) = Some (Job number (line_text line) (change_of change))
+asked_alone line (request.PlanTrial plan) = Some (Trial (plan_change plan))
+asked_alone line (request.DailyTrial plan) = Some (Trial (daily_change plan))
 
 -- `define` and its data: their bytes, or none where they are too many or have no end
 abbrev pub define_asked : List ℕ → ℕ → Kind → Block → Statement

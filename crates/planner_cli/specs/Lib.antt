@@ -4,6 +4,7 @@ pub mod Rows
 pub mod Kinds
 pub mod Requests
 pub mod Texts
+pub mod Trials
 pub mod Asked
 pub mod Steps
 pub mod Stores
@@ -12,3 +13,4 @@ pub mod Meaning
 pub mod Faults
 pub mod Runs
 pub mod Plans
+pub mod Reruns

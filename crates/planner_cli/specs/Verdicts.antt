@@ -13,6 +13,8 @@ use Rattle.plan_store.specs.declared.stores.Need.TheVariants as need
 use Rattle.planner_cli.specs.Requests.{change_of}
 use Rattle.planner_cli.specs.declared.requests.ChangeRequest.{ChangeRequest}
 use Rattle.planner_cli.specs.declared.requests.ChangeRequest.TheVariants as request
+use Rattle.planner_cli.specs.declared.requests.DailyRequest.{DailyRequest}
+use Rattle.planner_cli.specs.declared.requests.DailyRequest.TheVariants as daily
 use Rattle.planner_cli.specs.declared.decisions.Asked.{Asked}
 use Rattle.planner_cli.specs.declared.decisions.Asked.TheVariants as asked
 
@@ -47,17 +49,18 @@ abbrev pub change_asked : Asked → Change
 change_asked (asked.Define block) = Define block
 change_asked (asked.Change change) = change_of change
 
+-- what the decision on a daily plan has to see
+abbrev pub need_of_daily : DailyRequest → Need
+need_of_daily (daily.ExtendTo to) = need.Daily to
+need_of_daily daily.Replan = need.LongTerm
+
 -- what the decision on a change has to see
 abbrev pub need_of_change : ChangeRequest → Need
 need_of_change (request.Undefine kind name) = need.LongTerm
-need_of_change (request.Create from to) = need.LongTerm
-need_of_change (request.Extend to) = need.LongTerm
-need_of_change request.ModifyAll = need.LongTerm
-need_of_change (request.ModifyOne app) = need.LongTerm
+need_of_change (request.Plan plan) = need.LongTerm
 need_of_change (request.Add key) = need.Key key
 need_of_change (request.Delete key) = need.Key key
-need_of_change (request.DailyExtend to) = need.Daily to
-need_of_change request.Replan = need.LongTerm
+need_of_change (request.Daily plan) = need_of_daily plan
 need_of_change (request.AddCurrent key) = need.Key key
 need_of_change (request.Act action key) = need.Key key
 

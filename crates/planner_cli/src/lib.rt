@@ -14,15 +14,18 @@ mod define;
 mod faults;
 mod jobs;
 mod kinds;
+mod laws;
 mod requests;
 mod rows;
 mod steps;
 mod stream;
 mod tally;
 mod texts;
+mod trials;
 mod writing;
 
 pub use faults::{Part, RunFault};
+pub use laws::reruns;
 pub use stream::{exit_status, run};
 pub use tally::Tally;
 

@@ -3,7 +3,7 @@ ghost use Rattle.std.specs.Prelude.{◌≡◌, Option, IfOk};
 ghost use Rattle.statements.specs.Statement.{Reads};
 ghost use Rattle.statements.specs.declared.statements.Statement.{Statement as StatementValue};
 ghost use Rattle.planner_machine.specs.Laws.{IsWellFormed};
-ghost use Rattle.planner_cli.specs.Requests.{change_of, request_of};
+ghost use Rattle.planner_cli.specs.Requests.{change_of, plan_change, request_of};
 
 use crate::kinds::definitions_kind;
 use app_definitions::Kind;
@@ -12,27 +12,41 @@ use statements::{JobNumber, Statement, read_statement};
 use std::alloc::{AllocError, Global};
 use work_calendars::{App, Day, Moment, Name};
 
+/// A change of the long-term plan by what the definitions name, which can be tried.
+#[derive(Clone, Copy, Debug)]
+pub enum PlanRequest {
+    /// To make the plan from one day to another.
+    Create { from: Day, to: Day },
+    /// To extend the plan to a day.
+    Extend { to: Day },
+    /// To make the rest of the plan what the definitions name now.
+    ModifyAll,
+    /// To do so for one application.
+    ModifyOne { app: App },
+}
+
+/// A daily plan, which can be tried.
+#[derive(Clone, Copy, Debug)]
+pub enum DailyRequest {
+    /// To extend the current plan to a moment.
+    ExtendTo { to: Moment },
+    /// To make the current plan anew.
+    Replan,
+}
+
 /// A change that carries a job number and no data.
 #[derive(Clone, Copy, Debug)]
 pub enum ChangeRequest {
     /// To take the definition of a name away.
     Undefine { kind: Kind, name: Name },
-    /// To make the long-term plan from one day to another.
-    Create { from: Day, to: Day },
-    /// To extend the long-term plan to a day.
-    Extend { to: Day },
-    /// To make the rest of the long-term plan what the definitions name now.
-    ModifyAll,
-    /// To do so for one application.
-    ModifyOne { app: App },
+    /// To change the long-term plan by what the definitions name.
+    Plan(PlanRequest),
     /// To add an occurrence to the long-term plan.
     Add { key: Key },
     /// To take an occurrence out of the long-term plan.
     Delete { key: Key },
-    /// To extend the current plan to a moment.
-    DailyExtend { to: Moment },
-    /// To make the current plan anew.
-    Replan,
+    /// To hand a day on to the next.
+    Daily(DailyRequest),
     /// To add an occurrence to the current plan.
     AddCurrent { key: Key },
     /// To change the status of an occurrence of the current plan.
@@ -60,6 +74,10 @@ pub enum Request {
         number: JobNumber,
         change: ChangeRequest,
     },
+    /// What a change of the long-term plan would do.
+    PlanTrial(PlanRequest),
+    /// What a daily plan would do.
+    DailyTrial(DailyRequest),
 }
 
 /// What a statement asks of the planner, or what a line that is none does.
@@ -85,22 +103,22 @@ fn request_of(read: &Option<Statement>) -> Request
         },
         Some(Statement::LtpCreate { from, to, job }) => Request::Change {
             number: *job,
-            change: ChangeRequest::Create {
+            change: ChangeRequest::Plan(PlanRequest::Create {
                 from: *from,
                 to: *to,
-            },
+            }),
         },
         Some(Statement::LtpExtend { to, job }) => Request::Change {
             number: *job,
-            change: ChangeRequest::Extend { to: *to },
+            change: ChangeRequest::Plan(PlanRequest::Extend { to: *to }),
         },
         Some(Statement::LtpModifyAll { job }) => Request::Change {
             number: *job,
-            change: ChangeRequest::ModifyAll,
+            change: ChangeRequest::Plan(PlanRequest::ModifyAll),
         },
         Some(Statement::LtpModifyOne { app, job }) => Request::Change {
             number: *job,
-            change: ChangeRequest::ModifyOne { app: *app },
+            change: ChangeRequest::Plan(PlanRequest::ModifyOne { app: *app }),
         },
         Some(Statement::LtpAdd { app, ia, job }) => Request::Change {
             number: *job,
@@ -116,11 +134,11 @@ fn request_of(read: &Option<Statement>) -> Request
         },
         Some(Statement::DpExtend { to, job }) => Request::Change {
             number: *job,
-            change: ChangeRequest::DailyExtend { to: *to },
+            change: ChangeRequest::Daily(DailyRequest::ExtendTo { to: *to }),
         },
         Some(Statement::DpReplan { job }) => Request::Change {
             number: *job,
-            change: ChangeRequest::Replan,
+            change: ChangeRequest::Daily(DailyRequest::Replan),
         },
         Some(Statement::CpAdd { app, ia, job }) => Request::Change {
             number: *job,
@@ -142,26 +160,52 @@ fn request_of(read: &Option<Statement>) -> Request
                 key: Key { ia: *ia, app: *app },
             },
         },
+        Some(Statement::LtpTrialCreate { from, to }) => {
+            Request::PlanTrial(PlanRequest::Create {
+                from: *from,
+                to: *to,
+            })
+        }
+        Some(Statement::LtpTrialExtend { to }) => {
+            Request::PlanTrial(PlanRequest::Extend { to: *to })
+        }
+        Some(Statement::LtpTrialModifyAll) => Request::PlanTrial(PlanRequest::ModifyAll),
+        Some(Statement::LtpTrialModifyOne { app }) => {
+            Request::PlanTrial(PlanRequest::ModifyOne { app: *app })
+        }
+        Some(Statement::DpTrialExtend { to }) => {
+            Request::DailyTrial(DailyRequest::ExtendTo { to: *to })
+        }
+        Some(Statement::DpTrialReplan) => Request::DailyTrial(DailyRequest::Replan),
         _ => Request::NotServed,
     }
 }
 
-/// Tells that the values of a change are such as a line gives: a first day is a day.
+/// Tells that the values of a change of the long-term plan are such as a line gives: a first day is a day.
+pub(crate) fn tell_days(plan: &PlanRequest)
+    ensures { IsWellFormed (plan_change plan.now) }
+{
+    match plan {
+        PlanRequest::Create { from, .. } => {
+            from.number();
+        }
+        PlanRequest::Extend { .. } => {}
+        PlanRequest::ModifyAll => {}
+        PlanRequest::ModifyOne { .. } => {}
+    }
+}
+
+/// Tells that the values of a change are such as a line gives.
 pub(crate) fn tell_well_formed(change: &ChangeRequest)
     ensures { IsWellFormed (change_of change.now) }
 {
     match change {
-        ChangeRequest::Create { from, .. } => {
-            from.number();
-        }
         ChangeRequest::Undefine { .. } => {}
-        ChangeRequest::Extend { .. } => {}
-        ChangeRequest::ModifyAll => {}
-        ChangeRequest::ModifyOne { .. } => {}
+        ChangeRequest::Plan(plan) => tell_days(plan),
         ChangeRequest::Add { .. } => {}
         ChangeRequest::Delete { .. } => {}
-        ChangeRequest::DailyExtend { .. } => {}
-        ChangeRequest::Replan => {}
+        ChangeRequest::Daily(DailyRequest::ExtendTo { .. }) => {}
+        ChangeRequest::Daily(DailyRequest::Replan) => {}
         ChangeRequest::AddCurrent { .. } => {}
         ChangeRequest::Act { .. } => {}
     }

@@ -17,6 +17,7 @@ use crate::decisions::Asked;
 use crate::jobs::answer_job;
 use crate::requests::{ChangeRequest, Request, request_in, tell_well_formed};
 use crate::texts::data_text;
+use crate::trials::{answer_daily_trial, answer_plan_trial};
 use app_definitions::{BlockFault, Kind, read_block};
 use occurrences::Refusal;
 use plan_store::{PlanStore, StoreFault};
@@ -81,6 +82,8 @@ fn answer_request<S: PlanStore>(
         Request::Change { number, change } => {
             answer_change(alloc, store, line, u64::from(number.number()), change)
         }
+        Request::PlanTrial(plan) => answer_plan_trial(alloc, store, plan),
+        Request::DailyTrial(daily) => answer_daily_trial(alloc, store, daily),
     }
 }
 
@@ -145,6 +148,8 @@ fn answer_data_request<S: PlanStore>(
         Request::NotServed => told(alloc, &Err(Refusal::NotAStatement)),
         Request::Days { .. } => told(alloc, &Err(Refusal::NotAStatement)),
         Request::Change { .. } => told(alloc, &Err(Refusal::NotAStatement)),
+        Request::PlanTrial(_) => told(alloc, &Err(Refusal::NotAStatement)),
+        Request::DailyTrial(_) => told(alloc, &Err(Refusal::NotAStatement)),
     }
 }
 

@@ -2,10 +2,9 @@
 ghost use Rattle.std.specs.Prelude.{◌≡◌, ◌≤◌, ℕ, List, [], length, take, IfOk, IfErr};
 ghost use Rattle.std.specs.Io.KnownBytes.{Appends};
 ghost use Rattle.planner_machine.specs.Sound.{IsSound};
-ghost use Rattle.stream_items.specs.Items.{Item as ItemRead};
 ghost use Rattle.stream_items.specs.Pages.{item_of, FitsBlock};
 ghost use Rattle.planner_cli.specs.Faults.{cause_of, fault_line, status_of};
-ghost use Rattle.planner_cli.specs.Plans.{LeadsTo};
+ghost use Rattle.planner_cli.specs.Plans.{RanPlan, StoppedPlan};
 ghost use Rattle.planner_cli.specs.Replies.{Answered};
 ghost use Rattle.planner_cli.specs.Runs.{ItemBreaks, Ran, Stopped};
 ghost use Rattle.planner_cli.specs.Steps.{Step};
@@ -36,16 +35,13 @@ pub fn run<S: PlanStore, R: BufRead, W: Write>(
 ) -> Result<Tally, RunFault>
     // What an honest store keeps is sound.
     requires { S.is_honest store.old → IsSound (S.content store.old) }
-    // What the replies print is what was written, and nothing else.
-    ensures ran { S.is_honest store.new → IfOk result (λ tally. Ran Step (S.content store.old) (S.content store.new)
+    // What the replies print is what was written, and nothing else; and the statements of the items lead to what the
+    // store keeps, which is sound, with each occurrence where its fates put it.
+    ensures ran { S.is_honest store.new → IfOk result (λ tally. RanPlan (S.content store.old) (S.content store.new)
         (W.contents writer.old) (W.contents writer.new) (R.remaining reader.old) tally) }
-    // After a fault the replies to the items before it stand in the writer.
-    ensures fault { S.is_honest store.new → IfErr result (λ fault.
-        Stopped Step fault_line (S.content store.old) (S.content store.new)
-        (W.contents writer.old) (W.contents writer.new) (R.remaining reader.old) fault) }
-    // However it ends, what the store keeps is sound, and each occurrence stands where its fates put it.
-    ensures planned { S.is_honest store.new → (items : List ItemRead)
-        × LeadsTo items (S.content store.old) (S.content store.new) }
+    // After a fault the replies to the items before it stand in the writer, and the same holds of those answered.
+    ensures fault { S.is_honest store.new → IfErr result (λ fault. StoppedPlan (S.content store.old)
+        (S.content store.new) (W.contents writer.old) (W.contents writer.new) (R.remaining reader.old) fault) }
     // The store is blamed only where its device failed, in this run or before.
     ensures blames { IfErr result (λ fault. cause_of fault ≡ Device Store
         → IsBlamed (S.failures store.old) (S.failures store.new)) }

@@ -2,14 +2,11 @@ use Rattle.planner_cli.proofs.Progress.{told}
 use Rattle.planner_cli.proofs.PlanLemmas.{ran_leads, stopped_leads}
 use Rattle.planner_cli.proofs.stream.run.Goals as goal
 
-pub returns-in-Err-clause-fault : goal.returns-in-Err-clause-fault
-returns-in-Err-clause-fault g c honest =
-    told _ _ _ _ _ _ _ _ _ (c.in-Err.ensures.fault honest) c.cause.ensures c.tell_fault.ensures
-
-pub returns-in-Ok-clause-planned : goal.returns-in-Ok-clause-planned
-returns-in-Ok-clause-planned g c honest =
+pub returns-in-Ok-clause-ran : goal.returns-in-Ok-clause-ran
+returns-in-Ok-clause-ran g c honest =
     ran_leads c.streams.ensures.sound c.streams.ensures.by_fate _ _ _ _ _ _ (c.requires (c.answer_all.ensures.honest honest)) (c.in-Ok.ensures.ran honest)
 
-pub returns-in-Err-clause-planned : goal.returns-in-Err-clause-planned
-returns-in-Err-clause-planned g c honest =
-    stopped_leads c.streams.ensures.sound c.streams.ensures.by_fate _ _ _ _ _ _ _ (c.requires (c.answer_all.ensures.honest honest)) (c.in-Err.ensures.fault honest)
+pub returns-in-Err-clause-fault : goal.returns-in-Err-clause-fault
+returns-in-Err-clause-fault g c honest =
+    stopped_leads c.streams.ensures.sound c.streams.ensures.by_fate _ _ _ _ _ _ (c.requires (c.answer_all.ensures.honest honest))
+    (told _ _ _ _ _ _ _ _ _ (c.in-Err.ensures.fault honest) c.cause.ensures c.tell_fault.ensures)

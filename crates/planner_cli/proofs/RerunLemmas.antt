@@ -1,0 +1,157 @@
+-- Streams that are run again: their items ask the same statements.
+use Rattle.std.proofs.Common.{◌≡◌, ◌∙◌, ℕ, zero, suc, List, [], ◌∷◌, ◌++◌, refl, sym, ap, subst, inl, inr, append_assoc, None, Option, Some}
+use Rattle.std.specs.Prelude.{All, slice_get}
+use Rattle.planner_machine.specs.Content.{Content}
+use Rattle.planner_machine.specs.Rerun.{AnswersAgree, IsJobAt, RerunEndsAsEachRun, job_number}
+use Rattle.planner_machine.specs.Sound.{IsSound}
+use Rattle.planner_machine.specs.Statement.{Answer, Statement}
+use Rattle.planner_machine.specs.Stream.{IsStatement, Runs}
+use Rattle.statements.specs.Statement.{IsLineOf, Reads}
+use Rattle.statements.specs.declared.statements.Statement.{Statement as LineStatement}
+use Rattle.stream_items.specs.Items.{Alone, Item, NoStatement, WithBlock, items_of}
+use Rattle.planner_cli.specs.Asked.{AreAsked, Asks, asked_alone, asked_with, if_asked}
+use Rattle.planner_cli.specs.Faults.{fault_line}
+use Rattle.planner_cli.specs.Meaning.{Answers}
+use Rattle.planner_cli.specs.Outcomes.{answering}
+use Rattle.planner_cli.specs.Plans.{AreAnswered}
+use Rattle.planner_cli.specs.Replies.{Reply}
+use Rattle.planner_cli.specs.Requests.{request_of}
+use Rattle.planner_cli.specs.Reruns.{IsJobItem, RepliesAgree, RerunAfterFault, RerunEndsAsOneRun}
+use Rattle.planner_cli.specs.Runs.{Ran, Stopped, with_hand}
+use Rattle.planner_cli.specs.Steps.{Step}
+use Rattle.planner_cli.specs.declared.faults.RunFault.{RunFault}
+use Rattle.planner_cli.specs.declared.tally.Tally.{Tally}
+use Rattle.planner_cli.proofs.PlanLemmas.{Led, Reached, Tells, TellsAsked, TellsJob, led, reached}
+
+-- no line is two statements
+abbrev pub OneStatement : Type 0
+OneStatement = (line : List ℕ) (s t : LineStatement) → IsLineOf s line → IsLineOf t line → s ≡ t
+
+module _ (law : OneStatement) where
+  reads_one : (line : List ℕ) (o p : Option LineStatement) → Reads line o → Reads line p → o ≡ p
+  reads_one line None None r s = refl
+  reads_one line None (Some t) r s = absurd (r t s)
+  reads_one line (Some t) None r s = absurd (s t r)
+  reads_one line (Some t) (Some u) r s = ap Some (law line t u r s)
+
+  asks_one : (item : Item) (a b : Option Statement) → Asks item a → Asks item b → a ≡ b
+  asks_one NoStatement a b x y = x ∙ sym y
+  asks_one (Alone line) a b (read, reads, is) (read', reads', is') =
+      is ∙ ap (λ o. asked_alone line (request_of o)) (reads_one line read read' reads reads') ∙ sym is'
+  asks_one (WithBlock line block) a b (read, reads, is) (read', reads', is') =
+      is ∙ ap (λ o. asked_with line block (request_of o)) (reads_one line read read' reads reads') ∙ sym is'
+
+  are_asked_one : (items : List Item) (x y : List Statement) → AreAsked items x → AreAsked items y → x ≡ y
+  are_asked_one [] x y h k = h ∙ sym k
+  are_asked_one (item ∷ items) x y (asked, rest, is, asks, more) (asked', rest', is', asks', more') =
+      is ∙ ap (λ o. if_asked o ++ rest) (asks_one item asked asked' asks asks')
+      ∙ ap (λ l. if_asked asked' ++ l) (are_asked_one items rest rest' more more') ∙ sym is'
+
+  -- the statements of the first items, and those of the rest
+  abbrev Parts : List Item → List Item → List Statement → Type 0
+  Parts first rest stream =
+      (x : List Statement) × (y : List Statement) × (stream ≡ x ++ y) × AreAsked first x × AreAsked rest y
+
+  parts : (first rest : List Item) (stream : List Statement) → AreAsked (first ++ rest) stream → Parts first rest stream
+  parts [] rest stream h = ([], stream, refl, refl, h)
+  parts (item ∷ first) rest stream (asked, later, is, asks, more) =
+      let (x, y, split, in_first, in_rest) = parts first rest later more in (
+        if_asked asked ++ x,
+        y,
+        is ∙ ap (λ l. if_asked asked ++ l) split ∙ sym (append_assoc (if_asked asked) x y),
+        (asked, x, refl, asks, in_first),
+        in_rest,
+      )
+
+  -- replies agree where answers do
+  job_agrees : (s t : Statement) (a b : Answer) (r q : Reply) (number : ℕ) → t ≡ s → job_number t ≡ Some number → TellsJob s a r → TellsJob s b q
+      → a ≡ b → r ≡ q
+  job_agrees s t a b r q number same is told told' alike =
+      let number_is : job_number s ≡ Some number = ap job_number (sym same) ∙ is in
+      told number number_is ∙ ap answering alike ∙ sym (told' number number_is)
+
+  -- whatever is told of the items, their replies agree
+  abbrev AllAgree : List Item → Type 0
+  AllAgree items = (stream : List Statement) (answers again : List Answer) (rs qs : List Reply) → Tells items stream answers rs
+      → Tells items stream again qs → AnswersAgree stream answers again → RepliesAgree items rs qs
+
+  module _ (item : Item) (items : List Item) (next : AllAgree items) (stream : List Statement) (answers again : List Answer)
+      (r q : Reply) (rest rest' : List Reply) (agree : AnswersAgree stream answers again) where
+    by_asked : (o : Option Statement) → Asks item o → TellsAsked o (λ x y. Tells items x y rest') stream again q
+        → TellsAsked o (λ x y. Tells items x y rest) stream answers r
+        → (place : ℕ) → IsJobItem (item ∷ items) place → slice_get (q ∷ rest') place ≡ slice_get (r ∷ rest) place
+    by_asked None asks told' told zero (one, at, (t, asks_t, (number, numbered))) =
+        let whole : Some item ≡ Some one = at in
+        let same : item ≡ one = cc in
+        let e : Some t ≡ None = asks_one item (Some t) None (subst (λ z. Asks z (Some t)) (sym same) asks_t) asks in
+        absurd (let no : ⊥ = cc e in no)
+    by_asked None asks told' told (suc k) job = next stream answers again rest rest' told told' agree k job
+    by_asked (Some s) asks (stream1, b, later', s_is', again_is, job', told') (stream2, a, later, s_is, answers_is, job_told, told) zero (one, at, (t, asks_t, (number, numbered))) =
+        let whole : Some item ≡ Some one = at in
+        let same : item ≡ one = cc in
+        let e : Some t ≡ Some s = asks_one item (Some t) (Some s) (subst (λ z. Asks z (Some t)) (sym same) asks_t) asks in
+        let t_is : t ≡ s = cc in
+        let first = agree zero number (s, ap (λ (l : List Statement). slice_get l zero) s_is, ap job_number (sym t_is) ∙ numbered) in
+        let alike : Some b ≡ Some a = sym (ap (λ (l : List Answer). slice_get l zero) again_is) ∙ first ∙ ap (λ (l : List Answer). slice_get l zero) answers_is in
+        let alike' : b ≡ a = cc in
+        ap Some (job_agrees s t b a q r number t_is numbered job' job_told alike')
+    by_asked (Some s) asks (stream1, b, later', s_is', again_is, job', told') (stream2, a, later, s_is, answers_is, job_told, told) (suc k) job =
+        let whole : s ∷ stream1 ≡ s ∷ stream2 = sym s_is' ∙ s_is in
+        let tails : stream1 ≡ stream2 = cc in
+        next stream2 later later' rest rest' told (subst (λ x. Tells items x later' rest') tails told')
+        (λ place number job_at.
+        let e = agree (suc place) number (job_at.0, ap (λ (l : List Statement). slice_get l (suc place)) s_is ∙ job_at.1, job_at.2) in
+        sym (ap (λ (l : List Answer). slice_get l (suc place)) again_is) ∙ e ∙ ap (λ (l : List Answer). slice_get l (suc place)) answers_is)
+        k job
+
+  replies_agree : (items : List Item) → AllAgree items
+  replies_agree [] stream answers again rs qs x y agree place (item, at, job) = absurd (let no : ⊥ = cc at in no)
+  replies_agree (item ∷ items) stream answers again rs qs (asked, r, rest, is, asks, more) (asked', q, rest', is', asks', more') agree place job =
+      ap (λ l. slice_get l place) is'
+      ∙ by_asked item items (replies_agree items) stream answers again r q rest rest' agree asked asks
+      (subst (λ o. TellsAsked o (λ x y. Tells items x y rest') stream again q) (asks_one item asked' asked asks' asks) more') more place job
+      ∙ ap (λ l. slice_get l place) (sym is)
+
+  module _ (each : RerunEndsAsEachRun) where
+    pub one_run : RerunEndsAsOneRun
+    one_run first rest before replies again c c1 c' c'' sound cut whole rerun =
+        let a = led first before c c1 cut in
+        let b = led (first ++ rest) replies c c' whole in
+        let d = led (first ++ rest) again c1 c'' rerun in
+        let (x, y, split, in_first, in_rest) = parts first rest b.stream b.asked in
+        let first_is : a.stream ≡ x = are_asked_one first a.stream x a.asked in_first in
+        let again_is : d.stream ≡ b.stream = are_asked_one (first ++ rest) d.stream b.stream d.asked b.asked in
+        let ends = each x y c c1 c' c'' a.answers b.answers d.answers sound
+        (subst (All IsStatement) split b.well_formed) (subst (λ l. Runs l c a.answers c1) first_is a.run)
+        (subst (λ l. Runs l c b.answers c') split b.run) (subst (λ l. Runs l c1 d.answers c'') (again_is ∙ split) d.run) in (
+          ends.0,
+          replies_agree (first ++ rest) b.stream b.answers d.answers replies again b.tells
+              (subst (λ l. Tells (first ++ rest) l d.answers again) again_is d.tells)
+              (subst (λ l. AnswersAgree l b.answers d.answers) (sym split) ends.1),
+        )
+
+    pub after_fault : RerunAfterFault
+    after_fault text c c1 c' c'' w0 w1 w2 w3 w4 w5 fault tally tally' sound stopped whole again =
+        let at = reached fault_line c c1 w0 w1 (Some text) fault stopped in
+        let (rest, items) = stopped.read in
+        ends at (after at.items stopped.done stopped.hand rest at.are_answered) (sym whole.read ∙ items) (sym again.read ∙ items)
+      where
+        -- the items of the text are those that were answered, and others
+        after : (items done : List Item) (hand : Option Item) (rest : List Item) → AreAnswered done hand items
+            → (others : List Item) × (done ++ with_hand hand rest ≡ items ++ others)
+        after items done hand rest (inl is) = (with_hand hand rest, ap (λ l. l ++ with_hand hand rest) (sym is))
+        after items done hand rest (inr (item, some, is)) = (
+          rest,
+          ap (λ o. done ++ with_hand o rest) some ∙ sym (append_assoc done (item ∷ []) rest) ∙ ap (λ l. l ++ rest) (sym is),
+        )
+
+        ends : (at : Reached stopped.done stopped.replies c c1 stopped.hand)
+            → ((others : List Item) × (stopped.done ++ with_hand stopped.hand stopped.read.0 ≡ at.items ++ others))
+            → whole.items ≡ stopped.done ++ with_hand stopped.hand stopped.read.0
+            → again.items ≡ stopped.done ++ with_hand stopped.hand stopped.read.0
+            → (c'' ≡ c') × RepliesAgree whole.items whole.replies again.replies
+        ends at (others, split) whole_is again_is =
+            let both = one_run at.items others at.told whole.replies again.replies c c1 c' c'' sound at.answers
+            (subst (λ l. Answers Step c l whole.replies c') (whole_is ∙ split) whole.answers)
+            (subst (λ l. Answers Step c1 l again.replies c'') (again_is ∙ split) again.answers) in
+            (both.0, subst (λ l. RepliesAgree l whole.replies again.replies) (sym (whole_is ∙ split)) both.1)

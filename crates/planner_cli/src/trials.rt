@@ -1,0 +1,137 @@
+//! Trials: the decision of a statement, and the rows that it would change, shown and not changed.
+ghost use Rattle.std.specs.Prelude.{◌≡◌, IfOk, filter, map};
+ghost use Rattle.planner_machine.specs.Content.{Content};
+ghost use Rattle.planner_machine.specs.DailyPlan.{is_completed, is_deleted, is_uncompleted};
+ghost use Rattle.planner_machine.specs.Sound.{IsSound};
+ghost use Rattle.planner_machine.specs.Statement.{Trial};
+ghost use Rattle.plan_listings.specs.Report.{IsReport};
+ghost use Rattle.plan_store.specs.Views.{shown};
+ghost use Rattle.planner_cli.specs.Replies.{Prints, Reply as ReplyValue};
+ghost use Rattle.planner_cli.specs.Requests.{daily_change, plan_change};
+ghost use Rattle.planner_cli.specs.Steps.{Serves};
+ghost use Rattle.planner_cli.specs.Stores.{AnswersBy};
+ghost use Rattle.occurrences.specs.declared.place.CurrentRow.{CurrentRow as CurrentRowValue};
+ghost use Rattle.planner_cli.specs.Rows.{daily_signed};
+ghost use Rattle.planner_cli.specs.Trials.{daily_changes};
+
+use crate::answers::{Printed, print_answer};
+use crate::decisions::{decide_daily, decide_plan, need_of_daily};
+use crate::requests::{DailyRequest, PlanRequest, tell_days};
+use occurrences::{CurrentRow, Row, Status};
+use plan_listings::{dp_report, ltp_report};
+use plan_store::{Need, PlanStore, StoreFault, Verdict, View};
+use planner_machine::{fate_is_followed, sound_content_stays_sound};
+use std::alloc::{AllocError, Global};
+
+/// Shows what a change of the long-term plan would do.
+pub(crate) fn answer_plan_trial<S: PlanStore>(
+    alloc: Global,
+    store: &mut S,
+    plan: &PlanRequest,
+) -> Result<Printed, StoreFault>
+    requires { S.is_honest store.old → IsSound (S.content store.old) }
+    ensures { AnswersBy S.is_honest S.content S.failures store.old store.new result
+        (Serves (Trial (plan_change plan.now)) (S.content store.old)) }
+{
+    let view = store.read_window(Need::LongTerm)?;
+    match plan_trial(alloc, &view, plan) {
+        Ok(printed) => Ok(printed),
+        Err(_) => Err(StoreFault::Memory),
+    }
+}
+
+// What a trial of the long-term plan prints.
+fn plan_trial(alloc: Global, view: &View<'_>, plan: &PlanRequest) -> Result<Printed, AllocError>
+    ensures { IfOk result (λ printed. (c : Content) → shown view.now ≡ c → IsSound c → (reply : ReplyValue)
+        × Serves (Trial (plan_change plan.now)) c reply c × Prints reply printed.text.items printed.is_accepted) }
+{
+    fate_is_followed();
+    sound_content_stays_sound();
+    tell_days(plan);
+    let verdict = decide_plan(alloc, view, plan)?;
+    match verdict {
+        Verdict::Done(change, reply) => {
+            let rows = ltp_report(alloc, &change.ltp.put, &change.ltp.gone)?;
+            print_answer(alloc, rows, &Ok(reply))
+        }
+        Verdict::Refused(refusal) => print_answer(alloc, Vec::new(alloc), &Err(refusal)),
+    }
+}
+
+/// Shows what a daily plan would do.
+pub(crate) fn answer_daily_trial<S: PlanStore>(
+    alloc: Global,
+    store: &mut S,
+    daily: &DailyRequest,
+) -> Result<Printed, StoreFault>
+    requires { S.is_honest store.old → IsSound (S.content store.old) }
+    ensures { AnswersBy S.is_honest S.content S.failures store.old store.new result
+        (Serves (Trial (daily_change daily.now)) (S.content store.old)) }
+{
+    let view = store.read_window(need_of_daily(daily))?;
+    match daily_trial(alloc, &view, daily) {
+        Ok(printed) => Ok(printed),
+        Err(_) => Err(StoreFault::Memory),
+    }
+}
+
+// What a trial of a daily plan prints.
+fn daily_trial(alloc: Global, view: &View<'_>, daily: &DailyRequest) -> Result<Printed, AllocError>
+    ensures { IfOk result (λ printed. (c : Content) → shown view.now ≡ c → IsSound c → (reply : ReplyValue)
+        × Serves (Trial (daily_change daily.now)) c reply c × Prints reply printed.text.items printed.is_accepted) }
+{
+    fate_is_followed();
+    sound_content_stays_sound();
+    let verdict = decide_daily(alloc, view, daily)?;
+    match verdict {
+        Verdict::Done(change, reply) => {
+            let current = view.cp();
+            let rows = daily_rows(alloc, current, &change.ltp.gone)?;
+            print_answer(alloc, rows, &Ok(reply))
+        }
+        Verdict::Refused(refusal) => print_answer(alloc, Vec::new(alloc), &Err(refusal)),
+    }
+}
+
+// The rows of a trial of a daily plan that moves these rows into the current plan.
+fn daily_rows(alloc: Global, current: &[CurrentRow], moved: &[Row]) -> Result<Vec<u8>, AllocError>
+    ensures { IfOk result (λ text. IsReport (map daily_signed (daily_changes moved.now current.now)) text.items) }
+{
+    let carried = carried_rows(alloc, current)?;
+    let completed = completed_rows(alloc, current)?;
+    let deleted = deleted_rows(alloc, current)?;
+    dp_report(alloc, moved, &carried, &completed, &deleted)
+}
+
+// The rows of the current plan that are neither complete nor deleted, each with its status.
+fn carried_rows(alloc: Global, rows: &[CurrentRow]) -> Result<Vec<(Row, Status)>, AllocError>
+    ensures { IfOk result (λ found. found.items ≡ map (λ (current : CurrentRowValue). (current.row, current.status))
+        (filter (λ (current : CurrentRowValue). is_uncompleted current.status) rows.now)) }
+{
+    rows.iter()
+        .filter(|current| current.status != Status::C && current.status != Status::D)
+        .map(|current| (current.row, current.status))
+        .collect(alloc)
+}
+
+// The rows of the current plan that are complete.
+fn completed_rows(alloc: Global, rows: &[CurrentRow]) -> Result<Vec<Row>, AllocError>
+    ensures { IfOk result (λ found. found.items ≡ map (λ (current : CurrentRowValue). current.row)
+        (filter (λ (current : CurrentRowValue). is_completed current.status) rows.now)) }
+{
+    rows.iter()
+        .filter(|current| current.status == Status::C)
+        .map(|current| current.row)
+        .collect(alloc)
+}
+
+// The rows of the current plan that are deleted.
+fn deleted_rows(alloc: Global, rows: &[CurrentRow]) -> Result<Vec<Row>, AllocError>
+    ensures { IfOk result (λ found. found.items ≡ map (λ (current : CurrentRowValue). current.row)
+        (filter (λ (current : CurrentRowValue). is_deleted current.status) rows.now)) }
+{
+    rows.iter()
+        .filter(|current| current.status == Status::D)
+        .map(|current| current.row)
+        .collect(alloc)
+}
