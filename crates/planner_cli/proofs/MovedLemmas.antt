@@ -1,5 +1,5 @@
 -- What a change takes from a set and puts into it, by the set before and after.
-use Rattle.std.proofs.Common.{◌≡◌, ◌∙◌, ℕ, List, get_or, refl, sym, ap, subst, inl, inr, Bool, true, false, None, Option, Some}
+use Rattle.std.proofs.Common.{◌≡◌, ◌∙◌, ℕ, List, refl, sym, subst, Bool, true, false, None, Option, Some}
 use Rattle.std.specs.List.{Contains}
 use Rattle.std.specs.Prelude.{is_some, if◌then◌else◌}
 use Rattle.occurrences.specs.declared.row.Row.{Row}

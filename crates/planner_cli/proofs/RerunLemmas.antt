@@ -1,14 +1,12 @@
 -- Streams that are run again: their items ask the same statements.
 use Rattle.std.proofs.Common.{◌≡◌, ◌∙◌, ℕ, zero, suc, List, [], ◌∷◌, ◌++◌, refl, sym, ap, subst, inl, inr, append_assoc, None, Option, Some}
 use Rattle.std.specs.Prelude.{All, slice_get}
-use Rattle.planner_machine.specs.Content.{Content}
-use Rattle.planner_machine.specs.Rerun.{AnswersAgree, IsJobAt, RerunEndsAsEachRun, job_number}
-use Rattle.planner_machine.specs.Sound.{IsSound}
+use Rattle.planner_machine.specs.Rerun.{AnswersAgree, RerunEndsAsEachRun, job_number}
 use Rattle.planner_machine.specs.Statement.{Answer, Statement}
 use Rattle.planner_machine.specs.Stream.{IsStatement, Runs}
 use Rattle.statements.specs.Statement.{IsLineOf, Reads}
 use Rattle.statements.specs.declared.statements.Statement.{Statement as LineStatement}
-use Rattle.stream_items.specs.Items.{Alone, Item, NoStatement, WithBlock, items_of}
+use Rattle.stream_items.specs.Items.{Alone, Item, NoStatement, WithBlock}
 use Rattle.planner_cli.specs.Asked.{AreAsked, Asks, asked_alone, asked_with, if_asked}
 use Rattle.planner_cli.specs.Faults.{fault_line}
 use Rattle.planner_cli.specs.Meaning.{Answers}
@@ -17,11 +15,9 @@ use Rattle.planner_cli.specs.Plans.{AreAnswered}
 use Rattle.planner_cli.specs.Replies.{Reply}
 use Rattle.planner_cli.specs.Requests.{request_of}
 use Rattle.planner_cli.specs.Reruns.{IsJobItem, RepliesAgree, RerunAfterFault, RerunEndsAsOneRun}
-use Rattle.planner_cli.specs.Runs.{Ran, Stopped, with_hand}
+use Rattle.planner_cli.specs.Runs.{with_hand}
 use Rattle.planner_cli.specs.Steps.{Step}
-use Rattle.planner_cli.specs.declared.faults.RunFault.{RunFault}
-use Rattle.planner_cli.specs.declared.tally.Tally.{Tally}
-use Rattle.planner_cli.proofs.PlanLemmas.{Led, Reached, Tells, TellsAsked, TellsJob, led, reached}
+use Rattle.planner_cli.proofs.PlanLemmas.{Reached, Tells, TellsAsked, TellsJob, led, reached}
 
 -- no line is two statements
 abbrev pub OneStatement : Type 0

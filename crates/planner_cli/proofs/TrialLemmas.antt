@@ -1,8 +1,7 @@
 -- What trials show: the way of the rows from the sets as they are to the sets as a statement would leave them.
-use Rattle.std.proofs.Common.{◌≡◌, ◌≢◌, ◌↔◌, ◌⊎◌, ◌∙◌, ℕ, ◌<◌, ◌≤◌, List, [], ◌∷◌, ◌++◌, get_or, map, Bool, refl, sym, ap, subst, inl, inr, true, false, None, Option, Some, arith}
+use Rattle.std.proofs.Common.{◌≡◌, ◌↔◌, ◌⊎◌, ◌∙◌, ℕ, ◌<◌, ◌≤◌, List, ◌++◌, get_or, map, Bool, refl, sym, ap, subst, inl, inr, true, false, None, Option, Some}
 use Rattle.std.specs.List.{AllPairs, Contains, filter}
 use Rattle.std.specs.Prelude.{if◌then◌else◌, nat_lt}
-use Rattle.std.proofs.lemmas.Bool.{cases_lt}
 use Rattle.std.proofs.lemmas.List.Elements.{Contains-append_cases, Contains-append_left, Contains-append_right}
 use Rattle.std.proofs.lemmas.List.Kept.{AllPairs-filter}
 use Rattle.app_definitions.specs.declared.definitions.Definitions.{Definitions}
@@ -14,10 +13,10 @@ use Rattle.occurrences.specs.declared.row.Row.{Row}
 use Rattle.occurrences.specs.declared.status.Status.{Status}
 use Rattle.occurrences.specs.declared.status.Status.TheVariants.{C, D, E, S, W}
 use Rattle.external_dependencies.specs.declared.rows.PlacedRow.{PlacedRow}
-use Rattle.planner_machine.specs.Content.{Seat, Sets, StandsAt, empty_seat, seat}
+use Rattle.planner_machine.specs.Content.{Seat, Sets, StandsAt}
 use Rattle.planner_machine.specs.DailyPlan.{is_completed, is_deleted, is_uncompleted}
 use Rattle.planner_machine.specs.Fate.{DailyFate, Fate, ModifyFate, Stays, place_after_daily_plan}
-use Rattle.planner_machine.specs.Shown.{DailyChange, DailyMark, IsDailyChange, IsDailyStep, IsPlanChange, IsPlanStep, PlanChange, PlanMark}
+use Rattle.planner_machine.specs.Shown.{DailyChange, DailyMark, IsDailyChange, IsDailyStep, IsPlanChange, PlanChange, PlanMark}
 use Rattle.planner_machine.specs.Shown.{WouldBeCarried, WouldBeDeleted, WouldBeHistory, WouldBeMade, WouldBeMoved}
 use Rattle.planner_machine.specs.Shown.{WouldBeWithdrawn}
 use Rattle.planner_machine.specs.Sound.{AreNumbered}

@@ -1,6 +1,6 @@
 -- Trials that are answered: the rows of a report are the way from the content to what the statement would leave.
 use Rattle.std.proofs.Common.{◌≡◌, ◌∙◌, ℕ, List, [], ◌∷◌, ◌++◌, map, append_assoc, refl, sym, ap, subst, None, Option, Some}
-use Rattle.std.specs.List.{Contains, filter}
+use Rattle.std.specs.List.{filter}
 use Rattle.std.specs.Str.{byte}
 use Rattle.std.specs.Prelude.{Err, Ok, flat_map}
 use Rattle.std.proofs.lemmas.List.{map-append}
@@ -12,7 +12,7 @@ use Rattle.occurrences.specs.declared.refusal.Refusal.TheVariants.{NoPlan}
 use Rattle.occurrences.specs.declared.reply.Reply.{Reply as Outcome}
 use Rattle.occurrences.specs.declared.row.Row.{Row}
 use Rattle.occurrences.specs.declared.status.Status.{Status}
-use Rattle.occurrences.specs.declared.status.Status.TheVariants.{C, D, W}
+use Rattle.occurrences.specs.declared.status.Status.TheVariants.{C, D}
 use Rattle.external_dependencies.specs.declared.rows.PlacedRow.{PlacedRow}
 use Rattle.planner_machine.specs.Content.{Content, StandsAt}
 use Rattle.planner_machine.specs.Fate.{DailyFate, Fate}

@@ -1,5 +1,5 @@
 use Rattle.app_definitions.proofs.ByNameLemmas.{IfOk-map}
-use Rattle.std.proofs.Common.{◌∙◌, List, subst}
+use Rattle.std.proofs.Common.{List, subst}
 use Rattle.plan_listings.specs.Report.{IsReport}
 use Rattle.plan_listings.specs.declared.report.Signed.{Signed}
 use Rattle.planner_cli.proofs.TrialServes.{daily_signs_are}

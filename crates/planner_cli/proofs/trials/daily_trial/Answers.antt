@@ -1,6 +1,5 @@
-use Rattle.std.proofs.Common.{◌≡◌, [], ap, subst, Err, List}
+use Rattle.std.proofs.Common.{[], subst, Err}
 use Rattle.app_definitions.proofs.ByNameLemmas.{IfOk-map}
-use Rattle.occurrences.specs.declared.place.CurrentRow.{CurrentRow}
 use Rattle.planner_machine.specs.Content.{Content}
 use Rattle.plan_lists.specs.Rows.{of_current}
 use Rattle.plan_store.specs.Views.{IsAny, ListsSet}

@@ -1,6 +1,5 @@
-use Rattle.std.proofs.Common.{[], subst, Err}
+use Rattle.std.proofs.Common.{[], Err}
 use Rattle.app_definitions.proofs.ByNameLemmas.{IfOk-map}
-use Rattle.plan_listings.specs.Report.{IsReport, plan_signs}
 use Rattle.planner_cli.specs.Outcomes.{answering}
 use Rattle.planner_cli.specs.Requests.{plan_change}
 use Rattle.planner_cli.proofs.TrialServes.{plan_shown, trial_refused}
