@@ -2,11 +2,14 @@ mod AlikeLemmas
 mod ArrivalLemmas
 pub mod FitLemmas
 mod JobLemmas
+mod ListedLemmas
+mod ListingLemmas
 pub mod LookLemmas
 mod MoveLemmas
 mod OrderLemmas
 pub mod PairLemmas
 pub mod PlaceLemmas
 mod SeatedLemmas
+mod ShownLemmas
 mod SliceLemmas
 pub mod ViewLemmas

@@ -3,6 +3,8 @@ pub mod Changes
 pub mod Contents
 pub mod Faults
 pub mod Jobs
+pub mod Listed
+pub mod Listings
 pub mod Lists
 pub mod Room
 pub mod Slices

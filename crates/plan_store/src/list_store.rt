@@ -1,9 +1,11 @@
 use crate::changes::Change;
 use crate::contents::Content;
+use crate::listings::{ListFault, RowSink, What};
 use crate::stores::{Need, PlanStore, StoreFault};
 use crate::views::View;
 use planner_machine::{Job, empty_content_is_sound};
 use std::alloc::Global;
+use work_calendars::App;
 
 /// A store that keeps its content in memory. Its device never fails.
 #[derive(Drop)]
@@ -76,6 +78,16 @@ impl PlanStore for ListStore {
 
     fn job<'a>(&'a mut self, number: u64) -> Result<Option<&'a Job>, StoreFault> {
         Ok(self.kept_job(number))
+    }
+
+    fn rows_to<K: RowSink>(
+        &mut self,
+        alloc: Global,
+        what: What,
+        app: Option<&App>,
+        sink: &mut K,
+    ) -> Result<usize, ListFault> {
+        self.content.rows_to(alloc, what, app, sink)
     }
 
     fn apply(&mut self, alloc: Global, change: Change) -> Result<(), StoreFault> {

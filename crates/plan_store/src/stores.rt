@@ -1,19 +1,22 @@
-ghost use Rattle.std.specs.Prelude.{◌≡◌, ◌⊎◌, ℕ, ◌<◌, ◌≤◌, OnOk, OnErr, IfErr, ⊤, option_copied};
+ghost use Rattle.std.specs.Prelude.{◌≡◌, ◌⊎◌, ℕ, ◌<◌, ◌≤◌, OnOk, OnErr, IfOk, IfErr, ⊤, option_copied};
 ghost use Rattle.std.specs.Borrow.{sem, follows_so};
 ghost use mathlib.Core.Option.{none};
 ghost use Rattle.planner_machine.specs.Content.{Content as ContentValue};
 ghost use Rattle.plan_store.specs.Changes.{Fits, after};
+ghost use Rattle.planner_machine.specs.Sound.{AreNumbered};
 ghost use Rattle.plan_store.specs.Faults.{MoreFailures};
+ghost use Rattle.plan_store.specs.Listings.{HandsAll, HandsPart, IsListing};
 ghost use Rattle.plan_store.specs.Stores.{Reads};
 ghost use Rattle.plan_store.specs.Views.{Shows};
 
 use crate::changes::Change;
+use crate::listings::{ListFault, RowSink, What};
 use crate::views::View;
 use occurrences::Key;
 use planner_machine::Job;
 use std::alloc::Global;
 use thiserror::Error;
-use work_calendars::Moment;
+use work_calendars::{App, Moment};
 
 /// What a decision has to see.
 #[derive(Clone, Copy, Debug, PartialEq, Eq)]
@@ -60,6 +63,23 @@ pub trait PlanStore {
     fn job<'a>(&'a mut self, number: u64) -> Result<Option<&'a Job>, StoreFault>
         ensures* { sem 𝓛 (follows_so Self.row Self.row self.entry.ghost_name none (λ _ _. ⊤)
             (λ now. Reads is_honest content failures may_leave self.old now result (λ job. option_copied job ≡ (content self.old).jobs number))) };
+
+    /// Hands the sink what a listing shows, in its order, of one application or of all, and answers how many items it
+    /// took. A fault leaves the sink with those before it.
+    fn rows_to<K: RowSink>(
+        &mut self,
+        alloc: Global,
+        what: What,
+        app: Option<&App>,
+        sink: &mut K,
+    ) -> Result<usize, ListFault>
+        ensures all { is_honest self.new → AreNumbered (content self.old).sets → IfOk result (HandsAll K.takes (IsListing what (option_copied app.entry) (content self.old)) sink.old sink.new) }
+        ensures part { is_honest self.new → AreNumbered (content self.old).sets → IfErr result (HandsPart K.takes K.refuses (IsListing what (option_copied app.entry) (content self.old)) sink.old sink.new) }
+        ensures same { is_honest self.new → content self.new ≡ content self.old }
+        ensures crash { is_honest self.new → (c : ContentValue) → may_leave self.new c → may_leave self.old c }
+        ensures blames { IfErr result (λ fault. fault ≡ ListFault.Device → MoreFailures (failures self.old) (failures self.new) ⊎ (0 < failures self.old)) }
+        ensures counts { failures self.old ≤ failures self.new }
+        ensures honest { is_honest self.new → is_honest self.old };
 
     /// Makes the change, whole or not at all.
     fn apply(&mut self, alloc: Global, change: Change) -> Result<(), StoreFault>

@@ -1,0 +1,86 @@
+-- What a listing hands out, and what becomes of the sink that takes it.
+use Rattle.std.specs.Prelude.{◌≡◌, ℕ, List, [], ◌∷◌, ◌++◌, length, map, Option}
+use Rattle.occurrences.specs.Place.{reason_letter}
+use Rattle.occurrences.specs.Status.{status_letter}
+use Rattle.occurrences.specs.declared.place.Place.{Place}
+use Rattle.occurrences.specs.declared.place.Place.TheVariants.{LongTerm, Current, History, Deleted}
+use Rattle.occurrences.specs.declared.row.Row.{Row}
+use Rattle.occurrences.specs.declared.status.Status.TheVariants.{C}
+use Rattle.external_dependencies.specs.declared.rows.PlacedRow.{PlacedRow}
+use Rattle.planner_machine.specs.Content.{Content}
+use Rattle.planner_machine.specs.Shown.{Listed, LongTermPlan, CurrentPlan, InHistory, InDeletions}
+use Rattle.planner_machine.specs.Shown.{LinkedRows, ListsPairs, ListsRows}
+use Rattle.plan_store.specs.declared.listings.Item.{Item}
+use Rattle.plan_store.specs.declared.listings.Item.TheVariants as Items
+use Rattle.plan_store.specs.declared.listings.ListFault.{ListFault}
+use Rattle.plan_store.specs.declared.listings.ListFault.TheVariants as Faults
+use Rattle.plan_store.specs.declared.listings.What.{What}
+use Rattle.plan_store.specs.declared.listings.What.TheVariants as Whats
+
+-- what an item shows: a row alone, a row and its letter, or a successor and its predecessor
+pub data Shown : Type 0 where
+  Plain : Row → Shown
+  Marked : Row → ℕ → Shown
+  Linked : Row → Row → Shown
+
+abbrev pub item_shown : Item → Shown
+item_shown (Items.Plan row) = Plain row.now
+item_shown (Items.Marked row letter) = Marked row.now letter
+item_shown (Items.Pair successor predecessor) = Linked successor.now predecessor.now
+
+-- a row as the list of its set shows it
+abbrev pub shown_at : Place → Row → Shown
+shown_at LongTerm row = Plain row
+shown_at (Current status) row = Marked row (status_letter status)
+shown_at History row = Marked row (status_letter C)
+shown_at (Deleted reason) row = Marked row (reason_letter reason)
+
+abbrev pub row_shown : PlacedRow → Shown
+row_shown p = shown_at p.place p.row
+
+abbrev pub link_shown : LinkedRows → Shown
+link_shown l = Linked l.successor l.predecessor
+
+-- the items of a listing, in its order
+abbrev pub ShowRows : Listed → Option (List ℕ) → Content → List Shown → Type 0
+ShowRows listed app c items =
+    (rows : List PlacedRow) × ListsRows listed app c.sets rows × (items ≡ map row_shown rows)
+
+abbrev pub ShowPairs : Option (List ℕ) → Content → List Shown → Type 0
+ShowPairs app c items = (links : List LinkedRows) × ListsPairs app c links × (items ≡ map link_shown links)
+
+abbrev pub IsListing : What → Option (List ℕ) → Content → List Shown → Type 0
+IsListing Whats.Ltp app c items = ShowRows LongTermPlan app c items
+IsListing Whats.Cp app c items = ShowRows CurrentPlan app c items
+IsListing Whats.History app c items = ShowRows InHistory app c items
+IsListing Whats.Deletions app c items = ShowRows InDeletions app c items
+IsListing Whats.Dependencies app c items = ShowPairs app c items
+
+-- the sink takes the items, one after another
+abbrev pub TakesAll : {K : Type 0} → (K → Shown → K → Type 0) → K → List Shown → K → Type 0
+TakesAll Takes old [] new = new ≡ old
+TakesAll {K} Takes old (item ∷ items) new = (next : K) × Takes old item next × TakesAll Takes next items new
+
+-- the sink took all items, and so many were counted
+pub record HandsAll {K : Type 0} (Takes : K → Shown → K → Type 0) (IsWhole : List Shown → Type 0) (old new : K)
+    (count : ℕ) : Type 0 where
+  pub items : List Shown
+  pub whole : IsWhole items
+  pub taken : TakesAll Takes old items new
+  pub counted : count ≡ length items
+
+-- the sink took the first items and, where it is to blame, refused the next
+abbrev pub EndsSo : {K : Type 0} → (Takes Refuses : K → Shown → K → Type 0) → K → List Shown → List Shown → K → ListFault
+    → Type 0
+EndsSo Takes Refuses old done rest new Faults.Memory = TakesAll Takes old done new
+EndsSo Takes Refuses old done rest new Faults.Device = TakesAll Takes old done new
+EndsSo {K} Takes Refuses old done rest new (Faults.Sink _) =
+    (last : K) × (item : Shown) × (later : List Shown)
+    × (rest ≡ item ∷ later) × TakesAll Takes old done last × Refuses last item new
+
+pub record HandsPart {K : Type 0} (Takes Refuses : K → Shown → K → Type 0) (IsWhole : List Shown → Type 0) (old new : K)
+    (fault : ListFault) : Type 0 where
+  pub done : List Shown
+  pub rest : List Shown
+  pub whole : IsWhole (done ++ rest)
+  pub ends : EndsSo Takes Refuses old done rest new fault

@@ -1,0 +1,188 @@
+//! The items of a listing, on their way to a sink.
+ghost use Rattle.std.specs.Prelude.{◌≡◌, ◌≢◌, ◌↔◌, ℕ, Contains, IfOk, IfErr, OnOk, OnErr, length, map, option_copied, option_map};
+ghost use Rattle.external_dependencies.specs.Arrival.{arrival_cmp};
+ghost use Rattle.external_dependencies.specs.Nearest.{arrival_of};
+ghost use Rattle.external_dependencies.specs.Pair.{pair_cmp};
+ghost use Rattle.external_dependencies.specs.Rising.{IsRising};
+ghost use Rattle.plan_lists.specs.Keyed.{IsKeyed};
+ghost use Rattle.plan_lists.specs.Rows.{AreRows};
+ghost use Rattle.planner_machine.specs.Shown.{IsOfApp};
+ghost use Rattle.planner_machine.specs.Sound.{AreNumbered};
+ghost use Rattle.plan_store.specs.Contents.{content_of};
+ghost use Rattle.plan_store.specs.Listed.{AreInOrder, EndsWithin, ShowsSet, link_at, linked_rows, links_at, shown_as};
+ghost use Rattle.plan_store.specs.Listings.{HandsAll, HandsPart, IsListing, TakesAll, link_shown};
+
+use crate::contents::Content;
+use crate::listings::{Item, ListFault, RowSink, SinkFault, What};
+use crate::slices::of_app;
+use crate::views::View;
+use external_dependencies::Pair;
+use occurrences::{CurrentRow, Deletion, Row, Status};
+use plan_lists::PlanRow;
+use std::alloc::{AllocError, Global};
+use work_calendars::App;
+
+// What stands in a set whose list shows letters.
+trait Lettered: PlanRow {
+    ghost letter_of: { Self → ℕ };
+
+    fn letter(&self) -> u8
+        ensures { result ≡ letter_of self.now };
+}
+
+ghost use Rattle.occurrences.specs.Place.{reason_letter};
+ghost use Rattle.occurrences.specs.Status.{status_letter};
+ghost use Rattle.occurrences.specs.declared.status.Status.TheVariants.{C};
+
+impl Lettered for Row {
+    ghost letter_of = { λ _. status_letter C };
+
+    fn letter(&self) -> u8 {
+        Status::C.letter()
+    }
+}
+
+impl Lettered for CurrentRow {
+    ghost letter_of = { λ current. status_letter current.status };
+
+    fn letter(&self) -> u8 {
+        self.status.letter()
+    }
+}
+
+impl Lettered for Deletion {
+    ghost letter_of = { λ deletion. reason_letter deletion.reason };
+
+    fn letter(&self) -> u8 {
+        self.reason.letter()
+    }
+}
+
+// The rows by input arrival, application and serial.
+fn in_order<T: PlanRow>(alloc: Global, rows: &[T]) -> Result<Vec<&T>, AllocError>
+    ensures { IfOk result (λ found. AreInOrder T.row_of rows.now (map (λ x. x.now) found.items)) }
+{
+    let mut found: Vec<&T> = rows.iter().collect(alloc)?;
+    found.sort_unstable_by_key(|x| x.row());
+    Ok(found)
+}
+
+// Hands the sink one row, with its letter or plain.
+fn hand<T: Lettered, K: RowSink>(x: &T, is_plain: bool, sink: &mut K) -> Result<(), SinkFault>
+    ensures taken { OnOk result (K.takes sink.old (shown_as T.row_of T.letter_of is_plain x.now) sink.new) }
+    ensures refused { OnErr result (K.refuses sink.old (shown_as T.row_of T.letter_of is_plain x.now) sink.new) }
+{
+    let row = x.row();
+    if is_plain {
+        sink.take(Item::Plan(&row))
+    } else {
+        sink.take(Item::Marked(&row, x.letter()))
+    }
+}
+
+// Hands the sink the rows, in their order.
+fn hand_each<T: Lettered, K: RowSink>(
+    rows: &[&T],
+    is_plain: bool,
+    sink: &mut K,
+) -> Result<usize, ListFault>
+    ensures all { IfOk result (λ count. (count ≡ length rows.now) × TakesAll K.takes sink.old (map (λ x. shown_as T.row_of T.letter_of is_plain x.now) rows.now) sink.new) }
+    ensures part { IfErr result (λ fault. EndsWithin K.takes K.refuses sink.old (map (λ x. shown_as T.row_of T.letter_of is_plain x.now) rows.now) sink.new fault) }
+    ensures blames { IfErr result (λ fault. fault ≢ ListFault.Device) }
+{
+    for x in rows {
+        match hand(*x, is_plain, sink) {
+            Ok(()) => {}
+            Err(fault) => return Err(ListFault::Sink(fault)),
+        }
+    }
+    Ok(rows.len())
+}
+
+// The rows of one application, or all.
+fn part_of<'a, T: PlanRow>(rows: &'a [T], app: Option<&App>) -> &'a [T]
+    ensures keyed { IsKeyed arrival_cmp (λ x. arrival_of (T.row_of x)) rows.now → IsKeyed arrival_cmp (λ x. arrival_of (T.row_of x)) result.now }
+    ensures all { IsKeyed arrival_cmp (λ x. arrival_of (T.row_of x)) rows.now → (x : T) → Contains result.now x ↔ (Contains rows.now x × IsOfApp (option_copied app.entry) (T.row_of x).key.app) }
+{
+    match app {
+        Some(app) => of_app(rows, app),
+        None => rows,
+    }
+}
+
+// Hands the sink the rows of a set, of one application or all, by input arrival, application and serial.
+fn hand_rows<T: Lettered, K: RowSink>(
+    alloc: Global,
+    rows: &[T],
+    app: Option<&App>,
+    is_plain: bool,
+    sink: &mut K,
+) -> Result<usize, ListFault>
+    ensures all { AreRows T.row_of rows.now → IfOk result (HandsAll K.takes (ShowsSet T.row_of T.letter_of is_plain rows.now (option_copied app.entry)) sink.old sink.new) }
+    ensures part { AreRows T.row_of rows.now → IfErr result (HandsPart K.takes K.refuses (ShowsSet T.row_of T.letter_of is_plain rows.now (option_copied app.entry)) sink.old sink.new) }
+    ensures blames { IfErr result (λ fault. fault ≢ ListFault.Device) }
+{
+    match in_order(alloc, part_of(rows, app)) {
+        Ok(found) => hand_each(&found, is_plain, sink),
+        Err(_) => Err(ListFault::Memory),
+    }
+}
+
+impl Content {
+    // The two rows of a pair, where its successor is of the application.
+    fn linked(&self, pair: Pair, app: Option<&App>) -> Option<(Row, Row)>
+        ensures { AreNumbered (content_of self.now).sets → option_map linked_rows result ≡ link_at (content_of self.now).sets (option_copied app.entry) pair }
+    {
+        let view = View { content: self };
+        let successor = view.placed(pair.successor)?.row;
+        if let Some(app) = app
+            && successor.key.app != *app
+        {
+            return None;
+        }
+        let predecessor = view.placed(pair.predecessor)?.row;
+        Some((successor, predecessor))
+    }
+
+    // Hands the sink the pairs, of one application or all.
+    fn hand_pairs<K: RowSink>(&self, app: Option<&App>, sink: &mut K) -> Result<usize, ListFault>
+        ensures rising { IsRising pair_cmp (content_of self.now).pairs }
+        ensures all { AreNumbered (content_of self.now).sets → IfOk result (λ count. (count ≡ length (links_at (content_of self.now).sets (option_copied app.entry) (content_of self.now).pairs)) × TakesAll K.takes sink.old (map link_shown (links_at (content_of self.now).sets (option_copied app.entry) (content_of self.now).pairs)) sink.new) }
+        ensures part { AreNumbered (content_of self.now).sets → IfErr result (λ fault. EndsWithin K.takes K.refuses sink.old (map link_shown (links_at (content_of self.now).sets (option_copied app.entry) (content_of self.now).pairs)) sink.new fault) }
+        ensures blames { IfErr result (λ fault. fault ≢ ListFault.Device) }
+    {
+        let mut count = 0;
+        for pair in self.pairs.as_slice() {
+            match self.linked(*pair, app) {
+                Some(link) => match sink.take(Item::Pair(&link.0, &link.1)) {
+                    Ok(()) => count += 1,
+                    Err(fault) => return Err(ListFault::Sink(fault)),
+                },
+                None => {}
+            }
+        }
+        Ok(count)
+    }
+
+    /// Hands the sink what a listing shows, in its order, of one application or of all, and answers how many items it
+    /// took. A fault leaves the sink with those before it; it is never the device's.
+    pub fn rows_to<K: RowSink>(
+        &self,
+        alloc: Global,
+        what: What,
+        app: Option<&App>,
+        sink: &mut K,
+    ) -> Result<usize, ListFault>
+        ensures all { AreNumbered (content_of self.now).sets → IfOk result (HandsAll K.takes (IsListing what (option_copied app.entry) (content_of self.now)) sink.old sink.new) }
+        ensures part { AreNumbered (content_of self.now).sets → IfErr result (HandsPart K.takes K.refuses (IsListing what (option_copied app.entry) (content_of self.now)) sink.old sink.new) }
+        ensures blames { IfErr result (λ fault. fault ≢ ListFault.Device) }
+    {
+        match what {
+            What::Ltp => hand_rows(alloc, &self.ltp, app, true, sink),
+            What::Cp => hand_rows(alloc, &self.cp, app, false, sink),
+            What::History => hand_rows(alloc, &self.history, app, false, sink),
+            What::Deletions => hand_rows(alloc, &self.deletions, app, false, sink),
+            What::Dependencies => self.hand_pairs(app, sink),
+        }
+    }
+}
