@@ -13,3 +13,4 @@ pub mod LinkLemmas
 pub mod NamedLemmas
 pub mod LeastLemmas
 pub mod NameLemmas
+pub mod BlockNames

@@ -84,11 +84,11 @@ all_good : (Fits : Records → Record → Type 0) (rows : Records) (n : ℕ) →
 all_good Fits rows n good first = first.faulty (good (n - 1) (omega (arith, first.counted, first.there)))
 
 pub never_both : (k : Kind) (text : List ℕ) (b : Block) (n : ℕ) → ReadsAs k text b → IsFaultyAt k text n → ⊥
-never_both kind.Applications text b n reads faulty = all_good _ _ n reads.0 faulty
-never_both kind.Calendars text b n reads faulty = all_good _ _ n reads.0 faulty
-never_both kind.Periods text b n reads faulty = all_good _ _ n reads.0 faulty
-never_both kind.Predecessors text b n reads faulty = all_good _ _ n reads.0 faulty
-never_both kind.RunCycles text b n reads faulty = all_good _ _ n reads.0 faulty
+never_both kind.Applications text b n reads faulty = all_good _ _ n reads.good faulty
+never_both kind.Calendars text b n reads faulty = all_good _ _ n reads.good faulty
+never_both kind.Periods text b n reads faulty = all_good _ _ n reads.good faulty
+never_both kind.Predecessors text b n reads faulty = all_good _ _ n reads.good faulty
+never_both kind.RunCycles text b n reads faulty = all_good _ _ n reads.good faulty
 never_both kind.Options text b n reads faulty = faulty.no_options reads.0 reads.2
 
 -- ---- applications
@@ -421,7 +421,7 @@ one_gives : {D : Type 0} (of : Definitions D → Block) (fields : ℕ) (FitsName
     → IsMadeOf e (records_of name rows) → d ≡ e)
     → Gives of fields FitsName IsMadeOf rows a → Gives of fields FitsName IsMadeOf rows b → a ≡ b
 one_gives of fields FitsName IsMadeOf rows a b one p q =
-    p.2 ∙ ap of (one_given IsMadeOf rows p.1 q.1 (one p.0) p.3 q.3) ∙ sym q.2
+    p.is ∙ ap of (one_given IsMadeOf rows p.definitions q.definitions (one p.good) p.given q.given) ∙ sym q.is
 
 pub one_block : (k : Kind) (text : List ℕ) (a b : Block) → ReadsAs k text a → ReadsAs k text b → a ≡ b
 one_block kind.Applications text a b p q =

@@ -22,11 +22,12 @@ use Rattle.app_definitions.specs.declared.columns.TheConstants.{APPLICATION_FIEL
 use Rattle.app_definitions.specs.declared.columns.TheConstants.{PREDECESSOR_FIELDS, CYCLE_FIELDS}
 
 -- every record is good after those before it, and the block has the definitions that they give
-abbrev pub Gives : {D : Type 0} → (map.FinMap (slice_cmp nat_cmp) D → Block) → ℕ → (Records → Record → Type 0)
-    → (D → Records → Type 0) → Records → Block → Type 0
-Gives {D} of fields FitsName IsMadeOf rows b =
-    AllGood (FitsKind fields FitsName) rows × (definitions : map.FinMap (slice_cmp nat_cmp) D) × (b ≡ of definitions)
-    × AreGivenBy IsMadeOf definitions rows
+pub record Gives {D : Type 0} (of : map.FinMap (slice_cmp nat_cmp) D → Block) (fields : ℕ)
+    (FitsName : Records → Record → Type 0) (IsMadeOf : D → Records → Type 0) (rows : Records) (b : Block) : Type 0 where
+  pub good : AllGood (FitsKind fields FitsName) rows
+  pub definitions : map.FinMap (slice_cmp nat_cmp) D
+  pub is : b ≡ of definitions
+  pub given : AreGivenBy IsMadeOf definitions rows
 
 -- a text of that kind reads as the block
 abbrev pub ReadsAs : Kind → List ℕ → Block → Type 0

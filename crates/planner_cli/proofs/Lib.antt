@@ -5,7 +5,6 @@ pub mod OutcomeLemmas
 pub mod StoreLemmas
 pub mod PlanLemmas
 pub mod ChangeLemmas
-pub mod NameLemmas
 pub mod SoFar
 pub mod ServeLemmas
 pub mod ShownLists

@@ -31,7 +31,7 @@ use Rattle.planner_cli.specs.Rows.{AreDaysLines}
 use Rattle.planner_cli.specs.Steps.{Serves}
 use Rattle.planner_cli.specs.Verdicts.{FitsVerdict, IsKeptAnswer, answer_in, job_left, left_by}
 use Rattle.planner_cli.proofs.ChangeLemmas.{after_with_job, keeps_jobs}
-use Rattle.planner_cli.proofs.NameLemmas.{names_few}
+use Rattle.app_definitions.proofs.BlockNames.{names_few}
 
 -- what a job's step answers
 abbrev pub AnswersBoth : ℕ → List ℕ → MachineChange → Content → Reply → Content → Type 0

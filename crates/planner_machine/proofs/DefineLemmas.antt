@@ -75,54 +75,54 @@ by_option G P none some (Some d) given = some d given
 
 pub define_are : (k : Kind) (text : List ℕ) (block : Block) (all : Definitions) → AreDefinitions all
     → ReadsAs k text block → AreDefinitions (merged all block)
-define_are kind.Applications text block all are (good, more, is, given) =
-    subst (λ (b : Block). AreDefinitions (merged all b)) (sym is) (record {
-      applications = overlaid_definable APPLICATION_FIELDS FitsApplication IsApplicationOf all.applications more
-          (block_records text) are.applications good given;
+define_are kind.Applications text block all are gives =
+    subst (λ (b : Block). AreDefinitions (merged all b)) (sym gives.is) (record {
+      applications = overlaid_definable APPLICATION_FIELDS FitsApplication IsApplicationOf all.applications
+          gives.definitions (block_records text) are.applications gives.good gives.given;
       calendars = are.calendars;
       periods = are.periods;
       predecessors = are.predecessors;
       run_cycles = are.run_cycles;
       default_calendar = are.default_calendar;
     })
-define_are kind.Calendars text block all are (good, more, is, given) =
-    subst (λ (b : Block). AreDefinitions (merged all b)) (sym is) (record {
+define_are kind.Calendars text block all are gives =
+    subst (λ (b : Block). AreDefinitions (merged all b)) (sym gives.is) (record {
       applications = are.applications;
-      calendars = overlaid_definable CALENDAR_FIELDS FitsCalendar IsCalendarOf all.calendars more
-          (block_records text) are.calendars good given;
+      calendars = overlaid_definable CALENDAR_FIELDS FitsCalendar IsCalendarOf all.calendars gives.definitions
+          (block_records text) are.calendars gives.good gives.given;
       periods = are.periods;
       predecessors = are.predecessors;
       run_cycles = are.run_cycles;
       default_calendar = are.default_calendar;
     })
-define_are kind.Periods text block all are (good, more, is, given) =
-    subst (λ (b : Block). AreDefinitions (merged all b)) (sym is) (record {
+define_are kind.Periods text block all are gives =
+    subst (λ (b : Block). AreDefinitions (merged all b)) (sym gives.is) (record {
       applications = are.applications;
       calendars = are.calendars;
-      periods = overlaid_definable PERIOD_FIELDS FitsPeriod IsPeriodOf all.periods more
-          (block_records text) are.periods good given;
+      periods = overlaid_definable PERIOD_FIELDS FitsPeriod IsPeriodOf all.periods gives.definitions
+          (block_records text) are.periods gives.good gives.given;
       predecessors = are.predecessors;
       run_cycles = are.run_cycles;
       default_calendar = are.default_calendar;
     })
-define_are kind.Predecessors text block all are (good, more, is, given) =
-    subst (λ (b : Block). AreDefinitions (merged all b)) (sym is) (record {
+define_are kind.Predecessors text block all are gives =
+    subst (λ (b : Block). AreDefinitions (merged all b)) (sym gives.is) (record {
       applications = are.applications;
       calendars = are.calendars;
       periods = are.periods;
-      predecessors = overlaid_definable PREDECESSOR_FIELDS FitsPredecessors ArePredecessorsOf all.predecessors more
-          (block_records text) are.predecessors good given;
+      predecessors = overlaid_definable PREDECESSOR_FIELDS FitsPredecessors ArePredecessorsOf all.predecessors
+          gives.definitions (block_records text) are.predecessors gives.good gives.given;
       run_cycles = are.run_cycles;
       default_calendar = are.default_calendar;
     })
-define_are kind.RunCycles text block all are (good, more, is, given) =
-    subst (λ (b : Block). AreDefinitions (merged all b)) (sym is) (record {
+define_are kind.RunCycles text block all are gives =
+    subst (λ (b : Block). AreDefinitions (merged all b)) (sym gives.is) (record {
       applications = are.applications;
       calendars = are.calendars;
       periods = are.periods;
       predecessors = are.predecessors;
-      run_cycles = overlaid_definable CYCLE_FIELDS FitsRunCycle AreRunCyclesOf all.run_cycles more
-          (block_records text) are.run_cycles good given;
+      run_cycles = overlaid_definable CYCLE_FIELDS FitsRunCycle AreRunCyclesOf all.run_cycles gives.definitions
+          (block_records text) are.run_cycles gives.good gives.given;
       default_calendar = are.default_calendar;
     })
 define_are kind.Options text block all are (o, is, options) =

@@ -1,5 +1,6 @@
--- A block gives few names.
-use Rattle.std.proofs.Common.{◌≡◌, ◌∙◌, ◌+◌, ◌≤◌, ℕ, zero, suc, List, [], ◌∷◌, length, refl, sym, ap, arith, Bool, true, false, nat_eq}
+-- A block gives no more names than its text has bytes, and one.
+use Rattle.std.proofs.Common.{◌≡◌, ◌∙◌, ◌+◌, ◌≤◌, ℕ, zero, suc, List, [], ◌∷◌, length, refl, sym, ap, arith, Bool, true}
+use Rattle.std.proofs.Common.{false, nat_eq}
 use Rattle.std.specs.Prelude.{◌-◌, None, Option, Some, cond}
 use Rattle.std.specs.Cmp.Lexicographic.{pointwise, slice_cmp, nat_list_cmp_total}
 use Rattle.std.specs.FinMap as finite
@@ -20,6 +21,8 @@ use Rattle.app_definitions.specs.declared.kinds.Block.{Block}
 use Rattle.app_definitions.specs.declared.kinds.Block.TheVariants as block
 use Rattle.app_definitions.specs.declared.kinds.Kind.{Kind}
 use Rattle.app_definitions.specs.declared.kinds.Kind.TheVariants as kind
+use Rattle.app_definitions.specs.declared.columns.TheConstants.{APPLICATION_FIELDS, CALENDAR_FIELDS, PERIOD_FIELDS}
+use Rattle.app_definitions.specs.declared.columns.TheConstants.{PREDECESSOR_FIELDS, CYCLE_FIELDS}
 use Rattle.csv.specs.Machine.{Read, next_record}
 use Rattle.csv.specs.Reading.{default_config, is_bom, records_from, records_next, strip_bom}
 use Rattle.csv.specs.declared.parser.Config.{Config}
@@ -35,7 +38,8 @@ next_few more n few (Some p) = let h = few p.1 p.2 in omega (arith, h)
 from_few : (cfg : Config) (n : ℕ) (s : State) (xs : List ℕ) → length (records_from cfg n s xs) ≤ n
 unfolding records_from
 from_few cfg zero s xs = omega arith
-from_few cfg (suc n) s xs = let h = next_few (records_from cfg n) n (from_few cfg n) (next_record cfg s [] [] xs) in omega (arith, h)
+from_few cfg (suc n) s xs =
+    let h = next_few (records_from cfg n) n (from_few cfg n) (next_record cfg s [] [] xs) in omega (arith, h)
 
 stripped : (xs : List ℕ) → length (strip_bom xs) ≤ length xs
 unfolding strip_bom
@@ -49,7 +53,10 @@ stripped (a ∷ b ∷ c ∷ rest) = cut (is_bom a b c)
     cut false = omega arith
 
 pub few_records : (text : List ℕ) → length (block_records text) ≤ length text + 1
-few_records text = let short = stripped text in let few = from_few default_config (length (strip_bom text) + 1) start (strip_bom text) in omega (arith, few, short)
+few_records text =
+    let short = stripped text in
+    let few = from_few default_config (length (strip_bom text) + 1) start (strip_bom text) in
+    omega (arith, few, short)
 
 -- the definitions by name that a block has
 abbrev ByName : Type 0 → Type 0
@@ -59,7 +66,8 @@ ByName D = finite.FinMap (slice_cmp nat_cmp) D
 few_names : {D : Type 0} (rows : List (List (List ℕ))) (m : ByName D)
     → ((name : List ℕ) → records_of name rows ≡ [] → finite.get m name ≡ None) → finite.len m ≤ length rows
 few_names {D} [] m none =
-    let no_names : m ≡ finite.empty = same_by_name m finite.empty (λ q. none q refl ∙ sym (get-empty {X = D} (slice_cmp nat_cmp) q)) in
+    let no_names : m ≡ finite.empty =
+    same_by_name m finite.empty (λ q. none q refl ∙ sym (get-empty {X = D} (slice_cmp nat_cmp) q)) in
     let no : finite.len m ≡ 0 = ap finite.len no_names ∙ len-empty (slice_cmp nat_cmp) D in
     omega (arith, no)
 few_names {D} (row ∷ rest) m none =
@@ -86,22 +94,29 @@ given_absent IsMadeOf (Some d) rows h e = absurd (h.0 e)
 
 given_few : {D : Type 0} (IsMadeOf : D → List (List (List ℕ)) → Type 0) (m : ByName D) (rows : List (List (List ℕ)))
     → AreGivenBy IsMadeOf m rows → finite.len m ≤ length rows
-given_few IsMadeOf m rows given = few_names rows m (λ name. given_absent IsMadeOf (finite.get m name) (records_of name rows) (given name))
+given_few IsMadeOf m rows given =
+    few_names rows m (λ name. given_absent IsMadeOf (finite.get m name) (records_of name rows) (given name))
 
 gives_few : {D : Type 0} (of : ByName D → Block) (fields : ℕ) (FitsName : List (List (List ℕ)) → List (List ℕ) → Type 0)
-    (IsMadeOf : D → List (List (List ℕ)) → Type 0) (text : List ℕ) (b : Block) → ((m : ByName D) → names_given (of m) ≡ finite.len m)
+    (IsMadeOf : D → List (List (List ℕ)) → Type 0) (text : List ℕ) (b : Block)
+    → ((m : ByName D) → names_given (of m) ≡ finite.len m)
     → Gives of fields FitsName IsMadeOf (block_records text) b → names_given b ≤ length text + 1
-gives_few of fields FitsName IsMadeOf text b counts (good, m, is, given) =
-    let names : names_given b ≡ finite.len m = ap names_given is ∙ counts m in
-    let few = given_few IsMadeOf m (block_records text) given in
+gives_few of fields FitsName IsMadeOf text b counts gives =
+    let names : names_given b ≡ finite.len gives.definitions =
+    ap names_given gives.is ∙ counts gives.definitions in
+    let few = given_few IsMadeOf gives.definitions (block_records text) gives.given in
     let records = few_records text in
     omega (arith, names, few, records)
 
 -- a block has no more names than its text has bytes, and one
 pub names_few : (k : Kind) (text : List ℕ) (b : Block) → ReadsAs k text b → names_given b ≤ length text + 1
-names_few kind.Applications text b h = gives_few block.Applications 3 FitsApplication IsApplicationOf text b (λ m. refl) h
-names_few kind.Calendars text b h = gives_few block.Calendars 3 FitsCalendar IsCalendarOf text b (λ m. refl) h
-names_few kind.Periods text b h = gives_few block.Periods 4 FitsPeriod IsPeriodOf text b (λ m. refl) h
-names_few kind.Predecessors text b h = gives_few block.Predecessors 2 FitsPredecessors ArePredecessorsOf text b (λ m. refl) h
-names_few kind.RunCycles text b h = gives_few block.RunCycles 11 FitsRunCycle AreRunCyclesOf text b (λ m. refl) h
+names_few kind.Applications text b h =
+    gives_few block.Applications APPLICATION_FIELDS FitsApplication IsApplicationOf text b (λ m. refl) h
+names_few kind.Calendars text b h =
+    gives_few block.Calendars CALENDAR_FIELDS FitsCalendar IsCalendarOf text b (λ m. refl) h
+names_few kind.Periods text b h = gives_few block.Periods PERIOD_FIELDS FitsPeriod IsPeriodOf text b (λ m. refl) h
+names_few kind.Predecessors text b h =
+    gives_few block.Predecessors PREDECESSOR_FIELDS FitsPredecessors ArePredecessorsOf text b (λ m. refl) h
+names_few kind.RunCycles text b h =
+    gives_few block.RunCycles CYCLE_FIELDS FitsRunCycle AreRunCyclesOf text b (λ m. refl) h
 names_few kind.Options text b h = let one : names_given b ≡ 1 = ap names_given h.1 in omega (arith, one)
