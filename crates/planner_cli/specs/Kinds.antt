@@ -1,6 +1,10 @@
--- The kind of definitions that a statement names.
+-- The kind of definitions, and the listing, that a statement names.
 use Rattle.statements.specs.declared.words.KindWord.{KindWord}
 use Rattle.statements.specs.declared.words.KindWord.TheVariants as word
+use Rattle.statements.specs.declared.words.Listed.{Listed}
+use Rattle.statements.specs.declared.words.Listed.TheVariants as listed
+use Rattle.plan_store.specs.declared.listings.What.{What}
+use Rattle.plan_store.specs.declared.listings.What.TheVariants as what
 use Rattle.app_definitions.specs.declared.kinds.Kind.{Kind}
 use Rattle.app_definitions.specs.declared.kinds.Kind.TheVariants as kind
 
@@ -11,3 +15,10 @@ definitions_kind word.Applications = kind.Applications
 definitions_kind word.RunCycles = kind.RunCycles
 definitions_kind word.Predecessors = kind.Predecessors
 definitions_kind word.Options = kind.Options
+
+abbrev pub what_of : Listed → What
+what_of listed.Ltp = what.Ltp
+what_of listed.Cp = what.Cp
+what_of listed.History = what.History
+what_of listed.Deletions = what.Deletions
+what_of listed.Dependencies = what.Dependencies

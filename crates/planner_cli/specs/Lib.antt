@@ -11,6 +11,9 @@ pub mod Stores
 pub mod Verdicts
 pub mod Meaning
 pub mod Faults
+pub mod Lists
 pub mod Runs
+pub mod Sinks
+pub mod Writes
 pub mod Plans
 pub mod Reruns

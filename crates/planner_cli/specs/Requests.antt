@@ -1,10 +1,10 @@
 -- What a line asks of the planner.
-use Rattle.std.specs.Prelude.{ℕ, List, Option, Some}
+use Rattle.std.specs.Prelude.{ℕ, List, None, Option, Some}
 use Rattle.occurrences.specs.declared.key.Key.{Key}
 use Rattle.planner_machine.specs.Statement.{Act, Add, AddCurrent, Change, Create, DailyExtend, Delete, Extend, ModifyAll, ModifyOne, Replan, Undefine}
 use Rattle.statements.specs.declared.statements.Statement.{Statement}
 use Rattle.statements.specs.declared.statements.Statement.TheVariants as statement
-use Rattle.planner_cli.specs.Kinds.{definitions_kind}
+use Rattle.planner_cli.specs.Kinds.{definitions_kind, what_of}
 use Rattle.planner_cli.specs.declared.requests.ChangeRequest.{ChangeRequest}
 use Rattle.planner_cli.specs.declared.requests.ChangeRequest.TheVariants as change
 use Rattle.planner_cli.specs.declared.requests.DailyRequest.{DailyRequest}
@@ -18,7 +18,7 @@ use Rattle.planner_cli.specs.declared.requests.Request.TheVariants as request
 abbrev pub key_of : List ℕ → ℕ → Key
 key_of app ia = record { ia = ia; app = app }
 
--- what a statement asks. Those that are not served yet ask nothing, as a line that is no statement
+-- what a statement asks
 abbrev pub request_of : Option Statement → Request
 request_of (Some (statement.Define kind job)) = request.Define job (definitions_kind kind)
 request_of (Some (statement.Days app from to)) = request.Days app from to
@@ -39,7 +39,15 @@ request_of (Some statement.LtpTrialModifyAll) = request.PlanTrial plan.ModifyAll
 request_of (Some (statement.LtpTrialModifyOne app)) = request.PlanTrial (plan.ModifyOne app)
 request_of (Some (statement.DpTrialExtend to)) = request.DailyTrial (daily.ExtendTo to)
 request_of (Some statement.DpTrialReplan) = request.DailyTrial daily.Replan
-request_of _ = request.NotServed
+request_of (Some (statement.List listed)) = request.List (what_of listed)
+request_of (Some (statement.ListApp listed app)) = request.ListApp (what_of listed) app
+request_of None = request.NotServed
+
+-- a statement that prints a listing while it is read
+abbrev pub IsNoList : Request → Type 0
+IsNoList (request.List what) = ⊥
+IsNoList (request.ListApp what app) = ⊥
+IsNoList asked = Unit {0}
 
 -- the change of the planner's machine that a request asks for
 abbrev pub plan_change : PlanRequest → Change

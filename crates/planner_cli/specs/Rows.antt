@@ -6,7 +6,9 @@ use Rattle.run_cycles.specs.declared.named.Named.{Named}
 use Rattle.plan_listings.specs.Days.{IsDaysLine}
 use Rattle.plan_listings.specs.Line.{AreLinesOf}
 use Rattle.plan_listings.specs.Report.{IsSignedText, daily_sign, plan_sign}
+use Rattle.plan_listings.specs.Row.{IsMarkedText, IsPairText, IsRowText}
 use Rattle.plan_listings.specs.declared.report.Signed.{Signed}
+use Rattle.plan_store.specs.Listings.{Linked, Marked, Plain, Shown}
 use Rattle.planner_machine.specs.Content.{Content}
 use Rattle.planner_machine.specs.Shown.{DailyChange, DailyMark, PlanChange, PlanMark, ShowsDaily, ShowsPlan, TrialShows}
 use Rattle.planner_machine.specs.Shown.{WouldBeCarried, WouldBeDeleted, WouldBeHistory, WouldBeMade, WouldBeMoved}
@@ -57,3 +59,9 @@ ShowsTrial (ModifyOne app) c reply rows = ShowsPlanTrial (ModifyOne app) c reply
 ShowsTrial (DailyExtend to) c reply rows = ShowsDailyTrial (DailyExtend to) c reply rows
 ShowsTrial Replan c reply rows = ShowsDailyTrial Replan c reply rows
 ShowsTrial change c reply rows = ⊥
+
+-- the line of what a listing shows
+abbrev pub IsShownText : Shown → List ℕ → Type 0
+IsShownText (Plain row) line = IsRowText row line
+IsShownText (Marked row letter) line = IsMarkedText row letter line
+IsShownText (Linked successor predecessor) line = IsPairText successor predecessor line

@@ -1,8 +1,10 @@
 -- What a run leaves: all answers, or those before a fault.
-use Rattle.std.specs.Prelude.{◌≡◌, ◌⊎◌, ℕ, ◌≤◌, List, ◌∷◌, ◌++◌, IfSome, Option, None, Some, length, take}
-use Rattle.std.specs.Io.KnownBytes.{Appends, Keeps}
+use Rattle.std.specs.Prelude.{◌≡◌, ◌⊎◌, ℕ, ◌≤◌, List, ◌∷◌, ◌++◌, IfSome, Option, None, Some, flat_map, length, take}
+use Rattle.std.specs.Io.KnownBytes.{Appends}
+use Rattle.planner_machine.specs.Content.{Content}
 use Rattle.stream_items.specs.Items.{Item, items_of}
-use Rattle.planner_cli.specs.Replies.{Reply, printed, prints}
+use Rattle.planner_cli.specs.Lists.{BeginsInHand, ListsInHand}
+use Rattle.planner_cli.specs.Replies.{Reply, ended, printed, prints}
 use Rattle.planner_cli.specs.Meaning.{Answers, StepOf, tally_of}
 use Rattle.planner_cli.specs.Faults.{cause_of, tally_in}
 use Rattle.planner_cli.specs.declared.tally.Tally.{Tally}
@@ -39,25 +41,37 @@ abbrev pub IsCutOff : {S : Type 0} (Step : StepOf S) → S → Option Item → S
 IsCutOff Step s hand t tail =
     (item : Item) × (hand ≡ Some item) × ((reply : Reply) × Step s item reply t × IsFrontOf tail (printed reply))
 
+-- nothing is changed, and these bytes are a front of the first lines of a listing
+abbrev pub IsListCutOff : Content → Option Item → Content → List ℕ → Type 0
+IsListCutOff s hand t tail =
+    (t ≡ s) × ((lines : List (List ℕ)) × ListsInHand s hand lines × IsFrontOf tail (flat_map ended lines))
+
+-- the first lines of a listing, if the item in hand is one, and then a front of the line that tells the fault
+abbrev pub TellsAfterRows : Content → Option Item → (line tail : List ℕ) → Type 0
+TellsAfterRows s hand line tail =
+    (front : List ℕ) × (last : List ℕ) × (tail ≡ front ++ last) × BeginsInHand s hand front × IsFrontOf last line
+
 -- how a run ended after the answers, where `between` was known and this item was in hand, if one was: with a front of
--- the line that tells the fault, and nothing changed. Where the store failed, the item's change may be made; where the
--- writer failed, it is, and a front of its answer is written
-abbrev pub EndsBy : {S : Type 0} (Step : StepOf S)
-    → Cause → (line : List ℕ) → (between t : S) → (hand : Option Item) → (tail : List ℕ) → Type 0
-EndsBy Step Memory line between t hand tail = (t ≡ between) × IsFrontOf tail line
+-- the line that tells the fault, and nothing changed. Where the item in hand is `list`, its first lines may stand
+-- before. Where the store failed, the item's change may be made; where the writer failed, it is, and a front of its
+-- answer is written
+abbrev pub EndsBy : (Step : StepOf Content)
+    → Cause → (line : List ℕ) → (between t : Content) → (hand : Option Item) → (tail : List ℕ) → Type 0
+EndsBy Step Memory line between t hand tail = (t ≡ between) × TellsAfterRows between hand line tail
 EndsBy Step (Device Store) line between t hand tail =
-    ((t ≡ between) ⊎ LeavesInHand Step between hand t) × IsFrontOf tail line
+    ((t ≡ between) ⊎ LeavesInHand Step between hand t) × TellsAfterRows between hand line tail
 EndsBy Step (Device Reader) line between t hand tail = (t ≡ between) × IsFrontOf tail line
-EndsBy Step (Device Writer) line between t hand tail = IsCutOff Step between hand t tail
+EndsBy Step (Device Writer) line between t hand tail =
+    IsCutOff Step between hand t tail ⊎ IsListCutOff between hand t tail
 
 -- a run that a fault ended: the items in `done` are answered, and counted. Where the reader tells its bytes, they read
 -- as these items, the one in hand, and others
-pub record Stopped {S : Type 0} (Step : StepOf S) (line : Cause → List ℕ) (s t : S) (old new told : Option (List ℕ))
+pub record Stopped (Step : StepOf Content) (line : Cause → List ℕ) (s t : Content) (old new told : Option (List ℕ))
     (fault : RunFault) : Type 0 where
   pub done : List Item
   pub hand : Option Item
   pub replies : List Reply
-  pub between : S
+  pub between : Content
   pub tail : List ℕ
   pub read : IfSome told (λ text. (rest : List Item) × (items_of text ≡ done ++ with_hand hand rest))
   pub answers : Answers Step s done replies between
@@ -66,11 +80,14 @@ pub record Stopped {S : Type 0} (Step : StepOf S) (line : Cause → List ℕ) (s
   pub tally_is : tally_in fault ≡ tally_of replies
 
 -- one item was not answered: want of memory changes nothing; a store that fails may have made its change; a writer that
--- fails has taken a front of the answer, and the change is made
-abbrev pub ItemBreaks : {S : Type 0} (Step : StepOf S)
-    → Cause → S → S → Option (List ℕ) → Option (List ℕ) → Item → Type 0
-ItemBreaks Step Memory s t old new item = (t ≡ s) × Keeps old new
-ItemBreaks Step (Device Store) s t old new item = ((t ≡ s) ⊎ LeavesInHand Step s (Some item) t) × Keeps old new
+-- fails has taken a front of the answer, and the change is made. Of `list` the first lines may be written
+abbrev pub ItemBreaks : (Step : StepOf Content)
+    → Cause → Content → Content → Option (List ℕ) → Option (List ℕ) → Item → Type 0
+ItemBreaks Step Memory s t old new item =
+    (t ≡ s) × ((front : List ℕ) × BeginsInHand s (Some item) front × Appends old new front)
+ItemBreaks Step (Device Store) s t old new item =
+    ((t ≡ s) ⊎ LeavesInHand Step s (Some item) t)
+    × ((front : List ℕ) × BeginsInHand s (Some item) front × Appends old new front)
 ItemBreaks Step (Device Reader) s t old new item = ⊥
 ItemBreaks Step (Device Writer) s t old new item =
-    (tail : List ℕ) × IsCutOff Step s (Some item) t tail × Appends old new tail
+    (tail : List ℕ) × (IsCutOff Step s (Some item) t tail ⊎ IsListCutOff s (Some item) t tail) × Appends old new tail

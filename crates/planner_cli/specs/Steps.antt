@@ -1,22 +1,28 @@
 -- The step of the planner: what an item is answered, and the content after it.
 use Rattle.std.specs.Prelude.{◌≡◌, ℕ, List, [], Option, None, Some, Ok}
 use Rattle.occurrences.specs.declared.refusal.Refusal.TheVariants.{NotAStatement}
+use Rattle.plan_listings.specs.Line.{AreLinesOf}
+use Rattle.plan_store.specs.Listings.{ShowPairs, ShowRows, Shown}
 use Rattle.run_cycles.specs.declared.named.Named.{Named}
 use Rattle.planner_machine.specs.Content.{Content}
 use Rattle.planner_machine.specs.Days.{ListsDays}
-use Rattle.planner_machine.specs.Statement.{Answer, Days, Statement, Steps, Trial}
+use Rattle.planner_machine.specs.Statement.{Answer, Days, ListPairs, ListRows, Statement, Steps, Trial}
 use Rattle.planner_machine.specs.Stream.{IsStatement}
 use Rattle.stream_items.specs.Items.{Item}
 use Rattle.planner_cli.specs.Asked.{Asks}
 use Rattle.planner_cli.specs.Outcomes.{answer_text, refusing}
 use Rattle.planner_cli.specs.Replies.{Reply}
-use Rattle.planner_cli.specs.Rows.{AreDaysLines, ShowsTrial}
+use Rattle.planner_cli.specs.Rows.{AreDaysLines, IsShownText, ShowsTrial}
 
 -- the rows that a statement prints before its reply line
 abbrev pub ShowsRows : Statement → Content → Answer → List (List ℕ) → Type 0
 ShowsRows (Days app from to) c (Ok reply) rows =
     (shown : List Named) × ListsDays c.definitions app from to shown × AreDaysLines shown rows
 ShowsRows (Trial change) c (Ok reply) rows = ShowsTrial change c reply rows
+ShowsRows (ListRows listed app) c (Ok reply) rows =
+    (items : List Shown) × ShowRows listed app c items × AreLinesOf IsShownText items rows
+ShowsRows (ListPairs app) c (Ok reply) rows =
+    (items : List Shown) × ShowPairs app c items × AreLinesOf IsShownText items rows
 ShowsRows statement c answer rows = rows ≡ []
 
 -- a statement is answered by a step of the planner's machine, and the reply prints its rows and its answer

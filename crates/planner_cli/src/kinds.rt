@@ -1,9 +1,10 @@
-//! Kinds of definitions, as a statement names them.
+//! Kinds of definitions and listings, as a statement names them.
 ghost use Rattle.std.specs.Prelude.{◌≡◌};
-ghost use Rattle.planner_cli.specs.Kinds.{definitions_kind};
+ghost use Rattle.planner_cli.specs.Kinds.{definitions_kind, what_of};
 
 use app_definitions::Kind;
-use statements::KindWord;
+use plan_store::What;
+use statements::{KindWord, Listed};
 
 /// The kind of definitions that a statement's word names.
 pub fn definitions_kind(word: KindWord) -> Kind
@@ -16,5 +17,18 @@ pub fn definitions_kind(word: KindWord) -> Kind
         KindWord::RunCycles => Kind::RunCycles,
         KindWord::Predecessors => Kind::Predecessors,
         KindWord::Options => Kind::Options,
+    }
+}
+
+/// The listing that a statement's word names.
+pub fn what_of(listed: Listed) -> What
+    ensures { result ≡ what_of listed }
+{
+    match listed {
+        Listed::Ltp => What::Ltp,
+        Listed::Cp => What::Cp,
+        Listed::History => What::History,
+        Listed::Deletions => What::Deletions,
+        Listed::Dependencies => What::Dependencies,
     }
 }

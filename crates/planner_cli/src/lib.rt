@@ -15,6 +15,7 @@ mod faults;
 mod jobs;
 mod kinds;
 mod laws;
+mod lists;
 mod requests;
 mod rows;
 mod steps;

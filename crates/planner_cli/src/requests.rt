@@ -5,9 +5,10 @@ ghost use Rattle.statements.specs.declared.statements.Statement.{Statement as St
 ghost use Rattle.planner_machine.specs.Laws.{IsWellFormed};
 ghost use Rattle.planner_cli.specs.Requests.{change_of, plan_change, request_of};
 
-use crate::kinds::definitions_kind;
+use crate::kinds::{definitions_kind, what_of};
 use app_definitions::Kind;
 use occurrences::{Action, Key};
+use plan_store::What;
 use statements::{JobNumber, Statement, read_statement};
 use std::alloc::{AllocError, Global};
 use work_calendars::{App, Day, Moment, Name};
@@ -56,7 +57,7 @@ pub enum ChangeRequest {
 /// What a line asks of the planner.
 #[derive(Clone, Copy, Debug)]
 pub enum Request {
-    /// The line is no statement, or one that isn't served yet.
+    /// The line is no statement.
     NotServed,
     /// To take in the definitions of a kind, from the data after it.
     Define {
@@ -78,6 +79,10 @@ pub enum Request {
     PlanTrial(PlanRequest),
     /// What a daily plan would do.
     DailyTrial(DailyRequest),
+    /// A listing.
+    List { what: What },
+    /// A listing of one application.
+    ListApp { what: What, app: App },
 }
 
 /// What a statement asks of the planner, or what a line that is none does.
@@ -177,7 +182,14 @@ fn request_of(read: &Option<Statement>) -> Request
             Request::DailyTrial(DailyRequest::ExtendTo { to: *to })
         }
         Some(Statement::DpTrialReplan) => Request::DailyTrial(DailyRequest::Replan),
-        _ => Request::NotServed,
+        Some(Statement::List { what }) => Request::List {
+            what: what_of(*what),
+        },
+        Some(Statement::ListApp { what, app }) => Request::ListApp {
+            what: what_of(*what),
+            app: *app,
+        },
+        None => Request::NotServed,
     }
 }
 

@@ -3,10 +3,10 @@ ghost use Rattle.std.specs.Prelude.{◌≡◌, ◌≤◌, Some, length};
 ghost use Rattle.planner_machine.specs.Sound.{IsSound};
 ghost use Rattle.planner_machine.specs.Statement.{DefineJob, Job as JobStatement};
 ghost use Rattle.statements.specs.JobNumber.{IsJobNumber};
-ghost use Rattle.stream_items.specs.Items.{Alone, WithBlock, longest_block};
-ghost use Rattle.stream_items.specs.Pages.{block_shown, item_of, Fits, FitsBlock};
+ghost use Rattle.stream_items.specs.Items.{WithBlock, longest_block};
+ghost use Rattle.stream_items.specs.Pages.{block_shown, Fits};
 ghost use Rattle.planner_cli.specs.Asked.{asked_alone, asked_with, define_asked};
-ghost use Rattle.planner_cli.specs.Requests.{change_of};
+ghost use Rattle.planner_cli.specs.Requests.{IsNoList, change_of};
 ghost use Rattle.planner_cli.specs.Steps.{AnswersAsked, Serves, Step};
 ghost use Rattle.planner_cli.specs.Stores.{AnswersBy};
 ghost use Rattle.planner_cli.specs.Texts as texts;
@@ -24,51 +24,18 @@ use plan_store::{PlanStore, StoreFault};
 use planner_machine::JobText;
 use statement_words::joined_words;
 use std::alloc::Global;
-use stream_items::{Block, Item};
+use stream_items::Block;
 
-/// Answers an item by a step of the planner. The reply is made before anything is changed; where memory for it is
-/// refused, nothing is.
-pub(crate) fn answer_item<S: PlanStore>(
-    alloc: Global,
-    store: &mut S,
-    item: Item<'_>,
-) -> Result<Printed, StoreFault>
-    requires fits { FitsBlock item }
-    requires sound { S.is_honest store.old → IsSound (S.content store.old) }
-    ensures { AnswersBy S.is_honest S.content S.failures store.old store.new result
-        (Step (S.content store.old) (item_of item.entry)) }
-{
-    match item {
-        Item::NoStatement => told(alloc, &Err(Refusal::NotAStatement)),
-        Item::Alone(line) => answer_alone(alloc, store, line),
-        Item::WithBlock(line, block) => answer_with_data(alloc, store, line, block),
-    }
-}
-
-// Answers a line without data.
-fn answer_alone<S: PlanStore>(
-    alloc: Global,
-    store: &mut S,
-    line: &[u8],
-) -> Result<Printed, StoreFault>
-    requires { S.is_honest store.old → IsSound (S.content store.old) }
-    ensures { AnswersBy S.is_honest S.content S.failures store.old store.new result
-        (Step (S.content store.old) (Alone line.now)) }
-{
-    match request_in(alloc, line) {
-        Ok(request) => answer_request(alloc, store, line, &request),
-        Err(_) => Err(StoreFault::Memory),
-    }
-}
-
-// Answers what a line without data asks.
-fn answer_request<S: PlanStore>(
+/// Answers what a line without data asks, where it is no listing. The reply is made before anything is changed; where
+/// memory for it is refused, nothing is.
+pub(crate) fn answer_request<S: PlanStore>(
     alloc: Global,
     store: &mut S,
     line: &[u8],
     request: &Request,
 ) -> Result<Printed, StoreFault>
-    requires { S.is_honest store.old → IsSound (S.content store.old) }
+    requires printed { IsNoList request.now }
+    requires sound { S.is_honest store.old → IsSound (S.content store.old) }
     ensures { AnswersBy S.is_honest S.content S.failures store.old store.new result
         (AnswersAsked (asked_alone line.now request.now) (S.content store.old)) }
 {
@@ -84,6 +51,7 @@ fn answer_request<S: PlanStore>(
         }
         Request::PlanTrial(plan) => answer_plan_trial(alloc, store, plan),
         Request::DailyTrial(daily) => answer_daily_trial(alloc, store, daily),
+        Request::List { .. } | Request::ListApp { .. } => unreachable!(),
     }
 }
 
@@ -110,8 +78,8 @@ fn answer_change<S: PlanStore>(
     }
 }
 
-// Answers a line with data.
-fn answer_with_data<S: PlanStore>(
+/// Answers a line with data.
+pub(crate) fn answer_with_data<S: PlanStore>(
     alloc: Global,
     store: &mut S,
     line: &[u8],
@@ -150,6 +118,8 @@ fn answer_data_request<S: PlanStore>(
         Request::Change { .. } => told(alloc, &Err(Refusal::NotAStatement)),
         Request::PlanTrial(_) => told(alloc, &Err(Refusal::NotAStatement)),
         Request::DailyTrial(_) => told(alloc, &Err(Refusal::NotAStatement)),
+        Request::List { .. } => told(alloc, &Err(Refusal::NotAStatement)),
+        Request::ListApp { .. } => told(alloc, &Err(Refusal::NotAStatement)),
     }
 }
 

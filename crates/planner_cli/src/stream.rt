@@ -2,20 +2,26 @@
 ghost use Rattle.std.specs.Prelude.{◌≡◌, ◌≤◌, ℕ, List, [], length, take, IfOk, IfErr};
 ghost use Rattle.std.specs.Io.KnownBytes.{Appends};
 ghost use Rattle.planner_machine.specs.Sound.{IsSound};
+ghost use Rattle.stream_items.specs.Items.{Alone};
 ghost use Rattle.stream_items.specs.Pages.{item_of, FitsBlock};
+ghost use Rattle.planner_cli.specs.Asked.{Asks, asked_alone};
 ghost use Rattle.planner_cli.specs.Faults.{cause_of, fault_line, status_of};
 ghost use Rattle.planner_cli.specs.Plans.{RanPlan, StoppedPlan};
-ghost use Rattle.planner_cli.specs.Replies.{Answered};
-ghost use Rattle.planner_cli.specs.Runs.{ItemBreaks, Ran, Stopped};
+ghost use Rattle.planner_cli.specs.Runs.{Ran, Stopped};
 ghost use Rattle.planner_cli.specs.Steps.{Step};
 ghost use Rattle.planner_cli.specs.Stores.{IsBlamed};
+ghost use Rattle.planner_cli.specs.Writes.{AnswersItem};
 ghost use Rattle.planner_cli.specs.declared.faults.Cause.TheVariants.{Device};
 ghost use Rattle.planner_cli.specs.declared.faults.Part.TheVariants.{Store};
 
-use crate::faults::{Cause, Part, RunFault, cause_of_read, cause_of_store};
-use crate::steps::answer_item;
+use crate::faults::{Cause, Part, RunFault, cause_of_read};
+use crate::answers::told;
+use crate::lists::answer_list;
+use crate::requests::{Request, request_in};
+use crate::steps::{answer_request, answer_with_data};
 use crate::tally::Tally;
-use crate::writing::write_out;
+use crate::writing::{write_answer, write_out};
+use occurrences::Refusal;
 use plan_store::PlanStore;
 use planner_machine::streams;
 use std::alloc::Global;
@@ -94,8 +100,8 @@ fn answer_all<S: PlanStore, R: BufRead, W: Write>(
     Err(RunFault::new(Cause::Device(Part::Reader), tally))
 }
 
-/// Answers one item: the reply is made, then the store changes, then the reply is written and flushed. Tells whether it
-/// was accepted.
+/// Answers one item: the reply is made, then the store changes, then the reply is written and flushed. The rows of a
+/// listing are written as the store hands them out. Tells whether the item was accepted.
 fn answer_one<S: PlanStore, W: Write>(
     alloc: Global,
     store: &mut S,
@@ -104,24 +110,67 @@ fn answer_one<S: PlanStore, W: Write>(
 ) -> Result<bool, Cause>
     requires fits { FitsBlock item }
     requires sound { S.is_honest store.old → IsSound (S.content store.old) }
-    ensures ok { S.is_honest store.new → IfOk result (λ accepted. (text : List ℕ)
-        × Answered (Step (S.content store.old) (item_of item.entry)) (S.content store.new) text accepted
-        × Appends (W.contents writer.old) (W.contents writer.new) text) }
-    ensures err { S.is_honest store.new → IfErr result (λ cause.
-        ItemBreaks Step cause (S.content store.old) (S.content store.new)
-        (W.contents writer.old) (W.contents writer.new) (item_of item.entry)) }
-    ensures blames { IfErr result (λ cause. cause ≡ Device Store
-        → IsBlamed (S.failures store.old) (S.failures store.new)) }
-    ensures counts { S.failures store.old ≤ S.failures store.new }
-    ensures honest { S.is_honest store.new → S.is_honest store.old }
+    ensures { AnswersItem S.is_honest S.content S.failures store.old store.new
+        (W.contents writer.old) (W.contents writer.new) (item_of item.entry) result }
 {
-    let printed = match answer_item(alloc, store, item) {
-        Ok(printed) => printed,
-        Err(fault) => return Err(cause_of_store(fault)),
-    };
-    write_out(writer, &printed.text)?;
-    Ok(printed.is_accepted)
+    match item {
+        Item::NoStatement => {
+            let answered = told(alloc, &Err(Refusal::NotAStatement));
+            write_answer(writer, answered)
+        }
+        Item::Alone(line) => answer_alone(alloc, store, line, writer),
+        Item::WithBlock(line, block) => {
+            let answered = answer_with_data(alloc, store, line, block);
+            write_answer(writer, answered)
+        }
+    }
 }
+
+/// Answers a line without data.
+fn answer_alone<S: PlanStore, W: Write>(
+    alloc: Global,
+    store: &mut S,
+    line: &[u8],
+    writer: &mut W,
+) -> Result<bool, Cause>
+    requires { S.is_honest store.old → IsSound (S.content store.old) }
+    ensures { AnswersItem S.is_honest S.content S.failures store.old store.new
+        (W.contents writer.old) (W.contents writer.new) (Alone line.now) result }
+{
+    match request_in(alloc, line) {
+        Ok(request) => answer_asked(alloc, store, line, &request, writer),
+        Err(_) => Err(Cause::Memory),
+    }
+}
+
+/// Answers what a line without data asks.
+fn answer_asked<S: PlanStore, W: Write>(
+    alloc: Global,
+    store: &mut S,
+    line: &[u8],
+    request: &Request,
+    writer: &mut W,
+) -> Result<bool, Cause>
+    requires asks { Asks (Alone line.now) (asked_alone line.now request.now) }
+    requires sound { S.is_honest store.old → IsSound (S.content store.old) }
+    ensures { AnswersItem S.is_honest S.content S.failures store.old store.new
+        (W.contents writer.old) (W.contents writer.new) (Alone line.now) result }
+{
+    match request {
+        Request::List { what } => answer_list(alloc, store, line, *what, None, writer),
+        Request::ListApp { what, app } => answer_list(alloc, store, line, *what, Some(app), writer),
+        Request::NotServed
+        | Request::Define { .. }
+        | Request::Days { .. }
+        | Request::Change { .. }
+        | Request::PlanTrial(_)
+        | Request::DailyTrial(_) => {
+            let answered = answer_request(alloc, store, line, request);
+            write_answer(writer, answered)
+        }
+    }
+}
+
 /// Writes the line that tells a fault, as far as the writer takes it.
 fn tell_fault<W: Write>(writer: &mut W, cause: Cause)
     ensures { (n : ℕ) × (n ≤ length (fault_line cause))

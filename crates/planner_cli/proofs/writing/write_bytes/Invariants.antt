@@ -1,7 +1,7 @@
 -- what was written so far is the front of the bytes
 use Rattle.std.proofs.Common.{◌-◌, ◌≤◌, length, take}
 use Rattle.std.specs.Io.KnownBytes.{Appends}
-use Rattle.planner_cli.proofs.writing.write_out.Given as goal
+use Rattle.planner_cli.proofs.writing.write_bytes.Given as goal
 
 abbrev pub invariant-loop-written : goal.invariant-loop-written
 invariant-loop-written g l = (l.written ≤ length l.bytes) × Appends (g.W.Write.contents l.initial.writer) (g.W.Write.contents l.writer) (take l.written l.bytes)

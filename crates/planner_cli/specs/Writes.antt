@@ -1,0 +1,37 @@
+-- What a call that answers an item does to a store and a writer.
+use Rattle.std.specs.Prelude.{◌≡◌, ℕ, ◌≤◌, Bool, Err, IfErr, IfOk, List, Ok, Option, Result}
+use Rattle.std.specs.Io.KnownBytes.{Appends, Keeps}
+use Rattle.plan_store.specs.declared.stores.StoreFault.{StoreFault}
+use Rattle.planner_machine.specs.Content.{Content}
+use Rattle.stream_items.specs.Items.{Item}
+use Rattle.planner_cli.specs.Faults.{store_cause}
+use Rattle.planner_cli.specs.Replies.{Answered}
+use Rattle.planner_cli.specs.Runs.{IsFrontOf, ItemBreaks}
+use Rattle.planner_cli.specs.Steps.{Step}
+use Rattle.planner_cli.specs.Stores.{IsBlamed}
+use Rattle.planner_cli.specs.declared.answers.Printed.{Printed}
+use Rattle.planner_cli.specs.declared.faults.Cause.{Cause}
+use Rattle.planner_cli.specs.declared.faults.Cause.TheVariants.{Device}
+use Rattle.planner_cli.specs.declared.faults.Part.TheVariants.{Store, Writer}
+
+-- an item is answered by a step of the planner, and what its reply prints is written; or a fault ends the run
+pub record AnswersItem {S : Type 0} (is_honest : S → Type 0) (content : S → Content) (failures : S → ℕ) (before now : S)
+    (old new : Option (List ℕ)) (item : Item) (result : Result Bool Cause) : Type 0 where
+  pub ok : is_honest now → IfOk result (λ accepted. (text : List ℕ)
+      × Answered (Step (content before) item) (content now) text accepted × Appends old new text)
+  pub err : is_honest now
+      → IfErr result (λ cause. ItemBreaks Step cause (content before) (content now) old new item)
+  pub blames : IfErr result (λ cause. cause ≡ Device Store → IsBlamed (failures before) (failures now))
+  pub counts : failures before ≤ failures now
+  pub honest : is_honest now → is_honest before
+
+-- an answer that was made is written, and this is whether it is accepted
+abbrev pub IsWritten : Result Printed StoreFault → Option (List ℕ) → Option (List ℕ) → Bool → Type 0
+IsWritten (Ok printed) old new accepted = Appends old new printed.text.items × (accepted ≡ printed.is_accepted)
+IsWritten (Err fault) old new accepted = ⊥
+
+-- an answer that was made is written in part, or none was made
+abbrev pub IsUnwritten : Result Printed StoreFault → Option (List ℕ) → Option (List ℕ) → Cause → Type 0
+IsUnwritten (Ok printed) old new cause =
+    (cause ≡ Device Writer) × ((front : List ℕ) × IsFrontOf front printed.text.items × Appends old new front)
+IsUnwritten (Err fault) old new cause = (cause ≡ store_cause fault) × Keeps old new

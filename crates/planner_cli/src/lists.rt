@@ -1,0 +1,113 @@
+//! `list`: rows go to the writer as the store hands them out.
+ghost use Rattle.std.specs.Prelude.{◌≡◌, ℕ, ◌≤◌, IfErr, IfOk, OnErr, OnOk, Ok, Result, Some, option_copied};
+ghost use Rattle.std.specs.Io.KnownBytes.{Appends};
+ghost use Rattle.planner_machine.specs.Sound.{IsSound};
+ghost use Rattle.plan_store.specs.Faults.{MoreFailures};
+ghost use Rattle.plan_store.specs.Listings.{IsListing};
+ghost use Rattle.plan_store.specs.declared.listings.ListFault as list_fault;
+ghost use Rattle.stream_items.specs.Items.{Alone};
+ghost use Rattle.planner_cli.specs.Asked.{Asks, list_asked};
+ghost use Rattle.planner_cli.specs.Replies.{ended};
+ghost use Rattle.planner_cli.specs.Runs.{IsFrontOf};
+ghost use Rattle.planner_cli.specs.Sinks.{TakesFront, TakesLine, WritesAll, WritesPart};
+ghost use Rattle.planner_cli.specs.Stores.{IsBlamed};
+ghost use Rattle.planner_cli.specs.Writes.{AnswersItem};
+
+use crate::answers::told;
+use crate::faults::{Cause, Part};
+use crate::writing::{write_answer, write_bytes};
+use occurrences::Reply;
+use plan_listings::{marked_line, pair_line, row_line};
+use plan_store::{Item, ListFault, PlanStore, RowSink, SinkFault, What};
+use std::alloc::Global;
+use std::io::Write;
+use work_calendars::App;
+
+/// Writes the line of each item.
+#[derive(Drop)]
+pub struct LineSink<'a, W> {
+    writer: &'a mut W,
+}
+
+impl<W: Write> RowSink for LineSink<'_, W> {
+    ghost takes = { λ old item new. (new.writer.ghost_name ≡ old.writer.ghost_name)
+        × TakesLine (W.contents old.writer.now) item (W.contents new.writer.now) };
+
+    ghost refuses = { λ old item new. (new.writer.ghost_name ≡ old.writer.ghost_name)
+        × TakesFront (W.contents old.writer.now) item (W.contents new.writer.now) };
+
+    fn take(&mut self, item: Item<'_>) -> Result<(), SinkFault> {
+        let written = match item {
+            Item::Plan(row) => write_line(self.writer, &row_line(row)),
+            Item::Marked(row, letter) => write_line(self.writer, &marked_line(row, letter)),
+            Item::Pair(successor, predecessor) => {
+                write_line(self.writer, &pair_line(successor, predecessor))
+            }
+        };
+        match written {
+            Ok(()) => Ok(()),
+            Err(_) => Err(SinkFault),
+        }
+    }
+}
+
+// Writes a line and the line feed that ends it.
+#[tactic(auto, unfolding(crate::specs::Replies::ended))]
+fn write_line<W: Write>(writer: &mut W, line: &[u8]) -> Result<(), Cause>
+    ensures ok { OnOk result (Appends (W.contents writer.old) (W.contents writer.new) (ended line.now)) }
+    ensures front { OnErr result ((front : List ℕ) × IsFrontOf front (ended line.now)
+        × Appends (W.contents writer.old) (W.contents writer.new) front) }
+{
+    write_bytes(writer, line)?;
+    write_bytes(writer, b"\n")
+}
+
+ghost use Rattle.std.specs.Prelude.{List};
+
+// Writes the lines of a listing, each as the store hands its item out.
+fn write_lines<S: PlanStore, W: Write>(
+    alloc: Global,
+    store: &mut S,
+    what: What,
+    app: Option<&App>,
+    writer: &mut W,
+) -> Result<usize, ListFault>
+    requires { S.is_honest store.old → IsSound (S.content store.old) }
+    ensures all { S.is_honest store.new → IfOk result (WritesAll (IsListing what (option_copied app.entry)
+        (S.content store.old)) (W.contents writer.old) (W.contents writer.new)) }
+    ensures part { S.is_honest store.new → IfErr result (WritesPart (IsListing what (option_copied app.entry)
+        (S.content store.old)) (W.contents writer.old) (W.contents writer.new)) }
+    ensures same { S.is_honest store.new → S.content store.new ≡ S.content store.old }
+    ensures blames { IfErr result (λ fault. fault ≡ list_fault.Device
+        → IsBlamed (S.failures store.old) (S.failures store.new)) }
+    ensures counts { S.failures store.old ≤ S.failures store.new }
+    ensures honest { S.is_honest store.new → S.is_honest store.old }
+{
+    let mut sink = LineSink { writer };
+    store.rows_to(alloc, what, app, &mut sink)
+}
+
+/// Answers `list`: the rows, one after another, and then how many they are. Nothing changes.
+pub(crate) fn answer_list<S: PlanStore, W: Write>(
+    alloc: Global,
+    store: &mut S,
+    line: &[u8],
+    what: What,
+    app: Option<&App>,
+    writer: &mut W,
+) -> Result<bool, Cause>
+    requires asks { Asks (Alone line.now) (Some (list_asked what (option_copied app.entry))) }
+    requires sound { S.is_honest store.old → IsSound (S.content store.old) }
+    ensures { AnswersItem S.is_honest S.content S.failures store.old store.new
+        (W.contents writer.old) (W.contents writer.new) (Alone line.now) result }
+{
+    match write_lines(alloc, store, what, app, writer) {
+        Ok(rows) => {
+            let answered = told(alloc, &Ok(Reply::Rows { rows }));
+            write_answer(writer, answered)
+        }
+        Err(ListFault::Memory) => Err(Cause::Memory),
+        Err(ListFault::Device) => Err(Cause::Device(Part::Store)),
+        Err(ListFault::Sink(_)) => Err(Cause::Device(Part::Writer)),
+    }
+}
