@@ -1,5 +1,7 @@
 pub mod Progress
 pub mod RowLemmas
+pub mod WriteLemmas
+pub mod ListLemmas
 pub mod DaysLemmas
 pub mod OutcomeLemmas
 pub mod StoreLemmas

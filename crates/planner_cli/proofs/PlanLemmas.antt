@@ -144,7 +144,8 @@ ended : (cause : Cause) (line : List ℕ) (between c' : Content) (hand : Option 
 ended Memory line between c' hand tail h = inl h.0
 ended (Device Store) line between c' hand tail h = h.0
 ended (Device Reader) line between c' hand tail h = inl h.0
-ended (Device Writer) line between c' hand tail (item, is, (reply, step, front)) = inr (item, is, (reply, step))
+ended (Device Writer) line between c' hand tail (inl (item, is, (reply, step, front))) = inr (item, is, (reply, step))
+ended (Device Writer) line between c' hand tail (inr (same, lists)) = inl same
 
 pub reached : (line : Cause → List ℕ) (c c' : Content) (w w' read : Option (List ℕ)) (fault : RunFault) (h : Stopped Step line c c' w w' read fault)
     → Reached h.done h.replies c c' h.hand

@@ -5,6 +5,7 @@ use Rattle.std.specs.Io.KnownBytes.{Appends, Keeps}
 use Rattle.std.specs.Io.Iter.{u64_saturate}
 use Rattle.std.proofs.lemmas.List.Sums.{sum_by-append}
 use Rattle.std.proofs.KnownBytes.{Appends-nil, Appends-trans, Appends-kept}
+use Rattle.planner_machine.specs.Content.{Content}
 use Rattle.stream_items.specs.Items.{Item, items_of}
 use Rattle.stream_items.specs.Pages.{ItemRead}
 use Rattle.planner_cli.specs.Replies.{Answered, Reply, printed, prints, is_accepted, is_refused}
@@ -12,7 +13,8 @@ use Rattle.planner_cli.specs.Meaning.{Answers, StepOf, tally_after, tally_of}
 use Rattle.plan_store.specs.declared.stores.StoreFault.{StoreFault}
 use Rattle.plan_store.specs.declared.stores.StoreFault.TheVariants as Stores
 use Rattle.planner_cli.specs.Faults.{cause_of, read_cause, store_cause, tally_in, fault_line}
-use Rattle.planner_cli.specs.Runs.{EndsBy, IsFrontOf, ItemBreaks, LeavesInHand, Ran, Stopped, with_hand}
+use Rattle.planner_cli.specs.Lists.{BeginsInHand}
+use Rattle.planner_cli.specs.Runs.{EndsBy, IsFrontOf, ItemBreaks, LeavesInHand, Ran, Stopped, TellsAfterRows, with_hand}
 use Rattle.planner_cli.specs.declared.tally.Tally.{Tally}
 use Rattle.stream_items.specs.declared.lines.ReadFault.{ReadFault}
 use Rattle.stream_items.specs.declared.lines.ReadFault.TheVariants as Reads
@@ -166,8 +168,8 @@ nothing_front : (ys : List ℕ) → IsFrontOf [] ys
 nothing_front ys = (0, omega arith, refl)
 
 -- a fault of reading tells no more than its line, and changes nothing
-pub read_ends : {S : Type 0} (Step : StepOf S) (f : ReadFault) (s : S) → EndsBy Step (read_cause f) [] s s None []
-read_ends Step Reads.Memory s = (refl, nothing_front [])
+pub read_ends : (Step : StepOf Content) (f : ReadFault) (s : Content) → EndsBy Step (read_cause f) [] s s None []
+read_ends Step Reads.Memory s = (refl, ([], [], refl, inl refl, nothing_front []))
 read_ends Step Reads.Reader s = (refl, nothing_front [])
 
 none_in_hand : (told b : Option (List ℕ)) (done : List Item) → IfSome told (IsLeft done b)
@@ -176,7 +178,7 @@ none_in_hand None b done h = tt
 none_in_hand (Some text) b done h = (items_of h.0, h.2)
 
 -- a fault between two items
-pub halts_between : {S : Type 0} (Step : StepOf S) (s0 s : S) (w0 w told b : Option (List ℕ)) (tally : Tally) (f : ReadFault) (fault : RunFault) → Progress Step s0 s w0 w told b tally
+pub halts_between : (Step : StepOf Content) (s0 s : Content) (w0 w told b : Option (List ℕ)) (tally : Tally) (f : ReadFault) (fault : RunFault) → Progress Step s0 s w0 w told b tally
     → cause_of fault ≡ read_cause f → tally_in fault ≡ tally → Stopped Step (λ _. []) s0 s w0 w told fault
 halts_between Step s0 s w0 w told b tally f fault p e tallied =
     record {
@@ -198,16 +200,20 @@ one_in_hand : (told c : Option (List ℕ)) (done : List Item) (item : Item)
 one_in_hand None c done item h = tt
 one_in_hand (Some text) c done item h = (items_of h.0, h.2)
 
+-- the first rows of a listing, and no line of a fault
+rows_told : (s : Content) (item : Item) (front : List ℕ) → BeginsInHand s (Some item) front → TellsAfterRows s (Some item) [] front
+rows_told s item front begins = (front, [], sym (append-nil front), begins, nothing_front [])
+
 -- how it ends where one item was not answered
-breaks_end : {S : Type 0} (Step : StepOf S) (cause : Cause) (s s' : S) (w w' : Option (List ℕ)) (item : Item) → ItemBreaks Step cause s s' w w' item
+breaks_end : (Step : StepOf Content) (cause : Cause) (s s' : Content) (w w' : Option (List ℕ)) (item : Item) → ItemBreaks Step cause s s' w w' item
     → (tail : List ℕ) × EndsBy Step cause [] s s' (Some item) tail × Appends w w' tail
-breaks_end Step Memory s s' w w' item h = ([], (h.0, nothing_front []), kept_appends w w' h.1)
-breaks_end Step (Device Store) s s' w w' item h = ([], (h.0, nothing_front []), kept_appends w w' h.1)
+breaks_end Step Memory s s' w w' item (same, (front, begins, appended)) = (front, (same, rows_told s item front begins), appended)
+breaks_end Step (Device Store) s s' w w' item (whole, (front, begins, appended)) = (front, (whole, rows_told s item front begins), appended)
 breaks_end Step (Device Reader) s s' w w' item h = absurd h
 breaks_end Step (Device Writer) s s' w w' item h = h
 
 -- a fault in the answer to an item
-pub halts_within : {S : Type 0} (Step : StepOf S) (s0 s s' : S) (w0 w w' told b c : Option (List ℕ)) (tally : Tally) (one : Option Item) (item : Item) (cause : Cause) (fault : RunFault)
+pub halts_within : (Step : StepOf Content) (s0 s s' : Content) (w0 w w' told b c : Option (List ℕ)) (tally : Tally) (one : Option Item) (item : Item) (cause : Cause) (fault : RunFault)
     → Progress Step s0 s w0 w told b tally → IfSome b (λ zs. ItemRead zs one c) → one ≡ Some item → cause_of fault ≡ cause → tally_in fault ≡ tally
     → ItemBreaks Step cause s s' w w' item → Stopped Step (λ _. []) s0 s' w0 w' told fault
 halts_within Step s0 s s' w0 w w' told b c tally one item cause fault p read met_it e tallied breaks =
@@ -229,18 +235,29 @@ halts_within Step s0 s s' w0 w w' told b c tally one item cause fault p read met
 front_of_nothing : (xs : List ℕ) → IsFrontOf xs [] → xs ≡ []
 front_of_nothing xs front = front.2 ∙ take_short front.0 [] (omega arith)
 
+-- and once a front of the fault's line is written
+told_rows : (s : Content) (hand : Option Item) (line tail : List ℕ) (n : ℕ) → n ≤ length line → TellsAfterRows s hand [] tail
+    → TellsAfterRows s hand line (tail ++ take n line)
+told_rows s hand line tail n fits (front, last, is, begins, ends) = (
+  front,
+  take n line,
+  ap (λ l. l ++ take n line) (is ∙ ap (λ l. front ++ l) (front_of_nothing last ends) ∙ append-nil front),
+  begins,
+  (n, fits, refl),
+)
+
 -- how a run ended, once a front of the fault's line is written
-told_ending : {S : Type 0} (Step : StepOf S) (cause : Cause) (between t : S) (hand : Option Item) (tail : List ℕ) (n : ℕ) → n ≤ length (fault_line cause)
+told_ending : (Step : StepOf Content) (cause : Cause) (between t : Content) (hand : Option Item) (tail : List ℕ) (n : ℕ) → n ≤ length (fault_line cause)
     → EndsBy Step cause [] between t hand tail → EndsBy Step cause (fault_line cause) between t hand (tail ++ take n (fault_line cause))
 unfolding fault_line
-told_ending Step Memory between t hand tail n fits h = (h.0, (n, fits, ap (λ l. l ++ take n (fault_line Memory)) (front_of_nothing tail h.1)))
-told_ending Step (Device Store) between t hand tail n fits h = (h.0, (n, fits, ap (λ l. l ++ take n (fault_line (Device Store))) (front_of_nothing tail h.1)))
+told_ending Step Memory between t hand tail n fits h = (h.0, told_rows between hand (fault_line Memory) tail n fits h.1)
+told_ending Step (Device Store) between t hand tail n fits h = (h.0, told_rows between hand (fault_line (Device Store)) tail n fits h.1)
 told_ending Step (Device Reader) between t hand tail n fits h = (h.0, (n, fits, ap (λ l. l ++ take n (fault_line (Device Reader))) (front_of_nothing tail h.1)))
 told_ending Step (Device Writer) between t hand tail n fits h =
     subst (EndsBy Step (Device Writer) [] between t hand) (sym (ap (λ l. tail ++ l) (take_short n [] (omega arith)) ∙ append-nil tail)) h
 
 -- a fault is told
-pub told : {S : Type 0} (Step : StepOf S) (s t : S) (w0 w w' read : Option (List ℕ)) (fault : RunFault) (cause : Cause) → Stopped Step (λ _. []) s t w0 w read fault → cause ≡ cause_of fault
+pub told : (Step : StepOf Content) (s t : Content) (w0 w w' read : Option (List ℕ)) (fault : RunFault) (cause : Cause) → Stopped Step (λ _. []) s t w0 w read fault → cause ≡ cause_of fault
     → ((n : ℕ) × (n ≤ length (fault_line cause)) × Appends w w' (take n (fault_line cause))) → Stopped Step fault_line s t w0 w' read fault
 told Step s t w0 w w' read fault cause p e appended =
     let (n, fits, more) = subst (λ c. (n : ℕ) × (n ≤ length (fault_line c)) × Appends w w' (take n (fault_line c))) e appended in
@@ -258,18 +275,30 @@ told Step s t w0 w w' read fault cause p e appended =
       tally_is = p.tally_is;
     }
 
-keeps_itself : (w : Option (List ℕ)) → Keeps w w
-keeps_itself None = tt
-keeps_itself (Some x) = refl
+-- nothing is written of the item in hand
+nothing_begun : (s : Content) (w w' : Option (List ℕ)) (item : Item) → Keeps w w'
+    → (front : List ℕ) × BeginsInHand s (Some item) front × Appends w w' front
+nothing_begun s w w' item kept = ([], inl refl, kept_appends w w' kept)
 
 -- a store fails within an item
-pub store_breaks : {S : Type 0} (Step : StepOf S) (fault : StoreFault) (cause : Cause) (s s' : S) (w : Option (List ℕ)) (item : Item) → cause ≡ store_cause fault
-    → (fault ≡ Stores.Memory → s' ≡ s) → ((s' ≡ s) ⊎ ((reply : Reply) × Step s item reply s')) → ItemBreaks Step cause s s' w w item
-store_breaks Step Stores.Memory cause s s' w item is unchanged whole =
-    subst (λ c. ItemBreaks Step c s s' w w item) (sym is) (unchanged refl, keeps_itself w)
-store_breaks Step Stores.Device cause s s' w item is unchanged whole =
-    subst (λ c. ItemBreaks Step c s s' w w item) (sym is) (in_hand whole, keeps_itself w)
+pub store_breaks : (Step : StepOf Content) (fault : StoreFault) (cause : Cause) (s s' : Content) (w w' : Option (List ℕ)) (item : Item)
+    → cause ≡ store_cause fault → Keeps w w' → (fault ≡ Stores.Memory → s' ≡ s)
+    → ((s' ≡ s) ⊎ ((reply : Reply) × Step s item reply s')) → ItemBreaks Step cause s s' w w' item
+store_breaks Step Stores.Memory cause s s' w w' item is kept unchanged whole =
+    subst (λ c. ItemBreaks Step c s s' w w' item) (sym is) (unchanged refl, nothing_begun s w w' item kept)
+store_breaks Step Stores.Device cause s s' w w' item is kept unchanged whole =
+    subst (λ c. ItemBreaks Step c s s' w w' item) (sym is) (in_hand whole, nothing_begun s w w' item kept)
   where
     in_hand : ((s' ≡ s) ⊎ ((reply : Reply) × Step s item reply s')) → (s' ≡ s) ⊎ LeavesInHand Step s (Some item) s'
     in_hand (inl same) = inl same
     in_hand (inr did) = inr (item, refl, did)
+
+-- memory is refused before anything is asked of the store
+pub memory_breaks : (Step : StepOf Content) (s : Content) (w : Option (List ℕ)) (item : Item) → ItemBreaks Step Memory s s w w item
+memory_breaks Step s w item = (refl, ([], inl refl, Appends-nil w))
+
+-- a writer fails within an answer
+pub writer_breaks : (Step : StepOf Content) (cause : Cause) (s s' : Content) (w w' : Option (List ℕ)) (item : Item) (reply : Reply) (front : List ℕ)
+    → cause ≡ Device Writer → Step s item reply s' → IsFrontOf front (printed reply) → Appends w w' front → ItemBreaks Step cause s s' w w' item
+writer_breaks Step cause s s' w w' item reply front is step begins appended =
+    subst (λ c. ItemBreaks Step c s s' w w' item) (sym is) (front, inl (item, refl, (reply, step, begins)), appended)

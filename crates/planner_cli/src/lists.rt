@@ -1,10 +1,9 @@
 //! `list`: rows go to the writer as the store hands them out.
-ghost use Rattle.std.specs.Prelude.{◌≡◌, ℕ, ◌≤◌, IfErr, IfOk, OnErr, OnOk, Ok, Result, Some, option_copied};
+ghost use Rattle.std.specs.Prelude.{◌≡◌, ℕ, ◌≤◌, IfErr, IfOk, List, OnErr, OnOk, Some, option_copied};
 ghost use Rattle.std.specs.Io.KnownBytes.{Appends};
 ghost use Rattle.planner_machine.specs.Sound.{IsSound};
-ghost use Rattle.plan_store.specs.Faults.{MoreFailures};
-ghost use Rattle.plan_store.specs.Listings.{IsListing};
-ghost use Rattle.plan_store.specs.declared.listings.ListFault as list_fault;
+ghost use Rattle.plan_store.specs.Listings.{IsListing, item_shown};
+ghost use Rattle.plan_store.specs.declared.listings.ListFault.TheVariants as list_fault;
 ghost use Rattle.stream_items.specs.Items.{Alone};
 ghost use Rattle.planner_cli.specs.Asked.{Asks, list_asked};
 ghost use Rattle.planner_cli.specs.Replies.{ended};
@@ -37,17 +36,22 @@ impl<W: Write> RowSink for LineSink<'_, W> {
         × TakesFront (W.contents old.writer.now) item (W.contents new.writer.now) };
 
     fn take(&mut self, item: Item<'_>) -> Result<(), SinkFault> {
-        let written = match item {
-            Item::Plan(row) => write_line(self.writer, &row_line(row)),
-            Item::Marked(row, letter) => write_line(self.writer, &marked_line(row, letter)),
-            Item::Pair(successor, predecessor) => {
-                write_line(self.writer, &pair_line(successor, predecessor))
-            }
-        };
-        match written {
+        match write_item(self.writer, item) {
             Ok(()) => Ok(()),
             Err(_) => Err(SinkFault),
         }
+    }
+}
+
+// Writes the line of an item.
+fn write_item<W: Write>(writer: &mut W, item: Item<'_>) -> Result<(), Cause>
+    ensures ok { OnOk result (TakesLine (W.contents writer.old) (item_shown item.entry) (W.contents writer.new)) }
+    ensures front { OnErr result (TakesFront (W.contents writer.old) (item_shown item.entry) (W.contents writer.new)) }
+{
+    match item {
+        Item::Plan(row) => write_line(writer, &row_line(row)),
+        Item::Marked(row, letter) => write_line(writer, &marked_line(row, letter)),
+        Item::Pair(successor, predecessor) => write_line(writer, &pair_line(successor, predecessor)),
     }
 }
 
@@ -61,8 +65,6 @@ fn write_line<W: Write>(writer: &mut W, line: &[u8]) -> Result<(), Cause>
     write_bytes(writer, line)?;
     write_bytes(writer, b"\n")
 }
-
-ghost use Rattle.std.specs.Prelude.{List};
 
 // Writes the lines of a listing, each as the store hands its item out.
 fn write_lines<S: PlanStore, W: Write>(
@@ -96,7 +98,7 @@ pub(crate) fn answer_list<S: PlanStore, W: Write>(
     app: Option<&App>,
     writer: &mut W,
 ) -> Result<bool, Cause>
-    requires asks { Asks (Alone line.now) (Some (list_asked what (option_copied app.entry))) }
+    requires asks { Asks (Alone line.now) (Some (list_asked what (option_copied app))) }
     requires sound { S.is_honest store.old → IsSound (S.content store.old) }
     ensures { AnswersItem S.is_honest S.content S.failures store.old store.new
         (W.contents writer.old) (W.contents writer.new) (Alone line.now) result }

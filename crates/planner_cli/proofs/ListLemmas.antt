@@ -1,0 +1,307 @@
+-- Lemmas on listings that are written while they are read.
+use Rattle.std.proofs.Common.{◌≡◌, ◌⊎◌, ℕ, ◌+◌, ◌≤◌, ◌∙◌, List, [], ◌∷◌, ◌++◌, length, take, map, refl, sym, ap, subst, inl, inr, arith, append_assoc, append-nil}
+use Rattle.std.specs.Prelude.{Bool, Err, IfErr, IfOk, Ok, Option, Result, Some, flat_map}
+use Rattle.std.specs.Io.KnownBytes.{Appends, Keeps}
+use Rattle.std.proofs.KnownBytes.{Appends-nil, Appends-trans, Appends-kept}
+use Rattle.std.proofs.Math.Seq.{take-append-add}
+use Rattle.std.proofs.lemmas.List.{length-append, length-map}
+use Rattle.occurrences.specs.declared.reply.Reply.TheVariants.{Rows}
+use Rattle.plan_listings.specs.Line.{AreLinesOf}
+use Rattle.plan_store.specs.Listings.{EndsSo, HandsAll, HandsPart, IsListing, Shown, ShowPairs, ShowRows, TakesAll, link_shown, row_shown}
+use Rattle.plan_store.specs.declared.listings.ListFault.{ListFault}
+use Rattle.plan_store.specs.declared.listings.ListFault.TheVariants as Faults
+use Rattle.plan_store.specs.declared.listings.What.{What}
+use Rattle.plan_store.specs.declared.listings.What.TheVariants as Whats
+use Rattle.plan_store.specs.declared.stores.StoreFault.{StoreFault}
+use Rattle.plan_store.specs.declared.stores.StoreFault.TheVariants as Stores
+use Rattle.planner_machine.specs.Content.{Content}
+use Rattle.planner_machine.specs.Shown.{CurrentPlan, InDeletions, InHistory, Listed, LongTermPlan}
+use Rattle.planner_machine.specs.Statement.{ListPairs, ListRows, Statement}
+use Rattle.stream_items.specs.Items.{Item}
+use Rattle.planner_cli.specs.Asked.{Asks, list_asked}
+use Rattle.planner_cli.specs.Faults.{store_cause}
+use Rattle.planner_cli.specs.Lists.{BeginsInHand, BeginsList}
+use Rattle.planner_cli.specs.Outcomes.{answer_text, answering}
+use Rattle.planner_cli.specs.Replies.{Prints, Reply, ended, is_accepted, is_refused, printed}
+use Rattle.planner_cli.specs.Rows.{IsShownText}
+use Rattle.planner_cli.specs.Runs.{IsFrontOf, ItemBreaks}
+use Rattle.planner_cli.specs.Sinks.{EndsInLines, TakesFront, TakesLine, TakesLines, WritesAll, WritesPart}
+use Rattle.planner_cli.specs.Steps.{Serves, Step}
+use Rattle.planner_cli.specs.Stores.{IsBlamed}
+use Rattle.planner_cli.specs.Writes.{AnswersItem, IsUnwritten, IsWritten}
+use Rattle.planner_cli.specs.declared.answers.Printed.{Printed}
+use Rattle.planner_cli.specs.declared.faults.Cause.{Cause}
+use Rattle.planner_cli.specs.declared.faults.Cause.TheVariants.{Device, Memory}
+use Rattle.planner_cli.specs.declared.faults.Part.TheVariants.{Store, Writer}
+use Rattle.planner_cli.proofs.Progress.{writer_breaks}
+use Rattle.planner_cli.proofs.RowLemmas.{flat_map_more}
+
+-- ---- fronts and lines
+
+-- a front of the second text, behind the whole first one
+pub front_behind : (xs ys front : List ℕ) → IsFrontOf front ys → IsFrontOf (xs ++ front) (xs ++ ys)
+front_behind xs ys front (n, fits, is) = (
+  length xs + n,
+  (let whole = length-append xs ys in omega (arith, fits)),
+  ap (λ l. xs ++ l) is ∙ sym (take-append-add xs ys n),
+)
+
+-- a line is written, and a front of the line feed that ends it
+pub front_of_ended : (w m w' : Option (List ℕ)) (line : List ℕ) → Appends w m line → ((n : ℕ) × (n ≤ 1) × Appends m w' (take n (10 ∷ [])))
+    → (front : List ℕ) × IsFrontOf front (ended line) × Appends w w' front
+unfolding ended
+front_of_ended w m w' line first (n, fits, more) =
+    (line ++ take n (10 ∷ []), front_behind line (10 ∷ []) (take n (10 ∷ [])) (n, fits, refl), Appends-trans w m w' _ _ first more)
+
+-- one more line
+lines_more : (items : List Shown) (lines : List (List ℕ)) (item : Shown) (line : List ℕ) → AreLinesOf IsShownText items lines → IsShownText item line
+    → AreLinesOf IsShownText (items ++ item ∷ []) (lines ++ line ∷ [])
+lines_more [] [] item line are is = (is, tt)
+lines_more [] (l ∷ lines) item line are is = absurd are
+lines_more (x ∷ items) [] item line are is = absurd are
+lines_more (x ∷ items) (l ∷ lines) item line are is = (are.0, lines_more items lines item line are.1 is)
+
+-- ---- what a sink that writes lines took
+
+module _ {K N : Type 0} (some : K) (contents : K → Option (List ℕ)) (name : K → N) where
+  abbrev pub Takes : K → Shown → K → Type 0
+  Takes old item new = (name new ≡ name old) × TakesLine (contents old) item (contents new)
+
+  abbrev pub Refuses : K → Shown → K → Type 0
+  Refuses old item new = (name new ≡ name old) × TakesFront (contents old) item (contents new)
+
+  took : (items : List Shown) (old new : K) → TakesAll Takes old items new → (name new ≡ name old) × TakesLines (contents old) items (contents new)
+  took [] old new is = (ap name is, ([], tt, subst (λ k. Appends (contents old) (contents k) []) (sym is) (Appends-nil (contents old))))
+  took (item ∷ items) old new (next, (named, (line, is, appended)), later) =
+      let (named', (lines, are, appended')) = took items next new later in
+      (named' ∙ named, (line ∷ lines, (is, are), Appends-trans (contents old) (contents next) (contents new) _ _ appended appended'))
+
+  module _ (IsWhole : List Shown → Type 0) (old new : K) where
+    pub wrote_all : (count : ℕ) → HandsAll Takes IsWhole old new count → (name new ≡ name old) × WritesAll IsWhole (contents old) (contents new) count
+    wrote_all count h =
+        let (named, lines) = took h.items old new h.taken in
+        (named, record { items = h.items; whole = h.whole; taken = lines; counted = h.counted })
+
+    -- the lines before, and a front of the next
+    cut_off : (done rest : List Shown) (last : K) (item : Shown) (later : List Shown) (fault : ListFault) → IsWhole (done ++ rest) → rest ≡ item ∷ later
+        → TakesAll Takes old done last → Refuses last item new
+        → (name new ≡ name old) × ((first : List Shown) × (others : List Shown) × IsWhole (first ++ others)
+        × ((lines : List (List ℕ)) × AreLinesOf IsShownText first lines × ((front : List ℕ) × IsFrontOf front (flat_map ended lines) × Appends (contents old) (contents new) front)))
+    cut_off done rest last item later fault whole is taken (named, (line, text, (front, begins, appended))) =
+        let (named', (lines, are, written)) = took done old last taken in (
+          named ∙ named',
+          (
+            done ++ item ∷ [],
+            later,
+            subst IsWhole (ap (λ l. done ++ l) is ∙ sym (append_assoc done (item ∷ []) later)) whole,
+            (
+              lines ++ line ∷ [],
+              lines_more done lines item line are text,
+              (
+                flat_map ended lines ++ front,
+                subst (IsFrontOf (flat_map ended lines ++ front)) (sym (flat_map_more lines line)) (front_behind (flat_map ended lines) (ended line) front begins),
+                Appends-trans (contents old) (contents last) (contents new) _ _ written appended,
+              ),
+            ),
+          ),
+        )
+
+    wrote_first : (fault : ListFault) (done rest : List Shown) → IsWhole (done ++ rest) → EndsSo Takes Refuses old done rest new fault
+        → (name new ≡ name old) × WritesPart IsWhole (contents old) (contents new) fault
+    wrote_first Faults.Memory done rest whole taken =
+        let (named, lines) = took done old new taken in
+        (named, record { first = done; rest = rest; whole = whole; ends = lines })
+    wrote_first Faults.Device done rest whole taken =
+        let (named, lines) = took done old new taken in
+        (named, record { first = done; rest = rest; whole = whole; ends = lines })
+    wrote_first (Faults.Sink f) done rest whole (last, item, later, is, taken, refused) =
+        let (named, (first, others, all, ends)) = cut_off done rest last item later (Faults.Sink f) whole is taken refused in
+        (named, record { first = first; rest = others; whole = all; ends = ends })
+
+    pub wrote_part : (fault : ListFault) → HandsPart Takes Refuses IsWhole old new fault
+        → (name new ≡ name old) × WritesPart IsWhole (contents old) (contents new) fault
+    wrote_part fault h = wrote_first fault h.done h.rest h.whole h.ends
+
+-- ---- the step of a listing
+
+-- the cause that a fault of a listing is
+abbrev pub IsCauseOf : ListFault → Cause → Type 0
+IsCauseOf Faults.Memory cause = cause ≡ Memory
+IsCauseOf Faults.Device cause = cause ≡ Device Store
+IsCauseOf (Faults.Sink f) cause = cause ≡ Device Writer
+
+-- what a listing of these items answers
+abbrev listing : List Shown → List (List ℕ) → Reply
+listing items lines = record { rows = lines; line = answer_text (Ok (Rows (length items))) }
+
+rows_served : (listed : Listed) (app : Option (List ℕ)) (c : Content) (items : List Shown) (lines : List (List ℕ)) → ShowRows listed app c items
+    → AreLinesOf IsShownText items lines → Serves (ListRows listed app) c (listing items lines) c
+rows_served listed app c items lines (rows, lists, is) are = record {
+  answer = Ok (Rows (length items));
+  steps = (λ r refused. refused, (refl, (rows, lists, ap Rows (ap length is ∙ length-map rows row_shown))));
+  rows = (items, (rows, lists, is), are);
+  line = refl;
+  well_formed = tt;
+}
+
+pairs_served : (app : Option (List ℕ)) (c : Content) (items : List Shown) (lines : List (List ℕ)) → ShowPairs app c items
+    → AreLinesOf IsShownText items lines → Serves (ListPairs app) c (listing items lines) c
+pairs_served app c items lines (links, lists, is) are = record {
+  answer = Ok (Rows (length items));
+  steps = (λ r refused. refused, (refl, (links, lists, ap Rows (ap length is ∙ length-map links link_shown))));
+  rows = (items, (links, lists, is), are);
+  line = refl;
+  well_formed = tt;
+}
+
+list_served : (what : What) (app : Option (List ℕ)) (c : Content) (items : List Shown) (lines : List (List ℕ)) → IsListing what app c items
+    → AreLinesOf IsShownText items lines → Serves (list_asked what app) c (listing items lines) c
+list_served Whats.Ltp app c items lines whole are = rows_served LongTermPlan app c items lines whole are
+list_served Whats.Cp app c items lines whole are = rows_served CurrentPlan app c items lines whole are
+list_served Whats.History app c items lines whole are = rows_served InHistory app c items lines whole are
+list_served Whats.Deletions app c items lines whole are = rows_served InDeletions app c items lines whole are
+list_served Whats.Dependencies app c items lines whole are = pairs_served app c items lines whole are
+
+-- rows before a line that is printed
+printed_behind : (rows : List (List ℕ)) (line text : List ℕ) → text ≡ printed (record { rows = []; line = line })
+    → flat_map ended rows ++ text ≡ printed (record { rows = rows; line = line })
+unfolding printed
+printed_behind rows line text is = ap (λ l. flat_map ended rows ++ l) is
+
+prints_behind : (rows : List (List ℕ)) (line text : List ℕ) (accepted : Bool) → Prints (record { rows = []; line = line }) text accepted
+    → Prints (record { rows = rows; line = line }) (flat_map ended rows ++ text) accepted
+unfolding is_accepted is_refused
+prints_behind rows line text accepted h = record {
+  text_is = printed_behind rows line text h.text_is;
+  accepted_is = h.accepted_is;
+  refused_is = h.refused_is;
+}
+
+module _ {S : Type 0} (is_honest : S → Type 0) (content : S → Content) (failures : S → ℕ) (before now : S)
+    (old mid new : Option (List ℕ)) (item : Item) (what : What) (app : Option (List ℕ)) (asks : Asks item (Some (list_asked what app)))
+    (same : is_honest now → content now ≡ content before) (counts : failures before ≤ failures now)
+    (honest' : is_honest now → is_honest before) where
+
+  begins : (c : Content) (first rest : List Shown) (lines : List (List ℕ)) → IsListing what app c (first ++ rest) → AreLinesOf IsShownText first lines
+      → BeginsList c item lines
+  begins c first rest lines whole are = record {
+    what = what;
+    app = app;
+    asks = asks;
+    first = first;
+    rest = rest;
+    whole = whole;
+    are_lines = are;
+  }
+
+  -- the first lines, before a fault
+  lines_begun : (c : Content) (new' : Option (List ℕ)) (first rest : List Shown) → IsListing what app c (first ++ rest) → TakesLines old first new'
+      → (front : List ℕ) × BeginsInHand c (Some item) front × Appends old new' front
+  lines_begun c new' first rest whole (lines, are, appended) =
+      (flat_map ended lines, inr (lines, (item, refl, begins c first rest lines whole are), refl), appended)
+
+  -- the store or the writer failed, or memory was refused, within the listing
+  pub list_ends : (fault : ListFault) (cause : Cause) → (is_honest now → WritesPart (IsListing what app (content before)) old new fault)
+      → (fault ≡ Faults.Device → IsBlamed (failures before) (failures now)) → IsCauseOf fault cause
+      → AnswersItem is_honest content failures before now old new item (Err cause)
+  list_ends Faults.Memory cause part blames is = subst (λ x. AnswersItem is_honest content failures before now old new item (Err x)) (sym is) (record {
+    ok = λ honest. tt;
+    err = λ honest. let p = part honest in (same honest, lines_begun (content before) new p.first p.rest p.whole p.ends);
+    blames = λ store. absurd (let h : ⊥ = cc store in h);
+    counts = counts;
+    honest = honest';
+  })
+  list_ends Faults.Device cause part blames is = subst (λ x. AnswersItem is_honest content failures before now old new item (Err x)) (sym is) (record {
+    ok = λ honest. tt;
+    err = λ honest. let p = part honest in (inl (same honest), lines_begun (content before) new p.first p.rest p.whole p.ends);
+    blames = λ store. blames refl;
+    counts = counts;
+    honest = honest';
+  })
+  list_ends (Faults.Sink f) cause part blames is = subst (λ x. AnswersItem is_honest content failures before now old new item (Err x)) (sym is) (record {
+    ok = λ honest. tt;
+    err = λ honest.
+        let p = part honest in
+        let (lines, are, (front, fronts, appended)) = p.ends in
+        (front, inr (same honest, (lines, (item, refl, begins (content before) p.first p.rest lines p.whole are), fronts)), appended);
+    blames = λ store. absurd (let h : ⊥ = cc store in h);
+    counts = counts;
+    honest = honest';
+  })
+
+  module _ (count : ℕ) (all : is_honest now → WritesAll (IsListing what app (content before)) old mid count) where
+    -- the reply of the listing, where its last line is printed so
+    abbrev IsAnswered : Printed → Type 0
+    IsAnswered printed = Prints (answering (Ok (Rows count))) printed.text.items printed.is_accepted
+
+    abbrev Whole : Printed → Type 0
+    Whole printed = (reply : Reply) × (lines : List (List ℕ)) × Step (content before) item reply (content now)
+        × Prints reply (flat_map ended lines ++ printed.text.items) printed.is_accepted × Appends old mid (flat_map ended lines)
+
+    whole_reply : (printed : Printed) → IsAnswered printed → is_honest now → Whole printed
+    whole_reply printed tells honest =
+        let a = all honest in
+        let (lines, are, appended) = a.taken in (
+          listing a.items lines,
+          lines,
+          subst (Step (content before) item (listing a.items lines)) (sym (same honest))
+              (Some (list_asked what app), asks, list_served what app (content before) a.items lines a.whole are),
+          prints_behind lines (answer_text (Ok (Rows (length a.items)))) printed.text.items printed.is_accepted
+              (subst (λ n. Prints (answering (Ok (Rows n))) printed.text.items printed.is_accepted) a.counted tells),
+          appended,
+        )
+
+    list_ok : (printed : Printed) (accepted : Bool) → IsAnswered printed → Appends mid new printed.text.items × (accepted ≡ printed.is_accepted)
+        → AnswersItem is_honest content failures before now old new item (Ok accepted)
+    list_ok printed accepted tells (appended, is) = record {
+      ok = λ honest.
+          let (reply, lines, step, prints, rows) = whole_reply printed tells honest in (
+            flat_map ended lines ++ printed.text.items,
+            record { reply = reply; gives = step; prints = subst (Prints reply (flat_map ended lines ++ printed.text.items)) (sym is) prints },
+            Appends-trans old mid new _ _ rows appended,
+          );
+      err = λ honest. tt;
+      blames = tt;
+      counts = counts;
+      honest = honest';
+    }
+
+    list_part : (printed : Printed) (cause : Cause) → IsAnswered printed → IsUnwritten (Ok printed) mid new cause
+        → AnswersItem is_honest content failures before now old new item (Err cause)
+    list_part printed cause tells (is, (front, fronts, appended)) = record {
+      ok = λ honest. tt;
+      err = λ honest.
+          let (reply, lines, step, prints, rows) = whole_reply printed tells honest in
+          writer_breaks Step cause (content before) (content now) old new item reply (flat_map ended lines ++ front) is step
+          (subst (IsFrontOf (flat_map ended lines ++ front)) prints.text_is (front_behind (flat_map ended lines) printed.text.items front fronts))
+          (Appends-trans old mid new _ _ rows appended);
+      blames = λ store. absurd (let no : Device Writer ≡ Device Store = sym is ∙ store in let h : ⊥ = cc no in h);
+      counts = counts;
+      honest = honest';
+    }
+
+    list_untold : (fault : StoreFault) (cause : Cause) → fault ≡ Stores.Memory → IsUnwritten (Err fault) mid new cause
+        → AnswersItem is_honest content failures before now old new item (Err cause)
+    list_untold fault cause memory (is, kept) =
+        subst (λ x. AnswersItem is_honest content failures before now old new item (Err x)) (sym (is ∙ ap store_cause memory)) (record {
+          ok = λ honest. tt;
+          err = λ honest.
+              let a = all honest in
+              let (lines, are, appended) = a.taken in
+              (same honest, lines_begun (content before) new a.items [] (subst (IsListing what app (content before)) (sym (append-nil a.items)) a.whole)
+              (lines, are, Appends-kept old mid new (flat_map ended lines) appended kept));
+          blames = λ store. absurd (let h : ⊥ = cc store in h);
+          counts = counts;
+          honest = honest';
+        })
+
+    -- all rows are written, and the last line is on its way
+    pub list_told : (answered : Result Printed StoreFault) (result : Result Bool Cause)
+        → IfOk answered (λ printed. Prints (answering (Ok (Rows count))) printed.text.items printed.is_accepted)
+        → IfErr answered (λ fault. fault ≡ Stores.Memory)
+        → IfOk result (IsWritten answered mid new) → IfErr result (IsUnwritten answered mid new)
+        → AnswersItem is_honest content failures before now old new item result
+    list_told (Ok printed) (Ok accepted) tells memory ok err = list_ok printed accepted tells ok
+    list_told (Ok printed) (Err cause) tells memory ok err = list_part printed cause tells err
+    list_told (Err fault) (Ok accepted) tells memory ok err = absurd ok
+    list_told (Err fault) (Err cause) tells memory ok err = list_untold fault cause memory err
