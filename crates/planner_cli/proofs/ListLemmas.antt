@@ -181,7 +181,6 @@ module _ {S : Type 0} (is_honest : S → Type 0) (content : S → Content) (fail
     (old mid new : Option (List ℕ)) (item : Item) (what : What) (app : Option (List ℕ)) (asks : Asks item (Some (list_asked what app)))
     (same : is_honest now → content now ≡ content before) (counts : failures before ≤ failures now)
     (honest' : is_honest now → is_honest before) where
-
   begins : (c : Content) (first rest : List Shown) (lines : List (List ℕ)) → IsListing what app c (first ++ rest) → AreLinesOf IsShownText first lines
       → BeginsList c item lines
   begins c first rest lines whole are = record {
@@ -287,9 +286,11 @@ module _ {S : Type 0} (is_honest : S → Type 0) (content : S → Content) (fail
           ok = λ honest. tt;
           err = λ honest.
               let a = all honest in
-              let (lines, are, appended) = a.taken in
-              (same honest, lines_begun (content before) new a.items [] (subst (IsListing what app (content before)) (sym (append-nil a.items)) a.whole)
-              (lines, are, Appends-kept old mid new (flat_map ended lines) appended kept));
+              let (lines, are, appended) = a.taken in (
+                same honest,
+                lines_begun (content before) new a.items [] (subst (IsListing what app (content before)) (sym (append-nil a.items)) a.whole)
+                    (lines, are, Appends-kept old mid new (flat_map ended lines) appended kept),
+              );
           blames = λ store. absurd (let h : ⊥ = cc store in h);
           counts = counts;
           honest = honest';

@@ -51,7 +51,10 @@ fn write_item<W: Write>(writer: &mut W, item: Item<'_>) -> Result<(), Cause>
     match item {
         Item::Plan(row) => write_line(writer, &row_line(row)),
         Item::Marked(row, letter) => write_line(writer, &marked_line(row, letter)),
-        Item::Pair(successor, predecessor) => write_line(writer, &pair_line(successor, predecessor)),
+        Item::Pair(successor, predecessor) => write_line(
+            writer,
+            &pair_line(successor, predecessor),
+        ),
     }
 }
 

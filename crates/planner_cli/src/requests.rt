@@ -80,9 +80,14 @@ pub enum Request {
     /// What a daily plan would do.
     DailyTrial(DailyRequest),
     /// A listing.
-    List { what: What },
+    List {
+        what: What,
+    },
     /// A listing of one application.
-    ListApp { what: What, app: App },
+    ListApp {
+        what: What,
+        app: App,
+    },
 }
 
 /// What a statement asks of the planner, or what a line that is none does.

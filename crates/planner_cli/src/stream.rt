@@ -14,8 +14,8 @@ ghost use Rattle.planner_cli.specs.Writes.{AnswersItem};
 ghost use Rattle.planner_cli.specs.declared.faults.Cause.TheVariants.{Device};
 ghost use Rattle.planner_cli.specs.declared.faults.Part.TheVariants.{Store};
 
-use crate::faults::{Cause, Part, RunFault, cause_of_read};
 use crate::answers::told;
+use crate::faults::{Cause, Part, RunFault, cause_of_read};
 use crate::lists::answer_list;
 use crate::requests::{Request, request_in};
 use crate::steps::{answer_request, answer_with_data};

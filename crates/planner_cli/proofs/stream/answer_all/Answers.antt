@@ -4,6 +4,7 @@ use Rattle.stream_items.specs.Pages.{item_of}
 use Rattle.stream_items.specs.declared.lines.ReadFault.TheVariants as Reads
 use Rattle.planner_cli.proofs.PlanLemmas.{step_sound}
 use Rattle.planner_cli.proofs.Progress.{progress_starts, progress_answers, halts_between, halts_within}
+use Rattle.planner_cli.proofs.StoreLemmas.{blamed_since}
 use Rattle.planner_cli.proofs.stream.answer_all.Goals as goal
 
 pub loop-init : goal.loop-init
@@ -29,6 +30,11 @@ returns-in-Err-answer_one-clause-fault g c honest =
     let before = c.answer_one.ensures.honest honest in
     halts_within _ _ _ _ _ _ _ _ _ _ _ _ _ c.in-Err-answer_one.cause _ (c.loop.invariant.progress before) c.in_default.ensures.read met halted.cause halted.tally
     (c.in-Err-answer_one.ensures.err honest)
+
+pub returns-in-Err-answer_one-clause-blames : goal.returns-in-Err-answer_one-clause-blames
+returns-in-Err-answer_one-clause-blames g c store =
+    let blames = c.in-Err-answer_one.ensures.blames (sym c.new-in-Err-answer_one.ensures.cause ∙ store) in
+    blamed_since _ _ _ c.loop.invariant.counts c.answer_one.ensures.counts blames
 
 pub loop-preserved : goal.loop-preserved
 loop-preserved g c =
