@@ -90,8 +90,8 @@ impl Write for Slow {
     }
 }
 
-/// Three items: a statement, a statement with data, and a line that is no statement.
-const THREE: &[u8] = b"list cp\n\ndefine calendars --job 0\nDEFAULT,SAT,FREE\n/*\n* x\n\x01";
+/// Three items, none a statement: a line, one with data, and one of an unknown first word.
+const THREE: &[u8] = b"list up\n\ndefine calendars --job 0\nDEFAULT,SAT,FREE\n/*\n* x\n\x01";
 
 /// The replies to four items, each of 11 bytes.
 const REPLIES: &[u8] = b"refused 10\nrefused 10\nrefused 10\nrefused 10\n";
