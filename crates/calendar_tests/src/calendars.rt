@@ -340,6 +340,27 @@ fn listed_twice(
     Ok([before, statuses(&calendar, days)])
 }
 
+// The dates that a calendar lists after two are listed, the later one first, and then the later one anew.
+fn two_dates(alloc: Global, [day, later]: [Day; 2]) -> Result<Vec<(Day, DayStatus)>, AllocError> {
+    let mut calendar = weekdays(alloc);
+    calendar.set_date(later, DayStatus::Free)?;
+    calendar.set_date(day, DayStatus::Free)?;
+    calendar.set_date(later, DayStatus::Work)?;
+    calendar.dates(alloc)
+}
+
+#[test]
+fn dates_are_listed_in_rising_order(rt: HostRuntime) -> Result<(), Fail> {
+    let day = Day::from_text("2024-01-06").ok_or("no day")?;
+    let later = Day::from_text("2024-01-08").ok_or("no day")?;
+    let dates = two_dates(rt.alloc(), [day, later])?;
+    assert_eq!(rt;
+        dates.as_slice(),
+        [(day, DayStatus::Free), (later, DayStatus::Work)].as_slice()
+    );
+    Ok(())
+}
+
 #[test]
 fn a_date_goes_before_its_weekday(rt: HostRuntime) -> Result<(), Fail> {
     let saturday = Day::from_text("2024-01-06").ok_or("no day")?;

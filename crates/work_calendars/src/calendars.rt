@@ -1,10 +1,10 @@
 ghost use Rattle.std.specs.Prelude.{◌≡◌, ℕ, ◌+◌, ◌<◌, Bool, false, OnOk, OnErr, IfOk};
 ghost use Rattle.std.specs.FinMap as map;
-ghost use Rattle.std.specs.List.{slice_index_or};
+ghost use Rattle.std.specs.List.{All, slice_index_or};
 ghost use Rattle.std.specs.Prelude.{None};
 ghost use Rattle.work_calendars.specs.Calendar.{CalendarEntries, is_work_day, is_work_status, is_work_weekday};
 ghost use Rattle.work_calendars.specs.Calendar.{weekday_status, no_entries, with_weekday, with_date, without_dates};
-ghost use Rattle.work_calendars.specs.Day.{first_day};
+ghost use Rattle.work_calendars.specs.Day.{IsDay, first_day};
 ghost use Rattle.work_calendars.specs.WorkIndex.{AreStatuses};
 ghost use Rattle.jiff.specs.Words.{monday_zero};
 
@@ -81,6 +81,19 @@ impl Calendar {
         ensures { result ≡ map.get self.now.dates day }
     {
         self.dates.get(&day).copied()
+    }
+
+    /// The listed dates and their statuses, in rising order.
+    pub fn dates(&self, alloc: Global) -> Result<Vec<(Day, DayStatus)>, AllocError>
+        ensures all { IfOk result (λ dates. map.from_entries dates.items ≡ self.now.dates) }
+        ensures in_range { IfOk result (λ dates. All (λ entry. IsDay entry.0) dates.items) }
+    {
+        let mut dates = Vec::new(alloc);
+        for (day, status) in self.dates.iter() {
+            let _number = day.number();
+            dates.push((*day, *status))?;
+        }
+        Ok(dates)
     }
 
     /// Whether the day is a work day: by the date's status if it is listed, else by its weekday's, else it is.
