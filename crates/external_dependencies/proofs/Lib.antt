@@ -8,7 +8,7 @@ mod OrderLemmas
 mod PairLemmas
 mod PartLemmas
 mod PlaceLemmas
-mod RingLemmas
+pub mod RingLemmas
 pub mod RisingLemmas
 mod SearchLemmas
 mod VisitLemmas
