@@ -16,7 +16,7 @@ use Rattle.std.specs.List.{IsDistinct, AllByRecursion}
 use Rattle.std.proofs.lemmas.Map.Made.{update_all_distinct}
 use Rattle.work_calendars.specs.Name.{IsName}
 use Rattle.app_definitions.specs.Fields.{field}
-use Rattle.app_definitions.specs.ByName.{records_of, FitsKind, IsDefinedBy, AreEntriesOf, AreGivenBy, overlaid}
+use Rattle.app_definitions.specs.ByName.{records_of, AreEntriesOf, AreGivenBy, FitsKind, IsDefinedBy, Joins, overlaid}
 use Rattle.app_definitions.specs.Records.{Record, Records}
 use Rattle.app_definitions.specs.declared.columns.TheConstants.{NAME}
 
@@ -97,6 +97,12 @@ AreGivenBy-more IsMadeOf old new k v before row named written given made name = 
 pub IfOk-map : {T E : Type 0} (r : Result T E) (P Q : T → Type 0) → ((x : T) → P x → Q x) → IfOk r P → IfOk r Q
 IfOk-map (Ok x) P Q f h = f x h
 IfOk-map (Err e) P Q f h = tt
+
+-- two facts of what is Ok
+pub IfOk-both : {T E : Type 0} (r : Result T E) (P Q R : T → Type 0) → ((x : T) → P x → Q x → R x)
+    → IfOk r P → IfOk r Q → IfOk r R
+IfOk-both (Ok x) P Q R f p q = f x p q
+IfOk-both (Err e) P Q R f p q = tt
 
 -- names compare alike from both sides
 pub name_sym : (a b : List ℕ) → pointwise nat_eq a b ≡ pointwise nat_eq b a
@@ -189,32 +195,23 @@ get-appended old more q apart =
     (λ k. lookup (pointwise nat_eq k) old) more q apart
     ∙ cc (sym (get-view_of more q), sym (get-view_of old q), sym (get-overlaid (view_of old) (view_of more) q))
 
--- a further record about a name is good exactly where the definition takes it
-pub joined-taken : {D E : Type 0} (fields : ℕ) (FitsName : Records → Record → Type 0) (IsMadeOf : D → Records → Type 0)
-    (m : Definitions D) (k : List ℕ) (d : D) (before : Records) (row : Record) (r : Result Bool E)
-    → k ≡ field row NAME → length row ≡ fields → IsName k → map.get m k ≡ Some d → AreGivenBy IsMadeOf m before
-    → ((earlier : Records) → earlier ≢ [] → IsMadeOf d earlier → IfOk r (λ taken. IsTrue taken ↔ FitsName earlier row))
-    → IfOk r (λ taken. IsTrue taken ↔ FitsKind fields FitsName before row)
-joined-taken fields FitsName IsMadeOf m k d before row r e long named seen given tells =
-    let was = defined-some IsMadeOf _ d (records_of k before) seen (given k) in
-    IfOk-map r _ _ (λ taken told. (
-      λ yes. record { complete = long; name = rw (← e) named; fits = rw (← e) (told.0 yes) },
-      λ good. told.1 (rw e good.fits),
-    )) (tells (records_of k before) was.0 was.1)
-
--- and the definitions are then those of the record too
-pub joined-gathered : {D E : Type 0} (IsMadeOf : D → Records → Type 0)
+-- a further record about a name is taken as the definition takes it
+pub joined : {D E : Type 0} (fields : ℕ) (FitsName : Records → Record → Type 0) (IsMadeOf : D → Records → Type 0)
     (m n : Definitions D) (k : List ℕ) (d v : D) (before : Records) (row : Record) (r : Result Bool E)
-    → k ≡ field row NAME → map.get m k ≡ Some d
+    → k ≡ field row NAME → length row ≡ fields → IsName k → map.get m k ≡ Some d
     → ((q : List ℕ) → map.get n q ≡ cond (pointwise nat_eq k q) (Some v) (map.get m q))
     → AreGivenBy IsMadeOf m before
-    → ((earlier : Records) → earlier ≢ [] → IsMadeOf d earlier
-    → IfOk r (λ taken. IsTrue taken → IsMadeOf v (earlier ++ row ∷ [])))
-    → IfOk r (λ taken. IsTrue taken → AreGivenBy IsMadeOf n (before ++ row ∷ []))
-joined-gathered IsMadeOf m n k d v before row r e seen written given makes =
+    → ((earlier : Records) → earlier ≢ [] → IsMadeOf d earlier → IfOk r (Joins FitsName IsMadeOf earlier row v))
+    → IfOk r (Joins (FitsKind fields FitsName) (AreGivenBy IsMadeOf) before row n)
+joined fields FitsName IsMadeOf m n k d v before row r e long named seen written given joins =
     let was = defined-some IsMadeOf _ d (records_of k before) seen (given k) in
-    IfOk-map r _ _ (λ taken made yes. AreGivenBy-more IsMadeOf m n k v before row e written given
-    (rw (← e) (made yes))) (makes (records_of k before) was.0 was.1)
+    IfOk-map r _ _ (λ taken told. record {
+      fits = (
+        λ yes. record { complete = long; name = rw (← e) named; fits = rw (← e) (told.fits.0 yes) },
+        λ good. told.fits.1 (rw e good.fits),
+      );
+      made = λ yes. AreGivenBy-more IsMadeOf m n k v before row e written given (rw (← e) (told.made yes));
+    }) (joins (records_of k before) was.0 was.1)
 
 -- the first record about a name is good exactly where it begins a definition
 pub begun-taken : {D : Type 0} (fields : ℕ) (FitsName : Records → Record → Type 0) (IsMadeOf : D → Records → Type 0)

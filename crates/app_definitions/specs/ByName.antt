@@ -1,6 +1,6 @@
 -- Definitions by name, as the records of a block give them.
-use Rattle.std.specs.Prelude.{◌≡◌, ◌≢◌, ◌↔◌, ℕ, ◌++◌, List, [], filter, length, Option, None, Some, IsSome, Contains}
-use Rattle.std.specs.Prelude.{nat_eq}
+use Rattle.std.specs.Prelude.{◌≡◌, ◌≢◌, ◌↔◌, ℕ, Bool, ◌++◌, ◌∷◌, List, [], filter, length, Option, None, Some, IsSome}
+use Rattle.std.specs.Prelude.{Contains, IfSome, IsTrue, nat_eq}
 use Rattle.std.specs.Cmp.Lexicographic.{pointwise, slice_cmp}
 use Rattle.std.specs.List.{IsDistinct}
 use Rattle.std.specs.Map.{keys_of}
@@ -32,6 +32,18 @@ IsDefinedBy IsMadeOf (Some d) rows = (rows ≢ []) × IsMadeOf d rows
 abbrev pub AreGivenBy : {D : Type 0} → (D → Records → Type 0) → map.FinMap (slice_cmp nat_cmp) D → Records → Type 0
 AreGivenBy IsMadeOf definitions rows = (name : List ℕ)
     → IsDefinedBy IsMadeOf (map.get definitions name) (records_of name rows)
+
+-- the first record about a name begins a definition, which it makes, where it is good, and else none
+pub record Begins {D : Type 0} (FitsName : Records → Record → Type 0) (IsMadeOf : D → Records → Type 0)
+    (row : Record) (begun : Option D) : Type 0 where
+  pub fits : IsSome begun ↔ FitsName [] row
+  pub made : IfSome begun (λ d. IsMadeOf d (row ∷ []))
+
+-- a record joins those before it: it is taken where it is good after them, and `new` is then made of them and of it
+pub record Joins {D : Type 0} (Fits : Records → Record → Type 0) (IsMadeOf : D → Records → Type 0)
+    (before : Records) (row : Record) (new : D) (taken : Bool) : Type 0 where
+  pub fits : IsTrue taken ↔ Fits before row
+  pub made : IsTrue taken → IsMadeOf new (before ++ row ∷ [])
 
 -- no two of the entries have one name
 abbrev pub HaveOwnNames : {D : Type 0} → List (List ℕ × D) → Type 0

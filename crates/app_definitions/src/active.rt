@@ -1,6 +1,6 @@
 // Active applications: their calendars and run cycles, and what these lack.
 
-ghost use Rattle.std.specs.Prelude.{◌≡◌, ◌↔◌, ℕ, IsTrue, IfNone, IfSome, None};
+ghost use Rattle.std.specs.Prelude.{◌≡◌, ◌↔◌, IsTrue, IfNone, IfSome, None};
 ghost use Rattle.std.specs.FinMap as map;
 ghost use Rattle.run_cycles.specs.Occurrence.{HaveOwnNames};
 ghost use Rattle.app_definitions.specs.declared.applications.Application.{Application as ApplicationValue};
@@ -29,7 +29,7 @@ impl Definitions {
     {
         match self.applications.get(app) {
             Some(application) if application.active => Some(*application),
-            _ => None,
+            Some(_) | None => None,
         }
     }
 

@@ -1,8 +1,8 @@
 // Applications.
 
-ghost use Rattle.std.specs.Prelude.{◌≡◌, ◌↔◌, ℕ, List, [], ◌∷◌, ◌++◌, get_or, length, IsTrue, IsSome, IfSome, IfOk};
 ghost use Rattle.csv.specs.Records.{fields_of};
 ghost use Rattle.app_definitions.specs.Applications.{FitsApplication, IsApplicationOf};
+ghost use Rattle.app_definitions.specs.ByName.{Begins};
 ghost use Rattle.app_definitions.specs.declared.columns.TheConstants.{APPLICATION_FIELDS};
 
 use crate::by_name::Definition;
@@ -23,8 +23,7 @@ pub struct Application {
 
 // The application that a record gives, or none where the record is faulty.
 fn application_of(row: &ByteRecord) -> Option<Application>
-    ensures fits { IsSome result ↔ FitsApplication [] (fields_of row.now) }
-    ensures value { IfSome result (λ a. IsApplicationOf a (fields_of row.now ∷ [])) }
+    ensures { Begins FitsApplication IsApplicationOf (fields_of row.now) result }
 {
     let active = match field_at(row, APPLICATION_STATUS) {
         b"A" => true,

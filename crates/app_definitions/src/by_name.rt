@@ -1,11 +1,12 @@
 // Definitions by name.
 
-ghost use Rattle.std.specs.Prelude.{◌≡◌, ◌≢◌, ◌↔◌, ℕ, List, [], ◌∷◌, ◌++◌, length, IsTrue, IsSome, IfOk, OnOk, OnErr};
+ghost use Rattle.std.specs.Prelude.{◌≡◌, ◌≢◌, ◌↔◌, ℕ, [], length, IsTrue, IsSome, IfOk, OnOk, OnErr};
 ghost use Rattle.std.specs.Prelude.{IfSome};
 ghost use Rattle.std.specs.Option.{option_copied};
 ghost use Rattle.std.specs.FinMap as map;
 ghost use Rattle.csv.specs.Records.{fields_of};
-ghost use Rattle.app_definitions.specs.ByName.{AreEntriesOf, AreGivenBy, AreNamesOf, FitsKind, HaveOwnNames, overlaid};
+ghost use Rattle.app_definitions.specs.ByName.{AreEntriesOf, AreGivenBy, AreNamesOf, Begins, FitsKind, HaveOwnNames};
+ghost use Rattle.app_definitions.specs.ByName.{Joins, overlaid};
 ghost use Rattle.app_definitions.specs.Rising.{AreRising};
 ghost use Rattle.app_definitions.specs.Records.{Record, Records};
 
@@ -34,8 +35,7 @@ pub trait Definition: Drop {
     /// The definition that the first record about a name begins, or none where the record is faulty.
     fn begin(alloc: Global, row: &ByteRecord) -> Result<Option<Self>, AllocError>
         requires { length (fields_of row.now) ≡ FIELDS }
-        ensures begun { IfOk result (λ d. IsSome d ↔ FitsName [] (fields_of row.now)) }
-        ensures made { IfOk result (λ d. IfSome d (λ d. IsMadeOf d (fields_of row.now ∷ []))) };
+        ensures { IfOk result (Begins FitsName IsMadeOf (fields_of row.now)) };
 
     /// An owned copy.
     fn copy(&self) -> Result<Self, AllocError>
@@ -44,10 +44,8 @@ pub trait Definition: Drop {
     /// Takes a further record about the name, or answers that it is faulty.
     fn join(&mut self, row: &ByteRecord) -> Result<bool, AllocError>
         requires { length (fields_of row.now) ≡ FIELDS }
-        ensures taken { (before : Records) → before ≢ [] → IsMadeOf self.old before
-            → IfOk result (λ taken. IsTrue taken ↔ FitsName before (fields_of row.now)) }
-        ensures made { (before : Records) → before ≢ [] → IsMadeOf self.old before
-            → IfOk result (λ taken. IsTrue taken → IsMadeOf self.new (before ++ fields_of row.now ∷ [])) };
+        ensures { (before : Records) → before ≢ [] → IsMadeOf self.old before
+            → IfOk result (Joins FitsName IsMadeOf before (fields_of row.now) self.new) };
 }
 
 /// Definitions of one kind by name. Contracts see the map from names to definitions.
@@ -189,10 +187,8 @@ impl<D: Definition> Clone for ByName<D> {
 impl<D: Definition> ByName<D> {
     /// Takes the next record of a block in, or answers that it is faulty.
     pub(crate) fn gather(&mut self, alloc: Global, row: &ByteRecord) -> Result<bool, AllocError>
-        ensures taken { (before : Records) → AreGivenBy D.IsMadeOf self.old before
-            → IfOk result (λ taken. IsTrue taken ↔ FitsKind D.FIELDS D.FitsName before (fields_of row.now)) }
-        ensures gathered { (before : Records) → AreGivenBy D.IsMadeOf self.old before
-            → IfOk result (λ taken. IsTrue taken → AreGivenBy D.IsMadeOf self.new (before ++ fields_of row.now ∷ [])) }
+        ensures { (before : Records) → AreGivenBy D.IsMadeOf self.old before → IfOk result
+            (Joins (FitsKind D.FIELDS D.FitsName) (AreGivenBy D.IsMadeOf) before (fields_of row.now) self.new) }
     {
         if row.len() != D::FIELDS {
             return Ok(false);

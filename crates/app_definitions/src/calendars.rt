@@ -1,8 +1,9 @@
 // Calendars.
 
-ghost use Rattle.std.specs.Prelude.{◌≡◌, ◌↔◌, ℕ, List, [], ◌∷◌, ◌++◌, length, IsTrue, IsSome, IfSome, IfOk};
+ghost use Rattle.std.specs.Prelude.{◌≡◌, ◌↔◌, ℕ, IsSome, IfSome, IfOk};
 ghost use Rattle.csv.specs.Records.{fields_of};
 ghost use Rattle.jiff_core.specs.Weekday.{monday_zero};
+ghost use Rattle.app_definitions.specs.ByName.{Joins};
 ghost use Rattle.app_definitions.specs.Calendars.{FitsCalendar, IsCalendarOf, IsWeekdayText, IsStatusText, status_of};
 ghost use Rattle.app_definitions.specs.Records.{Records};
 ghost use Rattle.app_definitions.specs.declared.columns.TheConstants.{CALENDAR_FIELDS};
@@ -45,10 +46,8 @@ fn status_of(bytes: &[u8]) -> Option<DayStatus>
 
 // Adds the entry of a record to the calendar, or answers that the record is faulty.
 fn add_entry(calendar: &mut Calendar, row: &ByteRecord) -> Result<bool, AllocError>
-    ensures taken { (before : Records) → IsCalendarOf calendar.old before
-        → IfOk result (λ taken. IsTrue taken ↔ FitsCalendar before (fields_of row.now)) }
-    ensures made { (before : Records) → IsCalendarOf calendar.old before
-        → IfOk result (λ taken. IsTrue taken → IsCalendarOf calendar.new (before ++ fields_of row.now ∷ [])) }
+    ensures { (before : Records) → IsCalendarOf calendar.old before
+        → IfOk result (Joins FitsCalendar IsCalendarOf before (fields_of row.now) calendar.new) }
 {
     let Some(status) = status_of(field_at(row, CALENDAR_STATUS)) else {
         return Ok(false);

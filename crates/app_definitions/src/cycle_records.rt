@@ -1,6 +1,6 @@
 // Run cycles.
 
-ghost use Rattle.std.specs.Prelude.{◌≡◌, ◌↔◌, ◌<◌, ◌≤ℤ◌, pos, ℕ, List, ℤ, [], ◌∷◌, ◌++◌, map, length, IsTrue, IsSome};
+ghost use Rattle.std.specs.Prelude.{◌≡◌, ◌↔◌, ◌<◌, ◌≤ℤ◌, pos, List, ℤ, map, length, IsTrue, IsSome};
 ghost use Rattle.std.specs.Prelude.{IfSome, IfOk, IfErr};
 ghost use Rattle.std.specs.List.{HoldsAt};
 ghost use Rattle.csv.specs.Records.{fields_of};

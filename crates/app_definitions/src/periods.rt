@@ -1,6 +1,6 @@
 // Periods.
 
-ghost use Rattle.std.specs.Prelude.{◌≡◌, ◌↔◌, ◌≤◌, ℕ, List, [], ◌∷◌, ◌++◌, length, Option, IsTrue, IsSome, IfSome};
+ghost use Rattle.std.specs.Prelude.{◌≡◌, ◌↔◌, ◌≤◌, [], ◌∷◌, ◌++◌, Option, IsTrue, IsSome, IfSome};
 ghost use Rattle.std.specs.Prelude.{IsOk, IfOk, IfErr, OnErr, false};
 ghost use Rattle.csv.specs.Records.{fields_of};
 ghost use Rattle.plan_periods.specs.Fault.{IsLeastFault};

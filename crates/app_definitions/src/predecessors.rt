@@ -1,9 +1,8 @@
 // The predecessors of applications.
 
-ghost use Rattle.std.specs.Prelude.{◌≡◌, ◌↔◌, ◌<◌, ℕ, List, [], ◌∷◌, ◌++◌, map, length, IsTrue, IsSome, IfSome, IfOk};
+ghost use Rattle.std.specs.Prelude.{◌≡◌, ◌↔◌, ◌<◌, ℕ, List, length, IsTrue, IsSome, IfSome, IfOk};
 ghost use Rattle.std.specs.Prelude.{IfErr};
 ghost use Rattle.std.specs.List.{HoldsAt};
-ghost use Rattle.csv.specs.Records.{fields_of};
 ghost use Rattle.app_definitions.specs.Predecessors.{FitsPredecessors, ArePredecessorsOf};
 ghost use Rattle.app_definitions.specs.Rising.{AreRising, IsPlaceFor};
 ghost use Rattle.app_definitions.specs.declared.columns.TheConstants.{PREDECESSOR_FIELDS};

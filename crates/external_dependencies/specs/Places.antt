@@ -1,4 +1,4 @@
--- Applications by their places in a list of names.
+-- Words of private contracts alone: applications by their places in a list of names.
 use Rattle.std.specs.Prelude.{◌≡◌, ℕ, ◌<◌, ◌↔◌, List, [], length, slice_index_or, Contains}
 use Rattle.external_dependencies.specs.declared.links.Link.{Link}
 use Rattle.external_dependencies.specs.Link.{Lists}

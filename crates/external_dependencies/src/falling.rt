@@ -1,4 +1,4 @@
-ghost use Rattle.std.specs.Prelude.{◌≡◌, ◌≢◌, ℕ, ◌<◌, ◌≤◌, length, slice_index, All, IfOk, IsTrue};
+ghost use Rattle.std.specs.Prelude.{◌≢◌, ℕ, ◌<◌, length, slice_index, All, IfOk, IsTrue};
 ghost use Rattle.external_dependencies.specs.Falling.{AreInRange, IsAtMost, AreShared};
 
 use std::alloc::{AllocError, Global};

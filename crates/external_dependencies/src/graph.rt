@@ -1,4 +1,4 @@
-ghost use Rattle.std.specs.Prelude.{◌≡◌, ◌≢◌, ℕ, ◌<◌, ◌↔◌, length, IfOk, IsTrue, MatchBool, Contains, All};
+ghost use Rattle.std.specs.Prelude.{◌≢◌, ℕ, ◌<◌, ◌↔◌, length, IfOk, IsTrue, MatchBool, Contains, All};
 ghost use Rattle.external_dependencies.specs.Walk.{ReturnsTo};
 ghost use Rattle.external_dependencies.specs.Falling.{FallAlong, IsLeastReturning};
 ghost use Rattle.external_dependencies.specs.Search.{Visits};

@@ -61,7 +61,8 @@ impl Links {
 
     /// The lists that these links make, given in any order.
     pub fn from_vec(links: Vec<Link>) -> Links
-        ensures { (link : Link) → Contains result link ↔ Contains links.items link }
+        ensures rising { IsRising link_cmp result }
+        ensures same { (link : Link) → Contains result link ↔ Contains links.items link }
     {
         Links {
             links: into_rising(links),

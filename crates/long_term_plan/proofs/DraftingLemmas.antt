@@ -1,14 +1,14 @@
 -- Drafts that the calendars name, and those of them that are new.
-use Rattle.std.proofs.Common.{◌≡◌, ◌≢◌, ◌↔◌, ℕ, ◌+◌, ◌<◌, ◌≤◌, ◌++◌, Bool, true, false, List, [], ◌∷◌, length, filter}
+use Rattle.std.proofs.Common.{◌≡◌, ◌≢◌, ◌↔◌, ℕ, ◌+◌, ◌≤◌, ◌++◌, Bool, true, false, List, [], ◌∷◌, length, filter}
 use Rattle.std.proofs.Common.{map, get_or, refl, rules, sym, ap, append_assoc, subst, ◌∙◌, inl, inr, arith, Option}
 use Rattle.std.proofs.Common.{None, Some}
-use Rattle.std.specs.Prelude.{Any, nat_le, not, unwrap_or, IsSome, IsTrue, if◌then◌else◌}
+use Rattle.std.specs.Prelude.{nat_le, not, IsSome, IsTrue, if◌then◌else◌}
 use Rattle.std.specs.FinMap as map
 use Rattle.std.specs.List.{Contains}
 use Rattle.std.proofs.lemmas.Bool.{false≢true, le-leb, leb-true}
 use Rattle.std.specs.Ordering.{is_ge, nat_cmp}
 use Rattle.std.proofs.lemmas.List.{append-nil, map-append}
-use Rattle.std.proofs.lemmas.List.Elements.{All-contains, Contains-append_cases, Contains-append_left}
+use Rattle.std.proofs.lemmas.List.Elements.{Contains-append_cases, Contains-append_left}
 use Rattle.std.proofs.lemmas.List.Elements.{Contains-append_right, Contains-get_or, Contains-push, Contains-push_cases}
 use Rattle.std.proofs.lemmas.List.Elements.{filter-append}
 use Rattle.std.proofs.lemmas.List.Kept.{AllPairs-filter}
@@ -16,11 +16,9 @@ use Rattle.std.proofs.lemmas.List.Quantifiers.{all_pairs_push}
 use Rattle.work_calendars.specs.Minute.{IsMinute}
 use Rattle.work_calendars.specs.Moment.{day_of_moment, moment_of}
 use Rattle.run_cycles.specs.Occurrence.{IsEarlier, IsOccurrence}
-use Rattle.run_cycles.specs.declared.cycles.RunCycle.{RunCycle}
 use Rattle.run_cycles.specs.declared.named.Named.{Named}
 use Rattle.app_definitions.specs.Active.{IsActive, cycles_of}
-use Rattle.app_definitions.specs.ByName.{AreNamesOf, IsDefinedBy, records_of}
-use Rattle.app_definitions.specs.CycleRecords.{AreRunCyclesOf, SpellsRunCycle}
+use Rattle.app_definitions.specs.ByName.{AreNamesOf}
 use Rattle.app_definitions.specs.NamedOccurrences.{ListsNamed, work_of}
 use Rattle.app_definitions.specs.declared.applications.Application.{Application}
 use Rattle.app_definitions.specs.declared.definitions.Definitions.{Definitions}
@@ -32,6 +30,7 @@ use Rattle.planner_machine.specs.declared.content.Draft.{Draft}
 use Rattle.planner_machine.specs.Content.{Sets, midnight}
 use Rattle.planner_machine.specs.Drafts.{AreDrafts, IsMade, IsNamed, NamesWithin, draft_of}
 use Rattle.planner_machine.specs.Sound.{AreDefinitions}
+use Rattle.planner_machine.proofs.RangeLemmas.{cycle_ranges}
 use Rattle.plan_store.specs.Views.{IsDeletedKey, IsPlannedRow}
 use Rattle.plan_pairs.proofs.ListLemmas.{filter_has, filter_keeps, none}
 use Rattle.long_term_plan.specs.Drafting.{AddsDrafts, AreCollected, AreDraftsOf, AreInOrder, AreNew, HaveOwnKeys}
@@ -40,22 +39,12 @@ use Rattle.long_term_plan.proofs.PairwiseLemmas.{append_pairs, front_pairs, last
 
 -- ---- times of named occurrences
 
-cycle_minute : (all : Definitions) → AreDefinitions all → (app : List ℕ) (o : Option (List RunCycle))
-    → map.get all.run_cycles app ≡ o → (cycle : RunCycle) → Contains (unwrap_or o []) cycle → IsMinute cycle.ia
-cycle_minute all are app None is cycle there = absurd (none cycle there)
-cycle_minute all are app (Some cycles) is cycle there =
-    let (rows, good, defined) = are.run_cycles app in
-    let made : IsDefinedBy AreRunCyclesOf (Some cycles) (records_of app rows) =
-    subst (λ (o : Option (List RunCycle)). IsDefinedBy AreRunCyclesOf o (records_of app rows)) is defined in
-    let (k, row, within, at, spells) =
-    All-contains (λ c. Any (λ r. SpellsRunCycle r c) (records_of app rows)) cycles cycle made.1.each there in
-    spells.ia.in_range
-
 pub named_minute : (all : Definitions) → AreDefinitions all → (app : List ℕ) (x : Named) → IsNamed all app x
     → IsMinute x.time
 named_minute all are app x (a, active, occurs) =
     let (k, cycle, within, at, gives) = occurs.given in
-    subst IsMinute gives.1.0 (cycle_minute all are app (map.get all.run_cycles app) refl cycle (k, within, at))
+    let ranges = cycle_ranges all are app (map.get all.run_cycles app) refl cycle (k, within, at) in
+    subst IsMinute gives.1.0 ranges.ia
 
 -- ---- the drafts of one application
 
@@ -92,7 +81,7 @@ compared first ia b is = search (rules, is)
 
 module _ (all : Definitions) (app : List ℕ) (a : Application) (active : IsActive all app a) (first last : ℕ)
     (named : List Named) (lists : ListsNamed all app a (day_of_moment first) last named) where
-  listed : (x : Named) → Contains named x → IsNamed all app x × (day_of_moment first ≤ x.day) × (x.day < last + 1)
+  listed : (x : Named) → Contains named x → IsNamed all app x × (day_of_moment first ≤ x.day) × (x.day ≤ last)
   listed x there = let is = (lists.exactly x).0 there in ((a, active, is.2), is.0, is.1)
 
   has_drafts : (draft : Draft) → Contains (drafts_from app first named) draft

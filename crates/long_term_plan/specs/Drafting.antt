@@ -1,5 +1,5 @@
 -- Lists of drafts: those that the calendars name from a moment on, and those of them that are new.
-use Rattle.std.specs.Prelude.{◌≡◌, ◌≢◌, ◌↔◌, ℕ, ◌+◌, ◌<◌, ◌≤◌, ◌++◌, Bool, List, Contains, Some, filter, map, nat_le}
+use Rattle.std.specs.Prelude.{◌≡◌, ◌≢◌, ◌↔◌, ℕ, ◌≤◌, ◌++◌, Bool, List, Contains, Some, filter, map, nat_le}
 use Rattle.std.specs.List.{AllPairs}
 use Rattle.work_calendars.specs.Moment.{day_of_moment}
 use Rattle.run_cycles.specs.declared.named.Named.{Named}
@@ -35,7 +35,7 @@ pub record IsNamedFrom (all : Definitions) (app : List ℕ) (first last : ℕ) (
   pub occurrence : Named
   pub named : IsNamed all app occurrence
   pub begun : day_of_moment first ≤ occurrence.day
-  pub ended : occurrence.day < last + 1
+  pub ended : occurrence.day ≤ last
   pub is : draft ≡ draft_of app occurrence
   pub from : first ≤ draft.key.ia
 

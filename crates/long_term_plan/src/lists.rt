@@ -15,9 +15,7 @@ pub(crate) fn defined_lists(alloc: Global, all: &Definitions) -> Result<Links, A
 {
     let listed = all.links(alloc)?;
     let links = links_of(alloc, listed.as_slice())?;
-    let lists = Links::from_vec(links);
-    let _in_order = lists.as_slice();
-    Ok(lists)
+    Ok(Links::from_vec(links))
 }
 
 // The links of applications and their predecessors.
@@ -45,9 +43,7 @@ pub(crate) fn lists_of_one(
     let mut links = own_links(alloc, all, app)?;
     let others = other_links(alloc, before.as_slice(), app)?;
     links.extend_from_slice(others.as_slice())?;
-    let lists = Links::from_vec(links);
-    let _in_order = lists.as_slice();
-    Ok(lists)
+    Ok(Links::from_vec(links))
 }
 
 // The links of the list that is defined for the application.

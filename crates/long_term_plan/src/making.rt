@@ -1,4 +1,4 @@
-ghost use Rattle.std.specs.Prelude.{◌≡◌, ◌↔◌, ◌+◌, ◌≤◌, ℕ, List, length, IfOk, IsTrue, false};
+ghost use Rattle.std.specs.Prelude.{◌≡◌, ◌↔◌, ◌+◌, ◌≤◌, List, length, IfOk, IsTrue, false};
 ghost use Rattle.work_calendars.specs.Day.{last_planning_day};
 ghost use Rattle.occurrences.specs.Serial.{IsSerial};
 ghost use Rattle.occurrences.specs.declared.serial.TheConstants.{GREATEST_SERIAL};

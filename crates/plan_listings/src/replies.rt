@@ -71,7 +71,18 @@ fn append_detail(line: &mut Vec<u8>, refusal: &Refusal) -> Result<(), AllocError
             line.extend_from_slice(app.as_bytes())
         }
         Refusal::PredecessorUncompleted { serial } => append_count(line, "", serial.get() as usize),
-        _ => Ok(()),
+        Refusal::NotAStatement
+        | Refusal::JobWithAnotherText
+        | Refusal::NotDefined
+        | Refusal::NoPlan
+        | Refusal::PlanExists
+        | Refusal::DatesOutOfRange
+        | Refusal::NoActiveApplication
+        | Refusal::KeyIsLive
+        | Refusal::NoSuchOccurrence
+        | Refusal::StatusForbids
+        | Refusal::TooManyRows
+        | Refusal::PlanEndOutOfRange => Ok(()),
     }
 }
 

@@ -28,12 +28,12 @@ steps_inside origin n from to latest q1 q2 j some range begun to_end days_end hi
     let m2 : j * n ≤ q2 * n = mul-le-mul_right n upto in
     record { exists = omega arith; begins = omega arith; ends = omega arith; range = range }
 
-steps_outside : (origin n from to latest j : ℕ) → 1 ≤ n → n ≤ 37255 →
-    latest ≡ min to (37255 - n) → MeetsAt origin n from to j
+steps_outside : (origin n from to latest j : ℕ) → 1 ≤ n → n ≤ last_day + 1 →
+    latest ≡ min to (last_day + 1 - n) → MeetsAt origin n from to j
     → ((from - origin) / n ≤ j) × (j < (latest - origin) / n + 1)
 steps_outside origin n from to latest j some few latest-is m =
     let positive : 0 < n = omega arith in
-    let exists : origin + j * n + n - 1 ≤ 37254 = m.exists in
+    let exists : origin + j * n + n - 1 ≤ last_day = m.exists in
     let begins : origin + j * n ≤ to = m.begins in
     let ends : from ≤ origin + j * n + n - 1 = m.ends in
     let h1 : from - origin < (j + 1) * n = omega arith in
@@ -49,8 +49,8 @@ steps_few q1 q3 n a b d some high1 high3 near =
     let k : b / n < q3 + q1 + 2 = div_below b n (q3 + q1 + 2) positive h in omega (arith, k)
 
 -- the places by division
-pub steps_meet : (origin n from to latest : ℕ) → 1 ≤ n → n ≤ 37255 →
-    from ≤ to → to ≤ last_day → latest ≡ min to (37255 - n) → origin ≤ latest
+pub steps_meet : (origin n from to latest : ℕ) → 1 ≤ n → n ≤ last_day + 1 →
+    from ≤ to → to ≤ last_day → latest ≡ min to (last_day + 1 - n) → origin ≤ latest
     → StepsMeet origin n from to ((from - origin) / n) ((latest - origin) / n + 1)
 steps_meet origin n from to latest some few range in_days latest-is begun =
     let positive : 0 < n = omega arith in
@@ -99,7 +99,7 @@ step_is_listed : (origin n from to start i : ℕ) → 1 ≤ n → MeetsAt origin
     → let x = step (origin + start * n + i * n) n in IsInterval (AllDays origin n) x.first x.last ×
     MeetsRange x.first x.last from to
 step_is_listed origin n from to start i some m =
-    let exists : origin + (start + i) * n + n - 1 ≤ 37254 = m.exists in
+    let exists : origin + (start + i) * n + n - 1 ≤ last_day = m.exists in
     let begins : origin + (start + i) * n ≤ to = m.begins in
     let ends : from ≤ origin + (start + i) * n + n - 1 = m.ends in
     let range : from ≤ to = m.range in
@@ -119,7 +119,7 @@ meets_at : (origin n from to j : ℕ) (x : Interval) → 1 ≤ n →
 meets_at origin n from to j x some first-is last-is exists (day, (low, high), after, before) =
     let P : Option ℕ → Type 0 = λ o. IfSome o (λ end. day ≤ end) in
     let within : day ≤ x.first + n - 1 = subst P last-is high in
-    let in_days : x.first + n - 1 ≤ 37254 = exists in
+    let in_days : x.first + n - 1 ≤ last_day = exists in
     record { exists = omega arith; begins = omega arith; ends = omega arith; range = omega arith }
 
 contains_step : (origin n start i count : ℕ) (x : Interval) →

@@ -1,5 +1,5 @@
 -- Lemmas on what `days` is answered.
-use Rattle.std.proofs.Common.{◌≡◌, ◌≤◌, ℕ, List, refl, sym, subst, arith, lit≤}
+use Rattle.std.proofs.Common.{◌≡◌, ◌≤◌, ℕ, List, refl, sym, subst, lit≤}
 use Rattle.app_definitions.specs.Active.{IsActive, LacksCalendar, LacksPeriod, cycles_of}
 use Rattle.app_definitions.specs.NamedOccurrences.{ListsNamed, work_of}
 use Rattle.app_definitions.specs.declared.applications.Application.{Application}
@@ -107,9 +107,9 @@ module _ (all : Definitions) (app : List ℕ) (a : Application) (active : IsActi
   pub lists_days : (list : List Named) → ListsNamed all app a from to list → ListsDays all app from to list
   lists_days list lists = record {
     exactly = λ x. (
-      λ there. let (first, last, is) = (lists.exactly x).0 there in ((a, active, is), first, omega (arith, last)),
+      λ there. let (first, last, is) = (lists.exactly x).0 there in ((a, active, is), first, last),
       λ h. let ((b, other, is), first, last) = h in
-          (lists.exactly x).1 (first, omega (arith, last), subst (λ y. IsOccurrence (cycles_of all app) all.periods (work_of all y) x) (one_active all app b a other active) is),
+          (lists.exactly x).1 (first, last, subst (λ y. IsOccurrence (cycles_of all app) all.periods (work_of all y) x) (one_active all app b a other active) is),
     );
     in_order = lists.in_order;
   }

@@ -19,7 +19,7 @@ mod FollowLemmas
 mod LoopLemmas
 mod PlannedLemmas
 mod ClosedLemmas
-mod RangeLemmas
+pub mod RangeLemmas
 mod AssembleLemmas
 mod StartLemmas
 mod StaysSoundLemmas

@@ -113,7 +113,7 @@ kind_ranges (Normal own) letter day time spells d is =
     subst (λ (x : Deadline). (x.days ≤ 99) × IsMinute x.time) (sym is) (omega arith, spelled.clock.in_range)
 kind_ranges (Negative own) letter day time spells d is = absurd is
 
-cycle_ranges : (all : Definitions) → AreDefinitions all → (app : List ℕ) (o : Option (List RunCycle))
+pub cycle_ranges : (all : Definitions) → AreDefinitions all → (app : List ℕ) (o : Option (List RunCycle))
     → map.get all.run_cycles app ≡ o → (cycle : RunCycle) → Contains (unwrap_or o []) cycle → CycleRanges cycle
 cycle_ranges all are app None is cycle (k, lt, at) = absurd (omega (arith, lt))
 cycle_ranges all are app (Some cycles) is cycle there =

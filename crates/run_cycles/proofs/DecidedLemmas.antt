@@ -260,7 +260,7 @@ module _ (cycles : List RunCycle) (periods : PeriodMap) (work : ℕ →
 
   -- the occurrence that the first of a day and time gives
   gives_occurrence : (k : ℕ) (y : Naming) (g : Given) → k < length xs →
-      IsFirstAt xs k y → y.given ≡ Some g → IsOccurrenceBetween cycles periods work from (to + 1)
+      IsFirstAt xs k y → y.given ≡ Some g → IsOccurrenceBetween cycles periods work from to
       (named_by y.day y.time g)
   gives_occurrence k y g in' first given =
       let here = (each y).0 (k, in', first.0) in
@@ -292,10 +292,10 @@ module _ (cycles : List RunCycle) (periods : PeriodMap) (work : ℕ →
       )
 
   decided_occurs : (x : Named) → IsDecidedBefore xs (length xs) x →
-      IsOccurrenceBetween cycles periods work from (to + 1) x
+      IsOccurrenceBetween cycles periods work from to x
   decided_occurs x (k, less, by) =
       let (y, g, in', first, given, is) = by in
-      subst (λ z. IsOccurrenceBetween cycles periods work from (to + 1) z)
+      subst (λ z. IsOccurrenceBetween cycles periods work from to z)
       (sym is) (gives_occurrence k y g in' first given)
 
   -- the first of an occurrence's day and time takes nothing away
@@ -318,7 +318,7 @@ module _ (cycles : List RunCycle) (periods : PeriodMap) (work : ℕ →
   some_or_none None = inl refl
   some_or_none (Some g) = inr (g, refl)
 
-  occurs_decided : HaveOwnNames cycles → (x : Named) → IsOccurrenceBetween cycles periods work from (to + 1) x →
+  occurs_decided : HaveOwnNames cycles → (x : Named) → IsOccurrenceBetween cycles periods work from to x →
       IsDecidedBefore xs (length xs) x
   occurs_decided own x (low, high, occurs) =
       let (i, c, in-c, at-c, by) = occurs.given in
@@ -338,7 +338,7 @@ module _ (cycles : List RunCycle) (periods : PeriodMap) (work : ℕ →
   -- the list of what is decided is that of the occurrences
   pub lists_decided : HaveOwnNames cycles → (list : List Named) →
       ListsInOrder (IsDecidedBefore xs (length xs)) list → ListsInOrder
-      (IsOccurrenceBetween cycles periods work from (to + 1)) list
+      (IsOccurrenceBetween cycles periods work from to) list
   lists_decided own list h =
-      lists_same (IsDecidedBefore xs (length xs)) (IsOccurrenceBetween cycles periods work from (to + 1)) list h
+      lists_same (IsDecidedBefore xs (length xs)) (IsOccurrenceBetween cycles periods work from to) list h
       (λ x. (decided_occurs x, occurs_decided own x))

@@ -3,7 +3,7 @@ use Rattle.std.proofs.Common.{◌≡◌, ℕ, ◌+◌, ◌<◌, ◌≤◌, ◌�
 use Rattle.std.proofs.Common.{IsNone, IfSome, option_map, ⊎_elim, sym, subst, ap, refl, arith}
 use Rattle.std.specs.Prelude.{MatchBool}
 use Rattle.std.proofs.lemmas.Bool.{cases_lt}
-use Rattle.work_calendars.specs.Day.{IsDay}
+use Rattle.work_calendars.specs.Day.{IsDay, last_day}
 use Rattle.work_calendars.specs.WorkDay.{IsNthWorkDay, work_days_before}
 use Rattle.work_calendars.specs.WorkIndex.{is_work_in}
 use Rattle.work_calendars.proofs.WorkIndexFacts.{is_work_in-past}
@@ -170,12 +170,12 @@ rule_is rule work first last k d e =
     subst P (sym e) (place_is_work_day work k first last d)
 
 -- work days come before any day no more than all of them
-pub few_work_days : (statuses : List Bool) (d : ℕ) → work_days_before (is_work_in statuses) d ≤ 37255
+pub few_work_days : (statuses : List Bool) (d : ℕ) → work_days_before (is_work_in statuses) d ≤ last_day + 1
 few_work_days statuses zero = let e = work_days_before-le (is_work_in statuses) 0 in omega arith
 few_work_days statuses (suc d) =
     let next : suc d ≡ d + 1 = omega arith in
     ⊎_elim
-    (λ (l : d < 37255). let e = work_days_before-le (is_work_in statuses) (suc d) in omega arith)
-    (λ (g : 37255 ≤ d). let same = work_days_before-free (is_work_in statuses) d
+    (λ (l : d < last_day + 1). let e = work_days_before-le (is_work_in statuses) (suc d) in omega arith)
+    (λ (g : last_day + 1 ≤ d). let same = work_days_before-free (is_work_in statuses) d
     (is_work_in-past statuses d (omega arith)) in let so = few_work_days statuses d in rw next (omega arith))
-    (cases_lt d 37255)
+    (cases_lt d (last_day + 1))

@@ -6,8 +6,9 @@ use Rattle.plan_periods.specs.declared.periods.Period.{Period}
 use Rattle.plan_periods.specs.declared.periods.Period.TheVariants.{All as AllDays, Work, Listed}
 use Rattle.run_cycles.specs.declared.rules.Rule.{Rule}
 use Rattle.run_cycles.specs.declared.rules.Rule.TheVariants.{WorkDaysOnly, Before, After, Same, Skip}
+use Rattle.run_cycles.specs.CountedDay.{IsCountedInInterval}
 use Rattle.run_cycles.specs.Offset.{Offset, offset_of}
-use Rattle.run_cycles.specs.Searches.{IsCountedInInterval, IsRawDayWithin}
+use Rattle.run_cycles.specs.Searches.{IsRawDayWithin}
 use Rattle.run_cycles.specs.Shift.{IsShifted}
 use Rattle.run_cycles.proofs.Iff.{Any-weaker}
 use Rattle.run_cycles.specs.NamedDay.{GivesDay, IsShiftedDay}

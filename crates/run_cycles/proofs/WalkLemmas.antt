@@ -5,10 +5,10 @@ use Rattle.plan_periods.specs.declared.intervals.Interval.{Interval}
 use Rattle.plan_periods.specs.declared.periods.Period.{Period}
 use Rattle.plan_periods.specs.Interval.{HoldsDay}
 use Rattle.plan_periods.specs.Walk.{ListsMeeting}
-use Rattle.run_cycles.specs.CountedDay.{IsWorkDayAt}
+use Rattle.run_cycles.specs.CountedDay.{IsCountedInInterval, IsWorkDayAt}
 use Rattle.run_cycles.specs.Offset.{Offset, FromFirst, FromLast, offset_of}
 use Rattle.run_cycles.specs.RawDay.{IsDayAt}
-use Rattle.run_cycles.specs.Searches.{IsCountedInInterval, IsDayAtWithin, IsRawDayWithin}
+use Rattle.run_cycles.specs.Searches.{IsDayAtWithin, IsRawDayWithin}
 
 pub not_found : (b : Bool) (Found : Type 0) → (IsTrue b ↔ Found) → b ≡ false → ¬ Found
 not_found b Found says is_false h = let is_true : b ≡ true = says.1 h in cc

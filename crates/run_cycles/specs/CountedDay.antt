@@ -28,10 +28,14 @@ abbrev pub HasPlace : Offset → ℕ → ℕ → Type 0
 HasPlace (FromFirst k) n c = (1 ≤ k) × (k ≤ n) × (c % n + 1 ≡ k)
 HasPlace (FromLast k) n c = (1 ≤ k) × (k ≤ n) × (c % n + k ≡ n)
 
+-- d is the work day at the offset of some interval of the period
+abbrev pub IsCountedInInterval : Period → Offset → (ℕ → Bool) → ℕ → Type 0
+IsCountedInInterval period k work d =
+    (first : ℕ) × (end : Option ℕ) × IsInterval period first end × IsWorkDayAt work k first end d
+
 -- the work day d is counted at the offset: in an interval of the period, or in a period of work days by its place from
 -- the origin on
 abbrev pub IsCountedDay : Period → Offset → (ℕ → Bool) → ℕ → Type 0
 IsCountedDay (Work origin n) k work d =
     IsTrue (work d) × (origin ≤ d) × HasPlace k n (work_days_among work origin (d - origin))
-IsCountedDay period k work d =
-    (first : ℕ) × (end : Option ℕ) × IsInterval period first end × IsWorkDayAt work k first end d
+IsCountedDay period k work d = IsCountedInInterval period k work d

@@ -80,12 +80,12 @@ pub record ListsInOrder (P : Named → Type 0) (list : List Named) : Type 0 wher
   pub exactly : (x : Named) → Contains list x ↔ P x
   pub in_order : AllPairs IsEarlier list
 
--- the run cycles name the occurrence, and its day is one from `from` to the day before `end`
+-- the run cycles name the occurrence, and its day is one from `from` to `to`
 abbrev pub IsOccurrenceBetween : List RunCycle → PeriodMap → (ℕ → Bool) → ℕ → ℕ → Named → Type 0
-IsOccurrenceBetween cycles periods work from end x =
-    (from ≤ x.day) × (x.day < end) × IsOccurrence cycles periods work x
+IsOccurrenceBetween cycles periods work from to x =
+    (from ≤ x.day) × (x.day ≤ to) × IsOccurrence cycles periods work x
 
 -- the list has the named occurrences of the days from `from` to `to`, by day and time, none twice
 abbrev pub ListsOccurrences : List RunCycle → PeriodMap → (ℕ → Bool) → ℕ → ℕ → List Named → Type 0
 ListsOccurrences cycles periods work from to list =
-    ListsInOrder (IsOccurrenceBetween cycles periods work from (to + 1)) list
+    ListsInOrder (IsOccurrenceBetween cycles periods work from to) list

@@ -55,11 +55,6 @@ HasCount (FromFirst k) before before_first up_to_last = before + 1 ≡ before_fi
 HasCount (FromLast k) before before_first (Some n) = n ≡ before + k
 HasCount (FromLast k) before before_first None = ⊥
 
--- d is the work day at the offset of some interval of the period
-abbrev pub IsCountedInInterval : Period → Offset → (ℕ → Bool) → ℕ → Type 0
-IsCountedInInterval period k work d =
-    (first : ℕ) × (end : Option ℕ) × IsInterval period first end × IsWorkDayAt work k first end d
-
 -- a number gives the day d: as the place of a work day where work days count alone, else as a raw day that becomes d
 abbrev pub GivesPlace : Rule → (ℕ → Bool) → ℕ → ℕ → Type 0
 GivesPlace WorkDaysOnly work x d = IsNthWorkDay work x d

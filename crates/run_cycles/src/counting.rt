@@ -4,9 +4,9 @@ ghost use Rattle.work_calendars.specs.WorkIndex.{is_work_in};
 ghost use Rattle.plan_periods.specs.Interval.{HoldsDay};
 ghost use Rattle.plan_periods.specs.Period.{IsIntervalLength, IsSoundPeriod};
 ghost use Rattle.plan_periods.specs.declared.periods.Period.TheVariants.{Work};
-ghost use Rattle.run_cycles.specs.CountedDay.{HasPlace, IsCountedDay, IsWorkDayAt};
+ghost use Rattle.run_cycles.specs.CountedDay.{HasPlace, IsCountedDay, IsCountedInInterval, IsWorkDayAt};
 ghost use Rattle.run_cycles.specs.Offset.{offset_of};
-ghost use Rattle.run_cycles.specs.Searches.{HasCount, IsCountedInInterval};
+ghost use Rattle.run_cycles.specs.Searches.{HasCount};
 
 use plan_periods::{Interval, Intervals, Period};
 use work_calendars::{Day, WorkIndex};

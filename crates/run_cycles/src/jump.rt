@@ -1,4 +1,4 @@
-ghost use Rattle.std.specs.Prelude.{◌≡◌, ℕ, ◌↔◌, ◌+◌, ◌*◌, ◌^◌, ◌<◌, ◌≤◌, Some, Any, IfOk, IfSome, OnOk, All, length};
+ghost use Rattle.std.specs.Prelude.{◌≡◌, ℕ, ◌↔◌, ◌+◌, ◌*◌, ◌^◌, ◌<◌, ◌≤◌, Some, IfOk, IfSome, OnOk, All, length};
 ghost use Rattle.std.specs.Prelude.{option_map, [], ◌∷◌, MatchOption};
 ghost use Rattle.work_calendars.specs.WorkDay.{work_days_before};
 ghost use Rattle.work_calendars.specs.WorkIndex.{is_work_in};

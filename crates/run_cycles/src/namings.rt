@@ -1,4 +1,4 @@
-ghost use Rattle.std.specs.Prelude.{◌≡◌, ℕ, ◌↔◌, ◌≤◌, Any, All, Contains, IfOk, OnOk, map};
+ghost use Rattle.std.specs.Prelude.{◌≡◌, ◌↔◌, ◌≤◌, Any, All, Contains, IfOk, OnOk, map};
 ghost use Rattle.work_calendars.specs.WorkIndex.{is_work_in};
 ghost use Rattle.plan_periods.specs.Period.{IsSoundPeriod};
 ghost use Rattle.run_cycles.specs.declared.namings.Naming.{Naming};

@@ -114,12 +114,12 @@ pub(crate) fn place_at(offset: i16, start: usize, end: Option<usize>) -> Option<
     if offset > 0 {
         match end {
             Some(end) if start + count > end => None,
-            _ => Some(start + count - 1),
+            Some(_) | None => Some(start + count - 1),
         }
     } else {
         match end {
             Some(end) if count > 0 && start + count <= end => Some(end - count),
-            _ => None,
+            Some(_) | None => None,
         }
     }
 }

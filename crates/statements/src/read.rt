@@ -132,7 +132,11 @@ fn ltp_trial_of(a: &Arguments, function: FunctionWord) -> Option<Statement>
         FunctionWord::ModifyOne if !(a.has_from || a.has_to) => {
             Some(Statement::LtpTrialModifyOne { app: a.app? })
         }
-        _ => None,
+        FunctionWord::Create
+        | FunctionWord::Extend
+        | FunctionWord::ModifyAll
+        | FunctionWord::ModifyOne
+        | FunctionWord::Replan => None,
     }
 }
 
@@ -143,7 +147,10 @@ fn dp_trial_of(a: &Arguments, function: FunctionWord) -> Option<Statement>
     match function {
         FunctionWord::Extend => Some(Statement::DpTrialExtend { to: a.to_moment? }),
         FunctionWord::Replan if !a.has_to => Some(Statement::DpTrialReplan),
-        _ => None,
+        FunctionWord::Create
+        | FunctionWord::ModifyAll
+        | FunctionWord::ModifyOne
+        | FunctionWord::Replan => None,
     }
 }
 

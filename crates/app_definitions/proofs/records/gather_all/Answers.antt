@@ -47,10 +47,10 @@ returns-in-Ok-false-clause-faulty g c =
     let s = rw (c.in-Some.is, c.in-Ok.is) at ((c.next.ensures.steps inv.2 inv.0).0 inv.1) in
     let took = reader-took (λ (s : Bor (List ℕ)). Some s.now) c.loop-row.row-iterator.rdr c.next.new.self.rdr
     (fields_of c.in-Ok.record) default_config (strip_bom c.args.text.now) inv.10 inv.6 inv.3 inv.11 inv.12 s.0.0 in
-    let told = c.in-Ok-false.ensures.taken inv.6 inv.9 in
+    let joined = c.in-Ok-false.ensures inv.6 inv.9 in
     let is_false : c.in-Ok-false.field-0 ≡ false = c.in-Ok-false.field-0-test in
     let bad : ¬ (FitsKind g.D.Definition.FIELDS g.D.Definition.FitsName inv.6 (fields_of c.in-Ok.record)) =
-    λ fits. false≢true (sym is_false ∙ told.1 fits) in
+    λ fits. false≢true (sym is_false ∙ joined.fits.1 fits) in
     first_faulty-at (FitsKind g.D.Definition.FIELDS g.D.Definition.FitsName) _ inv.6 (fields_of c.in-Ok.record) took.0
     (c.loop-row.number + 1) took.1 inv.8 bad (omega (arith, inv.7))
 
@@ -63,10 +63,10 @@ loop-row-preserved g c =
     let m = rows-more (λ (s : Bor (List ℕ)). Some s.now) c.loop-row.row-iterator.rdr c.next.new.self.rdr
     (fields_of c.in-Ok.record) default_config st.StartRecord
     (strip_bom c.args.text.now) inv.10 inv.6 inv.3 inv.11 inv.12 s.0 in
-    let told = c.in-Ok-true.ensures.taken inv.6 inv.9 in
+    let joined = c.in-Ok-true.ensures inv.6 inv.9 in
     let is_true : c.in-Ok-true.field-0 ≡ true = c.in-Ok-true.field-0-test in
     let fits : FitsKind g.D.Definition.FIELDS g.D.Definition.FitsName inv.6 (fields_of c.in-Ok.record) =
-    told.0 is_true in
+    joined.fits.0 is_true in
     let expects = (s.0.5 refl inv.4).1 in (
       s.0.3 ∙ inv.0,
       inl s.1,
@@ -77,7 +77,7 @@ loop-row-preserved g c =
       inv.6 ++ fields_of c.in-Ok.record ∷ [],
       omega (arith, inv.7, length-append inv.6 (fields_of c.in-Ok.record ∷ [])),
       AllGood-more (FitsKind g.D.Definition.FIELDS g.D.Definition.FitsName) inv.6 (fields_of c.in-Ok.record) inv.8 fits,
-      c.in-Ok-true.ensures.gathered inv.6 inv.9 is_true,
+      joined.made is_true,
       m.0,
       m.1,
       m.2,

@@ -12,10 +12,10 @@ returns c =
     c.as_slice-2.ensures.value ∙ c.in_ok-others.ensures ∙ ap (filter (is_of_other app)) c.as_slice.ensures.all in
     let items = c.in_ok-extend_from_slice.ensures.items ∙ ap (λ l. own ++ l) others in
     record {
-      rising = c.as_slice-in_order.ensures.rising;
+      rising = c.from_vec.ensures.rising;
       exactly = λ link.
           let are = one_list c.args.all.now app c.args.before.now own c.in_ok-links.ensures link in (
-            (λ there. are.0 (subst (λ l. Contains l link) items ((c.from_vec-lists.ensures link).0 there))),
-            λ is. (c.from_vec-lists.ensures link).1 (subst (λ l. Contains l link) (sym items) (are.1 is)),
+            (λ there. are.0 (subst (λ l. Contains l link) items ((c.from_vec.ensures.same link).0 there))),
+            λ is. (c.from_vec.ensures.same link).1 (subst (λ l. Contains l link) (sym items) (are.1 is)),
           );
     }

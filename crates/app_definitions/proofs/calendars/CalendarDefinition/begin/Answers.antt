@@ -1,25 +1,23 @@
-use Rattle.std.proofs.Common.{◌≡◌, ◌∙◌, sym, [], true, rules}
+use Rattle.std.proofs.Common.{◌∙◌, sym, refl, []}
 use Rattle.std.proofs.lemmas.Bool.{false≢true}
 use Rattle.app_definitions.specs.Calendars.{IsCalendarOf}
 use Rattle.app_definitions.proofs.CalendarLemmas.{IsCalendarOf-none}
 use Rattle.app_definitions.proofs.calendars.CalendarDefinition.begin.Goals as goal
 
-pub returns-then-branch-clause-begun : goal.returns-then-branch-clause-begun
-returns-then-branch-clause-begun c =
+pub returns-then-branch : goal.returns-then-branch
+returns-then-branch c =
     let start : IsCalendarOf c.new-calendar.result [] = rw c.new-calendar.ensures IsCalendarOf-none in
-    let told = c.in_ok-add_entry.ensures.taken [] start in
-    (λ some. told.0 c.if-branch.true, λ fits. some_is)
-  where
-    some_is : true ≡ true
-    some_is = search rules
+    let joined = c.in_ok-add_entry.ensures [] start in
+    record {
+      fits = (λ some. joined.fits.0 c.if-branch.true, λ fits. refl);
+      made = joined.made c.if-branch.true;
+    }
 
-pub returns-then-branch-clause-made : goal.returns-then-branch-clause-made
-returns-then-branch-clause-made c =
+pub returns-else-branch : goal.returns-else-branch
+returns-else-branch c =
     let start : IsCalendarOf c.new-calendar.result [] = rw c.new-calendar.ensures IsCalendarOf-none in
-    c.in_ok-add_entry.ensures.made [] start c.if-branch.true
-
-pub returns-else-branch-clause-begun : goal.returns-else-branch-clause-begun
-returns-else-branch-clause-begun c =
-    let start : IsCalendarOf c.new-calendar.result [] = rw c.new-calendar.ensures IsCalendarOf-none in
-    let told = c.in_ok-add_entry.ensures.taken [] start in
-    (λ none. absurd (false≢true none), λ fits. sym c.if-branch.false ∙ told.1 fits)
+    let joined = c.in_ok-add_entry.ensures [] start in
+    record {
+      fits = (λ none. absurd (false≢true none), λ fits. sym c.if-branch.false ∙ joined.fits.1 fits);
+      made = tt;
+    }

@@ -4,8 +4,11 @@ use Rattle.app_definitions.specs.CycleRecords.{SpellsRunCycle}
 use Rattle.app_definitions.proofs.CycleLemmas.{run_cycles-one}
 use Rattle.app_definitions.proofs.cycle_records.RunCyclesDefinition.begin.Goals as goal
 
-pub returns-clause-made : goal.returns-clause-made
-returns-clause-made c =
+pub returns : goal.returns
+returns c =
     let s : SpellsRunCycle (fields_of c.args.row.now) c.in-Some.cycle = search rules in
-    rw (c.in_ok-push.ensures.items, c.new-cycles.ensures.items)
-    (run_cycles-one (fields_of c.args.row.now) c.in-Some.cycle s)
+    record {
+      fits = search rules;
+      made = rw (c.in_ok-push.ensures.items, c.new-cycles.ensures.items)
+          (run_cycles-one (fields_of c.args.row.now) c.in-Some.cycle s);
+    }
