@@ -1,5 +1,5 @@
 -- Lists in which no item stands twice.
-use Rattle.std.proofs.Common.{◌≡◌, ℕ, zero, suc, ◌<◌, ◌⊎◌, List, [], ◌∷◌, ◌++◌, length, get_or, sym, ap, subst, ◌∙◌}
+use Rattle.std.proofs.Common.{◌≡◌, zero, suc, List, [], ◌∷◌, ◌++◌, get_or, sym, ap, subst, ◌∙◌}
 use Rattle.std.proofs.Common.{inl, inr, arith, Option, None, Some, refl}
 use Rattle.std.specs.Prelude.{Bool, true, false, map}
 use Rattle.std.specs.Bool.{Decides}

@@ -1,5 +1,9 @@
+pub mod ClosedLemmas
+pub mod ClosedPairLemmas
 pub mod DistinctLemmas
+pub mod EdgeLemmas
 pub mod JobLemmas
+pub mod NodeLemmas
 pub mod NumberedLemmas
 pub mod PairLemmas
 pub mod RuleLemmas

@@ -1,6 +1,6 @@
 -- The rows of a content, and the serials that they stand under.
-use Rattle.std.proofs.Common.{◌≡◌, ℕ, ◌+◌, ◌<◌, ◌≤◌, ◌⊎◌, List, ◌++◌, refl, sym, ap, subst, ◌∙◌, inl, inr, arith}
-use Rattle.std.proofs.Common.{Option, None, Some}
+use Rattle.std.proofs.Common.{◌≡◌, ℕ, ◌<◌, ◌⊎◌, List, ◌++◌, refl, sym, ap, subst, ◌∙◌, inl, inr, arith}
+use Rattle.std.proofs.Common.{None, Some}
 use Rattle.std.specs.Prelude.{map}
 use Rattle.std.specs.List.{Contains}
 use Rattle.std.proofs.lemmas.List.Elements.{Contains-append_cases, Contains-append_left, Contains-append_right}
@@ -10,10 +10,10 @@ use Rattle.occurrences.specs.declared.place.Place.{Place}
 use Rattle.occurrences.specs.declared.place.Place.TheVariants.{LongTerm, Current, History, Deleted}
 use Rattle.occurrences.specs.declared.row.Row.{Row}
 use Rattle.external_dependencies.specs.declared.rows.PlacedRow.{PlacedRow}
-use Rattle.planner_machine.specs.Content.{Seat, Sets, StandsAt, alone, empty_seat, seat}
+use Rattle.planner_machine.specs.Content.{Seat, Sets, StandsAt, alone, seat}
 use Rattle.planner_machine.specs.Sound.{AreNumbered}
 use Rattle.planner_machine.proofs.SeatLemmas.{not_empty, one_place}
-use Rattle.plan_lists.specs.Rows.{AreRows, look_up, of_current, of_deletion, of_row}
+use Rattle.plan_lists.specs.Rows.{AreRows, of_current, of_deletion, of_row}
 use Rattle.plan_store.specs.Contents.{content_of}
 use Rattle.plan_store.specs.declared.contents.Content.{Content as Kept}
 use Rattle.plan_store.proofs.LookLemmas.{look_at, look_some}

@@ -1,9 +1,8 @@
 -- The rules of pairs, over a table of rows by serials.
-use Rattle.std.proofs.Common.{◌≡◌, ◌↔◌, ℕ, zero, suc, ◌-◌, ◌≤◌, ◌⊎◌, List, length, get_or, refl, sym, ap, subst, ◌∙◌}
-use Rattle.std.proofs.Common.{inl, inr, arith, Option, None, Some}
+use Rattle.std.proofs.Common.{◌≡◌, ℕ, zero, suc, ◌-◌, ◌≤◌, List, get_or, refl, sym, ap, subst}
+use Rattle.std.proofs.Common.{inl, arith, Option, None, Some}
 use Rattle.std.specs.List.{All, Contains}
 use Rattle.std.proofs.lemmas.List.Elements.{All-contains, All-contains_itself, All-weaker}
-use Rattle.external_dependencies.specs.Link.{Lists}
 use Rattle.external_dependencies.specs.Nearest.{IsCandidate, arrival_of}
 use Rattle.external_dependencies.specs.Pair.{pair_cmp}
 use Rattle.external_dependencies.specs.Rising.{IsRising}
@@ -12,11 +11,10 @@ use Rattle.external_dependencies.specs.declared.pairs.Pair.{Pair}
 use Rattle.external_dependencies.specs.declared.rows.PlacedRow.{PlacedRow}
 use Rattle.occurrences.specs.Place.{IsComplete}
 use Rattle.planner_machine.specs.Content.{Sets, StandsAt}
-use Rattle.planner_machine.specs.Pairs.{ArePairs, IsClosedAt, IsCompleteAt}
+use Rattle.planner_machine.specs.Pairs.{ArePairs}
 use Rattle.planner_machine.specs.Sound.{AreNumbered}
 use Rattle.planner_machine.proofs.SeatLemmas.{not_empty, one_place}
 use Rattle.planner_machine.proofs.RowsSound.{RowsSound}
-use Rattle.plan_lists.specs.Rows.{look_up}
 use Rattle.plan_pairs.specs.LiveRows.{HasLists, HasPairsAfter}
 use Rattle.plan_store.proofs.LookLemmas.{look_has, look_some}
 use Rattle.occurrences.specs.declared.place.CurrentRow.{CurrentRow}

@@ -1,5 +1,5 @@
 -- How many rows both plans have.
-use Rattle.std.proofs.Common.{◌≡◌, ℕ, ◌+◌, ◌≤◌, List, [], ◌∷◌, length, refl, sym, ap, ap₂, zero, suc, arith, Option}
+use Rattle.std.proofs.Common.{◌≡◌, ℕ, ◌+◌, ◌≤◌, List, [], ◌∷◌, length, refl, sym, ap, ap₂, zero, suc, arith}
 use Rattle.std.proofs.Common.{None}
 use Rattle.std.proofs.lemmas.List.{length-append, length-map}
 use Rattle.occurrences.specs.declared.place.CurrentRow.{CurrentRow}

@@ -1,4 +1,5 @@
 pub mod Arrivals
+pub mod Closed
 pub mod Listing
 pub mod Pairs
 pub mod Rules

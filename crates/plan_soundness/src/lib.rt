@@ -3,6 +3,7 @@
 
 mod arrivals;
 mod bounds;
+mod closed;
 mod jobs;
 mod keys;
 mod links;
@@ -17,7 +18,7 @@ pub use bounds::has_bounds;
 pub use jobs::has_kept_jobs;
 pub use links::has_no_loop;
 pub use listing::placed_rows;
-pub use pairs::{has_complete_predecessors, has_settled_pairs};
+pub use pairs::{has_closed_pairs, has_settled_pairs};
 pub use rows::has_sound_rows;
 pub use rules::{has_arrivals, has_own_keys, is_numbered};
 pub use sizes::has_sizes;

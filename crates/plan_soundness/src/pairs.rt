@@ -8,8 +8,10 @@ ghost use Rattle.planner_machine.proofs.RowsSound.{RowsSound};
 ghost use Rattle.planner_machine.specs.Pairs.{ArePairs};
 ghost use Rattle.planner_machine.specs.Sound.{AreNumbered};
 ghost use Rattle.plan_store.specs.Contents.{content_of};
-ghost use Rattle.plan_soundness.specs.Pairs.{FitsAt, FitsRows, HasComplete, IsClosedPlace, at_serial};
+ghost use Rattle.plan_soundness.specs.Closed.{AreFitting, is_closed_place};
+ghost use Rattle.plan_soundness.specs.Pairs.{AreClosedPairs, FitsRows, HasComplete, IsClosedPlace, at_serial};
 
+use crate::closed::{have_no_ring, have_own_slots};
 use crate::listing::placed_rows;
 use crate::seats::{row_of, table_of};
 use external_dependencies::{Pair, Pairs, PlacedRow};
@@ -52,8 +54,9 @@ pub fn has_settled_pairs(alloc: Global, content: &Content) -> Result<bool, Alloc
 }
 
 // Whether the place is live and no longer open.
-fn is_closed(place: Place) -> bool
-    ensures { IsTrue result ↔ IsClosedPlace place }
+pub(crate) fn is_closed(place: Place) -> bool
+    ensures is { IsTrue result ↔ IsClosedPlace place }
+    ensures tested { result ≡ is_closed_place place }
 {
     place.is_live() && !place.is_open()
 }
@@ -117,16 +120,33 @@ fn all_fit(table: &[Option<PlacedRow>], pairs: &[Pair]) -> bool
     true
 }
 
-/// Whether what is live and no longer open has only predecessors that are complete and arrive as they may, where the
-/// rows are numbered.
-pub fn has_complete_predecessors(alloc: Global, content: &Content) -> Result<bool, AllocError>
+// Whether the pairs of what is live and no longer open are such as they may be.
+fn are_fitting(
+    alloc: Global,
+    table: &[Option<PlacedRow>],
+    pairs: &[Pair],
+) -> Result<bool, AllocError>
+    ensures { IfOk result (λ b. IsTrue b ↔ AreFitting table.now pairs.now) }
+{
+    if !all_fit(table, pairs) {
+        return Ok(false);
+    }
+    let own_slots = have_own_slots(alloc, table, pairs)?;
+    if !own_slots {
+        return Ok(false);
+    }
+    have_no_ring(alloc, table, pairs)
+}
+
+/// Whether what is live and no longer open has only predecessors that are complete and arrive as they may, one of each
+/// application at most, and the pairs among such occurrences have no loop, where the rows are numbered.
+pub fn has_closed_pairs(alloc: Global, content: &Content) -> Result<bool, AllocError>
     ensures { AreNumbered (content_of content.now).sets → IfOk result (λ b. IsTrue b
-        ↔ ((pair : PairValue) → Contains (content_of content.now).pairs pair
-        → FitsAt (content_of content.now).sets pair)) }
+        ↔ AreClosedPairs (content_of content.now).sets (content_of content.now).pairs) }
 {
     let all = placed_rows(alloc, content)?;
     match table_of(alloc, content.issued, &all)? {
-        Some(table) => Ok(all_fit(&table, content.pairs.as_slice())),
+        Some(table) => are_fitting(alloc, &table, content.pairs.as_slice()),
         None => Ok(false),
     }
 }

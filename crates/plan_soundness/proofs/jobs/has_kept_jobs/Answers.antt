@@ -1,4 +1,4 @@
-use Rattle.std.proofs.Common.{◌≡◌, List, subst, sym}
+use Rattle.std.proofs.Common.{List, subst, sym}
 use Rattle.std.specs.List.{All}
 use Rattle.planner_machine.specs.Sound.{IsJob}
 use Rattle.planner_machine.specs.declared.job.Job.{Job}

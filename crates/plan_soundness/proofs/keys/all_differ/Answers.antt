@@ -1,8 +1,6 @@
-use Rattle.std.proofs.Common.{rules, refl, sym, ◌∙◌, Bool, ◌≡◌, true, false}
-use Rattle.std.specs.Bool.{Decides}
+use Rattle.std.proofs.Common.{rules}
 use Rattle.std.specs.HashSet as bag
 use Rattle.std.proofs.lemmas.Map.Made.{hash_set_len-Decides}
-use Rattle.occurrences.specs.declared.key.Key.{Key}
 use Rattle.plan_soundness.proofs.DistinctLemmas.{equivalence}
 use Rattle.plan_soundness.proofs.keys.all_differ.Goals as goal
 

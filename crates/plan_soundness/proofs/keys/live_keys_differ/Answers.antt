@@ -1,4 +1,4 @@
-use Rattle.std.proofs.Common.{◌≡◌, ◌≢◌, ◌↔◌, filter, subst, sym, ◌∙◌, true, map}
+use Rattle.std.proofs.Common.{◌≡◌, ◌≢◌, ◌↔◌, filter, subst, sym, ◌∙◌, map}
 use Rattle.std.specs.Prelude.{IsTrue}
 use Rattle.std.specs.List.{AllPairs}
 use Rattle.std.proofs.lemmas.Result.{IfOk-weaker}

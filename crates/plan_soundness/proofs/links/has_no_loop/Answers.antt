@@ -1,4 +1,4 @@
-use Rattle.std.proofs.Common.{◌≡◌, subst, Some}
+use Rattle.std.proofs.Common.{subst, Some}
 use Rattle.external_dependencies.specs.Loop.{IsLeastOnLoop}
 use Rattle.plan_soundness.proofs.links.has_no_loop.Goals as goal
 

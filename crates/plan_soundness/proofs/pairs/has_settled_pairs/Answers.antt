@@ -1,8 +1,8 @@
-use Rattle.std.proofs.Common.{◌≡◌, List, subst, sym}
+use Rattle.std.proofs.Common.{List, subst, sym}
 use Rattle.occurrences.specs.declared.place.CurrentRow.{CurrentRow}
 use Rattle.occurrences.specs.declared.row.Row.{Row}
 use Rattle.planner_machine.specs.Content.{Sets}
-use Rattle.plan_pairs.specs.LiveRows.{AreLiveRows, HasLists}
+use Rattle.plan_pairs.specs.LiveRows.{HasLists}
 use Rattle.plan_store.specs.Contents.{content_of}
 use Rattle.plan_soundness.proofs.NumberedLemmas.{has_rows}
 use Rattle.plan_soundness.proofs.PairLemmas.{has_lists, settled_from, settled_to}

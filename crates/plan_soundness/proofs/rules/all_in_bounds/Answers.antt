@@ -1,8 +1,4 @@
-use Rattle.std.proofs.Common.{◌≡◌, ◌∙◌, Some, subst, sym}
-use Rattle.std.specs.List.{All}
-use Rattle.external_dependencies.specs.declared.rows.PlacedRow.{PlacedRow}
-use Rattle.planner_machine.specs.Sound.{ArrivesIn}
-use Rattle.planner_machine.specs.declared.content.Bounds.{Bounds}
+use Rattle.std.proofs.Common.{◌≡◌, ◌∙◌}
 use Rattle.plan_soundness.specs.Listing.{placed_list}
 use Rattle.plan_soundness.proofs.NumberedLemmas.{has_rows}
 use Rattle.plan_soundness.proofs.RuleLemmas.{all_arrive_from, all_arrive_to}

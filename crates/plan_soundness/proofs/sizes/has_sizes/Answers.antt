@@ -1,4 +1,4 @@
-use Rattle.std.proofs.Common.{◌≡◌, ◌+◌, ◌≤◌, arith}
+use Rattle.std.proofs.Common.{arith}
 use Rattle.plan_soundness.proofs.NumberedLemmas.{has_rows}
 use Rattle.plan_soundness.proofs.SizeLemmas.{planned_rows}
 use Rattle.plan_soundness.proofs.sizes.has_sizes.Goals as goal

@@ -1,20 +1,17 @@
-use Rattle.std.proofs.Common.{◌≡◌, ◌∙◌, List, Option, subst, sym}
-use Rattle.std.specs.List.{All}
+use Rattle.std.proofs.Common.{◌≡◌, ◌↔◌, ◌∙◌, IfOk, List, Option, subst}
+use Rattle.std.specs.Prelude.{IsTrue}
+use Rattle.std.proofs.lemmas.Result.{IfOk-weaker}
 use Rattle.external_dependencies.specs.declared.pairs.Pair.{Pair}
 use Rattle.external_dependencies.specs.declared.rows.PlacedRow.{PlacedRow}
+use Rattle.plan_soundness.specs.Closed.{AreFitting}
 use Rattle.plan_soundness.specs.Listing.{placed_list}
-use Rattle.plan_soundness.specs.Pairs.{FitsRows, at_serial}
+use Rattle.plan_soundness.proofs.ClosedPairLemmas.{closed_from, closed_to}
 use Rattle.plan_soundness.proofs.NumberedLemmas.{has_rows}
-use Rattle.plan_soundness.proofs.PairLemmas.{all_fit_from, all_fit_to}
 use Rattle.plan_soundness.proofs.TableLemmas.{list_differs, made_some, numbered_none}
-use Rattle.plan_soundness.proofs.pairs.has_complete_predecessors.Goals as goal
+use Rattle.plan_soundness.proofs.pairs.has_closed_pairs.Goals as goal
 
 pub table_of-requires : goal.table_of-requires
 table_of-requires c = list_differs c.args.content.now c.deref.result.now (c.deref.ensures.value ∙ c.in_ok-all.ensures)
-
-abbrev AllFit : List (Option PlacedRow) → List Pair → Type 0
-AllFit table pairs =
-    All (λ (pair : Pair). FitsRows (at_serial table pair.successor) (at_serial table pair.predecessor)) pairs
 
 pub returns-in-Some : goal.returns-in-Some
 returns-in-Some c numbered =
@@ -23,14 +20,17 @@ returns-in-Some c numbered =
     let table = c.in-Some.table.items in
     let is = made_some kept c.deref.result.now all c.in_ok-table.field-0 c.in-Some.table c.in-Some.is
     c.in_ok-table.ensures in
-    let lent = c.deref-in-Some.ensures.value in
-    let listed = c.as_slice.ensures.all in (
-      λ yes. all_fit_to kept (has_rows kept) numbered table is kept.pairs
-          (subst (AllFit table) listed (subst (λ t. AllFit t c.as_slice.result.now) lent (c.all_fit.ensures.0 yes))),
-      λ fits. c.all_fit.ensures.1
-          (subst (λ t. AllFit t c.as_slice.result.now) (sym lent)
-          (subst (AllFit table) (sym listed) (all_fit_from kept (has_rows kept) numbered table is kept.pairs fits))),
-    )
+    let Tells : List (Option PlacedRow) → List Pair → Type 0 = λ t l.
+    IfOk c.are_fitting.result (λ b. IsTrue b ↔ AreFitting t l) in
+    let lent : Tells table c.as_slice.result.now =
+    subst (λ t. Tells t c.as_slice.result.now) c.deref-in-Some.ensures.value c.are_fitting.ensures in
+    let listed : Tells table kept.pairs = subst (λ l. Tells table l) c.as_slice.ensures.all lent in
+    IfOk-weaker c.are_fitting.result (λ b. IsTrue b ↔ AreFitting table kept.pairs) _
+    (λ b tells. (
+      (λ yes. closed_to kept (has_rows kept) numbered table is kept.pairs (tells.0 yes)),
+      λ closed. tells.1
+          (closed_from kept (has_rows kept) numbered table is kept.pairs c.as_slice.ensures.rising closed),
+    )) listed
 
 pub returns : goal.returns
 returns c numbered =

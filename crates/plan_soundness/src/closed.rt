@@ -1,0 +1,171 @@
+// Pairs of occurrences that are live and no longer open.
+
+ghost use Rattle.std.specs.Prelude.{◌≡◌, ◌≢◌, ◌↔◌, IsTrue, IfOk, map, true};
+ghost use Rattle.std.specs.List.{AllPairs, filter_map};
+ghost use Rattle.external_dependencies.specs.declared.links.Link.{Link as LinkValue};
+ghost use Rattle.plan_soundness.specs.Closed.{HaveNoRing, HaveOwnSlots, closed_pairs, is_closed_pair, is_closed_row};
+ghost use Rattle.plan_soundness.specs.Closed.{letter, link_of, node_name, slot_at};
+ghost use Rattle.plan_soundness.specs.Pairs.{at_serial};
+
+use crate::pairs::is_closed;
+use crate::seats::row_of;
+use external_dependencies::{Link, Links, Pair, PlacedRow, find_loop};
+use occurrences::Serial;
+use std::alloc::{AllocError, Global};
+use std::collections::HashSet;
+use work_calendars::App;
+
+// An application of which an occurrence may have one predecessor.
+#[derive(Clone, Copy, Debug, PartialEq, Eq, Hash)]
+struct Slot {
+    successor: Serial,
+    app: App,
+}
+
+// Law: slots test as equal only with themselves.
+fn slot_equality()
+    ensures { (a b : Slot) → (⟦<Slot as PartialEq>⟧.eq a b ≡ true) ↔ (a ≡ b) }
+{}
+
+// The slot that the pair's predecessor takes, where the successor is live and no longer open.
+fn slot_of(table: &[Option<PlacedRow>], pair: &Pair) -> Option<Slot>
+    ensures { result ≡ slot_at table.now pair.now }
+{
+    let successor = row_of(table, pair.successor)?;
+    let predecessor = row_of(table, pair.predecessor)?;
+    if is_closed(successor.place) {
+        Some(Slot {
+            successor: pair.successor,
+            app: predecessor.row.key.app,
+        })
+    } else {
+        None
+    }
+}
+
+// The slots that the pairs' predecessors take.
+fn slots_of(
+    alloc: Global,
+    table: &[Option<PlacedRow>],
+    pairs: &[Pair],
+) -> Result<Vec<Slot>, AllocError>
+    ensures { IfOk result (λ slots. slots.items ≡ filter_map (slot_at table.now) pairs.now) }
+{
+    pairs
+        .iter()
+        .filter_map(|pair| slot_of(table, pair))
+        .collect(alloc)
+}
+
+// Whether no slot stands twice.
+fn slots_differ(alloc: Global, slots: &[Slot]) -> Result<bool, AllocError>
+    ensures { IfOk result (λ b. IsTrue b ↔ AllPairs (λ x y. x ≢ y) slots.now) }
+{
+    let distinct: HashSet<Slot> = slots.iter().copied().collect(alloc)?;
+    slot_equality();
+    Ok(distinct.len() == slots.len())
+}
+
+// Whether an occurrence that is live and no longer open has at most one predecessor of each application.
+pub(crate) fn have_own_slots(
+    alloc: Global,
+    table: &[Option<PlacedRow>],
+    pairs: &[Pair],
+) -> Result<bool, AllocError>
+    ensures { IfOk result (λ b. IsTrue b ↔ HaveOwnSlots table.now pairs.now) }
+{
+    let slots = slots_of(alloc, table, pairs)?;
+    slots_differ(alloc, &slots)
+}
+
+// Whether a row stands there that is live and no longer open.
+fn is_closed_row(row: &Option<PlacedRow>) -> bool
+    ensures { result ≡ is_closed_row row.now }
+{
+    match row {
+        Some(placed) => is_closed(placed.place),
+        None => false,
+    }
+}
+
+// Whether both ends of the pair are such.
+fn is_closed_pair(table: &[Option<PlacedRow>], pair: &Pair) -> bool
+    ensures { result ≡ is_closed_pair table.now pair.now }
+{
+    is_closed_row(&row_of(table, pair.successor)) && is_closed_row(&row_of(table, pair.predecessor))
+}
+
+// A letter for each remainder of 26.
+fn letter(number: u32) -> u8
+    ensures { result ≡ letter number }
+{
+    b'A' + (number % 26) as u8
+}
+
+// A name that no other serial has.
+fn node_name(serial: Serial) -> App
+    ensures { result ≡ node_name serial }
+{
+    let first = serial.get();
+    let second = first / 26;
+    let third = second / 26;
+    let fourth = third / 26;
+    let fifth = fourth / 26;
+    let sixth = fifth / 26;
+    let letters = [
+        letter(first),
+        letter(second),
+        letter(third),
+        letter(fourth),
+        letter(fifth),
+        letter(sixth),
+        b'A' + (sixth / 26) as u8,
+    ];
+    match std::str::from_utf8(&letters) {
+        Ok(text) => match App::from_text(text) {
+            Some(name) => name,
+            None => unreachable!(),
+        },
+        Err(_) => unreachable!(),
+    }
+}
+
+// The pair as a link between the names of its serials.
+fn link_of(pair: &Pair) -> Link
+    ensures { result ≡ link_of pair.now }
+{
+    Link {
+        app: node_name(pair.successor),
+        predecessor: node_name(pair.predecessor),
+    }
+}
+
+// The pairs both of whose ends are live and no longer open, as links.
+fn closed_links(
+    alloc: Global,
+    table: &[Option<PlacedRow>],
+    pairs: &[Pair],
+) -> Result<Vec<Link>, AllocError>
+    ensures { IfOk result (λ links. links.items ≡ map link_of (closed_pairs table.now pairs.now)) }
+{
+    pairs
+        .iter()
+        .filter(|pair| is_closed_pair(table, pair))
+        .map(|pair| link_of(pair))
+        .collect(alloc)
+}
+
+// Whether such pairs make no ring.
+pub(crate) fn have_no_ring(
+    alloc: Global,
+    table: &[Option<PlacedRow>],
+    pairs: &[Pair],
+) -> Result<bool, AllocError>
+    ensures { IfOk result (λ b. IsTrue b ↔ HaveNoRing table.now pairs.now) }
+{
+    let links = Links::from_vec(closed_links(alloc, table, pairs)?);
+    match find_loop(alloc, &links)? {
+        None => Ok(true),
+        Some(_) => Ok(false),
+    }
+}
