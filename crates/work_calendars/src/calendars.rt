@@ -1,7 +1,7 @@
 ghost use Rattle.std.specs.Prelude.{◌≡◌, ℕ, ◌+◌, ◌<◌, Bool, false, OnOk, OnErr, IfOk};
 ghost use Rattle.std.specs.FinMap as map;
 ghost use Rattle.std.specs.List.{All, slice_index_or};
-ghost use Rattle.std.specs.Prelude.{None};
+ghost use Rattle.std.specs.Prelude.{None, length};
 ghost use Rattle.work_calendars.specs.Calendar.{CalendarEntries, is_work_day, is_work_status, is_work_weekday};
 ghost use Rattle.work_calendars.specs.Calendar.{weekday_status, no_entries, with_weekday, with_date, without_dates};
 ghost use Rattle.work_calendars.specs.Day.{IsDay, first_day};
@@ -83,10 +83,12 @@ impl Calendar {
         self.dates.get(&day).copied()
     }
 
-    /// The listed dates and their statuses, in rising order.
+    /// The listed dates and their statuses, in rising order. All of them are days of the range, and a week has seven
+    /// weekdays.
     pub fn dates(&self, alloc: Global) -> Result<Vec<(Day, DayStatus)>, AllocError>
         ensures all { IfOk result (λ dates. map.from_entries dates.items ≡ self.now.dates) }
         ensures in_range { IfOk result (λ dates. All (λ entry. IsDay entry.0) dates.items) }
+        ensures week { length self.now.weekdays ≡ 7 }
     {
         let mut dates = Vec::new(alloc);
         for (day, status) in self.dates.iter() {
