@@ -31,7 +31,7 @@ use Rattle.planner_machine.specs.Moves.{each, has_key, or_else}
 use Rattle.planner_machine.specs.Plans.{ChangesPlans}
 use Rattle.planner_machine.specs.Sound.{IsSound}
 use Rattle.planner_machine.proofs.ActionLemmas.{action_sound, one_current}
-use Rattle.planner_machine.proofs.RowsSound.{RowsSound}
+use Rattle.planner_machine.specs.RowsSound.{RowsSound}
 use Rattle.planner_machine.proofs.SoundLemmas.{rows_sound}
 use Rattle.plan_lists.specs.Rows.{look_up, of_current, of_deletion, of_row}
 use Rattle.plan_store.specs.Changes.{Fits, FitsSet, MovesNothing, after, moved_set, pairs_after, sets_after}

@@ -20,7 +20,7 @@ use Rattle.planner_machine.specs.InForce.{PutsNone}
 use Rattle.planner_machine.specs.Moves.{keep, or_else, size}
 use Rattle.planner_machine.specs.Plans.{ChangesPlans}
 use Rattle.planner_machine.specs.Sound.{IsSound}
-use Rattle.planner_machine.proofs.RowsSound.{RowsSound}
+use Rattle.planner_machine.specs.RowsSound.{RowsSound}
 use Rattle.planner_machine.proofs.SoundLemmas.{rows_sound}
 use Rattle.plan_lists.specs.Rows.{look_up, of_current, of_deletion, of_row}
 use Rattle.plan_store.specs.Changes.{Fits, moved_set, sets_after}

@@ -18,7 +18,7 @@ use Rattle.planner_machine.specs.DailyPlan.{daily, daily_move}
 use Rattle.planner_machine.specs.Fate.{place_after_daily_plan}
 use Rattle.planner_machine.specs.Pairs.{ArePairs, IsKeptPair, IsOpenPair, LiveAt}
 use Rattle.planner_machine.proofs.DailyLemmas.{daily_is_move, daily_live}
-use Rattle.planner_machine.proofs.RowsSound.{RowsSound}
+use Rattle.planner_machine.specs.RowsSound.{RowsSound}
 use Rattle.planner_machine.proofs.SeatLemmas.{IsMove, after, going, stands_after, stood_before}
 
 -- the nearest among arrivals is that among the same arrivals

@@ -28,7 +28,7 @@ use Rattle.planner_machine.specs.Moves.{each, has_key}
 use Rattle.planner_machine.specs.Pairs.{ArePairs, IsKeptPair, IsOpenPair, LiveAt}
 use Rattle.planner_machine.specs.Sound.{IsSound}
 use Rattle.planner_machine.proofs.ActionLemmas.{action_is_move, action_live, stands_in_cp}
-use Rattle.planner_machine.proofs.RowsSound.{RowsSound}
+use Rattle.planner_machine.specs.RowsSound.{RowsSound}
 use Rattle.planner_machine.proofs.SeatLemmas.{going, one_place, stands_after, stood_before}
 use Rattle.planner_machine.proofs.SoundLemmas.{rows_sound}
 use Rattle.plan_store.specs.Changes.{pairs_after}

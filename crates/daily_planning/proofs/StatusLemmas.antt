@@ -23,7 +23,7 @@ use Rattle.planner_machine.specs.Fate.{place_after_action}
 use Rattle.planner_machine.specs.Moves.{each, has_key}
 use Rattle.planner_machine.specs.Pairs.{ArePairs}
 use Rattle.planner_machine.proofs.ActionLemmas.{action_is_move, action_live}
-use Rattle.planner_machine.proofs.RowsSound.{RowsSound}
+use Rattle.planner_machine.specs.RowsSound.{RowsSound}
 use Rattle.daily_planning.specs.Statuses.{LeavesPairs}
 use Rattle.daily_planning.proofs.PairLemmas.{pairs_stay}
 

@@ -21,7 +21,7 @@ use Rattle.planner_machine.specs.Moves.{each, has_key, keep, or_else}
 use Rattle.planner_machine.specs.Plans.{ChangesPlans}
 use Rattle.planner_machine.specs.Sound.{IsSound}
 use Rattle.planner_machine.proofs.DeleteLemmas.{delete_sound, stands_in_ltp}
-use Rattle.planner_machine.proofs.RowsSound.{RowsSound}
+use Rattle.planner_machine.specs.RowsSound.{RowsSound}
 use Rattle.planner_machine.proofs.SoundLemmas.{rows_sound}
 use Rattle.plan_lists.specs.Rows.{of_current, of_deletion, of_row}
 use Rattle.planner_machine.specs.Pairs.{ArePairs}

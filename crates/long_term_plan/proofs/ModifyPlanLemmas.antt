@@ -18,7 +18,7 @@ use Rattle.planner_machine.specs.Modify.{Modifies, NamesAhead}
 use Rattle.planner_machine.specs.Plans.{HoldTooMany}
 use Rattle.planner_machine.specs.Sound.{AreDefinitions, IsSound}
 use Rattle.planner_machine.proofs.ModifyLemmas.{between, modify_keeps}
-use Rattle.planner_machine.proofs.RowsSound.{RowsSound}
+use Rattle.planner_machine.specs.RowsSound.{RowsSound}
 use Rattle.planner_machine.proofs.SoundLemmas.{rows_sound}
 use Rattle.plan_lists.specs.Rows.{of_row}
 use Rattle.plan_store.specs.Views.{IsAny, ListsSet}

@@ -11,7 +11,7 @@ use Rattle.planner_machine.specs.declared.content.Draft.{Draft}
 use Rattle.planner_machine.specs.Content.{Seat, Sets}
 use Rattle.planner_machine.specs.Modify.{draft_with, looks_at, stamped, withdrawn}
 use Rattle.planner_machine.specs.Moves.{keep, or_else, size}
-use Rattle.planner_machine.proofs.RowsSound.{RowsSound}
+use Rattle.planner_machine.specs.RowsSound.{RowsSound}
 use Rattle.planner_machine.proofs.SeatLemmas.{cases_issued}
 use Rattle.plan_lists.specs.Rows.{HasEachOnce, look_up, of_deletion, of_row}
 use Rattle.plan_store.specs.Changes.{FitsSet}

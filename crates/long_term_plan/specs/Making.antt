@@ -15,7 +15,7 @@ use Rattle.planner_machine.specs.Drafts.{AreDrafts, IsMade, NamesWithin}
 use Rattle.planner_machine.specs.Moves.{numbered_row, with_bounds, with_made}
 use Rattle.planner_machine.specs.Pairs.{ArePairs}
 use Rattle.planner_machine.specs.Plans.{HoldTooMany}
-use Rattle.planner_machine.proofs.RowsSound.{RowsSound}
+use Rattle.planner_machine.specs.RowsSound.{RowsSound}
 use Rattle.plan_store.specs.Changes.{Fits, pairs_after, sets_after}
 use Rattle.plan_store.specs.declared.changes.Change.{Change}
 use Rattle.plan_store.specs.declared.changes.DefinitionChange.TheVariants.{AsBefore}

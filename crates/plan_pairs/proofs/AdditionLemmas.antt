@@ -36,7 +36,7 @@ use Rattle.planner_machine.specs.Plans.{ChangesPlans, HoldTooMany, IsPlannedApp,
 use Rattle.planner_machine.specs.Sound.{IsSound}
 use Rattle.planner_machine.proofs.AddLemmas.{add_sound, not_outside}
 use Rattle.planner_machine.proofs.MadeLemmas.{made_follows}
-use Rattle.planner_machine.proofs.RowsSound.{RowsSound}
+use Rattle.planner_machine.specs.RowsSound.{RowsSound}
 use Rattle.planner_machine.proofs.SeatLemmas.{cases_issued, one_place}
 use Rattle.planner_machine.proofs.SoundLemmas.{rows_sound}
 use Rattle.plan_lists.specs.Rows.{of_current, of_deletion, of_row}

@@ -14,7 +14,7 @@ use Rattle.external_dependencies.specs.declared.rows.PlacedRow.{PlacedRow}
 use Rattle.planner_machine.specs.Content.{Seat, Sets, StandsAt, alone}
 use Rattle.planner_machine.proofs.ActionLemmas.{stands_in_cp}
 use Rattle.planner_machine.proofs.DeleteLemmas.{stands_in_ltp}
-use Rattle.planner_machine.proofs.RowsSound.{RowsSound}
+use Rattle.planner_machine.specs.RowsSound.{RowsSound}
 use Rattle.planner_machine.proofs.SeatLemmas.{cases_issued}
 use Rattle.plan_store.specs.Views.{IsAny, ListsSet}
 use Rattle.plan_pairs.proofs.ListLemmas.{none}

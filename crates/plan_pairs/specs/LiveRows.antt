@@ -12,7 +12,7 @@ use Rattle.external_dependencies.specs.declared.pairs.Pair.{Pair}
 use Rattle.external_dependencies.specs.declared.rows.PlacedRow.{PlacedRow}
 use Rattle.planner_machine.specs.Content.{Sets, StandsAt}
 use Rattle.planner_machine.specs.Pairs.{IsKeptPair, IsOpenPair}
-use Rattle.planner_machine.proofs.RowsSound.{RowsSound}
+use Rattle.planner_machine.specs.RowsSound.{RowsSound}
 
 -- the list has exactly the live occurrences of the sets, each under its serial
 pub record AreLiveRows (s : Sets) (rows : List PlacedRow) : Type 0 where

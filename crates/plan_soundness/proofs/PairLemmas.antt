@@ -14,7 +14,7 @@ use Rattle.planner_machine.specs.Content.{Sets, StandsAt}
 use Rattle.planner_machine.specs.Pairs.{ArePairs}
 use Rattle.planner_machine.specs.Sound.{AreNumbered}
 use Rattle.planner_machine.proofs.SeatLemmas.{not_empty, one_place}
-use Rattle.planner_machine.proofs.RowsSound.{RowsSound}
+use Rattle.planner_machine.specs.RowsSound.{RowsSound}
 use Rattle.plan_pairs.specs.LiveRows.{HasLists, HasPairsAfter}
 use Rattle.plan_store.proofs.LookLemmas.{look_has, look_some}
 use Rattle.occurrences.specs.declared.place.CurrentRow.{CurrentRow}

@@ -19,7 +19,7 @@ use Rattle.occurrences.specs.declared.status.Status.TheVariants.{W, S, E, C, D}
 use Rattle.external_dependencies.specs.declared.rows.PlacedRow.{PlacedRow}
 use Rattle.planner_machine.specs.Content.{Content, Sets, StandsAt}
 use Rattle.planner_machine.specs.Fate.{IsGenerated}
-use Rattle.planner_machine.proofs.RowsSound.{IsPlacedIn, RowsSound}
+use Rattle.planner_machine.specs.RowsSound.{IsPlacedIn, RowsSound}
 use Rattle.planner_machine.proofs.SeatLemmas.{not_empty}
 use Rattle.planner_machine.specs.Sound.{AreNumbered, ArrivesIn, HasBounds, HaveArrivals, HaveOwnKeys}
 use Rattle.planner_machine.specs.declared.content.Bounds.{Bounds}

@@ -4,7 +4,7 @@ ghost use Rattle.external_dependencies.specs.Nearest.{IsCandidate, arrival_of};
 ghost use Rattle.external_dependencies.specs.Pair.{pair_cmp};
 ghost use Rattle.external_dependencies.specs.Rising.{IsRising};
 ghost use Rattle.external_dependencies.specs.declared.pairs.Pair.{Pair as PairValue};
-ghost use Rattle.planner_machine.proofs.RowsSound.{RowsSound};
+ghost use Rattle.planner_machine.specs.RowsSound.{RowsSound};
 ghost use Rattle.planner_machine.specs.Pairs.{ArePairs};
 ghost use Rattle.planner_machine.specs.Sound.{AreNumbered};
 ghost use Rattle.plan_store.specs.Contents.{content_of};

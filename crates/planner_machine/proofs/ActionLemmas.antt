@@ -21,7 +21,7 @@ use Rattle.planner_machine.specs.Content.{Seat, Sets, StandsAt, alone}
 use Rattle.planner_machine.specs.Fate.{ActionFate, place_after_action}
 use Rattle.planner_machine.specs.Laws.{Follows}
 use Rattle.planner_machine.specs.Moves.{each, has_key}
-use Rattle.planner_machine.proofs.RowsSound.{IsPlacedIn, RowsSound}
+use Rattle.planner_machine.specs.RowsSound.{IsPlacedIn, RowsSound}
 use Rattle.planner_machine.proofs.SeatLemmas.{IsMove, cases_issued, going, move_follows, move_sound}
 
 action_alone : (key : Key) (action : Action) (row : Row) (was : Place)

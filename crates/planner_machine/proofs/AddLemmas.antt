@@ -17,7 +17,7 @@ use Rattle.planner_machine.specs.Drafts.{added}
 use Rattle.planner_machine.specs.Moves.{with_made}
 use Rattle.planner_machine.specs.Sound.{ArrivesIn}
 use Rattle.planner_machine.proofs.MadeLemmas.{made_sound}
-use Rattle.planner_machine.proofs.RowsSound.{RowsSound}
+use Rattle.planner_machine.specs.RowsSound.{RowsSound}
 
 pub not_outside : (b : Bounds) (ia : ℕ) (place : Place) → (IsOutside b ia place → ⊥) → ArrivesIn b ia place
 not_outside b ia LongTerm inside = (

@@ -26,7 +26,7 @@ use Rattle.planner_machine.proofs.ClosedLemmas.{Starts, pairs_sound}
 use Rattle.planner_machine.proofs.DeleteLemmas.{stands_in_ltp}
 use Rattle.planner_machine.proofs.FollowLemmas.{FateKeeps, IsMadeAt, came}
 use Rattle.planner_machine.proofs.RangeLemmas.{DraftRanges, is_moment, row_ranges}
-use Rattle.planner_machine.proofs.RowsSound.{IsPlacedIn, RowsSound}
+use Rattle.planner_machine.specs.RowsSound.{IsPlacedIn, RowsSound}
 use Rattle.planner_machine.proofs.SeatLemmas.{cases_issued, one_place}
 use Rattle.planner_machine.proofs.SoundLemmas.{rows_sound}
 

@@ -20,7 +20,7 @@ use Rattle.planner_machine.specs.Pairs.{ArePairs, IsClosedAt, IsClosedPair, IsCo
 use Rattle.planner_machine.specs.Sound.{HasPairs, IsSound}
 use Rattle.planner_machine.proofs.FollowLemmas.{FateKeeps, IsMadeAt, came}
 use Rattle.planner_machine.proofs.PairLemmas.{pairs_settle}
-use Rattle.planner_machine.proofs.RowsSound.{RowsSound}
+use Rattle.planner_machine.specs.RowsSound.{RowsSound}
 use Rattle.planner_machine.proofs.SeatLemmas.{one_place}
 use Rattle.planner_machine.proofs.SoundLemmas.{rows_sound}
 

@@ -21,7 +21,7 @@ use Rattle.planner_machine.specs.Moves.{with_bounds, with_made}
 use Rattle.planner_machine.specs.Sound.{AreBounds, ArrivesIn}
 use Rattle.planner_machine.proofs.DraftLemmas.{one_plan}
 use Rattle.planner_machine.proofs.MadeLemmas.{fresh, made_follows, made_sound}
-use Rattle.planner_machine.proofs.RowsSound.{IsPlacedIn, RowsSound}
+use Rattle.planner_machine.specs.RowsSound.{IsPlacedIn, RowsSound}
 use Rattle.planner_machine.proofs.SeatLemmas.{IsMove, move_sound}
 
 abbrev stay : Seat → Seat

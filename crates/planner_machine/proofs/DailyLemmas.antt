@@ -13,7 +13,7 @@ use Rattle.planner_machine.specs.DailyPlan.{daily, daily_move}
 use Rattle.planner_machine.specs.Fate.{DailyFate, place_after_daily_plan}
 use Rattle.planner_machine.specs.Laws.{Follows}
 use Rattle.planner_machine.specs.Sound.{AreBounds, ArrivesIn}
-use Rattle.planner_machine.proofs.RowsSound.{IsPlacedIn, RowsSound}
+use Rattle.planner_machine.specs.RowsSound.{IsPlacedIn, RowsSound}
 use Rattle.planner_machine.proofs.SeatLemmas.{IsMove, going, move_follows, move_sound}
 
 long_term : (t : ℕ) (row : Row) (b : Bool) → nat_lt row.key.ia t ≡ b

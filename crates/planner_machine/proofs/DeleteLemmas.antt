@@ -17,7 +17,7 @@ use Rattle.planner_machine.specs.Delete.{Deletes, delete_move}
 use Rattle.planner_machine.specs.Fate.{DeletionFate, place_after_deletion}
 use Rattle.planner_machine.specs.Laws.{Follows}
 use Rattle.planner_machine.specs.Moves.{each, has_key}
-use Rattle.planner_machine.proofs.RowsSound.{IsPlacedIn, RowsSound}
+use Rattle.planner_machine.specs.RowsSound.{IsPlacedIn, RowsSound}
 use Rattle.planner_machine.proofs.SeatLemmas.{IsMove, cases_issued, going, move_follows, move_sound}
 
 delete_alone : (key : Key) (row : Row) (was : Place)

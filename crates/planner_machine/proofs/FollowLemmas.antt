@@ -26,7 +26,7 @@ use Rattle.planner_machine.specs.Moves.{has_key, numbered_row}
 use Rattle.planner_machine.proofs.ActionLemmas.{action_live}
 use Rattle.planner_machine.proofs.DailyLemmas.{daily_live}
 use Rattle.planner_machine.proofs.DeleteLemmas.{delete_live}
-use Rattle.planner_machine.proofs.RowsSound.{RowsSound}
+use Rattle.planner_machine.specs.RowsSound.{RowsSound}
 use Rattle.planner_machine.proofs.SeatLemmas.{cases_issued, going, not_empty, one_place}
 
 -- the row of a draft of the list, under a new serial

@@ -1,6 +1,5 @@
 mod DecisionLemmas
 mod RisingLemmas
-pub mod RowsSound
 pub mod SeatLemmas
 pub mod MadeLemmas
 pub mod DailyLemmas

@@ -17,7 +17,7 @@ use Rattle.planner_machine.specs.declared.content.Bounds.{Bounds}
 use Rattle.planner_machine.specs.declared.content.Draft.{Draft}
 use Rattle.planner_machine.specs.Content.{Seat, Sets, StandsAt, alone, empty_seat, seat}
 use Rattle.planner_machine.specs.Sound.{ArrivesIn}
-use Rattle.planner_machine.proofs.RowsSound.{IsPlacedIn, RowsSound}
+use Rattle.planner_machine.specs.RowsSound.{IsPlacedIn, RowsSound}
 use Rattle.planner_machine.specs.Fate.{Stays}
 use Rattle.planner_machine.specs.Laws.{Follows}
 use Rattle.planner_machine.specs.Moves.{made, numbered_row, seat_made, with_made}

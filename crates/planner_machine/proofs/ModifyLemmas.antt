@@ -36,7 +36,7 @@ use Rattle.planner_machine.specs.Modify.{modify_move, stamped, taken}
 use Rattle.planner_machine.specs.Moves.{each, size, with_made}
 use Rattle.planner_machine.proofs.DraftLemmas.{one_plan}
 use Rattle.planner_machine.proofs.MadeLemmas.{fresh, made_follows, made_sound}
-use Rattle.planner_machine.proofs.RowsSound.{IsPlacedIn, RowsSound}
+use Rattle.planner_machine.specs.RowsSound.{IsPlacedIn, RowsSound}
 use Rattle.planner_machine.proofs.SeatLemmas.{IsMove, move_follows, move_sound}
 
 -- the draft that is found, or that there is none

@@ -38,7 +38,7 @@ use Rattle.planner_machine.proofs.DeleteLemmas.{delete_does_one}
 use Rattle.planner_machine.proofs.LinkLemmas.{PutsOneList, all_is_one, none_is_one, one_is_one, one_least_app, one_loop}
 use Rattle.planner_machine.proofs.ModifyLemmas.{any_tests, modify_does_one, that_tests}
 use Rattle.planner_machine.proofs.PairLemmas.{pairs_are_one}
-use Rattle.planner_machine.proofs.RowsSound.{RowsSound}
+use Rattle.planner_machine.specs.RowsSound.{RowsSound}
 use Rattle.planner_machine.proofs.SoundLemmas.{rows_sound}
 
 pub same_content : (c c' : Content) → c.definitions ≡ c'.definitions → c.sets ≡ c'.sets → c.in_force ≡ c'.in_force

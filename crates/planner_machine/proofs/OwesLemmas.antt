@@ -53,7 +53,7 @@ use Rattle.planner_machine.proofs.MadeLemmas.{made_follows}
 use Rattle.planner_machine.proofs.ModifyLemmas.{Tests, between, modify_follows, modify_keeps}
 use Rattle.planner_machine.proofs.PlannedLemmas.{sizes_stay}
 use Rattle.planner_machine.proofs.RangeLemmas.{DraftRanges}
-use Rattle.planner_machine.proofs.RowsSound.{RowsSound}
+use Rattle.planner_machine.specs.RowsSound.{RowsSound}
 use Rattle.planner_machine.proofs.SoundLemmas.{rows_sound}
 use Rattle.planner_machine.proofs.StartLemmas.{action_closes}
 use Rattle.planner_machine.proofs.StaysSoundLemmas.{action_operator, added_ranges, daily_closes, daily_operator}

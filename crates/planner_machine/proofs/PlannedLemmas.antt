@@ -13,7 +13,7 @@ use Rattle.planner_machine.specs.Plans.{HoldTooMany, planned}
 use Rattle.planner_machine.specs.Sound.{HaveSizes}
 use Rattle.planner_machine.specs.declared.limits.TheConstants.{MOST_PLANNED_ROWS}
 use Rattle.planner_machine.proofs.FollowLemmas.{FateKeeps, IsInPlans}
-use Rattle.planner_machine.proofs.RowsSound.{RowsSound}
+use Rattle.planner_machine.specs.RowsSound.{RowsSound}
 
 -- where the sets don't hold too many
 pub within_sizes : (s : Sets) → (HoldTooMany s → ⊥) → HaveSizes s

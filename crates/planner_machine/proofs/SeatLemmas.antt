@@ -11,7 +11,7 @@ use Rattle.external_dependencies.specs.declared.rows.PlacedRow.{PlacedRow}
 use Rattle.planner_machine.specs.declared.content.Bounds.{Bounds}
 use Rattle.planner_machine.specs.Content.{Seat, Sets, StandsAt, alone, empty_seat, seat}
 use Rattle.planner_machine.specs.Sound.{AreBounds}
-use Rattle.planner_machine.proofs.RowsSound.{IsPlacedIn, RowsSound}
+use Rattle.planner_machine.specs.RowsSound.{IsPlacedIn, RowsSound}
 use Rattle.planner_machine.specs.declared.content.Draft.{Draft}
 use Rattle.planner_machine.specs.Laws.{Follows}
 use Rattle.planner_machine.specs.Moves.{each, or_else}

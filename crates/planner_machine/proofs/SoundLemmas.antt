@@ -4,7 +4,7 @@ use Rattle.external_dependencies.specs.declared.rows.PlacedRow.{PlacedRow}
 use Rattle.planner_machine.specs.declared.content.Bounds.{Bounds}
 use Rattle.planner_machine.specs.Content.{Content, StandsAt}
 use Rattle.planner_machine.specs.Sound.{IsSound}
-use Rattle.planner_machine.proofs.RowsSound.{IsPlacedIn, RowsSound}
+use Rattle.planner_machine.specs.RowsSound.{IsPlacedIn, RowsSound}
 use Rattle.planner_machine.proofs.SeatLemmas.{not_empty}
 
 placed_in : (c : Content) → IsSound c → (o : Option Bounds) → c.sets.bounds ≡ o → (serial : ℕ) (p : PlacedRow)

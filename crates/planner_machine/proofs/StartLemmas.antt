@@ -21,7 +21,7 @@ use Rattle.planner_machine.specs.Fate.{place_after_action}
 use Rattle.planner_machine.specs.Moves.{has_key}
 use Rattle.planner_machine.specs.Pairs.{IsCompleteAt, pair_of}
 use Rattle.planner_machine.proofs.ActionLemmas.{action_live}
-use Rattle.planner_machine.proofs.RowsSound.{RowsSound}
+use Rattle.planner_machine.specs.RowsSound.{RowsSound}
 use Rattle.planner_machine.proofs.SeatLemmas.{cases_issued, not_empty, one_place}
 
 -- whether a serial is complete

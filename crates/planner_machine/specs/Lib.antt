@@ -23,6 +23,7 @@ pub mod Pairs
 pub mod Plans
 pub mod Replan
 pub mod Rerun
+pub mod RowsSound
 pub mod Shown
 pub mod Sound
 pub mod Statement
