@@ -1,5 +1,6 @@
 -- Seats of rows.
-use Rattle.std.proofs.Common.{◌≡◌, ◌≢◌, ℕ, ◌<◌, Bool, true, false, not, List, [], ◌∷◌, map, length, get_or, refl, sym, ap, subst, ◌∙◌, inl, inr, arith, Ordering}
+use Rattle.std.proofs.Common.{◌≡◌, ◌≢◌, ℕ, ◌<◌, Bool, true, false, not, List, [], ◌∷◌, map, length, get_or, refl, sym}
+use Rattle.std.proofs.Common.{ap, subst, ◌∙◌, inl, inr, arith, Ordering}
 use Rattle.std.specs.declared.cmp.Ordering.TheVariants.{Less, Equal, Greater}
 use Rattle.std.specs.Prelude.{filter}
 use Rattle.std.specs.List.{Contains}
@@ -47,8 +48,11 @@ holds_seat seats seat there = holds_has seat_total seat_ties itself seats seat t
 -- serials don't fall along seats
 pub serials_rise : (seats : List Seat) → AreSeats seats → Rises nat_cmp_total serial_of seats
 serials_rise seats are i j d le lt = elim (cases_order i j) [
-  | inl same ↦ inr (subst (λ n. nat_cmp (get_or seats i d).serial (get_or seats n d).serial ≡ Equal) same (tied_itself nat_cmp_total (get_or seats i d).serial))
-  | inr (inl below) ↦ elim (then_less (nat_cmp (get_or seats i d).serial (get_or seats j d).serial) (ordering_then (nat_cmp (get_or seats i d).ia (get_or seats j d).ia) (slice_cmp nat_cmp (get_or seats i d).app (get_or seats j d).app)) (are i j d below lt)) [ inl less ↦ inl less | inr tied ↦ inr tied.0 ]
+  | inl same ↦ inr (subst (λ n. nat_cmp (get_or seats i d).serial (get_or seats n d).serial ≡ Equal) same
+      (tied_itself nat_cmp_total (get_or seats i d).serial))
+  | inr (inl below) ↦ elim (then_less (nat_cmp (get_or seats i d).serial (get_or seats j d).serial)
+      (ordering_then (nat_cmp (get_or seats i d).ia (get_or seats j d).ia) (slice_cmp nat_cmp (get_or seats i d).app
+      (get_or seats j d).app)) (are i j d below lt)) [ inl less ↦ inl less | inr tied ↦ inr tied.0 ]
   | inr (inr above) ↦ absurd (omega arith)
 ]
 
@@ -61,12 +65,19 @@ module _ {X : Type 0} (row_of : X → Row) where
   apart_seats [] once i j d below lt same = absurd (omega arith)
   apart_seats (x ∷ xs) once i j d below lt same =
       let long : j < length (x ∷ xs) = omega (arith, length-map (x ∷ xs) seat_at) in
-      let at_i : get_or (map seat_at (x ∷ xs)) i d ≡ seat_at (get_or (x ∷ xs) i x) = get_or-map seat_at (x ∷ xs) i x d (omega arith) in
-      let at_j : get_or (map seat_at (x ∷ xs)) j d ≡ seat_at (get_or (x ∷ xs) j x) = get_or-map seat_at (x ∷ xs) j x d long in
+      let at_i : get_or (map seat_at (x ∷ xs)) i d ≡ seat_at (get_or (x ∷ xs) i x) = get_or-map seat_at (x ∷ xs) i x d
+      (omega arith) in
+      let at_j : get_or (map seat_at (x ∷ xs)) j d ≡ seat_at (get_or (x ∷ xs) j x) = get_or-map seat_at (x ∷ xs) j x d
+      long in
       once i j x below long (ap serial_of (sym at_i ∙ same ∙ at_j))
 
   contains_map : (xs : List X) (x : X) → Contains xs x → Contains (map seat_at xs) (seat_at x)
-  contains_map xs x (k, lt, at) = (k, omega (arith, length-map xs seat_at), get_or-map seat_at xs k x (seat_at x) lt ∙ ap seat_at at)
+  contains_map xs x (k, lt, at) = (
+    k,
+    omega (arith, length-map xs seat_at),
+    get_or-map seat_at xs k x (seat_at x) lt
+        ∙ ap seat_at at,
+  )
 
   module _ (seats : List Seat) (xs : List X) where
     abbrev pub is_missing : Seat → Bool
@@ -76,15 +87,22 @@ module _ {X : Type 0} (row_of : X → Row) where
     missing_apart once = AllPairs-filter (λ (x y : Seat). x ≢ y) is_missing (map seat_at xs) (apart_seats xs once)
 
     pub missing_new : (seat : Seat) → Contains (filter is_missing (map seat_at xs)) seat → LacksKey itself seats seat
-    missing_new seat there = holds_lacks seat_total seat_ties itself seats seat (not-true _ (contains_filter is_missing (map seat_at xs) seat there).1)
+    missing_new seat there = holds_lacks seat_total seat_ties itself seats seat
+        (not-true _ (contains_filter is_missing (map seat_at xs) seat there).1)
 
     -- the seat of each row is among them, or was there
-    pub noted : (all : List Seat) → ((s : Seat) → Contains (filter is_missing (map seat_at xs)) s → Contains all s) → ((s : Seat) → Contains seats s → Contains all s) → HasSeats row_of xs all
-    noted all new old x there = elim (holds_key seat_cmp itself seats (seat_at x)) as (λ b. holds_key seat_cmp itself seats (seat_at x) ≡ b → holds_key seat_cmp itself all (seat_at x) ≡ true) [
-      | true ↦ λ is. holds_seat all (seat_at x) (old (seat_at x) (seat_held seats (seat_at x) is))
-      | false ↦ λ is. holds_seat all (seat_at x) (new (seat_at x) (filter_contains is_missing (map seat_at xs) (seat_at x) (contains_map xs x there) (not_from_false _ is)))
-    ] refl
+    pub noted : (all : List Seat) → ((s : Seat) → Contains (filter is_missing (map seat_at xs)) s → Contains all s)
+        → ((s : Seat) → Contains seats s → Contains all s) → HasSeats row_of xs all
+    noted all new old x there = elim (holds_key seat_cmp itself seats (seat_at x)) as
+        (λ b. holds_key seat_cmp itself seats (seat_at x) ≡ b → holds_key seat_cmp itself all (seat_at x) ≡ true) [
+          | true ↦ λ is. holds_seat all (seat_at x) (old (seat_at x) (seat_held seats (seat_at x) is))
+          | false ↦ λ is. holds_seat all (seat_at x)
+              (new (seat_at x) (filter_contains is_missing (map seat_at xs) (seat_at x) (contains_map xs x there)
+              (not_from_false _ is)))
+        ] refl
 
   -- where more seats are noted, those of the rows are still there
-  pub seats_stay : (xs : List X) (seats all : List Seat) → HasSeats row_of xs seats → ((s : Seat) → Contains seats s → Contains all s) → HasSeats row_of xs all
-  seats_stay xs seats all has stay x there = holds_seat all (seat_at x) (stay (seat_at x) (seat_held seats (seat_at x) (has x there)))
+  pub seats_stay : (xs : List X) (seats all : List Seat) → HasSeats row_of xs seats
+      → ((s : Seat) → Contains seats s → Contains all s) → HasSeats row_of xs all
+  seats_stay xs seats all has stay x there = holds_seat all (seat_at x)
+      (stay (seat_at x) (seat_held seats (seat_at x) (has x there)))

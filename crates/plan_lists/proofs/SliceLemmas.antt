@@ -1,5 +1,6 @@
 -- Parts of lists in the order of something.
-use Rattle.std.proofs.Common.{◌≡◌, ◌↔◌, ℕ, ltb, ◌+◌, ◌-◌, ◌<◌, ◌≤◌, ◌⊎◌, Bool, true, false, List, length, get_or, take, drop, refl, sym, ap, subst, ◌∙◌, inl, inr, arith, Ordering}
+use Rattle.std.proofs.Common.{◌≡◌, ◌↔◌, ℕ, ltb, ◌+◌, ◌-◌, ◌<◌, ◌≤◌, ◌⊎◌, Bool, true, false, List, length, get_or, take}
+use Rattle.std.proofs.Common.{drop, refl, sym, ap, subst, ◌∙◌, inl, inr, arith, Ordering}
 use Rattle.std.specs.declared.cmp.Ordering.TheVariants.{Less, Equal, Greater}
 use Rattle.std.specs.List.{Contains}
 use Rattle.std.specs.List.Sorted.{IsPartitionedBy, IsPartitionPoint}
@@ -67,15 +68,18 @@ module _ {M : Type 0} {R : M → M → Ordering} (o : IsTotalOrder R) where
     Rises xs = (i j : ℕ) (d : X) → i ≤ j → j < length xs → AtMost (f (get_or xs i d)) (f (get_or xs j d))
 
     pub rises_drop : (xs : List X) (n : ℕ) → Rises xs → Rises (drop n xs)
-    rises_drop xs n rises i j d le lt = rw (get_or-drop n xs i d, get_or-drop n xs j d) (rises (n + i) (n + j) d (omega arith) (omega (arith, length-drop n xs)))
+    rises_drop xs n rises i j d le lt = rw (get_or-drop n xs i d, get_or-drop n xs j d)
+        (rises (n + i) (n + j) d (omega arith) (omega (arith, length-drop n xs)))
 
     pub parted_below : (xs : List X) (m : M) → Rises xs → IsPartitionedBy (λ x. is_lt (R (f x) m)) xs
     parted_below xs m rises i j d le lt is =
-        ap is_lt (less_after (f (get_or xs i d)) (f (get_or xs j d)) m (rises i j d le lt) (less_from (f (get_or xs j d)) m is))
+        ap is_lt (less_after (f (get_or xs i d)) (f (get_or xs j d)) m (rises i j d le lt)
+        (less_from (f (get_or xs j d)) m is))
 
     pub parted_upto : (xs : List X) (m : M) → Rises xs → IsPartitionedBy (λ x. is_le (R (f x) m)) xs
     parted_upto xs m rises i j d le lt is =
-        is_le_from (f (get_or xs i d)) m (at_most_after (f (get_or xs i d)) (f (get_or xs j d)) m (rises i j d le lt) (at_most_from (f (get_or xs j d)) m is))
+        is_le_from (f (get_or xs i d)) m (at_most_after (f (get_or xs i d)) (f (get_or xs j d)) m (rises i j d le lt)
+        (at_most_from (f (get_or xs j d)) m is))
 
     -- the items between those below and those above
     pub between : IsAntisymmetric R → (xs : List X) (m : M) (start count : ℕ) → start ≤ length xs
@@ -91,8 +95,10 @@ module _ {M : Type 0} {R : M → M → Ordering} (o : IsTotalOrder R) where
             let long : start + k < length xs = omega (arith, length-drop start xs) in
             let in_rest_at : get_or (drop start xs) k x ≡ x = sym (get_or-take count (drop start xs) k x short) ∙ at in
             let in_all : get_or xs (start + k) x ≡ x = sym (get_or-drop start xs k x) ∙ in_rest_at in
-            let not_below : is_lt (R (f x) m) ≡ false = subst (λ (y : X). is_lt (R (f y) m) ≡ false) in_all (point.1 (start + k) x (omega arith) long) in
-            let upto : is_le (R (f x) m) ≡ true = subst (λ (y : X). is_le (R (f y) m) ≡ true) in_rest_at (point'.0 k x (omega arith) short) in
+            let not_below : is_lt (R (f x) m) ≡ false = subst (λ (y : X). is_lt (R (f y) m) ≡ false) in_all
+            (point.1 (start + k) x (omega arith) long) in
+            let upto : is_le (R (f x) m) ≡ true = subst (λ (y : X). is_le (R (f y) m) ≡ true) in_rest_at
+            (point'.0 k x (omega arith) short) in
             ((start + k, long, in_all), ties (f x) m (equal_from (f x) m not_below upto))
 
         tied : f x ≡ m → R (f x) m ≡ Equal
@@ -100,14 +106,22 @@ module _ {M : Type 0} {R : M → M → Ordering} (o : IsTotalOrder R) where
 
         backward : Contains xs x × (f x ≡ m) → Contains (take count (drop start xs)) x
         backward ((k, lt, at), same) = elim (cases_lt k start) [
-          | inl front ↦ absurd (false≢true (sym (ap is_lt (tied same)) ∙ subst (λ (y : X). is_lt (R (f y) m) ≡ true) at (point.0 k x (omega arith) front)))
+          | inl front ↦ absurd (false≢true (sym (ap is_lt (tied same)) ∙ subst (λ (y : X). is_lt (R (f y) m) ≡ true) at
+              (point.0 k x (omega arith) front)))
           | inr back ↦
               let there : start + (k - start) ≡ k = omega arith in
-              let at_rest : get_or (drop start xs) (k - start) x ≡ x = get_or-drop start xs (k - start) x ∙ ap (λ n. get_or xs n x) there ∙ at in
+              let at_rest : get_or (drop start xs) (k - start) x ≡ x = get_or-drop start xs (k - start) x
+              ∙ ap (λ n. get_or xs n x) there ∙ at in
               let long : k - start < length (drop start xs) = omega (arith, length-drop start xs) in
               elim (cases_lt (k - start) count) [
-                | inl short ↦ (k - start, omega (arith, length-take-le count (drop start xs) in_rest), get_or-take count (drop start xs) (k - start) x short ∙ at_rest)
-                | inr far ↦ absurd (false≢true (sym (subst (λ (y : X). is_le (R (f y) m) ≡ false) at_rest (point'.1 (k - start) x far long)) ∙ ap is_le (tied same)))
+                | inl short ↦ (
+                  k - start,
+                  omega (arith, length-take-le count (drop start xs) in_rest),
+                  get_or-take count
+                      (drop start xs) (k - start) x short ∙ at_rest,
+                )
+                | inr far ↦ absurd (false≢true (sym (subst (λ (y : X). is_le (R (f y) m) ≡ false) at_rest
+                    (point'.1 (k - start) x far long)) ∙ ap is_le (tied same)))
               ]
         ]
 
@@ -116,14 +130,17 @@ at_most_le x y (inl less) = let below : x < y = ranked x y Less (sym less) in om
 at_most_le x y (inr same) = let is : x ≡ y = ranked x y Equal (sym same) in omega arith
 
 -- numbers that do not fall along the list
-pub parted_before : {X : Type 0} (f : X → ℕ) (xs : List X) (m : ℕ) → Rises nat_cmp_total f xs → IsPartitionedBy (λ x. ltb (f x) m) xs
+pub parted_before : {X : Type 0} (f : X → ℕ) (xs : List X) (m : ℕ) → Rises nat_cmp_total f xs
+    → IsPartitionedBy (λ x. ltb (f x) m) xs
 parted_before f xs m rises i j d le lt is =
     let low = at_most_le (f (get_or xs i d)) (f (get_or xs j d)) (rises i j d le lt) in
     let below = ltb-true (f (get_or xs j d)) m is in
     lt-ltb (f (get_or xs i d)) m (omega arith)
 
 -- the items below
-pub front : {X : Type 0} (xs : List X) (below : X → Bool) (count : ℕ) → count ≤ length xs → IsPartitionPoint (λ x. below x ≡ true) (λ x. below x ≡ false) xs count → (x : X) → Contains (take count xs) x ↔ (Contains xs x × (below x ≡ true))
+pub front : {X : Type 0} (xs : List X) (below : X → Bool) (count : ℕ) → count ≤ length xs
+    → IsPartitionPoint (λ x. below x ≡ true) (λ x. below x ≡ false) xs count → (x : X) → Contains (take count xs) x
+    ↔ (Contains xs x × (below x ≡ true))
 front {X} xs below count le point x = (forward, backward)
   where
     forward : Contains (take count xs) x → Contains xs x × (below x ≡ true)
@@ -141,7 +158,8 @@ front {X} xs below count le point x = (forward, backward)
 -- parts of a list in the order of a key
 module _ {X K : Type 0} (cmp : K → K → Ordering) (key : X → K) (xs : List X) (keyed : IsKeyed cmp key xs) where
   pub drop_keyed : (n : ℕ) → IsKeyed cmp key (drop n xs)
-  drop_keyed n i j d lt lt_j = rw (get_or-drop n xs i d, get_or-drop n xs j d) (keyed (n + i) (n + j) d (omega arith) (omega (arith, length-drop n xs)))
+  drop_keyed n i j d lt lt_j = rw (get_or-drop n xs i d, get_or-drop n xs j d)
+      (keyed (n + i) (n + j) d (omega arith) (omega (arith, length-drop n xs)))
 
   pub take_keyed : (n : ℕ) → n ≤ length xs → IsKeyed cmp key (take n xs)
   take_keyed n le i j d lt lt_j =

@@ -11,7 +11,8 @@ use Rattle.plan_lists.specs.declared.seats.Seat.{Seat}
 
 -- by serial, then by input arrival and application
 abbrev pub seat_cmp : Seat → Seat → Ordering
-seat_cmp a b = ordering_then (nat_cmp a.serial b.serial) (ordering_then (nat_cmp a.ia b.ia) (slice_cmp nat_cmp a.app b.app))
+seat_cmp a b = ordering_then (nat_cmp a.serial b.serial)
+    (ordering_then (nat_cmp a.ia b.ia) (slice_cmp nat_cmp a.app b.app))
 
 -- the serial and the key of a row
 abbrev pub seat_of : Row → Seat
@@ -23,7 +24,8 @@ AreSeats seats = IsKeyed seat_cmp (λ seat. seat) seats
 
 -- the seat of each row is among these
 abbrev pub HasSeats : {X : Type 0} → (X → Row) → List X → List Seat → Type 0
-HasSeats {X} row_of xs seats = (x : X) → Contains xs x → holds_key seat_cmp (λ (seat : Seat). seat) seats (seat_of (row_of x)) ≡ true
+HasSeats {X} row_of xs seats = (x : X) → Contains xs x → holds_key seat_cmp (λ (seat : Seat). seat) seats
+    (seat_of (row_of x)) ≡ true
 
 then_equal : (o p : Ordering) → ordering_then o p ≡ Equal → (o ≡ Equal) × (p ≡ Equal)
 then_equal Less p is = cc
@@ -33,7 +35,8 @@ then_equal Greater p is = cc
 -- only equal seats compare as equal
 pub seat_ties : IsAntisymmetric seat_cmp
 seat_ties a b is =
-    let one = then_equal (nat_cmp a.serial b.serial) (ordering_then (nat_cmp a.ia b.ia) (slice_cmp nat_cmp a.app b.app)) is in
+    let one = then_equal (nat_cmp a.serial b.serial) (ordering_then (nat_cmp a.ia b.ia) (slice_cmp nat_cmp a.app b.app))
+    is in
     let two = then_equal (nat_cmp a.ia b.ia) (slice_cmp nat_cmp a.app b.app) one.1 in
     let serial : a.serial ≡ b.serial = nat_cmp-IsAntisymmetric a.serial b.serial one.0 in
     let ia : a.ia ≡ b.ia = nat_cmp-IsAntisymmetric a.ia b.ia two.0 in

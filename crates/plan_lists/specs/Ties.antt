@@ -15,7 +15,8 @@ then_equal Greater p is = cc
 
 pub arrival_ties : IsAntisymmetric arrival_cmp
 arrival_ties a b is =
-    let one = then_equal (slice_cmp nat_cmp a.app b.app) (ordering_then (nat_cmp a.ia b.ia) (nat_cmp a.serial b.serial)) is in
+    let one = then_equal (slice_cmp nat_cmp a.app b.app) (ordering_then (nat_cmp a.ia b.ia) (nat_cmp a.serial b.serial))
+    is in
     let two = then_equal (nat_cmp a.ia b.ia) (nat_cmp a.serial b.serial) one.1 in
     let app : a.app ≡ b.app = slice_cmp-IsAntisymmetric nat_cmp-IsAntisymmetric a.app b.app one.0 in
     let ia : a.ia ≡ b.ia = nat_cmp-IsAntisymmetric a.ia b.ia two.0 in

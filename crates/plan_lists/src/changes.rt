@@ -16,7 +16,8 @@ fn replace_one<T: Keyed>(list: &mut Vec<T>, item: T)
     ensures length { vec_len list.new ≡ vec_len list.old }
     ensures capacity { vec_capacity list.new ≡ vec_capacity list.old }
     ensures stand { (k : T.Key) → HasKey T.key_of list.old.items k → HasKey T.key_of list.new.items k }
-    ensures replaced { (x : T) → Contains list.new.items x ↔ ((item ≡ x) ⊎ (Contains list.old.items x × (T.key_of x ≢ T.key_of item))) }
+    ensures replaced { (x : T) → Contains list.new.items x
+        ↔ ((item ≡ x) ⊎ (Contains list.old.items x × (T.key_of x ≢ T.key_of item))) }
 {
     match find(list.as_slice(), &item.key()) {
         Ok(at) => list[at] = item,
@@ -32,7 +33,8 @@ pub fn replace_all<T: Keyed>(list: &mut Vec<T>, items: &[T])
     ensures keyed { IsKeyed T.Key.cmp T.key_of list.new.items }
     ensures length { vec_len list.new ≡ vec_len list.old }
     ensures capacity { vec_capacity list.new ≡ vec_capacity list.old }
-    ensures replaced { (x : T) → Contains list.new.items x ↔ (Contains items.now x ⊎ (Contains list.old.items x × LacksKey T.key_of items.now (T.key_of x))) }
+    ensures replaced { (x : T) → Contains list.new.items x
+        ↔ (Contains items.now x ⊎ (Contains list.old.items x × LacksKey T.key_of items.now (T.key_of x))) }
 {
     for item in items {
         replace_one(list, *item);
@@ -61,7 +63,8 @@ fn remove_each<T: Keyed>(list: &mut Vec<T>, items: &[T])
     ensures keyed { IsKeyed T.Key.cmp T.key_of list.new.items }
     ensures length { vec_len list.new ≤ vec_len list.old }
     ensures capacity { vec_capacity list.new ≡ vec_capacity list.old }
-    ensures removed { (x : T) → Contains list.new.items x ↔ (Contains list.old.items x × LacksKey T.key_of items.now (T.key_of x)) }
+    ensures removed { (x : T) → Contains list.new.items x
+        ↔ (Contains list.old.items x × LacksKey T.key_of items.now (T.key_of x)) }
 {
     for item in items {
         remove_one(list, &item.key());
@@ -75,7 +78,8 @@ pub fn remove_all<T: Keyed>(list: &mut Vec<T>, items: &[T])
     ensures keyed { IsKeyed T.Key.cmp T.key_of list.new.items }
     ensures length { vec_len list.new ≤ vec_len list.old }
     ensures capacity { vec_capacity list.new ≡ vec_capacity list.old }
-    ensures removed { (x : T) → Contains list.new.items x ↔ (Contains list.old.items x × LacksKey T.key_of items.now (T.key_of x)) }
+    ensures removed { (x : T) → Contains list.new.items x
+        ↔ (Contains list.old.items x × LacksKey T.key_of items.now (T.key_of x)) }
 {
     if items.len() <= FEW {
         remove_each(list, items);

@@ -1,5 +1,12 @@
 //! The rows and the pairs of a plan as lists in rising order of a key, each key once: found by binary search, and
 //! changed in place.
+//!
+//! ```text
+//! let mut rows = Vec::with_capacity(alloc, 2)?;
+//! insert_all(&mut rows, &[third, fourth]);
+//! remove_all(&mut rows, &[third]);
+//! assert!(rt; find(&rows, &fourth.key()) == Ok(0) && !has_key(&rows, &third.key()));
+//! ```
 #![tactic(auto)]
 
 mod changes;

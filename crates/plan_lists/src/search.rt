@@ -9,7 +9,9 @@ use crate::keyed::Keyed;
 /// Where the key stands in the list, or where it would stand.
 pub fn find<T: Keyed>(list: &[T], key: &T::Key) -> Result<usize, usize>
     ensures taken { IfOk result (λ i. (i < length list.now) × HoldsAt (λ x. T.key_of x ≡ key.now) list.now i) }
-    ensures free { IsKeyed T.Key.cmp T.key_of list.now → IfErr result (λ i. (i ≤ length list.now) × IsPartitionPoint (λ x. T.Key.cmp (T.key_of x) key.now ≡ Less) (λ x. T.Key.cmp (T.key_of x) key.now ≡ Greater) list.now i) }
+    ensures free { IsKeyed T.Key.cmp T.key_of list.now → IfErr result (λ i. (i ≤ length list.now)
+        × IsPartitionPoint (λ x. T.Key.cmp (T.key_of x) key.now ≡ Less) (λ x. T.Key.cmp (T.key_of x) key.now ≡ Greater)
+        list.now i) }
 {
     list.binary_search_by_key(key, |x| x.key())
 }

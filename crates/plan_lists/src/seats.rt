@@ -56,7 +56,8 @@ fn missing_seats<T: PlanRow>(
 ) -> Result<Vec<Seat>, AllocError>
     requires { AreSeats seats.now }
     ensures { IfOk result (λ missing. missing.items
-        ≡ filter (λ seat. not (holds_key seat_cmp (λ (s : SeatValue). s) seats.now seat)) (map (λ x. seat_of (T.row_of x)) rows.now)) }
+        ≡ filter (λ seat. not (holds_key seat_cmp (λ (s : SeatValue). s) seats.now seat))
+        (map (λ x. seat_of (T.row_of x)) rows.now)) }
 {
     rows.iter()
         .map(|x| made_seat(&x.row()))
@@ -85,7 +86,8 @@ pub fn note_rows<T: PlanRow>(
 
 /// The seats of a serial.
 pub fn seats_of(seats: &[Seat], serial: Serial) -> &[Seat]
-    ensures { AreSeats seats.now → (seat : SeatValue) → Contains result.now seat ↔ (Contains seats.now seat × (seat.serial ≡ serial)) }
+    ensures { AreSeats seats.now → (seat : SeatValue) → Contains result.now seat
+        ↔ (Contains seats.now seat × (seat.serial ≡ serial)) }
 {
     let start = seats.partition_point(|seat| seat.serial < serial);
     let rest = &seats[start..];

@@ -9,7 +9,7 @@ ghost use Rattle.plan_pairs.specs.Additions.{AddsRow, ArePairsWith, IsAddable, I
 ghost use Rattle.plan_pairs.specs.Additions.{place_in};
 
 use crate::change::pair_change;
-use crate::listing::live_rows;
+use crate::listing::live_rows_in;
 use crate::singles::single;
 use external_dependencies::{PairChange, PlacedRow, Rows};
 use occurrences::{CurrentRow, Key, Origin, Place, Refusal, Reply, Row, Serial, Status};
@@ -144,7 +144,7 @@ fn pairs_with(
     ensures { IfOk result (λ change. IsSound (shown view.now) → IsAddable (shown view.now) plan row.now
         → ArePairsWith (shown view.now) plan row.now (pairs_after change (shown view.now).pairs)) }
 {
-    let mut placed = live_rows(alloc, view.ltp(), view.cp(), view.history())?.into_vec();
+    let mut placed = live_rows_in(alloc, 1, view.ltp(), &[], view.cp(), view.history())?.into_vec();
     let place = plan.place();
     placed.push(PlacedRow { row: *row, place })?;
     let rows = Rows::from_vec(placed);

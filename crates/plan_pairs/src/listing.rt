@@ -30,8 +30,23 @@ pub fn live_rows_with(
     ensures { IfOk result (λ rows. (s : Sets) → HasLists s (planned.now ++ made.now) current.now history.now
         → AreLiveRows s rows) }
 {
+    live_rows_in(alloc, 0, planned, made, current, history)
+}
+
+// The same, with room for so many more.
+pub(crate) fn live_rows_in(
+    alloc: Global,
+    more: u8,
+    planned: &[Row],
+    made: &[Row],
+    current: &[CurrentRow],
+    history: &[Row],
+) -> Result<Rows, AllocError>
+    ensures { IfOk result (λ rows. (s : Sets) → HasLists s (planned.now ++ made.now) current.now history.now
+        → AreLiveRows s rows) }
+{
     let count = planned.len() + made.len() + current.len() + history.len();
-    let mut rows = Vec::with_capacity(alloc, count)?;
+    let mut rows = Vec::with_capacity(alloc, count + usize::from(more))?;
     push_rows(&mut rows, planned, Place::LongTerm)?;
     push_rows(&mut rows, made, Place::LongTerm)?;
     push_current(&mut rows, current)?;

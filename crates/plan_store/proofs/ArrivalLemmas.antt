@@ -1,5 +1,6 @@
 -- The greatest of some arrivals.
-use Rattle.std.proofs.Common.{true, false, ◌≡◌, ◌≢◌, ◌↔◌, ℕ, ◌+◌, ◌<◌, ◌≤◌, ◌⊎◌, List, length, get_or, refl, sym, ap, subst, ◌∙◌, inl, inr, arith, Some, None, Option, Ordering}
+use Rattle.std.proofs.Common.{true, false, ◌≡◌, ◌≢◌, ◌↔◌, ℕ, ◌+◌, ◌<◌, ◌≤◌, ◌⊎◌, List, length, get_or, refl, sym, ap}
+use Rattle.std.proofs.Common.{subst, ◌∙◌, inl, inr, arith, Some, None, Option, Ordering}
 use Rattle.std.specs.Prelude.{nat_eq, if◌then◌else◌}
 use Rattle.std.specs.declared.cmp.Ordering.TheVariants.{Less, Equal, Greater}
 use Rattle.std.specs.List.{Contains}
@@ -48,54 +49,89 @@ under : (x a b : Arrival) → arrival_cmp x a ≢ Greater → arrival_cmp a b �
 under x a b not_above less above = not_above (turned_back a x (arrival_total.trans a b x less (turned x b above)))
 
 -- of two greatest the later is the greatest of both
-pub greatest_later : (P Q : Arrival → Type 0) (first second : Option Arrival) → IsGreatestOf P first → IsGreatestOf Q second → IsGreatestOf (λ x. P x ⊎ Q x) (later_of first second)
+pub greatest_later : (P Q : Arrival → Type 0) (first second : Option Arrival) → IsGreatestOf P first
+    → IsGreatestOf Q second → IsGreatestOf (λ x. P x ⊎ Q x) (later_of first second)
 greatest_later P Q None None p q = λ x either. elim either [ inl one ↦ p x one | inr two ↦ q x two ]
-greatest_later P Q None (Some b) p q = (inr q.0, λ x either. elim either [ inl one ↦ absurd (p x one) | inr two ↦ q.1 x two ])
-greatest_later P Q (Some a) None p q = (inl p.0, λ x either. elim either [ inl one ↦ p.1 x one | inr two ↦ absurd (q x two) ])
-greatest_later P Q (Some a) (Some b) p q = elim (arrival_cmp a b) as (λ o. arrival_cmp a b ≡ o → IsGreatestOf (λ x. P x ⊎ Q x) (if is_lt o then Some b else Some a)) [
-  | Less ↦ λ is. (inr q.0, λ x either. elim either [ inl one ↦ under x a b (p.1 x one) is | inr two ↦ q.1 x two ])
-  | Equal ↦ λ is. (inl p.0, λ x either. elim either [ inl one ↦ p.1 x one | inr two ↦ subst (λ y. arrival_cmp x y ≢ Greater) (sym (arrival_ties a b is)) (q.1 x two) ])
-  | Greater ↦ λ is. (inl p.0, λ x either. elim either [ inl one ↦ p.1 x one | inr two ↦ under x b a (q.1 x two) (turned a b is) ])
-] refl
+greatest_later P Q None (Some b) p q =
+    (inr q.0, λ x either. elim either [ inl one ↦ absurd (p x one) | inr two ↦ q.1 x two ])
+greatest_later P Q (Some a) None p q =
+    (inl p.0, λ x either. elim either [ inl one ↦ p.1 x one | inr two ↦ absurd (q x two) ])
+greatest_later P Q (Some a) (Some b) p q = elim (arrival_cmp a b) as (λ o. arrival_cmp a b ≡ o
+    → IsGreatestOf (λ x. P x ⊎ Q x) (if is_lt o then Some b else Some a)) [
+      | Less ↦ λ is. (inr q.0, λ x either. elim either [ inl one ↦ under x a b (p.1 x one) is | inr two ↦ q.1 x two ])
+      | Equal ↦ λ is. (
+        inl p.0,
+        λ x either. elim either [
+          | inl one ↦ p.1 x one
+          | inr two ↦
+              subst (λ y. arrival_cmp x y ≢ Greater) (sym (arrival_ties a b is)) (q.1 x two)
+        ],
+      )
+      | Greater ↦ λ is. (
+        inl p.0,
+        λ x either. elim either [
+          | inl one ↦ p.1 x one
+          | inr two ↦ under x b a (q.1 x two)
+              (turned a b is)
+        ],
+      )
+    ] refl
 
 -- what stands no later in a list in rising order does not arrive later
-pub not_later : {X : Type 0} (row_of : X → Row) (xs : List X) → IsKeyed arrival_cmp (λ x. arrival_of (row_of x)) xs → (i : ℕ) (d x : X) (k : ℕ) → k ≤ i → i < length xs → get_or xs k x ≡ x → arrival_cmp (arrival_of (row_of x)) (arrival_of (row_of (get_or xs i d))) ≢ Greater
+pub not_later : {X : Type 0} (row_of : X → Row) (xs : List X) → IsKeyed arrival_cmp (λ x. arrival_of (row_of x)) xs
+    → (i : ℕ) (d x : X) (k : ℕ) → k ≤ i → i < length xs → get_or xs k x ≡ x → arrival_cmp (arrival_of (row_of x))
+    (arrival_of (row_of (get_or xs i d))) ≢ Greater
 not_later row_of xs keyed i d x k le lt at above =
     let last : get_or xs i x ≡ get_or xs i d = get_or_default xs i x d lt in
     let here = subst (λ y. arrival_cmp (arrival_of (row_of x)) (arrival_of (row_of y)) ≡ Greater) (sym last) above in
     elim (cases_order k i) [
       | inl same ↦
           let is : x ≡ get_or xs i x = sym at ∙ ap (λ n. get_or xs n x) same in
-          equal_greater (arrival_cmp (arrival_of (row_of x)) (arrival_of (row_of (get_or xs i x)))) (subst (λ y. arrival_cmp (arrival_of (row_of x)) (arrival_of (row_of y)) ≡ Equal) is (tied_itself arrival_total (arrival_of (row_of x)))) here
+          equal_greater (arrival_cmp (arrival_of (row_of x)) (arrival_of (row_of (get_or xs i x))))
+          (subst (λ y. arrival_cmp (arrival_of (row_of x)) (arrival_of (row_of y)) ≡ Equal) is
+          (tied_itself arrival_total (arrival_of (row_of x)))) here
       | inr (inl below) ↦
-          let less = subst (λ y. arrival_cmp (arrival_of (row_of y)) (arrival_of (row_of (get_or xs i x))) ≡ Less) at (keyed k i x below lt) in
+          let less = subst (λ y. arrival_cmp (arrival_of (row_of y)) (arrival_of (row_of (get_or xs i x))) ≡ Less) at
+          (keyed k i x below lt) in
           less_greater (arrival_cmp (arrival_of (row_of x)) (arrival_of (row_of (get_or xs i x)))) less here
       | inr (inr past) ↦ absurd (omega arith)
     ]
 
 -- the last row arrives last
-pub last_greatest : (rows : List Row) → IsKeyed arrival_cmp arrival_of rows → (i : ℕ) (row : Row) (a : Arrival) → i + 1 ≡ length rows → row ≡ get_or rows i row → a ≡ arrival_of row → IsGreatestOf (arrives rows) (Some a)
+pub last_greatest : (rows : List Row) → IsKeyed arrival_cmp arrival_of rows → (i : ℕ) (row : Row) (a : Arrival) → i + 1
+    ≡ length rows → row ≡ get_or rows i row → a ≡ arrival_of row → IsGreatestOf (arrives rows) (Some a)
 last_greatest rows keyed i row a end at is = (
   (row, (i, omega arith, sym at), sym is),
   λ b (x, (k, lt, at_x), same) above.
-      let here : arrival_cmp (arrival_of x) (arrival_of row) ≡ Greater = subst (λ y. arrival_cmp (arrival_of x) y ≡ Greater) is (subst (λ y. arrival_cmp y a ≡ Greater) (sym same) above) in
-      not_later of_row rows keyed i row x k (omega arith) (omega arith) at_x (subst (λ y. arrival_cmp (arrival_of x) (arrival_of y) ≡ Greater) at here),
+      let here : arrival_cmp (arrival_of x) (arrival_of row) ≡ Greater =
+      subst (λ y. arrival_cmp (arrival_of x) y ≡ Greater) is (subst (λ y. arrival_cmp y a ≡ Greater) (sym same)
+      above) in
+      not_later of_row rows keyed i row x k (omega arith) (omega arith) at_x
+      (subst (λ y. arrival_cmp (arrival_of x) (arrival_of y) ≡ Greater) at here),
 )
 
 -- the last row that is not deleted arrives last of those that aren't
-pub live_greatest : (rows : List CurrentRow) → IsKeyed arrival_cmp (λ (x : CurrentRow). arrival_of x.row) rows → (i : ℕ) (current : CurrentRow) (a : Arrival) → i < length rows → current ≡ get_or rows i current → current.status ≢ D → ((k : ℕ) (d : CurrentRow) → i + 1 ≤ k → k < length rows → (get_or rows k d).status ≡ D) → a ≡ arrival_of current.row → IsGreatestOf (arrives_live rows) (Some a)
+pub live_greatest : (rows : List CurrentRow) → IsKeyed arrival_cmp (λ (x : CurrentRow). arrival_of x.row) rows
+    → (i : ℕ) (current : CurrentRow) (a : Arrival) → i < length rows → current ≡ get_or rows i current
+    → current.status ≢ D → ((k : ℕ) (d : CurrentRow) → i + 1 ≤ k → k < length rows → (get_or rows k d).status ≡ D) → a
+    ≡ arrival_of current.row → IsGreatestOf (arrives_live rows) (Some a)
 live_greatest rows keyed i current a in_range at live deleted is = (
   (current, (i, in_range, sym at), live, sym is),
   λ b (x, (k, lt, at_x), not_deleted, same) above.
-      let here : arrival_cmp (arrival_of x.row) (arrival_of current.row) ≡ Greater = subst (λ y. arrival_cmp (arrival_of x.row) y ≡ Greater) is (subst (λ y. arrival_cmp y a ≡ Greater) (sym same) above) in
+      let here : arrival_cmp (arrival_of x.row) (arrival_of current.row) ≡ Greater =
+      subst (λ y. arrival_cmp (arrival_of x.row) y ≡ Greater) is (subst (λ y. arrival_cmp y a ≡ Greater) (sym same)
+      above) in
       elim (cases_lt i k) [
         | inl past ↦ not_deleted (ap (λ (y : CurrentRow). y.status) (sym at_x) ∙ deleted k x (omega arith) lt)
-        | inr low ↦ not_later of_current rows keyed i current x k low in_range at_x (subst (λ (y : CurrentRow). arrival_cmp (arrival_of x.row) (arrival_of y.row) ≡ Greater) at here)
+        | inr low ↦ not_later of_current rows keyed i current x k low in_range at_x
+            (subst (λ (y : CurrentRow). arrival_cmp (arrival_of x.row) (arrival_of y.row) ≡ Greater) at here)
       ],
 )
 
-pub none_live : (rows : List CurrentRow) → ((k : ℕ) (d : CurrentRow) → k < length rows → (get_or rows k d).status ≡ D) → IsGreatestOf (arrives_live rows) None
-none_live rows deleted b (x, (k, lt, at_x), not_deleted, same) = not_deleted (ap (λ (y : CurrentRow). y.status) (sym at_x) ∙ deleted k x lt)
+pub none_live : (rows : List CurrentRow) → ((k : ℕ) (d : CurrentRow) → k < length rows → (get_or rows k d).status ≡ D)
+    → IsGreatestOf (arrives_live rows) None
+none_live rows deleted b (x, (k, lt, at_x), not_deleted, same) =
+    not_deleted (ap (λ (y : CurrentRow). y.status) (sym at_x) ∙ deleted k x lt)
 
 -- of one application, what does not arrive later
 module _ (b a : Arrival) (one : b.app ≡ a.app) (not_above : arrival_cmp b a ≢ Greater) where
@@ -103,7 +139,8 @@ module _ (b a : Arrival) (one : b.app ≡ a.app) (not_above : arrival_cmp b a �
   apps_tie = subst (λ y. slice_cmp nat_cmp b.app y ≡ Equal) one (tied_itself nat_list_cmp_total b.app)
 
   rest_not_above : ordering_then (nat_cmp b.ia a.ia) (nat_cmp b.serial a.serial) ≢ Greater
-  rest_not_above above = not_above (ap (λ o. ordering_then o (ordering_then (nat_cmp b.ia a.ia) (nat_cmp b.serial a.serial))) apps_tie ∙ above)
+  rest_not_above above = not_above
+      (ap (λ o. ordering_then o (ordering_then (nat_cmp b.ia a.ia) (nat_cmp b.serial a.serial))) apps_tie ∙ above)
 
   pub ia_below : b.ia ≤ a.ia
   ia_below = elim (nat_cmp b.ia a.ia) as (λ o. nat_cmp b.ia a.ia ≡ o → b.ia ≤ a.ia) [
@@ -117,7 +154,8 @@ module _ (b a : Arrival) (one : b.app ≡ a.app) (not_above : arrival_cmp b a �
     | Less ↦ λ e. let lt : b.serial < a.serial = ranked b.serial a.serial Less (sym e) in omega arith
     | Equal ↦ λ e. let is : b.serial ≡ a.serial = ranked b.serial a.serial Equal (sym e) in omega arith
     | Greater ↦ λ e.
-        let tie : nat_cmp b.ia a.ia ≡ Equal = subst (λ y. nat_cmp b.ia y ≡ Equal) same (tied_itself nat_cmp_total b.ia) in
+        let tie : nat_cmp b.ia a.ia ≡ Equal = subst (λ y. nat_cmp b.ia y ≡ Equal) same
+        (tied_itself nat_cmp_total b.ia) in
         absurd (rest_not_above (ap (λ o. ordering_then o (nat_cmp b.serial a.serial)) tie ∙ e))
   ] refl
 
@@ -130,8 +168,10 @@ module _ (s : Sets) (numbered : AreNumbered s) (app : List ℕ) (minute : ℕ)
     (history_is : (serial : ℕ) → look_up (λ (row : Row). row.serial) history serial ≡ s.history serial)
     (ltp_part history_part : List Row) (cp_part : List CurrentRow)
     (of_ltp : (row : Row) → Contains ltp_part row ↔ (Contains ltp row × (row.key.app ≡ app) × (row.key.ia < minute)))
-    (of_cp : (current : CurrentRow) → Contains cp_part current ↔ (Contains cp current × (current.row.key.app ≡ app) × (current.row.key.ia < minute)))
-    (of_history : (row : Row) → Contains history_part row ↔ (Contains history row × (row.key.app ≡ app) × (row.key.ia < minute))) where
+    (of_cp : (current : CurrentRow) → Contains cp_part current ↔ (Contains cp current × (current.row.key.app ≡ app)
+    × (current.row.key.ia < minute)))
+    (of_history : (row : Row) → Contains history_part row ↔ (Contains history row × (row.key.app ≡ app)
+    × (row.key.ia < minute))) where
   abbrev pub Some_of : Arrival → Type 0
   Some_of a = arrives ltp_part a ⊎ (arrives_live cp_part a ⊎ arrives history_part a)
 
@@ -139,19 +179,42 @@ module _ (s : Sets) (numbered : AreNumbered s) (app : List ℕ) (minute : ℕ)
   fits : (a : Arrival) → Some_of a → LiveAt s a × (a.app ≡ app) × (a.ia < minute)
   fits a (inl (row, there, is)) =
       let at = (of_ltp row).0 there in (
-        (row.serial, record { row = row; place = LongTerm }, stands_ltp s numbered row.serial row (sym (ltp_is row.serial) ∙ look_has (λ (row : Row). row.serial) ltp ltp_rows.one_each row at.0), tt, is),
+        (
+          row.serial,
+          record { row = row; place = LongTerm },
+          stands_ltp s numbered row.serial row
+              (sym (ltp_is row.serial) ∙ look_has (λ (row : Row). row.serial) ltp ltp_rows.one_each row at.0),
+          tt,
+          is,
+        ),
         ap (λ (b : Arrival). b.app) (sym is) ∙ at.1,
         subst (λ (b : Arrival). b.ia < minute) is at.2,
       )
   fits a (inr (inl (current, there, live, is))) =
       let at = (of_cp current).0 there in (
-        (current.row.serial, record { row = current.row; place = Current current.status }, stands_cp s numbered current.row.serial current (sym (cp_is current.row.serial) ∙ look_has (λ (current : CurrentRow). current.row.serial) cp cp_rows.one_each current at.0), live, is),
+        (
+          current.row.serial,
+          record { row = current.row; place = Current current.status },
+          stands_cp s numbered
+              current.row.serial current (sym (cp_is current.row.serial)
+              ∙ look_has (λ (current : CurrentRow). current.row.serial) cp cp_rows.one_each current at.0),
+          live,
+          is,
+        ),
         ap (λ (b : Arrival). b.app) (sym is) ∙ at.1,
         subst (λ (b : Arrival). b.ia < minute) is at.2,
       )
   fits a (inr (inr (row, there, is))) =
       let at = (of_history row).0 there in (
-        (row.serial, record { row = row; place = History }, stands_history s numbered row.serial row (sym (history_is row.serial) ∙ look_has (λ (row : Row). row.serial) history history_rows.one_each row at.0), tt, is),
+        (
+          row.serial,
+          record { row = row; place = History },
+          stands_history s numbered row.serial row
+              (sym (history_is row.serial) ∙ look_has (λ (row : Row). row.serial) history history_rows.one_each row
+              at.0),
+          tt,
+          is,
+        ),
         ap (λ (b : Arrival). b.app) (sym is) ∙ at.1,
         subst (λ (b : Arrival). b.ia < minute) is at.2,
       )
@@ -161,17 +224,50 @@ module _ (s : Sets) (numbered : AreNumbered s) (app : List ℕ) (minute : ℕ)
   found a (serial, p, stands, live, is) of_app in_time = by_place p.place p.row stands live is
     where
       in_ltp : (row : Row) → s.ltp serial ≡ Some row → arrival_of row ≡ a → Some_of a
-      in_ltp row at same = inl (row, (of_ltp row).1 ((look_some (λ (row : Row). row.serial) ltp serial row (ltp_is serial ∙ at)).0, ap (λ (b : Arrival). b.app) same ∙ of_app, subst (λ (b : Arrival). b.ia < minute) (sym same) in_time), same)
+      in_ltp row at same = inl (
+        row,
+        (of_ltp row).1 (
+          (look_some (λ (row : Row). row.serial) ltp serial row (ltp_is serial ∙ at)).0,
+          ap (λ (b : Arrival). b.app)
+              same ∙ of_app,
+          subst (λ (b : Arrival). b.ia < minute) (sym same) in_time,
+        ),
+        same,
+      )
 
-      in_cp : (current : CurrentRow) → s.cp serial ≡ Some current → current.status ≢ D → arrival_of current.row ≡ a → Some_of a
-      in_cp current at not_deleted same = inr (inl (current, (of_cp current).1 ((look_some (λ (current : CurrentRow). current.row.serial) cp serial current (cp_is serial ∙ at)).0, ap (λ (b : Arrival). b.app) same ∙ of_app, subst (λ (b : Arrival). b.ia < minute) (sym same) in_time), not_deleted, same))
+      in_cp : (current : CurrentRow) → s.cp serial ≡ Some current → current.status ≢ D → arrival_of current.row ≡ a
+          → Some_of a
+      in_cp current at not_deleted same =
+          inr (inl (
+            current,
+            (of_cp current).1 (
+              (look_some (λ (current : CurrentRow). current.row.serial) cp serial current (cp_is serial ∙ at)).0,
+              ap
+                  (λ (b : Arrival). b.app) same ∙ of_app,
+              subst (λ (b : Arrival). b.ia < minute) (sym same) in_time,
+            ),
+            not_deleted,
+            same,
+          ))
 
       in_history : (row : Row) → s.history serial ≡ Some row → arrival_of row ≡ a → Some_of a
-      in_history row at same = inr (inr (row, (of_history row).1 ((look_some (λ (row : Row). row.serial) history serial row (history_is serial ∙ at)).0, ap (λ (b : Arrival). b.app) same ∙ of_app, subst (λ (b : Arrival). b.ia < minute) (sym same) in_time), same))
+      in_history row at same = inr (inr (
+        row,
+        (of_history row).1 (
+          (look_some (λ (row : Row). row.serial) history serial row
+              (history_is serial ∙ at)).0,
+          ap (λ (b : Arrival). b.app) same ∙ of_app,
+          subst (λ (b : Arrival). b.ia < minute)
+              (sym same) in_time,
+        ),
+        same,
+      ))
 
-      by_place : (place : Place) (row : Row) → seat s serial ≡ alone row place → IsLive place → arrival_of row ≡ a → Some_of a
+      by_place : (place : Place) (row : Row) → seat s serial ≡ alone row place → IsLive place → arrival_of row ≡ a
+          → Some_of a
       by_place LongTerm row stands live same = in_ltp row (ap (λ (x : Seat). x.ltp) stands) same
-      by_place (Current status) row stands live same = in_cp (record { row = row; status = status }) (ap (λ (x : Seat). x.cp) stands) live same
+      by_place (Current status) row stands live same = in_cp (record { row = row; status = status })
+          (ap (λ (x : Seat). x.cp) stands) live same
       by_place History row stands live same = in_history row (ap (λ (x : Seat). x.history) stands) same
       by_place (Deleted reason) row stands live same = absurd live
 
@@ -186,8 +282,10 @@ module _ (s : Sets) (numbered : AreNumbered s) (app : List ℕ) (minute : ℕ)
         live = good.0;
         of_app = good.1;
         in_time = good.2;
-        greatest = λ other live of_app in_time. ia_below other near (of_app ∙ sym good.1) (is.1 other (found other live of_app in_time));
-        last = λ other live of_app same. serial_below other near (of_app ∙ sym good.1) (is.1 other (found other live of_app (subst (λ n. n < minute) (sym same) good.2))) same;
+        greatest = λ other live of_app in_time. ia_below other near (of_app ∙ sym good.1)
+            (is.1 other (found other live of_app in_time));
+        last = λ other live of_app same. serial_below other near (of_app ∙ sym good.1)
+            (is.1 other (found other live of_app (subst (λ n. n < minute) (sym same) good.2))) same;
       }
 
 -- the rows of an application before a minute, of all rows
@@ -209,11 +307,22 @@ pub other_name : (a b : List ℕ) → pointwise nat_eq a b ≡ false → a ≢ b
 other_name a b e same = false≢true (sym e ∙ (bytes_decides a b).1 same)
 
 -- the nearest, from the last before a limit: in its own application the arrival itself, else the minute after it
-module _ (s : Sets) (key : Key) (app : List ℕ) (limit : ℕ) (is_limit : ((app ≡ key.app) × (limit ≡ key.ia)) ⊎ ((app ≢ key.app) × (limit ≡ key.ia + 1))) where
+module _ (s : Sets) (key : Key) (app : List ℕ) (limit : ℕ) (is_limit : ((app ≡ key.app) × (limit ≡ key.ia))
+    ⊎ ((app ≢ key.app) × (limit ≡ key.ia + 1))) where
   within : (a : Arrival) → a.app ≡ app → a.ia < limit → IsCandidate key app a
   within a of_app early = elim is_limit [
-    | inl own ↦ let at : limit ≡ key.ia = own.1 in record { of_app = of_app; in_time = omega arith; before_own = λ _. omega arith }
-    | inr other ↦ let at : limit ≡ key.ia + 1 = other.1 in record { of_app = of_app; in_time = omega arith; before_own = λ same. absurd (other.0 same) }
+    | inl own ↦ let at : limit ≡ key.ia = own.1 in record {
+      of_app = of_app;
+      in_time = omega arith;
+      before_own =
+          λ _. omega arith;
+    }
+    | inr other ↦ let at : limit ≡ key.ia + 1 = other.1 in record {
+      of_app = of_app;
+      in_time = omega arith;
+      before_own =
+          λ same. absurd (other.0 same);
+    }
   ]
 
   reaches : (a : Arrival) → IsCandidate key app a → a.ia < limit
@@ -228,7 +337,8 @@ module _ (s : Sets) (key : Key) (app : List ℕ) (limit : ℕ) (is_limit : ((app
       let early : other.ia < limit = reaches other candidate in
       absurd (omega arith)
 
-  pub nearest_some : (near : Arrival) → IsLastBefore s app limit (Some near) → IsNearestAnswer (LiveAt s) key app (Some near.serial)
+  pub nearest_some : (near : Arrival) → IsLastBefore s app limit (Some near) → IsNearestAnswer (LiveAt s) key app
+      (Some near.serial)
   nearest_some near is = (
     near,
     record {

@@ -1,5 +1,6 @@
 -- Changes that a content admits.
-use Rattle.std.proofs.Common.{◌≡◌, ◌≢◌, ℕ, ◌<◌, List, [], ◌∷◌, length, get_or, refl, sym, ap, subst, ◌∙◌, arith, Some, None, Option}
+use Rattle.std.proofs.Common.{◌≡◌, ◌≢◌, ℕ, List, [], ◌∷◌, refl, sym, ap, subst, arith, Some}
+use Rattle.std.proofs.Common.{None, Option}
 use Rattle.std.specs.List.{Contains}
 use Rattle.std.proofs.lemmas.Bool.{eq-eqb, ne_eqb}
 use Rattle.occurrences.specs.declared.row.Row.{Row}
@@ -8,7 +9,6 @@ use Rattle.plan_lists.specs.Rows.{HasEachOnce, look_up}
 use Rattle.plan_lists.proofs.KeyLemmas.{nothing, one_is}
 use Rattle.plan_store.specs.Changes.{FitsSet, MovesNothing}
 use Rattle.plan_store.specs.declared.changes.Moves.{Moves}
-use Rattle.plan_store.proofs.LookLemmas.{look_lacks}
 
 module _ {X : Type 0} (row_of : X → Row) where
   abbrev serial_of : X → ℕ
@@ -34,7 +34,8 @@ module _ {X : Type 0} (row_of : X → Row) where
 
   module _ (moves : Moves X) (set : ℕ → Option X) where
     -- rows are put, and nothing else moves
-    pub fits_put : moves.gone.items ≡ [] → moves.changed.items ≡ [] → HasEachOnce row_of moves.put.items → ((x : X) → Contains moves.put.items x → set (serial_of x) ≡ None) → FitsSet row_of moves set
+    pub fits_put : moves.gone.items ≡ [] → moves.changed.items ≡ [] → HasEachOnce row_of moves.put.items
+        → ((x : X) → Contains moves.put.items x → set (serial_of x) ≡ None) → FitsSet row_of moves set
     fits_put gone changed once new = record {
       gone_once = none_once moves.gone.items gone;
       changed_once = none_once moves.changed.items changed;
@@ -47,24 +48,31 @@ module _ {X : Type 0} (row_of : X → Row) where
 
     -- nothing moves
     pub fits_nothing : MovesNothing moves → FitsSet row_of moves set
-    fits_nothing none = fits_put none.gone none.changed (none_once moves.put.items none.put) (λ x there. absurd (not_in moves.put.items none.put x there))
+    fits_nothing none = fits_put none.gone none.changed (none_once moves.put.items none.put)
+        (λ x there. absurd (not_in moves.put.items none.put x there))
 
     -- one row changes in its seat
-    pub fits_changed : moves.gone.items ≡ [] → moves.put.items ≡ [] → (x was : X) → moves.changed.items ≡ x ∷ [] → set (serial_of x) ≡ Some was → arrival_of (row_of was) ≡ arrival_of (row_of x) → FitsSet row_of moves set
+    pub fits_changed : moves.gone.items ≡ [] → moves.put.items ≡ [] → (x was : X) → moves.changed.items ≡ x ∷ []
+        → set (serial_of x) ≡ Some was → arrival_of (row_of was) ≡ arrival_of (row_of x) → FitsSet row_of moves set
     fits_changed gone put x was changed stood same = record {
       gone_once = none_once moves.gone.items gone;
       changed_once = one_once moves.changed.items x changed;
       put_once = none_once moves.put.items put;
       goes = λ y there. absurd (not_in moves.gone.items gone y there);
       changes = λ y there.
-          let is : x ≡ y = one_is x y (subst (λ l. Contains l y) changed there) in
-          (was, subst (λ z. set (serial_of z) ≡ Some was) is stood, subst (λ z. arrival_of (row_of was) ≡ arrival_of (row_of z)) is same);
+          let is : x ≡ y = one_is x y (subst (λ l. Contains l y) changed there) in (
+            was,
+            subst (λ z. set (serial_of z) ≡ Some was) is stood,
+            subst (λ z. arrival_of (row_of was)
+                ≡ arrival_of (row_of z)) is same,
+          );
       stays = λ y there. lacks_none moves.gone.items gone (serial_of y);
       new = λ y there. absurd (not_in moves.put.items put y there);
     }
 
     -- one row goes and another comes
-    pub fits_turn : (x y : X) → moves.gone.items ≡ x ∷ [] → moves.changed.items ≡ [] → moves.put.items ≡ y ∷ [] → set (serial_of x) ≡ Some x → set (serial_of y) ≡ None → FitsSet row_of moves set
+    pub fits_turn : (x y : X) → moves.gone.items ≡ x ∷ [] → moves.changed.items ≡ [] → moves.put.items ≡ y ∷ []
+        → set (serial_of x) ≡ Some x → set (serial_of y) ≡ None → FitsSet row_of moves set
     fits_turn x y gone changed put stood new = record {
       gone_once = one_once moves.gone.items x gone;
       changed_once = none_once moves.changed.items changed;

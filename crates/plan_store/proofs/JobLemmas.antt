@@ -15,10 +15,12 @@ abbrev pub number_of : Job → ℕ
 number_of job = job.number
 
 pub one_jobs : (jobs : List Job) → AreJobs jobs → OneEach number_of jobs
-one_jobs jobs are x y at_x at_y same = one_item nat_cmp_total nat_cmp-IsAntisymmetric number_of jobs are x y at_x at_y same
+one_jobs jobs are x y at_x at_y same = one_item nat_cmp_total nat_cmp-IsAntisymmetric number_of jobs are x y at_x at_y
+    same
 
 -- one more job, under a new number
-module _ (old new : List Job) (job : Job) (one : OneEach number_of old) (is : (z : Job) → Contains new z ↔ ((job ≡ z) ⊎ Contains old z)) (none : look_up number_of old job.number ≡ None) where
+module _ (old new : List Job) (job : Job) (one : OneEach number_of old) (is : (z : Job) → Contains new z
+    ↔ ((job ≡ z) ⊎ Contains old z)) (none : look_up number_of old job.number ≡ None) where
   one_new : OneEach number_of new
   one_new x y at_x at_y same = elim ((is x).0 at_x) [
     | inl is_x ↦ elim ((is y).0 at_y) [
@@ -31,14 +33,18 @@ module _ (old new : List Job) (job : Job) (one : OneEach number_of old) (is : (z
     ]
   ]
 
-  pub look_kept : (number : ℕ) → look_up number_of new number ≡ (if nat_eq job.number number then Some job else look_up number_of old number)
-  look_kept number = elim (nat_eq job.number number) as (λ b. nat_eq job.number number ≡ b → look_up number_of new number ≡ (if b then Some job else look_up number_of old number)) [
-    | true ↦ λ same. look_at number_of new one_new job number ((is job).1 (inl refl)) (eqb-true _ _ same)
-    | false ↦ λ other. elim (look_up number_of old number) as (λ o. look_up number_of old number ≡ o → look_up number_of new number ≡ o) [
-      | Some x ↦ λ e. let there = look_some number_of old number x e in look_at number_of new one_new x number ((is x).1 (inr there.0)) there.1
-      | None ↦ λ e. look_lacks number_of new number (λ z at_z same. elim ((is z).0 at_z) [
-        | inl here ↦ eqb-false _ _ other (ap number_of here ∙ same)
-        | inr old_z ↦ look_none number_of old number e z old_z same
-      ])
-    ] refl
-  ] refl
+  pub look_kept : (number : ℕ) → look_up number_of new number
+      ≡ (if nat_eq job.number number then Some job else look_up number_of old number)
+  look_kept number = elim (nat_eq job.number number) as (λ b. nat_eq job.number number ≡ b → look_up number_of new
+      number ≡ (if b then Some job else look_up number_of old number)) [
+        | true ↦ λ same. look_at number_of new one_new job number ((is job).1 (inl refl)) (eqb-true _ _ same)
+        | false ↦ λ other. elim (look_up number_of old number) as (λ o. look_up number_of old number ≡ o
+            → look_up number_of new number ≡ o) [
+              | Some x ↦ λ e. let there = look_some number_of old number x e in look_at number_of new one_new x number
+                  ((is x).1 (inr there.0)) there.1
+              | None ↦ λ e. look_lacks number_of new number (λ z at_z same. elim ((is z).0 at_z) [
+                | inl here ↦ eqb-false _ _ other (ap number_of here ∙ same)
+                | inr old_z ↦ look_none number_of old number e z old_z same
+              ])
+            ] refl
+      ] refl

@@ -10,6 +10,7 @@ mod OrderLemmas
 pub mod PairLemmas
 pub mod PlaceLemmas
 mod SeatedLemmas
+mod SerialLemmas
 mod ShownLemmas
 mod SliceLemmas
 pub mod ViewLemmas

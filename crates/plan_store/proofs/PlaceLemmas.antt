@@ -24,70 +24,96 @@ module _ (s : Sets) (numbered : AreNumbered s) where
   at_serial : (serial : ℕ) → (seat s serial ≡ empty_seat → ⊥) → (p : PlacedRow) × StandsAt s serial p
   at_serial serial there = let within = issued_from s numbered serial there in numbered.placed serial within.0 within.1
 
-  pub stands_ltp : (serial : ℕ) (row : Row) → s.ltp serial ≡ Some row → StandsAt s serial (record { row = row; place = LongTerm })
+  pub stands_ltp : (serial : ℕ) (row : Row) → s.ltp serial ≡ Some row
+      → StandsAt s serial (record { row = row; place = LongTerm })
   stands_ltp serial row is =
       let at = at_serial serial (λ empty. none_some (s.ltp serial) row (ap (λ (x : Seat). x.ltp) empty) is) in
       by_place at.0.place at.0.row at.1
     where
       by_place : (place : Place) (found : Row) → seat s serial ≡ alone found place → seat s serial ≡ alone row LongTerm
-      by_place LongTerm found stands = subst (λ r. seat s serial ≡ alone r LongTerm) (some_is (s.ltp serial) found row (ap (λ (x : Seat). x.ltp) stands) is) stands
-      by_place (Current status) found stands = absurd (none_some (s.ltp serial) row (ap (λ (x : Seat). x.ltp) stands) is)
+      by_place LongTerm found stands = subst (λ r. seat s serial ≡ alone r LongTerm)
+          (some_is (s.ltp serial) found row (ap (λ (x : Seat). x.ltp) stands) is) stands
+      by_place (Current status) found stands = absurd (none_some (s.ltp serial) row (ap (λ (x : Seat). x.ltp) stands)
+          is)
       by_place History found stands = absurd (none_some (s.ltp serial) row (ap (λ (x : Seat). x.ltp) stands) is)
-      by_place (Deleted reason) found stands = absurd (none_some (s.ltp serial) row (ap (λ (x : Seat). x.ltp) stands) is)
+      by_place (Deleted reason) found stands = absurd (none_some (s.ltp serial) row (ap (λ (x : Seat). x.ltp) stands)
+          is)
 
-  pub stands_cp : (serial : ℕ) (current : CurrentRow) → s.cp serial ≡ Some current → StandsAt s serial (record { row = current.row; place = Current current.status })
+  pub stands_cp : (serial : ℕ) (current : CurrentRow) → s.cp serial ≡ Some current
+      → StandsAt s serial (record { row = current.row; place = Current current.status })
   stands_cp serial current is =
       let at = at_serial serial (λ empty. none_some (s.cp serial) current (ap (λ (x : Seat). x.cp) empty) is) in
       by_place at.0.place at.0.row at.1
     where
-      by_place : (place : Place) (found : Row) → seat s serial ≡ alone found place → seat s serial ≡ alone current.row (Current current.status)
+      by_place : (place : Place) (found : Row) → seat s serial ≡ alone found place → seat s serial
+          ≡ alone current.row (Current current.status)
       by_place LongTerm found stands = absurd (none_some (s.cp serial) current (ap (λ (x : Seat). x.cp) stands) is)
       by_place (Current status) found stands =
-          let same : record { row = found; status = status } ≡ current = some_is (s.cp serial) (record { row = found; status = status }) current (ap (λ (x : Seat). x.cp) stands) is in
+          let same : record { row = found; status = status } ≡ current =
+          some_is (s.cp serial) (record { row = found; status = status }) current (ap (λ (x : Seat). x.cp) stands)
+          is in
           subst (λ (c : CurrentRow). seat s serial ≡ alone c.row (Current c.status)) same stands
       by_place History found stands = absurd (none_some (s.cp serial) current (ap (λ (x : Seat). x.cp) stands) is)
-      by_place (Deleted reason) found stands = absurd (none_some (s.cp serial) current (ap (λ (x : Seat). x.cp) stands) is)
+      by_place (Deleted reason) found stands = absurd (none_some (s.cp serial) current (ap (λ (x : Seat). x.cp) stands)
+          is)
 
-  pub stands_history : (serial : ℕ) (row : Row) → s.history serial ≡ Some row → StandsAt s serial (record { row = row; place = History })
+  pub stands_history : (serial : ℕ) (row : Row) → s.history serial ≡ Some row
+      → StandsAt s serial (record { row = row; place = History })
   stands_history serial row is =
       let at = at_serial serial (λ empty. none_some (s.history serial) row (ap (λ (x : Seat). x.history) empty) is) in
       by_place at.0.place at.0.row at.1
     where
       by_place : (place : Place) (found : Row) → seat s serial ≡ alone found place → seat s serial ≡ alone row History
-      by_place LongTerm found stands = absurd (none_some (s.history serial) row (ap (λ (x : Seat). x.history) stands) is)
-      by_place (Current status) found stands = absurd (none_some (s.history serial) row (ap (λ (x : Seat). x.history) stands) is)
-      by_place History found stands = subst (λ r. seat s serial ≡ alone r History) (some_is (s.history serial) found row (ap (λ (x : Seat). x.history) stands) is) stands
-      by_place (Deleted reason) found stands = absurd (none_some (s.history serial) row (ap (λ (x : Seat). x.history) stands) is)
+      by_place LongTerm found stands = absurd (none_some (s.history serial) row (ap (λ (x : Seat). x.history) stands)
+          is)
+      by_place (Current status) found stands =
+          absurd (none_some (s.history serial) row (ap (λ (x : Seat). x.history) stands) is)
+      by_place History found stands = subst (λ r. seat s serial ≡ alone r History)
+          (some_is (s.history serial) found row (ap (λ (x : Seat). x.history) stands) is) stands
+      by_place (Deleted reason) found stands =
+          absurd (none_some (s.history serial) row (ap (λ (x : Seat). x.history) stands) is)
 
-  pub stands_deleted : (serial : ℕ) (deletion : Deletion) → s.deletions serial ≡ Some deletion → StandsAt s serial (record { row = deletion.row; place = Deleted deletion.reason })
+  pub stands_deleted : (serial : ℕ) (deletion : Deletion) → s.deletions serial ≡ Some deletion
+      → StandsAt s serial (record { row = deletion.row; place = Deleted deletion.reason })
   stands_deleted serial deletion is =
-      let at = at_serial serial (λ empty. none_some (s.deletions serial) deletion (ap (λ (x : Seat). x.deletions) empty) is) in
+      let at = at_serial serial (λ empty. none_some (s.deletions serial) deletion (ap (λ (x : Seat). x.deletions) empty)
+      is) in
       by_place at.0.place at.0.row at.1
     where
-      by_place : (place : Place) (found : Row) → seat s serial ≡ alone found place → seat s serial ≡ alone deletion.row (Deleted deletion.reason)
-      by_place LongTerm found stands = absurd (none_some (s.deletions serial) deletion (ap (λ (x : Seat). x.deletions) stands) is)
-      by_place (Current status) found stands = absurd (none_some (s.deletions serial) deletion (ap (λ (x : Seat). x.deletions) stands) is)
-      by_place History found stands = absurd (none_some (s.deletions serial) deletion (ap (λ (x : Seat). x.deletions) stands) is)
+      by_place : (place : Place) (found : Row) → seat s serial ≡ alone found place → seat s serial ≡ alone deletion.row
+          (Deleted deletion.reason)
+      by_place LongTerm found stands =
+          absurd (none_some (s.deletions serial) deletion (ap (λ (x : Seat). x.deletions) stands) is)
+      by_place (Current status) found stands =
+          absurd (none_some (s.deletions serial) deletion (ap (λ (x : Seat). x.deletions) stands) is)
+      by_place History found stands =
+          absurd (none_some (s.deletions serial) deletion (ap (λ (x : Seat). x.deletions) stands) is)
       by_place (Deleted reason) found stands =
-          let same : record { row = found; reason = reason } ≡ deletion = some_is (s.deletions serial) (record { row = found; reason = reason }) deletion (ap (λ (x : Seat). x.deletions) stands) is in
+          let same : record { row = found; reason = reason } ≡ deletion = some_is (s.deletions serial)
+          (record { row = found; reason = reason }) deletion (ap (λ (x : Seat). x.deletions) stands) is in
           subst (λ (d : Deletion). seat s serial ≡ alone d.row (Deleted d.reason)) same stands
 
 -- no live occurrence has the key
-pub live_none : (s : Sets) (key : Key) → IsPlannedRow s key None → IsCurrentRow s key None → ((serial : ℕ) (row : Row) → s.history serial ≡ Some row → row.key ≢ key) → IsLiveRow s key None
+pub live_none : (s : Sets) (key : Key) → IsPlannedRow s key None → IsCurrentRow s key None
+    → ((serial : ℕ) (row : Row) → s.history serial ≡ Some row → row.key ≢ key) → IsLiveRow s key None
 live_none s key planned current history serial p stands live keyed = by_place p.place p.row stands live keyed
   where
     by_place : (place : Place) (row : Row) → seat s serial ≡ alone row place → IsLive place → row.key ≡ key → ⊥
     by_place LongTerm row stands live keyed = planned serial row (ap (λ (x : Seat). x.ltp) stands) keyed
-    by_place (Current status) row stands live keyed = current serial (record { row = row; status = status }) (ap (λ (x : Seat). x.cp) stands) keyed live
+    by_place (Current status) row stands live keyed = current serial (record { row = row; status = status })
+        (ap (λ (x : Seat). x.cp) stands) keyed live
     by_place History row stands live keyed = history serial row (ap (λ (x : Seat). x.history) stands) keyed
     by_place (Deleted reason) row stands live keyed = live
 
 -- nothing stands under the serial
-pub placed_none : (s : Sets) (serial : ℕ) → s.ltp serial ≡ None → s.cp serial ≡ None → s.history serial ≡ None → s.deletions serial ≡ None → IsPlacedAt s serial None
+pub placed_none : (s : Sets) (serial : ℕ) → s.ltp serial ≡ None → s.cp serial ≡ None → s.history serial ≡ None
+    → s.deletions serial ≡ None → IsPlacedAt s serial None
 placed_none s serial no_ltp no_cp no_history no_deletion p stands = by_place p.place p.row stands
   where
     by_place : (place : Place) (row : Row) → seat s serial ≡ alone row place → ⊥
     by_place LongTerm row stands = none_some (s.ltp serial) row no_ltp (ap (λ (x : Seat). x.ltp) stands)
-    by_place (Current status) row stands = none_some (s.cp serial) (record { row = row; status = status }) no_cp (ap (λ (x : Seat). x.cp) stands)
+    by_place (Current status) row stands = none_some (s.cp serial) (record { row = row; status = status }) no_cp
+        (ap (λ (x : Seat). x.cp) stands)
     by_place History row stands = none_some (s.history serial) row no_history (ap (λ (x : Seat). x.history) stands)
-    by_place (Deleted reason) row stands = none_some (s.deletions serial) (record { row = row; reason = reason }) no_deletion (ap (λ (x : Seat). x.deletions) stands)
+    by_place (Deleted reason) row stands = none_some (s.deletions serial) (record { row = row; reason = reason })
+        no_deletion (ap (λ (x : Seat). x.deletions) stands)

@@ -1,5 +1,7 @@
 -- Lists of rows as parts of a set.
-use Rattle.std.proofs.Common.{◌≡◌, ◌≢◌, ◌↔◌, ℕ, zero, suc, ◌+◌, ◌<◌, ◌≤◌, true, false, Bool, List, [], ◌∷◌, length, get_or, refl, sym, ap, ap₂, subst, ◌∙◌, inl, inr, arith, Some, None, Option, Result, Ok, Err, IfOk, Vec, Global}
+use Rattle.std.proofs.Common.{◌≡◌, ◌≢◌, ◌↔◌, ℕ, zero, suc, ◌+◌, ◌<◌, ◌≤◌, true, false, Bool, List, [], ◌∷◌, length}
+use Rattle.std.proofs.Common.{get_or, refl, sym, ap, ap₂, subst, ◌∙◌, inl, inr, arith, Some, None, Option, Result, Ok}
+use Rattle.std.proofs.Common.{Err, IfOk, Vec, Global}
 use Rattle.std.specs.Prelude.{nat_eq, if◌then◌else◌, filter, IsTrue, MatchOption}
 use Rattle.std.specs.List.{Contains}
 use Rattle.std.specs.declared.alloc.AllocError.{AllocError}
@@ -35,15 +37,18 @@ size_none X (suc n) = let rest = size_none X n in omega arith
 module _ {X : Type 0} where
   pub size_same : (f g : ℕ → Option X) (n : ℕ) → ((serial : ℕ) → serial ≤ n → f serial ≡ g serial) → size f n ≡ size g n
   size_same f g zero same = refl
-  size_same f g (suc n) same = ap₂ (λ x y. x + bit y) (size_same f g n (λ serial le. same serial (omega arith))) (same (suc n) (omega arith))
+  size_same f g (suc n) same = ap₂ (λ x y. x + bit y) (size_same f g n (λ serial le. same serial (omega arith)))
+      (same (suc n) (omega arith))
 
   abbrev with_one : ℕ → X → (ℕ → Option X) → ℕ → Option X
   with_one at x f serial = if nat_eq at serial then Some x else f serial
 
   size_past : (at : ℕ) (x : X) (f : ℕ → Option X) (n : ℕ) → n < at → size (with_one at x f) n ≡ size f n
-  size_past at x f n past = size_same (with_one at x f) f n (λ serial le. let other : nat_eq at serial ≡ false = ne_eqb at serial (λ same. omega arith) in rw other refl)
+  size_past at x f n past = size_same (with_one at x f) f n (λ serial le. let other : nat_eq at serial ≡ false =
+      ne_eqb at serial (λ same. omega arith) in rw other refl)
 
-  size_with : (at : ℕ) (x : X) (f : ℕ → Option X) (n : ℕ) → 1 ≤ at → at ≤ n → f at ≡ None → size (with_one at x f) n ≡ size f n + 1
+  size_with : (at : ℕ) (x : X) (f : ℕ → Option X) (n : ℕ) → 1 ≤ at → at ≤ n → f at ≡ None → size (with_one at x f) n
+      ≡ size f n + 1
   size_with at x f zero above below none = absurd (omega arith)
   size_with at x f (suc n) above below none = elim (cases_eq at (suc n)) [
     | inl here ↦
@@ -66,9 +71,13 @@ module _ {X : Type 0} (row_of : X → Row) where
   -- a row stands at one place
   pub once_from_rows : (xs : List X) → AreRows row_of xs → HasEachOnce row_of xs
   once_from_rows xs rows i j d below lt same =
-      let one : get_or xs i d ≡ get_or xs j d = rows.one_each (get_or xs i d) (get_or xs j d) (Contains-get_or xs i d (omega arith)) (Contains-get_or xs j d lt) same in
-      let less : arrival_cmp (arrival_of (row_of (get_or xs i d))) (arrival_of (row_of (get_or xs j d))) ≡ Less = rows.keyed i j d below lt in
-      let tied : arrival_cmp (arrival_of (row_of (get_or xs i d))) (arrival_of (row_of (get_or xs j d))) ≡ Equal = subst (λ (y : X). arrival_cmp (arrival_of (row_of (get_or xs i d))) (arrival_of (row_of y)) ≡ Equal) one (tied_itself arrival_total (arrival_of (row_of (get_or xs i d)))) in
+      let one : get_or xs i d ≡ get_or xs j d = rows.one_each (get_or xs i d) (get_or xs j d)
+      (Contains-get_or xs i d (omega arith)) (Contains-get_or xs j d lt) same in
+      let less : arrival_cmp (arrival_of (row_of (get_or xs i d))) (arrival_of (row_of (get_or xs j d))) ≡ Less =
+      rows.keyed i j d below lt in
+      let tied : arrival_cmp (arrival_of (row_of (get_or xs i d))) (arrival_of (row_of (get_or xs j d))) ≡ Equal =
+      subst (λ (y : X). arrival_cmp (arrival_of (row_of (get_or xs i d))) (arrival_of (row_of y)) ≡ Equal) one
+      (tied_itself arrival_total (arrival_of (row_of (get_or xs i d)))) in
       not_both (sym less ∙ tied)
     where
       not_both : Less ≡ Equal → ⊥
@@ -78,28 +87,41 @@ module _ {X : Type 0} (row_of : X → Row) where
   once_later x xs once i j d below lt = once (suc i) (suc j) d (omega arith) (omega arith)
 
   once_first : (x : X) (xs : List X) → HasEachOnce row_of (x ∷ xs) → (y : X) → Contains xs y → serial_of y ≢ serial_of x
-  once_first x xs once y (k, lt, at) same = once zero (suc k) y (omega arith) (omega arith) (sym same ∙ ap serial_of (sym at))
+  once_first x xs once y (k, lt, at) same = once zero (suc k) y (omega arith) (omega arith)
+      (sym same ∙ ap serial_of (sym at))
 
   -- the length of a list with each serial once, all from 1 to n
-  pub size_listed : (n : ℕ) (xs : List X) → HasEachOnce row_of xs → ((x : X) → Contains xs x → (1 ≤ serial_of x) × (serial_of x ≤ n)) → length xs ≡ size (look_up serial_of xs) n
+  pub size_listed : (n : ℕ) (xs : List X) → HasEachOnce row_of xs → ((x : X) → Contains xs x → (1 ≤ serial_of x)
+      × (serial_of x ≤ n)) → length xs ≡ size (look_up serial_of xs) n
   size_listed n [] once within = sym (size_none X n)
   size_listed n (x ∷ xs) once within =
       let here = within x (zero, omega arith, refl) in
       let rest = size_listed n xs (once_later x xs once) (λ y (k, lt, at). within y (suc k, omega arith, at)) in
-      let more = size_with (serial_of x) x (look_up serial_of xs) n here.0 here.1 (look_lacks serial_of xs (serial_of x) (once_first x xs once)) in
+      let more = size_with (serial_of x) x (look_up serial_of xs) n here.0 here.1
+      (look_lacks serial_of xs (serial_of x) (once_first x xs once)) in
       omega arith
 
   -- all rows of a set
   pub lists_all : (xs : List X) → AreRows row_of xs → ListsSet row_of (look_up serial_of xs) IsAny xs
   lists_all xs rows = record {
     rows = rows;
-    exactly = λ x. ((λ there. (look_has serial_of xs rows.one_each x there, tt)), λ both. (look_some serial_of xs (serial_of x) x both.0).0);
+    exactly = λ x. (
+      (λ there. (look_has serial_of xs rows.one_each x there, tt)),
+      λ both.
+          (look_some serial_of xs (serial_of x) x both.0).0,
+    );
   }
 
   -- some of them
-  pub lists_part : (P : X → Type 0) (xs part : List X) → AreRows row_of xs → IsKeyed arrival_cmp (λ x. arrival_of (row_of x)) part → ((x : X) → Contains part x ↔ (Contains xs x × P x)) → ListsSet row_of (look_up serial_of xs) P part
+  pub lists_part : (P : X → Type 0) (xs part : List X) → AreRows row_of xs → IsKeyed arrival_cmp
+      (λ x. arrival_of (row_of x)) part → ((x : X) → Contains part x ↔ (Contains xs x × P x))
+      → ListsSet row_of (look_up serial_of xs) P part
   lists_part P xs part rows keyed is = record {
-    rows = record { keyed = keyed; one_each = λ x y at_x at_y same. rows.one_each x y ((is x).0 at_x).0 ((is y).0 at_y).0 same };
+    rows = record {
+      keyed = keyed;
+      one_each = λ x y at_x at_y same. rows.one_each x y ((is x).0 at_x).0
+          ((is y).0 at_y).0 same;
+    };
     exactly = λ x. (
       (λ there. let both = (is x).0 there in (look_has serial_of xs rows.one_each x both.0, both.1)),
       λ both. (is x).1 ((look_some serial_of xs (serial_of x) x both.0).0, both.1),
@@ -107,7 +129,8 @@ module _ {X : Type 0} (row_of : X → Row) where
   }
 
   -- what a set has under a serial stands in its list
-  pub stands_in : (xs : List X) (serial : ℕ) (x : X) → look_up serial_of xs serial ≡ Some x → Contains xs x × (serial_of x ≡ serial)
+  pub stands_in : (xs : List X) (serial : ℕ) (x : X) → look_up serial_of xs serial ≡ Some x → Contains xs x
+      × (serial_of x ≡ serial)
   stands_in xs serial x is = look_some serial_of xs serial x is
 
 -- each row of a set has a serial that was issued
@@ -124,68 +147,131 @@ module _ (s : Sets) (numbered : AreNumbered s) where
   some_none : {X : Type 0} (o : Option X) (x : X) → o ≡ Some x → o ≡ None → ⊥
   some_none o x some none = cc
 
-  pub within_ltp : (rows : List Row) → AreRows of_row rows → ((serial : ℕ) → look_up (λ (row : Row). row.serial) rows serial ≡ s.ltp serial) → (row : Row) → Contains rows row → (1 ≤ row.serial) × (row.serial ≤ s.issued)
-  within_ltp rows are same row there = issued_from row.serial (λ empty. some_none (s.ltp row.serial) row (sym (same row.serial) ∙ look_has (λ (row : Row). row.serial) rows are.one_each row there) (ap (λ (at : Seat). at.ltp) empty))
+  pub within_ltp : (rows : List Row) → AreRows of_row rows
+      → ((serial : ℕ) → look_up (λ (row : Row). row.serial) rows serial ≡ s.ltp serial) → (row : Row)
+      → Contains rows row → (1 ≤ row.serial) × (row.serial ≤ s.issued)
+  within_ltp rows are same row there = issued_from row.serial (λ empty. some_none (s.ltp row.serial) row
+      (sym (same row.serial) ∙ look_has (λ (row : Row). row.serial) rows are.one_each row there)
+      (ap (λ (at : Seat). at.ltp) empty))
 
-  pub within_cp : (rows : List CurrentRow) → AreRows of_current rows → ((serial : ℕ) → look_up (λ (current : CurrentRow). current.row.serial) rows serial ≡ s.cp serial) → (current : CurrentRow) → Contains rows current → (1 ≤ current.row.serial) × (current.row.serial ≤ s.issued)
-  within_cp rows are same current there = issued_from current.row.serial (λ empty. some_none (s.cp current.row.serial) current (sym (same current.row.serial) ∙ look_has (λ (current : CurrentRow). current.row.serial) rows are.one_each current there) (ap (λ (at : Seat). at.cp) empty))
+  pub within_cp : (rows : List CurrentRow) → AreRows of_current rows
+      → ((serial : ℕ) → look_up (λ (current : CurrentRow). current.row.serial) rows serial ≡ s.cp serial)
+      → (current : CurrentRow) → Contains rows current → (1 ≤ current.row.serial) × (current.row.serial ≤ s.issued)
+  within_cp rows are same current there = issued_from current.row.serial (λ empty. some_none (s.cp current.row.serial)
+      current (sym (same current.row.serial) ∙ look_has (λ (current : CurrentRow). current.row.serial) rows are.one_each
+      current there) (ap (λ (at : Seat). at.cp) empty))
 
 -- answers of the calls of a window
 module _ (key : Key) where
-  pub planned_row : (rows part : List Row) → AreRows of_row rows → ((row : Row) → Contains part row ↔ (Contains rows row × (row.key ≡ key))) → (answer : Option Row) → MatchOption answer ((row : Row) → Contains part row → ⊥) (λ row. Contains part row) → (s : Sets) → ((serial : ℕ) → look_up (λ (row : Row). row.serial) rows serial ≡ s.ltp serial) → IsPlannedRow s key answer
-  planned_row rows part are is (Some row) there s same = let both = (is row).0 there in (sym (same row.serial) ∙ look_has (λ (row : Row). row.serial) rows are.one_each row both.0, both.1)
-  planned_row rows part are is None none s same = λ serial row stands keyed. none row ((is row).1 ((look_some (λ (row : Row). row.serial) rows serial row (same serial ∙ stands)).0, keyed))
+  pub planned_row : (rows part : List Row) → AreRows of_row rows
+      → ((row : Row) → Contains part row ↔ (Contains rows row × (row.key ≡ key))) → (answer : Option Row)
+      → MatchOption answer ((row : Row) → Contains part row → ⊥) (λ row. Contains part row) → (s : Sets)
+      → ((serial : ℕ) → look_up (λ (row : Row). row.serial) rows serial ≡ s.ltp serial) → IsPlannedRow s key answer
+  planned_row rows part are is (Some row) there s same = let both = (is row).0 there in
+      (sym (same row.serial) ∙ look_has (λ (row : Row). row.serial) rows are.one_each row both.0, both.1)
+  planned_row rows part are is None none s same = λ serial row stands keyed. none row
+      ((is row).1 ((look_some (λ (row : Row). row.serial) rows serial row (same serial ∙ stands)).0, keyed))
 
-  pub current_row : (rows part : List CurrentRow) → AreRows of_current rows → ((current : CurrentRow) → Contains part current ↔ (Contains rows current × (current.row.key ≡ key))) → (answer : Option CurrentRow) → MatchOption answer ((current : CurrentRow) → Contains part current → current.status ≡ D) (λ current. Contains part current × (current.status ≢ D)) → (s : Sets) → ((serial : ℕ) → look_up (λ (current : CurrentRow). current.row.serial) rows serial ≡ s.cp serial) → IsCurrentRow s key answer
-  current_row rows part are is (Some current) there s same = let both = (is current).0 there.0 in (sym (same current.row.serial) ∙ look_has (λ (current : CurrentRow). current.row.serial) rows are.one_each current both.0, both.1, there.1)
-  current_row rows part are is None none s same = λ serial current stands keyed live. live (none current ((is current).1 ((look_some (λ (current : CurrentRow). current.row.serial) rows serial current (same serial ∙ stands)).0, keyed)))
+  pub current_row : (rows part : List CurrentRow) → AreRows of_current rows
+      → ((current : CurrentRow) → Contains part current ↔ (Contains rows current × (current.row.key ≡ key)))
+      → (answer : Option CurrentRow) → MatchOption answer ((current : CurrentRow) → Contains part current
+      → current.status ≡ D) (λ current. Contains part current × (current.status ≢ D)) → (s : Sets)
+      → ((serial : ℕ) → look_up (λ (current : CurrentRow). current.row.serial) rows serial ≡ s.cp serial)
+      → IsCurrentRow s key answer
+  current_row rows part are is (Some current) there s same = let both = (is current).0 there.0 in (
+    sym (same current.row.serial) ∙ look_has (λ (current : CurrentRow). current.row.serial) rows are.one_each current
+        both.0,
+    both.1,
+    there.1,
+  )
+  current_row rows part are is None none s same = λ serial current stands keyed live. live
+      (none current ((is current).1 (
+        (look_some (λ (current : CurrentRow). current.row.serial) rows serial current
+            (same serial ∙ stands)).0,
+        keyed,
+      )))
 
-  pub deleted_key : (rows part : List Deletion) → AreRows of_deletion rows → ((deletion : Deletion) → Contains part deletion ↔ (Contains rows deletion × (deletion.row.key ≡ key))) → (answer : Bool) → (IsTrue answer ↔ ((deletion : Deletion) × Contains part deletion × (deletion.reason ≡ Operator))) → (s : Sets) → ((serial : ℕ) → look_up (λ (deletion : Deletion). deletion.row.serial) rows serial ≡ s.deletions serial) → IsTrue answer ↔ IsDeletedKey s key
+  pub deleted_key : (rows part : List Deletion) → AreRows of_deletion rows
+      → ((deletion : Deletion) → Contains part deletion ↔ (Contains rows deletion × (deletion.row.key ≡ key)))
+      → (answer : Bool) → (IsTrue answer ↔ ((deletion : Deletion) × Contains part deletion
+      × (deletion.reason ≡ Operator))) → (s : Sets)
+      → ((serial : ℕ) → look_up (λ (deletion : Deletion). deletion.row.serial) rows serial ≡ s.deletions serial)
+      → IsTrue answer ↔ IsDeletedKey s key
   deleted_key rows part are is answer tells s same = (
     (λ yes.
         let (deletion, there, reason) = tells.0 yes in
-        let both = (is deletion).0 there in
-        (deletion.row.serial, deletion, sym (same deletion.row.serial) ∙ look_has (λ (deletion : Deletion). deletion.row.serial) rows are.one_each deletion both.0, reason, both.1)),
-    λ (serial, deletion, stands, reason, keyed). tells.1 (deletion, (is deletion).1 ((look_some (λ (deletion : Deletion). deletion.row.serial) rows serial deletion (same serial ∙ stands)).0, keyed), reason),
+        let both = (is deletion).0 there in (
+          deletion.row.serial,
+          deletion,
+          sym (same deletion.row.serial)
+              ∙ look_has (λ (deletion : Deletion). deletion.row.serial) rows are.one_each deletion both.0,
+          reason,
+          both.1,
+        )),
+    λ (serial, deletion, stands, reason, keyed). tells.1 (
+      deletion,
+      (is deletion).1 (
+        (look_some (λ (deletion : Deletion). deletion.row.serial) rows serial deletion
+            (same serial ∙ stands)).0,
+        keyed,
+      ),
+      reason,
+    ),
   )
 
 module _ {X : Type 0} (row_of : X → Row) (p : X → Bool) (xs : List X) (rows : AreRows row_of xs) where
   pub filter_rows : AreRows row_of (filter p xs)
   filter_rows = record {
     keyed = AllPairs-filter (λ x y. arrival_cmp (arrival_of (row_of x)) (arrival_of (row_of y)) ≡ Less) p xs rows.keyed;
-    one_each = λ x y at_x at_y same. rows.one_each x y (contains_filter p xs x at_x).0 (contains_filter p xs y at_y).0 same;
+    one_each = λ x y at_x at_y same. rows.one_each x y (contains_filter p xs x at_x).0 (contains_filter p xs y at_y).0
+        same;
   }
 
   -- the look-up of what passes
-  pub look_filter : (serial : ℕ) → look_up (λ x. (row_of x).serial) (filter p xs) serial ≡ keep p (look_up (λ x. (row_of x).serial) xs serial)
-  look_filter serial = elim (look_up (λ x. (row_of x).serial) xs serial) as (λ o. look_up (λ x. (row_of x).serial) xs serial ≡ o → look_up (λ x. (row_of x).serial) (filter p xs) serial ≡ keep p o) [
-    | None ↦ λ e. look_lacks (λ x. (row_of x).serial) (filter p xs) serial (λ z there. look_none (λ x. (row_of x).serial) xs serial e z (contains_filter p xs z there).0)
-    | Some x ↦ λ e.
-        let is = look_some (λ x. (row_of x).serial) xs serial x e in
-        elim (p x) as (λ b. p x ≡ b → look_up (λ x. (row_of x).serial) (filter p xs) serial ≡ (if b then Some x else None)) [
-          | true ↦ λ passes. look_at (λ x. (row_of x).serial) (filter p xs) filter_rows.one_each x serial (filter_contains p xs x is.0 passes) is.1
-          | false ↦ λ fails. look_lacks (λ x. (row_of x).serial) (filter p xs) serial (λ z there same.
-              let from = contains_filter p xs z there in
-              let one : z ≡ x = rows.one_each z x from.0 is.0 (same ∙ sym is.1) in
-              both (p x) fails (subst (λ y. p y ≡ true) one from.1))
-        ] refl
-  ] refl
+  pub look_filter : (serial : ℕ) → look_up (λ x. (row_of x).serial) (filter p xs) serial
+      ≡ keep p (look_up (λ x. (row_of x).serial) xs serial)
+  look_filter serial = elim (look_up (λ x. (row_of x).serial) xs serial) as (λ o. look_up (λ x. (row_of x).serial) xs
+      serial ≡ o → look_up (λ x. (row_of x).serial) (filter p xs) serial ≡ keep p o) [
+        | None ↦ λ e. look_lacks (λ x. (row_of x).serial) (filter p xs) serial
+            (λ z there. look_none (λ x. (row_of x).serial) xs serial e z (contains_filter p xs z there).0)
+        | Some x ↦ λ e.
+            let is = look_some (λ x. (row_of x).serial) xs serial x e in
+            elim (p x) as (λ b. p x ≡ b → look_up (λ x. (row_of x).serial) (filter p xs) serial
+            ≡ (if b then Some x else None)) [
+              | true ↦ λ passes. look_at (λ x. (row_of x).serial) (filter p xs) filter_rows.one_each x serial
+                  (filter_contains p xs x is.0 passes) is.1
+              | false ↦ λ fails. look_lacks (λ x. (row_of x).serial) (filter p xs) serial (λ z there same.
+                  let from = contains_filter p xs z there in
+                  let one : z ≡ x = rows.one_each z x from.0 is.0 (same ∙ sym is.1) in
+                  both (p x) fails (subst (λ y. p y ≡ true) one from.1))
+            ] refl
+      ] refl
     where
       both : (b : Bool) → b ≡ false → b ≡ true → ⊥
       both b f t = cc
 
-pub early_rows : (t : ℕ) (xs : List Row) → AreRows of_row xs → (answer : Result (Vec Row Global) AllocError) → IfOk answer (λ found. found.items ≡ filter (arrives_before t) xs) → IfOk answer (λ found. ListsSet of_row (look_up (λ (row : Row). row.serial) xs) (λ row. row.key.ia < t) found.items)
+pub early_rows : (t : ℕ) (xs : List Row) → AreRows of_row xs → (answer : Result (Vec Row Global) AllocError)
+    → IfOk answer (λ found. found.items ≡ filter (arrives_before t) xs)
+    → IfOk answer (λ found. ListsSet of_row (look_up (λ (row : Row). row.serial) xs) (λ row. row.key.ia < t)
+    found.items)
 early_rows t xs rows (Err e) is = tt
-early_rows t xs rows (Ok found) is = subst (λ l. ListsSet of_row (look_up (λ (row : Row). row.serial) xs) (λ row. row.key.ia < t) l) (sym is)
-    (lists_part of_row (λ row. row.key.ia < t) xs (filter (arrives_before t) xs) rows (filter_rows of_row (arrives_before t) xs rows).keyed (λ row. (
+early_rows t xs rows (Ok found) is = subst (λ l. ListsSet of_row (look_up (λ (row : Row). row.serial) xs)
+    (λ row. row.key.ia < t) l) (sym is)
+    (lists_part of_row (λ row. row.key.ia < t) xs (filter (arrives_before t) xs) rows
+    (filter_rows of_row (arrives_before t) xs rows).keyed (λ row. (
       (λ there. let from = contains_filter (arrives_before t) xs row there in (from.0, ltb-true row.key.ia t from.1)),
       λ both. filter_contains (arrives_before t) xs row both.0 (lt-ltb row.key.ia t both.1),
     )))
 
-pub early_count : (t : ℕ) (xs : List Row) → AreRows of_row xs → (s : Sets) → AreNumbered s → ((serial : ℕ) → look_up (λ (row : Row). row.serial) xs serial ≡ s.ltp serial) → (answer : Result (Vec Row Global) AllocError) → IfOk answer (λ found. found.items ≡ filter (arrives_before t) xs) → IfOk answer (λ found. length found.items ≡ size (λ serial. moved t (s.ltp serial)) s.issued)
+pub early_count : (t : ℕ) (xs : List Row) → AreRows of_row xs → (s : Sets) → AreNumbered s
+    → ((serial : ℕ) → look_up (λ (row : Row). row.serial) xs serial ≡ s.ltp serial)
+    → (answer : Result (Vec Row Global) AllocError) → IfOk answer (λ found. found.items ≡ filter (arrives_before t) xs)
+    → IfOk answer (λ found. length found.items ≡ size (λ serial. moved t (s.ltp serial)) s.issued)
 early_count t xs rows s numbered same (Err e) is = tt
 early_count t xs rows s numbered same (Ok found) is =
     let early = filter_rows of_row (arrives_before t) xs rows in
     ap length is
-    ∙ size_listed of_row s.issued (filter (arrives_before t) xs) (once_from_rows of_row (filter (arrives_before t) xs) early) (λ row there. within_ltp s numbered xs rows same row (contains_filter (arrives_before t) xs row there).0)
-    ∙ size_same (look_up (λ (row : Row). row.serial) (filter (arrives_before t) xs)) (λ serial. moved t (s.ltp serial)) s.issued (λ serial _. look_filter of_row (arrives_before t) xs rows serial ∙ ap (moved t) (same serial))
+    ∙ size_listed of_row s.issued (filter (arrives_before t) xs) (once_from_rows of_row (filter (arrives_before t) xs)
+    early) (λ row there. within_ltp s numbered xs rows same row (contains_filter (arrives_before t) xs row there).0)
+    ∙ size_same (look_up (λ (row : Row). row.serial) (filter (arrives_before t) xs)) (λ serial. moved t (s.ltp serial))
+    s.issued (λ serial _. look_filter of_row (arrives_before t) xs rows serial ∙ ap (moved t) (same serial))

@@ -15,7 +15,8 @@ arrives rows a = (row : Row) × Contains rows row × (arrival_of row ≡ a)
 
 -- one of the rows that is not deleted arrives so
 abbrev pub arrives_live : List CurrentRow → Arrival → Type 0
-arrives_live rows a = (current : CurrentRow) × Contains rows current × (current.status ≢ D) × (arrival_of current.row ≡ a)
+arrives_live rows a = (current : CurrentRow) × Contains rows current × (current.status ≢ D)
+    × (arrival_of current.row ≡ a)
 
 -- the greatest of some arrivals, or that there is none
 abbrev pub IsGreatestOf : (Arrival → Type 0) → Option Arrival → Type 0

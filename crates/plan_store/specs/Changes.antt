@@ -1,5 +1,6 @@
 -- What a change makes of a content, and when a content admits it.
-use Rattle.std.specs.Prelude.{◌≡◌, ℕ, Bool, not, List, [], ◌∷◌, Contains, Option, Some, None, is_some, nat_eq, unwrap_or, filter, if◌then◌else◌}
+use Rattle.std.specs.Prelude.{◌≡◌, ℕ, Bool, not, List, [], ◌∷◌, Contains, Option, Some, None, is_some, nat_eq}
+use Rattle.std.specs.Prelude.{unwrap_or, filter, if◌then◌else◌}
 use Rattle.std.specs.List.{list_any}
 use Rattle.std.specs.Ordering.{is_eq}
 use Rattle.std.specs.declared.cmp.Ordering.{Ordering}
@@ -79,15 +80,18 @@ after change c = record {
   jobs = jobs_after change.job c.jobs;
 }
 
--- what moves fits the set: no serial is named twice; what goes stands there, what changes stands there under the same key, and
+-- what moves fits the set: no serial is named twice; what goes stands there, what changes stands there under the same
+-- key, and
 -- what is put has serials that the set doesn't have
 pub record FitsSet {X : Type 0} (row_of : X → Row) (moves : Moves X) (set : ℕ → Option X) : Type 0 where
   pub gone_once : HasEachOnce row_of moves.gone.items
   pub changed_once : HasEachOnce row_of moves.changed.items
   pub put_once : HasEachOnce row_of moves.put.items
   pub goes : (x : X) → Contains moves.gone.items x → set (row_of x).serial ≡ Some x
-  pub changes : (x : X) → Contains moves.changed.items x → (was : X) × (set (row_of x).serial ≡ Some was) × (arrival_of (row_of was) ≡ arrival_of (row_of x))
-  pub stays : (x : X) → Contains moves.changed.items x → look_up (λ y. (row_of y).serial) moves.gone.items (row_of x).serial ≡ None
+  pub changes : (x : X) → Contains moves.changed.items x → (was : X) × (set (row_of x).serial ≡ Some was)
+      × (arrival_of (row_of was) ≡ arrival_of (row_of x))
+  pub stays : (x : X) → Contains moves.changed.items x → look_up (λ y. (row_of y).serial) moves.gone.items
+      (row_of x).serial ≡ None
   pub new : (x : X) → Contains moves.put.items x → set (row_of x).serial ≡ None
 
 -- a change that the content admits

@@ -1,7 +1,10 @@
 -- Rows and pairs on their way to a listing.
-use Rattle.std.specs.Prelude.{◌≡◌, ◌↔◌, ℕ, Bool, true, List, [], ◌∷◌, ◌++◌, Contains, Option, Some, None, map, nat_eq, if◌then◌else◌}
+use Rattle.std.specs.Prelude.{◌≡◌, ◌↔◌, ℕ, Bool, true, List, [], ◌∷◌, ◌++◌, Contains, Option, Some, None, map, nat_eq}
+use Rattle.std.specs.Prelude.{if◌then◌else◌}
 use Rattle.std.specs.Cmp.Lexicographic.{pointwise}
 use Rattle.std.specs.List.{AllPairs}
+use Rattle.std.specs.List.Sorted.{IsSortedByKey}
+use Rattle.std.specs.Ordering.{nat_cmp}
 use Rattle.occurrences.specs.Row.{RowBefore}
 use Rattle.occurrences.specs.declared.place.CurrentRow.{CurrentRow}
 use Rattle.occurrences.specs.declared.place.Deletion.{Deletion}
@@ -48,6 +51,12 @@ row_in None None None None = None
 
 abbrev pub row_at : Sets → ℕ → Option Row
 row_at s serial = row_in (s.ltp serial) (s.cp serial) (s.history serial) (s.deletions serial)
+
+-- the rows of all sets, by serial
+pub record AreBySerial {B : Type 0} (row_of : B → Row) (s : Sets) (rows : List B) : Type 0 where
+  pub rising : IsSortedByKey (λ b. (row_of b).serial) nat_cmp rows
+  pub only : (b : B) → Contains rows b → row_at s (row_of b).serial ≡ Some (row_of b)
+  pub all : (serial : ℕ) (row : Row) → row_at s serial ≡ Some row → (b : B) × Contains rows b × (row_of b ≡ row)
 
 -- whether a row is of the application, or any is asked for
 abbrev pub is_of_app : Option (List ℕ) → Row → Bool

@@ -70,7 +70,8 @@ pub record HandsAll {K : Type 0} (Takes : K → Shown → K → Type 0) (IsWhole
   pub counted : count ≡ length items
 
 -- the sink took the first items and, where it is to blame, refused the next
-abbrev pub EndsSo : {K : Type 0} → (Takes Refuses : K → Shown → K → Type 0) → K → List Shown → List Shown → K → ListFault
+abbrev pub EndsSo : {K : Type 0} → (Takes Refuses : K → Shown → K → Type 0) → K → List Shown → List Shown → K
+    → ListFault
     → Type 0
 EndsSo Takes Refuses old done rest new Faults.Memory = TakesAll Takes old done new
 EndsSo Takes Refuses old done rest new Faults.Device = TakesAll Takes old done new

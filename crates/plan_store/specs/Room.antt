@@ -42,6 +42,13 @@ pub record HasSame (old new : Kept) : Type 0 where
   pub pairs : new.pairs ≡ old.pairs
   pub jobs : new.jobs.items ≡ old.jobs.items
 
+-- each serial that the change puts is found
+pub record HasPutSeats (change : Change) (kept : Kept) : Type 0 where
+  pub ltp_seats : HasSeats of_row change.ltp.put.items kept.seats.items
+  pub cp_seats : HasSeats of_current change.cp.put.items kept.seats.items
+  pub history_seats : HasSeats of_row change.history.put.items kept.seats.items
+  pub deletion_seats : HasSeats of_deletion change.deletions.put.items kept.seats.items
+
 -- there is room for what the change puts into each list of rows, and for a job; and each serial that it puts is found
 pub record HasRowRoom (change : Change) (kept : Kept) : Type 0 where
   pub ltp : vec_len kept.ltp + vec_len change.ltp.put ≤ vec_capacity kept.ltp

@@ -6,13 +6,16 @@ use Rattle.plan_store.specs.declared.stores.StoreFault.{StoreFault}
 use Rattle.plan_store.specs.declared.stores.StoreFault.TheVariants.{Device}
 
 -- a store before and after it is read, and what the call answers
-pub record Reads {S T : Type 0} (is_honest : S → Type 0) (content : S → Content) (failures : S → ℕ) (may_leave : S → Content → Type 0) (before now : S) (result : Result T StoreFault) (IsRight : T → Type 0) : Type 0 where
-  -- the answer of an honest store is right, and its content stays
-  pub right : is_honest now → IfOk result IsRight
-  pub same : is_honest now → content now ≡ content before
-  -- a crash leaves no other content than before
-  pub crash : is_honest now → (c : Content) → may_leave now c → may_leave before c
-  -- the device is blamed only where it failed, then or before
-  pub blames : IfErr result (λ fault. fault ≡ Device → MoreFailures (failures before) (failures now) ⊎ (0 < failures before))
-  pub counts : failures before ≤ failures now
-  pub honest : is_honest now → is_honest before
+pub record Reads {S T : Type 0} (is_honest : S → Type 0) (content : S → Content) (failures : S → ℕ)
+    (may_leave : S → Content → Type 0) (before now : S) (result : Result T StoreFault) (IsRight : T → Type 0) : Type 0
+  where
+    -- the answer of an honest store is right, and its content stays
+    pub right : is_honest now → IfOk result IsRight
+    pub same : is_honest now → content now ≡ content before
+    -- a crash leaves no other content than before
+    pub crash : is_honest now → (c : Content) → may_leave now c → may_leave before c
+    -- the device is blamed only where it failed, then or before
+    pub blames : IfErr result (λ fault. fault ≡ Device → MoreFailures (failures before) (failures now)
+        ⊎ (0 < failures before))
+    pub counts : failures before ≤ failures now
+    pub honest : is_honest now → is_honest before

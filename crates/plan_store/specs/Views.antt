@@ -25,9 +25,10 @@ abbrev pub Shows : Need → View → Content → Type 0
 Shows need view c = shown view ≡ c
 
 -- the list has exactly the rows of the set that pass, by application, input arrival and serial
-pub record ListsSet {X : Type 0} (row_of : X → Row) (set : ℕ → Option X) (Passes : X → Type 0) (xs : List X) : Type 0 where
-  pub rows : AreRows row_of xs
-  pub exactly : (x : X) → Contains xs x ↔ ((set (row_of x).serial ≡ Some x) × Passes x)
+pub record ListsSet {X : Type 0} (row_of : X → Row) (set : ℕ → Option X) (Passes : X → Type 0) (xs : List X) : Type 0
+  where
+    pub rows : AreRows row_of xs
+    pub exactly : (x : X) → Contains xs x ↔ ((set (row_of x).serial ≡ Some x) × Passes x)
 
 -- any row
 abbrev pub IsAny : {X : Type 0} → X → Type 0
@@ -40,8 +41,10 @@ IsPlannedRow s key None = (serial : ℕ) (row : Row) → s.ltp serial ≡ Some r
 
 -- the row of the current plan that has the key and is not deleted, or that there is none
 abbrev pub IsCurrentRow : Sets → Key → Option CurrentRow → Type 0
-IsCurrentRow s key (Some current) = (s.cp current.row.serial ≡ Some current) × (current.row.key ≡ key) × (current.status ≢ D)
-IsCurrentRow s key None = (serial : ℕ) (current : CurrentRow) → s.cp serial ≡ Some current → current.row.key ≡ key → current.status ≢ D → ⊥
+IsCurrentRow s key (Some current) = (s.cp current.row.serial ≡ Some current) × (current.row.key ≡ key)
+    × (current.status ≢ D)
+IsCurrentRow s key None = (serial : ℕ) (current : CurrentRow) → s.cp serial ≡ Some current → current.row.key ≡ key
+    → current.status ≢ D → ⊥
 
 -- the live occurrence that has the key, and where it stands, or that there is none
 abbrev pub IsLiveRow : Sets → Key → Option PlacedRow → Type 0
@@ -55,9 +58,11 @@ IsPlacedAt s serial None = (p : PlacedRow) → StandsAt s serial p → ⊥
 
 -- an operator deleted an occurrence of the key
 abbrev pub IsDeletedKey : Sets → Key → Type 0
-IsDeletedKey s key = (serial : ℕ) × (deletion : Deletion) × (s.deletions serial ≡ Some deletion) × (deletion.reason ≡ Operator) × (deletion.row.key ≡ key)
+IsDeletedKey s key = (serial : ℕ) × (deletion : Deletion) × (s.deletions serial ≡ Some deletion)
+    × (deletion.reason ≡ Operator) × (deletion.row.key ≡ key)
 
--- of the live occurrences of the application that arrive before the minute, the one that arrives last, and of several that do the
+-- of the live occurrences of the application that arrive before the minute, the one that arrives last, and of several
+-- that do the
 -- one of the greatest serial; or that there is none
 pub record IsLast (s : Sets) (app : List ℕ) (minute : ℕ) (near : Arrival) : Type 0 where
   pub live : LiveAt s near

@@ -32,7 +32,8 @@ pub(crate) fn last_of(rows: &[Row]) -> Option<Arrival>
 
 // The arrival of the last of some rows of the current plan that is not deleted.
 pub(crate) fn last_live(rows: &[CurrentRow]) -> Option<Arrival>
-    ensures { IsKeyed arrival_cmp (λ (x : CurrentValue). arrival_of x.row) rows.now → IsGreatestOf (arrives_live rows.now) result }
+    ensures { IsKeyed arrival_cmp (λ (x : CurrentValue). arrival_of x.row) rows.now
+        → IsGreatestOf (arrives_live rows.now) result }
 {
     let mut left = rows.len();
     while left > 0 {

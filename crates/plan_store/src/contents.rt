@@ -64,7 +64,7 @@ impl Content {
     ghost use Rattle.plan_store.specs.Changes.{Fits, after};
     ghost use Rattle.planner_machine.specs.Content.{nothing_known};
     ghost use Rattle.plan_store.specs.Contents.{content_of};
-    ghost use Rattle.plan_store.specs.Room.{HasRoom, HasRowRoom, HasSame, with_definitions, with_pairs_of};
+    ghost use Rattle.plan_store.specs.Room.{HasPutSeats, HasRoom, HasRowRoom, HasSame, with_definitions, with_pairs_of};
     ghost use Rattle.plan_store.specs.declared.changes.DefinitionChange.TheVariants.{AsBefore};
 
     /// What a planner knows that was told nothing.
@@ -96,9 +96,18 @@ impl Content {
         }
     }
 
-    // Room for the rows and the job that the change puts, and their serials noted.
-    fn reserve(&mut self, alloc: Global, change: &Change) -> Result<(), AllocError>
+    // The serials noted of all rows that the change puts.
+    fn note(&mut self, alloc: Global, change: &Change) -> Result<(), AllocError>
         requires { Fits change.now (content_of self.old) }
+        ensures same { HasSame self.old self.new }
+        ensures noted { OnOk result (HasPutSeats change.now self.new) }
+    {
+        note_puts(alloc, &mut self.seats, change)
+    }
+
+    // Room for the rows and the job that the change puts, whose serials are noted.
+    fn reserve(&mut self, change: &Change) -> Result<(), AllocError>
+        requires { HasPutSeats change.now self.old }
         ensures same { HasSame self.old self.new }
         ensures room { OnOk result (HasRowRoom change.now self.new) }
     {
@@ -106,19 +115,20 @@ impl Content {
         self.cp.reserve(change.cp.put.len())?;
         self.history.reserve(change.history.put.len())?;
         self.deletions.reserve(change.deletions.put.len())?;
-        self.jobs.reserve(1)?;
-        note_puts(alloc, &mut self.seats, change)
+        self.jobs.reserve(1)
     }
 
     /// The first half of a change: room for all that it puts. It takes the pairs out of the content, which get back
     /// into it by `finish` or `put_back`. Where memory is refused, the content is as it was.
     pub fn make_room(&mut self, alloc: Global, change: &Change) -> Result<Room, AllocError>
         requires { Fits change.now (content_of self.old) }
-        ensures taken { IfOk result (λ room. (room.pairs.items ≡ (content_of self.old).pairs) × HasRoom change.now self.new room) }
+        ensures taken { IfOk result (λ room. (room.pairs.items ≡ (content_of self.old).pairs) × HasRoom change.now
+            self.new room) }
         ensures ok { OnOk result (content_of self.new ≡ with_pairs_of [] (content_of self.old)) }
         ensures err { OnErr result (content_of self.new ≡ content_of self.old) }
     {
-        self.reserve(alloc, change)?;
+        self.note(alloc, change)?;
+        self.reserve(change)?;
         let mut pairs = replace(&mut self.pairs, Pairs::new(alloc)).into_vec();
         match pairs.reserve(change.pairs.added.as_slice().len()) {
             Ok(()) => Ok(Room { pairs }),
@@ -139,9 +149,11 @@ impl Content {
 
     /// Changes the definitions, or where memory is refused, nothing.
     pub fn redefine(&mut self, change: DefinitionChange) -> Result<(), AllocError>
-        ensures ok { OnOk result (content_of self.new ≡ with_definitions (redefined change (content_of self.old).definitions) (content_of self.old)) }
+        ensures ok { OnOk result (content_of self.new
+            ≡ with_definitions (redefined change (content_of self.old).definitions) (content_of self.old)) }
         ensures err { OnErr result (content_of self.new ≡ content_of self.old) }
-        ensures room { (next : ChangeValue) (room : RoomValue) → HasRoom next self.old room → HasRoom next self.new room }
+        ensures room { (next : ChangeValue) (room : RoomValue)
+            → HasRoom next self.old room → HasRoom next self.new room }
     {
         redefine(&mut self.definitions, change)
     }

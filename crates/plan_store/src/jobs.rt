@@ -12,8 +12,11 @@ use planner_machine::Job;
 
 // Where the job of the number stands, or where it would stand.
 pub(crate) fn find_job(jobs: &[Job], number: u64) -> Result<usize, usize>
-    ensures taken { IfOk result (λ i. (i < length jobs.now) × HoldsAt (λ (kept : JobValue). kept.number ≡ number) jobs.now i) }
-    ensures free { AreJobs jobs.now → IfErr result (λ i. (i ≤ length jobs.now) × IsPartitionPoint (λ (kept : JobValue). nat_cmp kept.number number ≡ Less) (λ (kept : JobValue). nat_cmp kept.number number ≡ Greater) jobs.now i) }
+    ensures taken { IfOk result (λ i. (i < length jobs.now) × HoldsAt (λ (kept : JobValue). kept.number ≡ number)
+        jobs.now i) }
+    ensures free { AreJobs jobs.now → IfErr result (λ i. (i ≤ length jobs.now)
+        × IsPartitionPoint (λ (kept : JobValue). nat_cmp kept.number number ≡ Less)
+        (λ (kept : JobValue). nat_cmp kept.number number ≡ Greater) jobs.now i) }
 {
     jobs.binary_search_by_key(&number, |kept| kept.number)
 }
@@ -24,7 +27,8 @@ fn insert_job(jobs: &mut Vec<Job>, job: Job)
     requires new { look_up (λ (kept : JobValue). kept.number) jobs.old.items job.number ≡ None }
     requires room { vec_len jobs.old + 1 ≤ vec_capacity jobs.old }
     ensures numbered { AreJobs jobs.new.items }
-    ensures kept { (number : ℕ) → look_up (λ (kept : JobValue). kept.number) jobs.new.items number ≡ jobs_after (Some job) (look_up (λ (kept : JobValue). kept.number) jobs.old.items) number }
+    ensures kept { (number : ℕ) → look_up (λ (kept : JobValue). kept.number) jobs.new.items number
+        ≡ jobs_after (Some job) (look_up (λ (kept : JobValue). kept.number) jobs.old.items) number }
 {
     match find_job(jobs, job.number) {
         Ok(_at) => {}
@@ -37,10 +41,12 @@ fn insert_job(jobs: &mut Vec<Job>, job: Job)
 // Keeps the job, if there is one. Its number is new, and there is room for it.
 pub(crate) fn keep_job(jobs: &mut Vec<Job>, job: Option<Job>)
     requires numbered { AreJobs jobs.old.items }
-    requires new { (new : JobValue) → job ≡ Some new → look_up (λ (kept : JobValue). kept.number) jobs.old.items new.number ≡ None }
+    requires new { (new : JobValue) → job ≡ Some new → look_up (λ (kept : JobValue). kept.number) jobs.old.items
+        new.number ≡ None }
     requires room { vec_len jobs.old + 1 ≤ vec_capacity jobs.old }
     ensures numbered { AreJobs jobs.new.items }
-    ensures kept { (number : ℕ) → look_up (λ (kept : JobValue). kept.number) jobs.new.items number ≡ jobs_after job (look_up (λ (kept : JobValue). kept.number) jobs.old.items) number }
+    ensures kept { (number : ℕ) → look_up (λ (kept : JobValue). kept.number) jobs.new.items number
+        ≡ jobs_after job (look_up (λ (kept : JobValue). kept.number) jobs.old.items) number }
 {
     if let Some(job) = job {
         insert_job(jobs, job);

@@ -1,5 +1,12 @@
 //! What a planner keeps between two statements, the window through which a decision sees it, the change that a
 //! decision makes, and the stores that keep it.
+//!
+//! ```text
+//! let mut store = ListStore::new(alloc);
+//! let view = store.read_window(Need::Key(key))?;
+//! assert!(rt; view.live_row(&key).is_none() && view.bounds().is_none());
+//! store.apply(alloc, Change::none(alloc))?;
+//! ```
 #![tactic(auto)]
 
 mod arrivals;
@@ -23,6 +30,3 @@ pub use listings::{Item, ListFault, RowSink, SinkFault, What};
 pub use room::Room;
 pub use stores::{Need, PlanStore, StoreFault};
 pub use views::View;
-
-#[cfg(test)]
-mod tests;

@@ -3,7 +3,9 @@ use crate::contents::Content;
 use crate::listings::{ListFault, RowSink, What};
 use crate::stores::{Need, PlanStore, StoreFault};
 use crate::views::View;
-use planner_machine::{Job, empty_content_is_sound};
+use app_definitions::Definitions;
+use external_dependencies::Links;
+use planner_machine::{Bounds, Job, empty_content_is_sound};
 use std::alloc::Global;
 use work_calendars::App;
 
@@ -71,6 +73,24 @@ impl PlanStore for ListStore {
     ghost failures = { λ _. 0 };
 
     ghost may_leave = { λ store c. c ≡ listed store };
+
+    fn definitions(&mut self) -> Result<Definitions, StoreFault> {
+        match self.content.definitions.clone() {
+            Ok(definitions) => Ok(definitions),
+            Err(_) => Err(StoreFault::Memory),
+        }
+    }
+
+    fn bounds(&mut self) -> Result<Option<Bounds>, StoreFault> {
+        Ok(self.content.bounds)
+    }
+
+    fn links(&mut self) -> Result<Links, StoreFault> {
+        match self.content.in_force.clone() {
+            Ok(links) => Ok(links),
+            Err(_) => Err(StoreFault::Memory),
+        }
+    }
 
     fn read_window<'a>(&'a mut self, _need: Need) -> Result<View<'a>, StoreFault> {
         Ok(self.view())

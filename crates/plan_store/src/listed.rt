@@ -1,23 +1,25 @@
 //! The items of a listing, on their way to a sink.
-ghost use Rattle.std.specs.Prelude.{◌≡◌, ◌≢◌, ◌↔◌, ℕ, Contains, IfOk, IfErr, OnOk, OnErr, length, map, option_copied, option_map};
+ghost use Rattle.std.specs.Prelude.{◌≡◌, ◌≢◌, ◌↔◌, ◌++◌, ℕ, Contains, IfOk, IfErr, OnOk, OnErr, length, map};
+ghost use Rattle.std.specs.Prelude.{option_copied, option_map};
 ghost use Rattle.external_dependencies.specs.Arrival.{arrival_cmp};
 ghost use Rattle.external_dependencies.specs.Nearest.{arrival_of};
 ghost use Rattle.external_dependencies.specs.Pair.{pair_cmp};
 ghost use Rattle.external_dependencies.specs.Rising.{IsRising};
 ghost use Rattle.plan_lists.specs.Keyed.{IsKeyed};
 ghost use Rattle.plan_lists.specs.Rows.{AreRows};
+ghost use Rattle.planner_machine.specs.Content.{Sets};
 ghost use Rattle.planner_machine.specs.Shown.{IsOfApp};
 ghost use Rattle.planner_machine.specs.Sound.{AreNumbered};
 ghost use Rattle.plan_store.specs.Contents.{content_of};
-ghost use Rattle.plan_store.specs.Listed.{AreInOrder, EndsWithin, ShowsSet, link_at, linked_rows, links_at, shown_as};
+ghost use Rattle.plan_store.specs.Listed.{AreBySerial, AreInOrder, EndsWithin, ShowsSet, link_at};
+ghost use Rattle.plan_store.specs.Listed.{linked_rows, links_at, row_at, shown_as};
 ghost use Rattle.plan_store.specs.Listings.{HandsAll, HandsPart, IsListing, TakesAll, link_shown};
 
 use crate::contents::Content;
 use crate::listings::{Item, ListFault, RowSink, SinkFault, What};
 use crate::slices::of_app;
-use crate::views::View;
 use external_dependencies::Pair;
-use occurrences::{CurrentRow, Deletion, Row, Status};
+use occurrences::{CurrentRow, Deletion, Row, Serial, Status};
 use plan_lists::PlanRow;
 use std::alloc::{AllocError, Global};
 use work_calendars::App;
@@ -28,6 +30,9 @@ trait Lettered: PlanRow {
 
     fn letter(&self) -> u8
         ensures { result ≡ letter_of self.now };
+
+    fn occurrence(&self) -> &Row
+        ensures { result.now ≡ Self.row_of self.now };
 }
 
 ghost use Rattle.occurrences.specs.Place.{reason_letter};
@@ -40,6 +45,10 @@ impl Lettered for Row {
     fn letter(&self) -> u8 {
         Status::C.letter()
     }
+
+    fn occurrence(&self) -> &Row {
+        self
+    }
 }
 
 impl Lettered for CurrentRow {
@@ -47,6 +56,10 @@ impl Lettered for CurrentRow {
 
     fn letter(&self) -> u8 {
         self.status.letter()
+    }
+
+    fn occurrence(&self) -> &Row {
+        &self.row
     }
 }
 
@@ -56,14 +69,19 @@ impl Lettered for Deletion {
     fn letter(&self) -> u8 {
         self.reason.letter()
     }
+
+    fn occurrence(&self) -> &Row {
+        &self.row
+    }
 }
 
-// The rows by input arrival, application and serial.
+// The rows by input arrival, application and serial. Those of one application stand so already, and are gone over once;
+// those of several are runs that are merged.
 fn in_order<T: PlanRow>(alloc: Global, rows: &[T]) -> Result<Vec<&T>, AllocError>
     ensures { IfOk result (λ found. AreInOrder T.row_of rows.now (map (λ x. x.now) found.items)) }
 {
     let mut found: Vec<&T> = rows.iter().collect(alloc)?;
-    found.sort_unstable_by_key(|x| x.row());
+    found.sort_by_key(|x| x.row())?;
     Ok(found)
 }
 
@@ -86,8 +104,10 @@ fn hand_each<T: Lettered, K: RowSink>(
     is_plain: bool,
     sink: &mut K,
 ) -> Result<usize, ListFault>
-    ensures all { IfOk result (λ count. (count ≡ length rows.now) × TakesAll K.takes sink.old (map (λ x. shown_as T.row_of T.letter_of is_plain x.now) rows.now) sink.new) }
-    ensures part { IfErr result (λ fault. EndsWithin K.takes K.refuses sink.old (map (λ x. shown_as T.row_of T.letter_of is_plain x.now) rows.now) sink.new fault) }
+    ensures all { IfOk result (λ count. (count ≡ length rows.now) × TakesAll K.takes sink.old
+        (map (λ x. shown_as T.row_of T.letter_of is_plain x.now) rows.now) sink.new) }
+    ensures part { IfErr result (λ fault. EndsWithin K.takes K.refuses sink.old
+        (map (λ x. shown_as T.row_of T.letter_of is_plain x.now) rows.now) sink.new fault) }
     ensures blames { IfErr result (λ fault. fault ≢ ListFault.Device) }
 {
     for x in rows {
@@ -101,8 +121,10 @@ fn hand_each<T: Lettered, K: RowSink>(
 
 // The rows of one application, or all.
 fn part_of<'a, T: PlanRow>(rows: &'a [T], app: Option<&App>) -> &'a [T]
-    ensures keyed { IsKeyed arrival_cmp (λ x. arrival_of (T.row_of x)) rows.now → IsKeyed arrival_cmp (λ x. arrival_of (T.row_of x)) result.now }
-    ensures all { IsKeyed arrival_cmp (λ x. arrival_of (T.row_of x)) rows.now → (x : T) → Contains result.now x ↔ (Contains rows.now x × IsOfApp (option_copied app.entry) (T.row_of x).key.app) }
+    ensures keyed { IsKeyed arrival_cmp (λ x. arrival_of (T.row_of x)) rows.now → IsKeyed arrival_cmp
+        (λ x. arrival_of (T.row_of x)) result.now }
+    ensures all { IsKeyed arrival_cmp (λ x. arrival_of (T.row_of x)) rows.now → (x : T) → Contains result.now x
+        ↔ (Contains rows.now x × IsOfApp (option_copied app.entry) (T.row_of x).key.app) }
 {
     match app {
         Some(app) => of_app(rows, app),
@@ -118,8 +140,12 @@ fn hand_rows<T: Lettered, K: RowSink>(
     is_plain: bool,
     sink: &mut K,
 ) -> Result<usize, ListFault>
-    ensures all { AreRows T.row_of rows.now → IfOk result (HandsAll K.takes (ShowsSet T.row_of T.letter_of is_plain rows.now (option_copied app.entry)) sink.old sink.new) }
-    ensures part { AreRows T.row_of rows.now → IfErr result (HandsPart K.takes K.refuses (ShowsSet T.row_of T.letter_of is_plain rows.now (option_copied app.entry)) sink.old sink.new) }
+    ensures all { AreRows T.row_of rows.now
+        → IfOk result (HandsAll K.takes (ShowsSet T.row_of T.letter_of is_plain rows.now (option_copied app.entry))
+        sink.old sink.new) }
+    ensures part { AreRows T.row_of rows.now
+        → IfErr result (HandsPart K.takes K.refuses (ShowsSet T.row_of T.letter_of is_plain rows.now
+        (option_copied app.entry)) sink.old sink.new) }
     ensures blames { IfErr result (λ fault. fault ≢ ListFault.Device) }
 {
     match in_order(alloc, part_of(rows, app)) {
@@ -128,40 +154,116 @@ fn hand_rows<T: Lettered, K: RowSink>(
     }
 }
 
-impl Content {
-    // The two rows of a pair, where its successor is of the application.
-    fn linked(&self, pair: Pair, app: Option<&App>) -> Option<(Row, Row)>
-        ensures { AreNumbered (content_of self.now).sets → option_map linked_rows result ≡ link_at (content_of self.now).sets (option_copied app.entry) pair }
+// Adds the occurrences of a set.
+fn push_occurrences<'a, T: Lettered>(
+    all: &mut Vec<&'a Row>,
+    rows: &'a [T],
+) -> Result<(), AllocError>
+    ensures { OnOk result (map (λ row. row.now) all.new.items
+        ≡ map (λ row. row.now) all.old.items ++ map T.row_of rows.now) }
+{
+    for x in rows {
+        all.push(x.occurrence())?;
+    }
+    Ok(())
+}
+
+// The occurrence of the serial, where these are sorted by serial.
+fn with_number(all: &[&Row], serial: Serial) -> Option<Row>
+    ensures { (s : Sets) → AreNumbered s → AreBySerial (λ row. row.now) s all.now → result ≡ row_at s serial }
+{
+    match all.binary_search_by_key(&serial.get(), |row| row.serial.get()) {
+        Ok(at) => Some(*all[at]),
+        Err(_at) => None,
+    }
+}
+
+// The two rows of a pair, where its successor is of the application.
+fn linked(all: &[&Row], pair: Pair, app: Option<&App>) -> Option<(Row, Row)>
+    ensures { (s : Sets) → AreNumbered s → AreBySerial (λ row. row.now) s all.now
+        → option_map linked_rows result ≡ link_at s (option_copied app.entry) pair }
+{
+    let successor = with_number(all, pair.successor)?;
+    if let Some(app) = app
+        && successor.key.app != *app
     {
-        let view = View { content: self };
-        let successor = view.placed(pair.successor)?.row;
-        if let Some(app) = app
-            && successor.key.app != *app
-        {
-            return None;
+        return None;
+    }
+    let predecessor = with_number(all, pair.predecessor)?;
+    Some((successor, predecessor))
+}
+
+// Hands the sink the rows of these pairs, of one application or all.
+fn hand_links<K: RowSink>(
+    all: &[&Row],
+    pairs: &[Pair],
+    app: Option<&App>,
+    sink: &mut K,
+) -> Result<usize, ListFault>
+    ensures all { (s : Sets) → AreNumbered s → AreBySerial (λ row. row.now) s all.now
+        → IfOk result (λ count. (count ≡ length (links_at s (option_copied app.entry) pairs.now))
+        × TakesAll K.takes sink.old (map link_shown (links_at s (option_copied app.entry) pairs.now)) sink.new) }
+    ensures part { (s : Sets) → AreNumbered s → AreBySerial (λ row. row.now) s all.now
+        → IfErr result (λ fault. EndsWithin K.takes K.refuses sink.old
+        (map link_shown (links_at s (option_copied app.entry) pairs.now)) sink.new fault) }
+    ensures blames { IfErr result (λ fault. fault ≢ ListFault.Device) }
+{
+    let mut count = 0;
+    for pair in pairs {
+        match linked(all, *pair, app) {
+            Some(link) => match sink.take(Item::Pair(&link.0, &link.1)) {
+                Ok(()) => count += 1,
+                Err(fault) => return Err(ListFault::Sink(fault)),
+            },
+            None => {}
         }
-        let predecessor = view.placed(pair.predecessor)?.row;
-        Some((successor, predecessor))
+    }
+    Ok(count)
+}
+
+impl Content {
+    // The occurrences of all sets, by serial.
+    fn by_serial(&self, alloc: Global) -> Result<Vec<&Row>, AllocError>
+        ensures { AreNumbered (content_of self.now).sets
+            → IfOk result (λ all. AreBySerial (λ row. row.now) (content_of self.now).sets all.items) }
+    {
+        let ltp = self.ltp.as_slice();
+        let cp = self.cp.as_slice();
+        let history = self.history.as_slice();
+        let deletions = self.deletions.as_slice();
+        let count = ltp.len() + cp.len() + history.len() + deletions.len();
+        let mut all = Vec::with_capacity(alloc, count)?;
+        push_occurrences(&mut all, ltp)?;
+        push_occurrences(&mut all, cp)?;
+        push_occurrences(&mut all, history)?;
+        push_occurrences(&mut all, deletions)?;
+        all.sort_by_key(|row| row.serial.get())?;
+        Ok(all)
     }
 
-    // Hands the sink the pairs, of one application or all.
-    fn hand_pairs<K: RowSink>(&self, app: Option<&App>, sink: &mut K) -> Result<usize, ListFault>
+    // Hands the sink the pairs, of one application or all. The occurrences are sorted by serial once.
+    fn hand_pairs<K: RowSink>(
+        &self,
+        alloc: Global,
+        app: Option<&App>,
+        sink: &mut K,
+    ) -> Result<usize, ListFault>
         ensures rising { IsRising pair_cmp (content_of self.now).pairs }
-        ensures all { AreNumbered (content_of self.now).sets → IfOk result (λ count. (count ≡ length (links_at (content_of self.now).sets (option_copied app.entry) (content_of self.now).pairs)) × TakesAll K.takes sink.old (map link_shown (links_at (content_of self.now).sets (option_copied app.entry) (content_of self.now).pairs)) sink.new) }
-        ensures part { AreNumbered (content_of self.now).sets → IfErr result (λ fault. EndsWithin K.takes K.refuses sink.old (map link_shown (links_at (content_of self.now).sets (option_copied app.entry) (content_of self.now).pairs)) sink.new fault) }
+        ensures all { AreNumbered (content_of self.now).sets → IfOk result (λ count.
+            (count ≡ length (links_at (content_of self.now).sets (option_copied app.entry) (content_of self.now).pairs))
+            × TakesAll K.takes sink.old (map link_shown
+            (links_at (content_of self.now).sets (option_copied app.entry) (content_of self.now).pairs)) sink.new) }
+        ensures part { AreNumbered (content_of self.now).sets
+            → IfErr result (λ fault. EndsWithin K.takes K.refuses sink.old (map link_shown
+            (links_at (content_of self.now).sets (option_copied app.entry) (content_of self.now).pairs))
+            sink.new fault) }
         ensures blames { IfErr result (λ fault. fault ≢ ListFault.Device) }
     {
-        let mut count = 0;
-        for pair in self.pairs.as_slice() {
-            match self.linked(*pair, app) {
-                Some(link) => match sink.take(Item::Pair(&link.0, &link.1)) {
-                    Ok(()) => count += 1,
-                    Err(fault) => return Err(ListFault::Sink(fault)),
-                },
-                None => {}
-            }
+        let pairs = self.pairs.as_slice();
+        match self.by_serial(alloc) {
+            Ok(all) => hand_links(&all, pairs, app, sink),
+            Err(_) => Err(ListFault::Memory),
         }
-        Ok(count)
     }
 
     /// Hands the sink what a listing shows, in its order, of one application or of all, and answers how many items it
@@ -173,8 +275,12 @@ impl Content {
         app: Option<&App>,
         sink: &mut K,
     ) -> Result<usize, ListFault>
-        ensures all { AreNumbered (content_of self.now).sets → IfOk result (HandsAll K.takes (IsListing what (option_copied app.entry) (content_of self.now)) sink.old sink.new) }
-        ensures part { AreNumbered (content_of self.now).sets → IfErr result (HandsPart K.takes K.refuses (IsListing what (option_copied app.entry) (content_of self.now)) sink.old sink.new) }
+        ensures all { AreNumbered (content_of self.now).sets
+            → IfOk result (HandsAll K.takes (IsListing what (option_copied app.entry) (content_of self.now)) sink.old
+            sink.new) }
+        ensures part { AreNumbered (content_of self.now).sets
+            → IfErr result (HandsPart K.takes K.refuses (IsListing what (option_copied app.entry) (content_of self.now))
+            sink.old sink.new) }
         ensures blames { IfErr result (λ fault. fault ≢ ListFault.Device) }
     {
         match what {
@@ -182,7 +288,7 @@ impl Content {
             What::Cp => hand_rows(alloc, &self.cp, app, false, sink),
             What::History => hand_rows(alloc, &self.history, app, false, sink),
             What::Deletions => hand_rows(alloc, &self.deletions, app, false, sink),
-            What::Dependencies => self.hand_pairs(app, sink),
+            What::Dependencies => self.hand_pairs(alloc, app, sink),
         }
     }
 }

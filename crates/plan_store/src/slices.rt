@@ -15,8 +15,10 @@ use work_calendars::{App, Moment};
 
 // The rows of an application.
 pub(crate) fn of_app<'a, T: PlanRow>(list: &'a [T], app: &App) -> &'a [T]
-    ensures keyed { IsKeyed arrival_cmp (λ x. arrival_of (T.row_of x)) list.now → IsKeyed arrival_cmp (λ x. arrival_of (T.row_of x)) result.now }
-    ensures all { IsKeyed arrival_cmp (λ x. arrival_of (T.row_of x)) list.now → (x : T) → Contains result.now x ↔ (Contains list.now x × ((T.row_of x).key.app ≡ app.now)) }
+    ensures keyed { IsKeyed arrival_cmp (λ x. arrival_of (T.row_of x)) list.now → IsKeyed arrival_cmp
+        (λ x. arrival_of (T.row_of x)) result.now }
+    ensures all { IsKeyed arrival_cmp (λ x. arrival_of (T.row_of x)) list.now → (x : T) → Contains result.now x
+        ↔ (Contains list.now x × ((T.row_of x).key.app ≡ app.now)) }
 {
     let start = list.partition_point(|x| x.row().key.app < *app);
     let rest = &list[start..];
@@ -26,8 +28,10 @@ pub(crate) fn of_app<'a, T: PlanRow>(list: &'a [T], app: &App) -> &'a [T]
 
 // The rows of a key.
 pub(crate) fn of_key<'a, T: PlanRow>(list: &'a [T], key: &Key) -> &'a [T]
-    ensures keyed { IsKeyed arrival_cmp (λ x. arrival_of (T.row_of x)) list.now → IsKeyed arrival_cmp (λ x. arrival_of (T.row_of x)) result.now }
-    ensures all { IsKeyed arrival_cmp (λ x. arrival_of (T.row_of x)) list.now → (x : T) → Contains result.now x ↔ (Contains list.now x × ((T.row_of x).key ≡ key.now)) }
+    ensures keyed { IsKeyed arrival_cmp (λ x. arrival_of (T.row_of x)) list.now → IsKeyed arrival_cmp
+        (λ x. arrival_of (T.row_of x)) result.now }
+    ensures all { IsKeyed arrival_cmp (λ x. arrival_of (T.row_of x)) list.now → (x : T) → Contains result.now x
+        ↔ (Contains list.now x × ((T.row_of x).key ≡ key.now)) }
 {
     let rows = of_app(list, &key.app);
     let start = rows.partition_point(|x| x.row().key.ia < key.ia);
@@ -38,7 +42,8 @@ pub(crate) fn of_key<'a, T: PlanRow>(list: &'a [T], key: &Key) -> &'a [T]
 
 // The rows of one application that arrive before the minute.
 pub(crate) fn before<'a, T: PlanRow>(rows: &'a [T], minute: u32) -> &'a [T]
-    ensures keyed { IsKeyed arrival_cmp (λ x. arrival_of (T.row_of x)) rows.now → IsKeyed arrival_cmp (λ x. arrival_of (T.row_of x)) result.now }
+    ensures keyed { IsKeyed arrival_cmp (λ x. arrival_of (T.row_of x)) rows.now → IsKeyed arrival_cmp
+        (λ x. arrival_of (T.row_of x)) result.now }
     ensures all { IsKeyed arrival_cmp (λ x. arrival_of (T.row_of x)) rows.now → HaveOneApp T.row_of rows.now
         → (x : T) → Contains result.now x ↔ (Contains rows.now x × ((T.row_of x).key.ia < minute)) }
 {
@@ -48,7 +53,8 @@ pub(crate) fn before<'a, T: PlanRow>(rows: &'a [T], minute: u32) -> &'a [T]
 
 // The row of a serial among some rows.
 fn with_serial<T: PlanRow>(rows: &[T], serial: Serial) -> Option<T>
-    ensures { MatchOption result ((x : T) → Contains rows.now x → (T.row_of x).serial ≢ serial) (λ x. Contains rows.now x × ((T.row_of x).serial ≡ serial)) }
+    ensures { MatchOption result ((x : T) → Contains rows.now x → (T.row_of x).serial ≢ serial)
+        (λ x. Contains rows.now x × ((T.row_of x).serial ≡ serial)) }
 {
     rows.iter().copied().find(|x| x.row().serial == serial)
 }
@@ -58,7 +64,8 @@ pub(crate) fn of_serial<T: PlanRow>(list: &[T], seats: &[Seat], serial: Serial) 
     requires keyed { IsKeyed arrival_cmp (λ x. arrival_of (T.row_of x)) list.now }
     requires order { AreSeats seats.now }
     requires seated { HasSeats T.row_of list.now seats.now }
-    ensures { MatchOption result ((x : T) → Contains list.now x → (T.row_of x).serial ≢ serial) (λ x. Contains list.now x × ((T.row_of x).serial ≡ serial)) }
+    ensures { MatchOption result ((x : T) → Contains list.now x → (T.row_of x).serial ≢ serial)
+        (λ x. Contains list.now x × ((T.row_of x).serial ≡ serial)) }
 {
     let found = seats_of(seats, serial);
     for seat in found {
@@ -83,7 +90,8 @@ pub(crate) fn first_of<T: Copy>(rows: &[T]) -> Option<T>
 
 // The first of some rows that is not deleted.
 pub(crate) fn first_live(rows: &[CurrentRow]) -> Option<CurrentRow>
-    ensures { MatchOption result ((x : CurrentValue) → Contains rows.now x → x.status ≡ Status.D) (λ x. Contains rows.now x × (x.status ≢ Status.D)) }
+    ensures { MatchOption result ((x : CurrentValue) → Contains rows.now x → x.status ≡ Status.D)
+        (λ x. Contains rows.now x × (x.status ≢ Status.D)) }
 {
     rows.iter()
         .copied()

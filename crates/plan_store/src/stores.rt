@@ -12,8 +12,10 @@ ghost use Rattle.plan_store.specs.Views.{Shows};
 use crate::changes::Change;
 use crate::listings::{ListFault, RowSink, What};
 use crate::views::View;
+use app_definitions::Definitions;
+use external_dependencies::Links;
 use occurrences::Key;
-use planner_machine::Job;
+use planner_machine::{Bounds, Job};
 use std::alloc::Global;
 use thiserror::Error;
 use work_calendars::{App, Moment};
@@ -54,15 +56,32 @@ pub trait PlanStore {
     // a crash now may leave this content
     ghost may_leave: { Self → ContentValue → Type 0 };
 
+    /// An owned copy of the definitions.
+    fn definitions(&mut self) -> Result<Definitions, StoreFault>
+        ensures { Reads is_honest content failures may_leave self.old self.new result
+            (λ all. all ≡ (content self.old).definitions) };
+
+    /// How far the plans reach; `None` before the long-term plan is created.
+    fn bounds(&mut self) -> Result<Option<Bounds>, StoreFault>
+        ensures { Reads is_honest content failures may_leave self.old self.new result
+            (λ bounds. bounds ≡ (content self.old).sets.bounds) };
+
+    /// An owned copy of the lists in force.
+    fn links(&mut self) -> Result<Links, StoreFault>
+        ensures { Reads is_honest content failures may_leave self.old self.new result
+            (λ links. links ≡ (content self.old).in_force) };
+
     /// Lends a window that shows what the need names.
     fn read_window<'a>(&'a mut self, need: Need) -> Result<View<'a>, StoreFault>
         ensures* { sem 𝓛 (follows_so Self.row Self.row self.entry.ghost_name none (λ _ _. ⊤)
-            (λ now. Reads is_honest content failures may_leave self.old now result (λ view. Shows need view (content self.old)))) };
+            (λ now. Reads is_honest content failures may_leave self.old now result
+            (λ view. Shows need view (content self.old)))) };
 
     /// Lends the job that is kept under the number, if there is one.
     fn job<'a>(&'a mut self, number: u64) -> Result<Option<&'a Job>, StoreFault>
         ensures* { sem 𝓛 (follows_so Self.row Self.row self.entry.ghost_name none (λ _ _. ⊤)
-            (λ now. Reads is_honest content failures may_leave self.old now result (λ job. option_copied job ≡ (content self.old).jobs number))) };
+            (λ now. Reads is_honest content failures may_leave self.old now result (λ job. option_copied job
+            ≡ (content self.old).jobs number))) };
 
     /// Hands the sink what a listing shows, in its order, of one application or of all, and answers how many items it
     /// took. A fault leaves the sink with those before it.
@@ -73,11 +92,16 @@ pub trait PlanStore {
         app: Option<&App>,
         sink: &mut K,
     ) -> Result<usize, ListFault>
-        ensures all { is_honest self.new → AreNumbered (content self.old).sets → IfOk result (HandsAll K.takes (IsListing what (option_copied app.entry) (content self.old)) sink.old sink.new) }
-        ensures part { is_honest self.new → AreNumbered (content self.old).sets → IfErr result (HandsPart K.takes K.refuses (IsListing what (option_copied app.entry) (content self.old)) sink.old sink.new) }
+        ensures all { is_honest self.new → AreNumbered (content self.old).sets
+            → IfOk result (HandsAll K.takes (IsListing what (option_copied app.entry) (content self.old)) sink.old
+            sink.new) }
+        ensures part { is_honest self.new → AreNumbered (content self.old).sets
+            → IfErr result (HandsPart K.takes K.refuses (IsListing what (option_copied app.entry) (content self.old))
+            sink.old sink.new) }
         ensures same { is_honest self.new → content self.new ≡ content self.old }
         ensures crash { is_honest self.new → (c : ContentValue) → may_leave self.new c → may_leave self.old c }
-        ensures blames { IfErr result (λ fault. fault ≡ ListFault.Device → MoreFailures (failures self.old) (failures self.new) ⊎ (0 < failures self.old)) }
+        ensures blames { IfErr result (λ fault. fault ≡ ListFault.Device → MoreFailures (failures self.old)
+            (failures self.new) ⊎ (0 < failures self.old)) }
         ensures counts { failures self.old ≤ failures self.new }
         ensures honest { is_honest self.new → is_honest self.old };
 
@@ -86,14 +110,20 @@ pub trait PlanStore {
         requires { is_honest self.old → Fits change (content self.old) }
 
         ensures done { is_honest self.new → OnOk result (content self.new ≡ after change (content self.old)) }
-        ensures unchanged { is_honest self.new → IfErr result (λ fault. fault ≡ StoreFault.Memory → content self.new ≡ content self.old) }
-        ensures whole { is_honest self.new → OnErr result ((content self.new ≡ content self.old) ⊎ (content self.new ≡ after change (content self.old))) }
+        ensures unchanged { is_honest self.new → IfErr result (λ fault. fault ≡ StoreFault.Memory → content self.new
+            ≡ content self.old) }
+        ensures whole { is_honest self.new → OnErr result ((content self.new ≡ content self.old)
+            ⊎ (content self.new ≡ after change (content self.old))) }
 
-        // What a crash may leave: after `Ok` the content alone, and else at most the new content beside what it might have left before.
-        ensures settled { is_honest self.new → OnOk result ((c : ContentValue) → may_leave self.new c → c ≡ content self.new) }
-        ensures crash { is_honest self.new → (c : ContentValue) → may_leave self.new c → may_leave self.old c ⊎ (c ≡ content self.old) ⊎ (c ≡ after change (content self.old)) }
+        // What a crash may leave: after `Ok` the content alone, and else at most the new content beside what it might
+        // have left before.
+        ensures settled { is_honest self.new → OnOk result ((c : ContentValue) → may_leave self.new c → c
+            ≡ content self.new) }
+        ensures crash { is_honest self.new → (c : ContentValue) → may_leave self.new c → may_leave self.old c
+            ⊎ (c ≡ content self.old) ⊎ (c ≡ after change (content self.old)) }
 
-        ensures blames { IfErr result (λ fault. fault ≡ StoreFault.Device → MoreFailures (failures self.old) (failures self.new) ⊎ (0 < failures self.old)) }
+        ensures blames { IfErr result (λ fault. fault ≡ StoreFault.Device → MoreFailures (failures self.old)
+            (failures self.new) ⊎ (0 < failures self.old)) }
         ensures counts { failures self.old ≤ failures self.new }
         ensures honest { is_honest self.new → is_honest self.old };
 }

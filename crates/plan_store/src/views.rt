@@ -1,4 +1,7 @@
-ghost use Rattle.std.specs.Prelude.{◌≡◌, ◌↔◌, ◌+◌, ◌<◌, length, IsTrue, IfOk};
+ghost use Rattle.std.specs.Prelude.{◌≡◌, ◌↔◌, ◌+◌, ◌<◌, length, filter, nat_eq, Contains, IsTrue, IfOk};
+ghost use Rattle.external_dependencies.specs.Pair.{pair_cmp};
+ghost use Rattle.external_dependencies.specs.Rising.{IsRising};
+ghost use Rattle.external_dependencies.specs.declared.pairs.Pair.{Pair as PairValue};
 ghost use Rattle.planner_machine.specs.DailyPlan.{moved};
 ghost use Rattle.planner_machine.specs.Moves.{size};
 ghost use Rattle.external_dependencies.specs.Nearest.{IsNearestAnswer};
@@ -11,11 +14,23 @@ use crate::slices::{
     arriving_before, before, first_live, first_of, has_operator, of_app, of_key, of_serial,
 };
 use app_definitions::Definitions;
-use external_dependencies::{Arrival, Links, Pairs, PlacedRow};
+use external_dependencies::{Arrival, Links, Pair, Pairs, PlacedRow};
 use occurrences::{CurrentRow, Key, Place, Row, Serial};
 use planner_machine::Bounds;
 use std::alloc::{AllocError, Global};
 use work_calendars::{App, Moment};
+
+// Those of the pairs that have the predecessor.
+fn pairs_before(alloc: Global, pairs: &[Pair], predecessor: Serial) -> Result<Vec<Pair>, AllocError>
+    ensures { IfOk result (λ found.
+        found.items ≡ filter (λ (pair : PairValue). nat_eq pair.predecessor predecessor) pairs.now) }
+{
+    pairs
+        .iter()
+        .copied()
+        .filter(|pair| pair.predecessor == predecessor)
+        .collect(alloc)
+}
 
 /// What a decision sees of a content. It is lent by a store, and holds no copy.
 #[derive(Clone, Copy)]
@@ -25,7 +40,8 @@ pub struct View<'a> {
 
 impl<'a> View<'a> {
     ghost use Rattle.plan_lists.specs.Rows.{of_current, of_deletion, of_row};
-    ghost use Rattle.plan_store.specs.Views.{IsAny, IsCurrentRow, IsDeletedKey, IsLastBefore, IsLiveRow, IsPlacedAt, IsPlannedRow, ListsSet, shown};
+    ghost use Rattle.plan_store.specs.Views.{IsAny, IsCurrentRow, IsDeletedKey, IsLastBefore, IsLiveRow, IsPlacedAt};
+    ghost use Rattle.plan_store.specs.Views.{IsPlannedRow, ListsSet, shown};
 
     /// The definitions.
     pub fn definitions(&self) -> &'a Definitions
@@ -62,10 +78,34 @@ impl<'a> View<'a> {
         &self.content.pairs
     }
 
+    /// The pairs of one successor.
+    pub fn pairs_of_successor(&self, successor: Serial) -> &'a [Pair]
+        ensures rising { IsRising pair_cmp result.now }
+        ensures all { (pair : PairValue) → Contains result.now pair
+            ↔ (Contains (shown self.now).pairs pair × (pair.successor ≡ successor)) }
+    {
+        self.content.pairs.of_successor(successor)
+    }
+
+    /// The pairs of one predecessor, in rising order. Looks at each pair once; of many predecessors `Followers` tells
+    /// more quickly.
+    pub fn pairs_of_predecessor(
+        &self,
+        alloc: Global,
+        predecessor: Serial,
+    ) -> Result<Vec<Pair>, AllocError>
+        ensures rising { IfOk result (λ found. IsRising pair_cmp found.items) }
+        ensures all { IfOk result (λ found. (pair : PairValue) → Contains found.items pair
+            ↔ (Contains (shown self.now).pairs pair × (pair.predecessor ≡ predecessor))) }
+    {
+        pairs_before(alloc, self.content.pairs.as_slice(), predecessor)
+    }
+
     /// The rows of the long-term plan.
     pub fn ltp(&self) -> &'a [Row]
         ensures rows { ListsSet of_row (shown self.now).sets.ltp IsAny result.now }
-        ensures count { AreNumbered (shown self.now).sets → length result.now ≡ size (shown self.now).sets.ltp (shown self.now).sets.issued }
+        ensures count { AreNumbered (shown self.now).sets → length result.now ≡ size (shown self.now).sets.ltp
+            (shown self.now).sets.issued }
     {
         self.content.ltp.as_slice()
     }
@@ -73,7 +113,8 @@ impl<'a> View<'a> {
     /// The rows of the current plan.
     pub fn cp(&self) -> &'a [CurrentRow]
         ensures rows { ListsSet of_current (shown self.now).sets.cp IsAny result.now }
-        ensures count { AreNumbered (shown self.now).sets → length result.now ≡ size (shown self.now).sets.cp (shown self.now).sets.issued }
+        ensures count { AreNumbered (shown self.now).sets → length result.now ≡ size (shown self.now).sets.cp
+            (shown self.now).sets.issued }
     {
         self.content.cp.as_slice()
     }
@@ -106,10 +147,13 @@ impl<'a> View<'a> {
         of_app(&self.content.history, app)
     }
 
-    /// The rows of the long-term plan that arrive before the moment.
+    /// The rows of the long-term plan that arrive before the moment, as a list of their own, which the change of a daily
+    /// plan takes. Looks at each row once.
     pub fn ltp_before(&self, alloc: Global, moment: Moment) -> Result<Vec<Row>, AllocError>
-        ensures rows { IfOk result (λ rows. ListsSet of_row (shown self.now).sets.ltp (λ row. row.key.ia < moment) rows.items) }
-        ensures count { AreNumbered (shown self.now).sets → IfOk result (λ rows. length rows.items ≡ size (λ serial. moved moment ((shown self.now).sets.ltp serial)) (shown self.now).sets.issued) }
+        ensures rows { IfOk result (λ rows. ListsSet of_row (shown self.now).sets.ltp (λ row. row.key.ia < moment)
+            rows.items) }
+        ensures count { AreNumbered (shown self.now).sets → IfOk result (λ rows. length rows.items
+            ≡ size (λ serial. moved moment ((shown self.now).sets.ltp serial)) (shown self.now).sets.issued) }
     {
         arriving_before(alloc, &self.content.ltp, moment)
     }
@@ -208,7 +252,8 @@ impl<'a> View<'a> {
     /// application that arrive at or before it, the one that arrives last; in its own application only those that
     /// arrive before it count.
     pub fn nearest(&self, key: &Key, app: &App) -> Option<Serial>
-        ensures { AreNumbered (shown self.now).sets → IsNearestAnswer (LiveAt (shown self.now).sets) key.now app.now result }
+        ensures { AreNumbered (shown self.now).sets → IsNearestAnswer (LiveAt (shown self.now).sets) key.now app.now
+            result }
     {
         let arrival = key.ia.number();
         let limit = if *app == key.app {

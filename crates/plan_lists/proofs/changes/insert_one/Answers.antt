@@ -10,7 +10,8 @@ pub returns-in-Ok-clause-inserted : goal.returns-in-Ok-clause-inserted
 returns-in-Ok-clause-inserted g c =
     let key = g.T.Keyed.key_of in
     let taken = rw (c.as_slice.ensures.value, c.key.ensures) at c.in-Ok.ensures.taken in
-    let has = has_at g.met.T.Key.Ord.total g.met.T.Keyed.ties key c.args.list.now.items (key c.args.item) c.in-Ok._at taken.0 taken.1 in
+    let has = has_at g.met.T.Key.Ord.total g.met.T.Keyed.ties key c.args.list.now.items (key c.args.item) c.in-Ok._at
+    taken.0 taken.1 in
     absurd (c.requires.new has.0 has.1 has.2)
 
 pub returns-in-Err-clause-keyed : goal.returns-in-Err-clause-keyed
@@ -19,8 +20,10 @@ returns-in-Err-clause-keyed g c =
     let xs = c.args.list.now.items in
     let free = (rw (c.as_slice.ensures.value, c.key.ensures) at c.in-Err.ensures.free) c.requires.keyed in
     let done : is_ok c.insert.result ≡ true = search rules in
-    let inserted : c.insert.new.self.items ≡ insert xs c.in-Err.at c.args.item = c.insert.ensures.items ∙ cond-true _ _ _ done in
-    rw inserted (insert_keyed g.met.T.Key.Ord.total g.met.T.Keyed.ties key xs c.requires.keyed c.args.item c.in-Err.at free.0 free.1)
+    let inserted : c.insert.new.self.items ≡ insert xs c.in-Err.at c.args.item = c.insert.ensures.items
+    ∙ cond-true _ _ _ done in
+    rw inserted (insert_keyed g.met.T.Key.Ord.total g.met.T.Keyed.ties key xs c.requires.keyed c.args.item c.in-Err.at
+    free.0 free.1)
 
 pub returns-in-Err-clause-inserted : goal.returns-in-Err-clause-inserted
 returns-in-Err-clause-inserted g c =
@@ -28,5 +31,6 @@ returns-in-Err-clause-inserted g c =
     let xs = c.args.list.now.items in
     let free = (rw (c.as_slice.ensures.value, c.key.ensures) at c.in-Err.ensures.free) c.requires.keyed in
     let done : is_ok c.insert.result ≡ true = search rules in
-    let inserted : c.insert.new.self.items ≡ insert xs c.in-Err.at c.args.item = c.insert.ensures.items ∙ cond-true _ _ _ done in
+    let inserted : c.insert.new.self.items ≡ insert xs c.in-Err.at c.args.item = c.insert.ensures.items
+    ∙ cond-true _ _ _ done in
     rw inserted (insert_contains g.met.T.Key.Ord.total g.met.T.Keyed.ties key xs c.in-Err.at c.args.item)

@@ -9,5 +9,6 @@ invariant-loop-item g l = record {
   length : vec_len l.list ≤ vec_len l.fn.list;
   capacity : vec_capacity l.list ≡ vec_capacity l.fn.list;
   keyed : IsKeyed g.T.Key.Ord.cmp g.T.Keyed.key_of l.list.items;
-  removed : (x : g.row.T.Denot) → Contains l.list.items x ↔ (Contains l.fn.list.items x × LacksKey g.T.Keyed.key_of (take l.item-index l.items) (g.T.Keyed.key_of x));
+  removed : (x : g.row.T.Denot) → Contains l.list.items x
+      ↔ (Contains l.fn.list.items x × LacksKey g.T.Keyed.key_of (take l.item-index l.items) (g.T.Keyed.key_of x));
 }

@@ -10,5 +10,6 @@ invariant-loop-item g l = record {
   capacity : vec_capacity l.list ≡ vec_capacity l.fn.list;
   keyed : IsKeyed g.T.Key.Ord.cmp g.T.Keyed.key_of l.list.items;
   has : (k : g.row.T-Key.Denot) → HasKey g.T.Keyed.key_of l.fn.list.items k → HasKey g.T.Keyed.key_of l.list.items k;
-  replaced : (x : g.row.T.Denot) → Contains l.list.items x ↔ (Contains (take l.item-index l.items) x ⊎ (Contains l.fn.list.items x × LacksKey g.T.Keyed.key_of (take l.item-index l.items) (g.T.Keyed.key_of x)));
+  replaced : (x : g.row.T.Denot) → Contains l.list.items x ↔ (Contains (take l.item-index l.items) x
+      ⊎ (Contains l.fn.list.items x × LacksKey g.T.Keyed.key_of (take l.item-index l.items) (g.T.Keyed.key_of x)));
 }

@@ -6,13 +6,15 @@ use Rattle.plan_lists.proofs.seats.note_rows.Goals as goal
 
 pub insert_all-requires-clause-sorted : goal.insert_all-requires-clause-sorted
 insert_all-requires-clause-sorted g c =
-    rw c.deref.ensures.value (c.sort.ensures.keyed (subst (AreApart itself) (sym c.in_ok-missing.ensures) (missing_apart g.T.PlanRow.row_of c.as_slice.result.now c.args.rows.now c.requires.once)))
+    rw c.deref.ensures.value (c.sort.ensures.keyed (subst (AreApart itself) (sym c.in_ok-missing.ensures)
+    (missing_apart g.T.PlanRow.row_of c.as_slice.result.now c.args.rows.now c.requires.once)))
 
 pub insert_all-requires-clause-new : goal.insert_all-requires-clause-new
 insert_all-requires-clause-new g c =
     rw (c.deref.ensures.value, c.reserve.ensures.items) (λ x there.
     let was = (c.sort.ensures.same x).0 there in
-    rw c.as_slice.ensures.value at (missing_new g.T.PlanRow.row_of c.as_slice.result.now c.args.rows.now x (subst (λ l. Contains l x) c.in_ok-missing.ensures was)))
+    rw c.as_slice.ensures.value at (missing_new g.T.PlanRow.row_of c.as_slice.result.now c.args.rows.now x
+    (subst (λ l. Contains l x) c.in_ok-missing.ensures was)))
 
 pub returns-clause-stay : goal.returns-clause-stay
 returns-clause-stay g c seat there =

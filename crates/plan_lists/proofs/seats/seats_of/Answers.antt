@@ -18,11 +18,19 @@ returns c are =
     let count = c.partition_point-count.result in
     let below = λ (x : Seat). is_lt (nat_cmp (serial_of x) m) in
     let upto = λ (x : Seat). is_le (nat_cmp (serial_of x) m) in
-    let whole : take (length xs - start) (drop start xs) ≡ drop start xs = take_all (length xs - start) (drop start xs) (omega (arith, length-drop start xs)) in
+    let whole : take (length xs - start) (drop start xs) ≡ drop start xs = take_all (length xs - start) (drop start xs)
+    (omega (arith, length-drop start xs)) in
     let rises = serials_rise xs are in
-    let parted' : IsPartitionedBy upto (take (length xs - start) (drop start xs)) = subst (IsPartitionedBy upto) (sym whole) (parted_upto nat_cmp_total serial_of (drop start xs) m (rises_drop nat_cmp_total serial_of xs start rises)) in
-    let point = IsPartitionPoint-from_clause below _ _ c.partition_point-start.ensures.partitioned (parted_below nat_cmp_total serial_of xs m rises) (λ a r q k. search rules) in
-    let point' = IsPartitionPoint-from_clause upto _ _ c.partition_point-count.ensures.partitioned parted' (λ a r q k. search rules) in
-    let here' : IsPartitionPoint (λ l. upto l ≡ true) (λ l. upto l ≡ false) (drop start xs) count = subst (λ ls. IsPartitionPoint (λ l. upto l ≡ true) (λ l. upto l ≡ false) ls count) whole point' in
-    let bound : count ≤ length (drop start xs) = omega (arith, c.partition_point-count.ensures.bound, ap length whole) in
-    rw whole (between nat_cmp_total serial_of nat_cmp-IsAntisymmetric xs m start count c.partition_point-start.ensures.bound point bound here')
+    let parted' : IsPartitionedBy upto (take (length xs - start) (drop start xs)) = subst (IsPartitionedBy upto)
+    (sym whole) (parted_upto nat_cmp_total serial_of (drop start xs) m (rises_drop nat_cmp_total serial_of xs start
+    rises)) in
+    let point = IsPartitionPoint-from_clause below _ _ c.partition_point-start.ensures.partitioned
+    (parted_below nat_cmp_total serial_of xs m rises) (λ a r q k. search rules) in
+    let point' = IsPartitionPoint-from_clause upto _ _ c.partition_point-count.ensures.partitioned parted'
+    (λ a r q k. search rules) in
+    let here' : IsPartitionPoint (λ l. upto l ≡ true) (λ l. upto l ≡ false) (drop start xs) count =
+    subst (λ ls. IsPartitionPoint (λ l. upto l ≡ true) (λ l. upto l ≡ false) ls count) whole point' in
+    let bound : count ≤ length (drop start xs) =
+    omega (arith, c.partition_point-count.ensures.bound, ap length whole) in
+    rw whole (between nat_cmp_total serial_of nat_cmp-IsAntisymmetric xs m start count
+    c.partition_point-start.ensures.bound point bound here')

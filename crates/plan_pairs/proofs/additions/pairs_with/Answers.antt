@@ -1,6 +1,8 @@
 use Rattle.std.proofs.Common.{◌≡◌, ◌++◌, ◌∷◌, ◌∙◌, List, [], ap, subst, sym}
 use Rattle.std.specs.Prelude.{IfOk, Result, Ok, Err}
+use Rattle.std.proofs.lemmas.List.{append-nil}
 use Rattle.occurrences.specs.declared.place.Place.{Place}
+use Rattle.occurrences.specs.declared.row.Row.{Row}
 use Rattle.external_dependencies.specs.Pair.{pair_cmp}
 use Rattle.external_dependencies.specs.Rising.{IsRising}
 use Rattle.external_dependencies.specs.declared.links.Link.{Link}
@@ -28,14 +30,16 @@ returns c = weaker c.pair_change.result _ _ (λ change are sound able.
     let content = shown c.args.view.now in
     let row = c.args.row.now in
     let s = with_made (place_in c.args.plan) (added row.key ∷ []) content.sets in
-    let before = c.in_ok-live_rows.field-0 in
+    let before = c.in_ok-live_rows_in.field-0 in
     let has : HasLists content.sets c.ltp.result.now c.cp.result.now c.history.result.now = record {
       sound = rows_sound content sound;
       ltp = of_set of_row content.sets.ltp c.ltp.result.now c.ltp.ensures.rows;
       cp = of_set of_current content.sets.cp c.cp.result.now c.cp.ensures.rows;
       history = of_set of_row content.sets.history c.history.result.now c.history.ensures;
     } in
-    let more = addable_live content sound c.args.plan row able before (c.in_ok-live_rows.ensures content.sets has) in
+    let more = addable_live content sound c.args.plan row able before (c.in_ok-live_rows_in.ensures content.sets
+    (subst (λ (planned : List Row). HasLists content.sets planned c.cp.result.now c.history.result.now)
+    (sym (append-nil c.ltp.result.now)) has)) in
     let placed : c.push.new.self.items ≡ before ++ (record { row = row; place = place_in c.args.plan }) ∷ [] =
     c.in_ok-push.ensures.items
     ∙ ap (λ (rs : List PlacedRow). rs ++ (record { row = row; place = c.place-place.result }) ∷ [])

@@ -14,7 +14,8 @@ pub returns-in-Ok-clause-kept : goal.returns-in-Ok-clause-kept
 returns-in-Ok-clause-kept c =
     let jobs = c.args.jobs.now.items in
     let taken = rw c.deref.ensures.value at c.in-Ok.ensures.taken in
-    let has = has_at nat_cmp_total nat_cmp-IsAntisymmetric number_of jobs c.args.job.number c.in-Ok._at taken.0 taken.1 in
+    let has = has_at nat_cmp_total nat_cmp-IsAntisymmetric number_of jobs c.args.job.number c.in-Ok._at taken.0
+    taken.1 in
     absurd (look_none number_of jobs c.args.job.number c.requires.new has.0 has.1 has.2)
 
 pub returns-in-Err-clause-numbered : goal.returns-in-Err-clause-numbered
@@ -22,12 +23,16 @@ returns-in-Err-clause-numbered c =
     let jobs = c.args.jobs.now.items in
     let free = (rw c.deref.ensures.value at c.in-Err.ensures.free) c.requires.numbered in
     let done : is_ok c.insert.result ≡ true = search rules in
-    let inserted : c.insert.new.self.items ≡ insert jobs c.in-Err.at c.args.job = c.insert.ensures.items ∙ cond-true _ _ _ done in
-    rw inserted (insert_keyed nat_cmp_total nat_cmp-IsAntisymmetric number_of jobs c.requires.numbered c.args.job c.in-Err.at free.0 free.1)
+    let inserted : c.insert.new.self.items ≡ insert jobs c.in-Err.at c.args.job = c.insert.ensures.items
+    ∙ cond-true _ _ _ done in
+    rw inserted (insert_keyed nat_cmp_total nat_cmp-IsAntisymmetric number_of jobs c.requires.numbered c.args.job
+    c.in-Err.at free.0 free.1)
 
 pub returns-in-Err-clause-kept : goal.returns-in-Err-clause-kept
 returns-in-Err-clause-kept c =
     let jobs = c.args.jobs.now.items in
     let done : is_ok c.insert.result ≡ true = search rules in
-    let inserted : c.insert.new.self.items ≡ insert jobs c.in-Err.at c.args.job = c.insert.ensures.items ∙ cond-true _ _ _ done in
-    rw inserted (look_kept jobs (insert jobs c.in-Err.at c.args.job) c.args.job (one_jobs jobs c.requires.numbered) (insert_contains nat_cmp_total nat_cmp-IsAntisymmetric number_of jobs c.in-Err.at c.args.job) c.requires.new)
+    let inserted : c.insert.new.self.items ≡ insert jobs c.in-Err.at c.args.job = c.insert.ensures.items
+    ∙ cond-true _ _ _ done in
+    rw inserted (look_kept jobs (insert jobs c.in-Err.at c.args.job) c.args.job (one_jobs jobs c.requires.numbered)
+    (insert_contains nat_cmp_total nat_cmp-IsAntisymmetric number_of jobs c.in-Err.at c.args.job) c.requires.new)

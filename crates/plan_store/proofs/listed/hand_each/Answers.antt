@@ -1,7 +1,7 @@
 use Rattle.std.proofs.Common.{◌≡◌, suc, ◌+◌, ◌∷◌, [], ◌++◌, ◌∙◌, ap, sym, subst, take, drop, map, Bor}
-use Rattle.std.proofs.lemmas.List.{map_more, map-append}
+use Rattle.std.proofs.lemmas.List.{map_more}
 use Rattle.plan_store.specs.Listed.{shown_as}
-use Rattle.plan_store.specs.Listings.{Shown, TakesAll}
+use Rattle.plan_store.specs.Listings.{TakesAll}
 use Rattle.plan_store.proofs.ListedLemmas.{map_rest, map_split, takes_more}
 use Rattle.plan_store.proofs.listed.hand_each.Goals as goal
 
@@ -11,8 +11,11 @@ loop-x-preserved g c =
     let i = c.loop-x.x-index in
     let x = c.x-item.result in
     let f = λ (b : Bor g.row.T.Denot). shown_as g.T.PlanRow.row_of g.T.Lettered.letter_of c.args.is_plain b.now in
-    let more : map f (take (i + 1) rows) ≡ map f (take i rows) ++ f x ∷ [] = map_more f rows i x c.loop-x-test.true ∙ ap (λ b. map f (take i rows) ++ f b ∷ []) (sym c.x-item.is) in
-    subst (λ l. TakesAll g.K.RowSink.takes c.args.sink.now l c.hand.new.sink) (sym more) (takes_more g.K.RowSink.takes c.args.sink.now (map f (take i rows)) c.loop-x.sink (f x) c.hand.new.sink c.loop-x.invariant c.in-Ok.ensures.taken)
+    let more : map f (take (i + 1) rows) ≡ map f (take i rows) ++ f x ∷ [] = map_more f rows i x c.loop-x-test.true
+    ∙ ap (λ b. map f (take i rows) ++ f b ∷ []) (sym c.x-item.is) in
+    subst (λ l. TakesAll g.K.RowSink.takes c.args.sink.now l c.hand.new.sink) (sym more)
+    (takes_more g.K.RowSink.takes c.args.sink.now (map f (take i rows)) c.loop-x.sink (f x) c.hand.new.sink
+    c.loop-x.invariant c.in-Ok.ensures.taken)
 
 pub returns-in-Err-clause-part : goal.returns-in-Err-clause-part
 returns-in-Err-clause-part g c =
@@ -24,7 +27,14 @@ returns-in-Err-clause-part g c =
       done = map f (take i rows);
       rest = map f (drop i rows);
       parts = map_split f i rows;
-      ends = (c.loop-x.sink, f x, map f (drop (suc i) rows), map_rest f i rows x c.loop-x-test.true c.x-item.is, c.loop-x.invariant, c.in-Err.ensures.refused);
+      ends = (
+        c.loop-x.sink,
+        f x,
+        map f (drop (suc i) rows),
+        map_rest f i rows x c.loop-x-test.true c.x-item.is,
+        c.loop-x.invariant,
+        c.in-Err.ensures.refused,
+      );
     }
 
 pub returns-in-Err-clause-blames : goal.returns-in-Err-clause-blames

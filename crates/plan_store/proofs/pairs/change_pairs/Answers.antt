@@ -11,20 +11,25 @@ use Rattle.plan_lists.specs.Keyed.{holds_key}
 use Rattle.plan_lists.specs.Ties.{pair_ties}
 use Rattle.plan_lists.proofs.KeyLemmas.{contains_filter, filter_contains, holds_lacks}
 use Rattle.plan_store.specs.Changes.{pairs_after}
-use Rattle.plan_store.proofs.PairLemmas.{held_pair, is_new, itself, pair_total, pairs_after_contains, pairs_after_rising, same_pairs}
+use Rattle.plan_store.proofs.PairLemmas.{held_pair, is_new, itself, pair_total, pairs_after_contains}
+use Rattle.plan_store.proofs.PairLemmas.{pairs_after_rising, same_pairs}
 use Rattle.plan_store.proofs.pairs.change_pairs.Goals as goal
 
 pub insert_all-requires-clause-sorted : goal.insert_all-requires-clause-sorted
 insert_all-requires-clause-sorted c =
     let rest = c.remove_all.new.list.items in
-    let kept : c.retain.new.self.items ≡ filter (is_new rest) c.into_vec-new.result.items = filter_same _ (is_new rest) _ (λ x b f' k. search rules) _ _ c.retain.ensures.filtered in
-    rw (c.deref.ensures.value, kept, c.into_vec-new.ensures.all) (AllPairs-filter (λ x y. pair_cmp x y ≡ Less) (is_new rest) c.args.change.added c.into_vec-new.ensures.rising)
+    let kept : c.retain.new.self.items ≡ filter (is_new rest) c.into_vec-new.result.items = filter_same _ (is_new rest)
+    _ (λ x b f' k. search rules) _ _ c.retain.ensures.filtered in
+    rw (c.deref.ensures.value, kept, c.into_vec-new.ensures.all) (AllPairs-filter (λ x y. pair_cmp x y ≡ Less)
+    (is_new rest) c.args.change.added c.into_vec-new.ensures.rising)
 
 pub insert_all-requires-clause-new : goal.insert_all-requires-clause-new
 insert_all-requires-clause-new c =
     let rest = c.remove_all.new.list.items in
-    let kept : c.retain.new.self.items ≡ filter (is_new rest) c.into_vec-new.result.items = filter_same _ (is_new rest) _ (λ x b f' k. search rules) _ _ c.retain.ensures.filtered in
-    rw (c.deref.ensures.value, kept) (λ x there. holds_lacks pair_total pair_ties itself rest x (not-true _ (contains_filter (is_new rest) c.into_vec-new.result.items x there).1))
+    let kept : c.retain.new.self.items ≡ filter (is_new rest) c.into_vec-new.result.items = filter_same _ (is_new rest)
+    _ (λ x b f' k. search rules) _ _ c.retain.ensures.filtered in
+    rw (c.deref.ensures.value, kept) (λ x there. holds_lacks pair_total pair_ties itself rest x
+    (not-true _ (contains_filter (is_new rest) c.into_vec-new.result.items x there).1))
 
 pub returns-clause-changed : goal.returns-clause-changed
 returns-clause-changed c =
@@ -32,8 +37,10 @@ returns-clause-changed c =
     let pairs = c.args.pairs.now.items in
     let rest = c.remove_all.new.list.items in
     let new = c.insert_all.new.list.items in
-    let kept : c.retain.new.self.items ≡ filter (is_new rest) c.into_vec-new.result.items = filter_same _ (is_new rest) _ (λ x b f' k. search rules) _ _ c.retain.ensures.filtered in
-    let fresh : c.deref.result.now ≡ filter (is_new rest) change.added = c.deref.ensures.value ∙ kept ∙ ap (filter (is_new rest)) c.into_vec-new.ensures.all in
+    let kept : c.retain.new.self.items ≡ filter (is_new rest) c.into_vec-new.result.items = filter_same _ (is_new rest)
+    _ (λ x b f' k. search rules) _ _ c.retain.ensures.filtered in
+    let fresh : c.deref.result.now ≡ filter (is_new rest) change.added = c.deref.ensures.value ∙ kept
+    ∙ ap (filter (is_new rest)) c.into_vec-new.ensures.all in
     let removed = rw c.as_slice.ensures.all at c.remove_all.ensures.removed in
     let inserted = rw fresh at c.insert_all.ensures.inserted in
     let same : (z : Pair) → Contains new z ↔ Contains (pairs_after change pairs) z = λ z.
@@ -43,11 +50,15 @@ returns-clause-changed c =
         | inr old ↦ let is = (removed z).0 old in after.1 (inr (is.0, λ gone. is.1 z gone refl))
       ]),
       λ there. elim (after.0 there) [
-        | inl added ↦ elim (holds_key pair_cmp itself rest z) as (λ b. holds_key pair_cmp itself rest z ≡ b → Contains new z) [
-          | true ↦ λ is. (inserted z).1 (inr (held_pair rest z is))
-          | false ↦ λ is. (inserted z).1 (inl (filter_contains (is_new rest) change.added z added (not_from_false _ is)))
-        ] refl
-        | inr old ↦ (inserted z).1 (inr ((removed z).1 (old.0, λ y at_y same. old.1 (subst (Contains change.removed) same at_y))))
+        | inl added ↦ elim (holds_key pair_cmp itself rest z) as (λ b. holds_key pair_cmp itself rest z ≡ b
+            → Contains new z) [
+              | true ↦ λ is. (inserted z).1 (inr (held_pair rest z is))
+              | false ↦ λ is. (inserted z).1 (inl (filter_contains (is_new rest) change.added z added
+                  (not_from_false _ is)))
+            ] refl
+        | inr old ↦ (inserted z).1 (inr
+            ((removed z).1 (old.0, λ y at_y same. old.1 (subst (Contains change.removed) same at_y))))
       ],
     ) in
-    same_pairs new (pairs_after change pairs) c.insert_all.ensures.keyed (pairs_after_rising change pairs c.requires.rising) same
+    same_pairs new (pairs_after change pairs) c.insert_all.ensures.keyed
+    (pairs_after_rising change pairs c.requires.rising) same

@@ -7,7 +7,8 @@ use Rattle.std.specs.Cmp.Lexicographic.{slice_cmp}
 use Rattle.std.specs.Ordering.{nat_cmp, is_lt, is_le}
 use Rattle.external_dependencies.specs.Arrival.{arrival_cmp}
 use Rattle.external_dependencies.specs.Nearest.{arrival_of}
-use Rattle.plan_lists.proofs.SliceLemmas.{between, drop_keyed, name_ties, parted_below, parted_upto, rises_drop, take_keyed}
+use Rattle.plan_lists.proofs.SliceLemmas.{between, drop_keyed, name_ties, parted_below, parted_upto, rises_drop}
+use Rattle.plan_lists.proofs.SliceLemmas.{take_keyed}
 use Rattle.plan_store.proofs.SliceLemmas.{apps_rise}
 use Rattle.plan_store.proofs.slices.of_app.Goals as goal
 
@@ -17,8 +18,10 @@ returns-clause-keyed g c keyed =
     let start = c.partition_point-start.result in
     let count = c.partition_point-count.result in
     let key = λ (x : g.row.T.Denot). arrival_of (g.T.PlanRow.row_of x) in
-    let whole : take (length xs - start) (drop start xs) ≡ drop start xs = take_all (length xs - start) (drop start xs) (omega (arith, length-drop start xs)) in
-    let bound : count ≤ length (drop start xs) = omega (arith, c.partition_point-count.ensures.bound, ap length whole) in
+    let whole : take (length xs - start) (drop start xs) ≡ drop start xs = take_all (length xs - start) (drop start xs)
+    (omega (arith, length-drop start xs)) in
+    let bound : count ≤ length (drop start xs) =
+    omega (arith, c.partition_point-count.ensures.bound, ap length whole) in
     rw whole (take_keyed arrival_cmp key (drop start xs) (drop_keyed arrival_cmp key xs keyed start) count bound)
 
 pub returns-clause-all : goal.returns-clause-all
@@ -30,12 +33,20 @@ returns-clause-all g c keyed =
     let f = λ (x : g.row.T.Denot). (g.T.PlanRow.row_of x).key.app in
     let below = λ (x : g.row.T.Denot). is_lt (slice_cmp nat_cmp (f x) m) in
     let upto = λ (x : g.row.T.Denot). is_le (slice_cmp nat_cmp (f x) m) in
-    let whole : take (length xs - start) (drop start xs) ≡ drop start xs = take_all (length xs - start) (drop start xs) (omega (arith, length-drop start xs)) in
+    let whole : take (length xs - start) (drop start xs) ≡ drop start xs = take_all (length xs - start) (drop start xs)
+    (omega (arith, length-drop start xs)) in
     let rises = apps_rise g.T.PlanRow.row_of c.args.list.now keyed in
-    let parted' : IsPartitionedBy upto (take (length xs - start) (drop start xs)) = subst (IsPartitionedBy upto) (sym whole) (parted_upto nat_list_cmp_total f (drop start xs) m (rises_drop nat_list_cmp_total f xs start rises)) in
-    let point = IsPartitionPoint-from_clause below _ _ c.partition_point-start.ensures.partitioned (parted_below nat_list_cmp_total f xs m rises) (λ a r q k. search rules) in
-    let point' = IsPartitionPoint-from_clause upto _ _ c.partition_point-count.ensures.partitioned parted' (λ a r q k. search rules) in
-    let here' : IsPartitionPoint (λ l. upto l ≡ true) (λ l. upto l ≡ false) (drop start xs) count = subst (λ ls. IsPartitionPoint (λ l. upto l ≡ true) (λ l. upto l ≡ false) ls count) whole point' in
-    let bound : count ≤ length (drop start xs) = omega (arith, c.partition_point-count.ensures.bound, ap length whole) in
-    let is = between nat_list_cmp_total f name_ties xs m start count c.partition_point-start.ensures.bound point bound here' in
+    let parted' : IsPartitionedBy upto (take (length xs - start) (drop start xs)) = subst (IsPartitionedBy upto)
+    (sym whole) (parted_upto nat_list_cmp_total f (drop start xs) m (rises_drop nat_list_cmp_total f xs start
+    rises)) in
+    let point = IsPartitionPoint-from_clause below _ _ c.partition_point-start.ensures.partitioned
+    (parted_below nat_list_cmp_total f xs m rises) (λ a r q k. search rules) in
+    let point' = IsPartitionPoint-from_clause upto _ _ c.partition_point-count.ensures.partitioned parted'
+    (λ a r q k. search rules) in
+    let here' : IsPartitionPoint (λ l. upto l ≡ true) (λ l. upto l ≡ false) (drop start xs) count =
+    subst (λ ls. IsPartitionPoint (λ l. upto l ≡ true) (λ l. upto l ≡ false) ls count) whole point' in
+    let bound : count ≤ length (drop start xs) =
+    omega (arith, c.partition_point-count.ensures.bound, ap length whole) in
+    let is = between nat_list_cmp_total f name_ties xs m start count c.partition_point-start.ensures.bound point bound
+    here' in
     rw whole is

@@ -18,10 +18,13 @@ loop-seat-preserved g c x there front same =
     let found = c.seats_of-found.result.now in
     let index = c.loop-seat.seat-index in
     let seat = c.seat-item.result in
-    let more : take (index + 1) found ≡ take index found ++ seat ∷ [] = take_more found index seat c.loop-seat-test.true ∙ ap (λ y. take index found ++ y ∷ []) (sym c.seat-item.is) in
-    elim (Contains-append_cases (take index found) (seat ∷ []) (seat_of row) (subst (λ l. Contains l (seat_of row)) more front)) [
+    let more : take (index + 1) found ≡ take index found ++ seat ∷ [] = take_more found index seat c.loop-seat-test.true
+    ∙ ap (λ y. take index found ++ y ∷ []) (sym c.seat-item.is) in
+    elim (Contains-append_cases (take index found) (seat ∷ []) (seat_of row) (subst (λ l. Contains l (seat_of row)) more
+    front)) [
       | inl before ↦ c.loop-seat.invariant x there before same
-      | inr last ↦ c.in-None.ensures x ((c.of_key.ensures.all c.requires.keyed x).1 (there, ap key_at (sym (one_is seat (seat_of row) last)))) same
+      | inr last ↦ c.in-None.ensures x ((c.of_key.ensures.all c.requires.keyed x).1
+          (there, ap key_at (sym (one_is seat (seat_of row) last)))) same
     ]
 
 pub returns : goal.returns
@@ -30,5 +33,6 @@ returns g c x there same =
     let row = g.T.PlanRow.row_of x in
     let found = c.seats_of-found.result.now in
     let whole : take c.loop-seat.seat-index found ≡ found = take_all c.loop-seat.seat-index found (omega arith) in
-    let held = (c.seats_of-found.ensures c.requires.order (seat_of row)).1 (seat_held seats (seat_of row) (c.requires.seated x there), same) in
+    let held = (c.seats_of-found.ensures c.requires.order (seat_of row)).1
+    (seat_held seats (seat_of row) (c.requires.seated x there), same) in
     c.loop-seat.invariant x there (subst (λ l. Contains l (seat_of row)) (sym whole) held) same

@@ -16,10 +16,16 @@ invariant_of-self c =
       deletion_rows = c.move_rows-4.ensures.rows;
       numbered_jobs = c.keep_job.ensures.numbered;
       seat_order = kept.seat_order;
-      ltp_seats = seats_after of_row change.ltp kept.ltp.items c.move_rows.new.list.items kept.seats.items c.move_rows.ensures.rows c.move_rows.ensures.moved c.requires.fits.ltp kept.ltp_seats room.ltp_seats;
-      cp_seats = seats_after of_current change.cp kept.cp.items c.move_rows-2.new.list.items kept.seats.items c.move_rows-2.ensures.rows c.move_rows-2.ensures.moved c.requires.fits.cp kept.cp_seats room.cp_seats;
-      history_seats = seats_after of_row change.history kept.history.items c.move_rows-3.new.list.items kept.seats.items c.move_rows-3.ensures.rows c.move_rows-3.ensures.moved c.requires.fits.history kept.history_seats room.history_seats;
-      deletion_seats = seats_after of_deletion change.deletions kept.deletions.items c.move_rows-4.new.list.items kept.seats.items c.move_rows-4.ensures.rows c.move_rows-4.ensures.moved c.requires.fits.deletions kept.deletion_seats room.deletion_seats;
+      ltp_seats = seats_after of_row change.ltp kept.ltp.items c.move_rows.new.list.items kept.seats.items
+          c.move_rows.ensures.rows c.move_rows.ensures.moved c.requires.fits.ltp kept.ltp_seats room.ltp_seats;
+      cp_seats = seats_after of_current change.cp kept.cp.items c.move_rows-2.new.list.items kept.seats.items
+          c.move_rows-2.ensures.rows c.move_rows-2.ensures.moved c.requires.fits.cp kept.cp_seats room.cp_seats;
+      history_seats = seats_after of_row change.history kept.history.items c.move_rows-3.new.list.items kept.seats.items
+          c.move_rows-3.ensures.rows c.move_rows-3.ensures.moved c.requires.fits.history kept.history_seats
+          room.history_seats;
+      deletion_seats = seats_after of_deletion change.deletions kept.deletions.items c.move_rows-4.new.list.items
+          kept.seats.items c.move_rows-4.ensures.rows c.move_rows-4.ensures.moved c.requires.fits.deletions
+          kept.deletion_seats room.deletion_seats;
     }
 
 pub returns : goal.returns

@@ -1,4 +1,4 @@
-use Rattle.std.proofs.Common.{true, false, refl, sym}
+use Rattle.std.proofs.Common.{true, false, refl}
 use Rattle.std.specs.Prelude.{option_copied}
 use Rattle.occurrences.specs.Place.{reason_letter}
 use Rattle.occurrences.specs.Status.{status_letter}
@@ -11,7 +11,8 @@ use Rattle.plan_lists.specs.Rows.{of_current, of_deletion, of_row}
 use Rattle.plan_store.specs.Contents.{content_of}
 use Rattle.plan_store.specs.Listed.{ShowsSet}
 use Rattle.plan_store.specs.Listings.{ShowRows}
-use Rattle.plan_store.proofs.ShownLemmas.{lists_links, pairs_all, pairs_part, shows_cp, shows_deletions, shows_history, shows_ltp, whole_all, whole_part}
+use Rattle.plan_store.proofs.ShownLemmas.{lists_links, pairs_all, pairs_part, shows_cp, shows_deletions, shows_history}
+use Rattle.plan_store.proofs.ShownLemmas.{shows_ltp, whole_all, whole_part}
 use Rattle.plan_store.proofs.contents.Content.rows_to.Goals as goal
 
 pub returns-in-Ltp-clause-all : goal.returns-in-Ltp-clause-all
@@ -19,65 +20,97 @@ returns-in-Ltp-clause-all g c numbered =
     let kept = c.args.self.now in
     let app = option_copied c.args.app in
     let h = rw c.deref.ensures.value at c.hand_rows.ensures.all in
-    rw c.in-Ltp.is (whole_all g.K.RowSink.takes g.K.RowSink.refuses c.args.sink.now c.hand_rows.new.sink (ShowsSet of_row (λ (_ : Row). status_letter C) true kept.ltp.items app) (ShowRows LongTermPlan app (content_of kept)) (shows_ltp (content_of kept) numbered (λ (_ : Row). status_letter C) kept.ltp.items kept.ltp_rows (λ _. refl) app) c.hand_rows.result (h kept.ltp_rows))
+    rw c.in-Ltp.is (whole_all g.K.RowSink.takes g.K.RowSink.refuses c.args.sink.now c.hand_rows.new.sink
+    (ShowsSet of_row (λ (_ : Row). status_letter C) true kept.ltp.items app)
+    (ShowRows LongTermPlan app (content_of kept))
+    (shows_ltp (content_of kept) numbered (λ (_ : Row). status_letter C) kept.ltp.items kept.ltp_rows (λ _. refl)
+    app) c.hand_rows.result (h kept.ltp_rows))
 
 pub returns-in-Ltp-clause-part : goal.returns-in-Ltp-clause-part
 returns-in-Ltp-clause-part g c numbered =
     let kept = c.args.self.now in
     let app = option_copied c.args.app in
     let h = rw c.deref.ensures.value at c.hand_rows.ensures.part in
-    rw c.in-Ltp.is (whole_part g.K.RowSink.takes g.K.RowSink.refuses c.args.sink.now c.hand_rows.new.sink (ShowsSet of_row (λ (_ : Row). status_letter C) true kept.ltp.items app) (ShowRows LongTermPlan app (content_of kept)) (shows_ltp (content_of kept) numbered (λ (_ : Row). status_letter C) kept.ltp.items kept.ltp_rows (λ _. refl) app) c.hand_rows.result (h kept.ltp_rows))
+    rw c.in-Ltp.is (whole_part g.K.RowSink.takes g.K.RowSink.refuses c.args.sink.now c.hand_rows.new.sink
+    (ShowsSet of_row (λ (_ : Row). status_letter C) true kept.ltp.items app)
+    (ShowRows LongTermPlan app (content_of kept))
+    (shows_ltp (content_of kept) numbered (λ (_ : Row). status_letter C) kept.ltp.items kept.ltp_rows (λ _. refl)
+    app) c.hand_rows.result (h kept.ltp_rows))
 
 pub returns-in-Cp-clause-all : goal.returns-in-Cp-clause-all
 returns-in-Cp-clause-all g c numbered =
     let kept = c.args.self.now in
     let app = option_copied c.args.app in
     let h = rw c.deref-in-Cp.ensures.value at c.hand_rows-in-Cp.ensures.all in
-    rw c.in-Cp.is (whole_all g.K.RowSink.takes g.K.RowSink.refuses c.args.sink.now c.hand_rows-in-Cp.new.sink (ShowsSet of_current (λ (x : CurrentRow). status_letter x.status) false kept.cp.items app) (ShowRows CurrentPlan app (content_of kept)) (shows_cp (content_of kept) numbered kept.cp.items kept.cp_rows (λ _. refl) app) c.hand_rows-in-Cp.result (h kept.cp_rows))
+    rw c.in-Cp.is (whole_all g.K.RowSink.takes g.K.RowSink.refuses c.args.sink.now c.hand_rows-in-Cp.new.sink
+    (ShowsSet of_current (λ (x : CurrentRow). status_letter x.status) false kept.cp.items app)
+    (ShowRows CurrentPlan app (content_of kept)) (shows_cp (content_of kept) numbered kept.cp.items kept.cp_rows
+    (λ _. refl) app) c.hand_rows-in-Cp.result (h kept.cp_rows))
 
 pub returns-in-Cp-clause-part : goal.returns-in-Cp-clause-part
 returns-in-Cp-clause-part g c numbered =
     let kept = c.args.self.now in
     let app = option_copied c.args.app in
     let h = rw c.deref-in-Cp.ensures.value at c.hand_rows-in-Cp.ensures.part in
-    rw c.in-Cp.is (whole_part g.K.RowSink.takes g.K.RowSink.refuses c.args.sink.now c.hand_rows-in-Cp.new.sink (ShowsSet of_current (λ (x : CurrentRow). status_letter x.status) false kept.cp.items app) (ShowRows CurrentPlan app (content_of kept)) (shows_cp (content_of kept) numbered kept.cp.items kept.cp_rows (λ _. refl) app) c.hand_rows-in-Cp.result (h kept.cp_rows))
+    rw c.in-Cp.is (whole_part g.K.RowSink.takes g.K.RowSink.refuses c.args.sink.now c.hand_rows-in-Cp.new.sink
+    (ShowsSet of_current (λ (x : CurrentRow). status_letter x.status) false kept.cp.items app)
+    (ShowRows CurrentPlan app (content_of kept)) (shows_cp (content_of kept) numbered kept.cp.items kept.cp_rows
+    (λ _. refl) app) c.hand_rows-in-Cp.result (h kept.cp_rows))
 
 pub returns-in-History-clause-all : goal.returns-in-History-clause-all
 returns-in-History-clause-all g c numbered =
     let kept = c.args.self.now in
     let app = option_copied c.args.app in
     let h = rw c.deref-in-History.ensures.value at c.hand_rows-in-History.ensures.all in
-    rw c.in-History.is (whole_all g.K.RowSink.takes g.K.RowSink.refuses c.args.sink.now c.hand_rows-in-History.new.sink (ShowsSet of_row (λ (_ : Row). status_letter C) false kept.history.items app) (ShowRows InHistory app (content_of kept)) (shows_history (content_of kept) numbered kept.history.items kept.history_rows (λ _. refl) app) c.hand_rows-in-History.result (h kept.history_rows))
+    rw c.in-History.is (whole_all g.K.RowSink.takes g.K.RowSink.refuses c.args.sink.now c.hand_rows-in-History.new.sink
+    (ShowsSet of_row (λ (_ : Row). status_letter C) false kept.history.items app)
+    (ShowRows InHistory app (content_of kept)) (shows_history (content_of kept) numbered kept.history.items
+    kept.history_rows (λ _. refl) app) c.hand_rows-in-History.result (h kept.history_rows))
 
 pub returns-in-History-clause-part : goal.returns-in-History-clause-part
 returns-in-History-clause-part g c numbered =
     let kept = c.args.self.now in
     let app = option_copied c.args.app in
     let h = rw c.deref-in-History.ensures.value at c.hand_rows-in-History.ensures.part in
-    rw c.in-History.is (whole_part g.K.RowSink.takes g.K.RowSink.refuses c.args.sink.now c.hand_rows-in-History.new.sink (ShowsSet of_row (λ (_ : Row). status_letter C) false kept.history.items app) (ShowRows InHistory app (content_of kept)) (shows_history (content_of kept) numbered kept.history.items kept.history_rows (λ _. refl) app) c.hand_rows-in-History.result (h kept.history_rows))
+    rw c.in-History.is (whole_part g.K.RowSink.takes g.K.RowSink.refuses c.args.sink.now c.hand_rows-in-History.new.sink
+    (ShowsSet of_row (λ (_ : Row). status_letter C) false kept.history.items app)
+    (ShowRows InHistory app (content_of kept)) (shows_history (content_of kept) numbered kept.history.items
+    kept.history_rows (λ _. refl) app) c.hand_rows-in-History.result (h kept.history_rows))
 
 pub returns-in-Deletions-clause-all : goal.returns-in-Deletions-clause-all
 returns-in-Deletions-clause-all g c numbered =
     let kept = c.args.self.now in
     let app = option_copied c.args.app in
     let h = rw c.deref-in-Deletions.ensures.value at c.hand_rows-in-Deletions.ensures.all in
-    rw c.in-Deletions.is (whole_all g.K.RowSink.takes g.K.RowSink.refuses c.args.sink.now c.hand_rows-in-Deletions.new.sink (ShowsSet of_deletion (λ (x : Deletion). reason_letter x.reason) false kept.deletions.items app) (ShowRows InDeletions app (content_of kept)) (shows_deletions (content_of kept) numbered kept.deletions.items kept.deletion_rows (λ _. refl) app) c.hand_rows-in-Deletions.result (h kept.deletion_rows))
+    rw c.in-Deletions.is (whole_all g.K.RowSink.takes g.K.RowSink.refuses c.args.sink.now
+    c.hand_rows-in-Deletions.new.sink (ShowsSet of_deletion (λ (x : Deletion). reason_letter x.reason) false
+    kept.deletions.items app) (ShowRows InDeletions app (content_of kept))
+    (shows_deletions (content_of kept) numbered kept.deletions.items kept.deletion_rows (λ _. refl) app)
+    c.hand_rows-in-Deletions.result (h kept.deletion_rows))
 
 pub returns-in-Deletions-clause-part : goal.returns-in-Deletions-clause-part
 returns-in-Deletions-clause-part g c numbered =
     let kept = c.args.self.now in
     let app = option_copied c.args.app in
     let h = rw c.deref-in-Deletions.ensures.value at c.hand_rows-in-Deletions.ensures.part in
-    rw c.in-Deletions.is (whole_part g.K.RowSink.takes g.K.RowSink.refuses c.args.sink.now c.hand_rows-in-Deletions.new.sink (ShowsSet of_deletion (λ (x : Deletion). reason_letter x.reason) false kept.deletions.items app) (ShowRows InDeletions app (content_of kept)) (shows_deletions (content_of kept) numbered kept.deletions.items kept.deletion_rows (λ _. refl) app) c.hand_rows-in-Deletions.result (h kept.deletion_rows))
+    rw c.in-Deletions.is (whole_part g.K.RowSink.takes g.K.RowSink.refuses c.args.sink.now
+    c.hand_rows-in-Deletions.new.sink (ShowsSet of_deletion (λ (x : Deletion). reason_letter x.reason) false
+    kept.deletions.items app) (ShowRows InDeletions app (content_of kept))
+    (shows_deletions (content_of kept) numbered kept.deletions.items kept.deletion_rows (λ _. refl) app)
+    c.hand_rows-in-Deletions.result (h kept.deletion_rows))
 
 pub returns-in-Dependencies-clause-all : goal.returns-in-Dependencies-clause-all
 returns-in-Dependencies-clause-all g c numbered =
     let kept = c.args.self.now in
     let app = option_copied c.args.app in
-    rw c.in-Dependencies.is (pairs_all g.K.RowSink.takes g.K.RowSink.refuses c.args.sink.now c.hand_pairs.new.sink (content_of kept) app (lists_links (content_of kept) app numbered c.hand_pairs.ensures.rising) c.hand_pairs.result (c.hand_pairs.ensures.all numbered))
+    rw c.in-Dependencies.is (pairs_all g.K.RowSink.takes g.K.RowSink.refuses c.args.sink.now c.hand_pairs.new.sink
+    (content_of kept) app (lists_links (content_of kept) app numbered c.hand_pairs.ensures.rising)
+    c.hand_pairs.result (c.hand_pairs.ensures.all numbered))
 
 pub returns-in-Dependencies-clause-part : goal.returns-in-Dependencies-clause-part
 returns-in-Dependencies-clause-part g c numbered =
     let kept = c.args.self.now in
     let app = option_copied c.args.app in
-    rw c.in-Dependencies.is (pairs_part g.K.RowSink.takes g.K.RowSink.refuses c.args.sink.now c.hand_pairs.new.sink (content_of kept) app (lists_links (content_of kept) app numbered c.hand_pairs.ensures.rising) c.hand_pairs.result (c.hand_pairs.ensures.part numbered))
+    rw c.in-Dependencies.is (pairs_part g.K.RowSink.takes g.K.RowSink.refuses c.args.sink.now c.hand_pairs.new.sink
+    (content_of kept) app (lists_links (content_of kept) app numbered c.hand_pairs.ensures.rising)
+    c.hand_pairs.result (c.hand_pairs.ensures.part numbered))

@@ -13,4 +13,5 @@ pub returns-clause-count : goal.returns-clause-count
 returns-clause-count c numbered =
     let kept = c.args.self.now.content.now in
     let rows = kept.cp.items in
-    rw c.as_slice.ensures.value (size_listed of_current kept.issued rows (once_from_rows of_current rows kept.cp_rows) (within_cp (content_of kept).sets numbered rows kept.cp_rows (λ serial. refl)))
+    rw c.as_slice.ensures.value (size_listed of_current kept.issued rows (once_from_rows of_current rows kept.cp_rows)
+    (within_cp (content_of kept).sets numbered rows kept.cp_rows (λ serial. refl)))

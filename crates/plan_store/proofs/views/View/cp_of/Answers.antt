@@ -9,4 +9,5 @@ returns c =
     let kept = c.args.self.now.content.now in
     let app = c.args.app.now in
     let is = rw c.deref.ensures.value at c.of_app.ensures in
-    lists_part of_current (λ (x : CurrentRow). x.row.key.app ≡ app) kept.cp.items c.of_app.result.now kept.cp_rows (is.keyed kept.cp_rows.keyed) (is.all kept.cp_rows.keyed)
+    lists_part of_current (λ (x : CurrentRow). x.row.key.app ≡ app) kept.cp.items c.of_app.result.now kept.cp_rows
+    (is.keyed kept.cp_rows.keyed) (is.all kept.cp_rows.keyed)

@@ -20,9 +20,18 @@ returns c numbered =
     let ltp_keyed = of_ltp.keyed kept.ltp_rows.keyed in
     let cp_keyed = of_cp.keyed kept.cp_rows.keyed in
     let history_keyed = of_history.keyed kept.history_rows.keyed in
-    let ltp_is = part_of of_row kept.ltp.items c.of_app.result.now ltp_part app minute (of_ltp.all kept.ltp_rows.keyed) (c.before-2.ensures.all ltp_keyed) in
-    let cp_is = part_of of_current kept.cp.items c.of_app-2.result.now cp_part app minute (of_cp.all kept.cp_rows.keyed) (c.before-3.ensures.all cp_keyed) in
-    let history_is = part_of of_row kept.history.items c.of_app-3.result.now history_part app minute (of_history.all kept.history_rows.keyed) (c.before-4.ensures.all history_keyed) in
-    let inner : IsGreatestOf (λ a. arrives_live cp_part a ⊎ arrives history_part a) c.later.result = rw c.later.ensures (greatest_later (arrives_live cp_part) (arrives history_part) c.last_live-cp.result c.last_of-history.result (c.last_live-cp.ensures (c.before-3.ensures.keyed cp_keyed)) (c.last_of-history.ensures (c.before-4.ensures.keyed history_keyed))) in
-    rw c.later-2.ensures (last_is s numbered app minute kept.ltp.items kept.history.items kept.cp.items kept.ltp_rows kept.cp_rows kept.history_rows (λ _. refl) (λ _. refl) (λ _. refl) ltp_part history_part cp_part ltp_is cp_is history_is _
-    (greatest_later (arrives ltp_part) (λ a. arrives_live cp_part a ⊎ arrives history_part a) c.last_of-ltp.result c.later.result (c.last_of-ltp.ensures (c.before-2.ensures.keyed ltp_keyed)) inner))
+    let ltp_is = part_of of_row kept.ltp.items c.of_app.result.now ltp_part app minute (of_ltp.all kept.ltp_rows.keyed)
+    (c.before-2.ensures.all ltp_keyed) in
+    let cp_is = part_of of_current kept.cp.items c.of_app-2.result.now cp_part app minute (of_cp.all kept.cp_rows.keyed)
+    (c.before-3.ensures.all cp_keyed) in
+    let history_is = part_of of_row kept.history.items c.of_app-3.result.now history_part app minute
+    (of_history.all kept.history_rows.keyed) (c.before-4.ensures.all history_keyed) in
+    let inner : IsGreatestOf (λ a. arrives_live cp_part a ⊎ arrives history_part a) c.later.result =
+    rw c.later.ensures (greatest_later (arrives_live cp_part) (arrives history_part) c.last_live-cp.result
+    c.last_of-history.result (c.last_live-cp.ensures (c.before-3.ensures.keyed cp_keyed))
+    (c.last_of-history.ensures (c.before-4.ensures.keyed history_keyed))) in
+    rw c.later-2.ensures (last_is s numbered app minute kept.ltp.items kept.history.items kept.cp.items kept.ltp_rows
+    kept.cp_rows kept.history_rows (λ _. refl) (λ _. refl) (λ _. refl) ltp_part history_part cp_part ltp_is cp_is
+    history_is _
+    (greatest_later (arrives ltp_part) (λ a. arrives_live cp_part a ⊎ arrives history_part a) c.last_of-ltp.result
+    c.later.result (c.last_of-ltp.ensures (c.before-2.ensures.keyed ltp_keyed)) inner))

@@ -22,7 +22,10 @@ returns-in_err-row c numbered =
     let kept = c.args.self.now.content.now in
     let s = (content_of kept).sets in
     let of_key = rw c.deref.ensures.value at c.of_key.ensures.all in
-    rw c.from_residual.ensures (live_none s c.args.key.now c.in_default.ensures c.in_default-cp_row.ensures (λ serial row stands keyed. c.in_err-row.ensures row ((of_key kept.history_rows.keyed row).1 ((look_some (λ (r : Row). r.serial) kept.history.items serial row stands).0, keyed))))
+    rw c.from_residual.ensures (live_none s c.args.key.now c.in_default.ensures c.in_default-cp_row.ensures
+    (λ serial row stands keyed. c.in_err-row.ensures row
+    ((of_key kept.history_rows.keyed row).1
+    ((look_some (λ (r : Row). r.serial) kept.history.items serial row stands).0, keyed))))
 
 pub returns : goal.returns
 returns c numbered =
@@ -30,5 +33,9 @@ returns c numbered =
     let s = (content_of kept).sets in
     let row = c.in_ok-row.row in
     let of_key = rw c.deref.ensures.value at c.of_key.ensures.all in
-    let both = (of_key kept.history_rows.keyed row).0 c.in_ok-row.ensures in
-    (stands_history s numbered row.serial row (look_has (λ (r : Row). r.serial) kept.history.items kept.history_rows.one_each row both.0), tt, both.1)
+    let both = (of_key kept.history_rows.keyed row).0 c.in_ok-row.ensures in (
+      stands_history s numbered row.serial row (look_has (λ (r : Row). r.serial) kept.history.items
+          kept.history_rows.one_each row both.0),
+      tt,
+      both.1,
+    )

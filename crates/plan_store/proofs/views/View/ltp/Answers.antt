@@ -13,4 +13,5 @@ pub returns-clause-count : goal.returns-clause-count
 returns-clause-count c numbered =
     let kept = c.args.self.now.content.now in
     let rows = kept.ltp.items in
-    rw c.as_slice.ensures.value (size_listed of_row kept.issued rows (once_from_rows of_row rows kept.ltp_rows) (within_ltp (content_of kept).sets numbered rows kept.ltp_rows (λ serial. refl)))
+    rw c.as_slice.ensures.value (size_listed of_row kept.issued rows (once_from_rows of_row rows kept.ltp_rows)
+    (within_ltp (content_of kept).sets numbered rows kept.ltp_rows (λ serial. refl)))

@@ -9,4 +9,5 @@ returns c =
     let kept = c.args.self.now.content.now in
     let app = c.args.app.now in
     let is = rw c.deref.ensures.value at c.of_app.ensures in
-    lists_part of_row (λ (x : Row). x.key.app ≡ app) kept.ltp.items c.of_app.result.now kept.ltp_rows (is.keyed kept.ltp_rows.keyed) (is.all kept.ltp_rows.keyed)
+    lists_part of_row (λ (x : Row). x.key.app ≡ app) kept.ltp.items c.of_app.result.now kept.ltp_rows
+    (is.keyed kept.ltp_rows.keyed) (is.all kept.ltp_rows.keyed)

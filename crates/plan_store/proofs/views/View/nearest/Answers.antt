@@ -10,7 +10,19 @@ returns-in-Some c numbered =
     let key = c.args.key.now in
     let app = c.args.app.now in
     let limit = c.if-eq.limit in
-    let is_limit : ((app ≡ key.app) × (limit ≡ key.ia)) ⊎ ((app ≢ key.app) × (limit ≡ key.ia + 1)) = elim c.if-eq.branch [ then-eq w ↦ inl (same_name app key.app (sym w.if-eq.ensures), w.limit-is ∙ c.number-arrival.ensures.value) | else-eq w ↦ inr (other_name app key.app (sym w.if-eq.ensures), w.limit-is ∙ ap (λ n. n + 1) c.number-arrival.ensures.value) ] in
+    let is_limit : ((app ≡ key.app) × (limit ≡ key.ia)) ⊎ ((app ≢ key.app) × (limit ≡ key.ia + 1)) =
+    elim c.if-eq.branch [
+      | then-eq w ↦ inl (
+        same_name app key.app (sym w.if-eq.ensures),
+        w.limit-is
+            ∙ c.number-arrival.ensures.value,
+      )
+      | else-eq w ↦ inr (
+        other_name app key.app (sym w.if-eq.ensures),
+        w.limit-is
+            ∙ ap (λ n. n + 1) c.number-arrival.ensures.value,
+      )
+    ] in
     nearest_some s key app limit is_limit c.in-Some.near (c.in-Some.ensures numbered)
 
 pub returns-in-None : goal.returns-in-None
@@ -19,5 +31,17 @@ returns-in-None c numbered =
     let key = c.args.key.now in
     let app = c.args.app.now in
     let limit = c.if-eq.limit in
-    let is_limit : ((app ≡ key.app) × (limit ≡ key.ia)) ⊎ ((app ≢ key.app) × (limit ≡ key.ia + 1)) = elim c.if-eq.branch [ then-eq w ↦ inl (same_name app key.app (sym w.if-eq.ensures), w.limit-is ∙ c.number-arrival.ensures.value) | else-eq w ↦ inr (other_name app key.app (sym w.if-eq.ensures), w.limit-is ∙ ap (λ n. n + 1) c.number-arrival.ensures.value) ] in
+    let is_limit : ((app ≡ key.app) × (limit ≡ key.ia)) ⊎ ((app ≢ key.app) × (limit ≡ key.ia + 1)) =
+    elim c.if-eq.branch [
+      | then-eq w ↦ inl (
+        same_name app key.app (sym w.if-eq.ensures),
+        w.limit-is
+            ∙ c.number-arrival.ensures.value,
+      )
+      | else-eq w ↦ inr (
+        other_name app key.app (sym w.if-eq.ensures),
+        w.limit-is
+            ∙ ap (λ n. n + 1) c.number-arrival.ensures.value,
+      )
+    ] in
     nearest_none s key app limit is_limit (c.in-None.ensures numbered)

@@ -10,25 +10,32 @@ pub returns-in-Some : goal.returns-in-Some
 returns-in-Some c numbered =
     let kept = c.args.self.now.content.now in
     let is = rw c.deref.ensures.value at c.in-Some.ensures in
-    stands_ltp (content_of kept).sets numbered c.args.serial c.in-Some.row (look_at (λ (x : Row). x.serial) kept.ltp.items kept.ltp_rows.one_each c.in-Some.row c.args.serial is.0 is.1)
+    stands_ltp (content_of kept).sets numbered c.args.serial c.in-Some.row
+    (look_at (λ (x : Row). x.serial) kept.ltp.items kept.ltp_rows.one_each c.in-Some.row c.args.serial is.0 is.1)
 
 pub returns-in-Some-of_serial : goal.returns-in-Some-of_serial
 returns-in-Some-of_serial c numbered =
     let kept = c.args.self.now.content.now in
     let is = rw c.deref-3.ensures.value at c.in-Some-of_serial.ensures in
-    stands_cp (content_of kept).sets numbered c.args.serial c.in-Some-of_serial.current (look_at (λ (x : CurrentRow). x.row.serial) kept.cp.items kept.cp_rows.one_each c.in-Some-of_serial.current c.args.serial is.0 is.1)
+    stands_cp (content_of kept).sets numbered c.args.serial c.in-Some-of_serial.current
+    (look_at (λ (x : CurrentRow). x.row.serial) kept.cp.items kept.cp_rows.one_each c.in-Some-of_serial.current
+    c.args.serial is.0 is.1)
 
 pub returns-in-Some-of_serial-2 : goal.returns-in-Some-of_serial-2
 returns-in-Some-of_serial-2 c numbered =
     let kept = c.args.self.now.content.now in
     let is = rw c.deref-5.ensures.value at c.in-Some-of_serial-2.ensures in
-    stands_history (content_of kept).sets numbered c.args.serial c.in-Some-of_serial-2.row (look_at (λ (x : Row). x.serial) kept.history.items kept.history_rows.one_each c.in-Some-of_serial-2.row c.args.serial is.0 is.1)
+    stands_history (content_of kept).sets numbered c.args.serial c.in-Some-of_serial-2.row
+    (look_at (λ (x : Row). x.serial) kept.history.items kept.history_rows.one_each c.in-Some-of_serial-2.row
+    c.args.serial is.0 is.1)
 
 pub returns : goal.returns
 returns c numbered =
     let kept = c.args.self.now.content.now in
     let is = rw c.deref-7.ensures.value at c.in_ok-deletion.ensures in
-    stands_deleted (content_of kept).sets numbered c.args.serial c.in_ok-deletion.deletion (look_at (λ (x : Deletion). x.row.serial) kept.deletions.items kept.deletion_rows.one_each c.in_ok-deletion.deletion c.args.serial is.0 is.1)
+    stands_deleted (content_of kept).sets numbered c.args.serial c.in_ok-deletion.deletion
+    (look_at (λ (x : Deletion). x.row.serial) kept.deletions.items kept.deletion_rows.one_each
+    c.in_ok-deletion.deletion c.args.serial is.0 is.1)
 
 pub returns-in_err-deletion : goal.returns-in_err-deletion
 returns-in_err-deletion c numbered =

@@ -1,0 +1,22 @@
+use Rattle.plan_lists.specs.Rows.{of_current, of_deletion, of_row}
+use Rattle.plan_lists.proofs.SeatLemmas.{seats_stay}
+use Rattle.plan_store.proofs.contents.Content.note.Goals as goal
+
+pub invariant_of-self : goal.invariant_of-self
+invariant_of-self c =
+    let kept = c.args.self.now in
+    let stay = c.note_puts.ensures.stay in
+    record {
+      ltp_rows = kept.ltp_rows;
+      cp_rows = kept.cp_rows;
+      history_rows = kept.history_rows;
+      deletion_rows = kept.deletion_rows;
+      numbered_jobs = kept.numbered_jobs;
+      seat_order = c.note_puts.ensures.seats;
+      ltp_seats = seats_stay of_row kept.ltp.items kept.seats.items c.note_puts.new.seats.items kept.ltp_seats stay;
+      cp_seats = seats_stay of_current kept.cp.items kept.seats.items c.note_puts.new.seats.items kept.cp_seats stay;
+      history_seats = seats_stay of_row kept.history.items kept.seats.items c.note_puts.new.seats.items
+          kept.history_seats stay;
+      deletion_seats = seats_stay of_deletion kept.deletions.items kept.seats.items c.note_puts.new.seats.items
+          kept.deletion_seats stay;
+    }
