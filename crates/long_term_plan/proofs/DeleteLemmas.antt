@@ -1,40 +1,41 @@
 -- A deletion from the long-term plan is what the machine does.
-use Rattle.std.proofs.Common.{◌≡◌, ◌≢◌, ◌↔◌, ℕ, ◌≤◌, Bool, true, false, List, filter, refl, arith, sym, ap, subst, ◌∙◌}
+use Rattle.std.proofs.Common.{◌≡◌, ◌≢◌, ℕ, ◌≤◌, Bool, true, false, List, filter, refl, arith, sym, ap, subst, ◌∙◌}
 use Rattle.std.proofs.Common.{Some, None, Option}
 use Rattle.std.specs.Prelude.{nat_eq, not, option_map, unwrap_or, if◌then◌else◌}
-use Rattle.std.specs.List.{Contains}
 use Rattle.std.proofs.lemmas.Bool.{eqb-true, eqb-false, eq-eqb, ne_eqb}
 use Rattle.occurrences.proofs.KeyLemmas.{key_other, key_same}
 use Rattle.occurrences.specs.declared.key.Key.{Key}
 use Rattle.occurrences.specs.declared.place.CurrentRow.{CurrentRow}
 use Rattle.occurrences.specs.declared.place.Deletion.{Deletion}
-use Rattle.occurrences.specs.declared.place.Place.TheVariants.{LongTerm}
+use Rattle.occurrences.specs.Place.{IsLive}
+use Rattle.occurrences.specs.declared.place.Place.{Place}
+use Rattle.occurrences.specs.declared.place.Place.TheVariants.{LongTerm, Current, History, Deleted}
 use Rattle.occurrences.specs.Refusal.{refusal_number}
 use Rattle.occurrences.specs.declared.refusal.Refusal.{Refusal}
 use Rattle.occurrences.specs.declared.refusal.Refusal.TheVariants.{NoPlan, NoSuchOccurrence}
 use Rattle.occurrences.specs.declared.reply.Reply.TheVariants.{Numbered}
 use Rattle.occurrences.specs.declared.row.Row.{Row}
-use Rattle.planner_machine.specs.Content.{Content, Seat, Sets}
+use Rattle.external_dependencies.specs.declared.rows.PlacedRow.{PlacedRow}
+use Rattle.planner_machine.specs.Content.{Content, Seat, Sets, alone, seat}
 use Rattle.planner_machine.specs.Delete.{DeleteRefused, Deletes, IsPlanned, deleted_by_hand, delete_move, ltp_delete}
 use Rattle.planner_machine.specs.InForce.{PutsNone}
 use Rattle.planner_machine.specs.Moves.{each, has_key, keep, or_else}
 use Rattle.planner_machine.specs.Plans.{ChangesPlans}
 use Rattle.planner_machine.specs.Sound.{IsSound}
-use Rattle.planner_machine.proofs.DeleteLemmas.{delete_sound, stands_in_ltp}
+use Rattle.planner_machine.proofs.DeleteLemmas.{stands_in_ltp}
 use Rattle.planner_machine.specs.RowsSound.{RowsSound}
 use Rattle.planner_machine.proofs.SoundLemmas.{rows_sound}
 use Rattle.plan_lists.specs.Rows.{of_current, of_deletion, of_row}
 use Rattle.planner_machine.specs.Pairs.{ArePairs}
 use Rattle.plan_store.specs.Changes.{Fits, after, jobs_after, pairs_after, redefined, sets_after}
 use Rattle.plan_store.specs.Verdicts.{VerdictIs}
-use Rattle.plan_store.specs.Views.{IsAny, IsPlannedRow, ListsSet}
+use Rattle.plan_store.specs.Views.{IsPlannedRow}
 use Rattle.plan_store.specs.declared.changes.Change.{Change}
 use Rattle.plan_store.specs.declared.changes.Verdict.{Verdict}
 use Rattle.plan_store.specs.declared.changes.Verdict.TheVariants.{Done, Refused}
 use Rattle.plan_pairs.proofs.ListLemmas.{filter_has, filter_keeps}
 use Rattle.long_term_plan.specs.Deletes.{DeletesRow, IsDeletionOf}
-use Rattle.plan_pairs.specs.LiveRows.{HasLists}
-use Rattle.plan_pairs.proofs.RowLemmas.{of_set}
+use Rattle.plan_pairs.specs.LiveRows.{AreLiveRows}
 use Rattle.plan_pairs.proofs.SetLemmas.{fits_nothing, fits_one, fits_taken, keep_some, moves_nothing, moves_one}
 use Rattle.plan_pairs.proofs.SetLemmas.{moves_taken, some_keep}
 
@@ -96,43 +97,59 @@ module _ (c : Sets) (sound : RowsSound c) (row : Row) (stands : c.ltp row.serial
   pub no_deletion : c.deletions row.serial ≡ None
   no_deletion = ap (λ (s : Seat). s.deletions) (stands_in_ltp c sound row.serial row stands)
 
-  -- the long-term plan but that row
-  pub planned_after : (rows : List Row) → ListsSet of_row c.ltp IsAny rows → (x : Row)
-      → Contains (filter (λ (r : Row). not (nat_eq r.serial row.serial)) rows) x
-      ↔ (keep (λ (r : Row). not (has_key row.key r)) (c.ltp x.serial) ≡ Some x)
-  planned_after rows are x = (forward, backward)
-    where
-      forward : Contains (filter (λ (r : Row). not (nat_eq r.serial row.serial)) rows) x
-          → keep (λ (r : Row). not (has_key row.key r)) (c.ltp x.serial) ≡ Some x
-      forward kept =
-          let (listed, differ) = filter_has (λ (r : Row). not (nat_eq r.serial row.serial)) rows x kept in
-          let stood : c.ltp x.serial ≡ Some x = ((are.exactly x).0 listed).0 in
-          let other : nat_eq row.serial x.serial ≡ false = ne_eqb _ _ (λ same.
-          let yes : nat_eq x.serial row.serial ≡ true = eq-eqb _ _ (sym same) in
-          let no : false ≡ true = sym (ap not yes) ∙ differ in cc) in
-          some_keep (λ (r : Row). not (has_key row.key r)) (c.ltp x.serial) x stood (passes x.serial x stood other)
+  abbrev others : PlacedRow → Bool
+  others p = not (nat_eq p.row.serial row.serial)
 
-      backward : keep (λ (r : Row). not (has_key row.key r)) (c.ltp x.serial) ≡ Some x
-          → Contains (filter (λ (r : Row). not (nat_eq r.serial row.serial)) rows) x
-      backward is =
-          let (there, differ) = keep_some (λ (r : Row). not (has_key row.key r)) (c.ltp x.serial) x is in
-          let listed = (are.exactly x).1 (there, tt) in
-          let other : nat_eq x.serial row.serial ≡ false = ne_eqb _ _ (λ same.
-          let one : Some x ≡ Some row = sym there ∙ ap c.ltp same ∙ stands in
-          let is_row : x ≡ row = cc in
-          let yes : has_key row.key x ≡ true = key_same x.key row.key (ap (λ (r : Row). r.key) is_row) in
-          let no : false ≡ true = sym (ap not yes) ∙ differ in cc) in
-          filter_keeps (λ (r : Row). not (nat_eq r.serial row.serial)) rows x listed (ap not other)
+  -- under other serials nothing changes
+  same_seat : (serial : ℕ) → serial ≢ row.serial → seat (each (delete_move row.key) c) serial ≡ seat c serial
+  same_seat serial other =
+      let apart : nat_eq row.serial serial ≡ false = ne_eqb _ _ (λ same. other (sym same)) in
+      let planned = rw apart at (ltp_is serial) in
+      let deleted = rw apart at (deletions_are serial (c.deletions serial)) in
+      λ i. record {
+        ltp = sym planned i;
+        cp = c.cp serial;
+        history = c.history serial;
+        deletions = sym deleted i;
+      }
 
-  -- the lists of the sets after the deletion
-  pub lists_after : (rows : List Row) → ListsSet of_row c.ltp IsAny rows → (cp : List CurrentRow)
-      → ListsSet of_current c.cp IsAny cp → (history : List Row) → ListsSet of_row c.history IsAny history
-      → HasLists (each (delete_move row.key) c) (filter (λ (r : Row). not (nat_eq r.serial row.serial)) rows) cp history
-  lists_after rows are cp cp_are history history_are = record {
-    sound = delete_sound row.key c sound;
-    ltp = planned_after rows are;
-    cp = of_set of_current c.cp cp cp_are;
-    history = of_set of_row c.history history history_are;
+  -- what is live after the deletion has another serial
+  goes : (serial : ℕ) (place : Place) (x : Row) → seat (each (delete_move row.key) c) serial ≡ alone x place
+      → IsLive place → serial ≢ row.serial
+  goes serial LongTerm x at live same =
+      let (there, differ) = keep_some (λ (r : Row). not (has_key row.key r)) (c.ltp serial) x
+      (ap (λ (s : Seat). s.ltp) at) in
+      let one : Some x ≡ Some row = sym there ∙ ap c.ltp same ∙ stands in
+      let is_row : x ≡ row = cc in
+      let yes : has_key row.key x ≡ true = key_same x.key row.key (ap (λ (r : Row). r.key) is_row) in
+      let no : false ≡ true = sym (ap not yes) ∙ differ in cc
+  goes serial (Current status) x at live same =
+      let current : CurrentRow = record { row = x; status = status } in
+      let none : c.cp row.serial ≡ None = ap (λ (s : Seat). s.cp) (stands_in_ltp c sound row.serial row stands) in
+      let there : c.cp serial ≡ Some current = ap (λ (s : Seat). s.cp) at in
+      let no : None ≡ Some current = sym none ∙ ap c.cp (sym same) ∙ there in cc
+  goes serial History x at live same =
+      let none : c.history row.serial ≡ None = ap (λ (s : Seat). s.history)
+      (stands_in_ltp c sound row.serial row stands) in
+      let no : None ≡ Some x = sym none ∙ ap c.history (sym same) ∙ ap (λ (s : Seat). s.history) at in cc
+  goes serial (Deleted reason) x at live same = live
+
+  -- the live occurrences after the deletion
+  pub live_after : (rows : List PlacedRow) → AreLiveRows c rows
+      → AreLiveRows (each (delete_move row.key) c) (filter others rows)
+  live_after rows are = record {
+    all = λ serial p at live.
+        let other = goes serial p.place p.row at live in
+        let (listed, numbered) = are.all serial p (sym (same_seat serial other) ∙ at) live in
+        let differ : others p ≡ true = ap not (ne_eqb _ _ (λ same. other (sym numbered ∙ same))) in
+        (filter_keeps others rows p listed differ, numbered);
+    only = λ p kept.
+        let (listed, differ) = filter_has others rows p kept in
+        let (at, live) = are.only p listed in
+        let other : p.row.serial ≢ row.serial = λ same.
+        let yes : nat_eq p.row.serial row.serial ≡ true = eq-eqb _ _ same in
+        let no : false ≡ true = sym (ap not yes) ∙ differ in cc in
+        (same_seat p.row.serial other ∙ at, live);
   }
 
 module _ (c : Content) (sound : IsSound c) (row : Row) (stands : c.sets.ltp row.serial ≡ Some row) (change : Change)

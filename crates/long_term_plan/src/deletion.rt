@@ -1,5 +1,5 @@
 ghost use Rattle.std.specs.Prelude.{◌≡◌, IfOk, filter, nat_eq, not};
-ghost use Rattle.occurrences.specs.declared.row.Row.{Row as RowValue};
+ghost use Rattle.external_dependencies.specs.declared.rows.PlacedRow.{PlacedRow as PlacedValue};
 ghost use Rattle.planner_machine.specs.Content.{Content};
 ghost use Rattle.planner_machine.specs.Delete.{ltp_delete};
 ghost use Rattle.planner_machine.specs.Sound.{IsSound};
@@ -7,7 +7,7 @@ ghost use Rattle.plan_store.specs.Verdicts.{VerdictIs};
 ghost use Rattle.plan_store.specs.Views.{Shows, shown};
 ghost use Rattle.long_term_plan.specs.Deletes.{ArePairsWithout, DeletesRow};
 
-use external_dependencies::{PairChange, Pairs};
+use external_dependencies::{PairChange, Pairs, Rows};
 use occurrences::{Deletion, Key, Reason, Refusal, Reply, Row, Serial};
 use plan_pairs::{live_rows, settled_pairs, single};
 use plan_store::{Change, DefinitionChange, Moves, Need, Verdict, View};
@@ -71,17 +71,16 @@ fn pairs_without(alloc: Global, view: &View<'_>, row: &Row) -> Result<Pairs, All
     ensures { IfOk result (λ pairs. IsSound (shown view.now)
         → (shown view.now).sets.ltp row.now.serial ≡ Some row.now → ArePairsWithout (shown view.now) row.now pairs) }
 {
-    let rest = planned_but(alloc, view.ltp(), row.serial)?;
-    let rows = live_rows(alloc, rest.as_slice(), view.cp(), view.history())?;
-    settled_pairs(alloc, view.pairs(), &rows, view.in_force())
+    let rows = live_rows(alloc, view.ltp(), view.cp(), view.history())?;
+    let rest = without(rows, row.serial);
+    settled_pairs(alloc, view.pairs(), &rest, view.in_force())
 }
 
-// The rows of the long-term plan but the one of the serial.
-fn planned_but(alloc: Global, rows: &[Row], serial: Serial) -> Result<Vec<Row>, AllocError>
-    ensures { IfOk result (λ rest. rest.items ≡ filter (λ (row : RowValue). not (nat_eq row.serial serial)) rows.now) }
+// These occurrences but the one of the serial.
+fn without(rows: Rows, serial: Serial) -> Rows
+    ensures { result ≡ filter (λ (p : PlacedValue). not (nat_eq p.row.serial serial)) rows }
 {
-    rows.iter()
-        .copied()
-        .filter(|row| row.serial != serial)
-        .collect(alloc)
+    let mut placed = rows.into_vec();
+    placed.retain(|p| p.row.serial != serial);
+    Rows::from_vec(placed)
 }
