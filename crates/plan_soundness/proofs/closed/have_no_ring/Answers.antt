@@ -12,7 +12,7 @@ returns-in-None c =
     let pairs : List Pair = closed_pairs c.args.table.now c.args.pairs.now in
     let links : List Link = c.from_vec-links.result in
     let are : HaveLinks pairs links = λ link. subst (λ (l : List Link). Contains links link ↔ Contains l link)
-    c.in_ok-closed_links.ensures (c.from_vec-links.ensures link) in
+    c.in_ok-closed_links.ensures (c.from_vec-links.ensures.same link) in
     let none = subst (IsLeastOnLoop links) c.in-None.is c.in_ok-find_loop.ensures in (
       (λ yes serial ring. let (app, loop) = ring_to_loop pairs links are serial ring in none app loop),
       λ no. refl,
@@ -23,7 +23,7 @@ returns c =
     let pairs : List Pair = closed_pairs c.args.table.now c.args.pairs.now in
     let links : List Link = c.from_vec-links.result in
     let are : HaveLinks pairs links = λ link. subst (λ (l : List Link). Contains links link ↔ Contains l link)
-    c.in_ok-closed_links.ensures (c.from_vec-links.ensures link) in
+    c.in_ok-closed_links.ensures (c.from_vec-links.ensures.same link) in
     let found = subst (IsLeastOnLoop links) c.in-Some.is c.in_ok-find_loop.ensures in
     let (serial, ring) = loop_to_ring pairs links are c.in-Some.field-0 found.0 in
     ((λ yes. cc), λ none. absurd (none serial ring))
