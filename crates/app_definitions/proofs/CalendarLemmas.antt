@@ -46,13 +46,13 @@ letters-long : (w : ℕ) → w < 7 → length (slice_index_or weekday_letters w 
 letters-long = seven (λ w. length (slice_index_or weekday_letters w []) ≡ 3) refl refl refl refl refl refl refl
 
 -- a text is that of one weekday at most, a weekday has one text, and a text of a weekday is none of a day
-one_weekday : (text : List ℕ) (v w : ℕ) → IsWeekdayText text v → IsWeekdayText text w → v ≡ w
+pub one_weekday : (text : List ℕ) (v w : ℕ) → IsWeekdayText text v → IsWeekdayText text w → v ≡ w
 one_weekday text v w a b = sym (place-letters v a.0) ∙ ap weekday_place (sym a.1 ∙ b.1) ∙ place-letters w b.0
 
 pub weekday-one_text : (w : ℕ) (s t : List ℕ) → IsWeekdayText s w → IsWeekdayText t w → s ≡ t
 weekday-one_text w s t a b = a.1 ∙ sym b.1
 
-weekday-no_day : (text : List ℕ) (w d : ℕ) → IsWeekdayText text w → SpellsDay text d → ⊥
+pub weekday-no_day : (text : List ℕ) (w d : ℕ) → IsWeekdayText text w → SpellsDay text d → ⊥
 weekday-no_day text w d a b =
     let three : length text ≡ 3 = ap length a.1 ∙ letters-long w a.0 in
     let ten = length-SpellsDay text d b in

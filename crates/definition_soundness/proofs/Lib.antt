@@ -1,0 +1,9 @@
+pub mod CalendarRecords
+pub mod CycleRecords
+pub mod DateLemmas
+pub mod GivenLemmas
+pub mod NumberLemmas
+pub mod PeriodRecords
+pub mod RecordLemmas
+pub mod SimpleLemmas
+pub mod TextLemmas

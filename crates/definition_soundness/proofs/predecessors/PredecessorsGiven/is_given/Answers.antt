@@ -1,0 +1,17 @@
+use Rattle.std.proofs.Common.{List, ℕ, subst, sym}
+use Rattle.app_definitions.specs.Rising.{AreRising}
+use Rattle.definition_soundness.specs.Values.{ArePredecessorValues}
+use Rattle.definition_soundness.proofs.SimpleLemmas.{predecessors_given, predecessors_value}
+use Rattle.definition_soundness.proofs.predecessors.PredecessorsGiven.is_given.Goals as goal
+
+pub returns : goal.returns
+returns c =
+    let name = c.args.name.now in
+    let names = c.args.self.now in
+    let same = c.as_slice.ensures.value in (
+      λ yes. predecessors_given name names
+          (subst (λ (l : List (List ℕ)). AreRising (λ n. n) l) same c.as_slice.ensures.rising)
+          (subst (ArePredecessorValues name) same (c.are_predecessors.ensures.0 yes)),
+      λ given. c.are_predecessors.ensures.1
+          (subst (ArePredecessorValues name) (sym same) (predecessors_value name names given)),
+    )
