@@ -6,6 +6,7 @@ pub mod JobLemmas
 pub mod NodeLemmas
 pub mod NumberedLemmas
 pub mod PairLemmas
+pub mod RangeLemmas
 pub mod RuleLemmas
 pub mod SeatLemmas
 pub mod SizeLemmas

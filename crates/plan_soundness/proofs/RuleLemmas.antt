@@ -21,13 +21,16 @@ use Rattle.planner_machine.specs.Content.{Content, Sets, StandsAt}
 use Rattle.planner_machine.specs.Fate.{IsGenerated}
 use Rattle.planner_machine.specs.RowsSound.{IsPlacedIn, RowsSound}
 use Rattle.planner_machine.proofs.SeatLemmas.{not_empty}
-use Rattle.planner_machine.specs.Sound.{AreNumbered, ArrivesIn, HasBounds, HaveArrivals, HaveOwnKeys}
+use Rattle.planner_machine.specs.Pairs.{ArePairs}
+use Rattle.planner_machine.specs.Sound.{AreNumbered, ArrivesIn, HasBounds, HasPairs, HaveArrivals, HaveOwnKeys, IsSound}
 use Rattle.planner_machine.specs.declared.content.Bounds.{Bounds}
 use Rattle.plan_lists.proofs.KeyLemmas.{contains_filter, filter_contains}
 use Rattle.plan_store.proofs.LookLemmas.{look_has, look_some}
 use Rattle.plan_store.specs.Contents.{content_of}
 use Rattle.plan_store.specs.declared.contents.Content.{Content as Kept}
 use Rattle.plan_soundness.specs.Arrivals.{AllInBounds, IsFreeOf, IsOperatorKey, by_operator, is_operator}
+use Rattle.plan_soundness.specs.Pairs.{AreClosedPairs}
+use Rattle.plan_soundness.specs.Rules.{HasSoundRows}
 use Rattle.plan_soundness.specs.Listing.{is_live_place, is_live_row, placed_list}
 use Rattle.plan_soundness.proofs.DistinctLemmas.{contains_map, map_contains}
 use Rattle.plan_soundness.proofs.NumberedLemmas.{HasRows, listed_stands, rows_differ, seated_from_numbered}
@@ -188,4 +191,39 @@ rows_sound_from c bounds numbered keys arrivals = record {
     | Some b ↦ λ is. arrivals.in_bounds b is serial p stands
   ] refl;
   keys = keys;
+}
+
+-- all rules of rows, lists in force and jobs, and back
+pub rows_sound_of : (c : Content) → HasSoundRows c → RowsSound c.sets
+rows_sound_of c rows = rows_sound_from c rows.bounds rows.serials rows.keys rows.arrivals
+
+pub rows_of : (c : Content) → IsSound c → HasSoundRows c
+rows_of c sound = record {
+  bounds = sound.bounds;
+  serials = sound.serials;
+  keys = sound.keys;
+  arrivals = sound.arrivals;
+  sizes = sound.sizes;
+  lists = sound.lists;
+  jobs = sound.jobs;
+}
+
+-- all rules of pairs, and back
+pub pairs_of : (c : Content) → ArePairs c.pairs c.in_force c.sets c.pairs → AreClosedPairs c.sets c.pairs → HasPairs c
+pairs_of c settled closed = record {
+  settled = settled;
+  complete = λ pair there at. (closed.fit pair there at).0;
+  one_each = closed.one_each;
+  in_time = λ pair p q there at stands stands'. (closed.fit pair there at).1 p q stands stands';
+  no_loop = closed.no_loop;
+}
+
+pub closed_of : (c : Content) → HasPairs c → AreClosedPairs c.sets c.pairs
+closed_of c pairs = record {
+  fit = λ pair there at. (
+    pairs.complete pair there at,
+    λ p q stands stands'. pairs.in_time pair p q there at stands stands',
+  );
+  one_each = pairs.one_each;
+  no_loop = pairs.no_loop;
 }

@@ -21,7 +21,7 @@ fn is_serial(serial: Serial) -> bool
     serial.get() >= 1
 }
 
-fn is_name(app: &App) -> bool
+pub(crate) fn is_name(app: &App) -> bool
     ensures { IsTrue result ↔ IsName app.now }
 {
     !app.as_bytes().is_empty()

@@ -1,0 +1,29 @@
+ghost use Rattle.std.specs.Prelude.{◌↔◌, IfOk, IsTrue};
+ghost use Rattle.planner_machine.specs.Sound.{IsSound};
+ghost use Rattle.plan_store.specs.Contents.{content_of};
+
+use crate::pairs::{has_closed_pairs, has_settled_pairs};
+use crate::ranges::has_ranges;
+use crate::rows::has_sound_rows;
+use plan_store::Content;
+use std::alloc::{AllocError, Global};
+
+/// Whether the content is sound: all nine rules, whatever was read. Takes time near linear in definitions, rows and
+/// pairs: lists of rows are made and looked through once for each rule, keys go into sets, and pairs are sorted.
+pub fn is_sound(alloc: Global, content: &Content) -> Result<bool, AllocError>
+    ensures { IfOk result (λ b. IsTrue b ↔ IsSound (content_of content.now)) }
+{
+    let rows = has_sound_rows(alloc, content)?;
+    if !rows {
+        return Ok(false);
+    }
+    let ranges = has_ranges(alloc, content)?;
+    if !ranges {
+        return Ok(false);
+    }
+    let settled = has_settled_pairs(alloc, content)?;
+    if !settled {
+        return Ok(false);
+    }
+    has_closed_pairs(alloc, content)
+}
