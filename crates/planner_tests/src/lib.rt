@@ -7,3 +7,5 @@
 mod listings;
 #[cfg(test)]
 mod long_term;
+#[cfg(test)]
+mod stores;
