@@ -4,7 +4,7 @@ use crate::changes::{Change, DefinitionChange};
 use crate::jobs::{find_job, keep_job};
 use crate::moving::move_rows;
 use crate::pairs::change_pairs;
-use crate::room::Room;
+use crate::room::{Room, grow};
 use app_definitions::Definitions;
 use external_dependencies::{Links, Pairs};
 use occurrences::{CurrentRow, Deletion, Row};
@@ -111,10 +111,10 @@ impl Content {
         ensures same { HasSame self.old self.new }
         ensures room { OnOk result (HasRowRoom change.now self.new) }
     {
-        self.ltp.reserve(change.ltp.put.len())?;
-        self.cp.reserve(change.cp.put.len())?;
-        self.history.reserve(change.history.put.len())?;
-        self.deletions.reserve(change.deletions.put.len())?;
+        grow(&mut self.ltp, change.ltp.put.len())?;
+        grow(&mut self.cp, change.cp.put.len())?;
+        grow(&mut self.history, change.history.put.len())?;
+        grow(&mut self.deletions, change.deletions.put.len())?;
         self.jobs.reserve(1)
     }
 

@@ -1,4 +1,7 @@
+ghost use Rattle.std.specs.Prelude.{◌≡◌, ◌+◌, ◌≤◌, OnOk, vec_len, vec_capacity};
+
 use external_dependencies::Pair;
+use std::alloc::AllocError;
 
 /// Room for a change, made before it: the pairs of a content, taken out of it, and place for those that come.
 #[derive(Drop)]
@@ -9,3 +12,16 @@ pub struct Room {
 
 ghost use Rattle.external_dependencies.specs.Pair.{pair_cmp};
 ghost use Rattle.external_dependencies.specs.Rising.{IsRising};
+
+// Room for so many more items. A list that has to grow gets an eighth of its length at least, so that a long one is
+// seldom moved and holds little that it doesn't need.
+pub(crate) fn grow<T>(list: &mut Vec<T>, more: usize) -> Result<(), AllocError>
+    ensures items { list.new.items ≡ list.old.items }
+    ensures len { vec_len list.new ≡ vec_len list.old }
+    ensures room { OnOk result (vec_len list.new + more ≤ vec_capacity list.new) }
+{
+    if more <= list.capacity() - list.len() {
+        return Ok(());
+    }
+    list.reserve_exact(more.max(list.len() / 8))
+}
