@@ -3,7 +3,7 @@
 
 use plan_store::ListStore;
 use planner_cli::{exit_status, run};
-use std::io::{self, BufReader, Write};
+use std::io::{self, BufReader, BufWriter, Write};
 use std::process::ExitCode;
 use words::Asked;
 
@@ -12,16 +12,18 @@ mod words;
 /// The exit status after a fault, and after words that are wrong.
 const FAILED: u8 = 8;
 
-/// Runs the stream on standard input, and gives the exit status.
+/// Runs the stream on standard input, and gives the exit status. A reply is handed to standard output with its last
+/// byte, and a listing some thousand bytes at a time.
 fn answer_input<R: AllocGlobal + Input + Print>(rt: &R) -> u8 {
     let alloc = rt.alloc();
-    let mut writer = io::writer(rt);
-    match BufReader::new(alloc, rt.reader()) {
-        Ok(mut reader) => {
+    let reader = BufReader::new(alloc, rt.reader());
+    let writer = BufWriter::new(alloc, io::writer(rt));
+    match (reader, writer) {
+        (Ok(mut reader), Ok(mut writer)) => {
             let mut store = ListStore::new(alloc);
             exit_status(&run(alloc, &mut store, &mut reader, &mut writer))
         }
-        Err(_) => memory_refused(rt),
+        _ => memory_refused(rt),
     }
 }
 

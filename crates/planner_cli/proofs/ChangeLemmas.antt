@@ -10,10 +10,12 @@ use Rattle.planner_machine.specs.Content.{Content}
 use Rattle.planner_machine.specs.Decision.{Decides}
 use Rattle.planner_machine.specs.Jobs.{with_job}
 use Rattle.planner_machine.specs.Moves.{or_else}
-use Rattle.planner_machine.specs.Statement.{Act, Add, AddCurrent, Change as MachineChange, Create, DailyExtend, Define, Delete, Extend, ModifyAll, ModifyOne, Replan, Undefine, decision_of}
+use Rattle.planner_machine.specs.Statement.{Act, Add, AddCurrent, Change as MachineChange, Create, DailyExtend, Define}
+use Rattle.planner_machine.specs.Statement.{Delete, Extend, ModifyAll, ModifyOne, Replan, Undefine, decision_of}
 use Rattle.planner_machine.specs.declared.job.Job.{Job}
 use Rattle.plan_lists.specs.Rows.{HasEachOnce, of_current, of_deletion, of_row}
-use Rattle.plan_store.specs.Changes.{ChangesNothing, Fits, FitsSet, MovesNothing, after, jobs_after, moved_set, pairs_after, redefined}
+use Rattle.plan_store.specs.Changes.{ChangesNothing, Fits, FitsSet, MovesNothing, after, jobs_after, moved_set}
+use Rattle.plan_store.specs.Changes.{pairs_after, redefined}
 use Rattle.plan_store.specs.declared.changes.Change.{Change}
 use Rattle.plan_store.specs.declared.changes.DefinitionChange.{DefinitionChange}
 use Rattle.plan_store.specs.declared.changes.DefinitionChange.TheVariants.{AsBefore}
@@ -29,7 +31,8 @@ filter_all : {X : Type 0} (p : X → Bool) (xs : List X) → ((x : X) → p x �
 filter_all p [] all = refl
 filter_all p (y ∷ ys) all = let is : p y ≡ true = all y in rw is (ap (λ l. y ∷ l) (filter_all p ys all))
 
-no_pairs_move : (change : PairChange) → change.removed ≡ [] → change.added ≡ [] → (pairs : List Pair) → pairs_after change pairs ≡ pairs
+no_pairs_move : (change : PairChange) → change.removed ≡ [] → change.added ≡ [] → (pairs : List Pair)
+    → pairs_after change pairs ≡ pairs
 no_pairs_move change removed added pairs = rw (removed, added) (filter_all _ pairs (λ x. refl))
 
 -- nothing moves in a set
@@ -37,7 +40,8 @@ unmoved : {X : Type 0} (row_of : X → Row) (moves : Moves X) → MovesNothing m
     → moved_set row_of moves old serial ≡ old serial
 unmoved row_of moves none old serial = rw (none.gone, none.changed, none.put) refl
 
-fits_unmoved : {X : Type 0} (row_of : X → Row) (moves : Moves X) → MovesNothing moves → (set : ℕ → Option X) → FitsSet row_of moves set
+fits_unmoved : {X : Type 0} (row_of : X → Row) (moves : Moves X) → MovesNothing moves → (set : ℕ → Option X)
+    → FitsSet row_of moves set
 fits_unmoved {X} row_of moves none set = record {
   gone_once = subst (HasEachOnce row_of) (sym none.gone) (once_nothing row_of);
   changed_once = subst (HasEachOnce row_of) (sym none.changed) (once_nothing row_of);
@@ -62,7 +66,8 @@ pub record Redefines (change : Change) (d : DefinitionChange) : Type 0 where
   pub added : change.pairs.added ≡ []
   pub job : change.job ≡ None
 
-pub redefines : (none : Change) (d : DefinitionChange) → ChangesNothing none → Redefines (record none { definitions = d }) d
+pub redefines : (none : Change) (d : DefinitionChange) → ChangesNothing none
+    → Redefines (record none { definitions = d }) d
 redefines none d nothing_changes = record {
   definitions = refl;
   bounds = nothing_changes.bounds;
@@ -94,7 +99,8 @@ redefined_so change d r c = λ i. record {
   jobs = λ number. (ap (λ o. jobs_after o c.jobs number) r.job) i;
 }
 
-no_job : (change : Change) → change.job ≡ None → (c : Content) (job : Job) → change.job ≡ Some job → c.jobs job.number ≡ None
+no_job : (change : Change) → change.job ≡ None → (c : Content) (job : Job) → change.job ≡ Some job
+    → c.jobs job.number ≡ None
 no_job change none c job some = absurd (let no : None ≡ Some job = sym none ∙ some in let h : ⊥ = cc no in h)
 
 pub fits_redefined : (change : Change) (d : DefinitionChange) → Redefines change d → (c : Content) → Fits change c
@@ -107,7 +113,8 @@ fits_redefined change d r c = record {
 }
 
 -- with a job to keep under a number that none has
-pub fits_with_job : (change : Change) (job : Job) (c : Content) → Fits change c → c.jobs job.number ≡ None → Fits (record change { job = Some job }) c
+pub fits_with_job : (change : Change) (job : Job) (c : Content) → Fits change c → c.jobs job.number ≡ None
+    → Fits (record change { job = Some job }) c
 fits_with_job change job c fits new = record {
   ltp = fits.ltp;
   cp = fits.cp;
@@ -127,7 +134,8 @@ after_with_job change job c jobs = λ i. record {
 }
 
 -- no change of the machine touches the kept jobs
-pub keeps_jobs : (change : MachineChange) (c : Content) (reply : Reply) (c' : Content) → Decides (decision_of change) c (Ok reply) c' → c'.jobs ≡ c.jobs
+pub keeps_jobs : (change : MachineChange) (c : Content) (reply : Reply) (c' : Content)
+    → Decides (decision_of change) c (Ok reply) c' → c'.jobs ≡ c.jobs
 keeps_jobs (Define block) c reply c' (good, does) = ap (λ (x : Content). x.jobs) does.1
 keeps_jobs (Undefine kind name) c reply c' (good, does) = ap (λ (x : Content). x.jobs) does.1
 keeps_jobs (Create from to) c reply c' (good, does) = does.jobs

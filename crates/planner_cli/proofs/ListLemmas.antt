@@ -1,5 +1,6 @@
 -- Lemmas on listings that are written while they are read.
-use Rattle.std.proofs.Common.{◌≡◌, ◌⊎◌, ℕ, ◌+◌, ◌≤◌, ◌∙◌, List, [], ◌∷◌, ◌++◌, length, take, map, refl, sym, ap, subst, inl, inr, arith, append_assoc, append-nil}
+use Rattle.std.proofs.Common.{◌≡◌, ◌⊎◌, ℕ, ◌+◌, ◌≤◌, ◌∙◌, List, [], ◌∷◌, ◌++◌, length, take, map, refl, sym, ap, subst}
+use Rattle.std.proofs.Common.{inl, inr, arith, append_assoc, append-nil}
 use Rattle.std.specs.Prelude.{Bool, Err, IfErr, IfOk, Ok, Option, Result, Some, flat_map}
 use Rattle.std.specs.Io.KnownBytes.{Appends, Keeps}
 use Rattle.std.proofs.KnownBytes.{Appends-nil, Appends-trans, Appends-kept}
@@ -7,7 +8,8 @@ use Rattle.std.proofs.Math.Seq.{take-append-add}
 use Rattle.std.proofs.lemmas.List.{length-append, length-map}
 use Rattle.occurrences.specs.declared.reply.Reply.TheVariants.{Rows}
 use Rattle.plan_listings.specs.Line.{AreLinesOf}
-use Rattle.plan_store.specs.Listings.{EndsSo, HandsAll, HandsPart, IsListing, Shown, ShowPairs, ShowRows, TakesAll, link_shown, row_shown}
+use Rattle.plan_store.specs.Listings.{EndsSo, HandsAll, HandsPart, IsListing, Shown, ShowPairs, ShowRows, TakesAll}
+use Rattle.plan_store.specs.Listings.{link_shown, row_shown}
 use Rattle.plan_store.specs.declared.listings.ListFault.{ListFault}
 use Rattle.plan_store.specs.declared.listings.ListFault.TheVariants as Faults
 use Rattle.plan_store.specs.declared.listings.What.{What}
@@ -47,14 +49,19 @@ front_behind xs ys front (n, fits, is) = (
 )
 
 -- a line is written, and a front of the line feed that ends it
-pub front_of_ended : (w m w' : Option (List ℕ)) (line : List ℕ) → Appends w m line → ((n : ℕ) × (n ≤ 1) × Appends m w' (take n (10 ∷ [])))
+pub front_of_ended : (w m w' : Option (List ℕ)) (line : List ℕ) → Appends w m line
+    → ((n : ℕ) × (n ≤ 1) × Appends m w' (take n (10 ∷ [])))
     → (front : List ℕ) × IsFrontOf front (ended line) × Appends w w' front
 unfolding ended
-front_of_ended w m w' line first (n, fits, more) =
-    (line ++ take n (10 ∷ []), front_behind line (10 ∷ []) (take n (10 ∷ [])) (n, fits, refl), Appends-trans w m w' _ _ first more)
+front_of_ended w m w' line first (n, fits, more) = (
+  line ++ take n (10 ∷ []),
+  front_behind line (10 ∷ []) (take n (10 ∷ [])) (n, fits, refl),
+  Appends-trans w m w' _ _ first more,
+)
 
 -- one more line
-lines_more : (items : List Shown) (lines : List (List ℕ)) (item : Shown) (line : List ℕ) → AreLinesOf IsShownText items lines → IsShownText item line
+lines_more : (items : List Shown) (lines : List (List ℕ)) (item : Shown) (line : List ℕ)
+    → AreLinesOf IsShownText items lines → IsShownText item line
     → AreLinesOf IsShownText (items ++ item ∷ []) (lines ++ line ∷ [])
 lines_more [] [] item line are is = (is, tt)
 lines_more [] (l ∷ lines) item line are is = absurd are
@@ -70,23 +77,35 @@ module _ {K N : Type 0} (some : K) (contents : K → Option (List ℕ)) (name : 
   abbrev pub Refuses : K → Shown → K → Type 0
   Refuses old item new = (name new ≡ name old) × TakesFront (contents old) item (contents new)
 
-  took : (items : List Shown) (old new : K) → TakesAll Takes old items new → (name new ≡ name old) × TakesLines (contents old) items (contents new)
-  took [] old new is = (ap name is, ([], tt, subst (λ k. Appends (contents old) (contents k) []) (sym is) (Appends-nil (contents old))))
+  took : (items : List Shown) (old new : K) → TakesAll Takes old items new → (name new ≡ name old)
+      × TakesLines (contents old) items (contents new)
+  took [] old new is =
+      (ap name is, ([], tt, subst (λ k. Appends (contents old) (contents k) []) (sym is) (Appends-nil (contents old))))
   took (item ∷ items) old new (next, (named, (line, is, appended)), later) =
-      let (named', (lines, are, appended')) = took items next new later in
-      (named' ∙ named, (line ∷ lines, (is, are), Appends-trans (contents old) (contents next) (contents new) _ _ appended appended'))
+      let (named', (lines, are, appended')) = took items next new later in (
+        named' ∙ named,
+        (
+          line ∷ lines,
+          (is, are),
+          Appends-trans (contents old) (contents next) (contents new) _ _
+              appended appended',
+        ),
+      )
 
   module _ (IsWhole : List Shown → Type 0) (old new : K) where
-    pub wrote_all : (count : ℕ) → HandsAll Takes IsWhole old new count → (name new ≡ name old) × WritesAll IsWhole (contents old) (contents new) count
+    pub wrote_all : (count : ℕ) → HandsAll Takes IsWhole old new count → (name new ≡ name old)
+        × WritesAll IsWhole (contents old) (contents new) count
     wrote_all count h =
         let (named, lines) = took h.items old new h.taken in
         (named, record { items = h.items; whole = h.whole; taken = lines; counted = h.counted })
 
     -- the lines before, and a front of the next
-    cut_off : (done rest : List Shown) (last : K) (item : Shown) (later : List Shown) (fault : ListFault) → IsWhole (done ++ rest) → rest ≡ item ∷ later
+    cut_off : (done rest : List Shown) (last : K) (item : Shown) (later : List Shown) (fault : ListFault)
+        → IsWhole (done ++ rest) → rest ≡ item ∷ later
         → TakesAll Takes old done last → Refuses last item new
         → (name new ≡ name old) × ((first : List Shown) × (others : List Shown) × IsWhole (first ++ others)
-        × ((lines : List (List ℕ)) × AreLinesOf IsShownText first lines × ((front : List ℕ) × IsFrontOf front (flat_map ended lines) × Appends (contents old) (contents new) front)))
+        × ((lines : List (List ℕ)) × AreLinesOf IsShownText first lines
+        × ((front : List ℕ) × IsFrontOf front (flat_map ended lines) × Appends (contents old) (contents new) front)))
     cut_off done rest last item later fault whole is taken (named, (line, text, (front, begins, appended))) =
         let (named', (lines, are, written)) = took done old last taken in (
           named ∙ named',
@@ -99,14 +118,16 @@ module _ {K N : Type 0} (some : K) (contents : K → Option (List ℕ)) (name : 
               lines_more done lines item line are text,
               (
                 flat_map ended lines ++ front,
-                subst (IsFrontOf (flat_map ended lines ++ front)) (sym (flat_map_more lines line)) (front_behind (flat_map ended lines) (ended line) front begins),
+                subst (IsFrontOf (flat_map ended lines ++ front)) (sym (flat_map_more lines line))
+                    (front_behind (flat_map ended lines) (ended line) front begins),
                 Appends-trans (contents old) (contents last) (contents new) _ _ written appended,
               ),
             ),
           ),
         )
 
-    wrote_first : (fault : ListFault) (done rest : List Shown) → IsWhole (done ++ rest) → EndsSo Takes Refuses old done rest new fault
+    wrote_first : (fault : ListFault) (done rest : List Shown) → IsWhole (done ++ rest)
+        → EndsSo Takes Refuses old done rest new fault
         → (name new ≡ name old) × WritesPart IsWhole (contents old) (contents new) fault
     wrote_first Faults.Memory done rest whole taken =
         let (named, lines) = took done old new taken in
@@ -115,7 +136,8 @@ module _ {K N : Type 0} (some : K) (contents : K → Option (List ℕ)) (name : 
         let (named, lines) = took done old new taken in
         (named, record { first = done; rest = rest; whole = whole; ends = lines })
     wrote_first (Faults.Sink f) done rest whole (last, item, later, is, taken, refused) =
-        let (named, (first, others, all, ends)) = cut_off done rest last item later (Faults.Sink f) whole is taken refused in
+        let (named, (first, others, all, ends)) = cut_off done rest last item later (Faults.Sink f) whole is taken
+        refused in
         (named, record { first = first; rest = others; whole = all; ends = ends })
 
     pub wrote_part : (fault : ListFault) → HandsPart Takes Refuses IsWhole old new fault
@@ -134,7 +156,8 @@ IsCauseOf (Faults.Sink f) cause = cause ≡ Device Writer
 abbrev listing : List Shown → List (List ℕ) → Reply
 listing items lines = record { rows = lines; line = answer_text (Ok (Rows (length items))) }
 
-rows_served : (listed : Listed) (app : Option (List ℕ)) (c : Content) (items : List Shown) (lines : List (List ℕ)) → ShowRows listed app c items
+rows_served : (listed : Listed) (app : Option (List ℕ)) (c : Content) (items : List Shown) (lines : List (List ℕ))
+    → ShowRows listed app c items
     → AreLinesOf IsShownText items lines → Serves (ListRows listed app) c (listing items lines) c
 rows_served listed app c items lines (rows, lists, is) are = record {
   answer = Ok (Rows (length items));
@@ -144,7 +167,8 @@ rows_served listed app c items lines (rows, lists, is) are = record {
   well_formed = tt;
 }
 
-pairs_served : (app : Option (List ℕ)) (c : Content) (items : List Shown) (lines : List (List ℕ)) → ShowPairs app c items
+pairs_served : (app : Option (List ℕ)) (c : Content) (items : List Shown) (lines : List (List ℕ))
+    → ShowPairs app c items
     → AreLinesOf IsShownText items lines → Serves (ListPairs app) c (listing items lines) c
 pairs_served app c items lines (links, lists, is) are = record {
   answer = Ok (Rows (length items));
@@ -154,7 +178,8 @@ pairs_served app c items lines (links, lists, is) are = record {
   well_formed = tt;
 }
 
-list_served : (what : What) (app : Option (List ℕ)) (c : Content) (items : List Shown) (lines : List (List ℕ)) → IsListing what app c items
+list_served : (what : What) (app : Option (List ℕ)) (c : Content) (items : List Shown) (lines : List (List ℕ))
+    → IsListing what app c items
     → AreLinesOf IsShownText items lines → Serves (list_asked what app) c (listing items lines) c
 list_served Whats.Ltp app c items lines whole are = rows_served LongTermPlan app c items lines whole are
 list_served Whats.Cp app c items lines whole are = rows_served CurrentPlan app c items lines whole are
@@ -168,7 +193,8 @@ printed_behind : (rows : List (List ℕ)) (line text : List ℕ) → text ≡ pr
 unfolding printed
 printed_behind rows line text is = ap (λ l. flat_map ended rows ++ l) is
 
-prints_behind : (rows : List (List ℕ)) (line text : List ℕ) (accepted : Bool) → Prints (record { rows = []; line = line }) text accepted
+prints_behind : (rows : List (List ℕ)) (line text : List ℕ) (accepted : Bool)
+    → Prints (record { rows = []; line = line }) text accepted
     → Prints (record { rows = rows; line = line }) (flat_map ended rows ++ text) accepted
 unfolding is_accepted is_refused
 prints_behind rows line text accepted h = record {
@@ -178,10 +204,12 @@ prints_behind rows line text accepted h = record {
 }
 
 module _ {S : Type 0} (is_honest : S → Type 0) (content : S → Content) (failures : S → ℕ) (before now : S)
-    (old mid new : Option (List ℕ)) (item : Item) (what : What) (app : Option (List ℕ)) (asks : Asks item (Some (list_asked what app)))
+    (old mid new : Option (List ℕ)) (item : Item) (what : What) (app : Option (List ℕ))
+    (asks : Asks item (Some (list_asked what app)))
     (same : is_honest now → content now ≡ content before) (counts : failures before ≤ failures now)
     (honest' : is_honest now → is_honest before) where
-  begins : (c : Content) (first rest : List Shown) (lines : List (List ℕ)) → IsListing what app c (first ++ rest) → AreLinesOf IsShownText first lines
+  begins : (c : Content) (first rest : List Shown) (lines : List (List ℕ)) → IsListing what app c (first ++ rest)
+      → AreLinesOf IsShownText first lines
       → BeginsList c item lines
   begins c first rest lines whole are = record {
     what = what;
@@ -194,39 +222,56 @@ module _ {S : Type 0} (is_honest : S → Type 0) (content : S → Content) (fail
   }
 
   -- the first lines, before a fault
-  lines_begun : (c : Content) (new' : Option (List ℕ)) (first rest : List Shown) → IsListing what app c (first ++ rest) → TakesLines old first new'
+  lines_begun : (c : Content) (new' : Option (List ℕ)) (first rest : List Shown) → IsListing what app c (first ++ rest)
+      → TakesLines old first new'
       → (front : List ℕ) × BeginsInHand c (Some item) front × Appends old new' front
   lines_begun c new' first rest whole (lines, are, appended) =
       (flat_map ended lines, inr (lines, (item, refl, begins c first rest lines whole are), refl), appended)
 
   -- the store or the writer failed, or memory was refused, within the listing
-  pub list_ends : (fault : ListFault) (cause : Cause) → (is_honest now → WritesPart (IsListing what app (content before)) old new fault)
+  pub list_ends : (fault : ListFault) (cause : Cause)
+      → (is_honest now → WritesPart (IsListing what app (content before)) old new fault)
       → (fault ≡ Faults.Device → IsBlamed (failures before) (failures now)) → IsCauseOf fault cause
       → AnswersItem is_honest content failures before now old new item (Err cause)
-  list_ends Faults.Memory cause part blames is = subst (λ x. AnswersItem is_honest content failures before now old new item (Err x)) (sym is) (record {
-    ok = λ honest. tt;
-    err = λ honest. let p = part honest in (same honest, lines_begun (content before) new p.first p.rest p.whole p.ends);
-    blames = λ store. absurd (let h : ⊥ = cc store in h);
-    counts = counts;
-    honest = honest';
-  })
-  list_ends Faults.Device cause part blames is = subst (λ x. AnswersItem is_honest content failures before now old new item (Err x)) (sym is) (record {
-    ok = λ honest. tt;
-    err = λ honest. let p = part honest in (inl (same honest), lines_begun (content before) new p.first p.rest p.whole p.ends);
-    blames = λ store. blames refl;
-    counts = counts;
-    honest = honest';
-  })
-  list_ends (Faults.Sink f) cause part blames is = subst (λ x. AnswersItem is_honest content failures before now old new item (Err x)) (sym is) (record {
-    ok = λ honest. tt;
-    err = λ honest.
-        let p = part honest in
-        let (lines, are, (front, fronts, appended)) = p.ends in
-        (front, inr (same honest, (lines, (item, refl, begins (content before) p.first p.rest lines p.whole are), fronts)), appended);
-    blames = λ store. absurd (let h : ⊥ = cc store in h);
-    counts = counts;
-    honest = honest';
-  })
+  list_ends Faults.Memory cause part blames is =
+      subst (λ x. AnswersItem is_honest content failures before now old new item (Err x)) (sym is) (record {
+        ok = λ honest. tt;
+        err = λ honest. let p = part honest in
+            (same honest, lines_begun (content before) new p.first p.rest p.whole p.ends);
+        blames = λ store. absurd (let h : ⊥ = cc store in h);
+        counts = counts;
+        honest = honest';
+      })
+  list_ends Faults.Device cause part blames is =
+      subst (λ x. AnswersItem is_honest content failures before now old new item (Err x)) (sym is) (record {
+        ok = λ honest. tt;
+        err = λ honest. let p = part honest in
+            (inl (same honest), lines_begun (content before) new p.first p.rest p.whole p.ends);
+        blames = λ store. blames refl;
+        counts = counts;
+        honest = honest';
+      })
+  list_ends (Faults.Sink f) cause part blames is =
+      subst (λ x. AnswersItem is_honest content failures before now old new item (Err x)) (sym is) (record {
+        ok = λ honest. tt;
+        err = λ honest.
+            let p = part honest in
+            let (lines, are, (front, fronts, appended)) = p.ends in (
+              front,
+              inr (
+                same honest,
+                (
+                  lines,
+                  (item, refl, begins (content before) p.first p.rest lines p.whole are),
+                  fronts,
+                ),
+              ),
+              appended,
+            );
+        blames = λ store. absurd (let h : ⊥ = cc store in h);
+        counts = counts;
+        honest = honest';
+      })
 
   module _ (count : ℕ) (all : is_honest now → WritesAll (IsListing what app (content before)) old mid count) where
     -- the reply of the listing, where its last line is printed so
@@ -235,7 +280,8 @@ module _ {S : Type 0} (is_honest : S → Type 0) (content : S → Content) (fail
 
     abbrev Whole : Printed → Type 0
     Whole printed = (reply : Reply) × (lines : List (List ℕ)) × Step (content before) item reply (content now)
-        × Prints reply (flat_map ended lines ++ printed.text.items) printed.is_accepted × Appends old mid (flat_map ended lines)
+        × Prints reply (flat_map ended lines ++ printed.text.items) printed.is_accepted
+        × Appends old mid (flat_map ended lines)
 
     whole_reply : (printed : Printed) → IsAnswered printed → is_honest now → Whole printed
     whole_reply printed tells honest =
@@ -250,13 +296,18 @@ module _ {S : Type 0} (is_honest : S → Type 0) (content : S → Content) (fail
           appended,
         )
 
-    list_ok : (printed : Printed) (accepted : Bool) → IsAnswered printed → Appends mid new printed.text.items × (accepted ≡ printed.is_accepted)
+    list_ok : (printed : Printed) (accepted : Bool) → IsAnswered printed → Appends mid new printed.text.items
+        × (accepted ≡ printed.is_accepted)
         → AnswersItem is_honest content failures before now old new item (Ok accepted)
     list_ok printed accepted tells (appended, is) = record {
       ok = λ honest.
           let (reply, lines, step, prints, rows) = whole_reply printed tells honest in (
             flat_map ended lines ++ printed.text.items,
-            record { reply = reply; gives = step; prints = subst (Prints reply (flat_map ended lines ++ printed.text.items)) (sym is) prints },
+            record {
+              reply = reply;
+              gives = step;
+              prints = subst (Prints reply (flat_map ended lines ++ printed.text.items)) (sym is) prints;
+            },
             Appends-trans old mid new _ _ rows appended,
           );
       err = λ honest. tt;
@@ -271,8 +322,10 @@ module _ {S : Type 0} (is_honest : S → Type 0) (content : S → Content) (fail
       ok = λ honest. tt;
       err = λ honest.
           let (reply, lines, step, prints, rows) = whole_reply printed tells honest in
-          writer_breaks Step cause (content before) (content now) old new item reply (flat_map ended lines ++ front) is step
-          (subst (IsFrontOf (flat_map ended lines ++ front)) prints.text_is (front_behind (flat_map ended lines) printed.text.items front fronts))
+          writer_breaks Step cause (content before) (content now) old new item reply (flat_map ended lines ++ front) is
+          step
+          (subst (IsFrontOf (flat_map ended lines ++ front)) prints.text_is
+          (front_behind (flat_map ended lines) printed.text.items front fronts))
           (Appends-trans old mid new _ _ rows appended);
       blames = λ store. absurd (let no : Device Writer ≡ Device Store = sym is ∙ store in let h : ⊥ = cc no in h);
       counts = counts;
@@ -282,13 +335,15 @@ module _ {S : Type 0} (is_honest : S → Type 0) (content : S → Content) (fail
     list_untold : (fault : StoreFault) (cause : Cause) → fault ≡ Stores.Memory → IsUnwritten (Err fault) mid new cause
         → AnswersItem is_honest content failures before now old new item (Err cause)
     list_untold fault cause memory (is, kept) =
-        subst (λ x. AnswersItem is_honest content failures before now old new item (Err x)) (sym (is ∙ ap store_cause memory)) (record {
+        subst (λ x. AnswersItem is_honest content failures before now old new item (Err x))
+        (sym (is ∙ ap store_cause memory)) (record {
           ok = λ honest. tt;
           err = λ honest.
               let a = all honest in
               let (lines, are, appended) = a.taken in (
                 same honest,
-                lines_begun (content before) new a.items [] (subst (IsListing what app (content before)) (sym (append-nil a.items)) a.whole)
+                lines_begun (content before) new a.items []
+                    (subst (IsListing what app (content before)) (sym (append-nil a.items)) a.whole)
                     (lines, are, Appends-kept old mid new (flat_map ended lines) appended kept),
               );
           blames = λ store. absurd (let h : ⊥ = cc store in h);

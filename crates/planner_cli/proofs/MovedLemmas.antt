@@ -32,7 +32,8 @@ module _ {X : Type 0} (row_of : X → Row) where
 
     pub put_is : (x : X) → Contains moves.put.items x → later (serial_of x) ≡ Some x
     put_is x there =
-        let found : look_up serial_of moves.put.items (serial_of x) ≡ Some x = look_has serial_of moves.put.items (one_serial moves.put.items fits.put_once) x there in
+        let found : look_up serial_of moves.put.items (serial_of x) ≡ Some x =
+        look_has serial_of moves.put.items (one_serial moves.put.items fits.put_once) x there in
         rw found refl
 
     pub gone_was : (x : X) → Contains moves.gone.items x → set (serial_of x) ≡ Some x
@@ -40,11 +41,15 @@ module _ {X : Type 0} (row_of : X → Row) where
 
     pub gone_is : (x : X) → Contains moves.gone.items x → later (serial_of x) ≡ None
     gone_is x there =
-        let not_put : look_up serial_of moves.put.items (serial_of x) ≡ None = look_lacks serial_of moves.put.items (serial_of x)
-        (λ y at same. some_none (set (serial_of x)) x (fits.goes x there) (subst (λ n. set n ≡ None) same (fits.new y at))) in
-        let not_changed : look_up serial_of moves.changed.items (serial_of x) ≡ None = look_lacks serial_of moves.changed.items (serial_of x)
+        let not_put : look_up serial_of moves.put.items (serial_of x) ≡ None =
+        look_lacks serial_of moves.put.items (serial_of x)
+        (λ y at same. some_none (set (serial_of x)) x (fits.goes x there)
+        (subst (λ n. set n ≡ None) same (fits.new y at))) in
+        let not_changed : look_up serial_of moves.changed.items (serial_of x) ≡ None =
+        look_lacks serial_of moves.changed.items (serial_of x)
         (λ y at same. look_none serial_of moves.gone.items (serial_of y) (fits.stays y at) x there (sym same)) in
-        let gone : look_up serial_of moves.gone.items (serial_of x) ≡ Some x = look_has serial_of moves.gone.items (one_serial moves.gone.items fits.gone_once) x there in
+        let gone : look_up serial_of moves.gone.items (serial_of x) ≡ Some x =
+        look_has serial_of moves.gone.items (one_serial moves.gone.items fits.gone_once) x there in
         rw (not_put, not_changed, gone) refl
 
     -- nothing stands under a serial of what isn't put, changed or there before
@@ -58,10 +63,13 @@ module _ {X : Type 0} (row_of : X → Row) where
         (λ o. look_up serial_of moves.put.items serial ≡ o → Contains moves.put.items x) [
           | Some y ↦ λ found.
               let now : later serial ≡ Some y = rw found refl in
-              subst (Contains moves.put.items) (one_some (later serial) y x now is) (look_some serial_of moves.put.items serial y found).0
+              subst (Contains moves.put.items) (one_some (later serial) y x now is)
+              (look_some serial_of moves.put.items serial y found).0
           | None ↦ λ found.
-              let rest : later serial ≡ (if is_some (look_up serial_of moves.gone.items serial) then None else set serial) = rw (found, not_changed_there serial none) refl in
-              absurd (some_none (later serial) x is (rest ∙ still (is_some (look_up serial_of moves.gone.items serial))))
+              let rest : later serial ≡ (if is_some (look_up serial_of moves.gone.items serial) then None else set
+              serial) = rw (found, not_changed_there serial none) refl in
+              absurd (some_none (later serial) x is
+              (rest ∙ still (is_some (look_up serial_of moves.gone.items serial))))
         ] refl
       where
         still : (b : Bool) → (if b then None else set serial) ≡ None
@@ -77,7 +85,8 @@ module _ {X : Type 0} (row_of : X → Row) where
               subst (Contains moves.gone.items) (one_some (set serial) y x was some) there
           | None ↦ λ found.
               absurd (left (look_up serial_of moves.put.items serial) (look_up serial_of moves.changed.items serial)
-              (let e : later serial ≡ or_else (look_up serial_of moves.put.items serial) (or_else (look_up serial_of moves.changed.items serial) (set serial)) = rw found refl in sym e ∙ is))
+              (let e : later serial ≡ or_else (look_up serial_of moves.put.items serial)
+              (or_else (look_up serial_of moves.changed.items serial) (set serial)) = rw found refl in sym e ∙ is))
         ] refl
       where
         left : (o p : Option X) → or_else o (or_else p (set serial)) ≡ None → ⊥

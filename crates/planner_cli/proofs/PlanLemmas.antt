@@ -24,12 +24,15 @@ use Rattle.planner_cli.specs.declared.tally.Tally.{Tally}
 use Rattle.planner_cli.proofs.Progress.{answers_more}
 
 -- a step leaves what is sound sound
-asked_sound : RunsSound → (asked : Option Statement) (c c' : Content) (reply : Reply) → IsSound c → AnswersAsked asked c reply c' → IsSound c'
+asked_sound : RunsSound → (asked : Option Statement) (c c' : Content) (reply : Reply) → IsSound c
+    → AnswersAsked asked c reply c' → IsSound c'
 asked_sound law None c c' reply sound h = subst IsSound (sym h.1) sound
 asked_sound law (Some s) c c' reply sound h =
-    law (s ∷ []) (h.answer ∷ []) c c' sound (All-cons IsStatement s [] h.well_formed (λ k d lt. absurd (omega (arith, lt)))) (c', h.steps, refl)
+    law (s ∷ []) (h.answer ∷ []) c c' sound
+    (All-cons IsStatement s [] h.well_formed (λ k d lt. absurd (omega (arith, lt)))) (c', h.steps, refl)
 
-pub step_sound : RunsSound → (c c' : Content) (item : Item) (reply : Reply) → IsSound c → Step c item reply c' → IsSound c'
+pub step_sound : RunsSound → (c c' : Content) (item : Item) (reply : Reply) → IsSound c → Step c item reply c'
+    → IsSound c'
 step_sound law c c' item reply sound (asked, asks, h) = asked_sound law asked c c' reply sound h
 
 -- what a job's reply shows: its answer alone
@@ -37,7 +40,8 @@ abbrev pub TellsJob : Statement → Answer → Reply → Type 0
 TellsJob s answer reply = (number : ℕ) → job_number s ≡ Some number → reply ≡ answering answer
 
 -- how the replies stand to the statements of the items and to their answers
-abbrev pub TellsAsked : Option Statement → (List Statement → List Answer → Type 0) → List Statement → List Answer → Reply → Type 0
+abbrev pub TellsAsked : Option Statement → (List Statement → List Answer → Type 0) → List Statement → List Answer
+    → Reply → Type 0
 TellsAsked None More stream answers reply = More stream answers
 TellsAsked (Some s) More stream answers reply =
     (rest : List Statement) × (a : Answer) × (later : List Answer) × (stream ≡ s ∷ rest) × (answers ≡ a ∷ later)
@@ -66,7 +70,8 @@ pub record Led (items : List Item) (replies : List Reply) (c c' : Content) : Typ
   pub run : Runs stream c answers c'
   pub tells : Tells items stream answers replies
 
-led_on : (item : Item) (items : List Item) (asked : Option Statement) (c between c' : Content) (reply : Reply) (replies all : List Reply)
+led_on : (item : Item) (items : List Item) (asked : Option Statement) (c between c' : Content) (reply : Reply)
+    (replies all : List Reply)
     → all ≡ reply ∷ replies → Asks item asked
     → AnswersAsked asked c reply between → Led items replies between c' → Led (item ∷ items) all c c'
 led_on item items None c between c' reply replies all is asks h rest = record {
@@ -83,10 +88,18 @@ led_on item items (Some s) c between c' reply replies all is asks h rest = recor
   asked = (Some s, rest.stream, refl, asks, rest.asked);
   well_formed = All-cons IsStatement s rest.stream h.well_formed rest.well_formed;
   run = (between, h.steps, rest.run);
-  tells = (Some s, reply, replies, is, asks, (rest.stream, h.answer, rest.answers, refl, refl, job_told s c between reply h, rest.tells));
+  tells = (
+    Some s,
+    reply,
+    replies,
+    is,
+    asks,
+    (rest.stream, h.answer, rest.answers, refl, refl, job_told s c between reply h, rest.tells),
+  );
 }
 
-pub led : (items : List Item) (replies : List Reply) (c c' : Content) → Answers Step c items replies c' → Led items replies c c'
+pub led : (items : List Item) (replies : List Reply) (c c' : Content) → Answers Step c items replies c'
+    → Led items replies c c'
 led [] replies c c' h = record {
   stream = [];
   answers = [];
@@ -98,7 +111,8 @@ led [] replies c c' h = record {
 led (item ∷ items) replies c c' (reply, rest, between, e, (asked, asks, h), later) =
     led_on item items asked c between c' reply rest replies e asks h (led items rest between c' later)
 
-pub leads : RunsSound → RunsByFate → (items : List Item) (replies : List Reply) (c c' : Content) → IsSound c → Answers Step c items replies c' → LeadsTo items c c'
+pub leads : RunsSound → RunsByFate → (items : List Item) (replies : List Reply) (c c' : Content) → IsSound c
+    → Answers Step c items replies c' → LeadsTo items c c'
 leads law fates items replies c c' sound h =
     let all = led items replies c c' h in
     record {
@@ -111,7 +125,8 @@ leads law fates items replies c c' sound h =
       placed = fates all.stream all.answers c c' sound all.well_formed all.run;
     }
 
-pub ran_leads : RunsSound → RunsByFate → (c c' : Content) (w w' read : Option (List ℕ)) (tally : Tally) → IsSound c → Ran Step c c' w w' read tally
+pub ran_leads : RunsSound → RunsByFate → (c c' : Content) (w w' read : Option (List ℕ)) (tally : Tally) → IsSound c
+    → Ran Step c c' w w' read tally
     → RanPlan c c' w w' read tally
 ran_leads law fates c c' w w' read tally sound h =
     record { ran = h; leads = leads law fates h.items h.replies c c' sound h.answers }
@@ -124,7 +139,8 @@ pub record Reached (done : List Item) (replies : List Reply) (c c' : Content) (h
   pub answers : Answers Step c items told c'
 
 -- where nothing changed since, or the item in hand was answered
-since : (done : List Item) (replies : List Reply) (c between c' : Content) (hand : Option Item) → Answers Step c done replies between
+since : (done : List Item) (replies : List Reply) (c between c' : Content) (hand : Option Item)
+    → Answers Step c done replies between
     → (c' ≡ between) ⊎ LeavesInHand Step between hand c' → Reached done replies c c' hand
 since done replies c between c' hand h (inl same) = record {
   items = done;
@@ -139,7 +155,8 @@ since done replies c between c' hand h (inr (item, is, (reply, step))) = record 
   answers = answers_more Step c between c' done replies item reply h step;
 }
 
-ended : (cause : Cause) (line : List ℕ) (between c' : Content) (hand : Option Item) (tail : List ℕ) → EndsBy Step cause line between c' hand tail
+ended : (cause : Cause) (line : List ℕ) (between c' : Content) (hand : Option Item) (tail : List ℕ)
+    → EndsBy Step cause line between c' hand tail
     → (c' ≡ between) ⊎ LeavesInHand Step between hand c'
 ended Memory line between c' hand tail h = inl h.0
 ended (Device Store) line between c' hand tail h = h.0
@@ -147,12 +164,15 @@ ended (Device Reader) line between c' hand tail h = inl h.0
 ended (Device Writer) line between c' hand tail (inl (item, is, (reply, step, front))) = inr (item, is, (reply, step))
 ended (Device Writer) line between c' hand tail (inr (same, lists)) = inl same
 
-pub reached : (line : Cause → List ℕ) (c c' : Content) (w w' read : Option (List ℕ)) (fault : RunFault) (h : Stopped Step line c c' w w' read fault)
+pub reached : (line : Cause → List ℕ) (c c' : Content) (w w' read : Option (List ℕ)) (fault : RunFault)
+    (h : Stopped Step line c c' w w' read fault)
     → Reached h.done h.replies c c' h.hand
 reached line c c' w w' read fault h =
-    since h.done h.replies c h.between c' h.hand h.answers (ended (cause_of fault) (line (cause_of fault)) h.between c' h.hand h.tail h.ending)
+    since h.done h.replies c h.between c' h.hand h.answers
+    (ended (cause_of fault) (line (cause_of fault)) h.between c' h.hand h.tail h.ending)
 
-pub stopped_leads : RunsSound → RunsByFate → (c c' : Content) (w w' read : Option (List ℕ)) (fault : RunFault) → IsSound c
+pub stopped_leads : RunsSound → RunsByFate → (c c' : Content) (w w' read : Option (List ℕ)) (fault : RunFault)
+    → IsSound c
     → Stopped Step fault_line c c' w w' read fault → StoppedPlan c c' w w' read fault
 stopped_leads law fates c c' w w' read fault sound h =
     let at = reached fault_line c c' w w' read fault h in

@@ -1,5 +1,6 @@
 -- Streams that are run again: their items ask the same statements.
-use Rattle.std.proofs.Common.{◌≡◌, ◌∙◌, ℕ, zero, suc, List, [], ◌∷◌, ◌++◌, refl, sym, ap, subst, inl, inr, append_assoc, None, Option, Some}
+use Rattle.std.proofs.Common.{◌≡◌, ◌∙◌, ℕ, zero, suc, List, [], ◌∷◌, ◌++◌, refl, sym, ap, subst, inl, inr, append_assoc}
+use Rattle.std.proofs.Common.{None, Option, Some}
 use Rattle.std.specs.Prelude.{All, slice_get}
 use Rattle.planner_machine.specs.Rerun.{AnswersAgree, RerunEndsAsEachRun, job_number}
 use Rattle.planner_machine.specs.Statement.{Answer, Statement}
@@ -60,7 +61,8 @@ module _ (law : OneStatement) where
       )
 
   -- replies agree where answers do
-  job_agrees : (s t : Statement) (a b : Answer) (r q : Reply) (number : ℕ) → t ≡ s → job_number t ≡ Some number → TellsJob s a r → TellsJob s b q
+  job_agrees : (s t : Statement) (a b : Answer) (r q : Reply) (number : ℕ) → t ≡ s → job_number t ≡ Some number
+      → TellsJob s a r → TellsJob s b q
       → a ≡ b → r ≡ q
   job_agrees s t a b r q number same is told told' alike =
       let number_is : job_number s ≡ Some number = ap job_number (sym same) ∙ is in
@@ -68,10 +70,12 @@ module _ (law : OneStatement) where
 
   -- whatever is told of the items, their replies agree
   abbrev AllAgree : List Item → Type 0
-  AllAgree items = (stream : List Statement) (answers again : List Answer) (rs qs : List Reply) → Tells items stream answers rs
+  AllAgree items = (stream : List Statement) (answers again : List Answer) (rs qs : List Reply)
+      → Tells items stream answers rs
       → Tells items stream again qs → AnswersAgree stream answers again → RepliesAgree items rs qs
 
-  module _ (item : Item) (items : List Item) (next : AllAgree items) (stream : List Statement) (answers again : List Answer)
+  module _ (item : Item) (items : List Item) (next : AllAgree items) (stream : List Statement)
+      (answers again : List Answer)
       (r q : Reply) (rest rest' : List Reply) (agree : AnswersAgree stream answers again) where
     by_asked : (o : Option Statement) → Asks item o → TellsAsked o (λ x y. Tells items x y rest') stream again q
         → TellsAsked o (λ x y. Tells items x y rest) stream answers r
@@ -82,30 +86,47 @@ module _ (law : OneStatement) where
         let e : Some t ≡ None = asks_one item (Some t) None (subst (λ z. Asks z (Some t)) (sym same) asks_t) asks in
         absurd (let no : ⊥ = cc e in no)
     by_asked None asks told' told (suc k) job = next stream answers again rest rest' told told' agree k job
-    by_asked (Some s) asks (stream1, b, later', s_is', again_is, job', told') (stream2, a, later, s_is, answers_is, job_told, told) zero (one, at, (t, asks_t, (number, numbered))) =
+    by_asked (Some s) asks (stream1, b, later', s_is', again_is, job', told')
+        (stream2, a, later, s_is, answers_is, job_told, told) zero (one, at, (t, asks_t, (number, numbered))) =
         let whole : Some item ≡ Some one = at in
         let same : item ≡ one = cc in
-        let e : Some t ≡ Some s = asks_one item (Some t) (Some s) (subst (λ z. Asks z (Some t)) (sym same) asks_t) asks in
+        let e : Some t ≡ Some s = asks_one item (Some t) (Some s) (subst (λ z. Asks z (Some t)) (sym same) asks_t)
+        asks in
         let t_is : t ≡ s = cc in
-        let first = agree zero number (s, ap (λ (l : List Statement). slice_get l zero) s_is, ap job_number (sym t_is) ∙ numbered) in
-        let alike : Some b ≡ Some a = sym (ap (λ (l : List Answer). slice_get l zero) again_is) ∙ first ∙ ap (λ (l : List Answer). slice_get l zero) answers_is in
+        let first = agree zero number (
+          s,
+          ap (λ (l : List Statement). slice_get l zero) s_is,
+          ap job_number (sym t_is)
+              ∙ numbered,
+        ) in
+        let alike : Some b ≡ Some a = sym (ap (λ (l : List Answer). slice_get l zero) again_is) ∙ first
+        ∙ ap (λ (l : List Answer). slice_get l zero) answers_is in
         let alike' : b ≡ a = cc in
         ap Some (job_agrees s t b a q r number t_is numbered job' job_told alike')
-    by_asked (Some s) asks (stream1, b, later', s_is', again_is, job', told') (stream2, a, later, s_is, answers_is, job_told, told) (suc k) job =
+    by_asked (Some s) asks (stream1, b, later', s_is', again_is, job', told')
+        (stream2, a, later, s_is, answers_is, job_told, told) (suc k) job =
         let whole : s ∷ stream1 ≡ s ∷ stream2 = sym s_is' ∙ s_is in
         let tails : stream1 ≡ stream2 = cc in
         next stream2 later later' rest rest' told (subst (λ x. Tells items x later' rest') tails told')
         (λ place number job_at.
-        let e = agree (suc place) number (job_at.0, ap (λ (l : List Statement). slice_get l (suc place)) s_is ∙ job_at.1, job_at.2) in
-        sym (ap (λ (l : List Answer). slice_get l (suc place)) again_is) ∙ e ∙ ap (λ (l : List Answer). slice_get l (suc place)) answers_is)
+        let e = agree (suc place) number (
+          job_at.0,
+          ap (λ (l : List Statement). slice_get l (suc place)) s_is
+              ∙ job_at.1,
+          job_at.2,
+        ) in
+        sym (ap (λ (l : List Answer). slice_get l (suc place)) again_is) ∙ e
+        ∙ ap (λ (l : List Answer). slice_get l (suc place)) answers_is)
         k job
 
   replies_agree : (items : List Item) → AllAgree items
   replies_agree [] stream answers again rs qs x y agree place (item, at, job) = absurd (let no : ⊥ = cc at in no)
-  replies_agree (item ∷ items) stream answers again rs qs (asked, r, rest, is, asks, more) (asked', q, rest', is', asks', more') agree place job =
+  replies_agree (item ∷ items) stream answers again rs qs (asked, r, rest, is, asks, more)
+      (asked', q, rest', is', asks', more') agree place job =
       ap (λ l. slice_get l place) is'
       ∙ by_asked item items (replies_agree items) stream answers again r q rest rest' agree asked asks
-      (subst (λ o. TellsAsked o (λ x y. Tells items x y rest') stream again q) (asks_one item asked' asked asks' asks) more') more place job
+      (subst (λ o. TellsAsked o (λ x y. Tells items x y rest') stream again q) (asks_one item asked' asked asks' asks)
+      more') more place job
       ∙ ap (λ l. slice_get l place) (sym is)
 
   module _ (each : RerunEndsAsEachRun) where
@@ -119,7 +140,8 @@ module _ (law : OneStatement) where
         let again_is : d.stream ≡ b.stream = are_asked_one (first ++ rest) d.stream b.stream d.asked b.asked in
         let ends = each x y c c1 c' c'' a.answers b.answers d.answers sound
         (subst (All IsStatement) split b.well_formed) (subst (λ l. Runs l c a.answers c1) first_is a.run)
-        (subst (λ l. Runs l c b.answers c') split b.run) (subst (λ l. Runs l c1 d.answers c'') (again_is ∙ split) d.run) in (
+        (subst (λ l. Runs l c b.answers c') split b.run)
+        (subst (λ l. Runs l c1 d.answers c'') (again_is ∙ split) d.run) in (
           ends.0,
           replies_agree (first ++ rest) b.stream b.answers d.answers replies again b.tells
               (subst (λ l. Tells (first ++ rest) l d.answers again) again_is d.tells)
@@ -130,7 +152,8 @@ module _ (law : OneStatement) where
     after_fault text c c1 c' c'' w0 w1 w2 w3 w4 w5 fault tally tally' sound stopped whole again =
         let at = reached fault_line c c1 w0 w1 (Some text) fault stopped in
         let (rest, items) = stopped.read in
-        ends at (after at.items stopped.done stopped.hand rest at.are_answered) (sym whole.read ∙ items) (sym again.read ∙ items)
+        ends at (after at.items stopped.done stopped.hand rest at.are_answered) (sym whole.read ∙ items)
+        (sym again.read ∙ items)
       where
         -- the items of the text are those that were answered, and others
         after : (items done : List Item) (hand : Option Item) (rest : List Item) → AreAnswered done hand items
@@ -138,7 +161,8 @@ module _ (law : OneStatement) where
         after items done hand rest (inl is) = (with_hand hand rest, ap (λ l. l ++ with_hand hand rest) (sym is))
         after items done hand rest (inr (item, some, is)) = (
           rest,
-          ap (λ o. done ++ with_hand o rest) some ∙ sym (append_assoc done (item ∷ []) rest) ∙ ap (λ l. l ++ rest) (sym is),
+          ap (λ o. done ++ with_hand o rest) some ∙ sym (append_assoc done (item ∷ []) rest)
+              ∙ ap (λ l. l ++ rest) (sym is),
         )
 
         ends : (at : Reached stopped.done stopped.replies c c1 stopped.hand)

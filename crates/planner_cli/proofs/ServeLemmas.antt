@@ -38,8 +38,10 @@ abbrev pub AnswersBoth : ℕ → List ℕ → MachineChange → Content → Repl
 AnswersBoth number text change c reply c' =
     (answer : Answer) × AnswersJob number text (decision_of change) c answer c' × (reply ≡ answering answer)
 
-pub serves_job : (number : ℕ) (text : List ℕ) (change : MachineChange) (c : Content) → IsJobNumber number → IsWellFormed change
-    → (reply : Reply) (c' : Content) → AnswersBoth number text change c reply c' → Serves (Job number text change) c reply c'
+pub serves_job : (number : ℕ) (text : List ℕ) (change : MachineChange) (c : Content) → IsJobNumber number
+    → IsWellFormed change
+    → (reply : Reply) (c' : Content) → AnswersBoth number text change c reply c'
+    → Serves (Job number text change) c reply c'
 serves_job number text change c numbered fine reply c' (answer, step, is) = record {
   answer = answer;
   steps = step;
@@ -49,22 +51,31 @@ serves_job number text change c numbered fine reply c' (answer, step, is) = reco
 }
 
 -- a block's names can be shown
-shown_names : (number : ℕ) (kind : Kind) (bytes : List ℕ) → length bytes ≤ longest_block → (block : Block) → ReadsAs kind bytes block
+shown_names : (number : ℕ) (kind : Kind) (bytes : List ℕ) → length bytes ≤ longest_block → (block : Block)
+    → ReadsAs kind bytes block
     → names_given block ≤ 999999999
 shown_names number kind bytes short block reads = let few = names_few kind bytes block reads in omega (arith, few)
 
-pub serves_define : (number : ℕ) (text : List ℕ) (kind : Kind) (bytes : List ℕ) (block : Block) (c : Content) → IsJobNumber number
+pub serves_define : (number : ℕ) (text : List ℕ) (kind : Kind) (bytes : List ℕ) (block : Block) (c : Content)
+    → IsJobNumber number
     → length bytes ≤ longest_block → ReadsAs kind bytes block
-    → (reply : Reply) (c' : Content) → AnswersBoth number text (Define block) c reply c' → Serves (DefineJob number text kind (Some bytes)) c reply c'
+    → (reply : Reply) (c' : Content) → AnswersBoth number text (Define block) c reply c'
+    → Serves (DefineJob number text kind (Some bytes)) c reply c'
 serves_define number text kind bytes block c numbered short reads reply c' (answer, step, is) = record {
   answer = answer;
   steps = inr (block, reads, step);
   rows = ap (λ (r : Reply). r.rows) is;
   line = ap (λ (r : Reply). r.line) is;
-  well_formed = (let h = numbered.0 in omega arith, let h = numbered.1 in omega arith, shown_names number kind bytes short);
+  well_formed = (
+    let h = numbered.0 in omega arith,
+    let h = numbered.1 in
+        omega arith,
+    shown_names number kind bytes short,
+  );
 }
 
-pub serves_faulty : (number : ℕ) (text : List ℕ) (kind : Kind) (bytes : List ℕ) (record_number : ℕ) (c : Content) → IsJobNumber number
+pub serves_faulty : (number : ℕ) (text : List ℕ) (kind : Kind) (bytes : List ℕ) (record_number : ℕ) (c : Content)
+    → IsJobNumber number
     → length bytes ≤ longest_block → IsFaultyAt kind bytes record_number
     → Serves (DefineJob number text kind (Some bytes)) c (answering (Err (FaultyData record_number))) c
 serves_faulty number text kind bytes record_number c numbered short faulty = record {
@@ -72,7 +83,12 @@ serves_faulty number text kind bytes record_number c numbered short faulty = rec
   steps = inl (record_number, faulty, refl, refl);
   rows = refl;
   line = refl;
-  well_formed = (let h = numbered.0 in omega arith, let h = numbered.1 in omega arith, shown_names number kind bytes short);
+  well_formed = (
+    let h = numbered.0 in omega arith,
+    let h = numbered.1 in
+        omega arith,
+    shown_names number kind bytes short,
+  );
 }
 
 pub serves_no_data : (number : ℕ) (text : List ℕ) (kind : Kind) (c : Content) → IsJobNumber number
@@ -85,9 +101,11 @@ serves_no_data number text kind c numbered = record {
   well_formed = (let h = numbered.0 in omega arith, let h = numbered.1 in omega arith, λ block reads. absurd reads);
 }
 
-pub serves_days : (all : Definitions) (app : List ℕ) (from to : ℕ) (list : List Named) (rows : List (List ℕ)) → ListsDays all app from to list
+pub serves_days : (all : Definitions) (app : List ℕ) (from to : ℕ) (list : List Named) (rows : List (List ℕ))
+    → ListsDays all app from to list
     → ((c : Content) → c.definitions ≡ all → (r : Refusal) → ¬ (DaysRefused app from to c r)) → AreDaysLines list rows
-    → (c : Content) → c.definitions ≡ all → Serves (Days app from to) c (record { rows = rows; line = answer_text (Ok (Rows (length list))) }) c
+    → (c : Content) → c.definitions ≡ all → Serves (Days app from to) c
+    (record { rows = rows; line = answer_text (Ok (Rows (length list))) }) c
 serves_days all app from to list rows lists good lines c is = record {
   answer = Ok (Rows (length list));
   steps = (good c is, (refl, (list, subst (λ d. ListsDays d app from to list) (sym is) lists, refl)));
@@ -96,7 +114,8 @@ serves_days all app from to list rows lists good lines c is = record {
   well_formed = tt;
 }
 
-pub serves_no_days : (app : List ℕ) (from to : ℕ) (refusal : Refusal) (c : Content) → IsLeastRefusal (DaysRefused app from to c) refusal
+pub serves_no_days : (app : List ℕ) (from to : ℕ) (refusal : Refusal) (c : Content)
+    → IsLeastRefusal (DaysRefused app from to c) refusal
     → Serves (Days app from to) c (answering (Err refusal)) c
 serves_no_days app from to refusal c least = record {
   answer = Err refusal;
@@ -107,17 +126,20 @@ serves_no_days app from to refusal c least = record {
 }
 
 -- a defined name can be taken away
-pub not_refused : (kind : Kind) (name : List ℕ) (c : Content) → IsDefined c.definitions kind name → (q : Refusal) → UndefineRefused kind name c q → ⊥
+pub not_refused : (kind : Kind) (name : List ℕ) (c : Content) → IsDefined c.definitions kind name → (q : Refusal)
+    → UndefineRefused kind name c q → ⊥
 not_refused kind name c defined NotDefined h = h defined
 not_refused kind name c defined _ h = h
 
 -- ---- verdicts
 
-pub verdict_fits : (change : MachineChange) (verdict : Verdict) (c : Content) → VerdictIs (decision_of change) c verdict → FitsVerdict verdict c
+pub verdict_fits : (change : MachineChange) (verdict : Verdict) (c : Content) → VerdictIs (decision_of change) c verdict
+    → FitsVerdict verdict c
 verdict_fits change (Done made reply) c h = (h.0, keeps_jobs change c reply (after made c) h.1)
 verdict_fits change (Refused refusal) c h = tt
 
-pub verdict_decides : (d : Decision Content) (verdict : Verdict) (c : Content) → VerdictIs d c verdict → Decides d c (answer_in verdict) (left_by verdict c)
+pub verdict_decides : (d : Decision Content) (verdict : Verdict) (c : Content) → VerdictIs d c verdict
+    → Decides d c (answer_in verdict) (left_by verdict c)
 verdict_decides d (Done made reply) c h = h.1
 verdict_decides d (Refused refusal) c h = h
 
@@ -126,12 +148,14 @@ jobs_left (Done made reply) c h = h.1
 jobs_left (Refused refusal) c h = refl
 
 -- what comes of a verdict whose change was made with the job
-pub settled : (number : ℕ) (text : List ℕ) (verdict : Verdict) (change : Change) (answer : Answer) (c c' : Content) → FitsVerdict verdict c
+pub settled : (number : ℕ) (text : List ℕ) (verdict : Verdict) (change : Change) (answer : Answer) (c c' : Content)
+    → FitsVerdict verdict c
     → answer ≡ answer_in verdict → after change c ≡ left_by verdict c
     → c' ≡ after (record change { job = Some (record { number = number; text = text; reply = answer }) }) c
     → c' ≡ job_left number text verdict c
 settled number text verdict change answer c c' fits answered leaves is =
-    is ∙ after_with_job change (kept number text answer) c (ap (λ (x : Content). x.jobs) leaves ∙ jobs_left verdict c fits)
+    is ∙ after_with_job change (kept number text answer) c
+    (ap (λ (x : Content). x.jobs) leaves ∙ jobs_left verdict c fits)
     ∙ ap (with_job (kept number text answer)) leaves
     ∙ ap (λ a. with_job (kept number text a) (left_by verdict c)) answered
 
@@ -149,20 +173,27 @@ verdict_answers number text change verdict c is new reply c' h = (
 
 -- ---- kept jobs
 
-pub kept_none : (o : Option KeptJob) (text : List ℕ) (found : Option Answer) → found ≡ None → IsKeptAnswer o text found → o ≡ None
+pub kept_none : (o : Option KeptJob) (text : List ℕ) (found : Option Answer) → found ≡ None → IsKeptAnswer o text found
+    → o ≡ None
 kept_none None text found none h = refl
-kept_none (Some job) text found none (answer, is, h) = absurd (let no : None ≡ Some answer = sym none ∙ is in let x : ⊥ = cc no in x)
+kept_none (Some job) text found none (answer, is, h) =
+    absurd (let no : None ≡ Some answer = sym none ∙ is in let x : ⊥ = cc no in x)
 
 some_answer : (found : Option Answer) (a b : Answer) → found ≡ Some a → found ≡ Some b → a ≡ b
 some_answer found a b p q = let e : Some a ≡ Some b = sym p ∙ q in cc
 
-pub kept_answers : (number : ℕ) (text : List ℕ) (change : MachineChange) (c : Content) (o : Option KeptJob) → c.jobs number ≡ o
+pub kept_answers : (number : ℕ) (text : List ℕ) (change : MachineChange) (c : Content) (o : Option KeptJob)
+    → c.jobs number ≡ o
     → (found : Option Answer) (answer : Answer) → found ≡ Some answer → IsKeptAnswer o text found
     → AnswersBoth number text change c (answering answer) c
-kept_answers number text change c None at found answer some h = absurd (let no : None ≡ Some answer = sym h ∙ some in let x : ⊥ = cc no in x)
+kept_answers number text change c None at found answer some h =
+    absurd (let no : None ≡ Some answer = sym h ∙ some in let x : ⊥ = cc no in x)
 kept_answers number text change c (Some job) at found answer some (told, is, which) = (
   answer,
-  subst (λ o. AnswersKept number text (decision_of change) c o answer c) (sym at)
-      (refl, subst (λ a. ((job.text ≡ text) × (a ≡ job.reply)) ⊎ ((job.text ≡ text → ⊥) × (a ≡ Err JobWithAnotherText))) (some_answer found told answer is some) which),
+  subst (λ o. AnswersKept number text (decision_of change) c o answer c) (sym at) (
+    refl,
+    subst (λ a. ((job.text ≡ text) × (a ≡ job.reply)) ⊎ ((job.text ≡ text → ⊥) × (a ≡ Err JobWithAnotherText)))
+        (some_answer found told answer is some) which,
+  ),
   refl,
 )

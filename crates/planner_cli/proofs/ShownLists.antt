@@ -1,5 +1,6 @@
 -- Lists of rows that are printed: maps of lists, lists laid end to end, and lists in another order.
-use Rattle.std.proofs.Common.{◌≡◌, ◌≢◌, ◌∙◌, ℕ, ◌-◌, ◌<◌, List, [], ◌∷◌, ◌++◌, length, get_or, set, map, refl, sym, ap, subst, inl, inr, arith}
+use Rattle.std.proofs.Common.{◌≡◌, ◌≢◌, ◌∙◌, ℕ, ◌-◌, ◌<◌, List, [], ◌∷◌, ◌++◌, length, get_or, set, map, refl, sym, ap}
+use Rattle.std.proofs.Common.{subst, inl, inr, arith}
 use Rattle.std.specs.List.{AllPairs, Contains, swap}
 use Rattle.std.specs.List.Sorted.{IsPermutation}
 use Rattle.std.specs.Ordering.{MatchOrdering}
@@ -7,9 +8,11 @@ use Rattle.std.specs.Prelude.{flat_map}
 use Rattle.std.specs.declared.cmp.Ordering.TheVariants.{Equal, Less}
 use Rattle.std.proofs.lemmas.Cmp.{tied_itself}
 use Rattle.std.proofs.lemmas.Bool.{cases_lt, cases_order}
-use Rattle.std.proofs.lemmas.List.{get_or-append_right, get_or_default, get_or-map, get_or_append_left, length-append, length-map, map-set}
+use Rattle.std.proofs.lemmas.List.{get_or-append_right, get_or_default, get_or-map, get_or_append_left, length-append}
+use Rattle.std.proofs.lemmas.List.{length-map, map-set}
 use Rattle.std.proofs.lemmas.List.Elements.{Contains-get_or}
-use Rattle.std.proofs.lemmas.List.Sorted.{Contains-permutation, IsPermutation-keeps, IsPermutation-swap, IsPermutation-sym}
+use Rattle.std.proofs.lemmas.List.Sorted.{Contains-permutation, IsPermutation-keeps, IsPermutation-swap}
+use Rattle.std.proofs.lemmas.List.Sorted.{IsPermutation-sym}
 use Rattle.occurrences.specs.Row.{RowBefore, row_cmp}
 use Rattle.occurrences.specs.declared.row.Row.{Row}
 use Rattle.occurrences.proofs.RowLemmas.{row_cmp_total, row_equal, row_ranks}
@@ -84,13 +87,15 @@ module _ {X Y : Type 0} (f : X → Y) where
 pub pairs_append : {X : Type 0} (R : X → X → Type 0) (xs ys : List X) → AllPairs R xs → AllPairs R ys
     → ((x y : X) → Contains xs x → Contains ys y → R x y) → AllPairs R (xs ++ ys)
 pairs_append R xs ys left_pairs right_pairs below i j d lt lt_j = elim (cases_lt j (length xs)) [
-  | inl left ↦ rw (get_or_append_left xs ys d i (omega arith), get_or_append_left xs ys d j left) (left_pairs i j d lt left)
+  | inl left ↦ rw (get_or_append_left xs ys d i (omega arith), get_or_append_left xs ys d j left)
+      (left_pairs i j d lt left)
   | inr right ↦
       let short : j - length xs < length ys = omega (arith, length-append xs ys) in
       let at_j = get_or-append_right xs ys (length xs) j d refl right in
       elim (cases_lt i (length xs)) [
         | inl left ↦ rw (get_or_append_left xs ys d i left, at_j)
-            (below (get_or xs i d) (get_or ys (j - length xs) d) (Contains-get_or xs i d left) (Contains-get_or ys (j - length xs) d short))
+            (below (get_or xs i d) (get_or ys (j - length xs) d) (Contains-get_or xs i d left)
+            (Contains-get_or ys (j - length xs) d short))
         | inr both ↦ rw (get_or-append_right xs ys (length xs) i d refl both, at_j)
             (right_pairs (i - length xs) (j - length xs) d (omega arith) short)
       ]
@@ -103,7 +108,8 @@ pub one_each : {X : Type 0} (serial_of : X → ℕ) (xs : List X) → AllPairs (
     → (x y : X) → Contains xs x → Contains xs y → serial_of x ≡ serial_of y → x ≡ y
 one_each serial_of xs once x y (i, lt_i, at_i) (j, lt_j, at_j) same =
     let at_j' : get_or xs j x ≡ y = get_or_default xs j x y lt_j ∙ at_j in
-    let alike : serial_of (get_or xs i x) ≡ serial_of (get_or xs j x) = ap serial_of at_i ∙ same ∙ ap serial_of (sym at_j') in
+    let alike : serial_of (get_or xs i x) ≡ serial_of (get_or xs j x) = ap serial_of at_i ∙ same
+    ∙ ap serial_of (sym at_j') in
     elim (cases_order i j) [
       | inl is ↦ sym at_i ∙ ap (λ n. get_or xs n x) is ∙ at_j'
       | inr (inl below) ↦ absurd (once i j x below lt_j alike)
@@ -113,7 +119,8 @@ one_each serial_of xs once x y (i, lt_i, at_i) (j, lt_j, at_j) same =
 -- ---- rows in the order of lists
 
 pub before_from_less : (a b : Row) → a.serial ≢ b.serial → row_cmp a b ≡ Less → RowBefore a b
-before_from_less a b other less = subst (λ o. MatchOrdering o (RowBefore a b) ⊥ (RowBefore b a)) less (row_ranks a b other)
+before_from_less a b other less = subst (λ o. MatchOrdering o (RowBefore a b) ⊥ (RowBefore b a)) less
+    (row_ranks a b other)
 
 module _ {X : Type 0} (signed : X → Signed) where
   abbrev serial_of : X → ℕ
@@ -144,7 +151,8 @@ module _ {X : Type 0} (signed : X → Signed) where
       pairs_map signed (λ (a b : Signed). a.row ≢ b.row) items
       (λ i j d below lt same. apart i j d below lt (ap (λ (r : Row). r.serial) same)) in
       let keyed : AllPairs (λ (a b : Signed). row_cmp a.row b.row ≡ Less) report.shown =
-      sorted_keyed row_cmp_total row_equal (λ (s : Signed). s.row) (map signed items) report.shown rows_apart report.exactly report.rising in
+      sorted_keyed row_cmp_total row_equal (λ (s : Signed). s.row) (map signed items) report.shown rows_apart
+      report.exactly report.rising in
       let (zs, is, to, from) = lifted signed items report.shown report.exactly in
       let less = pairs_unmap signed (λ (a b : Signed). row_cmp a.row b.row ≡ Less) zs
       (subst (λ (l : List Signed). AllPairs (λ (a b : Signed). row_cmp a.row b.row ≡ Less) l) is keyed) in
@@ -155,11 +163,13 @@ module _ {X : Type 0} (signed : X → Signed) where
             let b = get_or zs j d in
             let first = less i j d below lt in
             before_from_less (signed a).row (signed b).row
-            (λ same. less_apart a b first (one a b (from a (Contains-get_or zs i d (omega arith))) (from b (Contains-get_or zs j d lt)) same)) first;
+            (λ same. less_apart a b first
+            (one a b (from a (Contains-get_or zs i d (omega arith))) (from b (Contains-get_or zs j d lt)) same)) first;
         to = to;
         from = from;
         lines = report.lines;
-        are_lines = lines_unmap zs report.lines (subst (λ (l : List Signed). AreLinesOf IsSignedText l report.lines) is report.are_lines);
+        are_lines = lines_unmap zs report.lines
+            (subst (λ (l : List Signed). AreLinesOf IsSignedText l report.lines) is report.are_lines);
         prints = report.prints;
       }
     where

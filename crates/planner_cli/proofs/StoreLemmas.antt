@@ -50,7 +50,9 @@ module _ {S : Type 0} (is_honest : S → Type 0) (content : S → Content) (fail
       → AnswersBy is_honest content failures before now result Does
       → AnswersBy is_honest content failures before now result More
   answers_so before now result Does More more a = record {
-    answers = λ honest. if_ok result _ _ (λ printed h. record { reply = h.reply; gives = more honest h.reply (content now) h.gives; prints = h.prints }) (a.answers honest);
+    answers = λ honest. if_ok result _ _
+        (λ printed h. record { reply = h.reply; gives = more honest h.reply (content now) h.gives; prints = h.prints })
+        (a.answers honest);
     unchanged = a.unchanged;
     whole = λ honest. on_err result _ _ (λ h. left honest h) (a.whole honest);
     blames = a.blames;
@@ -98,17 +100,25 @@ module _ {S : Type 0} (is_honest : S → Type 0) (content : S → Content) (fail
     honest = λ honest. honest;
   }
 
-  module _ {T : Type 0} (may_leave : S → Content → Type 0) (before mid : S) (read : Result T StoreFault) (IsRight : T → Type 0)
+  module _ {T : Type 0} (may_leave : S → Content → Type 0) (before mid : S) (read : Result T StoreFault)
+      (IsRight : T → Type 0)
       (reads : Reads is_honest content failures may_leave before mid read IsRight) where
     -- the store was read before
     pub after_read : (now : S) (result : Result Printed StoreFault) (Does : Content → Reply → Content → Type 0)
         → AnswersBy is_honest content failures mid now result (Does (content mid))
         → AnswersBy is_honest content failures before now result (Does (content before))
     after_read now result Does a = record {
-      answers = λ honest. if_ok result _ _ (λ printed h. record { reply = h.reply; gives = subst (λ c. Does c h.reply (content now)) (same honest) h.gives; prints = h.prints }) (a.answers honest);
+      answers = λ honest. if_ok result _ _
+          (λ printed h. record {
+            reply = h.reply;
+            gives = subst (λ c. Does c h.reply (content now)) (same honest) h.gives;
+            prints = h.prints;
+          })
+          (a.answers honest);
       unchanged = λ honest. if_err result _ _ (λ fault h is. h is ∙ same honest) (a.unchanged honest);
       whole = λ honest. on_err result _ _ (λ h. left honest h) (a.whole honest);
-      blames = if_err result _ _ (λ fault h is. blamed_since (failures before) (failures mid) (failures now) reads.counts a.counts (h is)) a.blames;
+      blames = if_err result _ _ (λ fault h is. blamed_since (failures before) (failures mid) (failures now)
+          reads.counts a.counts (h is)) a.blames;
       counts = let x = reads.counts in let y = a.counts in omega arith;
       honest = λ honest. reads.honest (a.honest honest);
     }
@@ -116,13 +126,15 @@ module _ {S : Type 0} (is_honest : S → Type 0) (content : S → Content) (fail
         same : is_honest now → content mid ≡ content before
         same honest = reads.same (a.honest honest)
 
-        left : is_honest now → ((content now ≡ content mid) ⊎ ((reply : Reply) × Does (content mid) reply (content now)))
+        left : is_honest now → ((content now ≡ content mid)
+            ⊎ ((reply : Reply) × Does (content mid) reply (content now)))
             → (content now ≡ content before) ⊎ ((reply : Reply) × Does (content before) reply (content now))
         left honest (inl is) = inl (is ∙ same honest)
         left honest (inr (reply, does)) = inr (reply, subst (λ c. Does c reply (content now)) (same honest) does)
 
   -- the store could not be read
-  pub unread : {T : Type 0} (may_leave : S → Content → Type 0) (before now : S) (fault : StoreFault) (IsRight : T → Type 0)
+  pub unread : {T : Type 0} (may_leave : S → Content → Type 0) (before now : S) (fault : StoreFault)
+      (IsRight : T → Type 0)
       (Does : Reply → Content → Type 0)
       → Reads is_honest content failures may_leave before now (Err fault) IsRight
       → AnswersBy is_honest content failures before now (Err fault) Does
@@ -135,11 +147,13 @@ module _ {S : Type 0} (is_honest : S → Type 0) (content : S → Content) (fail
     honest = reads.honest;
   }
 
-  module _ {T : Type 0} (may_leave : S → Content → Type 0) (before now : S) (read : Result T StoreFault) (IsRight : T → Type 0)
+  module _ {T : Type 0} (may_leave : S → Content → Type 0) (before now : S) (read : Result T StoreFault)
+      (IsRight : T → Type 0)
       (reads : Reads is_honest content failures may_leave before now read IsRight) where
     -- the store was read, and that is all
     pub read_told : (printed : Printed) (Does : Reply → Content → Type 0)
-        → (is_honest now → (reply : Reply) × Does reply (content before) × Prints reply printed.text.items printed.is_accepted)
+        → (is_honest now → (reply : Reply) × Does reply (content before)
+        × Prints reply printed.text.items printed.is_accepted)
         → AnswersBy is_honest content failures before now (Ok printed) Does
     read_told printed Does told = record {
       answers = λ honest. let (reply, does, prints) = told honest in
@@ -151,7 +165,8 @@ module _ {S : Type 0} (is_honest : S → Type 0) (content : S → Content) (fail
       honest = reads.honest;
     }
 
-    pub read_refused : (Does : Reply → Content → Type 0) → AnswersBy is_honest content failures before now (Err Memory) Does
+    pub read_refused : (Does : Reply → Content → Type 0)
+        → AnswersBy is_honest content failures before now (Err Memory) Does
     read_refused Does = record {
       answers = λ honest. tt;
       unchanged = λ honest is. reads.same honest;
@@ -166,7 +181,8 @@ module _ {S : Type 0} (is_honest : S → Type 0) (content : S → Content) (fail
         → IfOk result (λ printed. Prints reply printed.text.items printed.is_accepted)
         → IfErr result (λ fault. fault ≡ Memory)
         → AnswersBy is_honest content failures before now result Does
-    read_answers (Ok printed) reply Does does prints memory = read_told printed Does (λ honest. (reply, does honest, prints))
+    read_answers (Ok printed) reply Does does prints memory =
+        read_told printed Does (λ honest. (reply, does honest, prints))
     read_answers (Err fault) reply Does does prints memory =
         subst (λ f. AnswersBy is_honest content failures before now (Err f) Does) (sym memory) (read_refused Does)
 
@@ -174,8 +190,10 @@ module _ {S : Type 0} (is_honest : S → Type 0) (content : S → Content) (fail
 
 module _ {S : Type 0} (is_honest : S → Type 0) (content : S → Content) (failures : S → ℕ) (before now : S) where
   -- it was made
-  pub made : (printed : Printed) (reply : Reply) (Does : Reply → Content → Type 0) → (is_honest now → Does reply (content now))
-      → Prints reply printed.text.items printed.is_accepted → failures before ≤ failures now → (is_honest now → is_honest before)
+  pub made : (printed : Printed) (reply : Reply) (Does : Reply → Content → Type 0)
+      → (is_honest now → Does reply (content now))
+      → Prints reply printed.text.items printed.is_accepted → failures before ≤ failures now
+      → (is_honest now → is_honest before)
       → AnswersBy is_honest content failures before now (Ok printed) Does
   made printed reply Does does prints counts honest' = record {
     answers = λ honest. record { reply = reply; gives = does honest; prints = prints };

@@ -1,5 +1,6 @@
 -- Trials that are answered: the rows of a report are the way from the content to what the statement would leave.
-use Rattle.std.proofs.Common.{◌≡◌, ◌∙◌, ℕ, List, [], ◌∷◌, ◌++◌, map, append_assoc, refl, sym, ap, subst, None, Option, Some}
+use Rattle.std.proofs.Common.{◌≡◌, ◌∙◌, ℕ, List, [], ◌∷◌, ◌++◌, map, append_assoc, refl, sym, ap, subst, None, Option}
+use Rattle.std.proofs.Common.{Some}
 use Rattle.std.specs.List.{filter}
 use Rattle.std.specs.Str.{byte}
 use Rattle.std.specs.Prelude.{Err, Ok, flat_map}
@@ -38,7 +39,8 @@ use Rattle.planner_cli.specs.Replies.{ended}
 use Rattle.planner_cli.specs.Requests.{daily_change, plan_change}
 use Rattle.planner_cli.specs.Rows.{ShowsDailyTrial, ShowsPlanTrial, ShowsTrial, daily_signed, plan_signed}
 use Rattle.planner_cli.specs.Steps.{Serves}
-use Rattle.planner_cli.specs.Trials.{carried_part, completed, daily_changes, deleted, deleted_part, history_part, plan_changes}
+use Rattle.planner_cli.specs.Trials.{carried_part, completed, daily_changes, deleted, deleted_part, history_part}
+use Rattle.planner_cli.specs.Trials.{plan_changes}
 use Rattle.planner_cli.specs.Trials.{uncompleted, would_be_carried, would_be_deleted, would_be_history, would_be_made}
 use Rattle.planner_cli.specs.Trials.{would_be_moved, would_be_withdrawn}
 use Rattle.planner_cli.specs.declared.requests.DailyRequest.{DailyRequest}
@@ -47,7 +49,8 @@ use Rattle.planner_cli.specs.declared.requests.PlanRequest.{PlanRequest}
 use Rattle.planner_cli.specs.declared.requests.PlanRequest.TheVariants as plan
 use Rattle.planner_cli.proofs.MovedLemmas.{gone_is, gone_was, is_gone, is_put, put_is, put_was}
 use Rattle.planner_cli.proofs.ShownLists.{shown_by}
-use Rattle.planner_cli.proofs.TrialLemmas.{AreCurrent, AreRowsOf, ComesIn, GoesOut, IsPlanFate, daily_apart, daily_listed}
+use Rattle.planner_cli.proofs.TrialLemmas.{AreCurrent, AreRowsOf, ComesIn, GoesOut, IsPlanFate, daily_apart}
+use Rattle.planner_cli.proofs.TrialLemmas.{daily_listed}
 use Rattle.planner_cli.proofs.TrialLemmas.{modify_fate, plan_apart, plan_listed, stays_fate}
 
 -- an accepted trial: what it prints before its last line, and that it is served
@@ -59,7 +62,13 @@ pub record TrialShown (change : MachineChange) (c : Content) (reply : Outcome) (
 -- a refused one
 pub trial_refused : (change : MachineChange) (c : Content) (r : Refusal) → VerdictIs (decision_of change) c (Refused r)
     → Serves (Trial change) c (answering (Err r)) c
-trial_refused change c r verdict = record { answer = Err r; steps = verdict; rows = refl; line = refl; well_formed = tt }
+trial_refused change c r verdict = record {
+  answer = Err r;
+  steps = verdict;
+  rows = refl;
+  line = refl;
+  well_formed = tt;
+}
 
 ended_same : (lines : List (List ℕ)) → flat_map line_ended lines ≡ flat_map ended lines
 unfolding ended
@@ -71,13 +80,15 @@ map_map g f (x ∷ xs) = ap (λ l. g (f x) ∷ l) (map_map g f xs)
 
 -- ---- changes of the long-term plan
 
-plan_fate : (asked : PlanRequest) (all : Definitions) (bounds : Option Bounds) → IsPlanFate (fate_of (plan_change asked) all bounds)
+plan_fate : (asked : PlanRequest) (all : Definitions) (bounds : Option Bounds)
+    → IsPlanFate (fate_of (plan_change asked) all bounds)
 plan_fate (plan.Create from to) all bounds = stays_fate
 plan_fate (plan.Extend to) all bounds = stays_fate
 plan_fate plan.ModifyAll all bounds = modify_fate IsAnyApp all
 plan_fate (plan.ModifyOne app) all bounds = modify_fate (IsThatApp app) all
 
-plan_trial_shows : (asked : PlanRequest) (c : Content) (reply : Outcome) (rows : List (List ℕ)) → ShowsPlanTrial (plan_change asked) c reply rows
+plan_trial_shows : (asked : PlanRequest) (c : Content) (reply : Outcome) (rows : List (List ℕ))
+    → ShowsPlanTrial (plan_change asked) c reply rows
     → ShowsTrial (plan_change asked) c reply rows
 plan_trial_shows (plan.Create from to) c reply rows h = h
 plan_trial_shows (plan.Extend to) c reply rows h = h
@@ -90,7 +101,8 @@ plan_signs_are made gone = sym
     ∙ ap (λ l. l ++ map plan_signed (map would_be_withdrawn gone)) (map_map plan_signed would_be_made made)
     ∙ ap (λ l. map (λ x. plan_signed (would_be_made x)) made ++ l) (map_map plan_signed would_be_withdrawn gone))
 
-pub plan_shown : (asked : PlanRequest) → FollowsFate (plan_change asked) → StaysSound (plan_change asked) → (made : Change) (reply : Outcome)
+pub plan_shown : (asked : PlanRequest) → FollowsFate (plan_change asked) → StaysSound (plan_change asked)
+    → (made : Change) (reply : Outcome)
     (c : Content) → IsSound c → VerdictIs (decision_of (plan_change asked)) c (Done made reply) → (text : List ℕ)
     → IsReport (plan_signs made.ltp.put.items made.ltp.gone.items) text → TrialShown (plan_change asked) c reply text
 plan_shown asked law stays made reply c sound verdict text report =
@@ -112,9 +124,12 @@ plan_shown asked law stays made reply c sound verdict text report =
     let fate = fate_of (plan_change asked) c.definitions c.sets.bounds in
     let fair = plan_fate asked c.definitions c.sets.bounds in
     let items = plan_changes made.ltp.put.items made.ltp.gone.items in
-    let apart = plan_apart c.sets left.sets sound.serials left_sound.serials fate fair follows.old made.ltp.put.items made.ltp.gone.items put gone in
-    let listed = plan_listed c.sets left.sets sound.serials left_sound.serials fate fair follows.old made.ltp.put.items made.ltp.gone.items put gone in
-    let shown = shown_by plan_signed items text apart (subst (λ (l : List Signed). IsReport l text) (plan_signs_are made.ltp.put.items made.ltp.gone.items) report) in
+    let apart = plan_apart c.sets left.sets sound.serials left_sound.serials fate fair follows.old made.ltp.put.items
+    made.ltp.gone.items put gone in
+    let listed = plan_listed c.sets left.sets sound.serials left_sound.serials fate fair follows.old made.ltp.put.items
+    made.ltp.gone.items put gone in
+    let shown = shown_by plan_signed items text apart
+    (subst (λ (l : List Signed). IsReport l text) (plan_signs_are made.ltp.put.items made.ltp.gone.items) report) in
     record {
       lines = shown.lines;
       text_is = shown.prints ∙ ended_same shown.lines;
@@ -128,7 +143,10 @@ plan_shown asked law stays made reply c sound verdict text report =
             verdict.1.1,
             record {
               rising = shown.rising;
-              exactly = λ change. ((λ h. (listed change).0 (shown.from change h)), (λ h. shown.to change ((listed change).1 h)));
+              exactly = λ change. (
+                (λ h. (listed change).0 (shown.from change h)),
+                (λ h. shown.to change ((listed change).1 h)),
+              );
             },
           ),
           shown.are_lines,
@@ -149,7 +167,8 @@ daily_end : (asked : DailyRequest) (c : Content) → ((q : Refusal) → (decisio
 daily_end (daily.ExtendTo to) c allowed = (to, refl)
 daily_end daily.Replan c allowed = some_end c.sets.bounds (λ e. allowed NoPlan e)
 
-daily_trial_shows : (asked : DailyRequest) (c : Content) (reply : Outcome) (rows : List (List ℕ)) → ShowsDailyTrial (daily_change asked) c reply rows
+daily_trial_shows : (asked : DailyRequest) (c : Content) (reply : Outcome) (rows : List (List ℕ))
+    → ShowsDailyTrial (daily_change asked) c reply rows
     → ShowsTrial (daily_change asked) c reply rows
 daily_trial_shows (daily.ExtendTo to) c reply rows h = h
 daily_trial_shows daily.Replan c reply rows h = h
@@ -160,19 +179,24 @@ carried_pair current = (current.row, current.status)
 abbrev row_of : CurrentRow → Row
 row_of current = current.row
 
-pub current_rows : (c : Content) → AreNumbered c.sets → (rows : List CurrentRow) → ListsSet of_current c.sets.cp IsAny rows → AreCurrent c.sets rows
+pub current_rows : (c : Content) → AreNumbered c.sets → (rows : List CurrentRow)
+    → ListsSet of_current c.sets.cp IsAny rows → AreCurrent c.sets rows
 current_rows c numbered rows lists = record {
   apart = once_from_rows of_current rows lists.rows;
   is = λ current there. ((lists.exactly current).0 there).0;
   all = λ serial current is.
-      let same = numbered.numbered serial (record { row = current.row; place = Current current.status }) (stands_cp c.sets numbered serial current is) in
+      let same = numbered.numbered serial (record { row = current.row; place = Current current.status })
+      (stands_cp c.sets numbered serial current is) in
       (lists.exactly current).1 (subst (λ n. c.sets.cp n ≡ Some current) (sym same) is, tt);
 }
 
-pub daily_shown : (asked : DailyRequest) → FollowsFate (daily_change asked) → StaysSound (daily_change asked) → (made : Change) (reply : Outcome)
-    (c : Content) → IsSound c → VerdictIs (decision_of (daily_change asked)) c (Done made reply) → (rows : List CurrentRow)
+pub daily_shown : (asked : DailyRequest) → FollowsFate (daily_change asked) → StaysSound (daily_change asked)
+    → (made : Change) (reply : Outcome)
+    (c : Content) → IsSound c → VerdictIs (decision_of (daily_change asked)) c (Done made reply)
+    → (rows : List CurrentRow)
     → ListsSet of_current c.sets.cp IsAny rows → (text : List ℕ)
-    → IsReport (map daily_signed (daily_changes made.ltp.gone.items rows)) text → TrialShown (daily_change asked) c reply text
+    → IsReport (map daily_signed (daily_changes made.ltp.gone.items rows)) text
+    → TrialShown (daily_change asked) c reply text
 daily_shown asked law stays made reply c sound verdict rows lists text report =
     let left = after made c in
     let (drafts, makes, follows) = law c reply left sound verdict.1 in
@@ -186,10 +210,13 @@ daily_shown asked law stays made reply c sound verdict rows lists text report =
     } in
     let current = current_rows c sound.serials rows lists in
     let (t, fate_is) = daily_end asked c verdict.1.0 in
-    let old = subst (λ (fate : Fate). (serial : ℕ) (p : PlacedRow) → StandsAt c.sets serial p → (q : PlacedRow) × fate p q × StandsAt left.sets serial q) fate_is follows.old in
+    let old = subst (λ (fate : Fate). (serial : ℕ) (p : PlacedRow) → StandsAt c.sets serial p → (q : PlacedRow)
+    × fate p q × StandsAt left.sets serial q) fate_is follows.old in
     let items = daily_changes made.ltp.gone.items rows in
-    let apart = daily_apart c.sets left.sets sound.serials left_sound.serials t old made.ltp.gone.items rows gone current in
-    let listed = daily_listed c.sets left.sets sound.serials left_sound.serials t old made.ltp.gone.items rows gone current in
+    let apart = daily_apart c.sets left.sets sound.serials left_sound.serials t old made.ltp.gone.items rows gone
+    current in
+    let listed = daily_listed c.sets left.sets sound.serials left_sound.serials t old made.ltp.gone.items rows gone
+    current in
     let shown = shown_by daily_signed items text apart report in
     record {
       lines = shown.lines;
@@ -204,7 +231,10 @@ daily_shown asked law stays made reply c sound verdict rows lists text report =
             verdict.1.1,
             record {
               rising = shown.rising;
-              exactly = λ change. ((λ h. (listed change).0 (shown.from change h)), (λ h. shown.to change ((listed change).1 h)));
+              exactly = λ change. (
+                (λ h. (listed change).0 (shown.from change h)),
+                (λ h. shown.to change ((listed change).1 h)),
+              );
             },
           ),
           shown.are_lines,
@@ -215,7 +245,8 @@ daily_shown asked law stays made reply c sound verdict rows lists text report =
     }
 
 pub daily_signs_are : (moved : List Row) (rows : List CurrentRow)
-    → daily_signs moved (map carried_pair (filter uncompleted rows)) (map row_of (filter completed rows)) (map row_of (filter deleted rows))
+    → daily_signs moved (map carried_pair (filter uncompleted rows)) (map row_of (filter completed rows))
+    (map row_of (filter deleted rows))
     ≡ map daily_signed (daily_changes moved rows)
 daily_signs_are moved rows =
     let u = filter uncompleted rows in
@@ -238,8 +269,10 @@ daily_signs_are moved rows =
     let later = map-append daily_signed (carried_part rows) (history_part rows ++ deleted_part rows)
     ∙ ap (λ l. l ++ map daily_signed (history_part rows ++ deleted_part rows)) (map_map daily_signed would_be_carried u)
     ∙ ap (λ l. b ++ l) last in
-    let right = map-append daily_signed (map would_be_moved moved) (carried_part rows ++ (history_part rows ++ deleted_part rows))
-    ∙ ap (λ l. l ++ map daily_signed (carried_part rows ++ (history_part rows ++ deleted_part rows))) (map_map daily_signed would_be_moved moved)
+    let right = map-append daily_signed (map would_be_moved moved)
+    (carried_part rows ++ (history_part rows ++ deleted_part rows))
+    ∙ ap (λ l. l ++ map daily_signed (carried_part rows ++ (history_part rows ++ deleted_part rows)))
+    (map_map daily_signed would_be_moved moved)
     ∙ ap (λ l. a ++ l) later in
     left ∙ sym right
 

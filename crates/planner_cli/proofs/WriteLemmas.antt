@@ -53,8 +53,10 @@ module _ {S : Type 0} (is_honest : S → Type 0) (content : S → Content) (fail
     honest = a.honest;
   }
 
-  device_store : (fault : StoreFault) (cause : Cause) → cause ≡ store_cause fault → cause ≡ Device Store → fault ≡ Stores.Device
-  device_store Stores.Memory cause is store = absurd (let no : Memory ≡ Device Store = sym is ∙ store in let h : ⊥ = cc no in h)
+  device_store : (fault : StoreFault) (cause : Cause) → cause ≡ store_cause fault → cause ≡ Device Store
+      → fault ≡ Stores.Device
+  device_store Stores.Memory cause is store = absurd
+      (let no : Memory ≡ Device Store = sym is ∙ store in let h : ⊥ = cc no in h)
   device_store Stores.Device cause is store = refl
 
   -- none was made
@@ -65,7 +67,8 @@ module _ {S : Type 0} (is_honest : S → Type 0) (content : S → Content) (fail
   wrote_none fault cause a (is, kept) = record {
     ok = λ honest. tt;
     err = λ honest.
-        store_breaks Step fault cause (content before) (content now) old new item is kept (a.unchanged honest) (a.whole honest);
+        store_breaks Step fault cause (content before) (content now) old new item is kept (a.unchanged honest)
+        (a.whole honest);
     blames = λ store. a.blames (device_store fault cause is store);
     counts = a.counts;
     honest = a.honest;

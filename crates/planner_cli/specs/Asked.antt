@@ -23,7 +23,7 @@ list_asked what.Dependencies app = ListPairs app
 
 -- a line without data; `define` needs them
 abbrev pub asked_alone : List ℕ → Request → Option Statement
-asked_alone line request.NotServed = None
+asked_alone line request.NoStatement = None
 asked_alone line (request.Define number kind) = Some (DefineJob number (line_text line) kind None)
 asked_alone line (request.Days app from to) = Some (Days app from to)
 asked_alone line (request.Change number change) = Some (Job number (line_text line) (change_of change))
@@ -43,7 +43,7 @@ abbrev pub asked_with : List ℕ → Block → Request → Option Statement
 asked_with line block (request.Define number kind) = Some (define_asked line number kind block)
 asked_with line block _ = None
 
--- the item is this statement of the machine, or none that is served
+-- the item is this statement of the machine, or none
 abbrev pub Asks : Item → Option Statement → Type 0
 Asks NoStatement asked = asked ≡ None
 Asks (Alone line) asked = (read : Option LineStatement) × Reads line read × (asked ≡ asked_alone line (request_of read))

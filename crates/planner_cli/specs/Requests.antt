@@ -1,7 +1,8 @@
 -- What a line asks of the planner.
 use Rattle.std.specs.Prelude.{ℕ, List, None, Option, Some}
 use Rattle.occurrences.specs.declared.key.Key.{Key}
-use Rattle.planner_machine.specs.Statement.{Act, Add, AddCurrent, Change, Create, DailyExtend, Delete, Extend, ModifyAll, ModifyOne, Replan, Undefine}
+use Rattle.planner_machine.specs.Statement.{Act, Add, AddCurrent, Change, Create, DailyExtend, Delete, Extend}
+use Rattle.planner_machine.specs.Statement.{ModifyAll, ModifyOne, Replan, Undefine}
 use Rattle.statements.specs.declared.statements.Statement.{Statement}
 use Rattle.statements.specs.declared.statements.Statement.TheVariants as statement
 use Rattle.planner_cli.specs.Kinds.{definitions_kind, what_of}
@@ -41,7 +42,7 @@ request_of (Some (statement.DpTrialExtend to)) = request.DailyTrial (daily.Exten
 request_of (Some statement.DpTrialReplan) = request.DailyTrial daily.Replan
 request_of (Some (statement.List listed)) = request.List (what_of listed)
 request_of (Some (statement.ListApp listed app)) = request.ListApp (what_of listed) app
-request_of None = request.NotServed
+request_of None = request.NoStatement
 
 -- a statement that prints a listing while it is read
 abbrev pub IsNoList : Request → Type 0

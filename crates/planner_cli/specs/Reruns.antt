@@ -29,14 +29,16 @@ RepliesAgree items replies again = (place : ℕ) → IsJobItem items place → s
 abbrev pub RerunEndsAsOneRun : Type 0
 RerunEndsAsOneRun =
     (first rest : List Item) (before replies again : List Reply) (c c1 c' c'' : Content) → IsSound c
-    → Answers Step c first before c1 → Answers Step c (first ++ rest) replies c' → Answers Step c1 (first ++ rest) again c''
+    → Answers Step c first before c1 → Answers Step c (first ++ rest) replies c'
+    → Answers Step c1 (first ++ rest) again c''
     → (c'' ≡ c') × RepliesAgree (first ++ rest) replies again
 
 -- a run over a text that a fault ended, and then a run over the same text on what it left: that ends as one
 -- uninterrupted run over the text, and each job gets the reply that it gets there
 abbrev pub RerunAfterFault : Type 0
 RerunAfterFault =
-    (text : List ℕ) (c c1 c' c'' : Content) (w0 w1 w2 w3 w4 w5 : Option (List ℕ)) (fault : RunFault) (tally tally' : Tally)
+    (text : List ℕ) (c c1 c' c'' : Content) (w0 w1 w2 w3 w4 w5 : Option (List ℕ)) (fault : RunFault)
+    (tally tally' : Tally)
     → IsSound c → Stopped Step fault_line c c1 w0 w1 (Some text) fault
     → (whole : Ran Step c c' w2 w3 (Some text) tally) → (again : Ran Step c1 c'' w4 w5 (Some text) tally')
     → (c'' ≡ c') × RepliesAgree whole.items whole.replies again.replies

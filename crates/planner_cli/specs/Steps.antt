@@ -34,7 +34,7 @@ pub record Serves (statement : Statement) (c : Content) (reply : Reply) (c' : Co
   -- its values are such as a line and a block give
   pub well_formed : IsStatement statement
 
--- what is no statement, or none that is served, is refused, and nothing changes
+-- what is no statement is refused, and nothing changes
 abbrev pub AnswersAsked : Option Statement → Content → Reply → Content → Type 0
 AnswersAsked None c reply c' = (reply ≡ refusing NotAStatement) × (c' ≡ c)
 AnswersAsked (Some statement) c reply c' = Serves statement c reply c'

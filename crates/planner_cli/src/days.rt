@@ -95,7 +95,7 @@ fn application_for(all: &Definitions, app: &App, from: Day, to: Day) -> Result<A
 {
     match all.active(app) {
         Some(application) => {
-            if let Some(refusal) = lacking(all, app, &application) {
+            if let Some(refusal) = missing_definition(all, app, &application) {
                 return Err(refusal);
             }
             if are_bad_days(from, to) {
@@ -120,7 +120,7 @@ fn are_bad_days(from: Day, to: Day) -> bool
 }
 
 // The refusal of the least number that holds of the definitions of an active application, if one does.
-fn lacking(all: &Definitions, app: &App, application: &Application) -> Option<Refusal>
+fn missing_definition(all: &Definitions, app: &App, application: &Application) -> Option<Refusal>
     requires { IsActive all.now app.now application.now }
     ensures some { IfSome result (λ r. (c : Content) → c.definitions ≡ all.now → (from to : ℕ)
         → IsLeastRefusal (DaysRefused app.now from to c) r) }

@@ -1,9 +1,12 @@
 //! The planner's job stream: what each statement changes and is answered, and a run over a whole stream.
 //!
 //! ```text
+//! let mut reader = b"list\nhelp\n".as_slice(); // neither line is a statement
+//! let mut writer = Vec::new(alloc);
 //! let mut store = ListStore::new(alloc);
 //! let outcome = run(alloc, &mut store, &mut reader, &mut writer);
-//! let status = exit_status(&outcome);
+//! assert_eq!(rt; writer.as_slice(), b"refused 10\nrefused 10\n");
+//! assert_eq!(rt; exit_status(&outcome), 4);
 //! ```
 #![tactic(auto)]
 
@@ -29,6 +32,3 @@ pub use faults::{Part, RunFault};
 pub use laws::reruns;
 pub use stream::{exit_status, run};
 pub use tally::Tally;
-
-#[cfg(test)]
-mod tests;

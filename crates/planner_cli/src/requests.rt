@@ -58,7 +58,7 @@ pub enum ChangeRequest {
 #[derive(Clone, Copy, Debug)]
 pub enum Request {
     /// The line is no statement.
-    NotServed,
+    NoStatement,
     /// To take in the definitions of a kind, from the data after it.
     Define {
         number: JobNumber,
@@ -194,7 +194,7 @@ fn request_of(read: &Option<Statement>) -> Request
             what: what_of(*what),
             app: *app,
         },
-        None => Request::NotServed,
+        None => Request::NoStatement,
     }
 }
 

@@ -40,7 +40,7 @@ pub(crate) fn answer_request<S: PlanStore>(
         (AnswersAsked (asked_alone line.now request.now) (S.content store.old)) }
 {
     match request {
-        Request::NotServed => told(alloc, &Err(Refusal::NotAStatement)),
+        Request::NoStatement => told(alloc, &Err(Refusal::NotAStatement)),
         Request::Define { number, kind } => {
             let number = u64::from(number.number());
             answer_define(alloc, store, line, number, *kind, Block::Unended)
@@ -113,7 +113,7 @@ fn answer_data_request<S: PlanStore>(
         Request::Define { number, kind } => {
             answer_define(alloc, store, line, u64::from(number.number()), *kind, block)
         }
-        Request::NotServed => told(alloc, &Err(Refusal::NotAStatement)),
+        Request::NoStatement => told(alloc, &Err(Refusal::NotAStatement)),
         Request::Days { .. } => told(alloc, &Err(Refusal::NotAStatement)),
         Request::Change { .. } => told(alloc, &Err(Refusal::NotAStatement)),
         Request::PlanTrial(_) => told(alloc, &Err(Refusal::NotAStatement)),

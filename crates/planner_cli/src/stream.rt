@@ -159,7 +159,7 @@ fn answer_asked<S: PlanStore, W: Write>(
     match request {
         Request::List { what } => answer_list(alloc, store, line, *what, None, writer),
         Request::ListApp { what, app } => answer_list(alloc, store, line, *what, Some(app), writer),
-        Request::NotServed
+        Request::NoStatement
         | Request::Define { .. }
         | Request::Days { .. }
         | Request::Change { .. }

@@ -1,6 +1,6 @@
-//! Tests of the crates between the planner's machine and its statements, by their public calls alone: the printed lines,
-//! and what is decided over a small content. The gate proves a crate a second time with its tests; this one has nothing
-//! else to prove.
+//! Tests of the crates above the planner's machine, by their public calls alone: the printed lines, what is decided over
+//! a small content, and runs whose reader or writer fails. The gate proves a crate a second time with its tests; this
+//! one has nothing else to prove.
 #![tactic(auto)]
 
 #[cfg(test)]
@@ -9,3 +9,5 @@ mod listings;
 mod long_term;
 #[cfg(test)]
 mod stores;
+#[cfg(test)]
+mod streams;

@@ -8,4 +8,5 @@ returns-in-Ok g c =
     let reads = c.read_window.follows.holds-at-none in
     read_told _ _ _ _ _ _ _ _ reads c.in-Ok.printed _ (λ honest.
     let shows = rw c.in_ok-view.was at reads.right honest in
-    c.in-Ok.ensures (g.S.PlanStore.content c.args.store.now) (sym (c.definitions.ensures ∙ ap (λ (x : Content). x.definitions) shows)))
+    c.in-Ok.ensures (g.S.PlanStore.content c.args.store.now)
+    (sym (c.definitions.ensures ∙ ap (λ (x : Content). x.definitions) shows)))

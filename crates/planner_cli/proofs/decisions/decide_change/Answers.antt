@@ -6,4 +6,5 @@ use Rattle.planner_cli.proofs.decisions.decide_change.Goals as goal
 
 pub returns-in-Undefine : goal.returns-in-Undefine
 returns-in-Undefine c c' shows sound =
-    subst (λ r. VerdictIs (decision_of (change_of r)) c' c.undefine.result) (sym c.in-Undefine.is) (c.undefine.ensures c' shows)
+    subst (λ r. VerdictIs (decision_of (change_of r)) c' c.undefine.result) (sym c.in-Undefine.is)
+    (c.undefine.ensures c' shows)

@@ -12,5 +12,6 @@ returns c c' shows =
     let only = redefines c.none-change.result d c.none-change.ensures in
     let defined : IsDefined c'.definitions c.args.kind c.args.name.now =
     subst (λ (x : Content). IsDefined x.definitions c.args.kind c.args.name.now) shows
-    (subst (λ d. IsDefined d c.args.kind c.args.name.now) c.definitions.ensures (c.is_defined.ensures.0 c.if-not-is_defined.false)) in
+    (subst (λ d. IsDefined d c.args.kind c.args.name.now) c.definitions.ensures
+    (c.is_defined.ensures.0 c.if-not-is_defined.false)) in
     (fits_redefined _ d only c', (not_refused c.args.kind c.args.name.now c' defined, (refl, redefined_so _ d only c')))

@@ -6,4 +6,5 @@ use Rattle.planner_cli.proofs.jobs.parts_of.Goals as goal
 
 pub returns-in-Refused-clause-leaves : goal.returns-in-Refused-clause-leaves
 returns-in-Refused-clause-leaves c c' fits =
-    subst (λ v. after c.none.result c' ≡ left_by v c') (sym c.in-Refused.is) (nothing_changed c.none.result c.none.ensures c')
+    subst (λ v. after c.none.result c' ≡ left_by v c') (sym c.in-Refused.is)
+    (nothing_changed c.none.result c.none.ensures c')

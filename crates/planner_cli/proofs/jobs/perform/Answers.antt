@@ -11,8 +11,10 @@ settle-requires-clause-fits g c honest =
     let reads = c.read_window.follows.holds-at-none in
     let shows = rw c.in_ok-view.was at reads.right honest in
     let change = change_asked c.args.asked in
-    let decided = c.in-Ok.ensures (g.S.PlanStore.content c.args.store.now) shows (c.requires.sound (reads.honest honest)) in
-    subst (λ x. Rattle.planner_cli.specs.Verdicts.FitsVerdict c.in-Ok.verdict x) (sym (reads.same honest)) (verdict_fits change c.in-Ok.verdict _ decided)
+    let decided = c.in-Ok.ensures (g.S.PlanStore.content c.args.store.now) shows
+    (c.requires.sound (reads.honest honest)) in
+    subst (λ x. Rattle.planner_cli.specs.Verdicts.FitsVerdict c.in-Ok.verdict x) (sym (reads.same honest))
+    (verdict_fits change c.in-Ok.verdict _ decided)
 
 pub returns : goal.returns
 returns g c =
@@ -22,8 +24,10 @@ returns g c =
     (answers_so _ _ _ _ _ _ _ _ (λ honest reply c'.
     let honest' = c.settle.ensures.honest honest in
     let shows = rw c.in_ok-view.was at reads.right honest' in
-    let decided = c.in-Ok.ensures (g.S.PlanStore.content c.args.store.now) shows (c.requires.sound (reads.honest honest')) in
+    let decided = c.in-Ok.ensures (g.S.PlanStore.content c.args.store.now) shows
+    (c.requires.sound (reads.honest honest')) in
     let same = reads.same honest' in
     verdict_answers c.args.number c.args.text change c.in-Ok.verdict _
     (subst (λ x. VerdictIs (decision_of change) x c.in-Ok.verdict) (sym same) decided)
-    (ap (λ (x : Rattle.planner_machine.specs.Content.Content). x.jobs c.args.number) same ∙ c.requires.new (reads.honest honest')) reply c') c.settle.ensures)
+    (ap (λ (x : Rattle.planner_machine.specs.Content.Content). x.jobs c.args.number) same
+    ∙ c.requires.new (reads.honest honest')) reply c') c.settle.ensures)

@@ -13,8 +13,11 @@ returns-in-Ok g c =
     let before = g.S.PlanStore.content c.args.store.now in
     let printed = c.in_ok-printed.printed in
     made _ _ _ _ _ printed (answering (answer_in verdict)) _ (λ honest.
-    let fits = c.requires.fits (c.apply.ensures.honest honest) in
-    (settled c.args.number c.args.text verdict c.parts_of-change.result.0 c.parts_of-change.result.1 before _ fits parts.answer (parts.leaves before fits) (c.in-Ok.ensures.done honest), refl))
+    let fits = c.requires.fits (c.apply.ensures.honest honest) in (
+      settled c.args.number c.args.text verdict c.parts_of-change.result.0 c.parts_of-change.result.1 before _ fits
+          parts.answer (parts.leaves before fits) (c.in-Ok.ensures.done honest),
+      refl,
+    ))
     (subst (λ a. Prints (answering a) printed.text.items printed.is_accepted) parts.answer c.in_ok-printed.ensures.told)
     c.apply.ensures.counts c.apply.ensures.honest
 
@@ -27,6 +30,13 @@ returns-in-Err g c =
     let fits = c.requires.fits (c.apply.ensures.honest honest) in
     elim (c.in-Err.ensures.whole honest) [
       | inl same ↦ inl same
-      | inr did ↦ inr (answering (answer_in verdict), (settled c.args.number c.args.text verdict c.parts_of-change.result.0 c.parts_of-change.result.1 before _ fits parts.answer (parts.leaves before fits) did, refl))
+      | inr did ↦ inr (
+        answering (answer_in verdict),
+        (
+          settled c.args.number c.args.text verdict c.parts_of-change.result.0 c.parts_of-change.result.1 before _ fits
+              parts.answer (parts.leaves before fits) did,
+          refl,
+        ),
+      )
     ])
     c.in-Err.ensures.blames c.apply.ensures.counts c.apply.ensures.honest

@@ -4,4 +4,5 @@ use Rattle.planner_cli.proofs.lists.write_line.Goals as goal
 
 pub returns-clause-front : goal.returns-clause-front
 returns-clause-front g c =
-    always_on_err c.write_bytes-2.result _ (front_of_ended _ _ _ c.args.line.now c.in_ok-write_bytes.ensures.ok c.write_bytes-2.ensures.front)
+    always_on_err c.write_bytes-2.result _
+    (front_of_ended _ _ _ c.args.line.now c.in_ok-write_bytes.ensures.ok c.write_bytes-2.ensures.front)

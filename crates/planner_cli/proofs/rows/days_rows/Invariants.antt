@@ -6,4 +6,5 @@ use Rattle.planner_cli.specs.Rows.{AreDaysLines}
 use Rattle.planner_cli.proofs.rows.days_rows.Given as goal
 
 abbrev pub invariant-loop-one : goal.invariant-loop-one
-invariant-loop-one l = (rows : List (List ℕ)) × AreDaysLines (take l.one-index l.named) rows × (l.text.items ≡ flat_map ended rows)
+invariant-loop-one l = (rows : List (List ℕ)) × AreDaysLines (take l.one-index l.named) rows
+    × (l.text.items ≡ flat_map ended rows)

@@ -17,18 +17,21 @@ loop-init g c = record {
 
 pub returns-in-Err-clause-fault : goal.returns-in-Err-clause-fault
 returns-in-Err-clause-fault g c honest =
-    halts_between _ _ _ _ _ _ _ _ c.in-Err.fault _ (c.loop.invariant.progress honest) (c.new.ensures.cause ∙ c.cause_of_read.ensures) c.new.ensures.tally
+    halts_between _ _ _ _ _ _ _ _ c.in-Err.fault _ (c.loop.invariant.progress honest)
+    (c.new.ensures.cause ∙ c.cause_of_read.ensures) c.new.ensures.tally
 
 pub returns-clause-fault : goal.returns-clause-fault
 returns-clause-fault g c honest =
-    halts_between _ _ _ _ _ _ _ _ Reads.Reader _ (c.loop.invariant.progress honest) c.new-2.ensures.cause c.new-2.ensures.tally
+    halts_between _ _ _ _ _ _ _ _ Reads.Reader _ (c.loop.invariant.progress honest) c.new-2.ensures.cause
+    c.new-2.ensures.tally
 
 pub returns-in-Err-answer_one-clause-fault : goal.returns-in-Err-answer_one-clause-fault
 returns-in-Err-answer_one-clause-fault g c honest =
     let met = sym c.item.ensures.item ∙ ap (option_map item_of) c.in-Some.is in
     let halted = c.new-in-Err-answer_one.ensures in
     let before = c.answer_one.ensures.honest honest in
-    halts_within _ _ _ _ _ _ _ _ _ _ _ _ _ c.in-Err-answer_one.cause _ (c.loop.invariant.progress before) c.in_default.ensures.read met halted.cause halted.tally
+    halts_within _ _ _ _ _ _ _ _ _ _ _ _ _ c.in-Err-answer_one.cause _ (c.loop.invariant.progress before)
+    c.in_default.ensures.read met halted.cause halted.tally
     (c.in-Err-answer_one.ensures.err honest)
 
 pub returns-in-Err-answer_one-clause-blames : goal.returns-in-Err-answer_one-clause-blames
@@ -46,6 +49,7 @@ loop-preserved g c =
           step_sound c.streams.ensures.sound _ _ _ answered.reply before answered.gives;
       counts = let a = c.loop.invariant.counts in let b = c.answer_one.ensures.counts in omega arith;
       honest = λ honest. c.loop.invariant.honest (c.answer_one.ensures.honest honest);
-      progress = λ honest. progress_answers _ _ _ _ _ _ _ _ _ _ _ _ _ _ _ (c.loop.invariant.progress (c.answer_one.ensures.honest honest))
+      progress = λ honest. progress_answers _ _ _ _ _ _ _ _ _ _ _ _ _ _ _
+          (c.loop.invariant.progress (c.answer_one.ensures.honest honest))
           c.in_default.ensures.read met (c.in-Ok.ensures.ok honest) c.count.ensures.accepted c.count.ensures.refused;
     }

@@ -4,9 +4,11 @@ use Rattle.planner_cli.proofs.stream.run.Goals as goal
 
 pub returns-in-Ok-clause-ran : goal.returns-in-Ok-clause-ran
 returns-in-Ok-clause-ran g c honest =
-    ran_leads c.streams.ensures.sound c.streams.ensures.by_fate _ _ _ _ _ _ (c.requires (c.answer_all.ensures.honest honest)) (c.in-Ok.ensures.ran honest)
+    ran_leads c.streams.ensures.sound c.streams.ensures.by_fate _ _ _ _ _ _
+    (c.requires (c.answer_all.ensures.honest honest)) (c.in-Ok.ensures.ran honest)
 
 pub returns-in-Err-clause-fault : goal.returns-in-Err-clause-fault
 returns-in-Err-clause-fault g c honest =
-    stopped_leads c.streams.ensures.sound c.streams.ensures.by_fate _ _ _ _ _ _ (c.requires (c.answer_all.ensures.honest honest))
+    stopped_leads c.streams.ensures.sound c.streams.ensures.by_fate _ _ _ _ _ _
+    (c.requires (c.answer_all.ensures.honest honest))
     (told _ _ _ _ _ _ _ _ _ (c.in-Err.ensures.fault honest) c.cause.ensures c.tell_fault.ensures)

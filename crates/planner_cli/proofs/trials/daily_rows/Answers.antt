@@ -7,5 +7,13 @@ use Rattle.planner_cli.proofs.trials.daily_rows.Goals as goal
 
 pub returns : goal.returns
 returns c =
-    IfOk-map c.dp_report.result _ _ (λ text h. subst (λ (l : List Signed). IsReport l text.items) (daily_signs_are c.args.moved.now c.args.current.now)
-    (rw (c.deref.ensures.value, c.deref-2.ensures.value, c.deref-3.ensures.value, c.in_ok-carried.ensures, c.in_ok-completed.ensures, c.in_ok-deleted.ensures) at h)) c.dp_report.ensures
+    IfOk-map c.dp_report.result _ _
+    (λ text h. subst (λ (l : List Signed). IsReport l text.items) (daily_signs_are c.args.moved.now c.args.current.now)
+    (rw (
+      c.deref.ensures.value,
+      c.deref-2.ensures.value,
+      c.deref-3.ensures.value,
+      c.in_ok-carried.ensures,
+      c.in_ok-completed.ensures,
+      c.in_ok-deleted.ensures,
+    ) at h)) c.dp_report.ensures

@@ -14,14 +14,21 @@ returns-in_ok-rows-in-Done c =
     let change = daily_change asked in
     IfOk-map c.print_answer.result _ _ (λ printed h c' shows sound.
     let verdict = rw c.in-Done.is at c.in_ok-verdict.ensures c' shows sound in
-    let lists = subst (λ (x : Content). ListsSet of_current x.sets.cp IsAny c.cp-current.result.now) shows c.cp-current.ensures.rows in
-    let shown = daily_shown asked (c.fate_is_followed.ensures change) (c.sound_content_stays_sound.ensures change (well_formed asked))
-    c.in-Done.change c.in-Done.reply c' sound verdict c.cp-current.result.now lists _ (rw c.deref.ensures.value at c.in_ok-rows-in-Done.ensures) in
+    let lists = subst (λ (x : Content). ListsSet of_current x.sets.cp IsAny c.cp-current.result.now) shows
+    c.cp-current.ensures.rows in
+    let shown = daily_shown asked (c.fate_is_followed.ensures change)
+    (c.sound_content_stays_sound.ensures change (well_formed asked))
+    c.in-Done.change c.in-Done.reply c' sound verdict c.cp-current.result.now lists _
+    (rw c.deref.ensures.value at c.in_ok-rows-in-Done.ensures) in
     (_, shown.serves, h shown.lines shown.text_is)) c.print_answer.ensures
 
 pub returns-in-Refused : goal.returns-in-Refused
 returns-in-Refused c =
     IfOk-map c.print_answer-in-Refused.result _ _ (λ printed h c' shows sound.
-    let verdict = rw c.in-Refused.is at c.in_ok-verdict.ensures c' shows sound in
-    (answering (Err c.in-Refused.refusal), trial_refused (daily_change c.args.daily.now) c' c.in-Refused.refusal verdict, h [] c.new.ensures.items))
+    let verdict = rw c.in-Refused.is at c.in_ok-verdict.ensures c' shows sound in (
+      answering (Err c.in-Refused.refusal),
+      trial_refused (daily_change c.args.daily.now) c' c.in-Refused.refusal
+          verdict,
+      h [] c.new.ensures.items,
+    ))
     c.print_answer-in-Refused.ensures

@@ -11,13 +11,18 @@ returns-in_ok-rows-in-Done c =
     let change = plan_change asked in
     IfOk-map c.print_answer.result _ _ (λ printed h c' shows sound.
     let verdict = rw c.in-Done.is at c.in_ok-verdict.ensures c' shows sound in
-    let shown = plan_shown asked (c.fate_is_followed.ensures change) (c.sound_content_stays_sound.ensures change c.tell_days.ensures)
-    c.in-Done.change c.in-Done.reply c' sound verdict _ (rw (c.deref.ensures.value, c.deref-in-Done.ensures.value) at c.in_ok-rows-in-Done.ensures) in
+    let shown = plan_shown asked (c.fate_is_followed.ensures change)
+    (c.sound_content_stays_sound.ensures change c.tell_days.ensures)
+    c.in-Done.change c.in-Done.reply c' sound verdict _
+    (rw (c.deref.ensures.value, c.deref-in-Done.ensures.value) at c.in_ok-rows-in-Done.ensures) in
     (_, shown.serves, h shown.lines shown.text_is)) c.print_answer.ensures
 
 pub returns-in-Refused : goal.returns-in-Refused
 returns-in-Refused c =
     IfOk-map c.print_answer-in-Refused.result _ _ (λ printed h c' shows sound.
-    let verdict = rw c.in-Refused.is at c.in_ok-verdict.ensures c' shows sound in
-    (answering (Err c.in-Refused.refusal), trial_refused (plan_change c.args.plan.now) c' c.in-Refused.refusal verdict, h [] c.new.ensures.items))
+    let verdict = rw c.in-Refused.is at c.in_ok-verdict.ensures c' shows sound in (
+      answering (Err c.in-Refused.refusal),
+      trial_refused (plan_change c.args.plan.now) c' c.in-Refused.refusal verdict,
+      h [] c.new.ensures.items,
+    ))
     c.print_answer-in-Refused.ensures

@@ -1,6 +1,6 @@
-//! Readers and writers that fail, and want of memory.
-use crate::{Part, RunFault, Tally, exit_status, run};
+//! Runs over readers and writers that fail, and want of memory in a run.
 use plan_store::ListStore;
+use planner_cli::{Part, RunFault, Tally, exit_status, run};
 use std::alloc::{AllocError, Global};
 use std::io::{self, BufRead, ErrorKind, Read, Write};
 use std::process::Abort;
