@@ -1,8 +1,7 @@
 //! Answers the job stream on standard input.
 #![tactic(auto)]
 
-use plan_store::ListStore;
-use planner_cli::{exit_status, run};
+use planner_cli::{exit_status, run_lists};
 use std::io::{self, BufReader, BufWriter, Write};
 use std::process::ExitCode;
 use words::Asked;
@@ -16,15 +15,13 @@ const FAILED: u8 = 8;
 /// byte, and a listing some thousand bytes at a time.
 fn answer_input<R: AllocGlobal + Input + Print>(rt: &R) -> u8 {
     let alloc = rt.alloc();
-    let reader = BufReader::new(alloc, rt.reader());
-    let writer = BufWriter::new(alloc, io::writer(rt));
-    match (reader, writer) {
-        (Ok(mut reader), Ok(mut writer)) => {
-            let mut store = ListStore::new(alloc);
-            exit_status(&run(alloc, &mut store, &mut reader, &mut writer))
-        }
-        _ => memory_refused(rt),
-    }
+    let Ok(mut reader) = BufReader::new(alloc, rt.reader()) else {
+        return memory_refused(rt);
+    };
+    let Ok(mut writer) = BufWriter::new(alloc, io::writer(rt)) else {
+        return memory_refused(rt);
+    };
+    exit_status(&run_lists(alloc, &mut reader, &mut writer))
 }
 
 /// Tells that memory was refused before the run, for which no memory is taken.

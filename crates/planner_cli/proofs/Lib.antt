@@ -14,3 +14,4 @@ pub mod MovedLemmas
 pub mod TrialLemmas
 pub mod RerunLemmas
 pub mod TrialServes
+pub mod NothingLemmas

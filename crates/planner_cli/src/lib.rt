@@ -3,8 +3,7 @@
 //! ```text
 //! let mut reader = b"list\nhelp\n".as_slice(); // neither line is a statement
 //! let mut writer = Vec::new(alloc);
-//! let mut store = ListStore::new(alloc);
-//! let outcome = run(alloc, &mut store, &mut reader, &mut writer);
+//! let outcome = run_lists(alloc, &mut reader, &mut writer);
 //! assert_eq!(rt; writer.as_slice(), b"refused 10\nrefused 10\n");
 //! assert_eq!(rt; exit_status(&outcome), 4);
 //! ```
@@ -19,6 +18,7 @@ mod jobs;
 mod kinds;
 mod laws;
 mod lists;
+mod over_lists;
 mod requests;
 mod rows;
 mod steps;
@@ -30,5 +30,6 @@ mod writing;
 
 pub use faults::{Part, RunFault};
 pub use laws::reruns;
+pub use over_lists::run_lists;
 pub use stream::{exit_status, run};
 pub use tally::Tally;

@@ -2,8 +2,7 @@
 use crate::differences::first_difference;
 use crate::listed::Ends;
 use crate::pieces::Pieces;
-use plan_store::ListStore;
-use planner_cli::{exit_status, run};
+use planner_cli::{exit_status, run_lists};
 use std::alloc::{AllocError, Global};
 use std::io;
 
@@ -40,8 +39,7 @@ pub struct Wrong {
 fn run_stream(alloc: Global, text: &[u8], most: usize) -> Answered {
     let mut reader = Pieces { text, most };
     let mut replies = Vec::new(alloc);
-    let mut store = ListStore::new(alloc);
-    let outcome = run(alloc, &mut store, &mut reader, &mut replies);
+    let outcome = run_lists(alloc, &mut reader, &mut replies);
     Answered {
         replies,
         status: exit_status(&outcome),

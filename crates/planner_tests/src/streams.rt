@@ -1,6 +1,5 @@
 //! Runs over readers and writers that fail, and want of memory in a run.
-use plan_store::ListStore;
-use planner_cli::{Part, RunFault, Tally, exit_status, run};
+use planner_cli::{Part, RunFault, Tally, exit_status, run_lists};
 use std::alloc::{AllocError, Global};
 use std::io::{self, BufRead, ErrorKind, Read, Write};
 use std::process::Abort;
@@ -210,8 +209,7 @@ fn seen_of<R: BufRead>(
         calls,
         by,
     };
-    let mut store = ListStore::new(alloc);
-    let outcome = run(alloc, &mut store, reader, &mut writer);
+    let outcome = run_lists(alloc, reader, &mut writer);
     Ok(seen_in(&outcome, &writer.got))
 }
 
