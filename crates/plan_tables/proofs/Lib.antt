@@ -3,3 +3,12 @@ pub mod Told
 pub mod DefinitionLemmas
 pub mod AnswerLemmas
 pub mod OneContent
+pub mod Turns
+pub mod KindLemmas
+pub mod Held
+pub mod SetMoves
+pub mod MovedSets
+pub mod ChangeLemmas
+pub mod ContentAfter
+pub mod StoredLemmas
+pub mod SetLemmas

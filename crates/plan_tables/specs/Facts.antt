@@ -52,6 +52,16 @@ deletion_values deletion = natural deletion.row.serial ∷ Text deletion.row.key
     ∷ natural deletion.row.deadline ∷ or_null (option_map Text (run_cycle_of deletion.row.origin))
     ∷ Text (reason_letter deletion.reason ∷ []) ∷ []
 
+-- the keys by which their rows are found
+abbrev pub row_key : Row → Values
+row_key row = natural row.serial ∷ []
+
+abbrev pub current_key : CurrentRow → Values
+current_key current = natural current.row.serial ∷ []
+
+abbrev pub deletion_key : Deletion → Values
+deletion_key deletion = natural deletion.row.serial ∷ []
+
 abbrev pub pair_values : Pair → Values
 pair_values pair = natural pair.successor ∷ natural pair.predecessor ∷ []
 
