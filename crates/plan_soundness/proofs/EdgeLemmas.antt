@@ -1,7 +1,9 @@
 -- Rings of pairs, and loops of links between the names of their serials.
-use Rattle.std.proofs.Common.{◌≡◌, ◌≢◌, ◌↔◌, ◌⊎◌, ℕ, List, [], ◌∷◌, refl, sym, ap, subst, ◌∙◌, inl, inr}
+use Rattle.std.proofs.Common.{◌≡◌, ◌≢◌, ◌↔◌, ◌⊎◌, ℕ, List, [], ◌∷◌, refl, sym, ap, subst, ◌∙◌, inl, inr, ◌<◌, get_or}
+use Rattle.std.proofs.Common.{arith}
 use Rattle.std.specs.Prelude.{map}
-use Rattle.std.specs.List.{Contains}
+use Rattle.std.specs.List.{All, Contains}
+use Rattle.std.proofs.lemmas.List.Elements.{All-contains}
 use Rattle.std.specs.Prelude.{nat_eq, true, false}
 use Rattle.std.specs.Cmp.Lexicographic.{bytes_decides, pointwise}
 use Rattle.std.proofs.lemmas.Bool.{cases_eq, false≢true}
@@ -12,7 +14,7 @@ use Rattle.external_dependencies.specs.declared.links.Link.{Link}
 use Rattle.external_dependencies.specs.declared.pairs.Pair.{Pair}
 use Rattle.external_dependencies.proofs.RingLemmas.{on_ring, returns_on_ring}
 use Rattle.planner_machine.specs.Pairs.{pair_of}
-use Rattle.plan_soundness.specs.Closed.{link_of, node_name}
+use Rattle.plan_soundness.specs.Closed.{FallsBy, IsWithoutRing, link_of, node_name}
 use Rattle.plan_soundness.proofs.DistinctLemmas.{contains_map, map_contains}
 use Rattle.plan_soundness.proofs.NodeLemmas.{own_name}
 
@@ -106,3 +108,17 @@ module _ (pairs : List Pair) (links : List Link) (are : HaveLinks pairs links) w
         on_ring Edge cases_eq m (walk_back m m between
             (subst (λ y. IsWalk (Lists links) y between y) (sym same) walk)),
       )
+
+-- where numbers fall along the pairs, no ring goes over them
+module _ (pairs : List Pair) (numbers : List ℕ) (fall : All (FallsBy numbers) pairs) where
+  walk_falls : (m n : ℕ) (between : List ℕ) → IsWalk (λ u v. Contains pairs (pair_of u v)) m between n
+      → get_or numbers n 0 < get_or numbers m 0
+  walk_falls m n [] walk = All-contains (FallsBy numbers) pairs (pair_of m n) fall walk.0
+  walk_falls m n (x ∷ between) walk =
+      let here = All-contains (FallsBy numbers) pairs (pair_of m x) fall walk.0.0 in
+      let rest = walk_falls x n between walk.1 in omega (arith, here, rest)
+
+  pub falling_ring : IsWithoutRing pairs
+  falling_ring serial ring =
+      let (between, walk) = returns_on_ring (λ u v. Contains pairs (pair_of u v)) cases_eq serial ring in
+      let below = walk_falls serial serial between walk in omega (arith, below)

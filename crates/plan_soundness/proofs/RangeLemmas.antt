@@ -1,5 +1,5 @@
 -- Ranges of the rows of a content.
-use Rattle.std.proofs.Common.{◌≡◌, List}
+use Rattle.std.proofs.Common.{List}
 use Rattle.std.specs.List.{All, Contains}
 use Rattle.std.proofs.lemmas.List.Elements.{All-contains, All-contains_itself, All-weaker}
 use Rattle.external_dependencies.specs.declared.links.Link.{Link}

@@ -1,5 +1,5 @@
 -- Pairs of occurrences that are live and no longer open, over a table of rows by serials.
-use Rattle.std.specs.Prelude.{◌≡◌, ℕ, ◌+◌, ◌/◌, ◌%◌, Bool, true, false, ◌&&◌, List, [], ◌∷◌, filter}
+use Rattle.std.specs.Prelude.{◌≡◌, ◌<◌, slice_index, ℕ, ◌+◌, ◌/◌, ◌%◌, Bool, true, false, ◌&&◌, List, [], ◌∷◌, filter}
 use Rattle.std.specs.Prelude.{All, AllPairs, Contains, Option, Some, None, if◌then◌else◌}
 use Rattle.occurrences.specs.declared.place.Place.{Place}
 use Rattle.occurrences.specs.declared.place.Place.TheVariants.{LongTerm, Current, History, Deleted}
@@ -65,6 +65,14 @@ closed_pairs table pairs = filter (is_closed_pair table) pairs
 -- an edge leads from the successor to the predecessor of such a pair
 abbrev pub IsEdge : List (Option PlacedRow) → List Pair → ℕ → ℕ → Type 0
 IsEdge table pairs successor predecessor = Contains (closed_pairs table pairs) (pair_of successor predecessor)
+
+-- no ring goes over the pairs
+abbrev pub IsWithoutRing : List Pair → Type 0
+IsWithoutRing pairs = (serial : ℕ) → OnRing (λ u v. Contains pairs (pair_of u v)) serial → ⊥
+
+-- the predecessor has a lesser number
+abbrev pub FallsBy : List ℕ → Pair → Type 0
+FallsBy numbers pair = slice_index numbers pair.predecessor < slice_index numbers pair.successor
 
 -- no such pairs make a ring
 abbrev pub HaveNoRing : List (Option PlacedRow) → List Pair → Type 0

@@ -3,10 +3,12 @@
 ghost use Rattle.std.specs.Prelude.{◌≡◌, ◌≢◌, ◌↔◌, IsTrue, IfOk, map, true};
 ghost use Rattle.std.specs.List.{AllPairs, filter_map};
 ghost use Rattle.external_dependencies.specs.declared.links.Link.{Link as LinkValue};
-ghost use Rattle.plan_soundness.specs.Closed.{HaveNoRing, HaveOwnSlots, closed_pairs, is_closed_pair, is_closed_row};
+ghost use Rattle.plan_soundness.specs.Closed.{HaveNoRing, HaveOwnSlots, IsWithoutRing, closed_pairs, is_closed_pair};
+ghost use Rattle.plan_soundness.specs.Closed.{is_closed_row};
 ghost use Rattle.plan_soundness.specs.Closed.{letter, link_of, node_name, slot_at};
 ghost use Rattle.plan_soundness.specs.Pairs.{at_serial};
 
+use crate::depths::{all_fall, depths};
 use crate::pairs::is_closed;
 use crate::seats::row_of;
 use external_dependencies::{Link, Links, Pair, PlacedRow, find_loop};
@@ -140,22 +142,40 @@ fn link_of(pair: &Pair) -> Link
     }
 }
 
-// The pairs both of whose ends are live and no longer open, as links.
-fn closed_links(
+// The pairs both of whose ends are live and no longer open.
+fn closed_pairs(
     alloc: Global,
     table: &[Option<PlacedRow>],
     pairs: &[Pair],
-) -> Result<Vec<Link>, AllocError>
-    ensures { IfOk result (λ links. links.items ≡ map link_of (closed_pairs table.now pairs.now)) }
+) -> Result<Vec<Pair>, AllocError>
+    ensures { IfOk result (λ closed. closed.items ≡ closed_pairs table.now pairs.now) }
 {
     pairs
         .iter()
+        .copied()
         .filter(|pair| is_closed_pair(table, pair))
-        .map(|pair| link_of(pair))
         .collect(alloc)
 }
 
-// Whether such pairs make no ring.
+// The pairs as links.
+fn links_of(alloc: Global, pairs: &[Pair]) -> Result<Vec<Link>, AllocError>
+    ensures { IfOk result (λ links. links.items ≡ map link_of pairs.now) }
+{
+    pairs.iter().map(|pair| link_of(pair)).collect(alloc)
+}
+
+// Whether no ring goes over these pairs.
+fn is_without_ring(alloc: Global, pairs: &[Pair]) -> Result<bool, AllocError>
+    ensures { IfOk result (λ b. IsTrue b ↔ IsWithoutRing pairs.now) }
+{
+    let links = Links::from_vec(links_of(alloc, pairs)?);
+    match find_loop(alloc, &links)? {
+        None => Ok(true),
+        Some(_) => Ok(false),
+    }
+}
+
+// Whether such pairs make no ring. Where numbers are found that fall along them, none is looked for.
 pub(crate) fn have_no_ring(
     alloc: Global,
     table: &[Option<PlacedRow>],
@@ -163,9 +183,10 @@ pub(crate) fn have_no_ring(
 ) -> Result<bool, AllocError>
     ensures { IfOk result (λ b. IsTrue b ↔ HaveNoRing table.now pairs.now) }
 {
-    let links = Links::from_vec(closed_links(alloc, table, pairs)?);
-    match find_loop(alloc, &links)? {
-        None => Ok(true),
-        Some(_) => Ok(false),
+    let closed = closed_pairs(alloc, table, pairs)?;
+    let depths = depths(alloc, table.len(), &closed)?;
+    if all_fall(&depths, &closed) {
+        return Ok(true);
     }
+    is_without_ring(alloc, &closed)
 }

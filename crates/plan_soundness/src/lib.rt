@@ -4,6 +4,7 @@
 mod arrivals;
 mod bounds;
 mod closed;
+mod depths;
 mod jobs;
 mod keys;
 mod links;

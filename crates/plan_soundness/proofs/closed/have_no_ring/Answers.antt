@@ -1,29 +1,22 @@
-use Rattle.std.proofs.Common.{◌↔◌, List, subst, refl}
-use Rattle.std.specs.List.{Contains}
-use Rattle.external_dependencies.specs.Loop.{IsLeastOnLoop}
-use Rattle.external_dependencies.specs.declared.links.Link.{Link}
+use Rattle.std.proofs.Common.{◌≡◌, ◌↔◌, ◌∙◌, List, IfOk, refl, subst}
+use Rattle.std.specs.Prelude.{IsTrue}
+use Rattle.std.specs.List.{All}
 use Rattle.external_dependencies.specs.declared.pairs.Pair.{Pair}
-use Rattle.plan_soundness.specs.Closed.{closed_pairs}
-use Rattle.plan_soundness.proofs.EdgeLemmas.{HaveLinks, loop_to_ring, ring_to_loop}
+use Rattle.plan_soundness.specs.Closed.{FallsBy, IsWithoutRing, closed_pairs}
+use Rattle.plan_soundness.proofs.EdgeLemmas.{falling_ring}
 use Rattle.plan_soundness.proofs.closed.have_no_ring.Goals as goal
 
-pub returns-in-None : goal.returns-in-None
-returns-in-None c =
-    let pairs : List Pair = closed_pairs c.args.table.now c.args.pairs.now in
-    let links : List Link = c.from_vec-links.result in
-    let are : HaveLinks pairs links = λ link. subst (λ (l : List Link). Contains links link ↔ Contains l link)
-    c.in_ok-closed_links.ensures (c.from_vec-links.ensures.same link) in
-    let none = subst (IsLeastOnLoop links) c.in-None.is c.in_ok-find_loop.ensures in (
-      (λ yes serial ring. let (app, loop) = ring_to_loop pairs links are serial ring in none app loop),
-      λ no. refl,
-    )
+pub returns-then-all_fall : goal.returns-then-all_fall
+returns-then-all_fall c =
+    let closed : List Pair = closed_pairs c.args.table.now c.args.pairs.now in
+    let numbers = c.deref-2.result.now in
+    let lent : c.deref-3.result.now ≡ closed = c.deref-3.ensures.value ∙ c.in_ok-closed.ensures in
+    let fall = subst (λ (l : List Pair). All (FallsBy numbers) l) lent (c.all_fall.ensures c.if-all_fall.true) in
+    ((λ yes. falling_ring closed numbers fall), λ none. refl)
 
 pub returns : goal.returns
 returns c =
-    let pairs : List Pair = closed_pairs c.args.table.now c.args.pairs.now in
-    let links : List Link = c.from_vec-links.result in
-    let are : HaveLinks pairs links = λ link. subst (λ (l : List Link). Contains links link ↔ Contains l link)
-    c.in_ok-closed_links.ensures (c.from_vec-links.ensures.same link) in
-    let found = subst (IsLeastOnLoop links) c.in-Some.is c.in_ok-find_loop.ensures in
-    let (serial, ring) = loop_to_ring pairs links are c.in-Some.field-0 found.0 in
-    ((λ yes. cc), λ none. absurd (none serial ring))
+    let closed : List Pair = closed_pairs c.args.table.now c.args.pairs.now in
+    let lent : c.deref-4.result.now ≡ closed = c.deref-4.ensures.value ∙ c.in_ok-closed.ensures in
+    subst (λ (l : List Pair). IfOk c.is_without_ring.result (λ b. IsTrue b ↔ IsWithoutRing l)) lent
+    c.is_without_ring.ensures
