@@ -183,7 +183,7 @@ job_shown job jobs all new held v = (forth, back)
 
 -- ---- how far the plans reach
 
-meta_shows : (bounds : Option Bounds) (issued : ℕ) (options : Options) (rows : List Values)
+pub meta_shows : (bounds : Option Bounds) (issued : ℕ) (options : Options) (rows : List Values)
     → shown table.Meta (with_rowid Chosen rows (stored table.Meta
     (meta_values bounds issued options))) ≡ meta_values bounds issued options
 meta_shows None issued options rows = refl

@@ -12,3 +12,4 @@ pub mod ChangeLemmas
 pub mod ContentAfter
 pub mod StoredLemmas
 pub mod SetLemmas
+pub mod FirstContent

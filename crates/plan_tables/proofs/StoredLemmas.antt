@@ -20,6 +20,13 @@ use Rattle.plan_tables.specs.Stored.{IsStored, MayLeave}
 use Rattle.plan_tables.specs.Writing.{IsTellableChange, written}
 use Rattle.plan_tables.proofs.ContentAfter.{content_after}
 use Rattle.plan_tables.proofs.SetLemmas.{content_set}
+use Rattle.plan_tables.proofs.FirstContent.{first_content}
+use Rattle.plan_tables.specs.Writing.{with_meta}
+use Rattle.plan_schema.specs.Rows.{no_rows, Tables}
+use Rattle.planner_machine.specs.Content.{nothing_known}
+use Rattle.app_definitions.specs.Options.{default_options}
+use Rattle.app_definitions.specs.declared.options.Options.{Options}
+use Rattle.std.proofs.Common.{None}
 
 pub stored_still : (old new : State) (c : Content) → IsStored old c → IsTrue new.is_open → new.now ≡ old.now
     → new.committed ≡ old.committed → IsStored new c
@@ -78,3 +85,15 @@ leaves_either old new d c one was goal clean survives (db, left, is) = elim (sur
   | inr made ↦ inr (∥∥₁_elim was (content_set c goal) (λ h. one (tables_of db) c goal is (made (h (omega
       (arith, survives.clean))))))
 ]
+
+-- the first content of a database
+pub stored_first : (mid new : State) (options : Options) → options ≡ default_options → tables_of mid.now.trees ≡ no_rows
+    → IsPlan new × (tables_of new.now.trees ≡ with_meta None 0 options (tables_of mid.now.trees))
+    → new.committed ≡ new.now → IsTrue new.is_open → IsStored new nothing_known
+stored_first mid new options is none done committed opens = record {
+  is_open = opens;
+  plan = done.0;
+  settled = sym committed;
+  content = subst (λ (all : Tables). IsContentOf all nothing_known)
+      (sym (done.1 ∙ (λ i. with_meta None 0 (is i) (none i)))) first_content;
+}

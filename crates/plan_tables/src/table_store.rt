@@ -2,6 +2,8 @@
 
 ghost use Rattle.std.specs.Prelude.{◌≡◌, ◌⊎◌, ◌<◌, ◌≤◌, false, OnOk, OnErr, IfOk, IfErr, IsTrue};
 ghost use Rattle.sqlite.specs.State.{HasCleanDisk};
+ghost use Rattle.sqlite.specs.Steps.{over_memory, IsEmpty};
+ghost use Rattle.planner_machine.specs.Content.{nothing_known};
 ghost use Rattle.sqlite.specs.Held.{state};
 ghost use Rattle.sqlite.specs.Tree.{Trees};
 ghost use Rattle.planner_machine.specs.Content.{Content as ContentValue};
@@ -15,10 +17,11 @@ ghost use Rattle.plan_tables.specs.Content.{IsContentOf};
 ghost use Rattle.plan_tables.specs.Stored.{IsStored, MayLeave};
 
 use crate::answers::{change_is_tellable, has_number, job_line};
-use crate::keeping::change_both;
+use crate::keeping::{change_both, make_first};
 use crate::tables_have_one_content;
+use app_definitions::Options;
 use plan_store::{Change, Content, StoreFault};
-use sqlite::{Alter, Connection};
+use sqlite::{Alter, Connection, MemStore};
 use std::alloc::Global;
 
 /// What a planner knows, in the tables of a database, with lists of the same content in memory, which serve what is
@@ -92,5 +95,32 @@ impl<S: Alter + Drop> TableStore<S> {
                 Err(StoreFault::Device)
             }
         }
+    }
+}
+
+impl TableStore<MemStore> {
+    /// A store in memory of what a planner knows that was told nothing.
+    pub fn open_memory(alloc: Global) -> Result<TableStore<MemStore>, StoreFault>
+        ensures { IfOk result (λ store. content_of store.lists ≡ nothing_known) }
+    {
+        match Connection::open_in_memory(alloc) {
+            Ok(conn) => TableStore::first(alloc, conn),
+            Err(_) => Err(StoreFault::Memory),
+        }
+    }
+
+    // A store over an empty database in memory.
+    fn first(alloc: Global, conn: Connection<MemStore>) -> Result<TableStore<MemStore>, StoreFault>
+        requires empty { IsEmpty (state over_memory conn) }
+        ensures { IfOk result (λ store. content_of store.lists ≡ nothing_known) }
+    {
+        let mut conn = conn;
+        make_first(&mut conn, &Options::new())?;
+        Ok(TableStore {
+            conn,
+            lists: Content::new(alloc),
+            failures: 0,
+            is_broken: false,
+        })
     }
 }
