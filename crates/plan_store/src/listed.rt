@@ -75,13 +75,12 @@ impl Lettered for Deletion {
     }
 }
 
-// The rows by input arrival, application and serial. Those of one application stand so already, and are gone over once;
-// those of several are runs that are merged.
+// The rows by input arrival, application and serial. They are sorted in their place, so that no more room is asked.
 fn in_order<T: PlanRow>(alloc: Global, rows: &[T]) -> Result<Vec<&T>, AllocError>
     ensures { IfOk result (λ found. AreInOrder T.row_of rows.now (map (λ x. x.now) found.items)) }
 {
     let mut found: Vec<&T> = rows.iter().collect(alloc)?;
-    found.sort_by_key(|x| x.row())?;
+    found.sort_unstable_by_key(|x| x.row());
     Ok(found)
 }
 
@@ -237,7 +236,7 @@ impl Content {
         push_occurrences(&mut all, cp)?;
         push_occurrences(&mut all, history)?;
         push_occurrences(&mut all, deletions)?;
-        all.sort_by_key(|row| row.serial.get())?;
+        all.sort_unstable_by_key(|row| row.serial.get());
         Ok(all)
     }
 
