@@ -9,8 +9,9 @@ use app_definitions::Definitions;
 use std::alloc::{AllocError, Global};
 
 /// Whether the definitions are such as data blocks give, one name at a time: each calendar lists something, the names
-/// of periods are short, no list of predecessors or run cycles is empty, and no deadline lies more than 99 days behind
-/// its input arrival. All else that a block demands holds by the types. Looks at each definition once.
+/// of periods are short, no list of predecessors or run cycles is empty, and no deadline lies more than
+/// `MAX_DEADLINE_DAYS` behind its input arrival. All else that a block demands holds by the types. Looks at each
+/// definition once.
 pub fn are_definitions(alloc: Global, definitions: &Definitions) -> Result<bool, AllocError>
     ensures { IfOk result (λ b. IsTrue b ↔ AreDefinitions definitions.now) }
 {

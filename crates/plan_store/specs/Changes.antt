@@ -81,8 +81,7 @@ after change c = record {
 }
 
 -- what moves fits the set: no serial is named twice; what goes stands there, what changes stands there under the same
--- key, and
--- what is put has serials that the set doesn't have
+-- key, and what is put has serials that the set doesn't have
 pub record FitsSet {X : Type 0} (row_of : X → Row) (moves : Moves X) (set : ℕ → Option X) : Type 0 where
   pub gone_once : HasEachOnce row_of moves.gone.items
   pub changed_once : HasEachOnce row_of moves.changed.items

@@ -7,8 +7,7 @@ use Rattle.plan_store.specs.declared.changes.Verdict.{Verdict}
 use Rattle.plan_store.specs.declared.changes.Verdict.TheVariants.{Done, Refused}
 
 -- the verdict is what the machine decides: the content admits the change, and with its reply and what it makes of the
--- content it
--- is what the statement does; or the statement is refused so
+-- content it is what the statement does; or the statement is refused so
 abbrev pub VerdictIs : Decision Content → Content → Verdict → Type 0
 VerdictIs d c (Done change reply) = Fits change c × Decides d c (Ok reply) (after change c)
 VerdictIs d c (Refused refusal) = Decides d c (Err refusal) c

@@ -62,8 +62,7 @@ IsDeletedKey s key = (serial : ℕ) × (deletion : Deletion) × (s.deletions ser
     × (deletion.reason ≡ Operator) × (deletion.row.key ≡ key)
 
 -- of the live occurrences of the application that arrive before the minute, the one that arrives last, and of several
--- that do the
--- one of the greatest serial; or that there is none
+-- that do the one of the greatest serial; or that there is none
 pub record IsLast (s : Sets) (app : List ℕ) (minute : ℕ) (near : Arrival) : Type 0 where
   pub live : LiveAt s near
   pub of_app : near.app ≡ app
