@@ -6,6 +6,6 @@ mod statements;
 mod tables;
 mod texts;
 
-pub use making::make_tables;
+pub use making::{make_all, make_tables};
 pub use statements::{delete, insert, select};
 pub use tables::Table;

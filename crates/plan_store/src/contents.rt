@@ -5,6 +5,7 @@ use crate::jobs::{find_job, keep_job};
 use crate::moving::move_rows;
 use crate::pairs::change_pairs;
 use crate::room::{Room, grow};
+use crate::views::View;
 use app_definitions::Definitions;
 use external_dependencies::{Links, Pairs};
 use occurrences::{CurrentRow, Deletion, Row};
@@ -64,6 +65,7 @@ impl Content {
     ghost use Rattle.plan_store.specs.Changes.{Fits, after};
     ghost use Rattle.planner_machine.specs.Content.{nothing_known};
     ghost use Rattle.plan_store.specs.Contents.{content_of};
+    ghost use Rattle.plan_store.specs.Views.{shown};
     ghost use Rattle.plan_store.specs.Room.{HasPutSeats, HasRoom, HasRowRoom, HasSame, with_definitions, with_pairs_of};
     ghost use Rattle.plan_store.specs.declared.changes.DefinitionChange.TheVariants.{AsBefore};
 
@@ -84,6 +86,13 @@ impl Content {
             jobs: Vec::new(alloc),
             seats: Vec::new(alloc),
         }
+    }
+
+    /// What a decision sees of it.
+    pub fn view(&self) -> View<'_>
+        ensures { shown result ≡ content_of self.now }
+    {
+        View { content: self }
     }
 
     /// The job that is kept under the number.

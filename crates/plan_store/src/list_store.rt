@@ -47,14 +47,6 @@ impl ListStore {
         &self.content
     }
 
-    fn view(&self) -> View<'_>
-        ensures { result.content.now ≡ self.now.content }
-    {
-        View {
-            content: &self.content,
-        }
-    }
-
     fn kept_job(&self, number: u64) -> Option<&Job>
         ensures { option_copied result ≡ (listed self.now).jobs number }
     {
@@ -93,7 +85,7 @@ impl PlanStore for ListStore {
     }
 
     fn read_window<'a>(&'a mut self, _need: Need) -> Result<View<'a>, StoreFault> {
-        Ok(self.view())
+        Ok(self.content.view())
     }
 
     fn job<'a>(&'a mut self, number: u64) -> Result<Option<&'a Job>, StoreFault> {

@@ -21,12 +21,12 @@ use Rattle.plan_lists.specs.Keyed.{holds_key}
 use Rattle.plan_lists.specs.Ties.{pair_ties}
 use Rattle.plan_lists.proofs.KeyLemmas.{contains_first, holds_lacks}
 use Rattle.plan_store.proofs.PairLemmas.{held_pair, itself, pair_total, pairs_after_contains}
-use Rattle.plan_tables.specs.Facts.{link_values, natural, pair_values}
-use Rattle.plan_tables.specs.Content.{IsOfList, IsOfSet, job_values, meta_values}
+use Rattle.plan_facts.specs.Facts.{link_values, natural, pair_values}
+use Rattle.plan_facts.specs.Content.{IsOfList, IsOfSet, job_values, meta_values}
 use Rattle.plan_tables.specs.Writing.{job_put, links_replaced, meta_told, pairs_moved, without_each}
 use Rattle.plan_tables.proofs.Held.{Shows, matched, natural_itself, one_natural, same_cell, text_itself}
 use Rattle.plan_tables.proofs.SetMoves.{shows_cells, shows_with, shows_without}
-use Rattle.plan_tables.proofs.Told.{is_some as same_some, none_some}
+use Rattle.plan_facts.proofs.Told.{is_some as same_some, none_some}
 
 pub and_both : (a b : Bool) → (a && b) ≡ true → (a ≡ true) × (b ≡ true)
 and_both true b h = (refl, h)

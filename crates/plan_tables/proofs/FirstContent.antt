@@ -12,15 +12,15 @@ use Rattle.plan_schema.specs.Rows.{no_rows, Tables}
 use Rattle.plan_schema.specs.Schema.{tree}
 use Rattle.plan_schema.specs.declared.tables.Table.{Table}
 use Rattle.plan_schema.specs.declared.tables.Table.TheVariants as table
-use Rattle.plan_tables.specs.Content.{AreEach, IsContentOf, IsFact, IsOfList, IsOfSet}
-use Rattle.plan_tables.specs.Content.{IsOfSome, IsUnderOwn, meta_values}
-use Rattle.plan_tables.specs.Content.{IsApplicationRow}
-use Rattle.plan_tables.specs.Facts.{IsCalendarRow, IsCycleRow, IsOffsetRow, IsPeriodRow, IsPredecessorRow}
+use Rattle.plan_facts.specs.Content.{AreEach, IsContentOf, IsFact, IsOfList, IsOfSet}
+use Rattle.plan_facts.specs.Content.{IsOfSome, IsUnderOwn, meta_values}
+use Rattle.plan_facts.specs.Content.{IsApplicationRow}
+use Rattle.plan_facts.specs.Facts.{IsCalendarRow, IsCycleRow, IsOffsetRow, IsPeriodRow, IsPredecessorRow}
 use Rattle.plan_tables.specs.Writing.{with_meta}
 use Rattle.plan_tables.proofs.ChangeLemmas.{meta_shows}
 use Rattle.plan_tables.proofs.Held.{Shows}
 use Rattle.plan_tables.proofs.SetMoves.{at_other, shows_cells}
-use Rattle.plan_tables.proofs.Told.{none_some}
+use Rattle.plan_facts.proofs.Told.{none_some}
 
 abbrev first : Tables
 first = with_meta None 0 default_options no_rows

@@ -24,7 +24,7 @@ use Rattle.plan_lists.proofs.KeyLemmas.{contains_cases, contains_first, contains
 use Rattle.plan_schema.specs.Rows.{matches, placed, shown}
 use Rattle.plan_schema.specs.declared.tables.Table.{Table}
 use Rattle.plan_schema.specs.declared.tables.Table.TheVariants as table
-use Rattle.plan_tables.specs.Facts.{natural}
+use Rattle.plan_facts.specs.Facts.{natural}
 
 -- the table shows these values
 abbrev pub Shows : Table → List Values → Values → Type 0

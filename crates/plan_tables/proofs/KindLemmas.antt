@@ -7,11 +7,11 @@ use Rattle.sqlite.specs.Ops.{unary}
 use Rattle.sqlite.specs.Cast.{cast, as_text}
 use Rattle.plan_schema.specs.Rows.{AreOfKinds}
 use Rattle.plan_schema.specs.declared.tables.Table.TheVariants as table
-use Rattle.plan_tables.specs.Facts.{current_values, deletion_values, link_values, or_null, pair_values, row_values}
+use Rattle.plan_facts.specs.Facts.{current_values, deletion_values, link_values, or_null, pair_values, row_values}
 use Rattle.app_definitions.specs.declared.options.Options.{Options}
 use Rattle.planner_machine.specs.declared.content.Bounds.{Bounds}
 use Rattle.planner_machine.specs.declared.job.Job.{Job}
-use Rattle.plan_tables.specs.Content.{job_values, meta_values}
+use Rattle.plan_facts.specs.Content.{job_values, meta_values}
 use Rattle.plan_tables.specs.Writing.{AreStorable, StandAlone}
 
 either : (b : Bool) (x : Value) → cond b x x ≡ x

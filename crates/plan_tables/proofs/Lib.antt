@@ -1,8 +1,3 @@
-pub mod Decoded
-pub mod Told
-pub mod DefinitionLemmas
-pub mod AnswerLemmas
-pub mod OneContent
 pub mod Turns
 pub mod KindLemmas
 pub mod Held

@@ -15,7 +15,7 @@ use Rattle.plan_store.specs.Changes.{after, Fits}
 use Rattle.plan_store.specs.Room.{with_pairs_of}
 use Rattle.plan_store.specs.declared.changes.Change.{Change}
 use Rattle.plan_store.specs.declared.changes.DefinitionChange.TheVariants.{AsBefore}
-use Rattle.plan_tables.specs.Content.{HaveOneContent, IsContentOf}
+use Rattle.plan_facts.specs.Content.{HaveOneContent, IsContentOf}
 use Rattle.plan_tables.specs.Stored.{IsStored, MayLeave}
 use Rattle.plan_tables.specs.Writing.{IsTellableChange, written}
 use Rattle.plan_tables.proofs.ContentAfter.{content_after}

@@ -1,4 +1,2 @@
-pub mod Facts
-pub mod Content
 pub mod Writing
 pub mod Stored

@@ -4,7 +4,7 @@ use Rattle.sqlite.specs.State.{State}
 use Rattle.sqlite.specs.Tree.{Trees}
 use Rattle.planner_machine.specs.Content.{Content}
 use Rattle.plan_schema.specs.Rows.{IsPlan, tables_of}
-use Rattle.plan_tables.specs.Content.{IsContentOf}
+use Rattle.plan_facts.specs.Content.{IsContentOf}
 
 -- the database is open, all of it is committed, and its tables have the content
 pub record IsStored (s : State) (c : Content) : Type 0 where

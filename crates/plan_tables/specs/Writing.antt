@@ -13,9 +13,9 @@ use Rattle.planner_machine.specs.declared.content.Bounds.{Bounds}
 use Rattle.planner_machine.specs.declared.job.Job.{Job}
 use Rattle.plan_store.specs.declared.changes.Change.{Change}
 use Rattle.plan_store.specs.declared.changes.Moves.{Moves}
-use Rattle.plan_tables.specs.Facts.{current_key, current_values, deletion_key, deletion_values, link_values, natural}
-use Rattle.plan_tables.specs.Facts.{pair_values, row_key, row_values}
-use Rattle.plan_tables.specs.Content.{job_values, meta_values, IsSmall}
+use Rattle.plan_facts.specs.Facts.{current_key, current_values, deletion_key, deletion_values, link_values, natural}
+use Rattle.plan_facts.specs.Facts.{pair_values, row_key, row_values}
+use Rattle.plan_facts.specs.Content.{job_values, meta_values, IsSmall}
 use Rattle.std.specs.Prelude.{is_some, ◌||◌, if◌then◌else◌, unwrap_or, IfSome}
 use Rattle.planner_machine.specs.Moves.{or_else}
 use Rattle.planner_machine.specs.Content.{Content}

@@ -5,7 +5,7 @@ ghost use Rattle.sqlite.specs.Values.{bound_value};
 ghost use Rattle.sqlite.specs.Value.{owned};
 ghost use Rattle.sqlite.specs.declared.types.Value.TheVariants.{Text};
 ghost use Rattle.occurrences.specs.Row.{run_cycle_of};
-ghost use Rattle.plan_tables.specs.Facts.{natural, or_null};
+ghost use Rattle.plan_facts.specs.Facts.{natural, or_null};
 
 use occurrences::Origin;
 use sqlite::types::ValueRef;

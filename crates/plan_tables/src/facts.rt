@@ -5,8 +5,8 @@ ghost use Rattle.sqlite.specs.State.{HasCleanDisk, KeepsCommit, Survives};
 ghost use Rattle.sqlite.specs.Held.{state};
 ghost use Rattle.sqlite.specs.Order.{Row as Values};
 ghost use Rattle.plan_schema.specs.Rows.{AreOfKinds, IsAlone, IsPlan, Stands, tables_of, with_cells, without_key};
-ghost use Rattle.plan_tables.specs.Facts.{row_values, current_values, deletion_values, pair_values, link_values};
-ghost use Rattle.plan_tables.specs.Facts.{row_key, current_key, deletion_key};
+ghost use Rattle.plan_facts.specs.Facts.{row_values, current_values, deletion_values, pair_values, link_values};
+ghost use Rattle.plan_facts.specs.Facts.{row_key, current_key, deletion_key};
 
 use crate::cells::{number, origin};
 use external_dependencies::{Link, Pair};

@@ -12,7 +12,7 @@ ghost use Rattle.plan_store.specs.Changes.{Fits, after};
 ghost use Rattle.plan_store.specs.Contents.{content_of};
 ghost use Rattle.plan_store.specs.declared.changes.DefinitionChange.TheVariants.{AsBefore};
 ghost use Rattle.plan_store.specs.declared.stores.StoreFault.TheVariants.{Memory};
-ghost use Rattle.plan_tables.specs.Content.{answer_text, IsContentOf};
+ghost use Rattle.plan_facts.specs.Content.{answer_text, IsContentOf};
 ghost use Rattle.plan_tables.specs.Stored.{IsStored};
 ghost use Rattle.plan_tables.specs.Writing.{IsTellableChange};
 

@@ -13,13 +13,13 @@ ghost use Rattle.plan_store.specs.Contents.{content_of};
 ghost use Rattle.plan_store.specs.Faults.{MoreFailures};
 ghost use Rattle.plan_store.specs.declared.changes.DefinitionChange.TheVariants.{AsBefore};
 ghost use Rattle.plan_store.specs.declared.stores.StoreFault.TheVariants.{Device};
-ghost use Rattle.plan_tables.specs.Content.{IsContentOf};
+ghost use Rattle.plan_facts.specs.Content.{IsContentOf};
 ghost use Rattle.plan_tables.specs.Stored.{IsStored, MayLeave};
 
 use crate::answers::{change_is_tellable, has_number, job_line};
 use crate::keeping::{change_both, make_first};
-use crate::tables_have_one_content;
 use app_definitions::Options;
+use plan_facts::tables_have_one_content;
 use plan_store::{Change, Content, StoreFault};
 use sqlite::{Alter, Connection, MemStore};
 use std::alloc::Global;

@@ -7,7 +7,7 @@ ghost use Rattle.plan_schema.specs.Rows.{IsPlan, Stands, tables_of};
 ghost use Rattle.planner_machine.specs.Moves.{or_else};
 ghost use Rattle.planner_machine.specs.declared.job.Job.{Job as JobValue};
 ghost use Rattle.plan_store.specs.Contents.{content_of};
-ghost use Rattle.plan_tables.specs.Content.{answer_text};
+ghost use Rattle.plan_facts.specs.Content.{answer_text};
 ghost use Rattle.plan_tables.specs.Writing.{job_kept, meta_moved, written};
 
 use crate::lone_rows::{put_job, write_meta};

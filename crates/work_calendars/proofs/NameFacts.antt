@@ -1,6 +1,6 @@
 -- Names are ASCII, and how one is put into an array.
-use Rattle.std.proofs.Common.{◌≡◌, ◌⊎◌, inl, inr, sym, ap, subst, ◌∙◌, ℕ, ◌-◌, ◌<◌, ◌≤◌, List, ◌++◌, take, drop}
-use Rattle.std.proofs.Common.{length, IsTrue, slice_index, arith, length-append}
+use Rattle.std.proofs.Common.{◌≡◌, ◌⊎◌, inl, inr, sym, ap, subst, ◌∙◌, ℕ, ◌-◌, ◌==◌, ◌<◌, ◌≤◌, List, [], ◌∷◌, ◌++◌, take, drop}
+use Rattle.std.proofs.Common.{length, IsTrue, slice_index, arith, length-append, refl, zero, suc, cond, not, false, ◌+◌}
 use Rattle.std.specs.Str.{IsUtf8}
 use Rattle.std.specs.List.{All}
 use Rattle.std.proofs.Math.ListN.{replicate, length-replicate}
@@ -9,7 +9,7 @@ use Rattle.std.proofs.lemmas.Str.{IsUtf8-from_ascii}
 use Rattle.std.proofs.lemmas.List.{get_or_past, drop-replicate}
 use Rattle.std.proofs.lemmas.Bool.Decides.{nat_tests}
 use Rattle.std.proofs.lemmas.Bool.{cases_lt}
-use Rattle.work_calendars.specs.Name.{is_name_byte, IsNameWithin, HoldsName}
+use Rattle.work_calendars.specs.Name.{is_name_byte, name_length, IsNameWithin, HoldsName}
 
 ascii : (b : ℕ) → IsTrue (is_name_byte b) → b < 128
 unfolding is_name_byte
@@ -26,6 +26,21 @@ pub IsUtf8-name : (longest : ℕ) (name : List ℕ) → IsNameWithin longest nam
 IsUtf8-name longest name h =
     IsUtf8-from_ascii name (λ i. ascii_at name h.alphabet i (cases_lt i (length name)))
 
+is_no_zero : (b : ℕ) → IsTrue (is_name_byte b) → (b == 0) ≡ false
+unfolding is_name_byte
+is_no_zero b h = grind (arith, nat_tests)
+
+-- a name ends where the zeros behind it begin
+name_length-padded : (name : List ℕ) (count : ℕ) → All (λ b. IsTrue (is_name_byte b)) name →
+    name_length (name ++ replicate count 0) ≡ length name
+name_length-padded [] zero h = refl
+name_length-padded [] (suc count) h = refl
+name_length-padded (b ∷ bs) count h =
+    let rest : name_length (bs ++ replicate count 0) ≡ length bs
+    = name_length-padded bs count (λ i d l. h (suc i) d (omega arith)) in
+    ap (λ t. cond (not t) (1 + name_length (bs ++ replicate count 0)) 0) (is_no_zero b (h 0 0 (omega arith)))
+    ∙ omega arith
+
 held : (size : ℕ) (name : List ℕ) → IsNameWithin size name →
     HoldsName size (name ++ replicate (size - length name) 0) (length name)
 held size name h =
@@ -38,11 +53,21 @@ held size name h =
       named = subst (IsNameWithin size) (sym first) h;
     }
 
-pub HoldsName-copied : (size : ℕ) (name copied zeros : List ℕ) →
+-- what an array of zeros holds that a name is copied into
+pub record Copied (size : ℕ) (name bytes : List ℕ) : Type 0 where
+  pub holds : HoldsName size bytes (name_length bytes)
+  pub text : take (name_length bytes) bytes ≡ name
+
+pub name-copied : (size : ℕ) (name copied zeros : List ℕ) →
     IsNameWithin size name → copied ≡ name → zeros ≡ replicate size 0 →
-    HoldsName size (copied ++ drop (length name) zeros) (length name)
-HoldsName-copied size name copied zeros h e z =
+    Copied size name (copied ++ drop (length name) zeros)
+name-copied size name copied zeros h e z =
     let same : name ++ replicate (size - length name) 0 ≡ copied ++ drop (length name) zeros
     = sym (ap (λ s. s ++ drop (length name) zeros) e ∙ ap (λ s. name ++ drop (length name) s) z ∙
     ap (λ s. name ++ s) (drop-replicate (length name) size 0)) in
-    subst (λ bytes. HoldsName size bytes (length name)) same (held size name h)
+    let ends : length name ≡ name_length (name ++ replicate (size - length name) 0)
+    = sym (name_length-padded name (size - length name) h.alphabet) in
+    subst (Copied size name) same (record {
+      holds = subst (HoldsName size (name ++ replicate (size - length name) 0)) ends (held size name h);
+      text = subst (λ n. take n (name ++ replicate (size - length name) 0) ≡ name) ends (take-append_seam name _);
+    })

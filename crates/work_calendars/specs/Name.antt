@@ -2,7 +2,7 @@
 use Rattle.std.specs.Prelude.{◌≡◌, ℕ, ◌-◌, ◌<◌, ◌≤◌, Bool, not, ◌||◌, ◌==◌, IsTrue, List, ◌++◌, length, take}
 use Rattle.std.specs.Prelude.{slice_index, codes}
 use Rattle.std.specs.Char.{is_ascii_digit, is_ascii_uppercase}
-use Rattle.std.specs.List.{All, list_any}
+use Rattle.std.specs.List.{All, list_any, position_or_len}
 use Rattle.std.proofs.Common.{sym, ap, subst, ◌∙◌}
 use Rattle.std.proofs.Math.ListN.{replicate}
 use Rattle.std.proofs.lemmas.List.{length-take-le}
@@ -28,6 +28,10 @@ IsName name = IsNameWithin LONGEST_NAME name
 abbrev pub IsShort : List ℕ → Type 0
 IsShort name = IsNameWithin LONGEST_SHORT_NAME name
 
+-- how many bytes stand before the first zero
+abbrev pub name_length : List ℕ → ℕ
+name_length bytes = position_or_len (λ b. b == 0) bytes
+
 -- an array of that size that holds a name in its first bytes, and zeros after it
 pub record HoldsName (size : ℕ) (bytes : List ℕ) (len : ℕ) : Type 0 where
   pub full : length bytes ≡ size
@@ -39,7 +43,7 @@ pub record HoldsName (size : ℕ) (bytes : List ℕ) (len : ℕ) : Type 0 where
 abbrev pub padded_name : ℕ → List ℕ → List ℕ
 padded_name size name = name ++ replicate (size - length name) 0
 
-pub length-held : (size : ℕ) (bytes : List ℕ) (len : ℕ) → HoldsName size bytes len → length (take len bytes) ≡ len
+length-held : (size : ℕ) (bytes : List ℕ) (len : ℕ) → HoldsName size bytes len → length (take len bytes) ≡ len
 length-held size bytes len h =
     length-take-le len bytes (let P : ℕ → Type 0 = λ n. len ≤ n in subst P (sym h.full) h.within)
 

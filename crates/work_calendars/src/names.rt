@@ -1,4 +1,4 @@
-ghost use Rattle.std.specs.Prelude.{◌≡◌, ℕ, ◌↔◌, nat_eq, length, List, take, Some, IsTrue, IsSome, IfSome, refl};
+ghost use Rattle.std.specs.Prelude.{◌≡◌, ℕ, ◌↔◌, nat_eq, length, ◌≤◌, List, take, Some, IsTrue, IsSome, IfSome, refl};
 ghost use Rattle.std.specs.Cmp.Lexicographic.{pointwise, slice_cmp, nat_list_eq_equiv, nat_list_cmp_total};
 ghost use Rattle.std.specs.Cmp.Lexicographic.{texts_ties, texts_po};
 ghost use Rattle.std.specs.Cmp.{partial_equiv_from_equiv};
@@ -6,8 +6,8 @@ ghost use Rattle.std.specs.Cmp.Rules.{hashing};
 ghost use Rattle.std.specs.Ordering.{nat_cmp};
 ghost use Rattle.std.specs.Hash as fed;
 ghost use Rattle.std.proofs.Common.{rules};
-ghost use Rattle.work_calendars.specs.Name.{is_name_byte, IsNameWithin, HoldsName, padded_name, padded_name-held};
-ghost use Rattle.work_calendars.specs.Name.{length-held};
+ghost use Rattle.work_calendars.specs.Name.{is_name_byte, IsNameWithin, HoldsName, name_length, padded_name};
+ghost use Rattle.work_calendars.specs.Name.{padded_name-held};
 
 use std::cmp::Ordering;
 use std::hash::{Hash, Hasher};
@@ -32,22 +32,21 @@ pub type Short = NameWithin<LONGEST_SHORT_NAME>;
 /// Contracts see its bytes. Names compare and hash by their bytes.
 #[derive(Clone, Copy, Debug)]
 pub struct NameWithin<const LONGEST: usize> {
+    // its bytes, and zeros after them
     bytes: [u8; LONGEST],
-    len: usize,
 }
 
 impl<const LONGEST: usize> Model for NameWithin<LONGEST> {
     ghost Value = { List ℕ };
 
-    ghost view = { λ n. take n.len n.bytes };
+    ghost view = { λ n. take (name_length n.bytes) n.bytes };
 
-    ghost invariant = { λ n. HoldsName LONGEST n.bytes n.len };
+    ghost invariant = { λ n. HoldsName LONGEST n.bytes (name_length n.bytes) };
 
-    ghost inverse = { λ s. record { bytes = padded_name LONGEST s; len = length s } };
+    ghost inverse = { λ s. record { bytes = padded_name LONGEST s } };
 
     ghost inverse_ok = { λ n h i. record {
-      bytes = padded_name-held LONGEST n.bytes n.len h i;
-      len = length-held LONGEST n.bytes n.len h i;
+      bytes = padded_name-held LONGEST n.bytes (name_length n.bytes) h i;
     } };
 }
 
@@ -56,6 +55,18 @@ fn is_name_byte(byte: u8) -> bool
     ensures { result ≡ is_name_byte byte }
 {
     matches!(byte, b'A'..=b'Z' | b'0'..=b'9' | b'@' | b'#' | b'$')
+}
+
+// How many bytes stand before the first zero.
+fn name_length(bytes: &[u8]) -> usize
+    ensures within { result ≤ length bytes.now }
+    ensures value { result ≡ name_length bytes.now }
+{
+    let mut len = 0;
+    while len < bytes.len() && bytes[len] != 0 {
+        len += 1;
+    }
+    len
 }
 
 // Whether the text is a name of at most that many characters.
@@ -80,10 +91,7 @@ impl<const LONGEST: usize> NameWithin<LONGEST> {
         }
         let mut bytes = [0; LONGEST];
         bytes[..text.len()].copy_from_slice(text);
-        Some(NameWithin {
-            bytes,
-            len: text.len(),
-        })
+        Some(NameWithin { bytes })
     }
 
     /// The name's bytes, all of them ASCII.
@@ -91,7 +99,7 @@ impl<const LONGEST: usize> NameWithin<LONGEST> {
         ensures value { result.now ≡ self.now }
         ensures named { IsNameWithin LONGEST result.now }
     {
-        &self.bytes[..self.len]
+        &self.bytes[..name_length(&self.bytes)]
     }
 
     /// The name's text.
@@ -140,7 +148,7 @@ impl<const LONGEST: usize> Ord for NameWithin<LONGEST> {
     ghost matches_eq = { texts_ties };
 
     fn cmp(&self, other: &NameWithin<LONGEST>) -> Ordering {
-        self.as_str().cmp(other.as_str())
+        self.as_bytes().cmp(other.as_bytes())
     }
 }
 

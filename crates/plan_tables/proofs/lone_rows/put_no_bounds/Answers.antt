@@ -4,7 +4,7 @@ use Rattle.sqlite.specs.Held.{state}
 use Rattle.sqlite.specs.Order.{Row as Values}
 use Rattle.sqlite.specs.declared.types.Value.TheVariants.{Text}
 use Rattle.plan_schema.specs.Rows.{AreOfKinds, Stands, tables_of, with_cells}
-use Rattle.plan_tables.specs.Facts.{natural}
+use Rattle.plan_facts.specs.Facts.{natural}
 use Rattle.plan_tables.proofs.lone_rows.put_no_bounds.Goals as goal
 
 pub returns-clause-ok : goal.returns-clause-ok

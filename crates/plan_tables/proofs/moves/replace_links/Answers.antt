@@ -1,7 +1,7 @@
 use Rattle.std.proofs.Common.{arith}
 use Rattle.sqlite.specs.Held.{state}
 use Rattle.plan_schema.specs.declared.tables.Table.TheVariants as table
-use Rattle.plan_tables.specs.Facts.{link_values}
+use Rattle.plan_facts.specs.Facts.{link_values}
 use Rattle.plan_tables.specs.Writing.{with_each}
 use Rattle.plan_tables.proofs.KindLemmas.{links_alone, links_storable}
 use Rattle.plan_tables.proofs.Turns.{then_ok}

@@ -16,9 +16,9 @@ use Rattle.occurrences.specs.declared.status.Status.TheVariants.{W, S, E, C, D}
 use Rattle.app_definitions.specs.declared.applications.Application.{Application}
 use Rattle.external_dependencies.specs.declared.links.Link.{Link}
 use Rattle.external_dependencies.specs.declared.pairs.Pair.{Pair}
-use Rattle.plan_tables.specs.Facts.{application_values, current_values, deletion_values, link_values, pair_values}
-use Rattle.plan_tables.specs.Facts.{row_values}
-use Rattle.plan_tables.specs.Facts.{flag, natural, or_null}
+use Rattle.plan_facts.specs.Facts.{application_values, current_values, deletion_values, link_values, pair_values}
+use Rattle.plan_facts.specs.Facts.{row_values}
+use Rattle.plan_facts.specs.Facts.{flag, natural, or_null}
 use Rattle.occurrences.specs.Row.{run_cycle_of}
 use Rattle.occurrences.specs.Status.{status_letter}
 use Rattle.occurrences.specs.Place.{reason_letter}

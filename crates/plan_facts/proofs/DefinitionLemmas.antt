@@ -24,12 +24,12 @@ use Rattle.run_cycles.specs.declared.rules.Rule.{Rule}
 use Rattle.run_cycles.specs.declared.rules.Rule.TheVariants as rule
 use Rattle.app_definitions.specs.CycleRecords.{rule_text}
 use Rattle.app_definitions.proofs.RisingLemmas.{first_of_list, own_names, same_rising}
-use Rattle.plan_tables.specs.Facts.{IsCalendarRow, IsCycleRow, IsOffsetRow, IsPeriodRow, IsPredecessorRow}
-use Rattle.plan_tables.specs.Facts.IsCalendarRow.{Weekday, Date}
-use Rattle.plan_tables.specs.Facts.{cycle_values, entry_values, is_work, natural, offset_values}
-use Rattle.plan_tables.specs.Content.{HasEntry, IsNamed, IsTold}
-use Rattle.plan_tables.proofs.Decoded.{int_in, letter_in, nat_back, nat_in, or_nat, text_in}
-use Rattle.plan_tables.proofs.Told.{is_some, none_some, same_options}
+use Rattle.plan_facts.specs.Facts.{IsCalendarRow, IsCycleRow, IsOffsetRow, IsPeriodRow, IsPredecessorRow}
+use Rattle.plan_facts.specs.Facts.IsCalendarRow.{Weekday, Date}
+use Rattle.plan_facts.specs.Facts.{cycle_values, entry_values, is_work, natural, offset_values}
+use Rattle.plan_facts.specs.Content.{HasEntry, IsNamed, IsTold}
+use Rattle.plan_facts.proofs.Decoded.{int_in, letter_in, nat_back, nat_in, or_nat, text_in}
+use Rattle.plan_facts.proofs.Told.{is_some, none_some, same_options}
 
 -- lists of which each element stands at one place in both
 pub same_places : {X : Type 0} (xs ys : List X) → ((i : ℕ) (x : X) → slice_get xs i ≡ Some x → slice_get ys i ≡ Some x)

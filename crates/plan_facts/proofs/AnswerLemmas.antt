@@ -16,7 +16,7 @@ use Rattle.occurrences.specs.declared.reply.Reply.TheVariants as reply
 use Rattle.occurrences.specs.declared.status.Status.{Status}
 use Rattle.occurrences.specs.declared.status.Status.TheVariants.{W, S, E, C, D}
 use Rattle.plan_listings.specs.Reply.{counted, refusal_text, reply_text}
-use Rattle.plan_tables.specs.Content.{answer_text, IsSmall}
+use Rattle.plan_facts.specs.Content.{answer_text, IsSmall}
 
 abbrev IsSolid : List ℕ → Type 0
 IsSolid ds = AllByRecursion (λ b. nat_eq b 32 ≡ false) ds

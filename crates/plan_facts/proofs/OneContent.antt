@@ -19,18 +19,18 @@ use Rattle.planner_machine.specs.declared.job.Job.{Job}
 use Rattle.plan_schema.specs.Rows.{Tables}
 use Rattle.plan_schema.specs.declared.tables.Table.{Table}
 use Rattle.plan_schema.specs.declared.tables.Table.TheVariants as table
-use Rattle.plan_tables.specs.Facts.{current_values, deletion_values, link_values, pair_values, row_values}
-use Rattle.plan_tables.specs.Facts.{IsCalendarRow, IsPeriodRow, IsPredecessorRow}
-use Rattle.plan_tables.specs.Content.{job_values, meta_values, HaveOneContent, HasEntry, IsApplicationRow}
-use Rattle.plan_tables.specs.Content.{IsContentOf, IsFact, IsNamed, IsSmall, IsTold}
-use Rattle.plan_tables.proofs.Decoded.{nat_in, text_in, one_application, one_current, one_deletion, one_link}
-use Rattle.plan_tables.proofs.Decoded.{one_pair, one_row}
-use Rattle.plan_tables.proofs.DefinitionLemmas.{calendar_named, calendar_some, cycle_named, cycle_some, either_name}
-use Rattle.plan_tables.proofs.DefinitionLemmas.{IsEitherRow}
-use Rattle.plan_tables.proofs.DefinitionLemmas.{name_of, one_calendar, one_cycles, one_period, one_predecessors}
-use Rattle.plan_tables.proofs.DefinitionLemmas.{period_named, period_some, predecessor_named, predecessor_some}
-use Rattle.plan_tables.proofs.AnswerLemmas.{one_answer}
-use Rattle.plan_tables.proofs.Told.{has_same, one_by_name, one_set, one_such_set}
+use Rattle.plan_facts.specs.Facts.{current_values, deletion_values, link_values, pair_values, row_values}
+use Rattle.plan_facts.specs.Facts.{IsCalendarRow, IsPeriodRow, IsPredecessorRow}
+use Rattle.plan_facts.specs.Content.{job_values, meta_values, HaveOneContent, HasEntry, IsApplicationRow}
+use Rattle.plan_facts.specs.Content.{IsContentOf, IsFact, IsNamed, IsSmall, IsTold}
+use Rattle.plan_facts.proofs.Decoded.{nat_in, text_in, one_application, one_current, one_deletion, one_link}
+use Rattle.plan_facts.proofs.Decoded.{one_pair, one_row}
+use Rattle.plan_facts.proofs.DefinitionLemmas.{calendar_named, calendar_some, cycle_named, cycle_some, either_name}
+use Rattle.plan_facts.proofs.DefinitionLemmas.{IsEitherRow}
+use Rattle.plan_facts.proofs.DefinitionLemmas.{name_of, one_calendar, one_cycles, one_period, one_predecessors}
+use Rattle.plan_facts.proofs.DefinitionLemmas.{period_named, period_some, predecessor_named, predecessor_some}
+use Rattle.plan_facts.proofs.AnswerLemmas.{one_answer}
+use Rattle.plan_facts.proofs.Told.{has_same, one_by_name, one_set, one_such_set}
 
 -- ---- how far the plans reach
 

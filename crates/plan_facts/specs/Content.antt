@@ -30,9 +30,9 @@ use Rattle.plan_listings.specs.Reply.{refusal_text, reply_text}
 use Rattle.plan_schema.specs.Rows.{Tables, shown}
 use Rattle.plan_schema.specs.declared.tables.Table.{Table}
 use Rattle.plan_schema.specs.declared.tables.Table.TheVariants as table
-use Rattle.plan_tables.specs.Facts.{application_values, current_values, deletion_values, flag, link_values}
-use Rattle.plan_tables.specs.Facts.{natural, pair_values, row_values}
-use Rattle.plan_tables.specs.Facts.{IsCalendarRow, IsCycleRow, IsOffsetRow, IsPeriodRow, IsPredecessorRow}
+use Rattle.plan_facts.specs.Facts.{application_values, current_values, deletion_values, flag, link_values}
+use Rattle.plan_facts.specs.Facts.{natural, pair_values, row_values}
+use Rattle.plan_facts.specs.Facts.{IsCalendarRow, IsCycleRow, IsOffsetRow, IsPeriodRow, IsPredecessorRow}
 
 -- ---- the facts of each table
 

@@ -4,7 +4,7 @@ use Rattle.std.specs.Prelude.{Contains}
 use Rattle.std.specs.FinMap as maps
 use Rattle.sqlite.specs.Order.{Row as Values}
 use Rattle.app_definitions.proofs.ByNameLemmas.{same_by_name}
-use Rattle.plan_tables.specs.Content.{AreEach, ByName, IsOfSet, IsUnderOwn, IsOfList}
+use Rattle.plan_facts.specs.Content.{AreEach, ByName, IsOfSet, IsUnderOwn, IsOfList}
 
 pub is_some : {X : Type 0} (a b : X) → Some a ≡ Some b → a ≡ b
 is_some a b e = cc
