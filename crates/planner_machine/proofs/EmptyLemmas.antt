@@ -1,5 +1,5 @@
 -- A content without anything is sound.
-use Rattle.std.proofs.Common.{ℕ, List, [], refl, sym, subst, inl, inr, arith, Option}
+use Rattle.std.proofs.Common.{ℕ, [], refl, sym, subst, inl, inr, arith, Option}
 use Rattle.std.specs.Prelude.{Contains}
 use Rattle.std.specs.Cmp.Lexicographic.{slice_cmp}
 use Rattle.std.specs.FinMap as map

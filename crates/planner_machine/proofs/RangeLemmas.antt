@@ -1,5 +1,5 @@
 -- What the definitions name has its ranges and forms.
-use Rattle.std.proofs.Common.{◌≡◌, ◌≢◌, ℕ, zero, ◌+◌, ◌*◌, ◌<◌, ◌≤◌, List, [], ◌∷◌, length, get_or, refl, sym, ap}
+use Rattle.std.proofs.Common.{◌≡◌, ◌≢◌, ℕ, zero, ◌+◌, ◌<◌, ◌≤◌, List, [], ◌∷◌, length, get_or, refl, sym, ap}
 use Rattle.std.proofs.Common.{subst, ◌∙◌, arith, Option, None, Some, true}
 use Rattle.std.specs.Prelude.{Any, Contains, nat_eq, take, unwrap_or}
 use Rattle.std.specs.Cmp.Lexicographic.{pointwise}

@@ -1,7 +1,7 @@
 -- Streams that are run again: what was answered is known, and known jobs change nothing.
 use Rattle.std.proofs.Common.{◌≡◌, ◌≢◌, ℕ, zero, suc, List, [], ◌∷◌, ◌++◌, refl, sym, ap, subst, ◌∙◌, inl, inr}
 use Rattle.std.proofs.Common.{◌⊎◌, Option, None, Some, Bool, true, false}
-use Rattle.std.specs.Prelude.{Ok, Err, nat_eq, if◌then◌else◌, slice_get}
+use Rattle.std.specs.Prelude.{Ok, Err, nat_eq, if◌then◌else◌}
 use Rattle.std.proofs.lemmas.Bool.{eq-eqb, eqb-true}
 use Rattle.app_definitions.specs.declared.kinds.Block.{Block}
 use Rattle.occurrences.specs.declared.refusal.Refusal.TheVariants.{FaultyData, JobWithAnotherText}

@@ -1,10 +1,10 @@
 -- Trials beside the statements that they try.
-use Rattle.std.proofs.Common.{◌≡◌, ℕ, List, refl, sym, subst, ◌∙◌, None}
+use Rattle.std.proofs.Common.{refl, sym, subst}
 use Rattle.std.specs.Prelude.{Ok, Err}
 use Rattle.planner_machine.specs.Content.{Content}
 use Rattle.planner_machine.specs.Decision.{Decides, Decision, trial}
 use Rattle.planner_machine.specs.Jobs.{AnswersKept, kept, with_job}
-use Rattle.planner_machine.specs.Statement.{Answer, Change, Job, Steps, Trial, decision_of}
+use Rattle.planner_machine.specs.Statement.{Answer, Job, Steps, Trial, decision_of}
 use Rattle.planner_machine.specs.Trials.{TrialAnswersAsStatement, TrialLeaves}
 use Rattle.planner_machine.proofs.StepLemmas.{asks_nothing, trial_as}
 
