@@ -1,0 +1,155 @@
+// Rows of calendars.
+
+ghost use Rattle.std.specs.Prelude.{◌≡◌, ◌∷◌, ◌↔◌, ◌<◌, ℕ, [], length, Contains, IfOk, OnOk};
+ghost use Rattle.sqlite.specs.Order.{Row as Values};
+ghost use Rattle.sqlite.specs.declared.types.Value.TheVariants.{Text};
+ghost use Rattle.jiff.specs.Words.{monday_zero};
+ghost use Rattle.work_calendars.specs.declared.statuses.DayStatus.{DayStatus as Status};
+ghost use Rattle.plan_facts.specs.Content.{IsOfSome};
+ghost use Rattle.plan_facts.specs.Facts.{IsCalendarRow, is_work, natural};
+ghost use Rattle.definition_rows.specs.Adding.{Adds, IsOfPlace, IsUpTo};
+ghost use Rattle.definition_rows.specs.Parts.{IsDateRow, IsWeekdayRow};
+
+use crate::cells::{number, row_of, work};
+use crate::encoding::{Encoding, rows_of};
+use app_definitions::ByName;
+use sqlite::types::ValueRef;
+use sqlite_value::row::Row;
+use std::alloc::{AllocError, Global};
+use work_calendars::{Calendar, Day, DayStatus, Name, Weekday};
+
+// Monday is the first, at 0.
+fn weekday_at(place: u32) -> Weekday
+    requires { place < 7 }
+    ensures { monday_zero result ≡ place }
+{
+    match place {
+        0 => Weekday::Monday,
+        1 => Weekday::Tuesday,
+        2 => Weekday::Wednesday,
+        3 => Weekday::Thursday,
+        4 => Weekday::Friday,
+        5 => Weekday::Saturday,
+        _ => Weekday::Sunday,
+    }
+}
+
+// The row of an entry of a calendar: kind 0 is a weekday, 1 a date.
+fn entry_row(
+    alloc: Global,
+    name: &Name,
+    kind: u32,
+    day: u32,
+    status: DayStatus,
+) -> Result<Row, AllocError>
+    ensures { IfOk result (λ row. row ≡ Text name.now ∷ natural kind ∷ natural day ∷ is_work status ∷ []) }
+{
+    row_of(
+        alloc,
+        &[
+            ValueRef::Text(name.as_bytes()),
+            number(kind),
+            number(day),
+            work(status),
+        ],
+    )
+}
+
+// Puts the row of what is listed for that weekday behind the others.
+fn push_weekday(
+    alloc: Global,
+    rows: &mut Vec<Row>,
+    name: &Name,
+    calendar: &Calendar,
+    place: u32,
+) -> Result<(), AllocError>
+    requires { place < 7 }
+    ensures { OnOk result (Adds (IsWeekdayRow name.now calendar.now place) rows.old.items rows.new.items) }
+{
+    match calendar.weekday_status(weekday_at(place)) {
+        Some(status) => {
+            let row = entry_row(alloc, name, 0, place, status)?;
+            rows.push(row)?;
+            Ok(())
+        }
+        None => Ok(()),
+    }
+}
+
+// Puts the rows of what is listed for weekdays behind the others.
+fn push_weekdays(
+    alloc: Global,
+    rows: &mut Vec<Row>,
+    name: &Name,
+    calendar: &Calendar,
+) -> Result<(), AllocError>
+    ensures { OnOk result (Adds (IsUpTo (IsWeekdayRow name.now calendar.now) 7) rows.old.items rows.new.items) }
+{
+    for place in 0..7 {
+        push_weekday(alloc, rows, name, calendar, place)?;
+    }
+    Ok(())
+}
+
+// Puts the row of what is listed for that date behind the others.
+fn push_date(
+    alloc: Global,
+    rows: &mut Vec<Row>,
+    name: &Name,
+    calendar: &Calendar,
+    day: Day,
+) -> Result<(), AllocError>
+    ensures { OnOk result (Adds (IsDateRow name.now calendar.now day) rows.old.items rows.new.items) }
+{
+    match calendar.date_status(day) {
+        Some(status) => {
+            let row = entry_row(alloc, name, 1, day.number(), status)?;
+            rows.push(row)?;
+            Ok(())
+        }
+        None => Ok(()),
+    }
+}
+
+// Puts the rows of these dates behind the others.
+fn push_dates(
+    alloc: Global,
+    rows: &mut Vec<Row>,
+    name: &Name,
+    calendar: &Calendar,
+    dates: &[(Day, DayStatus)],
+) -> Result<(), AllocError>
+    ensures { OnOk result (Adds (IsOfPlace (λ _ (e : ℕ × Status). IsDateRow name.now calendar.now e.0) dates.now
+        (length dates.now)) rows.old.items rows.new.items) }
+{
+    for entry in dates {
+        push_date(alloc, rows, name, calendar, entry.0)?;
+    }
+    Ok(())
+}
+
+struct CalendarRows;
+
+impl Encoding for CalendarRows {
+    type Of = Calendar;
+
+    ghost IsRow = { IsCalendarRow };
+
+    fn push(
+        alloc: Global,
+        rows: &mut Vec<Row>,
+        name: &Name,
+        definition: &Calendar,
+    ) -> Result<(), AllocError> {
+        let dates = definition.dates(alloc)?;
+        push_weekdays(alloc, rows, name, definition)?;
+        push_dates(alloc, rows, name, definition, &dates)
+    }
+}
+
+/// The rows of the calendars in the table `calendar_entry`.
+pub fn calendar_rows(alloc: Global, calendars: &ByName<Calendar>) -> Result<Vec<Row>, AllocError>
+    ensures { IfOk result (λ rows. (v : Values) → Contains rows.items v ↔ IsOfSome IsCalendarRow calendars.now v) }
+{
+    rows_of::<CalendarRows>(alloc, calendars)
+}

@@ -1,0 +1,20 @@
+//! Definitions as rows of the tables of a plan, and back.
+#![tactic(auto)]
+
+mod applications;
+mod calendars;
+mod cells;
+mod cycles;
+mod encoding;
+mod lending;
+mod offsets;
+mod periods;
+mod predecessors;
+
+pub use applications::application_rows;
+pub use calendars::calendar_rows;
+pub use cycles::cycle_rows;
+pub use lending::lend;
+pub use offsets::offset_rows;
+pub use periods::period_rows;
+pub use predecessors::predecessor_rows;
