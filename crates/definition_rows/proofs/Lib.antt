@@ -1,3 +1,4 @@
 pub mod AddLemmas
 pub mod PartLemmas
 pub mod StorableRows
+pub mod TellLemmas

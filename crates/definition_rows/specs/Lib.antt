@@ -1,3 +1,4 @@
 pub mod Adding
 pub mod Parts
 pub mod Storing
+pub mod Telling

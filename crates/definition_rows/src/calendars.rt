@@ -1,11 +1,11 @@
 // Rows of calendars.
 
-ghost use Rattle.std.specs.Prelude.{◌≡◌, ◌∷◌, ◌↔◌, ◌<◌, ℕ, [], length, Contains, IfOk, OnOk};
+ghost use Rattle.std.specs.Prelude.{◌≡◌, ◌≢◌, ◌∷◌, ◌↔◌, ◌<◌, ℕ, [], length, Contains, IfOk, IsTrue, OnOk};
 ghost use Rattle.sqlite.specs.Order.{Row as Values};
 ghost use Rattle.sqlite.specs.declared.types.Value.TheVariants.{Text};
 ghost use Rattle.jiff.specs.Words.{monday_zero};
 ghost use Rattle.work_calendars.specs.declared.statuses.DayStatus.{DayStatus as Status};
-ghost use Rattle.plan_facts.specs.Content.{IsOfSome};
+ghost use Rattle.plan_facts.specs.Content.{IsOfSome, IsTold};
 ghost use Rattle.plan_facts.specs.Facts.{IsCalendarRow, is_work, natural};
 ghost use Rattle.definition_rows.specs.Adding.{Adds, IsOfPlace, IsUpTo};
 ghost use Rattle.definition_rows.specs.Parts.{IsDateRow, IsWeekdayRow};
@@ -128,6 +128,21 @@ fn push_dates(
     Ok(())
 }
 
+// Puts the rows of a calendar behind the others.
+fn push_entries(
+    alloc: Global,
+    rows: &mut Vec<Row>,
+    name: &Name,
+    calendar: &Calendar,
+) -> Result<(), AllocError>
+    ensures added { OnOk result (Adds (IsCalendarRow name.now calendar.now) rows.old.items rows.new.items) }
+    ensures week { length calendar.now.weekdays ≡ 7 }
+{
+    let dates = calendar.dates(alloc)?;
+    push_weekdays(alloc, rows, name, calendar)?;
+    push_dates(alloc, rows, name, calendar, &dates)
+}
+
 struct CalendarRows;
 
 impl Encoding for CalendarRows {
@@ -141,10 +156,27 @@ impl Encoding for CalendarRows {
         name: &Name,
         definition: &Calendar,
     ) -> Result<(), AllocError> {
-        let dates = definition.dates(alloc)?;
-        push_weekdays(alloc, rows, name, definition)?;
-        push_dates(alloc, rows, name, definition, &dates)
+        push_entries(alloc, rows, name, definition)
     }
+}
+
+fn is_something(rows: &[Row]) -> bool
+    ensures { IsTrue result ↔ (rows.now ≢ []) }
+{
+    !rows.is_empty()
+}
+
+/// Whether it lists something.
+pub(crate) fn lists_something(
+    alloc: Global,
+    name: &Name,
+    calendar: &Calendar,
+) -> Result<bool, AllocError>
+    ensures { IfOk result (λ b. IsTrue b ↔ IsTold calendar.now) }
+{
+    let mut rows = Vec::new(alloc);
+    push_entries(alloc, &mut rows, name, calendar)?;
+    Ok(is_something(&rows))
 }
 
 /// The rows of the calendars in the table `calendar_entry`.

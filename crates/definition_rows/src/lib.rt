@@ -10,6 +10,7 @@ mod lending;
 mod offsets;
 mod periods;
 mod predecessors;
+mod telling;
 
 pub use applications::application_rows;
 pub use calendars::calendar_rows;
@@ -18,3 +19,4 @@ pub use lending::lend;
 pub use offsets::offset_rows;
 pub use periods::period_rows;
 pub use predecessors::predecessor_rows;
+pub use telling::{are_told, block_is_told};
