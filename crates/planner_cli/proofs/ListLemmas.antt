@@ -1,8 +1,8 @@
 -- Lemmas on listings that are written while they are read.
-use Rattle.std.proofs.Common.{◌≡◌, ◌⊎◌, ℕ, ◌+◌, ◌≤◌, ◌∙◌, List, [], ◌∷◌, ◌++◌, length, take, map, refl, sym, ap, subst}
+use Rattle.std.proofs.Common.{◌≡◌, ℕ, ◌+◌, ◌≤◌, ◌∙◌, List, [], ◌∷◌, ◌++◌, length, take, refl, sym, ap, subst}
 use Rattle.std.proofs.Common.{inl, inr, arith, append_assoc, append-nil}
 use Rattle.std.specs.Prelude.{Bool, Err, IfErr, IfOk, Ok, Option, Result, Some, flat_map}
-use Rattle.std.specs.Io.KnownBytes.{Appends, Keeps}
+use Rattle.std.specs.Io.KnownBytes.{Appends}
 use Rattle.std.proofs.KnownBytes.{Appends-nil, Appends-trans, Appends-kept}
 use Rattle.std.proofs.Math.Seq.{take-append-add}
 use Rattle.std.proofs.lemmas.List.{length-append, length-map}
@@ -18,7 +18,7 @@ use Rattle.plan_store.specs.declared.stores.StoreFault.{StoreFault}
 use Rattle.plan_store.specs.declared.stores.StoreFault.TheVariants as Stores
 use Rattle.planner_machine.specs.Content.{Content}
 use Rattle.planner_machine.specs.Shown.{CurrentPlan, InDeletions, InHistory, Listed, LongTermPlan}
-use Rattle.planner_machine.specs.Statement.{ListPairs, ListRows, Statement}
+use Rattle.planner_machine.specs.Statement.{ListPairs, ListRows}
 use Rattle.stream_items.specs.Items.{Item}
 use Rattle.planner_cli.specs.Asked.{Asks, list_asked}
 use Rattle.planner_cli.specs.Faults.{store_cause}
@@ -26,10 +26,10 @@ use Rattle.planner_cli.specs.Lists.{BeginsInHand, BeginsList}
 use Rattle.planner_cli.specs.Outcomes.{answer_text, answering}
 use Rattle.planner_cli.specs.Replies.{Prints, Reply, ended, is_accepted, is_refused, printed}
 use Rattle.planner_cli.specs.Rows.{IsShownText}
-use Rattle.planner_cli.specs.Runs.{IsFrontOf, ItemBreaks}
-use Rattle.planner_cli.specs.Sinks.{EndsInLines, TakesFront, TakesLine, TakesLines, WritesAll, WritesPart}
+use Rattle.planner_cli.specs.Runs.{IsFrontOf}
+use Rattle.planner_cli.specs.Sinks.{TakesFront, TakesLine, TakesLines, WritesAll, WritesPart}
 use Rattle.planner_cli.specs.Steps.{Serves, Step}
-use Rattle.planner_cli.specs.Stores.{IsBlamed}
+use Rattle.planner_cli.specs.Stores.{IsBlamed, LeavesOwn}
 use Rattle.planner_cli.specs.Writes.{AnswersItem, IsUnwritten, IsWritten}
 use Rattle.planner_cli.specs.declared.answers.Printed.{Printed}
 use Rattle.planner_cli.specs.declared.faults.Cause.{Cause}
@@ -203,11 +203,18 @@ prints_behind rows line text accepted h = record {
   refused_is = h.refused_is;
 }
 
-module _ {S : Type 0} (is_honest : S → Type 0) (content : S → Content) (failures : S → ℕ) (before now : S)
-    (old mid new : Option (List ℕ)) (item : Item) (what : What) (app : Option (List ℕ))
+module _ {S : Type 0} (is_honest : S → Type 0) (content : S → Content) (failures : S → ℕ)
+    (may_leave : S → Content → Type 0) (before now : S) (old mid new : Option (List ℕ)) (item : Item)
+    (what : What) (app : Option (List ℕ))
     (asks : Asks item (Some (list_asked what app)))
-    (same : is_honest now → content now ≡ content before) (counts : failures before ≤ failures now)
-    (honest' : is_honest now → is_honest before) where
+    (same : is_honest now → content now ≡ content before)
+    (left : is_honest now → (c : Content) → may_leave now c → may_leave before c)
+    (counts : failures before ≤ failures now) (honest' : is_honest now → is_honest before) where
+  -- nothing changes, so neither does what a crash leaves
+  still_own : is_honest now → LeavesOwn content may_leave before → (c : Content) → may_leave now c
+      → c ≡ content before
+  still_own honest own c leaves = own c (left honest c leaves)
+
   begins : (c : Content) (first rest : List Shown) (lines : List (List ℕ)) → IsListing what app c (first ++ rest)
       → AreLinesOf IsShownText first lines
       → BeginsList c item lines
@@ -232,27 +239,31 @@ module _ {S : Type 0} (is_honest : S → Type 0) (content : S → Content) (fail
   pub list_ends : (fault : ListFault) (cause : Cause)
       → (is_honest now → WritesPart (IsListing what app (content before)) old new fault)
       → (fault ≡ Faults.Device → IsBlamed (failures before) (failures now)) → IsCauseOf fault cause
-      → AnswersItem is_honest content failures before now old new item (Err cause)
+      → AnswersItem is_honest content failures may_leave before now old new item (Err cause)
   list_ends Faults.Memory cause part blames is =
-      subst (λ x. AnswersItem is_honest content failures before now old new item (Err x)) (sym is) (record {
+      subst (λ x. AnswersItem is_honest content failures may_leave before now old new item (Err x)) (sym is) (record {
         ok = λ honest. tt;
         err = λ honest. let p = part honest in
             (same honest, lines_begun (content before) new p.first p.rest p.whole p.ends);
+        settled = λ honest own. tt;
+        crash = λ honest own c leaves. inl (still_own honest own c leaves);
         blames = λ store. absurd (let h : ⊥ = cc store in h);
         counts = counts;
         honest = honest';
       })
   list_ends Faults.Device cause part blames is =
-      subst (λ x. AnswersItem is_honest content failures before now old new item (Err x)) (sym is) (record {
+      subst (λ x. AnswersItem is_honest content failures may_leave before now old new item (Err x)) (sym is) (record {
         ok = λ honest. tt;
         err = λ honest. let p = part honest in
             (inl (same honest), lines_begun (content before) new p.first p.rest p.whole p.ends);
+        settled = λ honest own. tt;
+        crash = λ honest own c leaves. inl (still_own honest own c leaves);
         blames = λ store. blames refl;
         counts = counts;
         honest = honest';
       })
   list_ends (Faults.Sink f) cause part blames is =
-      subst (λ x. AnswersItem is_honest content failures before now old new item (Err x)) (sym is) (record {
+      subst (λ x. AnswersItem is_honest content failures may_leave before now old new item (Err x)) (sym is) (record {
         ok = λ honest. tt;
         err = λ honest.
             let p = part honest in
@@ -268,6 +279,8 @@ module _ {S : Type 0} (is_honest : S → Type 0) (content : S → Content) (fail
               ),
               appended,
             );
+        settled = λ honest own. tt;
+        crash = λ honest own c leaves. inl (still_own honest own c leaves);
         blames = λ store. absurd (let h : ⊥ = cc store in h);
         counts = counts;
         honest = honest';
@@ -298,7 +311,7 @@ module _ {S : Type 0} (is_honest : S → Type 0) (content : S → Content) (fail
 
     list_ok : (printed : Printed) (accepted : Bool) → IsAnswered printed → Appends mid new printed.text.items
         × (accepted ≡ printed.is_accepted)
-        → AnswersItem is_honest content failures before now old new item (Ok accepted)
+        → AnswersItem is_honest content failures may_leave before now old new item (Ok accepted)
     list_ok printed accepted tells (appended, is) = record {
       ok = λ honest.
           let (reply, lines, step, prints, rows) = whole_reply printed tells honest in (
@@ -311,13 +324,15 @@ module _ {S : Type 0} (is_honest : S → Type 0) (content : S → Content) (fail
             Appends-trans old mid new _ _ rows appended,
           );
       err = λ honest. tt;
+      settled = λ honest own c leaves. still_own honest own c leaves ∙ sym (same honest);
+      crash = λ honest own. tt;
       blames = tt;
       counts = counts;
       honest = honest';
     }
 
     list_part : (printed : Printed) (cause : Cause) → IsAnswered printed → IsUnwritten (Ok printed) mid new cause
-        → AnswersItem is_honest content failures before now old new item (Err cause)
+        → AnswersItem is_honest content failures may_leave before now old new item (Err cause)
     list_part printed cause tells (is, (front, fronts, appended)) = record {
       ok = λ honest. tt;
       err = λ honest.
@@ -327,15 +342,17 @@ module _ {S : Type 0} (is_honest : S → Type 0) (content : S → Content) (fail
           (subst (IsFrontOf (flat_map ended lines ++ front)) prints.text_is
           (front_behind (flat_map ended lines) printed.text.items front fronts))
           (Appends-trans old mid new _ _ rows appended);
+      settled = λ honest own. tt;
+      crash = λ honest own c leaves. inl (still_own honest own c leaves);
       blames = λ store. absurd (let no : Device Writer ≡ Device Store = sym is ∙ store in let h : ⊥ = cc no in h);
       counts = counts;
       honest = honest';
     }
 
     list_untold : (fault : StoreFault) (cause : Cause) → fault ≡ Stores.Memory → IsUnwritten (Err fault) mid new cause
-        → AnswersItem is_honest content failures before now old new item (Err cause)
+        → AnswersItem is_honest content failures may_leave before now old new item (Err cause)
     list_untold fault cause memory (is, kept) =
-        subst (λ x. AnswersItem is_honest content failures before now old new item (Err x))
+        subst (λ x. AnswersItem is_honest content failures may_leave before now old new item (Err x))
         (sym (is ∙ ap store_cause memory)) (record {
           ok = λ honest. tt;
           err = λ honest.
@@ -346,6 +363,8 @@ module _ {S : Type 0} (is_honest : S → Type 0) (content : S → Content) (fail
                     (subst (IsListing what app (content before)) (sym (append-nil a.items)) a.whole)
                     (lines, are, Appends-kept old mid new (flat_map ended lines) appended kept),
               );
+          settled = λ honest own. tt;
+          crash = λ honest own c leaves. inl (still_own honest own c leaves);
           blames = λ store. absurd (let h : ⊥ = cc store in h);
           counts = counts;
           honest = honest';
@@ -356,7 +375,7 @@ module _ {S : Type 0} (is_honest : S → Type 0) (content : S → Content) (fail
         → IfOk answered (λ printed. Prints (answering (Ok (Rows count))) printed.text.items printed.is_accepted)
         → IfErr answered (λ fault. fault ≡ Stores.Memory)
         → IfOk result (IsWritten answered mid new) → IfErr result (IsUnwritten answered mid new)
-        → AnswersItem is_honest content failures before now old new item result
+        → AnswersItem is_honest content failures may_leave before now old new item result
     list_told (Ok printed) (Ok accepted) tells memory ok err = list_ok printed accepted tells ok
     list_told (Ok printed) (Err cause) tells memory ok err = list_part printed cause tells err
     list_told (Err fault) (Ok accepted) tells memory ok err = absurd ok

@@ -12,9 +12,9 @@ use Rattle.planner_cli.specs.Asked.{AreAsked, Asks}
 use Rattle.planner_cli.specs.Faults.{cause_of, fault_line}
 use Rattle.planner_cli.specs.Meaning.{Answers}
 use Rattle.planner_cli.specs.Outcomes.{answering}
-use Rattle.planner_cli.specs.Plans.{AreAnswered, LeadsTo, RanPlan, StoppedPlan}
+use Rattle.planner_cli.specs.Plans.{AreAnswered, CrashedPlan, LeadsTo, RanPlan, StoppedPlan}
 use Rattle.planner_cli.specs.Replies.{Reply}
-use Rattle.planner_cli.specs.Runs.{EndsBy, LeavesInHand, Ran, Stopped}
+use Rattle.planner_cli.specs.Runs.{Crashed, EndsBy, LeavesInHand, Ran, Stopped}
 use Rattle.planner_cli.specs.Steps.{AnswersAsked, Serves, Step}
 use Rattle.planner_cli.specs.declared.faults.Cause.{Cause}
 use Rattle.planner_cli.specs.declared.faults.Cause.TheVariants.{Device, Memory}
@@ -170,6 +170,19 @@ pub reached : (line : Cause → List ℕ) (c c' : Content) (w w' read : Option (
 reached line c c' w w' read fault h =
     since h.done h.replies c h.between c' h.hand h.answers
     (ended (cause_of fault) (line (cause_of fault)) h.between c' h.hand h.tail h.ending)
+
+pub crashed_leads : RunsSound → RunsByFate → (c c' : Content) (w w' read : Option (List ℕ)) (fault : RunFault)
+    (left : Content) → IsSound c
+    → Crashed Step fault_line c c' w w' read fault left → CrashedPlan c c' w w' read fault left
+crashed_leads law fates c c' w w' read fault left sound h =
+    let stopped = h.stopped in
+    let at = since stopped.done stopped.replies c stopped.between left stopped.hand stopped.answers h.leaves in
+    record {
+      crashed = h;
+      items = at.items;
+      are_answered = at.are_answered;
+      leads = leads law fates at.items at.told c left sound at.answers;
+    }
 
 pub stopped_leads : RunsSound → RunsByFate → (c c' : Content) (w w' read : Option (List ℕ)) (fault : RunFault)
     → IsSound c

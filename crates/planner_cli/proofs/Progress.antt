@@ -15,7 +15,8 @@ use Rattle.plan_store.specs.declared.stores.StoreFault.{StoreFault}
 use Rattle.plan_store.specs.declared.stores.StoreFault.TheVariants as Stores
 use Rattle.planner_cli.specs.Faults.{cause_of, read_cause, store_cause, tally_in, fault_line}
 use Rattle.planner_cli.specs.Lists.{BeginsInHand}
-use Rattle.planner_cli.specs.Runs.{EndsBy, IsFrontOf, ItemBreaks, LeavesInHand, Ran, Stopped, TellsAfterRows, with_hand}
+use Rattle.planner_cli.specs.Runs.{Crashed, EndsBy, IsFrontOf, ItemBreaks, LeavesInHand, Ran, Stopped, TellsAfterRows}
+use Rattle.planner_cli.specs.Runs.{with_hand}
 use Rattle.planner_cli.specs.declared.tally.Tally.{Tally}
 use Rattle.stream_items.specs.declared.lines.ReadFault.{ReadFault}
 use Rattle.stream_items.specs.declared.lines.ReadFault.TheVariants as Reads
@@ -266,6 +267,35 @@ halts_within Step s0 s s' w0 w w' told b c tally one item cause fault p read met
       tally_is = tallied ∙ p.tally_is;
     }
 
+-- and what a crash may leave then
+pub crashes_between : (Step : StepOf Content) (s0 s : Content) (w0 w told b : Option (List ℕ)) (tally : Tally)
+    (f : ReadFault) (fault : RunFault) → Progress Step s0 s w0 w told b tally
+    → cause_of fault ≡ read_cause f → tally_in fault ≡ tally → (c : Content) → c ≡ s
+    → Crashed Step (λ _. []) s0 s w0 w told fault c
+unfolding halts_between
+crashes_between Step s0 s w0 w told b tally f fault p e tallied c same =
+    record { stopped = halts_between Step s0 s w0 w told b tally f fault p e tallied; leaves = inl same }
+
+-- what stays, or that after the item in hand
+in_hand : (Step : StepOf Content) (s t : Content) (item : Item) → (t ≡ s) ⊎ ((reply : Reply) × Step s item reply t)
+    → (t ≡ s) ⊎ LeavesInHand Step s (Some item) t
+in_hand Step s t item (inl same) = inl same
+in_hand Step s t item (inr did) = inr (item, refl, did)
+
+pub crashes_within : (Step : StepOf Content) (s0 s s' : Content) (w0 w w' told b c : Option (List ℕ)) (tally : Tally)
+    (one : Option Item) (item : Item) (cause : Cause) (fault : RunFault)
+    → Progress Step s0 s w0 w told b tally → IfSome b (λ zs. ItemRead zs one c) → one ≡ Some item
+    → cause_of fault ≡ cause → tally_in fault ≡ tally
+    → ItemBreaks Step cause s s' w w' item → (left : Content) → (left ≡ s) ⊎ ((reply : Reply) × Step s item reply left)
+    → Crashed Step (λ _. []) s0 s' w0 w' told fault left
+unfolding halts_within
+crashes_within Step s0 s s' w0 w w' told b c tally one item cause fault p read met_it e tallied breaks left leaves =
+    record {
+      stopped =
+          halts_within Step s0 s s' w0 w w' told b c tally one item cause fault p read met_it e tallied breaks;
+      leaves = in_hand Step s left item leaves;
+    }
+
 -- a front of nothing is nothing
 front_of_nothing : (xs : List ℕ) → IsFrontOf xs [] → xs ≡ []
 front_of_nothing xs front = front.2 ∙ take_short front.0 [] (omega arith)
@@ -320,6 +350,15 @@ told Step s t w0 w w' read fault cause p e appended =
       tally_is = p.tally_is;
     }
 
+pub crash_told : (Step : StepOf Content) (s t : Content) (w0 w w' read : Option (List ℕ)) (fault : RunFault)
+    (cause : Cause) (c : Content)
+    → Crashed Step (λ _. []) s t w0 w read fault c → cause ≡ cause_of fault
+    → ((n : ℕ) × (n ≤ length (fault_line cause)) × Appends w w' (take n (fault_line cause)))
+    → Crashed Step fault_line s t w0 w' read fault c
+unfolding told
+crash_told Step s t w0 w w' read fault cause c h e appended =
+    record { stopped = told Step s t w0 w w' read fault cause h.stopped e appended; leaves = h.leaves }
+
 -- nothing is written of the item in hand
 nothing_begun : (s : Content) (w w' : Option (List ℕ)) (item : Item) → Keeps w w'
     → (front : List ℕ) × BeginsInHand s (Some item) front × Appends w w' front
@@ -333,11 +372,8 @@ pub store_breaks : (Step : StepOf Content) (fault : StoreFault) (cause : Cause) 
 store_breaks Step Stores.Memory cause s s' w w' item is kept unchanged whole =
     subst (λ c. ItemBreaks Step c s s' w w' item) (sym is) (unchanged refl, nothing_begun s w w' item kept)
 store_breaks Step Stores.Device cause s s' w w' item is kept unchanged whole =
-    subst (λ c. ItemBreaks Step c s s' w w' item) (sym is) (in_hand whole, nothing_begun s w w' item kept)
-  where
-    in_hand : ((s' ≡ s) ⊎ ((reply : Reply) × Step s item reply s')) → (s' ≡ s) ⊎ LeavesInHand Step s (Some item) s'
-    in_hand (inl same) = inl same
-    in_hand (inr did) = inr (item, refl, did)
+    subst (λ c. ItemBreaks Step c s s' w w' item) (sym is)
+    (in_hand Step s s' item whole, nothing_begun s w w' item kept)
 
 -- memory is refused before anything is asked of the store
 pub memory_breaks : (Step : StepOf Content) (s : Content) (w : Option (List ℕ)) (item : Item)

@@ -6,7 +6,7 @@ use Rattle.plan_store.specs.Stores.{Reads}
 use Rattle.plan_store.specs.declared.stores.StoreFault.{StoreFault}
 use Rattle.plan_store.specs.declared.stores.StoreFault.TheVariants.{Device, Memory}
 use Rattle.planner_cli.specs.Replies.{Prints, Reply}
-use Rattle.planner_cli.specs.Stores.{AnswersBy, IsBlamed}
+use Rattle.planner_cli.specs.Stores.{AnswersBy, IsBlamed, LeavesOwn}
 use Rattle.planner_cli.specs.declared.answers.Printed.{Printed}
 
 -- ---- counts of failures
@@ -43,38 +43,43 @@ always_on_err (Err e) P h = h
 
 -- ---- calls
 
-module _ {S : Type 0} (is_honest : S → Type 0) (content : S → Content) (failures : S → ℕ) where
+module _ {S : Type 0} (is_honest : S → Type 0) (content : S → Content) (failures : S → ℕ)
+    (may_leave : S → Content → Type 0) where
   -- a reply that one may give is one that the other may give
   pub answers_so : (before now : S) (result : Result Printed StoreFault) (Does More : Reply → Content → Type 0)
       → (is_honest now → (reply : Reply) (c : Content) → Does reply c → More reply c)
-      → AnswersBy is_honest content failures before now result Does
-      → AnswersBy is_honest content failures before now result More
+      → AnswersBy is_honest content failures may_leave before now result Does
+      → AnswersBy is_honest content failures may_leave before now result More
   answers_so before now result Does More more a = record {
     answers = λ honest. if_ok result _ _
         (λ printed h. record { reply = h.reply; gives = more honest h.reply (content now) h.gives; prints = h.prints })
         (a.answers honest);
     unchanged = a.unchanged;
-    whole = λ honest. on_err result _ _ (λ h. left honest h) (a.whole honest);
+    whole = λ honest. on_err result _ _ (λ h. left honest (content now) h) (a.whole honest);
+    settled = a.settled;
+    crash = λ honest own. on_err result _ _ (λ h c leaves. left honest c (h c leaves)) (a.crash honest own);
     blames = a.blames;
     counts = a.counts;
     honest = a.honest;
   }
     where
-      left : is_honest now → ((content now ≡ content before) ⊎ ((reply : Reply) × Does reply (content now)))
-          → (content now ≡ content before) ⊎ ((reply : Reply) × More reply (content now))
-      left honest (inl same) = inl same
-      left honest (inr (reply, does)) = inr (reply, more honest reply (content now) does)
+      left : is_honest now → (c : Content) → (c ≡ content before) ⊎ ((reply : Reply) × Does reply c)
+          → (c ≡ content before) ⊎ ((reply : Reply) × More reply c)
+      left honest c (inl same) = inl same
+      left honest c (inr (reply, does)) = inr (reply, more honest reply c does)
 
   -- nothing was asked of the store
   pub untouched : (store : S) (result : Result Printed StoreFault) (reply : Reply) (Does : Reply → Content → Type 0)
       → Does reply (content store)
       → IfOk result (λ printed. Prints reply printed.text.items printed.is_accepted)
       → IfErr result (λ fault. fault ≡ Memory)
-      → AnswersBy is_honest content failures store store result Does
+      → AnswersBy is_honest content failures may_leave store store result Does
   untouched store (Ok printed) reply Does does prints memory = record {
     answers = λ honest. record { reply = reply; gives = does; prints = prints };
     unchanged = λ honest. tt;
     whole = λ honest. tt;
+    settled = λ honest own. own;
+    crash = λ honest own. tt;
     blames = tt;
     counts = omega arith;
     honest = λ honest. honest;
@@ -83,6 +88,8 @@ module _ {S : Type 0} (is_honest : S → Type 0) (content : S → Content) (fail
     answers = λ honest. tt;
     unchanged = λ honest is. refl;
     whole = λ honest. inl refl;
+    settled = λ honest own. tt;
+    crash = λ honest own c leaves. inl (own c leaves);
     blames = λ is. absurd (let no : Memory ≡ Device = sym memory ∙ is in let h : ⊥ = cc no in h);
     counts = omega arith;
     honest = λ honest. honest;
@@ -90,23 +97,24 @@ module _ {S : Type 0} (is_honest : S → Type 0) (content : S → Content) (fail
 
   -- memory was refused, and nothing was asked of the store since
   pub refused_memory : (store : S) (Does : Reply → Content → Type 0)
-      → AnswersBy is_honest content failures store store (Err Memory) Does
+      → AnswersBy is_honest content failures may_leave store store (Err Memory) Does
   refused_memory store Does = record {
     answers = λ honest. tt;
     unchanged = λ honest is. refl;
     whole = λ honest. inl refl;
+    settled = λ honest own. tt;
+    crash = λ honest own c leaves. inl (own c leaves);
     blames = λ is. absurd (let h : ⊥ = cc is in h);
     counts = omega arith;
     honest = λ honest. honest;
   }
 
-  module _ {T : Type 0} (may_leave : S → Content → Type 0) (before mid : S) (read : Result T StoreFault)
-      (IsRight : T → Type 0)
+  module _ {T : Type 0} (before mid : S) (read : Result T StoreFault) (IsRight : T → Type 0)
       (reads : Reads is_honest content failures may_leave before mid read IsRight) where
     -- the store was read before
     pub after_read : (now : S) (result : Result Printed StoreFault) (Does : Content → Reply → Content → Type 0)
-        → AnswersBy is_honest content failures mid now result (Does (content mid))
-        → AnswersBy is_honest content failures before now result (Does (content before))
+        → AnswersBy is_honest content failures may_leave mid now result (Does (content mid))
+        → AnswersBy is_honest content failures may_leave before now result (Does (content before))
     after_read now result Does a = record {
       answers = λ honest. if_ok result _ _
           (λ printed h. record {
@@ -116,7 +124,10 @@ module _ {S : Type 0} (is_honest : S → Type 0) (content : S → Content) (fail
           })
           (a.answers honest);
       unchanged = λ honest. if_err result _ _ (λ fault h is. h is ∙ same honest) (a.unchanged honest);
-      whole = λ honest. on_err result _ _ (λ h. left honest h) (a.whole honest);
+      whole = λ honest. on_err result _ _ (λ h. left honest (content now) h) (a.whole honest);
+      settled = λ honest own. a.settled honest (read_own honest own);
+      crash = λ honest own. on_err result _ _ (λ h c leaves. left honest c (h c leaves))
+          (a.crash honest (read_own honest own));
       blames = if_err result _ _ (λ fault h is. blamed_since (failures before) (failures mid) (failures now)
           reads.counts a.counts (h is)) a.blames;
       counts = let x = reads.counts in let y = a.counts in omega arith;
@@ -126,51 +137,58 @@ module _ {S : Type 0} (is_honest : S → Type 0) (content : S → Content) (fail
         same : is_honest now → content mid ≡ content before
         same honest = reads.same (a.honest honest)
 
-        left : is_honest now → ((content now ≡ content mid)
-            ⊎ ((reply : Reply) × Does (content mid) reply (content now)))
-            → (content now ≡ content before) ⊎ ((reply : Reply) × Does (content before) reply (content now))
-        left honest (inl is) = inl (is ∙ same honest)
-        left honest (inr (reply, does)) = inr (reply, subst (λ c. Does c reply (content now)) (same honest) does)
+        read_own : is_honest now → LeavesOwn content may_leave before → LeavesOwn content may_leave mid
+        read_own honest own c leaves = own c (reads.crash (a.honest honest) c leaves) ∙ sym (same honest)
+
+        left : is_honest now → (c : Content) → (c ≡ content mid) ⊎ ((reply : Reply) × Does (content mid) reply c)
+            → (c ≡ content before) ⊎ ((reply : Reply) × Does (content before) reply c)
+        left honest c (inl is) = inl (is ∙ same honest)
+        left honest c (inr (reply, does)) = inr (reply, subst (λ b. Does b reply c) (same honest) does)
 
   -- the store could not be read
-  pub unread : {T : Type 0} (may_leave : S → Content → Type 0) (before now : S) (fault : StoreFault)
+  pub unread : {T : Type 0} (before now : S) (fault : StoreFault)
       (IsRight : T → Type 0)
       (Does : Reply → Content → Type 0)
       → Reads is_honest content failures may_leave before now (Err fault) IsRight
-      → AnswersBy is_honest content failures before now (Err fault) Does
-  unread may_leave before now fault IsRight Does reads = record {
+      → AnswersBy is_honest content failures may_leave before now (Err fault) Does
+  unread before now fault IsRight Does reads = record {
     answers = λ honest. tt;
     unchanged = λ honest is. reads.same honest;
     whole = λ honest. inl (reads.same honest);
+    settled = λ honest own. tt;
+    crash = λ honest own c leaves. inl (own c (reads.crash honest c leaves));
     blames = reads.blames;
     counts = reads.counts;
     honest = reads.honest;
   }
 
-  module _ {T : Type 0} (may_leave : S → Content → Type 0) (before now : S) (read : Result T StoreFault)
-      (IsRight : T → Type 0)
+  module _ {T : Type 0} (before now : S) (read : Result T StoreFault) (IsRight : T → Type 0)
       (reads : Reads is_honest content failures may_leave before now read IsRight) where
     -- the store was read, and that is all
     pub read_told : (printed : Printed) (Does : Reply → Content → Type 0)
         → (is_honest now → (reply : Reply) × Does reply (content before)
         × Prints reply printed.text.items printed.is_accepted)
-        → AnswersBy is_honest content failures before now (Ok printed) Does
+        → AnswersBy is_honest content failures may_leave before now (Ok printed) Does
     read_told printed Does told = record {
       answers = λ honest. let (reply, does, prints) = told honest in
           record { reply = reply; gives = subst (Does reply) (sym (reads.same honest)) does; prints = prints };
       unchanged = λ honest. tt;
       whole = λ honest. tt;
+      settled = λ honest own c leaves. own c (reads.crash honest c leaves) ∙ sym (reads.same honest);
+      crash = λ honest own. tt;
       blames = tt;
       counts = reads.counts;
       honest = reads.honest;
     }
 
     pub read_refused : (Does : Reply → Content → Type 0)
-        → AnswersBy is_honest content failures before now (Err Memory) Does
+        → AnswersBy is_honest content failures may_leave before now (Err Memory) Does
     read_refused Does = record {
       answers = λ honest. tt;
       unchanged = λ honest is. reads.same honest;
       whole = λ honest. inl (reads.same honest);
+      settled = λ honest own. tt;
+      crash = λ honest own c leaves. inl (own c (reads.crash honest c leaves));
       blames = λ is. absurd (let h : ⊥ = cc is in h);
       counts = reads.counts;
       honest = reads.honest;
@@ -180,25 +198,30 @@ module _ {S : Type 0} (is_honest : S → Type 0) (content : S → Content) (fail
         → (is_honest now → Does reply (content before))
         → IfOk result (λ printed. Prints reply printed.text.items printed.is_accepted)
         → IfErr result (λ fault. fault ≡ Memory)
-        → AnswersBy is_honest content failures before now result Does
+        → AnswersBy is_honest content failures may_leave before now result Does
     read_answers (Ok printed) reply Does does prints memory =
         read_told printed Does (λ honest. (reply, does honest, prints))
     read_answers (Err fault) reply Does does prints memory =
-        subst (λ f. AnswersBy is_honest content failures before now (Err f) Does) (sym memory) (read_refused Does)
+        subst (λ f. AnswersBy is_honest content failures may_leave before now (Err f) Does) (sym memory)
+        (read_refused Does)
 
 -- ---- a change that is made
 
-module _ {S : Type 0} (is_honest : S → Type 0) (content : S → Content) (failures : S → ℕ) (before now : S) where
+module _ {S : Type 0} (is_honest : S → Type 0) (content : S → Content) (failures : S → ℕ)
+    (may_leave : S → Content → Type 0) (before now : S) where
   -- it was made
   pub made : (printed : Printed) (reply : Reply) (Does : Reply → Content → Type 0)
       → (is_honest now → Does reply (content now))
-      → Prints reply printed.text.items printed.is_accepted → failures before ≤ failures now
+      → Prints reply printed.text.items printed.is_accepted
+      → (is_honest now → LeavesOwn content may_leave now) → failures before ≤ failures now
       → (is_honest now → is_honest before)
-      → AnswersBy is_honest content failures before now (Ok printed) Does
-  made printed reply Does does prints counts honest' = record {
+      → AnswersBy is_honest content failures may_leave before now (Ok printed) Does
+  made printed reply Does does prints settled counts honest' = record {
     answers = λ honest. record { reply = reply; gives = does honest; prints = prints };
     unchanged = λ honest. tt;
     whole = λ honest. tt;
+    settled = λ honest own. settled honest;
+    crash = λ honest own. tt;
     blames = tt;
     counts = counts;
     honest = honest';
@@ -208,13 +231,17 @@ module _ {S : Type 0} (is_honest : S → Type 0) (content : S → Content) (fail
   pub not_made : (fault : StoreFault) (Does : Reply → Content → Type 0)
       → (is_honest now → fault ≡ Memory → content now ≡ content before)
       → (is_honest now → (content now ≡ content before) ⊎ ((reply : Reply) × Does reply (content now)))
+      → (is_honest now → LeavesOwn content may_leave before → (c : Content) → may_leave now c
+      → (c ≡ content before) ⊎ ((reply : Reply) × Does reply c))
       → (fault ≡ Device → IsBlamed (failures before) (failures now)) → failures before ≤ failures now
       → (is_honest now → is_honest before)
-      → AnswersBy is_honest content failures before now (Err fault) Does
-  not_made fault Does unchanged whole blames counts honest' = record {
+      → AnswersBy is_honest content failures may_leave before now (Err fault) Does
+  not_made fault Does unchanged whole crash blames counts honest' = record {
     answers = λ honest. tt;
     unchanged = unchanged;
     whole = whole;
+    settled = λ honest own. tt;
+    crash = crash;
     blames = blames;
     counts = counts;
     honest = honest';

@@ -35,7 +35,7 @@ use Rattle.plan_store.specs.declared.changes.Verdict.TheVariants.{Done, Refused}
 use Rattle.plan_store.proofs.PlaceLemmas.{stands_cp}
 use Rattle.plan_store.proofs.ViewLemmas.{once_from_rows}
 use Rattle.planner_cli.specs.Outcomes.{answer_text, answering}
-use Rattle.planner_cli.specs.Replies.{ended}
+use Rattle.planner_cli.specs.Replies.{Prints, Reply, ended}
 use Rattle.planner_cli.specs.Requests.{daily_change, plan_change}
 use Rattle.planner_cli.specs.Rows.{ShowsDailyTrial, ShowsPlanTrial, ShowsTrial, daily_signed, plan_signed}
 use Rattle.planner_cli.specs.Steps.{Serves}
@@ -52,12 +52,25 @@ use Rattle.planner_cli.proofs.ShownLists.{shown_by}
 use Rattle.planner_cli.proofs.TrialLemmas.{AreCurrent, AreRowsOf, ComesIn, GoesOut, IsPlanFate, daily_apart}
 use Rattle.planner_cli.proofs.TrialLemmas.{daily_listed}
 use Rattle.planner_cli.proofs.TrialLemmas.{modify_fate, plan_apart, plan_listed, stays_fate}
+use Rattle.planner_cli.specs.declared.answers.Printed.{Printed}
 
 -- an accepted trial: what it prints before its last line, and that it is served
 pub record TrialShown (change : MachineChange) (c : Content) (reply : Outcome) (text : List ℕ) : Type 0 where
   pub lines : List (List ℕ)
   pub text_is : text ≡ flat_map ended lines
   pub serves : Serves (Trial change) c (record { rows = lines; line = answer_text (Ok reply) }) c
+
+-- an answer that is printed behind the lines of its report
+pub trial_told : (change : MachineChange) (c : Content) (reply : Outcome) (text : List ℕ) (printed : Printed)
+    → TrialShown change c reply text
+    → ((lines : List (List ℕ)) → text ≡ flat_map ended lines
+    → Prints (record { rows = lines; line = answer_text (Ok reply) }) printed.text.items printed.is_accepted)
+    → (told : Reply) × Serves (Trial change) c told c × Prints told printed.text.items printed.is_accepted
+trial_told change c reply text printed shown tells = (
+  record { rows = shown.lines; line = answer_text (Ok reply) },
+  shown.serves,
+  tells shown.lines shown.text_is,
+)
 
 -- a refused one
 pub trial_refused : (change : MachineChange) (c : Content) (r : Refusal) → VerdictIs (decision_of change) c (Refused r)

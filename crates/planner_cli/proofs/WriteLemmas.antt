@@ -1,5 +1,5 @@
 -- Lemmas on answers that are written.
-use Rattle.std.proofs.Common.{◌≡◌, ◌⊎◌, ℕ, ◌≤◌, ◌∙◌, List, refl, sym, ap, subst, inl, inr, arith}
+use Rattle.std.proofs.Common.{◌≡◌, ℕ, ◌∙◌, List, refl, sym, subst, inl, inr, arith}
 use Rattle.std.specs.Prelude.{Bool, Err, IfErr, IfOk, Ok, Option, Result}
 use Rattle.std.specs.Io.KnownBytes.{Appends}
 use Rattle.planner_machine.specs.Content.{Content}
@@ -7,10 +7,10 @@ use Rattle.plan_store.specs.declared.stores.StoreFault.{StoreFault}
 use Rattle.plan_store.specs.declared.stores.StoreFault.TheVariants as Stores
 use Rattle.stream_items.specs.Items.{Item}
 use Rattle.planner_cli.specs.Faults.{store_cause}
-use Rattle.planner_cli.specs.Replies.{Answered, Reply, printed}
-use Rattle.planner_cli.specs.Runs.{IsFrontOf, ItemBreaks}
+use Rattle.planner_cli.specs.Replies.{Answered, printed}
+use Rattle.planner_cli.specs.Runs.{IsFrontOf}
 use Rattle.planner_cli.specs.Steps.{Step}
-use Rattle.planner_cli.specs.Stores.{AnswersBy, IsBlamed}
+use Rattle.planner_cli.specs.Stores.{AnswersBy}
 use Rattle.planner_cli.specs.Writes.{AnswersItem, IsUnwritten, IsWritten}
 use Rattle.planner_cli.specs.declared.answers.Printed.{Printed}
 use Rattle.planner_cli.specs.declared.faults.Cause.{Cause}
@@ -18,13 +18,13 @@ use Rattle.planner_cli.specs.declared.faults.Cause.TheVariants.{Device, Memory}
 use Rattle.planner_cli.specs.declared.faults.Part.TheVariants.{Store, Writer}
 use Rattle.planner_cli.proofs.Progress.{memory_breaks, store_breaks, writer_breaks}
 
-module _ {S : Type 0} (is_honest : S → Type 0) (content : S → Content) (failures : S → ℕ) (before now : S)
-    (old new : Option (List ℕ)) (item : Item) where
+module _ {S : Type 0} (is_honest : S → Type 0) (content : S → Content) (failures : S → ℕ)
+    (may_leave : S → Content → Type 0) (before now : S) (old new : Option (List ℕ)) (item : Item) where
   -- the answer was made, and is written
   wrote_ok : (printed : Printed) (accepted : Bool)
-      → AnswersBy is_honest content failures before now (Ok printed) (Step (content before) item)
+      → AnswersBy is_honest content failures may_leave before now (Ok printed) (Step (content before) item)
       → Appends old new printed.text.items × (accepted ≡ printed.is_accepted)
-      → AnswersItem is_honest content failures before now old new item (Ok accepted)
+      → AnswersItem is_honest content failures may_leave before now old new item (Ok accepted)
   wrote_ok printed accepted a (appended, is) = record {
     ok = λ honest. (
       printed.text.items,
@@ -32,6 +32,8 @@ module _ {S : Type 0} (is_honest : S → Type 0) (content : S → Content) (fail
       appended,
     );
     err = λ honest. tt;
+    settled = a.settled;
+    crash = λ honest own. tt;
     blames = tt;
     counts = a.counts;
     honest = a.honest;
@@ -39,15 +41,22 @@ module _ {S : Type 0} (is_honest : S → Type 0) (content : S → Content) (fail
 
   -- it was made, and the writer failed
   wrote_part : (printed : Printed) (cause : Cause)
-      → AnswersBy is_honest content failures before now (Ok printed) (Step (content before) item)
+      → AnswersBy is_honest content failures may_leave before now (Ok printed) (Step (content before) item)
       → IsUnwritten (Ok printed) old new cause
-      → AnswersItem is_honest content failures before now old new item (Err cause)
+      → AnswersItem is_honest content failures may_leave before now old new item (Err cause)
   wrote_part printed cause a (is, (front, begins, appended)) = record {
     ok = λ honest. tt;
     err = λ honest.
         let made = a.answers honest in
         writer_breaks Step cause (content before) (content now) old new item made.reply front is made.gives
         (subst (IsFrontOf front) made.prints.text_is begins) appended;
+    settled = λ honest own. tt;
+    crash = λ honest own c leaves.
+        let made = a.answers honest in
+        inr (
+          made.reply,
+          subst (Step (content before) item made.reply) (sym (a.settled honest own c leaves)) made.gives,
+        );
     blames = λ store. absurd (let no : Device Writer ≡ Device Store = sym is ∙ store in let h : ⊥ = cc no in h);
     counts = a.counts;
     honest = a.honest;
@@ -61,14 +70,16 @@ module _ {S : Type 0} (is_honest : S → Type 0) (content : S → Content) (fail
 
   -- none was made
   wrote_none : (fault : StoreFault) (cause : Cause)
-      → AnswersBy is_honest content failures before now (Err fault) (Step (content before) item)
+      → AnswersBy is_honest content failures may_leave before now (Err fault) (Step (content before) item)
       → IsUnwritten (Err fault) old new cause
-      → AnswersItem is_honest content failures before now old new item (Err cause)
+      → AnswersItem is_honest content failures may_leave before now old new item (Err cause)
   wrote_none fault cause a (is, kept) = record {
     ok = λ honest. tt;
     err = λ honest.
         store_breaks Step fault cause (content before) (content now) old new item is kept (a.unchanged honest)
         (a.whole honest);
+    settled = λ honest own. tt;
+    crash = a.crash;
     blames = λ store. a.blames (device_store fault cause is store);
     counts = a.counts;
     honest = a.honest;
@@ -76,20 +87,23 @@ module _ {S : Type 0} (is_honest : S → Type 0) (content : S → Content) (fail
 
   -- an answer on its way to the writer
   pub wrote : (answered : Result Printed StoreFault) (result : Result Bool Cause)
-      → AnswersBy is_honest content failures before now answered (Step (content before) item)
+      → AnswersBy is_honest content failures may_leave before now answered (Step (content before) item)
       → IfOk result (IsWritten answered old new) → IfErr result (IsUnwritten answered old new)
-      → AnswersItem is_honest content failures before now old new item result
+      → AnswersItem is_honest content failures may_leave before now old new item result
   wrote (Ok printed) (Ok accepted) a ok err = wrote_ok printed accepted a ok
   wrote (Ok printed) (Err cause) a ok err = wrote_part printed cause a err
   wrote (Err fault) (Ok accepted) a ok err = absurd ok
   wrote (Err fault) (Err cause) a ok err = wrote_none fault cause a err
 
 -- memory is refused, and nothing was asked of the store
-pub wrote_nothing : {S : Type 0} (is_honest : S → Type 0) (content : S → Content) (failures : S → ℕ) (store : S)
-    (w : Option (List ℕ)) (item : Item) → AnswersItem is_honest content failures store store w w item (Err Memory)
-wrote_nothing is_honest content failures store w item = record {
+pub wrote_nothing : {S : Type 0} (is_honest : S → Type 0) (content : S → Content) (failures : S → ℕ)
+    (may_leave : S → Content → Type 0) (store : S) (w : Option (List ℕ)) (item : Item)
+    → AnswersItem is_honest content failures may_leave store store w w item (Err Memory)
+wrote_nothing is_honest content failures may_leave store w item = record {
   ok = λ honest. tt;
   err = λ honest. memory_breaks Step (content store) w item;
+  settled = λ honest own. tt;
+  crash = λ honest own c leaves. inl (own c leaves);
   blames = λ store. absurd (let h : ⊥ = cc store in h);
   counts = omega arith;
   honest = λ honest. honest;

@@ -8,7 +8,7 @@ use Rattle.planner_machine.specs.Stream.{Goes, IsStatement, Lives, Runs}
 use Rattle.stream_items.specs.Items.{Item}
 use Rattle.planner_cli.specs.Asked.{AreAsked}
 use Rattle.planner_cli.specs.Faults.{fault_line}
-use Rattle.planner_cli.specs.Runs.{Ran, Stopped}
+use Rattle.planner_cli.specs.Runs.{Crashed, Ran, Stopped}
 use Rattle.planner_cli.specs.Steps.{Step}
 use Rattle.planner_cli.specs.declared.faults.RunFault.{RunFault}
 use Rattle.planner_cli.specs.declared.tally.Tally.{Tally}
@@ -37,6 +37,15 @@ pub record RanPlan (c c' : Content) (old new told : Option (List ℕ)) (tally : 
 -- the items that were answered: those that are done, or these and the one in hand
 abbrev pub AreAnswered : List Item → Option Item → List Item → Type 0
 AreAnswered done hand items = (items ≡ done) ⊎ ((item : Item) × (hand ≡ Some item) × (items ≡ done ++ item ∷ []))
+
+-- a run of the planner that a fault ended, and what a crash may leave then: the statements of items no fewer than those
+-- that were answered lead to it
+pub record CrashedPlan (c c' : Content) (old new told : Option (List ℕ)) (fault : RunFault) (left : Content) : Type 0
+  where
+    pub crashed : Crashed Step fault_line c c' old new told fault left
+    pub items : List Item
+    pub are_answered : AreAnswered crashed.stopped.done crashed.stopped.hand items
+    pub leads : LeadsTo items c left
 
 -- a run of the planner that a fault ended: so do those that were answered
 pub record StoppedPlan (c c' : Content) (old new told : Option (List ℕ)) (fault : RunFault) : Type 0 where

@@ -79,6 +79,13 @@ pub record Stopped (Step : StepOf Content) (line : Cause → List ℕ) (s t : Co
   pub ending : EndsBy Step (cause_of fault) (line (cause_of fault)) between t hand tail
   pub tally_is : tally_in fault ≡ tally_of replies
 
+-- a run that a fault ended, and what a crash may leave then: what the items in `done` left, or that after the item in
+-- hand
+pub record Crashed (Step : StepOf Content) (line : Cause → List ℕ) (s t : Content) (old new told : Option (List ℕ))
+    (fault : RunFault) (c : Content) : Type 0 where
+  pub stopped : Stopped Step line s t old new told fault
+  pub leaves : (c ≡ stopped.between) ⊎ LeavesInHand Step stopped.between stopped.hand c
+
 -- one item was not answered: want of memory changes nothing; a store that fails may have made its change; a writer that
 -- fails has taken a front of the answer, and the change is made. Of `list` the first lines may be written
 abbrev pub ItemBreaks : (Step : StepOf Content)

@@ -1,26 +1,32 @@
 -- What a call that answers an item does to a store and a writer.
-use Rattle.std.specs.Prelude.{◌≡◌, ℕ, ◌≤◌, Bool, Err, IfErr, IfOk, List, Ok, Option, Result}
+use Rattle.std.specs.Prelude.{◌≡◌, ◌⊎◌, ℕ, ◌≤◌, Bool, Err, IfErr, IfOk, List, Ok, OnErr, OnOk, Option, Result}
 use Rattle.std.specs.Io.KnownBytes.{Appends, Keeps}
 use Rattle.plan_store.specs.declared.stores.StoreFault.{StoreFault}
 use Rattle.planner_machine.specs.Content.{Content}
 use Rattle.stream_items.specs.Items.{Item}
 use Rattle.planner_cli.specs.Faults.{store_cause}
-use Rattle.planner_cli.specs.Replies.{Answered}
+use Rattle.planner_cli.specs.Replies.{Answered, Reply}
 use Rattle.planner_cli.specs.Runs.{IsFrontOf, ItemBreaks}
 use Rattle.planner_cli.specs.Steps.{Step}
-use Rattle.planner_cli.specs.Stores.{IsBlamed}
+use Rattle.planner_cli.specs.Stores.{IsBlamed, LeavesOwn}
 use Rattle.planner_cli.specs.declared.answers.Printed.{Printed}
 use Rattle.planner_cli.specs.declared.faults.Cause.{Cause}
 use Rattle.planner_cli.specs.declared.faults.Cause.TheVariants.{Device}
 use Rattle.planner_cli.specs.declared.faults.Part.TheVariants.{Store, Writer}
 
 -- an item is answered by a step of the planner, and what its reply prints is written; or a fault ends the run
-pub record AnswersItem {S : Type 0} (is_honest : S → Type 0) (content : S → Content) (failures : S → ℕ) (before now : S)
-    (old new : Option (List ℕ)) (item : Item) (result : Result Bool Cause) : Type 0 where
+pub record AnswersItem {S : Type 0} (is_honest : S → Type 0) (content : S → Content) (failures : S → ℕ)
+    (may_leave : S → Content → Type 0) (before now : S) (old new : Option (List ℕ)) (item : Item)
+    (result : Result Bool Cause) : Type 0 where
   pub ok : is_honest now → IfOk result (λ accepted. (text : List ℕ)
       × Answered (Step (content before) item) (content now) text accepted × Appends old new text)
   pub err : is_honest now
       → IfErr result (λ cause. ItemBreaks Step cause (content before) (content now) old new item)
+  -- where a crash before would have left the content alone: after an answer a crash leaves the new content alone, and
+  -- after a fault the old one, or that after the item
+  pub settled : is_honest now → LeavesOwn content may_leave before → OnOk result (LeavesOwn content may_leave now)
+  pub crash : is_honest now → LeavesOwn content may_leave before → OnErr result ((c : Content) → may_leave now c
+      → (c ≡ content before) ⊎ ((reply : Reply) × Step (content before) item reply c))
   pub blames : IfErr result (λ cause. cause ≡ Device Store → IsBlamed (failures before) (failures now))
   pub counts : failures before ≤ failures now
   pub honest : is_honest now → is_honest before

@@ -28,7 +28,8 @@ pub(crate) fn answer_job<S: PlanStore>(
     asked: Asked,
 ) -> Result<Printed, StoreFault>
     requires { S.is_honest store.old → IsSound (S.content store.old) }
-    ensures { AnswersBy S.is_honest S.content S.failures store.old store.new result (λ reply c. (answer : AnswerValue)
+    ensures { AnswersBy S.is_honest S.content S.failures S.may_leave store.old store.new result (λ reply c.
+        (answer : AnswerValue)
         × AnswersJob number text (decision_of (change_asked asked)) (S.content store.old) answer c
         × (reply ≡ answering answer)) }
 {
@@ -74,7 +75,8 @@ fn perform<S: PlanStore>(
 ) -> Result<Printed, StoreFault>
     requires sound { S.is_honest store.old → IsSound (S.content store.old) }
     requires new { S.is_honest store.old → (S.content store.old).jobs number ≡ None }
-    ensures { AnswersBy S.is_honest S.content S.failures store.old store.new result (λ reply c. (answer : AnswerValue)
+    ensures { AnswersBy S.is_honest S.content S.failures S.may_leave store.old store.new result (λ reply c.
+        (answer : AnswerValue)
         × AnswersJob number text (decision_of (change_asked asked)) (S.content store.old) answer c
         × (reply ≡ answering answer)) }
 {
@@ -96,7 +98,7 @@ fn settle<S: PlanStore>(
 ) -> Result<Printed, StoreFault>
     requires fits { S.is_honest store.old → FitsVerdict verdict (S.content store.old) }
     requires new { S.is_honest store.old → (S.content store.old).jobs number ≡ None }
-    ensures { AnswersBy S.is_honest S.content S.failures store.old store.new result (λ reply c.
+    ensures { AnswersBy S.is_honest S.content S.failures S.may_leave store.old store.new result (λ reply c.
         (c ≡ job_left number text verdict (S.content store.old)) × (reply ≡ answering (answer_in verdict))) }
 {
     let (mut change, answer) = parts_of(alloc, verdict);

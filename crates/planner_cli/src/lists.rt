@@ -1,6 +1,7 @@
 //! `list`: rows go to the writer as the store hands them out.
 ghost use Rattle.std.specs.Prelude.{◌≡◌, ℕ, ◌≤◌, IfErr, IfOk, List, OnErr, OnOk, Some, option_copied};
 ghost use Rattle.std.specs.Io.KnownBytes.{Appends};
+ghost use Rattle.planner_machine.specs.Content.{Content};
 ghost use Rattle.planner_machine.specs.Sound.{IsSound};
 ghost use Rattle.plan_store.specs.Listings.{IsListing, item_shown};
 ghost use Rattle.plan_store.specs.declared.listings.ListFault.TheVariants as list_fault;
@@ -83,6 +84,7 @@ fn write_lines<S: PlanStore, W: Write>(
     ensures part { S.is_honest store.new → IfErr result (WritesPart (IsListing what (option_copied app.entry)
         (S.content store.old)) (W.contents writer.old) (W.contents writer.new)) }
     ensures same { S.is_honest store.new → S.content store.new ≡ S.content store.old }
+    ensures crash { S.is_honest store.new → (c : Content) → S.may_leave store.new c → S.may_leave store.old c }
     ensures blames { IfErr result (λ fault. fault ≡ list_fault.Device
         → IsBlamed (S.failures store.old) (S.failures store.new)) }
     ensures counts { S.failures store.old ≤ S.failures store.new }
@@ -103,7 +105,7 @@ pub(crate) fn answer_list<S: PlanStore, W: Write>(
 ) -> Result<bool, Cause>
     requires asks { Asks (Alone line.now) (Some (list_asked what (option_copied app))) }
     requires sound { S.is_honest store.old → IsSound (S.content store.old) }
-    ensures { AnswersItem S.is_honest S.content S.failures store.old store.new
+    ensures { AnswersItem S.is_honest S.content S.failures S.may_leave store.old store.new
         (W.contents writer.old) (W.contents writer.new) (Alone line.now) result }
 {
     match write_lines(alloc, store, what, app, writer) {

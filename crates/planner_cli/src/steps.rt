@@ -36,7 +36,7 @@ pub(crate) fn answer_request<S: PlanStore>(
 ) -> Result<Printed, StoreFault>
     requires printed { IsNoList request.now }
     requires sound { S.is_honest store.old → IsSound (S.content store.old) }
-    ensures { AnswersBy S.is_honest S.content S.failures store.old store.new result
+    ensures { AnswersBy S.is_honest S.content S.failures S.may_leave store.old store.new result
         (AnswersAsked (asked_alone line.now request.now) (S.content store.old)) }
 {
     match request {
@@ -65,7 +65,7 @@ fn answer_change<S: PlanStore>(
 ) -> Result<Printed, StoreFault>
     requires numbered { IsJobNumber number }
     requires sound { S.is_honest store.old → IsSound (S.content store.old) }
-    ensures { AnswersBy S.is_honest S.content S.failures store.old store.new result
+    ensures { AnswersBy S.is_honest S.content S.failures S.may_leave store.old store.new result
         (Serves (JobStatement number (texts.line_text line.now) (change_of change.now)) (S.content store.old)) }
 {
     tell_well_formed(change);
@@ -87,7 +87,7 @@ pub(crate) fn answer_with_data<S: PlanStore>(
 ) -> Result<Printed, StoreFault>
     requires fits { Fits block }
     requires sound { S.is_honest store.old → IsSound (S.content store.old) }
-    ensures { AnswersBy S.is_honest S.content S.failures store.old store.new result
+    ensures { AnswersBy S.is_honest S.content S.failures S.may_leave store.old store.new result
         (Step (S.content store.old) (WithBlock line.now (block_shown block.entry))) }
 {
     match request_in(alloc, line) {
@@ -106,7 +106,7 @@ fn answer_data_request<S: PlanStore>(
 ) -> Result<Printed, StoreFault>
     requires fits { Fits block }
     requires sound { S.is_honest store.old → IsSound (S.content store.old) }
-    ensures { AnswersBy S.is_honest S.content S.failures store.old store.new result
+    ensures { AnswersBy S.is_honest S.content S.failures S.may_leave store.old store.new result
         (AnswersAsked (asked_with line.now (block_shown block.entry) request.now) (S.content store.old)) }
 {
     match request {
@@ -135,7 +135,7 @@ fn answer_define<S: PlanStore>(
     requires fits { Fits block }
     requires numbered { IsJobNumber number }
     requires sound { S.is_honest store.old → IsSound (S.content store.old) }
-    ensures { AnswersBy S.is_honest S.content S.failures store.old store.new result
+    ensures { AnswersBy S.is_honest S.content S.failures S.may_leave store.old store.new result
         (Serves (define_asked line.now number kind (block_shown block.entry)) (S.content store.old)) }
 {
     match block {
@@ -157,7 +157,7 @@ fn answer_data<S: PlanStore>(
     requires short { length bytes.now ≤ longest_block }
     requires numbered { IsJobNumber number }
     requires sound { S.is_honest store.old → IsSound (S.content store.old) }
-    ensures { AnswersBy S.is_honest S.content S.failures store.old store.new result
+    ensures { AnswersBy S.is_honest S.content S.failures S.may_leave store.old store.new result
         (Serves (DefineJob number (texts.data_text line.now bytes.now) kind (Some bytes.now)) (S.content store.old)) }
 {
     let Ok(text) = data_text(alloc, line, bytes) else {

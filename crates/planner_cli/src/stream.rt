@@ -1,15 +1,16 @@
 //! A run over a whole stream.
-ghost use Rattle.std.specs.Prelude.{◌≡◌, ◌≤◌, ℕ, List, [], length, take, IfOk, IfErr};
+ghost use Rattle.std.specs.Prelude.{◌≡◌, ◌≤◌, ℕ, List, [], length, take, IfOk, IfErr, OnOk};
 ghost use Rattle.std.specs.Io.KnownBytes.{Appends};
+ghost use Rattle.planner_machine.specs.Content.{Content};
 ghost use Rattle.planner_machine.specs.Sound.{IsSound};
 ghost use Rattle.stream_items.specs.Items.{Alone};
 ghost use Rattle.stream_items.specs.Pages.{item_of, FitsBlock};
 ghost use Rattle.planner_cli.specs.Asked.{Asks, asked_alone};
 ghost use Rattle.planner_cli.specs.Faults.{cause_of, fault_line, status_of};
-ghost use Rattle.planner_cli.specs.Plans.{RanPlan, StoppedPlan};
-ghost use Rattle.planner_cli.specs.Runs.{Ran, Stopped};
+ghost use Rattle.planner_cli.specs.Plans.{CrashedPlan, RanPlan, StoppedPlan};
+ghost use Rattle.planner_cli.specs.Runs.{Crashed, Ran, Stopped};
 ghost use Rattle.planner_cli.specs.Steps.{Step};
-ghost use Rattle.planner_cli.specs.Stores.{IsBlamed};
+ghost use Rattle.planner_cli.specs.Stores.{IsBlamed, LeavesOwn};
 ghost use Rattle.planner_cli.specs.Writes.{AnswersItem};
 ghost use Rattle.planner_cli.specs.declared.faults.Cause.TheVariants.{Device};
 ghost use Rattle.planner_cli.specs.declared.faults.Part.TheVariants.{Store};
@@ -48,6 +49,13 @@ pub fn run<S: PlanStore, R: BufRead, W: Write>(
     // After a fault the replies to the items before it stand in the writer, and the same holds of those answered.
     ensures fault { S.is_honest store.new → IfErr result (λ fault. StoppedPlan (S.content store.old)
         (S.content store.new) (W.contents writer.old) (W.contents writer.new) (R.remaining reader.old) fault) }
+    // Where a crash before the run would have left the content alone, it leaves the new content alone after `Ok`, and
+    // after a fault that after the statements answered, or after the one in hand too.
+    ensures settled { S.is_honest store.new → LeavesOwn S.content S.may_leave store.old
+        → OnOk result (LeavesOwn S.content S.may_leave store.new) }
+    ensures crash { S.is_honest store.new → LeavesOwn S.content S.may_leave store.old → IfErr result (λ fault.
+        (c : Content) → S.may_leave store.new c → CrashedPlan (S.content store.old) (S.content store.new)
+        (W.contents writer.old) (W.contents writer.new) (R.remaining reader.old) fault c) }
     // The store is blamed only where its device failed, in this run or before.
     ensures blames { IfErr result (λ fault. cause_of fault ≡ Device Store
         → IsBlamed (S.failures store.old) (S.failures store.new)) }
@@ -77,6 +85,11 @@ fn answer_all<S: PlanStore, R: BufRead, W: Write>(
     ensures fault { S.is_honest store.new → IfErr result (λ fault.
         Stopped Step (λ _. []) (S.content store.old) (S.content store.new)
         (W.contents writer.old) (W.contents writer.new) (R.remaining reader.old) fault) }
+    ensures settled { S.is_honest store.new → LeavesOwn S.content S.may_leave store.old
+        → OnOk result (LeavesOwn S.content S.may_leave store.new) }
+    ensures crash { S.is_honest store.new → LeavesOwn S.content S.may_leave store.old → IfErr result (λ fault.
+        (c : Content) → S.may_leave store.new c → Crashed Step (λ _. []) (S.content store.old) (S.content store.new)
+        (W.contents writer.old) (W.contents writer.new) (R.remaining reader.old) fault c) }
     ensures blames { IfErr result (λ fault. cause_of fault ≡ Device Store
         → IsBlamed (S.failures store.old) (S.failures store.new)) }
     ensures counts { S.failures store.old ≤ S.failures store.new }
@@ -110,7 +123,7 @@ fn answer_one<S: PlanStore, W: Write>(
 ) -> Result<bool, Cause>
     requires fits { FitsBlock item }
     requires sound { S.is_honest store.old → IsSound (S.content store.old) }
-    ensures { AnswersItem S.is_honest S.content S.failures store.old store.new
+    ensures { AnswersItem S.is_honest S.content S.failures S.may_leave store.old store.new
         (W.contents writer.old) (W.contents writer.new) (item_of item.entry) result }
 {
     match item {
@@ -134,7 +147,7 @@ fn answer_alone<S: PlanStore, W: Write>(
     writer: &mut W,
 ) -> Result<bool, Cause>
     requires { S.is_honest store.old → IsSound (S.content store.old) }
-    ensures { AnswersItem S.is_honest S.content S.failures store.old store.new
+    ensures { AnswersItem S.is_honest S.content S.failures S.may_leave store.old store.new
         (W.contents writer.old) (W.contents writer.new) (Alone line.now) result }
 {
     match request_in(alloc, line) {
@@ -153,7 +166,7 @@ fn answer_asked<S: PlanStore, W: Write>(
 ) -> Result<bool, Cause>
     requires asks { Asks (Alone line.now) (asked_alone line.now request.now) }
     requires sound { S.is_honest store.old → IsSound (S.content store.old) }
-    ensures { AnswersItem S.is_honest S.content S.failures store.old store.new
+    ensures { AnswersItem S.is_honest S.content S.failures S.may_leave store.old store.new
         (W.contents writer.old) (W.contents writer.new) (Alone line.now) result }
 {
     match request {

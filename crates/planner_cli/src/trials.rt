@@ -30,7 +30,7 @@ pub(crate) fn answer_plan_trial<S: PlanStore>(
     plan: &PlanRequest,
 ) -> Result<Printed, StoreFault>
     requires { S.is_honest store.old → IsSound (S.content store.old) }
-    ensures { AnswersBy S.is_honest S.content S.failures store.old store.new result
+    ensures { AnswersBy S.is_honest S.content S.failures S.may_leave store.old store.new result
         (Serves (Trial (plan_change plan.now)) (S.content store.old)) }
 {
     let view = store.read_window(Need::LongTerm)?;
@@ -65,7 +65,7 @@ pub(crate) fn answer_daily_trial<S: PlanStore>(
     daily: &DailyRequest,
 ) -> Result<Printed, StoreFault>
     requires { S.is_honest store.old → IsSound (S.content store.old) }
-    ensures { AnswersBy S.is_honest S.content S.failures store.old store.new result
+    ensures { AnswersBy S.is_honest S.content S.failures S.may_leave store.old store.new result
         (Serves (Trial (daily_change daily.now)) (S.content store.old)) }
 {
     let view = store.read_window(need_of_daily(daily))?;

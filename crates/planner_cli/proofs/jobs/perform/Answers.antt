@@ -21,7 +21,7 @@ returns g c =
     let reads = c.read_window.follows.holds-at-none in
     let change = change_asked c.args.asked in
     after_read _ _ _ _ _ _ _ _ reads c.settle.new.store c.settle.result (AnswersBoth c.args.number c.args.text change)
-    (answers_so _ _ _ _ _ _ _ _ (λ honest reply c'.
+    (answers_so _ _ _ _ _ _ _ _ _ (λ honest reply c'.
     let honest' = c.settle.ensures.honest honest in
     let shows = rw c.in_ok-view.was at reads.right honest' in
     let decided = c.in-Ok.ensures (g.S.PlanStore.content c.args.store.now) shows

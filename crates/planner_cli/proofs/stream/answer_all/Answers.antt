@@ -3,7 +3,8 @@ use Rattle.std.specs.Option.{option_map}
 use Rattle.stream_items.specs.Pages.{item_of}
 use Rattle.stream_items.specs.declared.lines.ReadFault.TheVariants as Reads
 use Rattle.planner_cli.proofs.PlanLemmas.{step_sound}
-use Rattle.planner_cli.proofs.Progress.{progress_starts, progress_answers, halts_between, halts_within}
+use Rattle.planner_cli.proofs.Progress.{crashes_between, crashes_within, halts_between, halts_within}
+use Rattle.planner_cli.proofs.Progress.{progress_answers, progress_starts}
 use Rattle.planner_cli.proofs.StoreLemmas.{blamed_since}
 use Rattle.planner_cli.proofs.stream.answer_all.Goals as goal
 
@@ -12,6 +13,7 @@ loop-init g c = record {
   sound = c.requires;
   counts = omega arith;
   honest = λ h. h;
+  settled = λ h own. own;
   progress = λ h. progress_starts _ _ _ _ _ c.new-tally.ensures.accepted c.new-tally.ensures.refused;
 }
 
@@ -19,6 +21,27 @@ pub returns-in-Err-clause-fault : goal.returns-in-Err-clause-fault
 returns-in-Err-clause-fault g c honest =
     halts_between _ _ _ _ _ _ _ _ c.in-Err.fault _ (c.loop.invariant.progress honest)
     (c.new.ensures.cause ∙ c.cause_of_read.ensures) c.new.ensures.tally
+
+pub returns-in-Err-clause-crash : goal.returns-in-Err-clause-crash
+returns-in-Err-clause-crash g c honest own left leaves =
+    crashes_between _ _ _ _ _ _ _ _ c.in-Err.fault _ (c.loop.invariant.progress honest)
+    (c.new.ensures.cause ∙ c.cause_of_read.ensures) c.new.ensures.tally left
+    (c.loop.invariant.settled honest own left leaves)
+
+pub returns-clause-crash : goal.returns-clause-crash
+returns-clause-crash g c honest own left leaves =
+    crashes_between _ _ _ _ _ _ _ _ Reads.Reader _ (c.loop.invariant.progress honest) c.new-2.ensures.cause
+    c.new-2.ensures.tally left (c.loop.invariant.settled honest own left leaves)
+
+pub returns-in-Err-answer_one-clause-crash : goal.returns-in-Err-answer_one-clause-crash
+returns-in-Err-answer_one-clause-crash g c honest own left leaves =
+    let met = sym c.item.ensures.item ∙ ap (option_map item_of) c.in-Some.is in
+    let halted = c.new-in-Err-answer_one.ensures in
+    let before = c.answer_one.ensures.honest honest in
+    crashes_within _ _ _ _ _ _ _ _ _ _ _ _ _ c.in-Err-answer_one.cause _ (c.loop.invariant.progress before)
+    c.in_default.ensures.read met halted.cause halted.tally
+    (c.in-Err-answer_one.ensures.err honest) left
+    (c.in-Err-answer_one.ensures.crash honest (c.loop.invariant.settled before own) left leaves)
 
 pub returns-clause-fault : goal.returns-clause-fault
 returns-clause-fault g c honest =
@@ -49,6 +72,8 @@ loop-preserved g c =
           step_sound c.streams.ensures.sound _ _ _ answered.reply before answered.gives;
       counts = let a = c.loop.invariant.counts in let b = c.answer_one.ensures.counts in omega arith;
       honest = λ honest. c.loop.invariant.honest (c.answer_one.ensures.honest honest);
+      settled = λ honest own.
+          c.in-Ok.ensures.settled honest (c.loop.invariant.settled (c.answer_one.ensures.honest honest) own);
       progress = λ honest. progress_answers _ _ _ _ _ _ _ _ _ _ _ _ _ _ _
           (c.loop.invariant.progress (c.answer_one.ensures.honest honest))
           c.in_default.ensures.read met (c.in-Ok.ensures.ok honest) c.count.ensures.accepted c.count.ensures.refused;

@@ -5,7 +5,7 @@ use Rattle.plan_lists.specs.Rows.{of_current}
 use Rattle.plan_store.specs.Views.{IsAny, ListsSet}
 use Rattle.planner_cli.specs.Outcomes.{answering}
 use Rattle.planner_cli.specs.Requests.{daily_change}
-use Rattle.planner_cli.proofs.TrialServes.{daily_shown, trial_refused, well_formed}
+use Rattle.planner_cli.proofs.TrialServes.{daily_shown, trial_refused, trial_told, well_formed}
 use Rattle.planner_cli.proofs.trials.daily_trial.Goals as goal
 
 pub returns-in_ok-rows-in-Done : goal.returns-in_ok-rows-in-Done
@@ -16,11 +16,10 @@ returns-in_ok-rows-in-Done c =
     let verdict = rw c.in-Done.is at c.in_ok-verdict.ensures c' shows sound in
     let lists = subst (λ (x : Content). ListsSet of_current x.sets.cp IsAny c.cp-current.result.now) shows
     c.cp-current.ensures.rows in
-    let shown = daily_shown asked (c.fate_is_followed.ensures change)
+    trial_told change c' c.in-Done.reply _ printed (daily_shown asked (c.fate_is_followed.ensures change)
     (c.sound_content_stays_sound.ensures change (well_formed asked))
     c.in-Done.change c.in-Done.reply c' sound verdict c.cp-current.result.now lists _
-    (rw c.deref.ensures.value at c.in_ok-rows-in-Done.ensures) in
-    (_, shown.serves, h shown.lines shown.text_is)) c.print_answer.ensures
+    (rw c.deref.ensures.value at c.in_ok-rows-in-Done.ensures)) h) c.print_answer.ensures
 
 pub returns-in-Refused : goal.returns-in-Refused
 returns-in-Refused c =
