@@ -1,12 +1,14 @@
 // Rows of applications.
 
-ghost use Rattle.std.specs.Prelude.{◌≡◌, ◌↔◌, Contains, IfOk};
-ghost use Rattle.sqlite.specs.Order.{Row as Values};
-ghost use Rattle.plan_facts.specs.Content.{IsApplicationRow, IsOfSome};
+ghost use Rattle.std.specs.Prelude.{◌≡◌, ◌↔◌, IfOk, IfSome};
+ghost use Rattle.plan_facts.specs.Content.{IsApplicationRow};
 ghost use Rattle.plan_facts.specs.Facts.{application_values};
+ghost use Rattle.definition_rows.specs.Storing.{AreRowsOf};
 
 use crate::cells::{flag, optional_name, row_of};
-use crate::encoding::{Encoding, rows_of};
+use crate::columns::{flag_at, optional_name_at};
+use crate::encoding::{Encoding, have_rows, rows_of};
+use crate::reading::{Reading, definitions_of};
 use app_definitions::{Application, ByName};
 use sqlite::types::ValueRef;
 use sqlite_value::row::Row;
@@ -51,8 +53,39 @@ pub fn application_rows(
     alloc: Global,
     applications: &ByName<Application>,
 ) -> Result<Vec<Row>, AllocError>
-    ensures { IfOk result (λ rows. (v : Values) → Contains rows.items v
-        ↔ IsOfSome IsApplicationRow applications.now v) }
+    ensures { IfOk result (λ rows. AreRowsOf IsApplicationRow rows.items applications.now) }
 {
     rows_of::<ApplicationRows>(alloc, applications)
+}
+
+// The application that a row tells.
+fn application_at(row: &Row) -> Option<Application> {
+    let active = flag_at(row, 1)?;
+    let calendar = optional_name_at(row, 2)?;
+    Some(Application { active, calendar })
+}
+
+impl Reading for ApplicationRows {
+    type Of = Application;
+
+    fn read(&self, _alloc: Global, rows: &[Row]) -> Result<Option<Application>, AllocError> {
+        Ok(application_at(&rows[0]))
+    }
+}
+
+/// The applications that have these rows, which stand in order.
+pub(crate) fn read_applications(
+    alloc: Global,
+    rows: &[Row],
+) -> Result<Option<ByName<Application>>, AllocError>
+    ensures { IfOk result (λ found. IfSome found (AreRowsOf IsApplicationRow rows.now)) }
+{
+    let Some(all) = definitions_of(&ApplicationRows, alloc, rows)? else {
+        return Ok(None);
+    };
+    if have_rows::<ApplicationRows>(alloc, rows, &all)? {
+        Ok(Some(all))
+    } else {
+        Ok(None)
+    }
 }

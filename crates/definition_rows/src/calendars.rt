@@ -1,17 +1,19 @@
 // Rows of calendars.
 
-ghost use Rattle.std.specs.Prelude.{◌≡◌, ◌≢◌, ◌∷◌, ◌↔◌, ◌<◌, ℕ, [], length, Contains, IfOk, IsTrue, OnOk};
-ghost use Rattle.sqlite.specs.Order.{Row as Values};
+ghost use Rattle.std.specs.Prelude.{◌≡◌, ◌≢◌, ◌∷◌, ◌↔◌, ◌<◌, ℕ, [], length, IfOk, IfSome, IsTrue, OnOk};
 ghost use Rattle.sqlite.specs.declared.types.Value.TheVariants.{Text};
 ghost use Rattle.jiff.specs.Words.{monday_zero};
 ghost use Rattle.work_calendars.specs.declared.statuses.DayStatus.{DayStatus as Status};
-ghost use Rattle.plan_facts.specs.Content.{IsOfSome, IsTold};
+ghost use Rattle.plan_facts.specs.Content.{IsTold};
 ghost use Rattle.plan_facts.specs.Facts.{IsCalendarRow, is_work, natural};
 ghost use Rattle.definition_rows.specs.Adding.{Adds, IsOfPlace, IsUpTo};
 ghost use Rattle.definition_rows.specs.Parts.{IsDateRow, IsWeekdayRow};
+ghost use Rattle.definition_rows.specs.Storing.{AreRowsOf};
 
 use crate::cells::{number, row_of, work};
-use crate::encoding::{Encoding, rows_of};
+use crate::columns::{day_at, number_at, status_at};
+use crate::encoding::{Encoding, have_rows, rows_of};
+use crate::reading::{Reading, definitions_of};
 use app_definitions::ByName;
 use sqlite::types::ValueRef;
 use sqlite_value::row::Row;
@@ -181,7 +183,62 @@ pub(crate) fn lists_something(
 
 /// The rows of the calendars in the table `calendar_entry`.
 pub fn calendar_rows(alloc: Global, calendars: &ByName<Calendar>) -> Result<Vec<Row>, AllocError>
-    ensures { IfOk result (λ rows. (v : Values) → Contains rows.items v ↔ IsOfSome IsCalendarRow calendars.now v) }
+    ensures { IfOk result (λ rows. AreRowsOf IsCalendarRow rows.items calendars.now) }
 {
     rows_of::<CalendarRows>(alloc, calendars)
+}
+
+// Lists what the row tells, or answers that it tells nothing.
+fn list_entry(calendar: &mut Calendar, row: &Row) -> Result<bool, AllocError> {
+    let Some(status) = status_at(row, 3) else {
+        return Ok(false);
+    };
+    match number_at(row, 1) {
+        Some(0) => match number_at(row, 2) {
+            Some(place) if place < 7 => {
+                calendar.set_weekday(weekday_at(place), status);
+                Ok(true)
+            }
+            _ => Ok(false),
+        },
+        Some(1) => match day_at(row, 2) {
+            Some(day) => {
+                calendar.set_date(day, status)?;
+                Ok(true)
+            }
+            None => Ok(false),
+        },
+        _ => Ok(false),
+    }
+}
+
+impl Reading for CalendarRows {
+    type Of = Calendar;
+
+    fn read(&self, alloc: Global, rows: &[Row]) -> Result<Option<Calendar>, AllocError> {
+        let mut calendar = Calendar::new(alloc);
+        for row in rows {
+            if !list_entry(&mut calendar, row)? {
+                return Ok(None);
+            }
+        }
+        Ok(Some(calendar))
+    }
+}
+
+/// The calendars that have these rows, which stand in order.
+pub(crate) fn read_calendars(
+    alloc: Global,
+    rows: &[Row],
+) -> Result<Option<ByName<Calendar>>, AllocError>
+    ensures { IfOk result (λ found. IfSome found (AreRowsOf IsCalendarRow rows.now)) }
+{
+    let Some(all) = definitions_of(&CalendarRows, alloc, rows)? else {
+        return Ok(None);
+    };
+    if have_rows::<CalendarRows>(alloc, rows, &all)? {
+        Ok(Some(all))
+    } else {
+        Ok(None)
+    }
 }

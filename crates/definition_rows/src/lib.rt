@@ -4,12 +4,16 @@
 mod applications;
 mod calendars;
 mod cells;
+mod columns;
 mod cycles;
 mod encoding;
 mod lending;
 mod offsets;
 mod periods;
 mod predecessors;
+mod reading;
+mod sorting;
+mod stored;
 mod telling;
 
 pub use applications::application_rows;
@@ -19,4 +23,5 @@ pub use lending::lend;
 pub use offsets::offset_rows;
 pub use periods::period_rows;
 pub use predecessors::predecessor_rows;
+pub use stored::{StoredRows, definitions_of_rows};
 pub use telling::{are_told, block_is_told};

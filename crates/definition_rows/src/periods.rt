@@ -1,16 +1,17 @@
 // Rows of periods.
 
-ghost use Rattle.std.specs.Prelude.{◌≡◌, ◌↔◌, ◌<◌, ◌^◌, length, Contains, IfOk, OnOk};
-ghost use Rattle.sqlite.specs.Order.{Row as Values};
-ghost use Rattle.plan_facts.specs.Content.{IsOfSome};
+ghost use Rattle.std.specs.Prelude.{◌≡◌, ◌↔◌, ◌<◌, ◌^◌, length, IfOk, IfSome, OnOk};
 ghost use Rattle.plan_facts.specs.Facts.{IsPeriodRow, entry_values};
 ghost use Rattle.definition_rows.specs.Adding.{Adds, IsOfPlace};
 ghost use Rattle.definition_rows.specs.Parts.{IsListedRow};
+ghost use Rattle.definition_rows.specs.Storing.{AreRowsOf};
 
 use crate::cells::{number, optional_day, optional_number, row_of};
-use crate::encoding::{Encoding, rows_of};
+use crate::columns::{day_at, letter_at, number_at, optional_day_at};
+use crate::encoding::{Encoding, have_rows, rows_of};
+use crate::reading::{Reading, definitions_of};
 use app_definitions::{ByName, DefinedPeriod};
-use plan_periods::Period;
+use plan_periods::{Origins, Period};
 use sqlite::types::ValueRef;
 use sqlite_value::row::Row;
 use std::alloc::{AllocError, Global};
@@ -114,7 +115,82 @@ fn push_period(
 
 /// The rows of the periods in the table `plan_period`.
 pub fn period_rows(alloc: Global, periods: &ByName<DefinedPeriod>) -> Result<Vec<Row>, AllocError>
-    ensures { IfOk result (λ rows. (v : Values) → Contains rows.items v ↔ IsOfSome IsPeriodRow periods.now v) }
+    ensures { IfOk result (λ rows. AreRowsOf IsPeriodRow rows.items periods.now) }
 {
     rows_of::<PeriodRows>(alloc, periods)
+}
+
+// The origin and the interval that a row tells.
+fn interval_at(row: &Row) -> Option<(Day, u16)> {
+    let origin = day_at(row, 3)?;
+    let interval = u16::try_from(number_at(row, 4)?).ok()?;
+    Some((origin, interval))
+}
+
+// The origin, and the end or none, that a row tells.
+fn listed_at(row: &Row) -> Option<(Day, Option<Day>)> {
+    let origin = day_at(row, 3)?;
+    let end = optional_day_at(row, 4)?;
+    Some((origin, end))
+}
+
+// The origins that these rows tell.
+fn origins_of(alloc: Global, rows: &[Row]) -> Result<Option<Origins>, AllocError> {
+    let mut entries = Vec::new(alloc);
+    for row in rows {
+        match listed_at(row) {
+            Some(entry) => entries.push(entry)?,
+            None => return Ok(None),
+        }
+    }
+    Ok(Some(Origins::new(entries)))
+}
+
+// The period that these rows tell, by the letter of the first.
+fn period_of(alloc: Global, rows: &[Row]) -> Result<Option<Period>, AllocError>
+    requires { 0 < length rows.now }
+{
+    match letter_at(&rows[0], 2) {
+        Some(b'A') => match interval_at(&rows[0]) {
+            Some((origin, interval)) => Ok(Some(Period::All { origin, interval })),
+            None => Ok(None),
+        },
+        Some(b'W') => match interval_at(&rows[0]) {
+            Some((origin, interval)) => Ok(Some(Period::Work { origin, interval })),
+            None => Ok(None),
+        },
+        Some(b'N') => match origins_of(alloc, rows)? {
+            Some(origins) => Ok(Some(Period::Listed(origins))),
+            None => Ok(None),
+        },
+        _ => Ok(None),
+    }
+}
+
+impl Reading for PeriodRows {
+    type Of = DefinedPeriod;
+
+    fn read(&self, alloc: Global, rows: &[Row]) -> Result<Option<DefinedPeriod>, AllocError> {
+        match period_of(alloc, rows)? {
+            Some(period) => Ok(DefinedPeriod::from_period(period).ok()),
+            None => Ok(None),
+        }
+    }
+}
+
+/// The periods that have these rows, which stand in order.
+pub(crate) fn read_periods(
+    alloc: Global,
+    rows: &[Row],
+) -> Result<Option<ByName<DefinedPeriod>>, AllocError>
+    ensures { IfOk result (λ found. IfSome found (AreRowsOf IsPeriodRow rows.now)) }
+{
+    let Some(all) = definitions_of(&PeriodRows, alloc, rows)? else {
+        return Ok(None);
+    };
+    if have_rows::<PeriodRows>(alloc, rows, &all)? {
+        Ok(Some(all))
+    } else {
+        Ok(None)
+    }
 }

@@ -1,0 +1,116 @@
+// All definitions, read from the tables.
+
+ghost use Rattle.std.specs.Prelude.{IfOk, IfSome};
+ghost use Rattle.definition_rows.specs.Storing.{AreRowsOf, HaveRows};
+ghost use Rattle.plan_facts.specs.Content.{IsApplicationRow};
+ghost use Rattle.plan_facts.specs.Facts.{IsCalendarRow, IsCycleRow, IsOffsetRow, IsPeriodRow, IsPredecessorRow};
+
+use crate::applications::read_applications;
+use crate::calendars::read_calendars;
+use crate::cycles::read_cycles;
+use crate::periods::read_periods;
+use crate::predecessors::read_predecessors;
+use crate::sorting::sorted_rows;
+use crate::telling::are_told;
+use app_definitions::{
+    Application, ByName, DefinedPeriod, Definitions, Options, Predecessors, RunCycles,
+};
+use sqlite::Row;
+use std::alloc::{AllocError, Global};
+use work_calendars::Calendar;
+
+/// The rows of the tables of definitions, as they are shown.
+#[derive(Drop)]
+pub struct StoredRows {
+    /// Of `calendar_entry`.
+    pub calendars: Vec<Row>,
+    /// Of `plan_period`.
+    pub periods: Vec<Row>,
+    /// Of `application`.
+    pub applications: Vec<Row>,
+    /// Of `run_cycle`.
+    pub run_cycles: Vec<Row>,
+    /// Of `run_cycle_offset`.
+    pub offsets: Vec<Row>,
+    /// Of `predecessor`.
+    pub predecessors: Vec<Row>,
+}
+
+fn calendars_of(alloc: Global, shown: &[Row]) -> Result<Option<ByName<Calendar>>, AllocError>
+    ensures { IfOk result (λ found. IfSome found (AreRowsOf IsCalendarRow shown.now)) }
+{
+    let rows = sorted_rows(alloc, shown)?;
+    read_calendars(alloc, &rows)
+}
+
+fn periods_of(alloc: Global, shown: &[Row]) -> Result<Option<ByName<DefinedPeriod>>, AllocError>
+    ensures { IfOk result (λ found. IfSome found (AreRowsOf IsPeriodRow shown.now)) }
+{
+    let rows = sorted_rows(alloc, shown)?;
+    read_periods(alloc, &rows)
+}
+
+fn applications_of(alloc: Global, shown: &[Row]) -> Result<Option<ByName<Application>>, AllocError>
+    ensures { IfOk result (λ found. IfSome found (AreRowsOf IsApplicationRow shown.now)) }
+{
+    let rows = sorted_rows(alloc, shown)?;
+    read_applications(alloc, &rows)
+}
+
+fn predecessors_of(alloc: Global, shown: &[Row]) -> Result<Option<ByName<Predecessors>>, AllocError>
+    ensures { IfOk result (λ found. IfSome found (AreRowsOf IsPredecessorRow shown.now)) }
+{
+    let rows = sorted_rows(alloc, shown)?;
+    read_predecessors(alloc, &rows)
+}
+
+fn cycles_of(
+    alloc: Global,
+    shown: &[Row],
+    offsets: &[Row],
+) -> Result<Option<ByName<RunCycles>>, AllocError>
+    ensures cycles { IfOk result (λ found. IfSome found (AreRowsOf IsCycleRow shown.now)) }
+    ensures offsets { IfOk result (λ found. IfSome found (AreRowsOf IsOffsetRow offsets.now)) }
+{
+    let rows = sorted_rows(alloc, shown)?;
+    let offset_rows = sorted_rows(alloc, offsets)?;
+    read_cycles(alloc, &rows, &offset_rows)
+}
+
+/// The definitions that have these rows, with these options, or none where the rows are not such as definitions have.
+pub fn definitions_of_rows(
+    alloc: Global,
+    stored: &StoredRows,
+    options: Options,
+) -> Result<Option<Definitions>, AllocError>
+    ensures { IfOk result (λ found. IfSome found (HaveRows stored.now options)) }
+{
+    let Some(calendars) = calendars_of(alloc, &stored.calendars)? else {
+        return Ok(None);
+    };
+    let Some(periods) = periods_of(alloc, &stored.periods)? else {
+        return Ok(None);
+    };
+    let Some(applications) = applications_of(alloc, &stored.applications)? else {
+        return Ok(None);
+    };
+    let Some(run_cycles) = cycles_of(alloc, &stored.run_cycles, &stored.offsets)? else {
+        return Ok(None);
+    };
+    let Some(predecessors) = predecessors_of(alloc, &stored.predecessors)? else {
+        return Ok(None);
+    };
+    let all = Definitions {
+        applications,
+        calendars,
+        periods,
+        predecessors,
+        run_cycles,
+        options,
+    };
+    if are_told(alloc, &all)? {
+        Ok(Some(all))
+    } else {
+        Ok(None)
+    }
+}
