@@ -3,9 +3,9 @@ mod GraphLemmas
 mod LawLemmas
 pub mod LexLemmas
 mod LoopLemmas
-mod NearestLemmas
-mod OrderLemmas
-mod PairLemmas
+pub mod NearestLemmas
+pub mod OrderLemmas
+pub mod PairLemmas
 mod PartLemmas
 mod PlaceLemmas
 pub mod RingLemmas

@@ -1,4 +1,3 @@
 pub mod Keyed
 pub mod Rows
 pub mod Seats
-pub mod Ties

@@ -4,8 +4,8 @@ use Rattle.std.specs.Cmp.Lexicographic.{slice_cmp}
 use Rattle.std.specs.FinMap.{IsAntisymmetric, nat_cmp-IsAntisymmetric, slice_cmp-IsAntisymmetric}
 use Rattle.std.specs.Ordering.{nat_cmp, ordering_then}
 use Rattle.std.specs.declared.cmp.Ordering.{Ordering}
-use Rattle.std.specs.declared.cmp.Ordering.TheVariants.{Less, Equal, Greater}
 use Rattle.occurrences.specs.declared.row.Row.{Row}
+use Rattle.external_dependencies.proofs.OrderLemmas.{then_equal}
 use Rattle.plan_lists.specs.Keyed.{IsKeyed, holds_key}
 use Rattle.plan_lists.specs.declared.seats.Seat.{Seat}
 
@@ -26,11 +26,6 @@ AreSeats seats = IsKeyed seat_cmp (λ seat. seat) seats
 abbrev pub HasSeats : {X : Type 0} → (X → Row) → List X → List Seat → Type 0
 HasSeats {X} row_of xs seats = (x : X) → Contains xs x → holds_key seat_cmp (λ (seat : Seat). seat) seats
     (seat_of (row_of x)) ≡ true
-
-then_equal : (o p : Ordering) → ordering_then o p ≡ Equal → (o ≡ Equal) × (p ≡ Equal)
-then_equal Less p is = cc
-then_equal Equal p is = ((λ i. Equal), is)
-then_equal Greater p is = cc
 
 -- only equal seats compare as equal
 pub seat_ties : IsAntisymmetric seat_cmp

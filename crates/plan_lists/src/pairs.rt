@@ -2,7 +2,7 @@ use crate::keyed::Keyed;
 use external_dependencies::Pair;
 
 impl Keyed for Pair {
-    ghost use Rattle.plan_lists.specs.Ties.{pair_ties};
+    ghost use Rattle.external_dependencies.proofs.PairLemmas.{pair_ties};
 
     type Key = Pair;
 

@@ -37,7 +37,7 @@ fn arrival(row: &Row) -> Arrival
 ghost use Rattle.external_dependencies.specs.Nearest.{arrival_of};
 
 impl Keyed for Row {
-    ghost use Rattle.plan_lists.specs.Ties.{arrival_ties};
+    ghost use Rattle.external_dependencies.proofs.NearestLemmas.{arrival_ties};
 
     type Key = Arrival;
 
@@ -63,7 +63,7 @@ impl PlanRow for Row {
 }
 
 impl Keyed for CurrentRow {
-    ghost use Rattle.plan_lists.specs.Ties.{arrival_ties};
+    ghost use Rattle.external_dependencies.proofs.NearestLemmas.{arrival_ties};
 
     type Key = Arrival;
 
@@ -89,7 +89,7 @@ impl PlanRow for CurrentRow {
 }
 
 impl Keyed for Deletion {
-    ghost use Rattle.plan_lists.specs.Ties.{arrival_ties};
+    ghost use Rattle.external_dependencies.proofs.NearestLemmas.{arrival_ties};
 
     type Key = Arrival;
 

@@ -9,7 +9,7 @@ use Rattle.occurrences.specs.declared.row.Row.{Row}
 use Rattle.external_dependencies.specs.Arrival.{arrival_cmp}
 use Rattle.external_dependencies.specs.Nearest.{arrival_of}
 use Rattle.plan_lists.specs.Keyed.{IsKeyed, AreApart, HasKey, LacksKey}
-use Rattle.plan_lists.specs.Ties.{arrival_ties}
+use Rattle.external_dependencies.proofs.NearestLemmas.{arrival_ties}
 use Rattle.plan_store.proofs.OrderLemmas.{arrival_total}
 
 module _ {X K : Type 0} {cmp : K → K → Ordering} (total : IsTotalOrder cmp) (ties : IsAntisymmetric cmp) (key : X → K)

@@ -18,7 +18,7 @@ use Rattle.external_dependencies.specs.declared.pairs.Pair.{Pair}
 use Rattle.plan_lists.proofs.KeyLemmas.{contains_cases, contains_first, contains_later, contains_filter}
 use Rattle.plan_lists.proofs.KeyLemmas.{filter_contains, holds_lacks, holds_none, nothing}
 use Rattle.plan_lists.specs.Keyed.{holds_key}
-use Rattle.plan_lists.specs.Ties.{pair_ties}
+use Rattle.external_dependencies.proofs.PairLemmas.{pair_ties}
 use Rattle.plan_store.specs.Changes.{is_among, pairs_after, placed_before, with_pair, with_pairs}
 
 pub pair_total : IsTotalOrder pair_cmp

@@ -1,12 +1,13 @@
-ghost use Rattle.std.specs.Prelude.{◌≡◌, ◌≢◌, ◌↔◌, ◌<◌, Contains, MatchOption, IsTrue, IfOk, filter};
+ghost use Rattle.std.specs.Prelude.{◌≡◌, ◌≢◌, ◌↔◌, ◌<◌, length, Contains, MatchOption, IsTrue, IfOk, filter};
 ghost use Rattle.occurrences.specs.declared.place.CurrentRow.{CurrentRow as CurrentValue};
 ghost use Rattle.occurrences.specs.declared.place.Deletion.{Deletion as DeletionValue};
 ghost use Rattle.planner_machine.specs.DailyPlan.{arrives_before};
 ghost use Rattle.plan_lists.specs.Keyed.{IsKeyed};
+ghost use Rattle.plan_lists.specs.Rows.{of_row};
 ghost use Rattle.plan_lists.specs.Seats.{AreSeats, HasSeats};
 ghost use Rattle.external_dependencies.specs.Arrival.{arrival_cmp};
 ghost use Rattle.external_dependencies.specs.Nearest.{arrival_of};
-ghost use Rattle.plan_store.specs.Slices.{HaveOneApp};
+ghost use Rattle.plan_store.specs.Slices.{HaveOneApp, IsFront};
 
 use occurrences::{CurrentRow, Deletion, Key, Reason, Row, Serial, Status};
 use plan_lists::{PlanRow, Seat, seats_of};
@@ -46,6 +47,8 @@ pub(crate) fn before<'a, T: PlanRow>(rows: &'a [T], minute: u32) -> &'a [T]
         (λ x. arrival_of (T.row_of x)) result.now }
     ensures all { IsKeyed arrival_cmp (λ x. arrival_of (T.row_of x)) rows.now → HaveOneApp T.row_of rows.now
         → (x : T) → Contains result.now x ↔ (Contains rows.now x × ((T.row_of x).key.ia < minute)) }
+    ensures value { IsKeyed arrival_cmp (λ x. arrival_of (T.row_of x)) rows.now → HaveOneApp T.row_of rows.now
+        → result.now ≡ filter (λ x. arrives_before minute (T.row_of x)) rows.now }
 {
     let count = rows.partition_point(|x| x.row().key.ia.number() < minute);
     &rows[..count]
@@ -106,16 +109,35 @@ pub(crate) fn has_operator(rows: &[Deletion]) -> bool
         .any(|deletion| deletion.reason == Reason::Operator)
 }
 
-// The rows that arrive before the moment.
+// The rows at the front that are of the first row's application.
+fn front_app(rows: &[Row]) -> &[Row]
+    requires some { 0 < length rows.now }
+    requires keyed { IsKeyed arrival_cmp arrival_of rows.now }
+    ensures some { 0 < length result.now }
+    ensures front { IsFront result.now rows.now }
+    ensures keyed { IsKeyed arrival_cmp arrival_of result.now }
+    ensures one { HaveOneApp of_row result.now }
+{
+    let app = &rows[0].key.app;
+    let count = rows.partition_point(|row| row.key.app <= *app);
+    &rows[..count]
+}
+
+// The rows that arrive before the moment: of each application those at its front.
 pub(crate) fn arriving_before(
     alloc: Global,
     rows: &[Row],
     moment: Moment,
 ) -> Result<Vec<Row>, AllocError>
+    requires { IsKeyed arrival_cmp arrival_of rows.now }
     ensures { IfOk result (λ found. found.items ≡ filter (arrives_before moment) rows.now) }
 {
-    rows.iter()
-        .copied()
-        .filter(|row| row.key.ia < moment)
-        .collect(alloc)
+    let mut found = Vec::new(alloc);
+    let mut start = 0;
+    while start < rows.len() {
+        let of_one = front_app(&rows[start..]);
+        found.extend_from_slice(before(of_one, moment.number()))?;
+        start += of_one.len();
+    }
+    Ok(found)
 }

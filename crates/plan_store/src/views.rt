@@ -87,8 +87,8 @@ impl<'a> View<'a> {
         self.content.pairs.of_successor(successor)
     }
 
-    /// The pairs of one predecessor, in rising order. Looks at each pair once; of many predecessors `Followers` tells
-    /// more quickly.
+    /// The pairs of one predecessor, in rising order. Looks at each pair once: no statement asks for them as yet, and
+    /// of many predecessors `Followers` tells more quickly.
     pub fn pairs_of_predecessor(
         &self,
         alloc: Global,
@@ -147,8 +147,8 @@ impl<'a> View<'a> {
         of_app(&self.content.history, app)
     }
 
-    /// The rows of the long-term plan that arrive before the moment, as a list of their own, which the change of a daily
-    /// plan takes. Looks at each row once.
+    /// The rows of the long-term plan that arrive before the moment, as a list of their own, which the change of a
+    /// daily plan takes. Costs a few searches for each application, and what moves.
     pub fn ltp_before(&self, alloc: Global, moment: Moment) -> Result<Vec<Row>, AllocError>
         ensures rows { IfOk result (λ rows. ListsSet of_row (shown self.now).sets.ltp (λ row. row.key.ia < moment)
             rows.items) }

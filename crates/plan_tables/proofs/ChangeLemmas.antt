@@ -18,7 +18,7 @@ use Rattle.plan_schema.specs.declared.tables.Table.TheVariants as table
 use Rattle.plan_store.specs.Changes.{jobs_after, pairs_after}
 use Rattle.external_dependencies.specs.Pair.{pair_cmp}
 use Rattle.plan_lists.specs.Keyed.{holds_key}
-use Rattle.plan_lists.specs.Ties.{pair_ties}
+use Rattle.external_dependencies.proofs.PairLemmas.{pair_ties}
 use Rattle.plan_lists.proofs.KeyLemmas.{contains_first, holds_lacks}
 use Rattle.plan_store.proofs.PairLemmas.{held_pair, itself, pair_total, pairs_after_contains}
 use Rattle.plan_facts.specs.Facts.{link_values, natural, pair_values}

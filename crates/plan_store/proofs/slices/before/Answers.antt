@@ -4,7 +4,7 @@ use Rattle.std.proofs.lemmas.List.Sorted.{IsPartitionPoint-from_clause}
 use Rattle.external_dependencies.specs.Arrival.{arrival_cmp}
 use Rattle.external_dependencies.specs.Nearest.{arrival_of}
 use Rattle.plan_lists.proofs.SliceLemmas.{front, parted_before, take_keyed}
-use Rattle.plan_store.proofs.SliceLemmas.{arrivals_rise}
+use Rattle.plan_store.proofs.SliceLemmas.{arrivals_rise, filter_front}
 use Rattle.plan_store.proofs.slices.before.Goals as goal
 
 pub returns-clause-keyed : goal.returns-clause-keyed
@@ -26,3 +26,14 @@ returns-clause-all g c keyed one x =
       λ both. is.1
           (both.0, lt-ltb (f x) m both.1),
     )
+
+pub returns-clause-value : goal.returns-clause-value
+returns-clause-value g c keyed one =
+    let xs = c.args.rows.now in
+    let m = c.args.minute in
+    let f = λ (y : g.row.T.Denot). (g.T.PlanRow.row_of y).key.ia in
+    let below = λ (y : g.row.T.Denot). ltb (f y) m in
+    let rises = arrivals_rise g.T.PlanRow.row_of xs keyed one in
+    let point = IsPartitionPoint-from_clause below _ _ c.partition_point-count.ensures.partitioned
+    (parted_before f xs m rises) (λ a r q k. search rules) in
+    filter_front below xs c.partition_point-count.result c.partition_point-count.ensures.bound point
