@@ -1,0 +1,4 @@
+pub mod CellLemmas
+pub mod ListLemmas
+pub mod FactLemmas
+pub mod MadeLemmas

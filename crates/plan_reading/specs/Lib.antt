@@ -1,0 +1,4 @@
+pub mod Cells
+pub mod Order
+pub mod Lists
+pub mod Tables

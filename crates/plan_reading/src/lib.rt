@@ -1,0 +1,12 @@
+//! What the rows of the tables tell: facts, and the content that has exactly these facts.
+#![tactic(auto)]
+
+mod answers;
+mod cells;
+mod contents;
+mod jobs;
+mod lists;
+mod loops;
+mod meta;
+mod order;
+mod told;
