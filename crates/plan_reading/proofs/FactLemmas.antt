@@ -77,24 +77,24 @@ module _ (all : Tables) (definitions : Definitions) (lists : PlanLists) (c : Con
       ((sym options ∙ ap (λ (d : Definitions). d.options) (sym has.defined)) i)
 
   facts_of : (t : Table) → Facts t c
-  facts_of table.Meta v = both (tell.meta v) ((λ is. is ∙ meta_is), λ is. is ∙ sym meta_is)
-  facts_of table.CalendarEntry v = defined table.CalendarEntry define.calendar_rows v
-  facts_of table.Period v = defined table.Period define.period_rows v
-  facts_of table.Application v = defined table.Application define.application_rows v
-  facts_of table.RunCycle v = defined table.RunCycle define.cycle_rows v
-  facts_of table.Offset v = defined table.Offset define.offset_rows v
-  facts_of table.Predecessor v = defined table.Predecessor define.predecessor_rows v
-  facts_of table.LinkInForce v = both (tell.links v) (of_list link_values lists.links.items c.in_force has.in_force v)
-  facts_of table.LongTerm v = both (tell.ltp v)
+  facts_of table.Meta v = both (tell.meta.exactly v) ((λ is. is ∙ meta_is), λ is. is ∙ sym meta_is)
+  facts_of table.CalendarEntry v = defined table.CalendarEntry define.calendar_rows.exactly v
+  facts_of table.Period v = defined table.Period define.period_rows.exactly v
+  facts_of table.Application v = defined table.Application define.application_rows.exactly v
+  facts_of table.RunCycle v = defined table.RunCycle define.cycle_rows.exactly v
+  facts_of table.Offset v = defined table.Offset define.offset_rows.exactly v
+  facts_of table.Predecessor v = defined table.Predecessor define.predecessor_rows.exactly v
+  facts_of table.LinkInForce v = both (tell.links.exactly v) (of_list link_values lists.links.items c.in_force has.in_force v)
+  facts_of table.LongTerm v = both (tell.placed.in_ltp.exactly v)
       (of_set row_values row_number lists.rows.ltp.items c.sets.ltp has.placed.ltp v)
-  facts_of table.Current v = both (tell.cp v)
+  facts_of table.Current v = both (tell.placed.in_cp.exactly v)
       (of_set current_values current_number lists.rows.cp.items c.sets.cp has.placed.cp v)
-  facts_of table.History v = both (tell.history v)
+  facts_of table.History v = both (tell.placed.in_history.exactly v)
       (of_set row_values row_number lists.rows.history.items c.sets.history has.placed.history v)
-  facts_of table.Deletion v = both (tell.deletions v)
+  facts_of table.Deletion v = both (tell.placed.in_deletions.exactly v)
       (of_set deletion_values deletion_number lists.rows.deletions.items c.sets.deletions has.placed.deletions v)
-  facts_of table.Dependency v = both (tell.pairs v) (of_list pair_values lists.pairs.items c.pairs has.paired v)
-  facts_of table.Job v = both (tell.jobs v) (of_set job_values job_number lists.jobs.items c.jobs has.kept v)
+  facts_of table.Dependency v = both (tell.pairs.exactly v) (of_list pair_values lists.pairs.items c.pairs has.paired v)
+  facts_of table.Job v = both (tell.jobs.exactly v) (of_set job_values job_number lists.jobs.items c.jobs has.kept v)
 
   small : (n : ℕ) (job : Job) → c.jobs n ≡ Some job → IsSmall job.reply
   small n job is =

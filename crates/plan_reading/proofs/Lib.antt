@@ -2,3 +2,5 @@ pub mod CellLemmas
 pub mod ListLemmas
 pub mod FactLemmas
 pub mod MadeLemmas
+pub mod LookLemmas
+pub mod TableLemmas

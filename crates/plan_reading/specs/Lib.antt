@@ -2,3 +2,5 @@ pub mod Cells
 pub mod Order
 pub mod Lists
 pub mod Tables
+pub mod Reading
+pub mod Parts

@@ -11,24 +11,33 @@ use Rattle.plan_facts.specs.Content.{meta_values}
 use Rattle.plan_facts.specs.Facts.{IsCalendarRow, IsCycleRow, IsOffsetRow, IsPeriodRow, IsPredecessorRow}
 use Rattle.plan_facts.specs.Facts.{current_values, deletion_values, link_values, pair_values, row_values}
 use Rattle.plan_reading.specs.declared.lists.PlanLists.{PlanLists}
+use Rattle.plan_reading.specs.declared.lists.PlanRows.{PlanRows}
+use Rattle.plan_reading.specs.declared.meta.Meta.{Meta}
 
 -- the table shows exactly these values
-abbrev pub ShowsOnly : Tables → Table → (Values → Type 0) → Type 0
-ShowsOnly all t Is = (v : Values) → Contains (map (shown t) (all t)) v ↔ Is v
+pub record ShowsOnly (all : Tables) (t : Table) (Is : Values → Type 0) : Type 0 where
+  pub exactly : (v : Values) → Contains (map (shown t) (all t)) v ↔ Is v
 
 -- one of these has the values
 abbrev pub IsOneOf : {X : Type 0} → (X → Values) → List X → Values → Type 0
 IsOneOf values_of xs v = Contains (map values_of xs) v
 
+-- the tables of the sets tell these rows
+pub record TellRows (all : Tables) (rows : PlanRows) : Type 0 where
+  pub in_ltp : ShowsOnly all table.LongTerm (IsOneOf row_values rows.ltp.items)
+  pub in_cp : ShowsOnly all table.Current (IsOneOf current_values rows.cp.items)
+  pub in_history : ShowsOnly all table.History (IsOneOf row_values rows.history.items)
+  pub in_deletions : ShowsOnly all table.Deletion (IsOneOf deletion_values rows.deletions.items)
+
+-- the one row of how far the plans reach
+abbrev pub TellsMeta : Tables → Meta → Type 0
+TellsMeta all m = ShowsOnly all table.Meta (λ v. v ≡ meta_values m.bounds m.issued m.options)
+
 -- the tables of the plans tell what is listed
 pub record TellPlans (all : Tables) (lists : PlanLists) : Type 0 where
-  pub meta : ShowsOnly all table.Meta
-      (λ v. v ≡ meta_values lists.meta.bounds lists.meta.issued lists.meta.options)
+  pub meta : TellsMeta all lists.meta
   pub links : ShowsOnly all table.LinkInForce (IsOneOf link_values lists.links.items)
-  pub ltp : ShowsOnly all table.LongTerm (IsOneOf row_values lists.rows.ltp.items)
-  pub cp : ShowsOnly all table.Current (IsOneOf current_values lists.rows.cp.items)
-  pub history : ShowsOnly all table.History (IsOneOf row_values lists.rows.history.items)
-  pub deletions : ShowsOnly all table.Deletion (IsOneOf deletion_values lists.rows.deletions.items)
+  pub placed : TellRows all lists.rows
   pub pairs : ShowsOnly all table.Dependency (IsOneOf pair_values lists.pairs.items)
   pub jobs : ShowsOnly all table.Job (IsOneOf job_values lists.jobs.items)
 

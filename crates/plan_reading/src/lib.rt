@@ -9,4 +9,7 @@ mod lists;
 mod loops;
 mod meta;
 mod order;
+mod parts;
+mod reading;
+mod tables;
 mod told;
