@@ -1,0 +1,102 @@
+// Tables, indexes and schemas.
+
+ghost use Rattle.std.specs.Prelude.{◌≡◌, IsTrue};
+
+use crate::terms::{Same, are_same};
+use sqlite_schema::schema::{Column, Index, Reference, Schema, Stamps, Table};
+
+impl Same for Column {
+    fn is_same(&self, other: &Column) -> bool {
+        self.name.is_same(&other.name)
+            && self.kind == other.kind
+            && self.is_strict == other.is_strict
+            && self.not_null == other.not_null
+            && self.default.is_same(&other.default)
+            && self.collation == other.collation
+    }
+}
+
+impl Same for Reference {
+    fn is_same(&self, other: &Reference) -> bool {
+        self.columns.is_same(&other.columns)
+            && self.parent.is_same(&other.parent)
+            && are_same(self.parent_columns.as_slice(), other.parent_columns.as_slice())
+            && self.on_delete == other.on_delete
+            && self.on_update == other.on_update
+            && self.is_deferred == other.is_deferred
+    }
+}
+
+impl Same for Stamps {
+    fn is_same(&self, other: &Stamps) -> bool {
+        self.places.is_same(&other.places)
+            && self.terms.is_same(&other.terms)
+            && are_same(self.formats.as_slice(), other.formats.as_slice())
+    }
+}
+
+// Whether the two have the same name, tree, columns and key.
+fn has_same_columns(a: &Table, b: &Table) -> bool
+    ensures name { IsTrue result → a.now.name ≡ b.now.name }
+    ensures tree { IsTrue result → a.now.tree ≡ b.now.tree }
+    ensures columns { IsTrue result → a.now.columns ≡ b.now.columns }
+    ensures key { IsTrue result → a.now.key ≡ b.now.key }
+{
+    a.name.is_same(&b.name)
+        && a.tree == b.tree
+        && are_same(a.columns.as_slice(), b.columns.as_slice())
+        && a.key == b.key
+}
+
+// Whether the two have the same keys.
+fn has_same_keys(a: &Table, b: &Table) -> bool
+    ensures primary { IsTrue result → a.now.primary ≡ b.now.primary }
+    ensures uniques { IsTrue result → a.now.uniques ≡ b.now.uniques }
+    ensures orders { IsTrue result → a.now.orders ≡ b.now.orders }
+    ensures references { IsTrue result → a.now.references ≡ b.now.references }
+{
+    a.primary.is_same(&b.primary)
+        && are_same(a.uniques.as_slice(), b.uniques.as_slice())
+        && are_same(a.orders.as_slice(), b.orders.as_slice())
+        && are_same(a.references.as_slice(), b.references.as_slice())
+}
+
+// Whether the two have the same checks and defaults.
+fn has_same_checks(a: &Table, b: &Table) -> bool
+    ensures checks { IsTrue result → a.now.checks ≡ b.now.checks }
+    ensures computed { IsTrue result → a.now.computed ≡ b.now.computed }
+    ensures stamps { IsTrue result → a.now.stamps ≡ b.now.stamps }
+    ensures counted { IsTrue result → a.now.is_counted ≡ b.now.is_counted }
+{
+    a.checks.is_same(&b.checks)
+        && a.computed.is_same(&b.computed)
+        && a.stamps.is_same(&b.stamps)
+        && a.is_counted == b.is_counted
+}
+
+impl Same for Table {
+    fn is_same(&self, other: &Table) -> bool {
+        has_same_columns(self, other) && has_same_keys(self, other) && has_same_checks(self, other)
+    }
+}
+
+impl Same for Index {
+    fn is_same(&self, other: &Index) -> bool {
+        self.name.is_same(&other.name)
+            && self.tree == other.tree
+            && self.table == other.table
+            && self.columns.is_same(&other.columns)
+            && self.order == other.order
+            && self.is_unique == other.is_unique
+    }
+}
+
+/// Whether two schemas are the same. A yes is sure. Those with a view, or with a float, are not told to be the same.
+pub fn is_same_schema(a: &Schema, b: &Schema) -> bool
+    ensures { IsTrue result → a.now ≡ b.now }
+{
+    are_same(a.tables.as_slice(), b.tables.as_slice())
+        && are_same(a.indexes.as_slice(), b.indexes.as_slice())
+        && a.views.is_empty()
+        && b.views.is_empty()
+}
