@@ -1,10 +1,9 @@
 -- Rows of so many cells.
-use Rattle.std.proofs.Common.{◌≡◌, List, [], ◌∷◌, length, refl, sym, ap, subst, ◌∙◌, arith}
-use Rattle.std.specs.Prelude.{ℕ, Option, Some, None, option_map, codes}
+use Rattle.std.proofs.Common.{◌≡◌, [], ◌∷◌, length, refl, sym, ap, subst, ◌∙◌, arith}
+use Rattle.std.specs.Prelude.{ℕ, Option, Some, None}
 use Rattle.sqlite.specs.Order.{Row as Values, column}
 use Rattle.sqlite.specs.declared.types.Value.TheVariants.{Blob, Text}
 use Rattle.occurrences.specs.Place.{reason_letter}
-use Rattle.occurrences.specs.Row.{run_cycle_of}
 use Rattle.occurrences.specs.Status.{status_letter}
 use Rattle.occurrences.specs.declared.place.CurrentRow.{CurrentRow}
 use Rattle.occurrences.specs.declared.place.Deletion.{Deletion}
@@ -15,7 +14,7 @@ use Rattle.planner_machine.specs.declared.job.Job.{Job}
 use Rattle.app_definitions.specs.declared.options.Options.{Options}
 use Rattle.planner_machine.specs.declared.content.Bounds.{Bounds}
 use Rattle.plan_facts.specs.Content.{answer_text, job_values, meta_values}
-use Rattle.plan_facts.specs.Facts.{current_values, deletion_values, link_values, natural, or_null, pair_values, row_values}
+use Rattle.plan_facts.specs.Facts.{current_values, deletion_values, link_values, natural, pair_values, row_values}
 use Rattle.plan_reading.specs.Cells.{HasBounds, Leads}
 
 pub two : (cells : Values) → length cells ≡ 2 → column cells 0 ∷ column cells 1 ∷ [] ≡ cells
@@ -119,8 +118,17 @@ pub meta_from : (bounds : Option Bounds) (issued : ℕ) (options : Options) (cel
     → column cells 6 ≡ natural issued → column cells 7 ≡ Text options.default_calendar
     → column cells 8 ≡ natural options.max_extension_hours → meta_values bounds issued options ≡ cells
 meta_from None issued options cells len id version (a, b, c, d) number name hours =
-    (λ i. sym id i ∷ sym version i ∷ sym a i ∷ sym b i ∷ sym c i ∷ sym d i ∷ sym number i ∷ sym name i ∷ sym hours i ∷ [])
+    (λ i. sym id i ∷ sym version i ∷ sym a i ∷ sym b i ∷ sym c i ∷ sym d i ∷ sym number i ∷ sym name i
+    ∷ sym hours i ∷ [])
     ∙ nine cells len
 meta_from (Some bounds) issued options cells len id version (a, b, c, d) number name hours =
-    (λ i. sym id i ∷ sym version i ∷ sym a i ∷ sym b i ∷ sym c i ∷ sym d i ∷ sym number i ∷ sym name i ∷ sym hours i ∷ [])
+    (λ i. sym id i ∷ sym version i ∷ sym a i ∷ sym b i ∷ sym c i ∷ sym d i ∷ sym number i ∷ sym name i
+    ∷ sym hours i ∷ [])
     ∙ nine cells len
+
+-- what a row of the kind asks for
+pub ruleset of_row = (row_from, row_leads, row_size)
+
+pub ruleset of_current = (current_from, current_leads, current_rest)
+
+pub ruleset of_deletion = (deletion_from, deletion_leads, deletion_rest)

@@ -1,14 +1,12 @@
 -- The content of lists is that of the tables that tell them.
-use Rattle.std.proofs.Common.{◌≡◌, ◌↔◌, ◌∙◌, ℕ, List, map, refl, sym, ap, subst, inl, inr, Option, Some}
-use Rattle.std.specs.List.{All, Contains}
+use Rattle.std.proofs.Common.{◌≡◌, ◌↔◌, ◌∙◌, ℕ, List, map, refl, sym, ap, subst, Option, Some}
+use Rattle.std.specs.List.{Contains}
 use Rattle.sqlite.specs.Order.{Row as Values}
 use Rattle.run_cycles.specs.declared.cycles.RunCycle.{RunCycle}
 use Rattle.app_definitions.proofs.RisingLemmas.{Contains-map, Contains-map_back}
 use Rattle.app_definitions.specs.declared.definitions.Definitions.{Definitions}
-use Rattle.app_definitions.specs.declared.options.Options.{Options}
 use Rattle.external_dependencies.specs.Rising.{HaveSame}
 use Rattle.planner_machine.specs.Content.{Content}
-use Rattle.planner_machine.specs.declared.content.Bounds.{Bounds}
 use Rattle.planner_machine.specs.declared.job.Job.{Job}
 use Rattle.plan_schema.specs.Rows.{Tables, shown}
 use Rattle.plan_schema.specs.declared.tables.Table.{Table}
@@ -19,7 +17,7 @@ use Rattle.plan_facts.specs.Content.{job_values, meta_values}
 use Rattle.plan_facts.specs.Facts.{current_values, deletion_values, link_values, pair_values, row_values}
 use Rattle.plan_reading.specs.Lists.{HasLists, HoldsEach}
 use Rattle.plan_reading.specs.Order.{current_number, deletion_number, job_number, row_number}
-use Rattle.plan_reading.specs.Tables.{IsOneOf, ShowsOnly, TellDefinitions, TellPlans}
+use Rattle.plan_reading.specs.Tables.{IsOneOf, TellDefinitions, TellPlans}
 use Rattle.plan_reading.specs.declared.lists.PlanLists.{PlanLists}
 
 module _ {X : Type 0} (values_of : X → Values) where
@@ -84,7 +82,8 @@ module _ (all : Tables) (definitions : Definitions) (lists : PlanLists) (c : Con
   facts_of table.RunCycle v = defined table.RunCycle define.cycle_rows.exactly v
   facts_of table.Offset v = defined table.Offset define.offset_rows.exactly v
   facts_of table.Predecessor v = defined table.Predecessor define.predecessor_rows.exactly v
-  facts_of table.LinkInForce v = both (tell.links.exactly v) (of_list link_values lists.links.items c.in_force has.in_force v)
+  facts_of table.LinkInForce v = both (tell.links.exactly v)
+      (of_list link_values lists.links.items c.in_force has.in_force v)
   facts_of table.LongTerm v = both (tell.placed.in_ltp.exactly v)
       (of_set row_values row_number lists.rows.ltp.items c.sets.ltp has.placed.ltp v)
   facts_of table.Current v = both (tell.placed.in_cp.exactly v)

@@ -1,7 +1,7 @@
 -- Readings in turn.
 use Rattle.std.proofs.Common.{◌≡◌, ◌∙◌, Bool, true, ap, arith, refl}
 use Rattle.sqlite.specs.Effect.{Database}
-use Rattle.sqlite.specs.State.{HasCleanDisk, IsUnchanged, State, Survives}
+use Rattle.sqlite.specs.State.{HasCleanDisk, IsUnchanged, State}
 use Rattle.sqlite.proofs.Callers.{unchanged_then}
 use Rattle.sqlite.proofs.StateLemmas.{survives_then}
 use Rattle.plan_schema.specs.Rows.{tables_of}

@@ -7,11 +7,11 @@ use Rattle.external_dependencies.specs.Pair.{pair_cmp}
 use Rattle.external_dependencies.specs.Rising.{HaveSame, IsRising}
 use Rattle.external_dependencies.specs.declared.links.Link.{Link}
 use Rattle.external_dependencies.specs.declared.pairs.Pair.{Pair}
-use Rattle.planner_machine.specs.Content.{Content, Sets}
+use Rattle.planner_machine.specs.Content.{Content}
 use Rattle.planner_machine.specs.declared.job.Job.{Job}
 use Rattle.plan_store.specs.Room.{with_definitions, with_pairs_of}
 use Rattle.plan_facts.specs.Content.{IsSmall}
-use Rattle.plan_reading.specs.Lists.{HasLists, HasRows, HoldsEach, with_bounds, with_jobs, with_links}
+use Rattle.plan_reading.specs.Lists.{HasLists, HasRows, with_bounds, with_jobs, with_links}
 use Rattle.plan_reading.specs.Order.{job_number}
 use Rattle.plan_reading.specs.declared.lists.PlanLists.{PlanLists}
 use Rattle.plan_reading.proofs.ListLemmas.{holds_each}

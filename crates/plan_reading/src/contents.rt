@@ -113,7 +113,7 @@ fn put_jobs(content: &mut Content, jobs: Vec<Job>)
 }
 
 /// The content of these definitions and lists.
-pub(crate) fn content_of_lists(
+pub fn content_of_lists(
     alloc: Global,
     definitions: Definitions,
     lists: PlanLists,

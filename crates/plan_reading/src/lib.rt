@@ -13,3 +13,8 @@ mod parts;
 mod reading;
 mod tables;
 mod told;
+
+pub use contents::content_of_lists;
+pub use lists::{PlanLists, PlanRows};
+pub use meta::Meta;
+pub use reading::read_lists;

@@ -4,8 +4,8 @@ ghost use Rattle.plan_reading.specs.Order.{AreInOrder, row_number, current_numbe
 
 use crate::meta::Meta;
 use external_dependencies::{Link, Pair};
-use planner_machine::Job;
 use occurrences::{CurrentRow, Deletion, Row};
+use planner_machine::Job;
 
 /// The rows of the plans, in the order of their serials.
 #[derive(Drop)]

@@ -68,7 +68,10 @@ impl Part for LongTermRows {
 
     ghost in_order = { λ part. AreInOrder row_number part.rows.items };
 
-    fn read<S: Alter>(alloc: Global, conn: &mut Connection<S>) -> Result<Option<LongTermRows>, Error> {
+    fn read<S: Alter>(
+        alloc: Global,
+        conn: &mut Connection<S>,
+    ) -> Result<Option<LongTermRows>, Error> {
         match read_in_order(alloc, conn, Table::LongTerm) {
             Ok(Some(rows)) => Ok(Some(LongTermRows { rows })),
             Ok(None) => Ok(None),
@@ -89,7 +92,10 @@ impl Part for CurrentRows {
 
     ghost in_order = { λ part. AreInOrder current_number part.rows.items };
 
-    fn read<S: Alter>(alloc: Global, conn: &mut Connection<S>) -> Result<Option<CurrentRows>, Error> {
+    fn read<S: Alter>(
+        alloc: Global,
+        conn: &mut Connection<S>,
+    ) -> Result<Option<CurrentRows>, Error> {
         match read_in_order(alloc, conn, Table::Current) {
             Ok(Some(rows)) => Ok(Some(CurrentRows { rows })),
             Ok(None) => Ok(None),
@@ -110,7 +116,10 @@ impl Part for HistoryRows {
 
     ghost in_order = { λ part. AreInOrder row_number part.rows.items };
 
-    fn read<S: Alter>(alloc: Global, conn: &mut Connection<S>) -> Result<Option<HistoryRows>, Error> {
+    fn read<S: Alter>(
+        alloc: Global,
+        conn: &mut Connection<S>,
+    ) -> Result<Option<HistoryRows>, Error> {
         match read_in_order(alloc, conn, Table::History) {
             Ok(Some(rows)) => Ok(Some(HistoryRows { rows })),
             Ok(None) => Ok(None),
@@ -131,7 +140,10 @@ impl Part for DeletionRows {
 
     ghost in_order = { λ part. AreInOrder deletion_number part.rows.items };
 
-    fn read<S: Alter>(alloc: Global, conn: &mut Connection<S>) -> Result<Option<DeletionRows>, Error> {
+    fn read<S: Alter>(
+        alloc: Global,
+        conn: &mut Connection<S>,
+    ) -> Result<Option<DeletionRows>, Error> {
         match read_in_order(alloc, conn, Table::Deletion) {
             Ok(Some(rows)) => Ok(Some(DeletionRows { rows })),
             Ok(None) => Ok(None),

@@ -10,8 +10,9 @@ ghost use Rattle.plan_reading.specs.Tables.{TellPlans, TellRows};
 
 use crate::lists::{PlanLists, PlanRows};
 use crate::meta::Meta;
-use crate::parts::{CurrentRows, DeletionRows, HistoryRows, JobRows, LinkRows, LongTermRows, PairRows};
-use crate::parts::Part;
+use crate::parts::{
+    CurrentRows, DeletionRows, HistoryRows, JobRows, LinkRows, LongTermRows, PairRows, Part,
+};
 use sqlite::{Alter, Connection, Error};
 use std::alloc::Global;
 
@@ -49,7 +50,7 @@ fn lists_of(rows: PlanRows, rest: Rest) -> PlanLists
 }
 
 /// All that the tables of the plans tell; `None` where they tell no lists in order.
-pub(crate) fn read_lists<S: Alter>(
+pub fn read_lists<S: Alter>(
     alloc: Global,
     conn: &mut Connection<S>,
 ) -> Result<Option<PlanLists>, Error>

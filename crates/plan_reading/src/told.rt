@@ -50,8 +50,7 @@ fn leading_row(cells: &Cells) -> Option<Row>
     })
 }
 
-#[tactic(auto, using(crate::proofs::CellLemmas::row_from, crate::proofs::CellLemmas::row_leads,
-    crate::proofs::CellLemmas::row_size))]
+#[tactic(auto, using(crate::proofs::CellLemmas::of_row))]
 fn told_row(cells: &Cells) -> Option<Row>
     ensures value { IfSome result (λ row. row_values row ≡ cells.now) }
     ensures none { result ≡ None → (row : RowValue) → IsNumberedRow row → row_values row ≡ cells.now → ⊥ }
@@ -62,8 +61,7 @@ fn told_row(cells: &Cells) -> Option<Row>
     leading_row(cells)
 }
 
-#[tactic(auto, using(crate::proofs::CellLemmas::current_from, crate::proofs::CellLemmas::current_leads,
-    crate::proofs::CellLemmas::current_rest))]
+#[tactic(auto, using(crate::proofs::CellLemmas::of_current))]
 fn told_current(cells: &Cells) -> Option<CurrentRow>
     ensures value { IfSome result (λ current. current_values current ≡ cells.now) }
     ensures none { result ≡ None → (current : CurrentValue) → IsNumberedRow current.row
@@ -78,8 +76,7 @@ fn told_current(cells: &Cells) -> Option<CurrentRow>
     Some(CurrentRow { row, status })
 }
 
-#[tactic(auto, using(crate::proofs::CellLemmas::deletion_from, crate::proofs::CellLemmas::deletion_leads,
-    crate::proofs::CellLemmas::deletion_rest))]
+#[tactic(auto, using(crate::proofs::CellLemmas::of_deletion))]
 fn told_deletion(cells: &Cells) -> Option<Deletion>
     ensures value { IfSome result (λ deletion. deletion_values deletion ≡ cells.now) }
     ensures none { result ≡ None → (deletion : DeletionValue) → IsNumberedRow deletion.row

@@ -20,7 +20,10 @@ impl Same for Reference {
     fn is_same(&self, other: &Reference) -> bool {
         self.columns.is_same(&other.columns)
             && self.parent.is_same(&other.parent)
-            && are_same(self.parent_columns.as_slice(), other.parent_columns.as_slice())
+            && are_same(
+                self.parent_columns.as_slice(),
+                other.parent_columns.as_slice(),
+            )
             && self.on_delete == other.on_delete
             && self.on_update == other.on_update
             && self.is_deferred == other.is_deferred

@@ -1,4 +1,4 @@
-use Rattle.std.proofs.Common.{◌≡◌, ℕ, ◌<◌, ◌≤◌, get_or}
+use Rattle.std.proofs.Common.{ℕ, ◌<◌, ◌≤◌, get_or}
 use Rattle.plan_reading.proofs.order.numbers_rise.Given as goal
 
 abbrev pub invariant-loop-x : goal.invariant-loop-x
