@@ -13,4 +13,5 @@ mod SeatedLemmas
 mod SerialLemmas
 mod ShownLemmas
 mod SliceLemmas
+mod SomeListing
 pub mod ViewLemmas

@@ -240,11 +240,11 @@ pub link_unknown : (app : Option (List ℕ)) (o : Option Row) → link_of app o 
 link_unknown app None = refl
 link_unknown app (Some row) = refl
 
-tests_app : (app : Option (List ℕ)) (row : Row) → is_of_app app row ≡ true → IsOfApp app row.key.app
+pub tests_app : (app : Option (List ℕ)) (row : Row) → is_of_app app row ≡ true → IsOfApp app row.key.app
 tests_app None row is = tt
 tests_app (Some app) row is = (bytes_decides row.key.app app).0 is
 
-app_tests : (app : Option (List ℕ)) (row : Row) → IsOfApp app row.key.app → is_of_app app row ≡ true
+pub app_tests : (app : Option (List ℕ)) (row : Row) → IsOfApp app row.key.app → is_of_app app row ≡ true
 app_tests None row is = refl
 app_tests (Some app) row is = (bytes_decides row.key.app app).1 is
 

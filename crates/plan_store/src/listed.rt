@@ -1,6 +1,6 @@
 //! The items of a listing, on their way to a sink.
 ghost use Rattle.std.specs.Prelude.{◌≡◌, ◌≢◌, ◌↔◌, ◌++◌, ℕ, Contains, IfOk, IfErr, OnOk, OnErr, length, map};
-ghost use Rattle.std.specs.Prelude.{option_copied, option_map};
+ghost use Rattle.std.specs.Prelude.{List, Option, option_copied, option_map};
 ghost use Rattle.external_dependencies.specs.Arrival.{arrival_cmp};
 ghost use Rattle.external_dependencies.specs.Nearest.{arrival_of};
 ghost use Rattle.external_dependencies.specs.Pair.{pair_cmp};
@@ -13,7 +13,8 @@ ghost use Rattle.planner_machine.specs.Sound.{AreNumbered};
 ghost use Rattle.plan_store.specs.Contents.{content_of};
 ghost use Rattle.plan_store.specs.Listed.{AreBySerial, AreInOrder, EndsWithin, ShowsSet, link_at};
 ghost use Rattle.plan_store.specs.Listed.{linked_rows, links_at, row_at, shown_as};
-ghost use Rattle.plan_store.specs.Listings.{HandsAll, HandsPart, IsListing, TakesAll, link_shown};
+ghost use Rattle.plan_store.specs.Listings.{HandsAll, HandsPart, IsListing, Shown, TakesAll, link_shown};
+ghost use Rattle.plan_store.specs.declared.listings.What.{What as Showable};
 
 use crate::contents::Content;
 use crate::listings::{Item, ListFault, RowSink, SinkFault, What};
@@ -289,5 +290,13 @@ impl Content {
             What::Deletions => hand_rows(alloc, &self.deletions, app, false, sink),
             What::Dependencies => self.hand_pairs(alloc, app, sink),
         }
+    }
+
+    /// What a listing shows there is, also where it is not handed to a sink.
+    pub fn has_listings(&self)
+        ensures { AreNumbered (content_of self.now).sets → (what : Showable) (app : Option (List ℕ))
+            → (items : List Shown) × IsListing what app (content_of self.now) items }
+    {
+        let _rising = self.pairs.as_slice();
     }
 }

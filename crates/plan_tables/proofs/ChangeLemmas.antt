@@ -36,7 +36,7 @@ pub and_true : (a b : Bool) → a ≡ true → b ≡ true → (a && b) ≡ true
 and_true true b e h = h
 and_true false b e h = absurd (false≢true e)
 
-apart : (b : Bool) → (b ≡ true → ⊥) → b ≡ false
+pub apart : (b : Bool) → (b ≡ true → ⊥) → b ≡ false
 apart true h = absurd (h refl)
 apart false h = refl
 

@@ -37,7 +37,7 @@ use Rattle.plan_facts.specs.Content.{IsTellable}
 use Rattle.plan_facts.specs.Content.{IsTold, IsUnderOwn, job_values, meta_values}
 use Rattle.run_cycles.specs.declared.cycles.RunCycle.{RunCycle}
 use Rattle.plan_tables.specs.Writing.{IsTellableChange, job_kept, links_moved, meta_moved, meta_told, pairs_moved}
-use Rattle.plan_tables.specs.Writing.{rows_moved, written}
+use Rattle.plan_tables.specs.Writing.{rows_moved, plans_written}
 use Rattle.plan_tables.proofs.ChangeLemmas.{and_both, and_true, job_shown, links_shown, meta_key, meta_shown}
 use Rattle.plan_tables.proofs.ChangeLemmas.{pairs_shown}
 use Rattle.plan_tables.proofs.Held.{Shows, natural_itself, one_natural, same_cell}
@@ -84,7 +84,7 @@ job_other u apart (Some job) all = at_other table.Job u _ all apart
 abbrev bare : Tables → Tables
 bare all = without_key table.Meta (natural 1 ∷ []) all
 
-told_other : (u : Table) → IsApart u table.Meta → (bounds : Option Bounds) (issued : ℕ) (options : Options)
+pub told_other : (u : Table) → IsApart u table.Meta → (bounds : Option Bounds) (issued : ℕ) (options : Options)
     (all : Tables)
     → meta_told bounds issued options all u ≡ all u
 told_other u apart bounds issued options all =
@@ -134,7 +134,7 @@ module _ (c : Content) (change : Change) (all : Tables) where
   -- a table that has neither jobs nor bounds nor links nor pairs
   upper : (u : Table) → IsApart u table.Job → IsApart u table.Meta → IsApart u table.LinkInForce
       → IsApart u table.Dependency
-      → written c change all u ≡ rows_moved change all u
+      → plans_written c change all u ≡ rows_moved change all u
   upper u a b l d = job_other u a change.job noted ∙ meta_other u b change c.sets.bounds c.sets.issued
       c.definitions.options linked
       ∙ links_other u l c.in_force change.in_force (pairs_moved change.pairs (rows_moved change all))
@@ -143,7 +143,7 @@ module _ (c : Content) (change : Change) (all : Tables) where
   whole : (u : Table) → IsApart u table.Job → IsApart u table.Meta → IsApart u table.LinkInForce
       → IsApart u table.Dependency
       → IsApart u table.LongTerm → IsApart u table.Current → IsApart u table.History → IsApart u table.Deletion
-      → written c change all u ≡ all u
+      → plans_written c change all u ≡ all u
   whole u a b l d e f g h = upper u a b l d ∙ rows_other u e f g h change all
 
   module _ (is : IsContentOf all c) (fits : Fits change c) (same : change.definitions ≡ AsBefore)
@@ -154,7 +154,7 @@ module _ (c : Content) (change : Change) (all : Tables) where
     definitions : redefined change.definitions c.definitions ≡ c.definitions
     definitions = ap (λ d. redefined d c.definitions) same
 
-    ltp_at : written c change all table.LongTerm ≡ ltp_moved change all table.LongTerm
+    ltp_at : plans_written c change all table.LongTerm ≡ ltp_moved change all table.LongTerm
     ltp_at = upper table.LongTerm refl refl refl refl
         ∙ moved_other table.Deletion table.LongTerm deletion_values deletion_key change.deletions
         (history_moved change (cp_moved change (ltp_moved change all))) refl
@@ -162,20 +162,20 @@ module _ (c : Content) (change : Change) (all : Tables) where
         (ltp_moved change all)) refl
         ∙ moved_other table.Current table.LongTerm current_values current_key change.cp (ltp_moved change all) refl
 
-    cp_at : written c change all table.Current ≡ cp_moved change (ltp_moved change all) table.Current
+    cp_at : plans_written c change all table.Current ≡ cp_moved change (ltp_moved change all) table.Current
     cp_at = upper table.Current refl refl refl refl
         ∙ moved_other table.Deletion table.Current deletion_values deletion_key change.deletions
         (history_moved change (cp_moved change (ltp_moved change all))) refl
         ∙ moved_other table.History table.Current row_values row_key change.history (cp_moved change
         (ltp_moved change all)) refl
 
-    history_at : written c change all table.History ≡ history_moved change (cp_moved change
+    history_at : plans_written c change all table.History ≡ history_moved change (cp_moved change
         (ltp_moved change all)) table.History
     history_at = upper table.History refl refl refl refl
         ∙ moved_other table.Deletion table.History deletion_values deletion_key change.deletions
         (history_moved change (cp_moved change (ltp_moved change all))) refl
 
-    deletions_at : written c change all table.Deletion ≡ deletions_moved change (history_moved change
+    deletions_at : plans_written c change all table.Deletion ≡ deletions_moved change (history_moved change
         (cp_moved change (ltp_moved change all))) table.Deletion
     deletions_at = upper table.Deletion refl refl refl refl
 
@@ -183,22 +183,22 @@ module _ (c : Content) (change : Change) (all : Tables) where
     abbrev ShowsAs : Table → List Values → Values → Type 0
     ShowsAs t rows v = Shows t rows v ↔ IsFact t (after change c) v
 
-    on : (t : Table) (rows : List Values) (v : Values) → written c change all t ≡ rows → ShowsAs t rows v
-        → ShowsAs t (written c change all t) v
+    on : (t : Table) (rows : List Values) (v : Values) → plans_written c change all t ≡ rows → ShowsAs t rows v
+        → ShowsAs t (plans_written c change all t) v
     on t rows v e h = subst (λ r. ShowsAs t r v) (sym e) h
 
     -- those before, where these tables have not changed
     still : (t : Table) (more : Tables) → more t ≡ all t → (v : Values) → Shows t (more t) v ↔ IsFact t c v
     still t more e v = subst (λ r. Shows t r v ↔ IsFact t c v) (sym e) (held t v)
 
-    ltp_facts : (v : Values) → ShowsAs table.LongTerm (written c change all table.LongTerm) v
+    ltp_facts : (v : Values) → ShowsAs table.LongTerm (plans_written c change all table.LongTerm) v
     ltp_facts v = on table.LongTerm (ltp_moved change all table.LongTerm) v ltp_at
         (set_moved of_row change.ltp c.sets.ltp fits.ltp is.tellable.ltp table.LongTerm row_values row_key
         (λ x y. number_told (λ (r : Row). r.serial) x y true) (λ x y. number_tells (λ
         (r : Row). r.serial) x y true refl) row_shows all
         (held table.LongTerm) v)
 
-    cp_facts : (v : Values) → ShowsAs table.Current (written c change all table.Current) v
+    cp_facts : (v : Values) → ShowsAs table.Current (plans_written c change all table.Current) v
     cp_facts v = on table.Current (cp_moved change (ltp_moved change all) table.Current) v cp_at
         (set_moved of_current change.cp c.sets.cp fits.cp is.tellable.cp table.Current current_values current_key
         (λ x y. number_told (λ (r : CurrentRow). r.row.serial) x y true) (λ x y. number_tells (λ
@@ -206,7 +206,7 @@ module _ (c : Content) (change : Change) (all : Tables) where
         (ltp_moved change all) (still table.Current (ltp_moved change all)
         (moved_other table.LongTerm table.Current row_values row_key change.ltp all refl)) v)
 
-    history_facts : (v : Values) → ShowsAs table.History (written c change all table.History) v
+    history_facts : (v : Values) → ShowsAs table.History (plans_written c change all table.History) v
     history_facts v = on table.History (history_moved change (cp_moved change
         (ltp_moved change all)) table.History) v history_at
         (set_moved of_row change.history c.sets.history fits.history is.tellable.history table.History row_values
@@ -217,7 +217,7 @@ module _ (c : Content) (change : Change) (all : Tables) where
         (moved_other table.Current table.History current_values current_key change.cp (ltp_moved change all) refl
         ∙ moved_other table.LongTerm table.History row_values row_key change.ltp all refl)) v)
 
-    deletion_facts : (v : Values) → ShowsAs table.Deletion (written c change all table.Deletion) v
+    deletion_facts : (v : Values) → ShowsAs table.Deletion (plans_written c change all table.Deletion) v
     deletion_facts v = on table.Deletion (deletions_moved change (history_moved change (cp_moved change
         (ltp_moved change all))) table.Deletion) v deletions_at
         (set_moved of_deletion change.deletions c.sets.deletions fits.deletions is.tellable.deletions
@@ -233,7 +233,7 @@ module _ (c : Content) (change : Change) (all : Tables) where
 
     -- ---- pairs, links, jobs, bounds
 
-    pair_facts : (v : Values) → ShowsAs table.Dependency (written c change all table.Dependency) v
+    pair_facts : (v : Values) → ShowsAs table.Dependency (plans_written c change all table.Dependency) v
     pair_facts v = on table.Dependency (pairs_moved change.pairs (rows_moved change all) table.Dependency) v
         (job_other table.Dependency refl change.job noted
         ∙ meta_other table.Dependency refl change c.sets.bounds c.sets.issued c.definitions.options linked
@@ -254,7 +254,7 @@ module _ (c : Content) (change : Change) (all : Tables) where
     link_facts_by (Some new) v = links_shown c.in_force new (pairs_moved change.pairs (rows_moved change all))
         (still table.LinkInForce (pairs_moved change.pairs (rows_moved change all)) link_rows) v
 
-    link_facts : (v : Values) → ShowsAs table.LinkInForce (written c change all table.LinkInForce) v
+    link_facts : (v : Values) → ShowsAs table.LinkInForce (plans_written c change all table.LinkInForce) v
     link_facts v = on table.LinkInForce (linked table.LinkInForce) v
         (job_other table.LinkInForce refl change.job noted
         ∙ meta_other table.LinkInForce refl change c.sets.bounds c.sets.issued c.definitions.options linked)
@@ -275,7 +275,7 @@ module _ (c : Content) (change : Change) (all : Tables) where
     job_facts_by None new v = still table.Job noted job_rows v
     job_facts_by (Some job) new v = job_shown job c.jobs noted (new job refl) (still table.Job noted job_rows) v
 
-    job_facts : (v : Values) → ShowsAs table.Job (written c change all table.Job) v
+    job_facts : (v : Values) → ShowsAs table.Job (plans_written c change all table.Job) v
     job_facts v = job_facts_by change.job fits.job v
 
     meta_rows : linked table.Meta ≡ all table.Meta
@@ -305,8 +305,8 @@ module _ (c : Content) (change : Change) (all : Tables) where
         let k = no_new change.bounds change.issued e in
         ((λ there. h.0 there ∙ sym k), λ at. h.1 (at ∙ k))
 
-    meta_facts : (v : Values) → ShowsAs table.Meta (written c change all table.Meta) v
-    meta_facts v = subst (λ (d : Definitions). Shows table.Meta (written c change all table.Meta) v
+    meta_facts : (v : Values) → ShowsAs table.Meta (plans_written c change all table.Meta) v
+    meta_facts v = subst (λ (d : Definitions). Shows table.Meta (plans_written c change all table.Meta) v
         ↔ (v ≡ meta_values (or_else change.bounds c.sets.bounds)
         (unwrap_or change.issued c.sets.issued) d.options)) (sym definitions)
         (subst (λ r. Shows table.Meta r v ↔ (v ≡ meta_values (or_else change.bounds c.sets.bounds)
@@ -325,14 +325,14 @@ module _ (c : Content) (change : Change) (all : Tables) where
       jobs = (after change c).jobs;
     }
 
-    kept : (t : Table) (v : Values) → written c change all t ≡ all t
+    kept : (t : Table) (v : Values) → plans_written c change all t ≡ all t
         → (IsFact t c v ≡ IsFact t (defined c.definitions) v)
-        → ShowsAs t (written c change all t) v
+        → ShowsAs t (plans_written c change all t) v
     kept t v e f = on t (all t) v e (subst (λ (d : Definitions). Shows t (all t) v ↔ IsFact t (defined d) v)
         (sym definitions)
         (subst (λ P. Shows t (all t) v ↔ P) f (held t v)))
 
-    all_facts : (t : Table) (v : Values) → ShowsAs t (written c change all t) v
+    all_facts : (t : Table) (v : Values) → ShowsAs t (plans_written c change all t) v
     all_facts table.Meta v = meta_facts v
     all_facts table.CalendarEntry v = kept table.CalendarEntry v
         (whole table.CalendarEntry refl refl refl refl refl refl refl refl) refl
@@ -392,5 +392,5 @@ module _ (c : Content) (change : Change) (all : Tables) where
       answers = answers_small change.job told.job;
     }
 
-    pub content_after : IsContentOf (written c change all) (after change c)
-    content_after = record { tellable = tellable; facts = all_facts }
+    pub plans_after : IsContentOf (plans_written c change all) (after change c)
+    plans_after = record { tellable = tellable; facts = all_facts }

@@ -135,7 +135,7 @@ told : (b : Bool) → is_true (from_truth (Some b)) ≡ b
 told true = refl
 told false = refl
 
-equal_from : (o : Ordering) → is_eq o ≡ true → o ≡ Equal
+pub equal_from : (o : Ordering) → is_eq o ≡ true → o ≡ Equal
 equal_from Less h = cc
 equal_from Equal h = refl
 equal_from Greater h = cc

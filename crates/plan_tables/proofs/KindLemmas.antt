@@ -66,6 +66,18 @@ pairs_alone key all = tt
 pub links_alone : StandAlone table.LinkInForce
 links_alone key all = tt
 
+pub calendars_alone : StandAlone table.CalendarEntry
+calendars_alone key all = tt
+
+pub periods_alone : StandAlone table.Period
+periods_alone key all = tt
+
+pub applications_alone : StandAlone table.Application
+applications_alone key all = tt
+
+pub predecessors_alone : StandAlone table.Predecessor
+predecessors_alone key all = tt
+
 pub job_storable : (job : Job) → AreOfKinds table.Job (job_values job)
 job_storable job = simp (cast-Int, cast-Null)
 
@@ -89,4 +101,8 @@ pub ruleset kinds = (
   deletions_alone,
   pairs_alone,
   links_alone,
+  calendars_alone,
+  periods_alone,
+  applications_alone,
+  predecessors_alone,
 )

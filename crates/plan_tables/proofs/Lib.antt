@@ -8,3 +8,8 @@ pub mod ContentAfter
 pub mod StoredLemmas
 pub mod SetLemmas
 pub mod FirstContent
+pub mod AloneLemmas
+pub mod NameTables
+pub mod NamedRows
+pub mod DefinitionFacts
+pub mod StorableMoves

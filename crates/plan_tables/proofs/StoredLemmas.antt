@@ -1,5 +1,5 @@
 -- A database keeps a content, before and after.
-use Rattle.std.proofs.Common.{◌≡◌, ◌∙◌, sym, ap, subst, IsTrue, Result, Ok, Err, []}
+use Rattle.std.proofs.Common.{◌≡◌, ◌∙◌, refl, sym, ap, subst, IsTrue, Result, Ok, Err, []}
 use Rattle.std.specs.Prelude.{OnOk}
 use Rattle.sqlite.specs.Tree.{Trees}
 use Rattle.sqlite.specs.Effect.{Database}
@@ -11,14 +11,18 @@ use Rattle.sqlite.specs.State.{HasCleanDisk, IsUnchanged, State, Survives}
 use Rattle.planner_machine.specs.Content.{Content}
 use Rattle.plan_schema.specs.Rows.{HaveRowids, IsPlan, tables_of}
 use Rattle.plan_schema.specs.declared.tables.Table.{Table}
-use Rattle.plan_store.specs.Changes.{after, Fits}
-use Rattle.plan_store.specs.Room.{with_pairs_of}
+use Rattle.plan_store.specs.Changes.{after, Fits, redefined}
+use Rattle.plan_store.specs.Room.{with_definitions, with_pairs_of}
 use Rattle.plan_store.specs.declared.changes.Change.{Change}
+use Rattle.plan_store.specs.declared.changes.DefinitionChange.{DefinitionChange}
 use Rattle.plan_store.specs.declared.changes.DefinitionChange.TheVariants.{AsBefore}
 use Rattle.plan_facts.specs.Content.{HaveOneContent, IsContentOf}
 use Rattle.plan_tables.specs.Stored.{IsStored, MayLeave}
-use Rattle.plan_tables.specs.Writing.{IsTellableChange, written}
-use Rattle.plan_tables.proofs.ContentAfter.{content_after}
+use Rattle.plan_tables.specs.Redefining.{AreMovesOf, definitions_moved, written}
+use Rattle.plan_tables.specs.Writing.{IsTellableChange}
+use Rattle.plan_tables.specs.declared.redefining.DefinitionMoves.{DefinitionMoves}
+use Rattle.plan_tables.proofs.ContentAfter.{plans_after}
+use Rattle.plan_tables.proofs.DefinitionFacts.{redefined_content}
 use Rattle.plan_tables.proofs.SetLemmas.{content_set}
 use Rattle.plan_tables.proofs.FirstContent.{first_content}
 use Rattle.plan_tables.specs.Writing.{with_meta}
@@ -43,27 +47,34 @@ stored_still old new c is opens now committed = record {
 pub stored_unchanged : (old new : State) (c : Content) → IsStored old c → IsUnchanged old new → IsStored new c
 stored_unchanged old new c is same = stored_still old new c is same.0.is_open same.0.now_is same.0.committed_is
 
-module _ (c : Content) (change : Change) (fits : Fits change c) (defined : change.definitions ≡ AsBefore)
-    (told : IsTellableChange change) where
-  -- the pairs are out of the lists while the tables are written
-  pub tables_after : (old : State) (db : Trees) (d : Content) → d ≡ with_pairs_of [] c → IsStored old c
-      → tables_of db ≡ written d change (tables_of old.now.trees) → IsContentOf (tables_of db) (after change c)
-  tables_after old db d is stored e =
-      subst (λ all. IsContentOf all (after change c)) (sym (e
-      ∙ ap (λ k. written k change (tables_of old.now.trees)) is))
-      (content_after c change (tables_of old.now.trees) stored.content fits defined told)
+module _ (c : Content) (change : Change) (moves : DefinitionMoves) (fits : Fits change c)
+    (are : AreMovesOf change.definitions moves) (told : IsTellableChange change) where
+  -- what is left of the change once the definitions are changed
+  abbrev rest : Change
+  rest = record change { definitions = AsBefore }
 
-  pub stored_after : {A E : Type 0} (r : Result A E) (old new : State) (d : Content) → d ≡ with_pairs_of [] c
-      → IsStored old c
-      → OnOk r (IsPlan new × (tables_of new.now.trees ≡ written d change (tables_of old.now.trees)))
-      → OnOk r (new.committed ≡ new.now) → OnOk r (IsTrue new.is_open) → OnOk r (IsStored new (after change c))
-  stored_after (Ok a) old new d is stored done committed opens = record {
-    is_open = opens;
-    plan = done.0;
-    settled = sym committed;
-    content = tables_after old new.now.trees d is stored done.1;
-  }
-  stored_after (Err e) old new d is stored done committed opens = tt
+  abbrev now : Content
+  now = with_definitions (redefined change.definitions c.definitions) c
+
+  content_after : (all : Tables) → IsContentOf all c → IsContentOf (written now moves rest all) (after change c)
+  content_after all is = plans_after now rest (definitions_moved c.sets.bounds c.sets.issued now.definitions.options
+      moves all)
+      (redefined_content c all is change.definitions moves are)
+      (record { ltp = fits.ltp; cp = fits.cp; history = fits.history; deletions = fits.deletions; job = fits.job })
+      refl (record { links = told.links; job = told.job })
+
+  -- the pairs are out of the lists while the tables are written
+  pub tables_after : (definitions left : DefinitionChange) → definitions ≡ change.definitions → left ≡ AsBefore
+      → (old : State) (db : Trees) (d : Content)
+      → d ≡ with_definitions (redefined definitions c.definitions) (with_pairs_of [] c) → IsStored old c
+      → tables_of db ≡ written d moves (record change { definitions = left }) (tables_of old.now.trees)
+      → IsContentOf (tables_of db) (after change c)
+  tables_after definitions left taken as_before old db d is stored e =
+      let same : d ≡ with_definitions (redefined change.definitions c.definitions) (with_pairs_of [] c) =
+      is ∙ ap (λ k. with_definitions (redefined k c.definitions) (with_pairs_of [] c)) taken in
+      subst (λ all. IsContentOf all (after change c)) (sym (e ∙ (λ i. written (same i) moves
+      (record change { definitions = as_before i }) (tables_of old.now.trees))))
+      (content_after (tables_of old.now.trees) stored.content)
 
 -- what a crash leaves of a database that keeps a content is that content
 pub leaves_one : {S : Type 0} (g : Ghosts S)
@@ -97,3 +108,9 @@ stored_first mid new options is none done committed opens = record {
   content = subst (λ (all : Tables). IsContentOf all nothing_known)
       (sym (done.1 ∙ (λ i. with_meta None 0 (is i) (none i)))) first_content;
 }
+
+-- a crash of a clean disk leaves one content
+pub settled_so : {A E : Type 0} (r : Result A E) (IsClean : Type 0) (May : Content → Type 0) (d : Content)
+    → (IsClean → OnOk r ((c : Content) → May c → c ≡ d)) → OnOk r ((c : Content) → IsClean × May c → c ≡ d)
+settled_so (Ok a) IsClean May d h = λ c both. h both.0 c both.1
+settled_so (Err e) IsClean May d h = tt

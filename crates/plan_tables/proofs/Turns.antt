@@ -2,6 +2,9 @@
 use Rattle.std.proofs.Common.{◌≡◌, ℕ, ◌+◌, ◌<◌, List, ◌∷◌, length, drop, fold, get_or, suc, sym, ap, ◌∙◌, add-one}
 use Rattle.std.proofs.Common.{drop-cons, IsTrue, refl, Result, Ok, Err}
 use Rattle.std.proofs.Common.{Bool, true, false, inl, inr}
+use Rattle.std.proofs.Common.{subst}
+use Rattle.std.specs.List.{Contains}
+use Rattle.std.proofs.lemmas.List.Elements.{Contains-get_or}
 use Rattle.std.specs.Prelude.{OnOk, OnErr}
 use Rattle.sqlite.specs.Steps.{FailsToCommit}
 use Rattle.sqlite.specs.declared.error.Error.{Error}
@@ -11,6 +14,11 @@ use Rattle.plan_schema.specs.Rows.{Stands, Tables, tables_of}
 
 pub survives_both : (a b c : State) → Survives a b (λ _. ⊥) → Survives b c (λ _. ⊥) → Survives a c (λ _. ⊥)
 survives_both a b c one two = survives_then a b c _ _ (λ _. ⊥) (λ _ _ none. none) (λ _ _ none. none) one two
+
+-- the item of a loop is one of the list
+pub item_contains : {A : Type 0} (items : List A) (i : ℕ) (item : A) → i < length items → item ≡ get_or items i item
+    → Contains items item
+item_contains items i item low is = subst (Contains items) (sym is) (Contains-get_or items i item low)
 
 -- a loop that folds goes on
 pub fold_on : {A C : Type 0} (f : C → A → C) (items : List A) (i : ℕ) (item : A) (mid new goal : C)

@@ -97,9 +97,9 @@ meta_moved change bounds issued options all =
     if is_some change.bounds || is_some change.issued
     then meta_told (or_else change.bounds bounds) (unwrap_or change.issued issued) options all else all
 
--- a change of the plans, of a content that had these lists in force and reached so far
-abbrev pub written : Content → Change → Tables → Tables
-written c change all =
+-- what changes beside the definitions, of a content that had these lists in force and reached so far
+abbrev pub plans_written : Content → Change → Tables → Tables
+plans_written c change all =
     job_kept change.job
     (meta_moved change c.sets.bounds c.sets.issued c.definitions.options
     (links_moved c.in_force change.in_force (pairs_moved change.pairs (rows_moved change all))))

@@ -1,6 +1,6 @@
 // The lists and the tables of a content change together.
 
-ghost use Rattle.std.specs.Prelude.{◌≡◌, ◌<◌, ◌^◌, false, OnOk, OnErr, IfErr, IsTrue, IfSome};
+ghost use Rattle.std.specs.Prelude.{◌≡◌, ◌<◌, ◌^◌, false, [], OnOk, OnErr, IfOk, IfErr, IsTrue, IfSome, unwrap_or};
 ghost use Rattle.sqlite.specs.State.{HasCleanDisk, IsUnchanged, Survives};
 ghost use Rattle.sqlite.specs.Held.{state};
 ghost use Rattle.app_definitions.specs.Options.{default_options};
@@ -8,21 +8,26 @@ ghost use Rattle.plan_schema.specs.Rows.{tables_of};
 ghost use Rattle.plan_schema.specs.Schema.{no_schema};
 ghost use Rattle.planner_machine.specs.Content.{nothing_known};
 ghost use Rattle.planner_machine.specs.declared.job.Job.{Job as JobValue};
-ghost use Rattle.plan_store.specs.Changes.{Fits, after};
+ghost use Rattle.plan_store.specs.Changes.{Fits, after, redefined};
 ghost use Rattle.plan_store.specs.Contents.{content_of};
-ghost use Rattle.plan_store.specs.declared.changes.DefinitionChange.TheVariants.{AsBefore};
+ghost use Rattle.plan_store.specs.Room.{HasRoom, with_definitions, with_pairs_of};
+ghost use Rattle.plan_store.specs.declared.changes.Change.{Change as ChangeValue};
+ghost use Rattle.plan_store.specs.declared.room.Room.{Room as RoomValue};
 ghost use Rattle.plan_store.specs.declared.stores.StoreFault.TheVariants.{Memory};
 ghost use Rattle.plan_facts.specs.Content.{answer_text, IsContentOf};
 ghost use Rattle.plan_tables.specs.Stored.{IsStored};
+ghost use Rattle.plan_tables.specs.Redefining.{AreMovesOf};
 ghost use Rattle.plan_tables.specs.Writing.{IsTellableChange};
 
 use crate::lone_rows::commit_first_meta;
+use crate::redefining::DefinitionMoves;
 use crate::writing::commit_change;
-use app_definitions::Options;
+use app_definitions::{Definitions, Options};
 use plan_schema::make_tables;
-use plan_store::{Change, Content, StoreFault};
+use plan_store::{Change, Content, DefinitionChange, Room, StoreFault};
 use sqlite::{Alter, Connection, Error, ErrorCode};
-use std::alloc::Global;
+use std::alloc::{AllocError, Global};
+use std::mem::replace;
 
 // Whether the connection is open, which leaves it as it is.
 fn is_open<S: Alter>(conn: &mut Connection<S>) -> bool
@@ -85,18 +90,99 @@ pub(crate) fn make_first<S: Alter>(
     }
 }
 
-/// Makes a change of the plans in the lists and in the tables, all of it or nothing, also over a crash. The line is
-/// that of the answer of its job.
+// What a change has begun in the lists: room for it, and the definitions as they were, where they change.
+#[derive(Drop)]
+struct Begun {
+    room: Room,
+    was: Option<Definitions>,
+}
+
+// Changes the definitions of the lists, and gives them as they were, where they change; or where memory is refused,
+// changes nothing.
+fn redefine(
+    lists: &mut Content,
+    change: DefinitionChange,
+) -> Result<Option<Definitions>, AllocError>
+    ensures ok { OnOk result (content_of lists.new
+        ≡ with_definitions (redefined change (content_of lists.old).definitions) (content_of lists.old)) }
+    ensures was { IfOk result (λ was. unwrap_or was (content_of lists.new).definitions
+        ≡ (content_of lists.old).definitions) }
+    ensures err { OnErr result (content_of lists.new ≡ content_of lists.old) }
+    ensures room { (next : ChangeValue) (room : RoomValue)
+        → HasRoom next lists.old room → HasRoom next lists.new room }
+{
+    match change {
+        DefinitionChange::AsBefore => Ok(None),
+        change => {
+            let was = lists.definitions.clone()?;
+            match lists.redefine(change) {
+                Ok(()) => Ok(Some(was)),
+                Err(error) => Err(error),
+            }
+        }
+    }
+}
+
+// Puts definitions back into the lists, if there are any.
+fn restore(lists: &mut Content, was: Option<Definitions>)
+    ensures { content_of lists.new
+        ≡ with_definitions (unwrap_or was (content_of lists.old).definitions) (content_of lists.old) }
+{
+    if let Some(was) = was {
+        lists.definitions = was;
+    }
+}
+
+// Makes room in the lists for a change, and changes their definitions; or where memory is refused, changes nothing.
+fn begin(
+    lists: &mut Content,
+    alloc: Global,
+    change: &Change,
+    definitions: DefinitionChange,
+) -> Result<Begun, AllocError>
+    requires { Fits change.now (content_of lists.old) }
+    ensures pairs { IfOk result (λ begun. begun.room.pairs.items ≡ (content_of lists.old).pairs) }
+    ensures room { IfOk result (λ begun. HasRoom change.now lists.new begun.room) }
+    ensures was { IfOk result (λ begun. unwrap_or begun.was (content_of lists.new).definitions
+        ≡ (content_of lists.old).definitions) }
+    ensures ok { OnOk result (content_of lists.new
+        ≡ with_definitions (redefined definitions (content_of lists.old).definitions)
+        (with_pairs_of [] (content_of lists.old))) }
+    ensures err { OnErr result (content_of lists.new ≡ content_of lists.old) }
+{
+    let room = lists.make_room(alloc, change)?;
+    match redefine(lists, definitions) {
+        Ok(was) => Ok(Begun { room, was }),
+        Err(error) => {
+            lists.put_back(room);
+            Err(error)
+        }
+    }
+}
+
+// Takes back what was begun.
+fn undo(lists: &mut Content, begun: Begun)
+    ensures { content_of lists.new ≡ with_pairs_of begun.room.pairs.items
+        (with_definitions (unwrap_or begun.was (content_of lists.old).definitions) (content_of lists.old)) }
+{
+    let Begun { room, was } = begun;
+    restore(lists, was);
+    lists.put_back(room);
+}
+
+/// Makes a change in the lists and in the tables, all of it or nothing, also over a crash. The line is that of the
+/// answer of its job.
 pub(crate) fn change_both<S: Alter>(
     conn: &mut Connection<S>,
     lists: &mut Content,
     alloc: Global,
+    moves: &DefinitionMoves,
     change: Change,
     line: &[u8],
 ) -> Result<(), StoreFault>
     requires mode { conn.old.in_transaction ≡ false }
     requires fits { Fits change (content_of lists.old) }
-    requires defined { change.definitions ≡ AsBefore }
+    requires moves { AreMovesOf change.definitions moves.now }
     requires told { IsTellableChange change }
     requires number { IfSome change.job (λ (job : JobValue). job.number < 2 ^ 63) }
     requires line { IfSome change.job (λ (job : JobValue). line.now ≡ answer_text job.reply) }
@@ -111,17 +197,19 @@ pub(crate) fn change_both<S: Alter>(
         (λ db. IsStored (state S.Store conn.old) (content_of lists.old)
         → IsContentOf (tables_of db) (after change (content_of lists.old))) }
 {
-    let room = match lists.make_room(alloc, &change) {
-        Ok(room) => room,
+    let mut rest = change;
+    let definitions = replace(&mut rest.definitions, DefinitionChange::AsBefore);
+    let begun = match begin(lists, alloc, &rest, definitions) {
+        Ok(begun) => begun,
         Err(_) => return Err(StoreFault::Memory),
     };
-    match commit_change(conn, lists, &change, line) {
+    match commit_change(conn, alloc, lists, moves, &rest, line) {
         Ok(()) => {
-            lists.finish(room, change);
+            lists.finish(begun.room, rest);
             Ok(())
         }
         Err(error) => {
-            lists.put_back(room);
+            undo(lists, begun);
             Err(fault_of(conn, &error))
         }
     }

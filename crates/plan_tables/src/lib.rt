@@ -3,11 +3,14 @@
 
 mod answers;
 mod cells;
+mod definition_moves;
 mod facts;
 mod keeping;
 mod lone_rows;
 mod loops;
 mod moves;
+mod prepared;
+mod redefining;
 mod table_store;
 mod writing;
 

@@ -1,28 +1,33 @@
 // A store over a database.
 
-ghost use Rattle.std.specs.Prelude.{◌≡◌, ◌⊎◌, ◌<◌, ◌≤◌, false, OnOk, OnErr, IfOk, IfErr, IsTrue};
+ghost use Rattle.std.specs.Prelude.{◌≡◌, ◌⊎◌, ◌<◌, ◌≤◌, false, ◌^◌, OnOk, OnErr, IfOk, IfErr, IfSome, IsTrue};
 ghost use Rattle.sqlite.specs.State.{HasCleanDisk};
 ghost use Rattle.sqlite.specs.Steps.{over_memory, IsEmpty};
 ghost use Rattle.planner_machine.specs.Content.{nothing_known};
 ghost use Rattle.sqlite.specs.Held.{state};
 ghost use Rattle.sqlite.specs.Tree.{Trees};
 ghost use Rattle.planner_machine.specs.Content.{Content as ContentValue};
+ghost use Rattle.planner_machine.specs.declared.job.Job.{Job as JobValue};
 ghost use Rattle.plan_schema.specs.Rows.{tables_of};
 ghost use Rattle.plan_store.specs.Changes.{Fits, after};
 ghost use Rattle.plan_store.specs.Contents.{content_of};
 ghost use Rattle.plan_store.specs.Faults.{MoreFailures};
-ghost use Rattle.plan_store.specs.declared.changes.DefinitionChange.TheVariants.{AsBefore};
 ghost use Rattle.plan_store.specs.declared.stores.StoreFault.TheVariants.{Device};
-ghost use Rattle.plan_facts.specs.Content.{IsContentOf};
+ghost use Rattle.plan_facts.specs.Content.{answer_text, IsContentOf};
+ghost use Rattle.plan_tables.specs.Redefining.{AreMovesOf};
 ghost use Rattle.plan_tables.specs.Stored.{IsStored, MayLeave};
 
-use crate::answers::{change_is_tellable, has_number, job_line};
+use crate::answers::change_is_tellable;
 use crate::keeping::{change_both, make_first};
-use app_definitions::Options;
+use crate::prepared::{Prepared, prepare};
+use app_definitions::{Definitions, Options};
+use external_dependencies::Links;
 use plan_facts::tables_have_one_content;
-use plan_store::{Change, Content, StoreFault};
+use plan_store::{Change, Content, ListFault, Need, PlanStore, RowSink, StoreFault, View, What};
+use planner_machine::{Bounds, Job};
 use sqlite::{Alter, Connection, MemStore};
 use std::alloc::Global;
+use work_calendars::App;
 
 /// What a planner knows, in the tables of a database, with lists of the same content in memory, which serve what is
 /// read. After a failure it answers that the device failed.
@@ -55,10 +60,31 @@ impl<S: Alter + Drop> TableStore<S> {
         conn
     }
 
-    /// Makes a change of the plans in the tables and in the lists, all of it or nothing, also over a crash.
-    pub fn apply_plans(&mut self, alloc: Global, change: Change) -> Result<(), StoreFault>
+    // Counts a failure, after which the store answers that its device failed.
+    fn fail(&mut self) -> StoreFault
+        ensures fault { result ≡ Device }
+        ensures lists { self.new.lists ≡ self.old.lists }
+        ensures conn { self.new.conn ≡ self.old.conn }
+        ensures counted { MoreFailures self.old.failures self.new.failures }
+        ensures counts { self.old.failures ≤ self.new.failures }
+    {
+        self.failures = self.failures.saturating_add(1);
+        self.is_broken = true;
+        StoreFault::Device
+    }
+
+    // Makes a change that is prepared in the tables and in the lists, all of it or nothing, also over a crash.
+    fn change_so(
+        &mut self,
+        alloc: Global,
+        prepared: &Prepared,
+        change: Change,
+    ) -> Result<(), StoreFault>
+        requires whole { self.old.is_broken ≡ false }
         requires fits { Fits change (content_of self.old.lists) }
-        requires defined { change.definitions ≡ AsBefore }
+        requires moves { AreMovesOf change.definitions prepared.now.moves }
+        requires number { IfSome change.job (λ (job : JobValue). job.number < 2 ^ 63) }
+        requires line { IfSome change.job (λ (job : JobValue). prepared.now.line.items ≡ answer_text job.reply) }
         ensures done { OnOk result (content_of self.new.lists ≡ after change (content_of self.old.lists)) }
         ensures same { OnErr result (content_of self.new.lists ≡ content_of self.old.lists) }
         ensures settled { HasCleanDisk (state S.Store self.new.conn)
@@ -67,26 +93,20 @@ impl<S: Alter + Drop> TableStore<S> {
         ensures crash { HasCleanDisk (state S.Store self.new.conn)
             → (c : ContentValue) → MayLeave (state S.Store self.new.conn) c
             → MayLeave (state S.Store self.old.conn) c ⊎ (c ≡ after change (content_of self.old.lists)) }
-        ensures blames { IfErr result (λ fault. fault ≡ Device
-            → MoreFailures self.old.failures self.new.failures ⊎ (0 < self.old.failures)) }
+        ensures blames { IfErr result (λ fault. fault ≡ Device → MoreFailures self.old.failures self.new.failures) }
         ensures counts { self.old.failures ≤ self.new.failures }
         ensures honest { HasCleanDisk (state S.Store self.new.conn) → HasCleanDisk (state S.Store self.old.conn) }
     {
         tables_have_one_content();
-        if self.is_broken {
-            return Err(StoreFault::Device);
-        }
-        let line = match job_line(alloc, &change.job) {
-            Ok(line) => line,
-            Err(_) => return Err(StoreFault::Memory),
-        };
-        if !has_number(&change.job) {
-            self.failures = self.failures.saturating_add(1);
-            self.is_broken = true;
-            return Err(StoreFault::Device);
-        }
         change_is_tellable(&change);
-        match change_both(&mut self.conn, &mut self.lists, alloc, change, &line) {
+        match change_both(
+            &mut self.conn,
+            &mut self.lists,
+            alloc,
+            &prepared.moves,
+            change,
+            &prepared.line,
+        ) {
             Ok(()) => Ok(()),
             Err(StoreFault::Memory) => Err(StoreFault::Memory),
             Err(StoreFault::Device) => {
@@ -94,6 +114,91 @@ impl<S: Alter + Drop> TableStore<S> {
                 self.is_broken = true;
                 Err(StoreFault::Device)
             }
+        }
+    }
+}
+
+impl<S: Alter + Drop> PlanStore for TableStore<S> {
+    ghost use Rattle.std.specs.Prelude.{◌≡◌, ⊤};
+    ghost use Rattle.sqlite.specs.State.{HasCleanDisk};
+    ghost use Rattle.sqlite.specs.Held.{state};
+    ghost use Rattle.plan_store.specs.Contents.{content_of};
+    ghost use Rattle.plan_tables.specs.Stored.{MayLeave};
+
+    ghost content = { λ store. content_of store.lists };
+
+    // what is read comes from the lists, and is right whatever the disk does
+    ghost is_honest = { λ _. ⊤ };
+
+    ghost failures = { λ store. store.failures };
+
+    // of a disk that failed nothing is said
+    ghost may_leave = { λ store c. HasCleanDisk (state S.Store store.conn)
+        × MayLeave (state S.Store store.conn) c };
+
+    fn definitions(&mut self) -> Result<Definitions, StoreFault> {
+        if self.is_broken {
+            return Err(StoreFault::Device);
+        }
+        match self.lists.definitions.clone() {
+            Ok(definitions) => Ok(definitions),
+            Err(_) => Err(StoreFault::Memory),
+        }
+    }
+
+    fn bounds(&mut self) -> Result<Option<Bounds>, StoreFault> {
+        if self.is_broken {
+            return Err(StoreFault::Device);
+        }
+        Ok(self.lists.bounds)
+    }
+
+    fn links(&mut self) -> Result<Links, StoreFault> {
+        if self.is_broken {
+            return Err(StoreFault::Device);
+        }
+        match self.lists.in_force.clone() {
+            Ok(links) => Ok(links),
+            Err(_) => Err(StoreFault::Memory),
+        }
+    }
+
+    fn read_window<'a>(&'a mut self, _need: Need) -> Result<View<'a>, StoreFault> {
+        if self.is_broken {
+            return Err(StoreFault::Device);
+        }
+        Ok(self.lists.view())
+    }
+
+    fn job<'a>(&'a mut self, number: u64) -> Result<Option<&'a Job>, StoreFault> {
+        if self.is_broken {
+            return Err(StoreFault::Device);
+        }
+        Ok(self.lists.job(number))
+    }
+
+    fn rows_to<K: RowSink>(
+        &mut self,
+        alloc: Global,
+        what: What,
+        app: Option<&App>,
+        sink: &mut K,
+    ) -> Result<usize, ListFault> {
+        self.lists.has_listings();
+        if self.is_broken {
+            return Err(ListFault::Device);
+        }
+        self.lists.rows_to(alloc, what, app, sink)
+    }
+
+    fn apply(&mut self, alloc: Global, change: Change) -> Result<(), StoreFault> {
+        if self.is_broken {
+            return Err(StoreFault::Device);
+        }
+        match prepare(alloc, &change) {
+            Ok(Some(prepared)) => self.change_so(alloc, &prepared, change),
+            Ok(None) => Err(self.fail()),
+            Err(_) => Err(StoreFault::Memory),
         }
     }
 }

@@ -8,36 +8,36 @@ use Rattle.plan_store.specs.Contents.{content_of}
 use Rattle.plan_tables.specs.Stored.{IsStored}
 use Rattle.plan_tables.proofs.SetLemmas.{content_set}
 use Rattle.plan_tables.proofs.StoredLemmas.{leaves_either, leaves_one}
-use Rattle.plan_tables.proofs.table_store.TableStore.apply_plans.Goals as goal
+use Rattle.plan_tables.proofs.table_store.TableStore.change_so.Goals as goal
 
-pub invariant_of-self-in-Ok-change_both : goal.invariant_of-self-in-Ok-change_both
-invariant_of-self-in-Ok-change_both g c = record {
+pub invariant_of-self : goal.invariant_of-self
+invariant_of-self g c = record {
   settled = c.change_both.ensures.ended;
   stored = ∥∥₁_map c.args.self.now.stored (λ h whole clean.
       let before : HasCleanDisk (state g.S.Store c.args.self.now.conn) = omega
       (arith, c.change_both.ensures.crash.clean) in
       subst (λ (k : Content). IsStored (state g.S.Store c.change_both.new.conn) k)
-      (sym c.in-Ok-change_both.ensures.lists)
-      (c.in-Ok-change_both.ensures.done clean (h whole before)));
+      (sym c.in-Ok.ensures.lists)
+      (c.in-Ok.ensures.done clean (h whole before)));
   counted = c.args.self.now.counted;
 }
 
-pub returns-in-Ok-change_both-clause-settled : goal.returns-in-Ok-change_both-clause-settled
-returns-in-Ok-change_both-clause-settled g c clean left may =
+pub returns-in-Ok-clause-settled : goal.returns-in-Ok-clause-settled
+returns-in-Ok-clause-settled g c clean left may =
     let before : HasCleanDisk (state g.S.Store c.args.self.now.conn) = omega
     (arith, c.change_both.ensures.crash.clean) in
     ∥∥₁_elim c.args.self.now.stored (content_set left (content_of c.change_both.new.lists)) (λ h.
     leaves_one g.S.Store g.met.S.Store.settled c.change_both.new.conn left (content_of c.change_both.new.lists)
     c.tables_have_one_content.ensures
     (subst (λ (k : Content). IsStored (state g.S.Store c.change_both.new.conn) k)
-    (sym c.in-Ok-change_both.ensures.lists)
-    (c.in-Ok-change_both.ensures.done clean (h c.if-self.false before))) may)
+    (sym c.in-Ok.ensures.lists)
+    (c.in-Ok.ensures.done clean (h c.requires.whole before))) may)
 
-pub returns-in-Ok-change_both-clause-crash : goal.returns-in-Ok-change_both-clause-crash
-returns-in-Ok-change_both-clause-crash g c clean left may =
+pub returns-in-Ok-clause-crash : goal.returns-in-Ok-clause-crash
+returns-in-Ok-clause-crash g c clean left may =
     leaves_either (state g.S.Store c.args.self.now.conn) (state g.S.Store c.change_both.new.conn)
     (content_of c.args.self.now.lists) left c.tables_have_one_content.ensures
-    (∥∥₁_map c.args.self.now.stored (λ h. h c.if-self.false)) (after c.args.change
+    (∥∥₁_map c.args.self.now.stored (λ h. h c.requires.whole)) (after c.args.change
     (content_of c.args.self.now.lists)) clean
     c.change_both.ensures.crash may
 
@@ -56,14 +56,14 @@ pub returns-in-Err-Memory-clause-crash : goal.returns-in-Err-Memory-clause-crash
 returns-in-Err-Memory-clause-crash g c clean left may =
     leaves_either (state g.S.Store c.args.self.now.conn) (state g.S.Store c.change_both.new.conn)
     (content_of c.args.self.now.lists) left c.tables_have_one_content.ensures
-    (∥∥₁_map c.args.self.now.stored (λ h. h c.if-self.false)) (after c.args.change
+    (∥∥₁_map c.args.self.now.stored (λ h. h c.requires.whole)) (after c.args.change
     (content_of c.args.self.now.lists)) clean
     c.change_both.ensures.crash may
 
-pub returns-clause-crash : goal.returns-clause-crash
-returns-clause-crash g c clean left may =
+pub returns-in-Err-Device-clause-crash : goal.returns-in-Err-Device-clause-crash
+returns-in-Err-Device-clause-crash g c clean left may =
     leaves_either (state g.S.Store c.args.self.now.conn) (state g.S.Store c.change_both.new.conn)
     (content_of c.args.self.now.lists) left c.tables_have_one_content.ensures
-    (∥∥₁_map c.args.self.now.stored (λ h. h c.if-self.false)) (after c.args.change
+    (∥∥₁_map c.args.self.now.stored (λ h. h c.requires.whole)) (after c.args.change
     (content_of c.args.self.now.lists)) clean
     c.change_both.ensures.crash may

@@ -1,0 +1,116 @@
+// What a change of definitions moves in their tables.
+
+ghost use Rattle.std.specs.Prelude.{◌≡◌, ◌∷◌, [], None, Some, IfOk, IfSome};
+ghost use Rattle.definition_rows.specs.Telling.{IsTellableBlock};
+ghost use Rattle.plan_tables.specs.Redefining.{AreMovesOf, BringsRows, kind_of};
+
+use crate::redefining::DefinitionMoves;
+use app_definitions::{Block, Kind};
+use definition_rows::{
+    application_rows, block_is_told, calendar_rows, cycle_rows, offset_rows, period_rows,
+    predecessor_rows,
+};
+use plan_store::DefinitionChange;
+use std::alloc::{AllocError, Global};
+use work_calendars::Name;
+
+// Nothing moves.
+fn nothing(alloc: Global) -> DefinitionMoves
+    ensures { result.kind ≡ None }
+{
+    DefinitionMoves {
+        kind: None,
+        names: Vec::new(alloc),
+        rows: Vec::new(alloc),
+        offsets: Vec::new(alloc),
+    }
+}
+
+// The rows of a name go.
+fn without_name(alloc: Global, kind: Kind, name: Name) -> Result<DefinitionMoves, AllocError>
+    ensures kind { IfOk result (λ moves. moves.kind ≡ Some kind) }
+    ensures names { IfOk result (λ moves. moves.names.items ≡ name ∷ []) }
+    ensures rows { IfOk result (λ moves. moves.rows.items ≡ []) }
+    ensures offsets { IfOk result (λ moves. moves.offsets.items ≡ []) }
+{
+    let mut names = Vec::new(alloc);
+    names.push(name)?;
+    Ok(DefinitionMoves {
+        kind: Some(kind),
+        names,
+        rows: Vec::new(alloc),
+        offsets: Vec::new(alloc),
+    })
+}
+
+// The rows of a block come.
+fn rows_of_block(alloc: Global, block: &Block) -> Result<DefinitionMoves, AllocError>
+    ensures kind { IfOk result (λ moves. moves.kind ≡ Some (kind_of block.now)) }
+    ensures rows { IfOk result (λ moves. BringsRows block.now moves) }
+{
+    let offsets = Vec::new(alloc);
+    match block {
+        Block::Applications(more) => Ok(DefinitionMoves {
+            kind: Some(Kind::Applications),
+            names: more.names(alloc)?,
+            rows: application_rows(alloc, more)?,
+            offsets,
+        }),
+        Block::Calendars(more) => Ok(DefinitionMoves {
+            kind: Some(Kind::Calendars),
+            names: more.names(alloc)?,
+            rows: calendar_rows(alloc, more)?,
+            offsets,
+        }),
+        Block::Periods(more) => Ok(DefinitionMoves {
+            kind: Some(Kind::Periods),
+            names: more.names(alloc)?,
+            rows: period_rows(alloc, more)?,
+            offsets,
+        }),
+        Block::Predecessors(more) => Ok(DefinitionMoves {
+            kind: Some(Kind::Predecessors),
+            names: more.names(alloc)?,
+            rows: predecessor_rows(alloc, more)?,
+            offsets,
+        }),
+        Block::RunCycles(more) => Ok(DefinitionMoves {
+            kind: Some(Kind::RunCycles),
+            names: more.names(alloc)?,
+            rows: cycle_rows(alloc, more)?,
+            offsets: offset_rows(alloc, more)?,
+        }),
+        Block::Options(_given) => Ok(DefinitionMoves {
+            kind: Some(Kind::Options),
+            names: Vec::new(alloc),
+            rows: Vec::new(alloc),
+            offsets,
+        }),
+    }
+}
+
+// What a block moves; none where tables can't tell its definitions.
+fn moves_of_block(alloc: Global, block: &Block) -> Result<Option<DefinitionMoves>, AllocError>
+    ensures told { IfOk result (λ moves. IfSome moves (λ _. IsTellableBlock block.now)) }
+    ensures kind { IfOk result (λ moves. IfSome moves (λ moves. moves.kind ≡ Some (kind_of block.now))) }
+    ensures rows { IfOk result (λ moves. IfSome moves (λ moves. BringsRows block.now moves)) }
+{
+    if !block_is_told(alloc, block)? {
+        return Ok(None);
+    }
+    Ok(Some(rows_of_block(alloc, block)?))
+}
+
+/// What a change of definitions moves; none where tables can't tell the definitions of its block.
+pub(crate) fn moves_of(
+    alloc: Global,
+    change: &DefinitionChange,
+) -> Result<Option<DefinitionMoves>, AllocError>
+    ensures { IfOk result (λ moves. IfSome moves (λ moves. AreMovesOf change.now moves)) }
+{
+    match change {
+        DefinitionChange::AsBefore => Ok(Some(nothing(alloc))),
+        DefinitionChange::Merged(block) => moves_of_block(alloc, block),
+        DefinitionChange::Removed { kind, name } => Ok(Some(without_name(alloc, *kind, *name)?)),
+    }
+}
