@@ -3,7 +3,7 @@ use Rattle.std.proofs.Common.{◌≡◌, ◌↔◌, ◌&&◌, ℕ, Bool, true, f
 use Rattle.std.proofs.Common.{subst, ◌∙◌, Option, Some, None}
 use Rattle.std.specs.Prelude.{nat_eq}
 use Rattle.std.specs.List.{Contains}
-use Rattle.std.proofs.lemmas.Bool.{false≢true, eqb-true, eq-eqb}
+use Rattle.std.proofs.lemmas.Bool.{false≢true, not-true, eqb-true, eq-eqb}
 use Rattle.sqlite.specs.Order.{Row as Values}
 use Rattle.sqlite.specs.Rowids.TheVariants.{Chosen}
 use Rattle.sqlite_rules.specs.Edit.{with_rowid}
@@ -19,12 +19,20 @@ use Rattle.plan_store.specs.Changes.{jobs_after, pairs_after}
 use Rattle.external_dependencies.specs.Pair.{pair_cmp}
 use Rattle.plan_lists.specs.Keyed.{holds_key}
 use Rattle.external_dependencies.proofs.PairLemmas.{pair_ties}
-use Rattle.plan_lists.proofs.KeyLemmas.{contains_first, holds_lacks}
+use Rattle.plan_lists.proofs.KeyLemmas.{contains_filter, contains_first, filter_contains, holds_lacks}
+use Rattle.external_dependencies.specs.Link.{link_cmp}
+use Rattle.external_dependencies.proofs.LexLemmas.{link_total}
+use Rattle.external_dependencies.proofs.OrderLemmas.{link_ties}
+use Rattle.std.specs.Prelude.{not}
+use Rattle.std.specs.Ordering.{is_eq}
+use Rattle.std.proofs.lemmas.List.Folds.{Any-from_list_any}
+use Rattle.sqlite.specs.declared.types.Value.TheVariants.{Text}
 use Rattle.plan_store.proofs.PairLemmas.{held_pair, itself, pair_total, pairs_after_contains}
 use Rattle.plan_facts.specs.Facts.{link_values, natural, pair_values}
 use Rattle.plan_facts.specs.Content.{IsOfList, IsOfSet, job_values, meta_values}
-use Rattle.plan_tables.specs.Writing.{job_put, links_replaced, meta_told, pairs_moved, without_each}
-use Rattle.plan_tables.proofs.Held.{Shows, matched, natural_itself, one_natural, same_cell, text_itself}
+use Rattle.plan_tables.specs.Writing.{beside, job_put, links_replaced, meta_told, pairs_moved, without_each}
+use Rattle.plan_tables.proofs.Held.{equal_from, Shows, matched, natural_itself, one_natural, one_text, same_cell}
+use Rattle.plan_tables.proofs.Held.{text_itself}
 use Rattle.plan_tables.proofs.SetMoves.{shows_cells, shows_with, shows_without}
 use Rattle.plan_facts.proofs.Told.{is_some as same_some, none_some}
 
@@ -131,19 +139,70 @@ link_shows : (l : Link) (rows : List Values)
     → shown table.LinkInForce (with_rowid Chosen rows (stored table.LinkInForce (link_values l))) ≡ link_values l
 link_shows l rows = refl
 
+links_told : (l m : Link) → matched table.LinkInForce (link_values l) (link_values m) ≡ true → l ≡ m
+links_told l m h =
+    let k = and_both (same_cell (Text m.app) (Text l.app)) _ h in
+    let n = and_both (same_cell (Text m.predecessor) (Text l.predecessor)) _ k.1 in
+    let a : l.app ≡ m.app = sym (one_text m.app l.app k.0) in
+    let b : l.predecessor ≡ m.predecessor = sym (one_text m.predecessor l.predecessor n.0) in
+    λ i. record { app = a i; predecessor = b i }
+
+abbrev alike : Link → Link
+alike l = l
+
+held_link : (links : List Link) (l : Link) → holds_key link_cmp alike links l ≡ true → Contains links l
+held_link links l is =
+    let (k, m, lt, at, same) = Any-from_list_any (λ (m : Link). is_eq (link_cmp m l)) links is in
+    subst (Contains links) (link_ties m l (equal_from (link_cmp m l) same)) (k, lt, at)
+
+-- it is one of the links, or one of those that these lack
+link_among : (links : List Link) (l : Link) → Contains links l ⊎ (not (holds_key link_cmp alike links l) ≡ true)
+link_among links l = go (holds_key link_cmp alike links l) refl
+  where
+    go : (b : Bool) → holds_key link_cmp alike links l ≡ b
+        → Contains links l ⊎ (not (holds_key link_cmp alike links l) ≡ true)
+    go true e = inl (held_link links l e)
+    go false e = inr (ap not e)
+
+link_lacks : (links : List Link) (l : Link) → not (holds_key link_cmp alike links l) ≡ true → Contains links l → ⊥
+link_lacks links l e has = holds_lacks link_total link_ties alike links l (not-true _ e) l has refl
+
+abbrev lacked_by : List Link → Link → Bool
+lacked_by links l = not (holds_key link_cmp alike links l)
+
 pub links_shown : (old new : List Link) (all : Tables)
     → ((v : Values) → Shows table.LinkInForce (all table.LinkInForce) v ↔ IsOfList link_values old v) → (v : Values)
     → Shows table.LinkInForce (links_replaced old new all table.LinkInForce) v ↔ IsOfList link_values new v
 links_shown old new all held v = (
-  (λ there. elim ((shows_with table.LinkInForce link_values link_shows new _ v).0 there) [
-    | inl is ↦ is
+  (λ there. elim ((shows_with table.LinkInForce link_values link_shows (beside old new) _ v).0 there) [
+    | inl come ↦ (come.0, (contains_filter (lacked_by old) new come.0 come.1).0, come.2)
     | inr stood ↦
-        let k = (shows_without table.LinkInForce link_values old all v).0 stood in
+        let k = (shows_without table.LinkInForce link_values (beside new old) all v).0 stood in
         let (l, has, is) = (held v).0 k.0 in
-        absurd (false≢true (sym (k.1 l has) ∙ ap (matched table.LinkInForce (link_values l)) is ∙ link_itself l))
+        (l, stays l has is k.1, is)
   ]),
-  λ is. (shows_with table.LinkInForce link_values link_shows new _ v).1 (inl is),
+  λ fact.
+      let (l, has, is) = fact in
+      (shows_with table.LinkInForce link_values link_shows (beside old new) _ v).1 (elim (link_among old l) [
+        | inl stood ↦ inr ((shows_without table.LinkInForce link_values (beside new old) all v).1 (
+          (held v).1 (l, stood, is),
+          λ m gone. apart _ (λ hit.
+              let same : m ≡ l = links_told m l (subst (λ w. matched table.LinkInForce (link_values m) w ≡ true) is hit)
+              in
+              link_lacks new m (contains_filter (lacked_by new) old m gone).1 (subst (Contains new) (sym same) has)),
+        ))
+        | inr lacks ↦ inl (l, filter_contains (lacked_by old) new l has lacks, is)
+      ]),
 )
+  where
+    stays : (l : Link) → Contains old l → v ≡ link_values l
+        → ((m : Link) → Contains (beside new old) m → matched table.LinkInForce (link_values m) v ≡ false)
+        → Contains new l
+    stays l has is none = elim (link_among new l) [
+      | inl there ↦ there
+      | inr lacks ↦ absurd (false≢true (sym (none l (filter_contains (lacked_by new) old l has lacks))
+          ∙ ap (matched table.LinkInForce (link_values l)) is ∙ link_itself l))
+    ]
 
 -- ---- a job
 

@@ -37,7 +37,7 @@ use Rattle.plan_facts.specs.Content.{IsTellable}
 use Rattle.plan_facts.specs.Content.{IsTold, IsUnderOwn, job_values, meta_values}
 use Rattle.run_cycles.specs.declared.cycles.RunCycle.{RunCycle}
 use Rattle.plan_tables.specs.Writing.{IsTellableChange, job_kept, links_moved, meta_moved, meta_told, pairs_moved}
-use Rattle.plan_tables.specs.Writing.{rows_moved, plans_written}
+use Rattle.plan_tables.specs.Writing.{beside, rows_moved, plans_written}
 use Rattle.plan_tables.proofs.ChangeLemmas.{and_both, and_true, job_shown, links_shown, meta_key, meta_shown}
 use Rattle.plan_tables.proofs.ChangeLemmas.{pairs_shown}
 use Rattle.plan_tables.proofs.Held.{Shows, natural_itself, one_natural, same_cell}
@@ -105,8 +105,8 @@ meta_other u apart change bounds issued options all = go (is_some change.bounds 
 links_other : (u : Table) → IsApart u table.LinkInForce → (old : List Link) (new : Option (List Link)) (all : Tables)
     → links_moved old new all u ≡ all u
 links_other u apart old None all = refl
-links_other u apart old (Some new) all = with_other table.LinkInForce link_values u apart new _
-    ∙ without_other table.LinkInForce link_values u apart old all
+links_other u apart old (Some new) all = with_other table.LinkInForce link_values u apart (beside old new) _
+    ∙ without_other table.LinkInForce link_values u apart (beside new old) all
 
 pairs_other : (u : Table) → IsApart u table.Dependency → (change : PairChange) (all : Tables)
     → pairs_moved change all u ≡ all u

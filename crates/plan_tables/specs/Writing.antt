@@ -5,12 +5,13 @@ use Rattle.sqlite.specs.State.{State}
 use Rattle.plan_schema.specs.Rows.{AreOfKinds, IsAlone, Stands, Tables, tables_of, with_cells, without_key}
 use Rattle.plan_schema.specs.declared.tables.Table.{Table}
 use Rattle.plan_schema.specs.declared.tables.Table.TheVariants as table
-use Rattle.std.specs.Prelude.{ℕ, Option, Some, None}
+use Rattle.std.specs.Prelude.{ℕ, Option, Some, None, filter, not}
 use Rattle.app_definitions.specs.declared.options.Options.{Options}
 use Rattle.external_dependencies.specs.declared.change.PairChange.{PairChange}
 use Rattle.external_dependencies.specs.declared.links.Link.{Link}
 use Rattle.planner_machine.specs.declared.content.Bounds.{Bounds}
 use Rattle.planner_machine.specs.declared.job.Job.{Job}
+use Rattle.plan_lists.specs.Keyed.{holds_key}
 use Rattle.plan_store.specs.declared.changes.Change.{Change}
 use Rattle.plan_store.specs.declared.changes.Moves.{Moves}
 use Rattle.plan_facts.specs.Facts.{current_key, current_values, deletion_key, deletion_values, link_values, natural}
@@ -67,10 +68,15 @@ pairs_moved change all =
     (without_each table.Dependency pair_values change.added
     (without_each table.Dependency pair_values change.removed all))
 
--- the lists in force, all anew
+-- those of the links that the others lack
+abbrev pub beside : List Link → List Link → List Link
+beside others links = filter (λ (l : Link). not (holds_key link_cmp (λ (m : Link). m) others l)) links
+
+-- the lists in force: what the new ones lack goes, and what the old ones lack comes
 abbrev pub links_replaced : List Link → List Link → Tables → Tables
 links_replaced old new all =
-    with_each table.LinkInForce link_values new (without_each table.LinkInForce link_values old all)
+    with_each table.LinkInForce link_values (beside old new)
+    (without_each table.LinkInForce link_values (beside new old) all)
 
 abbrev pub links_moved : List Link → Option (List Link) → Tables → Tables
 links_moved old None all = all

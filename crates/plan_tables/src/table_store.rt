@@ -4,6 +4,7 @@ ghost use Rattle.std.specs.Prelude.{◌≡◌, ◌⊎◌, ◌<◌, ◌≤◌, fa
 ghost use Rattle.sqlite.specs.State.{HasCleanDisk};
 ghost use Rattle.sqlite.specs.Steps.{over_memory, IsEmpty};
 ghost use Rattle.planner_machine.specs.Content.{nothing_known};
+ghost use Rattle.planner_machine.specs.Sound.{IsSound};
 ghost use Rattle.sqlite.specs.Held.{state};
 ghost use Rattle.sqlite.specs.Tree.{Trees};
 ghost use Rattle.planner_machine.specs.Content.{Content as ContentValue};
@@ -24,7 +25,7 @@ use app_definitions::{Definitions, Options};
 use external_dependencies::Links;
 use plan_facts::tables_have_one_content;
 use plan_store::{Change, Content, ListFault, Need, PlanStore, RowSink, StoreFault, View, What};
-use planner_machine::{Bounds, Job};
+use planner_machine::{Bounds, Job, empty_content_is_sound};
 use sqlite::{Alter, Connection, MemStore};
 use std::alloc::Global;
 use work_calendars::App;
@@ -206,7 +207,8 @@ impl<S: Alter + Drop> PlanStore for TableStore<S> {
 impl TableStore<MemStore> {
     /// A store in memory of what a planner knows that was told nothing.
     pub fn open_memory(alloc: Global) -> Result<TableStore<MemStore>, StoreFault>
-        ensures { IfOk result (λ store. content_of store.lists ≡ nothing_known) }
+        ensures empty { IfOk result (λ store. content_of store.lists ≡ nothing_known) }
+        ensures sound { IfOk result (λ store. IsSound (content_of store.lists)) }
     {
         match Connection::open_in_memory(alloc) {
             Ok(conn) => TableStore::first(alloc, conn),
@@ -217,8 +219,10 @@ impl TableStore<MemStore> {
     // A store over an empty database in memory.
     fn first(alloc: Global, conn: Connection<MemStore>) -> Result<TableStore<MemStore>, StoreFault>
         requires empty { IsEmpty (state over_memory conn) }
-        ensures { IfOk result (λ store. content_of store.lists ≡ nothing_known) }
+        ensures empty { IfOk result (λ store. content_of store.lists ≡ nothing_known) }
+        ensures sound { IfOk result (λ store. IsSound (content_of store.lists)) }
     {
+        empty_content_is_sound();
         let mut conn = conn;
         make_first(&mut conn, &Options::new())?;
         Ok(TableStore {

@@ -80,6 +80,7 @@ fn write_job<S: Alter>(
 // Makes what changes beside the definitions. The line is that of the answer of its job.
 fn write_plans<S: Alter>(
     tx: &mut Transaction<'_, S>,
+    alloc: Global,
     old: &Content,
     change: &Change,
     line: &[u8],
@@ -97,7 +98,7 @@ fn write_plans<S: Alter>(
 {
     write_rows(tx, change)?;
     write_pairs(tx, &change.pairs)?;
-    write_links(tx, &old.in_force, &change.in_force)?;
+    write_links(tx, alloc, &old.in_force, &change.in_force)?;
     write_new_meta(tx, old, change)?;
     write_job(tx, &change.job, line)
 }
@@ -125,7 +126,7 @@ pub(crate) fn write_change<S: Alter>(
     ensures survives { Survives (state S.Store tx.old.conn.now) (state S.Store tx.new.conn.now) (λ _. ⊥) }
 {
     write_definitions(tx, alloc, content, moves)?;
-    write_plans(tx, content, change, line)
+    write_plans(tx, alloc, content, change, line)
 }
 
 /// Makes a change in the tables of a content, which has its definitions already, in one transaction: all of it or
