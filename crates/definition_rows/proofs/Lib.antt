@@ -3,3 +3,5 @@ pub mod PartLemmas
 pub mod StorableRows
 pub mod TellLemmas
 pub mod StoredLemmas
+pub mod GatherLemmas
+pub mod DraftLemmas

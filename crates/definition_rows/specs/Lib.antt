@@ -2,3 +2,5 @@ pub mod Adding
 pub mod Parts
 pub mod Storing
 pub mod Telling
+pub mod Gathering
+pub mod Drafted

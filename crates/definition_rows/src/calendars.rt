@@ -1,6 +1,7 @@
 // Rows of calendars.
 
-ghost use Rattle.std.specs.Prelude.{◌≡◌, ◌≢◌, ◌∷◌, ◌↔◌, ◌<◌, ℕ, [], length, IfOk, IfSome, IsTrue, OnOk};
+ghost use Rattle.std.specs.Prelude.{◌≡◌, ◌≢◌, ◌∷◌, ◌↔◌, ◌<◌, ℕ, [], length, IfOk, IfSome, IsTrue, OnOk, List, IsSome};
+ghost use Rattle.std.specs.Prelude.{◌^◌};
 ghost use Rattle.sqlite.specs.declared.types.Value.TheVariants.{Text};
 ghost use Rattle.jiff.specs.Words.{monday_zero};
 ghost use Rattle.work_calendars.specs.declared.statuses.DayStatus.{DayStatus as Status};
@@ -8,12 +9,17 @@ ghost use Rattle.plan_facts.specs.Content.{IsTold};
 ghost use Rattle.plan_facts.specs.Facts.{IsCalendarRow, is_work, natural};
 ghost use Rattle.definition_rows.specs.Adding.{Adds, IsOfPlace, IsUpTo};
 ghost use Rattle.definition_rows.specs.Parts.{IsDateRow, IsWeekdayRow};
+ghost use Rattle.sqlite.specs.Order.{column};
+ghost use Rattle.work_calendars.specs.Calendar.{CalendarEntries};
+ghost use Rattle.plan_facts.specs.Content.{ByName as Defined};
+ghost use Rattle.definition_rows.specs.Drafted.{IsSoundCalendar, TellsEntry, calendar_named, calendar_values};
+ghost use Rattle.definition_rows.specs.Gathering.{AreSound, Joins, Within};
 ghost use Rattle.definition_rows.specs.Storing.{AreRowsOf};
 
 use crate::cells::{number, row_of, work};
-use crate::columns::{day_at, number_at, status_at};
-use crate::encoding::{Encoding, have_rows, rows_of};
-use crate::reading::{Reading, definitions_of};
+use crate::columns::{number_at, status_at};
+use crate::encoding::{Encoding, rows_of};
+use crate::gathering::{Draft, gathered};
 use app_definitions::ByName;
 use sqlite::types::ValueRef;
 use sqlite_value::row::Row;
@@ -188,57 +194,181 @@ pub fn calendar_rows(alloc: Global, calendars: &ByName<Calendar>) -> Result<Vec<
     rows_of::<CalendarRows>(alloc, calendars)
 }
 
-// Lists what the row tells, or answers that it tells nothing.
-fn list_entry(calendar: &mut Calendar, row: &Row) -> Result<bool, AllocError> {
-    let Some(status) = status_at(row, 3) else {
-        return Ok(false);
-    };
-    match number_at(row, 1) {
-        Some(0) => match number_at(row, 2) {
-            Some(place) if place < 7 => {
-                calendar.set_weekday(weekday_at(place), status);
-                Ok(true)
-            }
-            _ => Ok(false),
-        },
-        Some(1) => match day_at(row, 2) {
-            Some(day) => {
-                calendar.set_date(day, status)?;
-                Ok(true)
-            }
-            None => Ok(false),
-        },
-        _ => Ok(false),
+// The kind, the number and the status that a row of this calendar tells.
+fn entry_at(row: &Row, name: &Name) -> Option<(u32, u32, DayStatus)>
+    requires { column row.now 0 ≡ Text name.now }
+    ensures value { IfSome result (λ e. row.now ≡ calendar_values name.now e.0 e.1 e.2) }
+    ensures found { (kind day : ℕ) (status : Status) → kind < 2 ^ 32 → day < 2 ^ 32
+        → row.now ≡ calendar_values name.now kind day status → result ≡ Some (kind, day, status) }
+{
+    if row.len() != 4 {
+        return None;
+    }
+    let kind = number_at(row, 1)?;
+    let day = number_at(row, 2)?;
+    let status = status_at(row, 3)?;
+    Some((kind, day, status))
+}
+
+fn is_same(status: DayStatus, other: DayStatus) -> bool
+    ensures { IsTrue result ↔ (status ≡ other) }
+{
+    match status {
+        DayStatus::Work => matches!(other, DayStatus::Work),
+        DayStatus::Free => matches!(other, DayStatus::Free),
     }
 }
 
-impl Reading for CalendarRows {
+// Lists the weekday, or answers whether it is listed so.
+fn list_weekday(calendar: &mut Calendar, place: u32, status: DayStatus) -> bool
+    requires place { place < 7 }
+    requires week { length calendar.old.weekdays ≡ 7 }
+    ensures kept { length calendar.new.weekdays ≡ 7 }
+    ensures taken { (name : List ℕ) → IsTrue result → Joins (IsCalendarRow name calendar.old)
+        (calendar_values name 0 place status) (IsCalendarRow name calendar.new) }
+    ensures refused { (d : CalendarEntries) (name : List ℕ) → TellsEntry d 0 place status
+        → Within (IsCalendarRow name calendar.old) (IsCalendarRow name d) → IsTrue result }
+{
+    match calendar.weekday_status(weekday_at(place)) {
+        Some(listed) => is_same(listed, status),
+        None => {
+            calendar.set_weekday(weekday_at(place), status);
+            true
+        }
+    }
+}
+
+// The same, where the number may be none of a weekday.
+fn list_week_entry(calendar: &mut Calendar, place: u32, status: DayStatus) -> bool
+    requires { length calendar.old.weekdays ≡ 7 }
+    ensures kept { length calendar.new.weekdays ≡ 7 }
+    ensures taken { (name : List ℕ) → IsTrue result → Joins (IsCalendarRow name calendar.old)
+        (calendar_values name 0 place status) (IsCalendarRow name calendar.new) }
+    ensures refused { (d : CalendarEntries) (name : List ℕ) → IsSoundCalendar name d
+        → TellsEntry d 0 place status → Within (IsCalendarRow name calendar.old) (IsCalendarRow name d)
+        → IsTrue result }
+{
+    if place < 7 {
+        list_weekday(calendar, place, status)
+    } else {
+        false
+    }
+}
+
+// Lists the date, or answers whether it is listed so.
+fn list_date(calendar: &mut Calendar, day: Day, status: DayStatus) -> Result<bool, AllocError>
+    requires { length calendar.old.weekdays ≡ 7 }
+    ensures kept { length calendar.new.weekdays ≡ 7 }
+    ensures taken { IfOk result (λ b. (name : List ℕ) → IsTrue b → Joins (IsCalendarRow name calendar.old)
+        (calendar_values name 1 day status) (IsCalendarRow name calendar.new)) }
+    ensures refused { IfOk result (λ b. (d : CalendarEntries) (name : List ℕ) → TellsEntry d 1 day status
+        → Within (IsCalendarRow name calendar.old) (IsCalendarRow name d) → IsTrue b) }
+{
+    match calendar.date_status(day) {
+        Some(listed) => Ok(is_same(listed, status)),
+        None => {
+            calendar.set_date(day, status)?;
+            Ok(true)
+        }
+    }
+}
+
+// The same, where the number may be none of a day.
+fn list_day_entry(
+    calendar: &mut Calendar,
+    number: u32,
+    status: DayStatus,
+) -> Result<bool, AllocError>
+    requires { length calendar.old.weekdays ≡ 7 }
+    ensures kept { length calendar.new.weekdays ≡ 7 }
+    ensures taken { IfOk result (λ b. (name : List ℕ) → IsTrue b → Joins (IsCalendarRow name calendar.old)
+        (calendar_values name 1 number status) (IsCalendarRow name calendar.new)) }
+    ensures refused { IfOk result (λ b. (d : CalendarEntries) (name : List ℕ) → IsSoundCalendar name d
+        → TellsEntry d 1 number status → Within (IsCalendarRow name calendar.old) (IsCalendarRow name d)
+        → IsTrue b) }
+{
+    match Day::from_number(number) {
+        Some(day) => list_date(calendar, day, status),
+        None => Ok(false),
+    }
+}
+
+// Lists an entry of that kind, or answers whether it is listed so.
+fn list_entry(
+    calendar: &mut Calendar,
+    kind: u32,
+    number: u32,
+    status: DayStatus,
+) -> Result<bool, AllocError>
+    requires { length calendar.old.weekdays ≡ 7 }
+    ensures kept { length calendar.new.weekdays ≡ 7 }
+    ensures taken { IfOk result (λ b. (name : List ℕ) → IsTrue b → Joins (IsCalendarRow name calendar.old)
+        (calendar_values name kind number status) (IsCalendarRow name calendar.new)) }
+    ensures refused { IfOk result (λ b. (d : CalendarEntries) (name : List ℕ) → IsSoundCalendar name d
+        → TellsEntry d kind number status → Within (IsCalendarRow name calendar.old) (IsCalendarRow name d)
+        → IsTrue b) }
+{
+    if kind == 0 {
+        return Ok(list_week_entry(calendar, number, status));
+    }
+    if kind == 1 {
+        return list_day_entry(calendar, number, status);
+    }
+    Ok(false)
+}
+
+fn copied(calendar: &Calendar) -> Result<Calendar, AllocError>
+    ensures { IfOk result (λ c. c ≡ calendar.now) }
+{
+    calendar.clone()
+}
+
+// The calendar that the rows told.
+#[derive(Drop)]
+struct CalendarDraft {
+    calendar: Calendar,
+    ghost week: { length calendar.weekdays ≡ 7 },
+}
+
+impl Draft for CalendarDraft {
     type Of = Calendar;
 
-    fn read(&self, alloc: Global, rows: &[Row]) -> Result<Option<Calendar>, AllocError> {
-        let mut calendar = Calendar::new(alloc);
-        for row in rows {
-            if !list_entry(&mut calendar, row)? {
-                return Ok(None);
-            }
+    ghost IsRow = { IsCalendarRow };
+
+    ghost IsSound = { IsSoundCalendar };
+
+    ghost IsRead = { λ name x. IsCalendarRow name x.calendar };
+
+    fn begin(alloc: Global) -> CalendarDraft {
+        CalendarDraft {
+            calendar: Calendar::new(alloc),
         }
-        Ok(Some(calendar))
     }
+
+    fn join(&mut self, name: &Name, row: &Row) -> Result<bool, AllocError> {
+        let Some((kind, day, status)) = entry_at(row, name) else {
+            return Ok(false);
+        };
+        list_entry(&mut self.calendar, kind, day, status)
+    }
+
+    fn finish(&self, _alloc: Global, _name: &Name) -> Result<Option<Calendar>, AllocError> {
+        Ok(Some(copied(&self.calendar)?))
+    }
+
+    ghost named = { calendar_named };
+
+    ghost read_named = { λ name x v is. calendar_named name x.calendar v is };
 }
 
-/// The calendars that have these rows, which stand in order.
+/// The calendars that have exactly these rows, or none where no sound ones have.
 pub(crate) fn read_calendars(
     alloc: Global,
     rows: &[Row],
 ) -> Result<Option<ByName<Calendar>>, AllocError>
-    ensures { IfOk result (λ found. IfSome found (AreRowsOf IsCalendarRow rows.now)) }
+    ensures made { IfOk result (λ found. IfSome found (AreRowsOf IsCalendarRow rows.now)) }
+    ensures found { IfOk result (λ found. (all : Defined CalendarEntries) → AreSound IsSoundCalendar all
+        → AreRowsOf IsCalendarRow rows.now all → IsSome found) }
 {
-    let Some(all) = definitions_of(&CalendarRows, alloc, rows)? else {
-        return Ok(None);
-    };
-    if have_rows::<CalendarRows>(alloc, rows, &all)? {
-        Ok(Some(all))
-    } else {
-        Ok(None)
-    }
+    gathered::<CalendarDraft>(alloc, rows)
 }

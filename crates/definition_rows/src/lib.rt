@@ -6,7 +6,9 @@ mod calendars;
 mod cells;
 mod columns;
 mod cycles;
+mod drafts;
 mod encoding;
+mod gathering;
 mod lending;
 mod offsets;
 mod periods;
@@ -23,5 +25,7 @@ pub use lending::lend;
 pub use offsets::offset_rows;
 pub use periods::period_rows;
 pub use predecessors::predecessor_rows;
-pub use stored::{StoredRows, definitions_of_rows};
+pub use stored::{
+    StoredRows, applications_of_rows, calendars_of_rows, definitions_of_rows, predecessors_of_rows,
+};
 pub use telling::{are_told, block_is_told};

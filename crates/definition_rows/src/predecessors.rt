@@ -1,16 +1,22 @@
 // Rows of predecessors.
 
-ghost use Rattle.std.specs.Prelude.{◌≡◌, ◌∷◌, ◌↔◌, [], length, IfOk, IfSome, OnOk};
+ghost use Rattle.std.specs.Prelude.{◌≡◌, ◌∷◌, ◌↔◌, [], length, IfOk, IfSome, OnOk, ℕ, List, IsSome};
 ghost use Rattle.sqlite.specs.declared.types.Value.TheVariants.{Text};
 ghost use Rattle.plan_facts.specs.Facts.{IsPredecessorRow};
 ghost use Rattle.definition_rows.specs.Adding.{Adds, IsOfPlace};
 ghost use Rattle.definition_rows.specs.Parts.{IsLinkRow};
+ghost use Rattle.sqlite.specs.Order.{column};
+ghost use Rattle.work_calendars.specs.Name.{IsName};
+ghost use Rattle.plan_facts.specs.Content.{ByName as Defined};
+ghost use Rattle.definition_rows.specs.Drafted.{ArePredecessorNames, IsReadPredecessor, predecessors_named};
+ghost use Rattle.definition_rows.specs.Drafted.{read_predecessor_named};
+ghost use Rattle.definition_rows.specs.Gathering.{AreSound};
 ghost use Rattle.definition_rows.specs.Storing.{AreRowsOf};
 
 use crate::cells::row_of;
 use crate::columns::name_at;
-use crate::encoding::{Encoding, have_rows, rows_of};
-use crate::reading::{Reading, definitions_of};
+use crate::encoding::{Encoding, rows_of};
+use crate::gathering::{Draft, gathered};
 use app_definitions::{ByName, Predecessors};
 use sqlite::types::ValueRef;
 use sqlite_value::row::Row;
@@ -74,34 +80,66 @@ pub fn predecessor_rows(
     rows_of::<PredecessorRows>(alloc, predecessors)
 }
 
-impl Reading for PredecessorRows {
-    type Of = Predecessors;
-
-    fn read(&self, alloc: Global, rows: &[Row]) -> Result<Option<Predecessors>, AllocError> {
-        let mut names = Vec::new(alloc);
-        for row in rows {
-            match name_at(row, 1) {
-                Some(name) => names.push(name)?,
-                None => return Ok(None),
-            }
-        }
-        Ok(Predecessors::from_vec(names))
+// The predecessor that a row of this application tells.
+fn predecessor_at(row: &Row, app: &Name) -> Option<Name>
+    requires { column row.now 0 ≡ Text app.now }
+    ensures value { IfSome result (λ name. row.now ≡ Text app.now ∷ Text name ∷ []) }
+    ensures found { (name : List ℕ) → IsName name → row.now ≡ Text app.now ∷ Text name ∷ []
+        → result ≡ Some name }
+{
+    if row.len() != 2 {
+        return None;
     }
+    name_at(row, 1)
 }
 
-/// The lists of predecessors that have these rows, which stand in order.
+// The predecessors that the rows told.
+#[derive(Drop)]
+struct PredecessorDraft {
+    names: ByName<()>,
+}
+
+impl Draft for PredecessorDraft {
+    type Of = Predecessors;
+
+    ghost IsRow = { IsPredecessorRow };
+
+    ghost IsSound = { ArePredecessorNames };
+
+    ghost IsRead = { λ name x. IsReadPredecessor name x.names };
+
+    fn begin(alloc: Global) -> PredecessorDraft {
+        PredecessorDraft {
+            names: ByName::new(alloc),
+        }
+    }
+
+    fn join(&mut self, name: &Name, row: &Row) -> Result<bool, AllocError> {
+        let Some(read) = predecessor_at(row, name) else {
+            return Ok(false);
+        };
+        self.names.insert(read, ())?;
+        Ok(true)
+    }
+
+    fn finish(&self, alloc: Global, _name: &Name) -> Result<Option<Predecessors>, AllocError> {
+        let names = self.names.names(alloc)?;
+        Ok(Predecessors::from_vec(names))
+    }
+
+    ghost named = { predecessors_named };
+
+    ghost read_named = { λ name x v is. read_predecessor_named name x.names v is };
+}
+
+/// The lists of predecessors that have exactly these rows, or none where no sound ones have.
 pub(crate) fn read_predecessors(
     alloc: Global,
     rows: &[Row],
 ) -> Result<Option<ByName<Predecessors>>, AllocError>
-    ensures { IfOk result (λ found. IfSome found (AreRowsOf IsPredecessorRow rows.now)) }
+    ensures made { IfOk result (λ found. IfSome found (AreRowsOf IsPredecessorRow rows.now)) }
+    ensures found { IfOk result (λ found. (all : Defined (List (List ℕ))) → AreSound ArePredecessorNames all
+        → AreRowsOf IsPredecessorRow rows.now all → IsSome found) }
 {
-    let Some(all) = definitions_of(&PredecessorRows, alloc, rows)? else {
-        return Ok(None);
-    };
-    if have_rows::<PredecessorRows>(alloc, rows, &all)? {
-        Ok(Some(all))
-    } else {
-        Ok(None)
-    }
+    gathered::<PredecessorDraft>(alloc, rows)
 }

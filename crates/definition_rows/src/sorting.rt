@@ -23,14 +23,22 @@ fn copied(alloc: Global, read: &ShownRow) -> Result<Row, AllocError>
     Ok(row)
 }
 
-/// The rows that were read, in the order of their columns.
-pub(crate) fn sorted_rows(alloc: Global, read: &[ShownRow]) -> Result<Vec<Row>, AllocError>
-    ensures { IfOk result (λ rows. IsPermutation read.now rows.items) }
+/// The rows that were read.
+pub(crate) fn copied_rows(alloc: Global, read: &[ShownRow]) -> Result<Vec<Row>, AllocError>
+    ensures { IfOk result (λ rows. rows.items ≡ read.now) }
 {
     let mut rows = Vec::new(alloc);
     for row in read {
         rows.push(copied(alloc, row)?)?;
     }
+    Ok(rows)
+}
+
+/// The rows that were read, in the order of their columns.
+pub(crate) fn sorted_rows(alloc: Global, read: &[ShownRow]) -> Result<Vec<Row>, AllocError>
+    ensures { IfOk result (λ rows. IsPermutation read.now rows.items) }
+{
+    let mut rows = copied_rows(alloc, read)?;
     rows.sort_unstable_by(|a, b| a.cmp_entry(Order::PLAIN, b));
     Ok(rows)
 }

@@ -1,8 +1,12 @@
 // All definitions, read from the tables.
 
-ghost use Rattle.std.specs.Prelude.{IfOk, IfSome};
+ghost use Rattle.std.specs.Prelude.{ℕ, List, IfOk, IfSome, IsSome};
+ghost use Rattle.work_calendars.specs.Calendar.{CalendarEntries};
+ghost use Rattle.app_definitions.specs.declared.applications.Application.{Application as ApplicationValue};
 ghost use Rattle.definition_rows.specs.Storing.{AreRowsOf, HaveRows};
-ghost use Rattle.plan_facts.specs.Content.{IsApplicationRow};
+ghost use Rattle.plan_facts.specs.Content.{ByName as Defined, IsApplicationRow};
+ghost use Rattle.definition_rows.specs.Drafted.{ArePredecessorNames, IsSoundApplication, IsSoundCalendar};
+ghost use Rattle.definition_rows.specs.Gathering.{AreSound};
 ghost use Rattle.plan_facts.specs.Facts.{IsCalendarRow, IsCycleRow, IsOffsetRow, IsPeriodRow, IsPredecessorRow};
 
 use crate::applications::read_applications;
@@ -10,7 +14,7 @@ use crate::calendars::read_calendars;
 use crate::cycles::read_cycles;
 use crate::periods::read_periods;
 use crate::predecessors::read_predecessors;
-use crate::sorting::sorted_rows;
+use crate::sorting::{copied_rows, sorted_rows};
 use crate::telling::are_told;
 use app_definitions::{
     Application, ByName, DefinedPeriod, Definitions, Options, Predecessors, RunCycles,
@@ -36,10 +40,16 @@ pub struct StoredRows {
     pub predecessors: Vec<Row>,
 }
 
-fn calendars_of(alloc: Global, shown: &[Row]) -> Result<Option<ByName<Calendar>>, AllocError>
-    ensures { IfOk result (λ found. IfSome found (AreRowsOf IsCalendarRow shown.now)) }
+/// The calendars that have exactly these rows, or none where no sound ones have.
+pub fn calendars_of_rows(
+    alloc: Global,
+    shown: &[Row],
+) -> Result<Option<ByName<Calendar>>, AllocError>
+    ensures made { IfOk result (λ found. IfSome found (AreRowsOf IsCalendarRow shown.now)) }
+    ensures found { IfOk result (λ found. (all : Defined CalendarEntries) → AreSound IsSoundCalendar all
+        → AreRowsOf IsCalendarRow shown.now all → IsSome found) }
 {
-    let rows = sorted_rows(alloc, shown)?;
+    let rows = copied_rows(alloc, shown)?;
     read_calendars(alloc, &rows)
 }
 
@@ -50,17 +60,29 @@ fn periods_of(alloc: Global, shown: &[Row]) -> Result<Option<ByName<DefinedPerio
     read_periods(alloc, &rows)
 }
 
-fn applications_of(alloc: Global, shown: &[Row]) -> Result<Option<ByName<Application>>, AllocError>
-    ensures { IfOk result (λ found. IfSome found (AreRowsOf IsApplicationRow shown.now)) }
+/// The applications that have exactly these rows, or none where no sound ones have.
+pub fn applications_of_rows(
+    alloc: Global,
+    shown: &[Row],
+) -> Result<Option<ByName<Application>>, AllocError>
+    ensures made { IfOk result (λ found. IfSome found (AreRowsOf IsApplicationRow shown.now)) }
+    ensures found { IfOk result (λ found. (all : Defined ApplicationValue) → AreSound IsSoundApplication all
+        → AreRowsOf IsApplicationRow shown.now all → IsSome found) }
 {
-    let rows = sorted_rows(alloc, shown)?;
+    let rows = copied_rows(alloc, shown)?;
     read_applications(alloc, &rows)
 }
 
-fn predecessors_of(alloc: Global, shown: &[Row]) -> Result<Option<ByName<Predecessors>>, AllocError>
-    ensures { IfOk result (λ found. IfSome found (AreRowsOf IsPredecessorRow shown.now)) }
+/// The lists of predecessors that have exactly these rows, or none where no sound ones have.
+pub fn predecessors_of_rows(
+    alloc: Global,
+    shown: &[Row],
+) -> Result<Option<ByName<Predecessors>>, AllocError>
+    ensures made { IfOk result (λ found. IfSome found (AreRowsOf IsPredecessorRow shown.now)) }
+    ensures found { IfOk result (λ found. (all : Defined (List (List ℕ))) → AreSound ArePredecessorNames all
+        → AreRowsOf IsPredecessorRow shown.now all → IsSome found) }
 {
-    let rows = sorted_rows(alloc, shown)?;
+    let rows = copied_rows(alloc, shown)?;
     read_predecessors(alloc, &rows)
 }
 
@@ -85,19 +107,19 @@ pub fn definitions_of_rows(
 ) -> Result<Option<Definitions>, AllocError>
     ensures { IfOk result (λ found. IfSome found (HaveRows stored.now options)) }
 {
-    let Some(calendars) = calendars_of(alloc, &stored.calendars)? else {
+    let Some(calendars) = calendars_of_rows(alloc, &stored.calendars)? else {
         return Ok(None);
     };
     let Some(periods) = periods_of(alloc, &stored.periods)? else {
         return Ok(None);
     };
-    let Some(applications) = applications_of(alloc, &stored.applications)? else {
+    let Some(applications) = applications_of_rows(alloc, &stored.applications)? else {
         return Ok(None);
     };
     let Some(run_cycles) = cycles_of(alloc, &stored.run_cycles, &stored.offsets)? else {
         return Ok(None);
     };
-    let Some(predecessors) = predecessors_of(alloc, &stored.predecessors)? else {
+    let Some(predecessors) = predecessors_of_rows(alloc, &stored.predecessors)? else {
         return Ok(None);
     };
     let all = Definitions {

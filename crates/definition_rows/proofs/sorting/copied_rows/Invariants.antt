@@ -1,5 +1,5 @@
 use Rattle.std.proofs.Common.{◌≡◌, take}
-use Rattle.definition_rows.proofs.sorting.sorted_rows.Given as goal
+use Rattle.definition_rows.proofs.sorting.copied_rows.Given as goal
 
 abbrev pub invariant-loop-row : goal.invariant-loop-row
 invariant-loop-row l = l.rows.items ≡ take l.row-index l.read

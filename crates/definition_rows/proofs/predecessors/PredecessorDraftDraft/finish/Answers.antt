@@ -1,0 +1,13 @@
+use Rattle.std.proofs.Common.{subst, sym}
+use Rattle.std.proofs.lemmas.Option.{IfSome_then}
+use Rattle.plan_facts.specs.Facts.{IsPredecessorRow}
+use Rattle.definition_rows.specs.Drafted.{IsReadPredecessor}
+use Rattle.definition_rows.specs.Gathering.{Alike}
+use Rattle.definition_rows.proofs.DraftLemmas.{predecessors_alike}
+use Rattle.definition_rows.proofs.predecessors.PredecessorDraftDraft.finish.Goals as goal
+
+pub returns-clause-made : goal.returns-clause-made
+returns-clause-made c = IfSome_then c.from_vec.result c.from_vec.ensures.value (λ d is. subst
+    (λ l. Alike (IsPredecessorRow c.args._name.now l) (IsReadPredecessor c.args._name.now c.args.self.now.names)) (sym
+    is)
+    (predecessors_alike c.args._name.now c.args.self.now.names c.in_ok-names.names.items c.in_ok-names.ensures))
