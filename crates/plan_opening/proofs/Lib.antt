@@ -1,0 +1,3 @@
+pub mod RowidTexts
+pub mod RowidLemmas
+pub mod FirstRows

@@ -1,0 +1,2 @@
+pub mod Rowids
+pub mod First

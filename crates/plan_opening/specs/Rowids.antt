@@ -1,0 +1,50 @@
+-- Rowids as they are shown.
+use Rattle.std.specs.Prelude.{◌≡◌, ℕ, ◌<◌, List, [], ◌∷◌, pos, negsuc, codes}
+use Rattle.std.specs.List.{All, AllPairs}
+use Rattle.sqlite.specs.Order.{Row as Values, column}
+use Rattle.sqlite.specs.Term.{Term, col, eval_all}
+use Rattle.sqlite.specs.declared.types.Value.{Value}
+use Rattle.sqlite.specs.declared.types.Value.TheVariants.{Null, Int, Real, Text, Blob}
+use Rattle.plan_schema.specs.declared.tables.Table.{Table}
+use Rattle.plan_schema.specs.declared.tables.Table.TheVariants.{Meta, CalendarEntry, Period, Application, RunCycle}
+use Rattle.plan_schema.specs.declared.tables.Table.TheVariants.{Offset, Predecessor, LinkInForce, LongTerm, Current}
+use Rattle.plan_schema.specs.declared.tables.Table.TheVariants.{History, Deletion, Dependency, Job}
+use Rattle.plan_facts.specs.Facts.{natural}
+
+-- shows the rowids of the table
+abbrev pub rowid_sql : Table → List ℕ
+rowid_sql Meta = codes "SELECT rowid FROM plan_meta"
+rowid_sql CalendarEntry = codes "SELECT rowid FROM calendar_entry"
+rowid_sql Period = codes "SELECT rowid FROM plan_period"
+rowid_sql Application = codes "SELECT rowid FROM application"
+rowid_sql RunCycle = codes "SELECT rowid FROM run_cycle"
+rowid_sql Offset = codes "SELECT rowid FROM run_cycle_offset"
+rowid_sql Predecessor = codes "SELECT rowid FROM predecessor"
+rowid_sql LinkInForce = codes "SELECT rowid FROM link_in_force"
+rowid_sql LongTerm = codes "SELECT rowid FROM ltp_row"
+rowid_sql Current = codes "SELECT rowid FROM cp_row"
+rowid_sql History = codes "SELECT rowid FROM history_row"
+rowid_sql Deletion = codes "SELECT rowid FROM deletion_row"
+rowid_sql Dependency = codes "SELECT rowid FROM dependency"
+rowid_sql Job = codes "SELECT rowid FROM job"
+
+abbrev pub rowid_terms : List Term
+rowid_terms = col 1 0 ∷ []
+
+-- a row as it is shown: its rowid
+abbrev pub rowid_shown : Values → Values
+rowid_shown row = eval_all rowid_terms ([] ∷ row ∷ [])
+
+-- the number that a value is, or 0
+abbrev pub number_of : Value → ℕ
+number_of (Int (pos n)) = n
+number_of (Int (negsuc n)) = 0
+number_of Null = 0
+number_of (Real x) = 0
+number_of (Text t) = 0
+number_of (Blob b) = 0
+
+-- each has a number first, and a greater one than all before it
+pub record AreRising (rows : List Values) : Type 0 where
+  pub numbers : All (λ (r : Values). column r 0 ≡ natural (number_of (column r 0))) rows
+  pub rise : AllPairs (λ (a b : Values). number_of (column a 0) < number_of (column b 0)) rows

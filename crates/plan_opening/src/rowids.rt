@@ -1,0 +1,65 @@
+// Rowids: integers, and none twice.
+
+ghost use Rattle.std.specs.Prelude.{◌≡◌, false, is_ok, map, IfOk, IfSome, IsTrue};
+ghost use Rattle.std.specs.List.Sorted.{IsPermutation};
+ghost use Rattle.sqlite.specs.Order.{column};
+ghost use Rattle.sqlite.specs.State.{HasCleanDisk};
+ghost use Rattle.sqlite.specs.Held.{state};
+ghost use Rattle.plan_schema.specs.Rows.{HaveRowids, tables_of};
+ghost use Rattle.plan_facts.specs.Facts.{natural};
+ghost use Rattle.plan_reading.specs.Reading.{HasPlan, Looks};
+ghost use Rattle.plan_opening.specs.Rowids.{AreRising, rowid_shown};
+
+use crate::rowid_texts::rowid_text;
+use plan_schema::Table;
+use sqlite::Row as Cells;
+use sqlite::types::ValueRef;
+use sqlite::{Alter, Connection, Error};
+
+// The number in the first cell, if it holds one.
+fn first_number(cells: &Cells) -> Option<u64>
+    ensures { IfSome result (λ n. column cells.now 0 ≡ natural n) }
+{
+    match cells.get_ref(0) {
+        Ok(ValueRef::Int(n)) => u64::try_from(n).ok(),
+        _ => None,
+    }
+}
+
+// Whether each has a number above 0 in its first cell, and above all before it.
+fn are_rising(rows: &[Cells]) -> bool
+    ensures { IsTrue result → AreRising rows.now }
+{
+    let mut last = 0;
+    for cells in rows {
+        let Some(number) = first_number(cells) else {
+            return false;
+        };
+        if number <= last {
+            return false;
+        }
+        last = number;
+    }
+    true
+}
+
+// The rowids of the table, in some order.
+fn select_rowids<S: Alter>(conn: &mut Connection<S>, table: Table) -> Result<Vec<Cells>, Error>
+    ensures rows { HasCleanDisk (state S.Store conn.new) → HasPlan (state S.Store conn.old) → IfOk result (λ rows.
+        IsPermutation (map rowid_shown (tables_of (state S.Store conn.old).now.trees table)) rows.items) }
+    ensures looks { Looks (state S.Store conn.old) (state S.Store conn.new) (is_ok result) }
+    ensures mode { conn.old.in_transaction ≡ false → conn.new.in_transaction ≡ false }
+{
+    conn.query_all(rowid_text(table), &[])
+}
+
+/// Whether each row of the table has an integer as its rowid, and no two the same.
+pub(crate) fn has_rowids<S: Alter>(conn: &mut Connection<S>, table: Table) -> Result<bool, Error>
+    ensures told { HasCleanDisk (state S.Store conn.new) → HasPlan (state S.Store conn.old) → IfOk result (λ b.
+        IsTrue b → HaveRowids (tables_of (state S.Store conn.old).now.trees table)) }
+    ensures looks { Looks (state S.Store conn.old) (state S.Store conn.new) (is_ok result) }
+    ensures mode { conn.old.in_transaction ≡ false → conn.new.in_transaction ≡ false }
+{
+    let rows = select_rowids(conn, table)?;
+    Ok(are_rising(&rows))
+}
