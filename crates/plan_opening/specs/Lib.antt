@@ -1,2 +1,6 @@
 pub mod Rowids
 pub mod First
+pub mod Places
+pub mod Stored
+pub mod Faults
+pub mod Opened

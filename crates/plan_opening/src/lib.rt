@@ -1,7 +1,15 @@
 //! A database of a plan is opened: it has the tables of the plan, or gets them, and they tell a sound content.
 #![tactic(auto)]
 
+mod faults;
 mod making;
+mod opening;
 mod rowid_texts;
 mod rowids;
 mod schemas;
+mod stored;
+mod table_places;
+mod whole;
+
+pub use faults::OpenFault;
+pub use opening::open_content;

@@ -9,12 +9,16 @@ ghost use Rattle.plan_schema.specs.Rows.{HaveRowids, tables_of};
 ghost use Rattle.plan_facts.specs.Facts.{natural};
 ghost use Rattle.plan_reading.specs.Reading.{HasPlan, Looks};
 ghost use Rattle.plan_opening.specs.Rowids.{AreRising, rowid_shown};
+ghost use Rattle.plan_opening.specs.Places.{table_of};
 
 use crate::rowid_texts::rowid_text;
+use crate::table_places::table_at;
+use plan_reading::Part;
 use plan_schema::Table;
 use sqlite::Row as Cells;
 use sqlite::types::ValueRef;
 use sqlite::{Alter, Connection, Error};
+use std::alloc::Global;
 
 // The number in the first cell, if it holds one.
 fn first_number(cells: &Cells) -> Option<u64>
@@ -62,4 +66,22 @@ pub(crate) fn has_rowids<S: Alter>(conn: &mut Connection<S>, table: Table) -> Re
 {
     let rows = select_rowids(conn, table)?;
     Ok(are_rising(&rows))
+}
+
+/// The rowids of the table at the place.
+#[derive(Drop)]
+pub(crate) struct Rowids<const PLACE: usize> {}
+
+impl<const PLACE: usize> Part for Rowids<PLACE> {
+    ghost tells = { λ all _. HaveRowids (all (table_of PLACE)) };
+
+    ghost in_order = { λ _. Unit {0} };
+
+    fn read<S: Alter>(_: Global, conn: &mut Connection<S>) -> Result<Option<Rowids<PLACE>>, Error> {
+        match has_rowids(conn, table_at(PLACE)) {
+            Ok(true) => Ok(Some(Rowids {})),
+            Ok(false) => Ok(None),
+            Err(error) => Err(error),
+        }
+    }
 }

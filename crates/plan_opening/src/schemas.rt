@@ -2,6 +2,7 @@
 
 ghost use Rattle.std.specs.Prelude.{◌≡◌, IfOk, IsTrue};
 ghost use Rattle.sqlite.specs.Held.{state};
+ghost use Rattle.plan_schema.specs.Schema.{no_schema};
 ghost use Rattle.plan_reading.specs.Reading.{HasPlan};
 
 use plan_schema::make_tables;
@@ -16,4 +17,12 @@ pub(crate) fn has_plan<S: Alter>(alloc: Global, conn: &Connection<S>) -> Result<
     let mut made = Connection::open_in_memory(alloc)?;
     make_tables(&mut made)?;
     Ok(is_same_schema(conn.schema(), made.schema()))
+}
+
+/// Whether the database has no tables, and nothing else that can be seen.
+pub(crate) fn is_blank<S: Alter>(conn: &Connection<S>) -> bool
+    ensures { IsTrue result → (state S.Store conn.now).now.schema ≡ no_schema }
+{
+    let schema = conn.schema();
+    schema.tables.is_empty() && schema.indexes.is_empty() && schema.views.is_empty()
 }

@@ -17,4 +17,5 @@ mod told;
 pub use contents::content_of_lists;
 pub use lists::{PlanLists, PlanRows};
 pub use meta::Meta;
+pub use parts::Part;
 pub use reading::read_lists;

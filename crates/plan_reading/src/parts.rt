@@ -22,7 +22,7 @@ use sqlite::{Alter, Connection, Error};
 use std::alloc::Global;
 
 /// What is read from one table or from several.
-pub(crate) trait Part: Sized + Drop {
+pub trait Part: Sized + Drop {
     // the tables tell it
     ghost tells: { Tables → Self → Type 0 };
 

@@ -1,0 +1,55 @@
+-- What tables show, and the definitions that have these rows.
+use Rattle.std.proofs.Common.{◌≡◌, ◌↔◌, List, map}
+use Rattle.std.specs.List.{Contains}
+use Rattle.std.specs.List.Sorted.{IsPermutation}
+use Rattle.std.proofs.lemmas.List.Sorted.{Contains-permutation, IsPermutation-sym}
+use Rattle.sqlite.specs.Order.{Row as Values}
+use Rattle.app_definitions.specs.declared.definitions.Definitions.{Definitions}
+use Rattle.app_definitions.specs.declared.options.Options.{Options}
+use Rattle.planner_machine.specs.Content.{Content}
+use Rattle.plan_schema.specs.Rows.{Tables, shown}
+use Rattle.plan_schema.specs.declared.tables.Table.{Table}
+use Rattle.plan_facts.specs.Content.{IsContentOf}
+use Rattle.definition_rows.specs.Storing.{HaveRows}
+use Rattle.definition_rows.specs.declared.stored.StoredRows.{StoredRows}
+use Rattle.plan_reading.specs.Lists.{HasLists}
+use Rattle.plan_reading.specs.Tables.{ShowsOnly, TellDefinitions, TellPlans}
+use Rattle.plan_reading.specs.declared.lists.PlanLists.{PlanLists}
+use Rattle.plan_reading.proofs.FactLemmas.{is_content}
+use Rattle.plan_opening.specs.Stored.{TellStored}
+
+pub shows_rows : (all : Tables) (t : Table) (rows : List Values) → IsPermutation (map (shown t) (all t)) rows
+    → ShowsOnly all t (λ v. Contains rows v)
+shows_rows all t rows same = record {
+  exactly = λ v. (
+    (λ there. Contains-permutation (map (shown t) (all t)) rows v same there),
+    λ there. Contains-permutation rows (map (shown t) (all t)) v (IsPermutation-sym _ _ same) there,
+  );
+}
+
+shows_so : (all : Tables) (t : Table) (P Q : Values → Type 0) → ShowsOnly all t P → ((v : Values) → P v ↔ Q v)
+    → ShowsOnly all t Q
+shows_so all t P Q shows same = record {
+  exactly = λ v. ((λ there. (same v).0 ((shows.exactly v).0 there)), λ q. (shows.exactly v).1 ((same v).1 q));
+}
+
+tell_definitions : (all : Tables) (stored : StoredRows) (options : Options) (d : Definitions) → TellStored all stored
+    → HaveRows stored options d → TellDefinitions all d
+tell_definitions all stored options d tell has = record {
+  calendar_rows = shows_so all _ _ _ tell.calendar_rows has.calendars;
+  period_rows = shows_so all _ _ _ tell.period_rows has.periods;
+  application_rows = shows_so all _ _ _ tell.application_rows has.applications;
+  cycle_rows = shows_so all _ _ _ tell.cycle_rows has.run_cycles;
+  offset_rows = shows_so all _ _ _ tell.offset_rows has.offsets;
+  predecessor_rows = shows_so all _ _ _ tell.predecessor_rows has.predecessors;
+  calendars = has.tellable.calendars;
+  periods = has.tellable.periods;
+  run_cycles = has.tellable.run_cycles;
+  predecessors = has.tellable.predecessors;
+}
+
+pub stored_content : (all : Tables) (lists : PlanLists) (stored : StoredRows) (d : Definitions) (c : Content)
+    → HaveRows stored lists.meta.options d → HasLists d lists c → TellPlans all lists → TellStored all stored
+    → IsContentOf all c
+stored_content all lists stored d c rows has plans definitions =
+    is_content all d lists c plans (tell_definitions all stored lists.meta.options d definitions rows) rows.options has

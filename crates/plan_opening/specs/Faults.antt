@@ -1,0 +1,16 @@
+-- The fault of a call that failed.
+use Rattle.sqlite.specs.declared.error.Error.{Error}
+use Rattle.sqlite.specs.declared.error.Error.TheVariants.{SqliteFailure}
+use Rattle.sqlite.specs.declared.error.ErrorCode.TheVariants.{OutOfMemory, SystemIoFailure, DatabaseCorrupt, DiskFull}
+use Rattle.sqlite.specs.declared.error.ErrorCode.TheVariants.{Closed}
+use Rattle.plan_opening.specs.declared.faults.OpenFault.{OpenFault}
+use Rattle.plan_opening.specs.declared.faults.OpenFault.TheVariants.{Memory, Device}
+
+-- want of memory, a failure of the device, or else this one
+abbrev pub fault_for : Error → OpenFault → OpenFault
+fault_for (SqliteFailure OutOfMemory) other = Memory
+fault_for (SqliteFailure SystemIoFailure) other = Device
+fault_for (SqliteFailure DatabaseCorrupt) other = Device
+fault_for (SqliteFailure DiskFull) other = Device
+fault_for (SqliteFailure Closed) other = Device
+fault_for _ other = other

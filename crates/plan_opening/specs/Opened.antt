@@ -1,0 +1,19 @@
+-- A database that was opened.
+use Rattle.std.specs.Prelude.{◌≡◌, IsTrue}
+use Rattle.sqlite.specs.State.{State}
+use Rattle.sqlite.specs.Tree.{Trees}
+use Rattle.planner_machine.specs.Content.{Content, nothing_known}
+use Rattle.plan_schema.specs.Rows.{IsPlan, tables_of}
+use Rattle.plan_schema.specs.Schema.{no_schema}
+use Rattle.plan_facts.specs.Content.{IsContentOf}
+
+-- the database is open, all of it is committed, and its tables have the content
+pub record IsOpened (s : State) (c : Content) : Type 0 where
+  pub is_open : IsTrue s.is_open
+  pub plan : IsPlan s
+  pub settled : s.now ≡ s.committed
+  pub content : IsContentOf (tables_of s.now.trees) c
+
+-- what opening may commit: the tables of a content of which nothing is known, where there were none
+abbrev pub MakesFirst : State → Trees → Type 0
+MakesFirst s db = (s.now.schema ≡ no_schema) × IsContentOf (tables_of db) nothing_known

@@ -1,0 +1,167 @@
+// A database is opened.
+
+ghost use Rattle.std.specs.Prelude.{◌≡◌, false, is_ok, IfOk, IsTrue};
+ghost use Rattle.sqlite.specs.State.{HasCleanDisk, Survives};
+ghost use Rattle.sqlite.specs.Held.{state};
+ghost use Rattle.planner_machine.specs.Content.{nothing_known};
+ghost use Rattle.planner_machine.specs.Sound.{IsSound};
+ghost use Rattle.plan_schema.specs.Rows.{Tables};
+ghost use Rattle.plan_schema.specs.Schema.{no_schema};
+ghost use Rattle.plan_store.specs.Contents.{content_of};
+ghost use Rattle.plan_facts.specs.Content.{IsContentOf};
+ghost use Rattle.plan_reading.specs.Reading.{HasPlan, Looks};
+ghost use Rattle.plan_reading.specs.Tables.{TellPlans};
+ghost use Rattle.plan_opening.specs.Opened.{IsOpened, MakesFirst};
+ghost use Rattle.plan_opening.specs.Stored.{TellStored};
+
+use crate::faults::{OpenFault, fault_for};
+use crate::making::make_first;
+use crate::schemas::{has_plan, is_blank};
+use crate::whole::{DefinitionPart, PlanPart, RowidPart, content_of_tables};
+use definition_rows::StoredRows;
+use plan_reading::{Part, PlanLists};
+use plan_schema::{Table, select};
+use plan_soundness::is_sound;
+use plan_store::Content;
+use sqlite::Row as Cells;
+use sqlite::types::ValueRef;
+use sqlite::{Alter, Connection, Error};
+use std::alloc::Global;
+
+// The content, if it is sound.
+fn if_sound(alloc: Global, content: Content) -> Result<Content, OpenFault>
+    ensures sound { IfOk result (λ same. IsSound (content_of same)) }
+    ensures same { IfOk result (λ same. content_of same ≡ content_of content) }
+{
+    match is_sound(alloc, &content) {
+        Ok(true) => Ok(content),
+        Ok(false) => Err(OpenFault::Rows),
+        Err(_) => Err(OpenFault::Memory),
+    }
+}
+
+// The sound content that has these lists and rows.
+fn sound_content(
+    alloc: Global,
+    lists: PlanLists,
+    stored: &StoredRows,
+) -> Result<Content, OpenFault>
+    ensures sound { IfOk result (λ content. IsSound (content_of content)) }
+    ensures content { IfOk result (λ content. (all : Tables) → TellPlans all lists → TellStored all stored.now
+        → IsContentOf all (content_of content)) }
+{
+    match content_of_tables(alloc, lists, stored) {
+        Ok(Some(content)) => if_sound(alloc, content),
+        Ok(None) => Err(OpenFault::Rows),
+        Err(_) => Err(OpenFault::Memory),
+    }
+}
+
+// Whether these are the one row of a known version.
+fn is_known(rows: &[Cells]) -> bool {
+    match rows {
+        [cells] => matches!(cells.get_ref(1), Ok(ValueRef::Int(1))),
+        _ => false,
+    }
+}
+
+// Whether the tables of the plan are of a known version.
+fn has_version<S: Alter>(conn: &mut Connection<S>) -> Result<bool, Error>
+    ensures looks { Looks (state S.Store conn.old) (state S.Store conn.new) (is_ok result) }
+    ensures mode { conn.old.in_transaction ≡ false → conn.new.in_transaction ≡ false }
+{
+    let rows = select(conn, Table::Meta)?;
+    Ok(is_known(&rows))
+}
+
+// The content of the tables.
+fn read_whole<S: Alter>(alloc: Global, conn: &mut Connection<S>) -> Result<Content, OpenFault>
+    requires { conn.old.in_transaction ≡ false }
+    ensures opened { HasCleanDisk (state S.Store conn.new) → HasPlan (state S.Store conn.old)
+        → IfOk result (λ content. IsOpened (state S.Store conn.new) (content_of content)) }
+    ensures sound { IfOk result (λ content. IsSound (content_of content)) }
+    ensures mode { conn.new.in_transaction ≡ false }
+    ensures survives { Survives (state S.Store conn.old) (state S.Store conn.new)
+        (λ _. HasPlan (state S.Store conn.old) → ⊥) }
+{
+    let settled = conn.is_autocommit();
+    prove!(settled);
+    match <(RowidPart, (PlanPart, DefinitionPart))>::read(alloc, conn) {
+        Ok(Some((_, (plans, definitions)))) => {
+            sound_content(alloc, plans.lists, &definitions.stored)
+        }
+        Ok(None) => Err(OpenFault::Rows),
+        Err(error) => Err(fault_for(&error, OpenFault::Tables)),
+    }
+}
+
+// Opens a database that has the tables of the plan.
+fn open_plan<S: Alter>(alloc: Global, conn: &mut Connection<S>) -> Result<Content, OpenFault>
+    requires plan { HasPlan (state S.Store conn.old) }
+    requires mode { conn.old.in_transaction ≡ false }
+    ensures opened { HasCleanDisk (state S.Store conn.new)
+        → IfOk result (λ content. IsOpened (state S.Store conn.new) (content_of content)) }
+    ensures sound { IfOk result (λ content. IsSound (content_of content)) }
+    ensures mode { conn.new.in_transaction ≡ false }
+    ensures survives { Survives (state S.Store conn.old) (state S.Store conn.new) (λ _. ⊥) }
+{
+    match has_version(conn) {
+        Ok(true) => read_whole(alloc, conn),
+        Ok(false) => Err(OpenFault::Unopened),
+        Err(error) => Err(fault_for(&error, OpenFault::Tables)),
+    }
+}
+
+// Opens a database without tables: it gets them.
+fn open_blank<S: Alter>(alloc: Global, conn: &mut Connection<S>) -> Result<Content, OpenFault>
+    requires blank { (state S.Store conn.old).now.schema ≡ no_schema }
+    requires mode { conn.old.in_transaction ≡ false }
+    ensures opened { HasCleanDisk (state S.Store conn.new)
+        → IfOk result (λ content. IsOpened (state S.Store conn.new) (content_of content)) }
+    ensures sound { IfOk result (λ content. IsSound (content_of content)) }
+    ensures mode { conn.new.in_transaction ≡ false }
+    ensures survives { Survives (state S.Store conn.old) (state S.Store conn.new) (MakesFirst (state S.Store conn.old)) }
+{
+    match make_first(conn) {
+        Ok(()) => if_sound(alloc, Content::new(alloc)),
+        Err(error) => Err(fault_for(&error, OpenFault::Unopened)),
+    }
+}
+
+// Why a database of other tables is not opened: where the version can be read and is known, for its tables.
+fn foreign_fault<S: Alter>(conn: &mut Connection<S>) -> OpenFault
+    requires { conn.old.in_transaction ≡ false }
+    ensures mode { conn.new.in_transaction ≡ false }
+    ensures survives { Survives (state S.Store conn.old) (state S.Store conn.new) (λ _. ⊥) }
+{
+    let mut tx = conn.transaction();
+    let found = tx.query_all("SELECT id, version FROM plan_meta", &[]);
+    tx.rollback();
+    match found {
+        Ok(rows) => if is_known(&rows) { OpenFault::Tables } else { OpenFault::Unopened },
+        Err(error) => fault_for(&error, OpenFault::Unopened),
+    }
+}
+
+/// Opens a database: it has the tables of the plan, of a known version, and they tell a sound content; or it is empty,
+/// and gets the tables of a content of which nothing is known. Where it is not opened, it stays as it was.
+pub fn open_content<S: Alter>(alloc: Global, conn: &mut Connection<S>) -> Result<Content, OpenFault>
+    requires { conn.old.in_transaction ≡ false }
+    ensures opened { HasCleanDisk (state S.Store conn.new)
+        → IfOk result (λ content. IsOpened (state S.Store conn.new) (content_of content)) }
+    ensures sound { IfOk result (λ content. IsSound (content_of content)) }
+    ensures mode { conn.new.in_transaction ≡ false }
+    ensures crash { Survives (state S.Store conn.old) (state S.Store conn.new) (MakesFirst (state S.Store conn.old)) }
+{
+    match has_plan(alloc, conn) {
+        Ok(true) => open_plan(alloc, conn),
+        Ok(false) => {
+            if is_blank(conn) {
+                open_blank(alloc, conn)
+            } else {
+                Err(foreign_fault(conn))
+            }
+        }
+        Err(_) => Err(OpenFault::Memory),
+    }
+}
