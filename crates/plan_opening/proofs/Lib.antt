@@ -2,3 +2,4 @@ pub mod RowidTexts
 pub mod RowidLemmas
 pub mod FirstRows
 pub mod StoredLemmas
+pub mod OpenedLemmas

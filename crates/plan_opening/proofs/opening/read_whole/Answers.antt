@@ -1,0 +1,19 @@
+use Rattle.std.proofs.Common.{◌∙◌, ap}
+use Rattle.std.specs.Prelude.{not}
+use Rattle.sqlite.specs.Held.{state}
+use Rattle.plan_schema.specs.Rows.{tables_of}
+use Rattle.plan_schema.proofs.ResultLemmas.{if_ok}
+use Rattle.plan_store.specs.Contents.{content_of}
+use Rattle.plan_reading.proofs.TableLemmas.{at_some}
+use Rattle.plan_opening.proofs.OpenedLemmas.{read_opened}
+use Rattle.plan_opening.proofs.opening.read_whole.Goals as goal
+
+pub returns-in-Ok-Some-clause-opened : goal.returns-in-Ok-Some-clause-opened
+returns-in-Ok-Some-clause-opened g c clean plan =
+    let old = state g.S.Store c.args.conn.now in
+    let new = state g.S.Store c.read.new.conn in
+    let all = tables_of old.now.trees in
+    let told = at_some c.in-Ok-Some.field-0 _ _ c.in-Ok-Some.field-0-is (c.in-Ok-Some.ensures.told clean plan) in
+    if_ok c.sound_content.result _ _ (λ content tells. read_opened old new (content_of content)
+    (c.is_autocommit-settled.ensures.settled (c.is_autocommit-settled.ensures.value ∙ ap not c.requires))
+    c.in-Ok-Some.ensures.looks clean plan told.0 (tells all told.1.0 told.1.1)) c.sound_content.ensures.content
