@@ -1,5 +1,6 @@
 -- What the first row makes of the tables, and that it can be stored.
-use Rattle.std.proofs.Common.{◌≡◌, ◌↔◌, ℕ, ℤ, Bool, true, false, cond, List, [], ◌∷◌, map, refl, sym, subst, None, Some, arith}
+use Rattle.std.proofs.Common.{◌≡◌, ◌↔◌, ℕ, ℤ, Bool, true, false, cond}
+use Rattle.std.proofs.Common.{List, [], ◌∷◌, map, refl, sym, subst, None, arith}
 use Rattle.std.specs.Cmp.Lexicographic.{slice_cmp}
 use Rattle.std.specs.List.{Contains}
 use Rattle.std.specs.Ordering.{nat_cmp}
@@ -14,7 +15,7 @@ use Rattle.sqlite.specs.declared.types.Value.TheVariants.{Null, Int}
 use Rattle.app_definitions.specs.Options.{default_options}
 use Rattle.planner_machine.specs.Content.{nothing_known}
 use Rattle.plan_lists.proofs.KeyLemmas.{contains_first, nothing, one_is}
-use Rattle.plan_schema.specs.Rows.{AreOfKinds, no_rows, shown}
+use Rattle.plan_schema.specs.Rows.{AreOfKinds, shown}
 use Rattle.plan_schema.specs.declared.tables.Table.{Table}
 use Rattle.plan_schema.specs.declared.tables.Table.TheVariants as table
 use Rattle.plan_facts.specs.Content.{AreEach, IsApplicationRow, IsContentOf, IsFact, IsOfList, IsOfSet, IsOfSome}

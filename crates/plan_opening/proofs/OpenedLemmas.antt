@@ -1,12 +1,11 @@
 -- A database that was opened.
-use Rattle.std.proofs.Common.{◌≡◌, ◌∙◌, true, sym, ap, subst, refl, IsTrue}
+use Rattle.std.proofs.Common.{◌≡◌, ◌∙◌, true, sym, subst, refl, IsTrue}
 use Rattle.sqlite.specs.Effect.{Database}
 use Rattle.sqlite.specs.State.{HasCleanDisk, State, Survives}
 use Rattle.sqlite.proofs.StateLemmas.{survives_weaker}
 use Rattle.planner_machine.specs.Content.{Content, nothing_known}
 use Rattle.plan_schema.specs.Rows.{HaveRowids, Tables, tables_of}
 use Rattle.plan_schema.specs.Schema.{no_schema}
-use Rattle.plan_schema.specs.declared.tables.Table.{Table}
 use Rattle.plan_facts.specs.Content.{IsContentOf}
 use Rattle.plan_reading.specs.Reading.{HasPlan, Looks}
 use Rattle.plan_reading.proofs.LookLemmas.{plan_still}

@@ -1,5 +1,6 @@
 -- Rowids that were shown, and those of the rows.
-use Rattle.std.proofs.Common.{◌≡◌, ◌≢◌, ◌<◌, ◌∙◌, ℕ, Bool, true, false, List, [], ◌∷◌, length, map, get_or, refl, sym, ap, subst}
+use Rattle.std.proofs.Common.{◌≡◌, ◌≢◌, ◌<◌, ◌∙◌, ℕ, Bool, true, false}
+use Rattle.std.proofs.Common.{List, [], ◌∷◌, length, map, refl, sym, ap, subst}
 use Rattle.std.proofs.Common.{Ordering, Less, Equal, Greater, is_eq, eqb, arith, IsTrue, Result, Ok, Err, is_ok}
 use Rattle.std.specs.Prelude.{pos, IfOk}
 use Rattle.std.specs.List.{AllByRecursion, Contains, IsDistinct}
@@ -10,14 +11,15 @@ use Rattle.std.proofs.lemmas.Bool.{eqb-false, ne_eqb}
 use Rattle.std.proofs.lemmas.Bool.Decides.{nat_tests}
 use Rattle.std.proofs.lemmas.List.{get_or-map, length-map}
 use Rattle.std.proofs.lemmas.List.Sorted.{Contains-permutation, IsPermutation-map, IsPermutation-sym}
-use Rattle.std.proofs.lemmas.Map.Keys.{IsDistinct-from_apart, IsDistinct-head, IsDistinct-tail, IsDistinct-IsPermutation}
+use Rattle.std.proofs.lemmas.Map.Keys.{IsDistinct-from_apart, IsDistinct-head}
+use Rattle.std.proofs.lemmas.Map.Keys.{IsDistinct-tail, IsDistinct-IsPermutation}
 use Rattle.sqlite.specs.Order.{Row as Values, column}
 use Rattle.sqlite.specs.Program.{overlay}
 use Rattle.sqlite.specs.State.{Shown, State}
-use Rattle.sqlite.specs.Tree.{Trees, rowid}
+use Rattle.sqlite.specs.Tree.{Trees}
 use Rattle.sqlite.specs.View.{is_int}
 use Rattle.sqlite.specs.declared.types.Value.{Value}
-use Rattle.sqlite.specs.declared.types.Value.TheVariants.{Int, Null}
+use Rattle.sqlite.specs.declared.types.Value.TheVariants.{Null}
 use Rattle.sqlite.proofs.Callers.{reads_as}
 use Rattle.sqlite_keyed.proofs.ListLemmas.{all_of, filter_all}
 use Rattle.sqlite_value.specs.Order.{value_cmp}
@@ -134,7 +136,7 @@ pub rising_rowids : (rows shown : List Values) → IsPermutation (map rowid_show
 rising_rowids rows shown same rising =
     have_rowids rows
     (λ r there.
-        let there' = Contains-permutation (map rowid_shown rows) shown r same there in
-        subst HasNumber there'.2 (rising.numbers there'.0 r there'.1))
+    let there' = Contains-permutation (map rowid_shown rows) shown r same there in
+    subst HasNumber there'.2 (rising.numbers there'.0 r there'.1))
     (IsDistinct-IsPermutation eqb flips _ _ (IsPermutation-map number_first _ _ (IsPermutation-sym _ _ same))
     (rising_apart shown rising))

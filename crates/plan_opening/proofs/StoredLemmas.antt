@@ -1,5 +1,5 @@
 -- What tables show, and the definitions that have these rows.
-use Rattle.std.proofs.Common.{◌≡◌, ◌↔◌, List, map}
+use Rattle.std.proofs.Common.{◌↔◌, List, map}
 use Rattle.std.specs.List.{Contains}
 use Rattle.std.specs.List.Sorted.{IsPermutation}
 use Rattle.std.proofs.lemmas.List.Sorted.{Contains-permutation, IsPermutation-sym}

@@ -23,9 +23,8 @@ use plan_reading::{Part, PlanLists};
 use plan_schema::{Table, select};
 use plan_soundness::is_sound;
 use plan_store::Content;
-use sqlite::Row as Cells;
 use sqlite::types::ValueRef;
-use sqlite::{Alter, Connection, Error};
+use sqlite::{Alter, Connection, Error, Row as Cells};
 use std::alloc::Global;
 
 // The content, if it is sound.
@@ -41,11 +40,7 @@ fn if_sound(alloc: Global, content: Content) -> Result<Content, OpenFault>
 }
 
 // The sound content that has these lists and rows.
-fn sound_content(
-    alloc: Global,
-    lists: PlanLists,
-    stored: &StoredRows,
-) -> Result<Content, OpenFault>
+fn sound_content(alloc: Global, lists: PlanLists, stored: &StoredRows) -> Result<Content, OpenFault>
     ensures sound { IfOk result (λ content. IsSound (content_of content)) }
     ensures content { IfOk result (λ content. (all : Tables) → TellPlans all lists → TellStored all stored.now
         → IsContentOf all (content_of content)) }
@@ -120,7 +115,8 @@ fn open_blank<S: Alter>(alloc: Global, conn: &mut Connection<S>) -> Result<Conte
         → IfOk result (λ content. IsOpened (state S.Store conn.new) (content_of content)) }
     ensures sound { IfOk result (λ content. IsSound (content_of content)) }
     ensures mode { conn.new.in_transaction ≡ false }
-    ensures survives { Survives (state S.Store conn.old) (state S.Store conn.new) (MakesFirst (state S.Store conn.old)) }
+    ensures survives { Survives (state S.Store conn.old) (state S.Store conn.new)
+        (MakesFirst (state S.Store conn.old)) }
 {
     match make_first(conn) {
         Ok(()) => if_sound(alloc, Content::new(alloc)),
@@ -138,7 +134,11 @@ fn foreign_fault<S: Alter>(conn: &mut Connection<S>) -> OpenFault
     let found = tx.query_all("SELECT id, version FROM plan_meta", &[]);
     tx.rollback();
     match found {
-        Ok(rows) => if is_known(&rows) { OpenFault::Tables } else { OpenFault::Unopened },
+        Ok(rows) => if is_known(&rows) {
+            OpenFault::Tables
+        } else {
+            OpenFault::Unopened
+        },
         Err(error) => fault_for(&error, OpenFault::Unopened),
     }
 }

@@ -15,9 +15,8 @@ use crate::rowid_texts::rowid_text;
 use crate::table_places::table_at;
 use plan_reading::Part;
 use plan_schema::Table;
-use sqlite::Row as Cells;
 use sqlite::types::ValueRef;
-use sqlite::{Alter, Connection, Error};
+use sqlite::{Alter, Connection, Error, Row as Cells};
 use std::alloc::Global;
 
 // The number in the first cell, if it holds one.

@@ -11,8 +11,7 @@ ghost use Rattle.plan_opening.specs.Places.{table_of};
 use crate::table_places::table_at;
 use plan_reading::Part;
 use plan_schema::select;
-use sqlite::Row as Cells;
-use sqlite::{Alter, Connection, Error};
+use sqlite::{Alter, Connection, Error, Row as Cells};
 use std::alloc::Global;
 
 /// The rows of the table at the place, as they are shown.
