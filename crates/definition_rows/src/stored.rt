@@ -99,7 +99,7 @@ fn cycles_of(
     read_cycles(alloc, &rows, &offset_rows)
 }
 
-/// The definitions that have these rows, with these options, or none where the rows are not such as definitions have.
+/// The definitions that have exactly these rows, with these options. Of rows in which it finds none it says nothing.
 pub fn definitions_of_rows(
     alloc: Global,
     stored: &StoredRows,
