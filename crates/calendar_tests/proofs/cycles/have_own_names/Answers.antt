@@ -1,7 +1,7 @@
 use Rattle.std.proofs.Common.{◌<◌, get_or, length, sym, ◌∙◌, arith}
 use Rattle.std.proofs.lemmas.List.{get_or_default}
-use Rattle.definition_tests.proofs.OwnNames.{own_at_more, own_below_more, own_all}
-use Rattle.definition_tests.proofs.cycles.have_own_names.Goals as goal
+use Rattle.calendar_tests.proofs.OwnNames.{own_at_more, own_below_more, own_all}
+use Rattle.calendar_tests.proofs.cycles.have_own_names.Goals as goal
 
 pub loop-j-preserved : goal.loop-j-preserved
 loop-j-preserved c =

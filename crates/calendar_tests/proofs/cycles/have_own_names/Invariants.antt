@@ -1,5 +1,5 @@
-use Rattle.definition_tests.proofs.OwnNames.{OwnBelow, OwnAt}
-use Rattle.definition_tests.proofs.cycles.have_own_names.Given as goal
+use Rattle.calendar_tests.proofs.OwnNames.{OwnBelow, OwnAt}
+use Rattle.calendar_tests.proofs.cycles.have_own_names.Given as goal
 
 abbrev pub invariant-loop-i : goal.invariant-loop-i
 invariant-loop-i l = OwnBelow l.cycles l.i

@@ -1,5 +1,5 @@
 use Rattle.std.proofs.Common.{◌≤◌, length}
-use Rattle.definition_tests.proofs.periods.walks_in_a_loop.Given as goal
+use Rattle.calendar_tests.proofs.periods.walks_in_a_loop.Given as goal
 
 abbrev pub invariant-loop-interval : goal.invariant-loop-interval
 invariant-loop-interval g l = l.firsts ≤ 60
