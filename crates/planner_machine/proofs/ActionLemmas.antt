@@ -31,7 +31,8 @@ action_alone key action row (Current status) = refl
 action_alone key action row History = refl
 action_alone key action row (Deleted reason) = refl
 
-pub action_is_move : (key : Key) (action : Action) → IsMove (action_move key action) (going (place_after_action key action))
+pub action_is_move : (key : Key) (action : Action)
+    → IsMove (action_move key action) (going (place_after_action key action))
 action_is_move key action =
     record { empty = refl; alone = λ p. action_alone key action p.row p.place; serial = λ p. refl; key = λ p. refl }
 

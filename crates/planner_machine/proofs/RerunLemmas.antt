@@ -86,7 +86,8 @@ module _ (number : ℕ) (text : List ℕ) (change : Change) where
           let own : c.jobs other ≡ None = subst (λ n. c.jobs n ≡ None) (eqb-true number other same) there in
           absurd cc
       past false same = refl
-  job_stays c a c' (Some known) there (is, how) other job kept_there = ap (λ (x : Content). x.jobs other) is ∙ kept_there
+  job_stays c a c' (Some known) there (is, how) other job kept_there =
+      ap (λ (x : Content). x.jobs other) is ∙ kept_there
 
 -- a statement whose answer is known: it is refused for its data alone, or its job is
 abbrev Knows : Statement → Answer → Content → Type 0

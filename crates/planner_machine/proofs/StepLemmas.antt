@@ -116,7 +116,8 @@ pub read_or_faulty : (kind : Kind) (given : Option (List ℕ)) (b : Block) (n : 
 read_or_faulty kind None b n h k = h
 read_or_faulty kind (Some text) b n h k = never_both kind text b n h k
 
-pub faulty_once : (kind : Kind) (given : Option (List ℕ)) (m n : ℕ) → IsFaulty kind given m → IsFaulty kind given n → m ≡ n
+pub faulty_once : (kind : Kind) (given : Option (List ℕ)) (m n : ℕ)
+    → IsFaulty kind given m → IsFaulty kind given n → m ≡ n
 faulty_once kind None m n h k = h ∙ sym k
 faulty_once kind (Some text) m n h k = one_fault kind text m n h k
 

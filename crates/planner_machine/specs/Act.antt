@@ -5,7 +5,8 @@ use Rattle.app_definitions.specs.declared.definitions.Definitions.{Definitions}
 use Rattle.occurrences.specs.Status.{changed_status}
 use Rattle.occurrences.specs.declared.key.Key.{Key}
 use Rattle.occurrences.specs.declared.refusal.Refusal.{Refusal}
-use Rattle.occurrences.specs.declared.refusal.Refusal.TheVariants.{NoPlan, NoSuchOccurrence, PredecessorUncompleted, StatusForbids}
+use Rattle.occurrences.specs.declared.refusal.Refusal.TheVariants.{NoPlan, NoSuchOccurrence, PredecessorUncompleted}
+use Rattle.occurrences.specs.declared.refusal.Refusal.TheVariants.{StatusForbids}
 use Rattle.occurrences.specs.declared.reply.Reply.{Reply}
 use Rattle.occurrences.specs.declared.reply.Reply.TheVariants.{Changed}
 use Rattle.occurrences.specs.declared.row.Row.{Row}

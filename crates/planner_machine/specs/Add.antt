@@ -6,7 +6,8 @@ use Rattle.occurrences.specs.declared.key.Key.{Key}
 use Rattle.occurrences.specs.declared.place.Place.{Place}
 use Rattle.occurrences.specs.declared.place.Place.TheVariants.{Current, LongTerm}
 use Rattle.occurrences.specs.declared.refusal.Refusal.{Refusal}
-use Rattle.occurrences.specs.declared.refusal.Refusal.TheVariants.{DatesOutOfRange, KeyIsLive, NoActiveApplication, NoPlan, TooManyRows}
+use Rattle.occurrences.specs.declared.refusal.Refusal.TheVariants.{DatesOutOfRange, KeyIsLive, NoActiveApplication}
+use Rattle.occurrences.specs.declared.refusal.Refusal.TheVariants.{NoPlan, TooManyRows}
 use Rattle.occurrences.specs.declared.reply.Reply.{Reply}
 use Rattle.occurrences.specs.declared.reply.Reply.TheVariants.{Numbered}
 use Rattle.occurrences.specs.declared.status.Status.TheVariants.{W}

@@ -4,7 +4,8 @@ use Rattle.work_calendars.specs.Day.{last_planning_day}
 use Rattle.app_definitions.specs.declared.definitions.Definitions.{Definitions}
 use Rattle.occurrences.specs.declared.place.Place.TheVariants.{LongTerm}
 use Rattle.occurrences.specs.declared.refusal.Refusal.{Refusal}
-use Rattle.occurrences.specs.declared.refusal.Refusal.TheVariants.{CalendarUndefined, DatesOutOfRange, Loop, PeriodUndefined, PlanExists, TooManyRows}
+use Rattle.occurrences.specs.declared.refusal.Refusal.TheVariants.{CalendarUndefined, DatesOutOfRange, Loop}
+use Rattle.occurrences.specs.declared.refusal.Refusal.TheVariants.{PeriodUndefined, PlanExists, TooManyRows}
 use Rattle.occurrences.specs.declared.reply.Reply.{Reply}
 use Rattle.occurrences.specs.declared.reply.Reply.TheVariants.{Made}
 use Rattle.planner_machine.specs.declared.content.Bounds.{Bounds}

@@ -5,7 +5,8 @@ use Rattle.run_cycles.specs.Occurrence.{ListsInOrder}
 use Rattle.run_cycles.specs.declared.named.Named.{Named}
 use Rattle.app_definitions.specs.declared.definitions.Definitions.{Definitions}
 use Rattle.occurrences.specs.declared.refusal.Refusal.{Refusal}
-use Rattle.occurrences.specs.declared.refusal.Refusal.TheVariants.{CalendarUndefined, DatesOutOfRange, NoActiveApplication, PeriodUndefined}
+use Rattle.occurrences.specs.declared.refusal.Refusal.TheVariants.{CalendarUndefined, DatesOutOfRange}
+use Rattle.occurrences.specs.declared.refusal.Refusal.TheVariants.{NoActiveApplication, PeriodUndefined}
 use Rattle.occurrences.specs.declared.reply.Reply.TheVariants.{Rows}
 use Rattle.planner_machine.specs.declared.limits.TheConstants.{LONGEST_WINDOW}
 use Rattle.planner_machine.specs.Content.{Content}

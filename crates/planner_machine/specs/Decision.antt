@@ -2,7 +2,8 @@
 use Rattle.std.specs.Prelude.{◌≡◌, ℕ, ◌≤◌, Result, Ok, Err, List}
 use Rattle.occurrences.specs.Refusal.{refusal_number}
 use Rattle.occurrences.specs.declared.refusal.Refusal.{Refusal}
-use Rattle.occurrences.specs.declared.refusal.Refusal.TheVariants.{FaultyData, CalendarUndefined, PeriodUndefined, Loop, PredecessorUncompleted}
+use Rattle.occurrences.specs.declared.refusal.Refusal.TheVariants.{FaultyData, CalendarUndefined, PeriodUndefined, Loop}
+use Rattle.occurrences.specs.declared.refusal.Refusal.TheVariants.{PredecessorUncompleted}
 use Rattle.occurrences.specs.declared.reply.Reply.{Reply}
 
 -- why a statement is refused, and what it answers and leaves, over a content or whatever else it changes

@@ -1,6 +1,7 @@
 -- What `ltp-modify-all` and `ltp-modify-one` make of the rows: what is named no more is withdrawn, what is still
 -- named takes what is named now, and what is newly named is made.
-use Rattle.std.specs.Prelude.{◌≡◌, ℕ, ◌+◌, Bool, false, true, ◌&&◌, List, length, Option, Some, None, option_map, is_none, find, if◌then◌else◌}
+use Rattle.std.specs.Prelude.{◌≡◌, ℕ, ◌+◌, Bool, false, true, ◌&&◌, List, length, Option, Some, None, option_map}
+use Rattle.std.specs.Prelude.{is_none, find, if◌then◌else◌}
 use Rattle.std.specs.Option.{option_and_then}
 use Rattle.app_definitions.specs.declared.definitions.Definitions.{Definitions}
 use Rattle.occurrences.specs.Key.{key_eq}

@@ -1,7 +1,8 @@
 -- `ltp-modify-all`: the long-term plan from the plan end on, as the definitions are now.
 use Rattle.std.specs.Prelude.{◌≡◌, ℕ, Bool, true, List, None}
 use Rattle.occurrences.specs.declared.refusal.Refusal.{Refusal}
-use Rattle.occurrences.specs.declared.refusal.Refusal.TheVariants.{CalendarUndefined, Loop, NoPlan, PeriodUndefined, TooManyRows}
+use Rattle.occurrences.specs.declared.refusal.Refusal.TheVariants.{CalendarUndefined, Loop, NoPlan, PeriodUndefined}
+use Rattle.occurrences.specs.declared.refusal.Refusal.TheVariants.{TooManyRows}
 use Rattle.planner_machine.specs.Content.{Content}
 use Rattle.planner_machine.specs.Decision.{Decision}
 use Rattle.planner_machine.specs.InForce.{PutsAll}

@@ -20,7 +20,8 @@ use Rattle.occurrences.specs.declared.place.Place.{Place}
 use Rattle.occurrences.specs.declared.place.Place.TheVariants.{LongTerm, Current, History, Deleted}
 use Rattle.occurrences.specs.declared.place.Reason.TheVariants.{Operator}
 use Rattle.occurrences.specs.declared.refusal.Refusal.{Refusal}
-use Rattle.occurrences.specs.declared.refusal.Refusal.TheVariants.{CalendarUndefined, PeriodUndefined, Loop, PredecessorUncompleted}
+use Rattle.occurrences.specs.declared.refusal.Refusal.TheVariants.{CalendarUndefined, PeriodUndefined, Loop}
+use Rattle.occurrences.specs.declared.refusal.Refusal.TheVariants.{PredecessorUncompleted}
 use Rattle.occurrences.specs.declared.reply.Reply.{Reply}
 use Rattle.occurrences.specs.declared.reply.Reply.TheVariants.{Changed, Defined, Made, Moved, Numbered, Rows, Undefined}
 use Rattle.occurrences.specs.declared.row.Origin.{Origin}
@@ -39,7 +40,8 @@ use Rattle.planner_machine.specs.Content.{Content, Sets, StandsAt, empty_seat, m
 use Rattle.planner_machine.specs.Fate.{IsGenerated}
 use Rattle.planner_machine.specs.Pairs.{ArePairs, IsClosedAt, IsClosedPair, IsCompleteAt}
 use Rattle.planner_machine.specs.Plans.{planned}
-use Rattle.app_definitions.specs.declared.columns.TheConstants.{APPLICATION_FIELDS, CALENDAR_FIELDS, PERIOD_FIELDS, PREDECESSOR_FIELDS, CYCLE_FIELDS}
+use Rattle.app_definitions.specs.declared.columns.TheConstants.{APPLICATION_FIELDS, CALENDAR_FIELDS, PERIOD_FIELDS}
+use Rattle.app_definitions.specs.declared.columns.TheConstants.{PREDECESSOR_FIELDS, CYCLE_FIELDS}
 
 -- 1. Ranges and forms
 

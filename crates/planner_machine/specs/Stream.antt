@@ -11,7 +11,8 @@ use Rattle.planner_machine.specs.Fate.{Fate, Stays}
 use Rattle.planner_machine.specs.Laws.{IsWellFormed}
 use Rattle.planner_machine.specs.Moves.{numbered_row}
 use Rattle.planner_machine.specs.Sound.{IsShown, IsSound}
-use Rattle.planner_machine.specs.Statement.{AreRead, Answer, Change, DefineJob, Job, MakesDrafts, Statement, Steps, fate_of, place_of_made}
+use Rattle.planner_machine.specs.Statement.{AreRead, Answer, Change, DefineJob, Job, MakesDrafts, Statement, Steps}
+use Rattle.planner_machine.specs.Statement.{fate_of, place_of_made}
 use Rattle.app_definitions.specs.Definitions.{names_given}
 use Rattle.app_definitions.specs.declared.kinds.Block.{Block}
 

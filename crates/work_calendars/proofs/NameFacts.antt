@@ -1,5 +1,6 @@
 -- Names are ASCII, and how one is put into an array.
-use Rattle.std.proofs.Common.{◌≡◌, ◌⊎◌, inl, inr, sym, ap, subst, ◌∙◌, ℕ, ◌-◌, ◌==◌, ◌<◌, ◌≤◌, List, [], ◌∷◌, ◌++◌, take, drop}
+use Rattle.std.proofs.Common.{◌≡◌, ◌⊎◌, inl, inr, sym, ap, subst, ◌∙◌, ℕ, ◌-◌, ◌==◌, ◌<◌, ◌≤◌, List, [], ◌∷◌, ◌++◌}
+use Rattle.std.proofs.Common.{take, drop}
 use Rattle.std.proofs.Common.{length, IsTrue, slice_index, arith, length-append, refl, zero, suc, cond, not, false, ◌+◌}
 use Rattle.std.specs.Str.{IsUtf8}
 use Rattle.std.specs.List.{All}

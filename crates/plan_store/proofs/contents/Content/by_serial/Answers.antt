@@ -22,5 +22,6 @@ returns c numbered =
     let e4 : map now c.push_occurrences-4.new.all.items ≡ all_rows kept numbered = c.in_ok-push_occurrences-4.ensures
     ∙ ap₂ (λ xs ys. xs ++ map of_deletion ys) e3 c.as_slice-deletions.ensures.value in
     let is = c.sort_unstable_by_key.ensures in
-    all_by_serial kept numbered now c.push_occurrences-4.new.all.items c.sort_unstable_by_key.new.self.items e4 is.permutation
+    all_by_serial kept numbered now c.push_occurrences-4.new.all.items c.sort_unstable_by_key.new.self.items e4
+    is.permutation
     (is.sorted (λ (b : Bor Row). b.now.serial) (answers_always _ _ _ (λ f a r q called. search rules)))
