@@ -56,6 +56,18 @@ fn select_rowids<S: Alter>(conn: &mut Connection<S>, table: Table) -> Result<Vec
     conn.query_all(rowid_text(table), &[])
 }
 
+// The number in the first cell; 0 if it holds none.
+fn number_or_zero(cells: &Cells) -> u64 {
+    first_number(cells).unwrap_or(0)
+}
+
+// Puts the rows in the order of their numbers: they may come in the order of an index.
+fn sort_rowids(rows: &mut Vec<Cells>)
+    ensures { IsPermutation rows.old.items rows.new.items }
+{
+    rows.sort_unstable_by_key(|cells| number_or_zero(cells));
+}
+
 /// Whether each row of the table has an integer as its rowid, and no two the same.
 pub(crate) fn has_rowids<S: Alter>(conn: &mut Connection<S>, table: Table) -> Result<bool, Error>
     ensures told { HasCleanDisk (state S.Store conn.new) → HasPlan (state S.Store conn.old) → IfOk result (λ b.
@@ -63,7 +75,8 @@ pub(crate) fn has_rowids<S: Alter>(conn: &mut Connection<S>, table: Table) -> Re
     ensures looks { Looks (state S.Store conn.old) (state S.Store conn.new) (is_ok result) }
     ensures mode { conn.old.in_transaction ≡ false → conn.new.in_transaction ≡ false }
 {
-    let rows = select_rowids(conn, table)?;
+    let mut rows = select_rowids(conn, table)?;
+    sort_rowids(&mut rows);
     Ok(are_rising(&rows))
 }
 
