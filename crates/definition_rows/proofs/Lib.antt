@@ -5,3 +5,5 @@ pub mod TellLemmas
 pub mod StoredLemmas
 pub mod GatherLemmas
 pub mod DraftLemmas
+pub mod PlaceLemmas
+pub mod PeriodLemmas

@@ -4,3 +4,5 @@ pub mod Storing
 pub mod Telling
 pub mod Gathering
 pub mod Drafted
+pub mod Placed
+pub mod DraftedPeriods

@@ -143,3 +143,18 @@ pub(crate) fn optional_day_at(row: &Row, at: usize) -> Option<Option<Day>>
         None => None,
     }
 }
+
+/// The number in the column, from 0 on, or none where it has NULL.
+pub(crate) fn optional_number_at(row: &Row, at: usize) -> Option<Option<u32>>
+    ensures value { IfSome result (λ n. column row.now at ≡ or_null (option_map natural n)) }
+    ensures found { (n : Option ℕ) → IfSome n (λ k. k < 2 ^ 32) → column row.now at ≡ or_null (option_map natural n)
+        → result ≡ Some n }
+{
+    if is_null_at(row, at) {
+        return Some(None);
+    }
+    match number_at(row, at) {
+        Some(n) => Some(Some(n)),
+        None => None,
+    }
+}

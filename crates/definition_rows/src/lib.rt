@@ -12,6 +12,7 @@ mod gathering;
 mod lending;
 mod offsets;
 mod periods;
+mod places;
 mod predecessors;
 mod reading;
 mod sorting;
@@ -26,6 +27,7 @@ pub use offsets::offset_rows;
 pub use periods::period_rows;
 pub use predecessors::predecessor_rows;
 pub use stored::{
-    StoredRows, applications_of_rows, calendars_of_rows, definitions_of_rows, predecessors_of_rows,
+    StoredRows, applications_of_rows, calendars_of_rows, definitions_of_rows, periods_of_rows,
+    predecessors_of_rows,
 };
 pub use telling::{are_told, block_is_told};

@@ -6,7 +6,9 @@ ghost use Rattle.app_definitions.specs.declared.applications.Application.{Applic
 ghost use Rattle.definition_rows.specs.Storing.{AreRowsOf, HaveRows};
 ghost use Rattle.plan_facts.specs.Content.{ByName as Defined, IsApplicationRow};
 ghost use Rattle.definition_rows.specs.Drafted.{ArePredecessorNames, IsSoundApplication, IsSoundCalendar};
+ghost use Rattle.definition_rows.specs.DraftedPeriods.{IsSoundPeriodOfDays};
 ghost use Rattle.definition_rows.specs.Gathering.{AreSound};
+ghost use Rattle.plan_periods.specs.declared.periods.Period.{Period as PeriodValue};
 ghost use Rattle.plan_facts.specs.Facts.{IsCalendarRow, IsCycleRow, IsOffsetRow, IsPeriodRow, IsPredecessorRow};
 
 use crate::applications::read_applications;
@@ -53,10 +55,16 @@ pub fn calendars_of_rows(
     read_calendars(alloc, &rows)
 }
 
-fn periods_of(alloc: Global, shown: &[Row]) -> Result<Option<ByName<DefinedPeriod>>, AllocError>
-    ensures { IfOk result (λ found. IfSome found (AreRowsOf IsPeriodRow shown.now)) }
+/// The periods that have exactly these rows, or none where no sound ones have.
+pub fn periods_of_rows(
+    alloc: Global,
+    shown: &[Row],
+) -> Result<Option<ByName<DefinedPeriod>>, AllocError>
+    ensures made { IfOk result (λ found. IfSome found (AreRowsOf IsPeriodRow shown.now)) }
+    ensures found { IfOk result (λ found. (all : Defined PeriodValue) → AreSound IsSoundPeriodOfDays all
+        → AreRowsOf IsPeriodRow shown.now all → IsSome found) }
 {
-    let rows = sorted_rows(alloc, shown)?;
+    let rows = copied_rows(alloc, shown)?;
     read_periods(alloc, &rows)
 }
 
@@ -110,7 +118,7 @@ pub fn definitions_of_rows(
     let Some(calendars) = calendars_of_rows(alloc, &stored.calendars)? else {
         return Ok(None);
     };
-    let Some(periods) = periods_of(alloc, &stored.periods)? else {
+    let Some(periods) = periods_of_rows(alloc, &stored.periods)? else {
         return Ok(None);
     };
     let Some(applications) = applications_of_rows(alloc, &stored.applications)? else {

@@ -9,7 +9,7 @@ returns-then-branch c = let stored = c.args.stored.now in record {
   calendars = got_rows IsCalendarRow c.deref.result.now stored.calendars.items c.in_ok-calendars.field-0
       c.in-Some.calendars c.deref.ensures.value c.in-Some.is c.in_ok-calendars.ensures.made;
   periods = got_rows IsPeriodRow c.deref-2.result.now stored.periods.items c.in_ok-periods.field-0
-      c.in-Some-2.periods c.deref-2.ensures.value c.in-Some-2.is c.in_ok-periods.ensures;
+      c.in-Some-2.periods c.deref-2.ensures.value c.in-Some-2.is c.in_ok-periods.ensures.made;
   applications = got_rows IsApplicationRow c.deref-3.result.now stored.applications.items
       c.in_ok-applications.field-0 c.in-Some-3.applications c.deref-3.ensures.value c.in-Some-3.is
       c.in_ok-applications.ensures.made;
