@@ -1,8 +1,10 @@
 //! Answers the job stream on standard input.
 #![tactic(auto)]
 
-use planner_cli::{exit_status, run_lists};
-use std::io::{self, BufReader, BufWriter, Write};
+use plan_opening::open_fault_number;
+use plan_tables::TableStore;
+use planner_cli::{exit_status, run, run_lists};
+use std::io::{self, BufRead, BufReader, BufWriter, Write};
 use std::process::ExitCode;
 use words::Asked;
 
@@ -11,29 +13,49 @@ mod words;
 /// The exit status after a fault, and after words that are wrong.
 const FAILED: u8 = 8;
 
-/// Runs the stream on standard input, and gives the exit status. A reply is handed to standard output with its last
-/// byte, and a listing some thousand bytes at a time.
-fn answer_input<R: AllocGlobal + Input + Print>(rt: &R) -> u8 {
+/// The fault of memory.
+const MEMORY: u8 = 40;
+
+/// Runs the stream on standard input, over the plans that the file keeps if one is named, and gives the exit status. A
+/// reply is handed to standard output with its last byte, and a listing some thousand bytes at a time.
+fn answer_input(rt: &HostRuntime, file: Option<&str>) -> u8 {
     let alloc = rt.alloc();
     let Ok(mut reader) = BufReader::new(alloc, rt.reader()) else {
-        return memory_refused(rt);
+        return tell(rt, MEMORY);
     };
     let Ok(mut writer) = BufWriter::new(alloc, io::writer(rt)) else {
-        return memory_refused(rt);
+        return tell(rt, MEMORY);
     };
-    exit_status(&run_lists(alloc, &mut reader, &mut writer))
+    match file {
+        None => exit_status(&run_lists(alloc, &mut reader, &mut writer)),
+        Some(path) => answer_over_file(rt, path, &mut reader, &mut writer),
+    }
 }
 
-/// Tells that memory was refused before the run, for which no memory is taken.
-fn memory_refused(rt: &impl Print) -> u8 {
-    let _ = io::writer(rt).write_all(b"fault 40\n");
+/// Runs the stream over the plans that the file keeps, and gives the exit status.
+fn answer_over_file<R: BufRead, W: Write>(
+    rt: &HostRuntime,
+    path: &str,
+    reader: &mut R,
+    writer: &mut W,
+) -> u8 {
+    let alloc = rt.alloc();
+    match TableStore::open_path(rt, alloc, path) {
+        Ok(mut store) => exit_status(&run(alloc, &mut store, reader, writer)),
+        Err(fault) => tell(rt, open_fault_number(&fault)),
+    }
+}
+
+/// Tells a fault before the run, for which no memory is taken, and gives the exit status.
+fn tell(rt: &impl Print, number: u8) -> u8 {
+    let _ = println!(rt; "fault {number}");
     FAILED
 }
 
 fn main(rt: HostRuntime) -> ExitCode {
     ExitCode::from(match words::read_words(&rt) {
-        Asked::Run => answer_input(&rt),
+        Asked::Run(file) => answer_input(&rt, file.as_deref()),
         Asked::Told(status) => status,
-        Asked::Memory => memory_refused(&rt),
+        Asked::Memory => tell(&rt, MEMORY),
     })
 }

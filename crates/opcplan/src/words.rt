@@ -2,27 +2,33 @@
 
 use crate::FAILED;
 use clap::error::ErrorKind;
-use clap::{Command, Error};
-use std::alloc::Global;
+use clap::{Arg, ArgAction, ArgMatches, Command, Error};
+use std::alloc::{AllocError, Global};
 use std::env::{self, Env};
 use std::io;
 
 /// What the words ask for.
-#[derive(Clone, Copy, Debug, PartialEq, Eq)]
+#[derive(Debug, Drop)]
 pub enum Asked {
-    /// To answer the stream.
-    Run,
+    /// To answer the stream, over this database file or, where none is named, over lists.
+    Run(Option<String>),
     /// Nothing more: help was printed, or what is wrong with the words. This is the exit status.
     Told(u8),
     /// Memory was refused before that was known.
     Memory,
 }
 
-/// The words that may be given: `--help` alone.
-fn command<'a>(alloc: Global) -> Command<'a> {
-    Command::new(alloc, "opcplan").about(
-        "Answers the job stream of statements and data blocks on standard input, a reply for each statement",
-    )
+/// The words that may be given: `--db FILE` and `--help`.
+fn command<'a>(alloc: Global) -> Result<Command<'a>, AllocError> {
+    Command::new(alloc, "opcplan")
+        .about("Answers the job stream of statements and data blocks on standard input, a reply for each statement")
+        .arg(
+            Arg::new(alloc, "db")
+                .long("db")
+                .value_name("FILE")
+                .help("Goes on with the plans that this database file keeps")
+                .action(ArgAction::Set),
+        )
 }
 
 /// Reads the words of the call. Help goes to standard output, what is wrong with them to standard
@@ -41,9 +47,23 @@ pub fn read_words<R: Env + AllocGlobal + Print + Eprint>(rt: &R) -> Asked {
 
 /// What the words ask for, the first of which is the program's name.
 fn what_is_asked<R: AllocGlobal + Print + Eprint>(rt: &R, words: &[String]) -> Asked {
-    match command(rt.alloc()).try_get_matches_from(words) {
-        Ok(_) => Asked::Run,
+    let Ok(command) = command(rt.alloc()) else {
+        return Asked::Memory;
+    };
+    match command.try_get_matches_from(words) {
+        Ok(matches) => file_named(rt.alloc(), &matches),
         Err(error) => told(rt, &error),
+    }
+}
+
+/// The file that the words name, if they name one.
+fn file_named(alloc: Global, matches: &ArgMatches<'_>) -> Asked {
+    let Some(path) = matches.get_str("db") else {
+        return Asked::Run(None);
+    };
+    match String::from_str(alloc, path) {
+        Ok(path) => Asked::Run(Some(path)),
+        Err(_) => Asked::Memory,
     }
 }
 

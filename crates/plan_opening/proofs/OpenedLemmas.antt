@@ -10,13 +10,13 @@ use Rattle.plan_facts.specs.Content.{IsContentOf}
 use Rattle.plan_reading.specs.Reading.{HasPlan, Looks}
 use Rattle.plan_reading.proofs.LookLemmas.{plan_still}
 use Rattle.plan_opening.specs.First.{first_rows}
-use Rattle.plan_opening.specs.Opened.{IsOpened, MakesFirst}
+use Rattle.plan_opening.specs.Opened.{IsStored, MakesFirst}
 use Rattle.plan_opening.specs.Stored.{AllHaveRowids}
 use Rattle.plan_opening.proofs.FirstRows.{first_content}
 
 pub read_opened : (old new : State) (c : Content) → (IsTrue old.is_open → old.now ≡ old.committed)
     → Looks old new true → HasCleanDisk new → HasPlan old → AllHaveRowids (tables_of old.now.trees)
-    → IsContentOf (tables_of old.now.trees) c → IsOpened new c
+    → IsContentOf (tables_of old.now.trees) c → IsStored new c
 read_opened old new c settled look clean plan rowids content =
     let same = look.same clean plan refl in
     let now = same.0.now_is in

@@ -1,10 +1,11 @@
--- The fault of a call that failed.
+-- The fault of a call that failed, and its number.
+use Rattle.std.specs.Prelude.{ℕ}
 use Rattle.sqlite.specs.declared.error.Error.{Error}
 use Rattle.sqlite.specs.declared.error.Error.TheVariants.{SqliteFailure}
 use Rattle.sqlite.specs.declared.error.ErrorCode.TheVariants.{OutOfMemory, SystemIoFailure, DatabaseCorrupt, DiskFull}
 use Rattle.sqlite.specs.declared.error.ErrorCode.TheVariants.{Closed}
 use Rattle.plan_opening.specs.declared.faults.OpenFault.{OpenFault}
-use Rattle.plan_opening.specs.declared.faults.OpenFault.TheVariants.{Memory, Device}
+use Rattle.plan_opening.specs.declared.faults.OpenFault.TheVariants.{Memory, Device, Unopened, Tables, Rows}
 
 -- want of memory, a failure of the device, or else this one
 abbrev pub fault_for : Error → OpenFault → OpenFault
@@ -14,3 +15,11 @@ fault_for (SqliteFailure DatabaseCorrupt) other = Device
 fault_for (SqliteFailure DiskFull) other = Device
 fault_for (SqliteFailure Closed) other = Device
 fault_for _ other = other
+
+-- the number that a program tells
+abbrev pub number_of : OpenFault → ℕ
+number_of Memory = 40
+number_of Device = 41
+number_of Unopened = 50
+number_of Tables = 51
+number_of Rows = 52

@@ -1,4 +1,4 @@
--- A database that was opened.
+-- A database that keeps a content.
 use Rattle.std.specs.Prelude.{◌≡◌, IsTrue}
 use Rattle.sqlite.specs.State.{State}
 use Rattle.sqlite.specs.Tree.{Trees}
@@ -8,7 +8,7 @@ use Rattle.plan_schema.specs.Schema.{no_schema}
 use Rattle.plan_facts.specs.Content.{IsContentOf}
 
 -- the database is open, all of it is committed, and its tables have the content
-pub record IsOpened (s : State) (c : Content) : Type 0 where
+pub record IsStored (s : State) (c : Content) : Type 0 where
   pub is_open : IsTrue s.is_open
   pub plan : IsPlan s
   pub settled : s.now ≡ s.committed

@@ -1,7 +1,7 @@
 // Why a database of a plan is not opened.
 
 ghost use Rattle.std.specs.Prelude.{◌≡◌};
-ghost use Rattle.plan_opening.specs.Faults.{fault_for};
+ghost use Rattle.plan_opening.specs.Faults.{fault_for, number_of};
 
 use sqlite::{Error, ErrorCode};
 use thiserror::Error as Fault;
@@ -39,5 +39,19 @@ pub(crate) fn fault_for(error: &Error, other: OpenFault) -> OpenFault
             | ErrorCode::Closed,
         ) => OpenFault::Device,
         _ => other,
+    }
+}
+
+/// The number of the fault that tells it: 40 for memory, 41 for the device, 50 for what is not opened, 51 for tables and
+/// 52 for rows.
+pub fn open_fault_number(fault: &OpenFault) -> u8
+    ensures { result ≡ number_of fault.now }
+{
+    match fault {
+        OpenFault::Memory => 40,
+        OpenFault::Device => 41,
+        OpenFault::Unopened => 50,
+        OpenFault::Tables => 51,
+        OpenFault::Rows => 52,
     }
 }

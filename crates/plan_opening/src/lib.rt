@@ -2,6 +2,7 @@
 #![tactic(auto)]
 
 mod faults;
+mod files;
 mod making;
 mod opening;
 mod rowid_texts;
@@ -11,5 +12,6 @@ mod stored;
 mod table_places;
 mod whole;
 
-pub use faults::OpenFault;
+pub use faults::{OpenFault, open_fault_number};
+pub use files::open_connection;
 pub use opening::open_content;

@@ -11,7 +11,7 @@ ghost use Rattle.plan_store.specs.Contents.{content_of};
 ghost use Rattle.plan_facts.specs.Content.{IsContentOf};
 ghost use Rattle.plan_reading.specs.Reading.{HasPlan, Looks};
 ghost use Rattle.plan_reading.specs.Tables.{TellPlans};
-ghost use Rattle.plan_opening.specs.Opened.{IsOpened, MakesFirst};
+ghost use Rattle.plan_opening.specs.Opened.{IsStored, MakesFirst};
 ghost use Rattle.plan_opening.specs.Stored.{TellStored};
 
 use crate::faults::{OpenFault, fault_for};
@@ -23,6 +23,7 @@ use plan_reading::{Part, PlanLists};
 use plan_schema::{Table, select};
 use plan_soundness::is_sound;
 use plan_store::Content;
+use planner_machine::empty_content_is_sound;
 use sqlite::types::ValueRef;
 use sqlite::{Alter, Connection, Error, Row as Cells};
 use std::alloc::Global;
@@ -73,7 +74,7 @@ fn has_version<S: Alter>(conn: &mut Connection<S>) -> Result<bool, Error>
 fn read_whole<S: Alter>(alloc: Global, conn: &mut Connection<S>) -> Result<Content, OpenFault>
     requires { conn.old.in_transaction ≡ false }
     ensures opened { HasCleanDisk (state S.Store conn.new) → HasPlan (state S.Store conn.old)
-        → IfOk result (λ content. IsOpened (state S.Store conn.new) (content_of content)) }
+        → IfOk result (λ content. IsStored (state S.Store conn.new) (content_of content)) }
     ensures sound { IfOk result (λ content. IsSound (content_of content)) }
     ensures mode { conn.new.in_transaction ≡ false }
     ensures survives { Survives (state S.Store conn.old) (state S.Store conn.new)
@@ -95,7 +96,7 @@ fn open_plan<S: Alter>(alloc: Global, conn: &mut Connection<S>) -> Result<Conten
     requires plan { HasPlan (state S.Store conn.old) }
     requires mode { conn.old.in_transaction ≡ false }
     ensures opened { HasCleanDisk (state S.Store conn.new)
-        → IfOk result (λ content. IsOpened (state S.Store conn.new) (content_of content)) }
+        → IfOk result (λ content. IsStored (state S.Store conn.new) (content_of content)) }
     ensures sound { IfOk result (λ content. IsSound (content_of content)) }
     ensures mode { conn.new.in_transaction ≡ false }
     ensures survives { Survives (state S.Store conn.old) (state S.Store conn.new) (λ _. ⊥) }
@@ -112,14 +113,17 @@ fn open_blank<S: Alter>(alloc: Global, conn: &mut Connection<S>) -> Result<Conte
     requires blank { (state S.Store conn.old).now.schema ≡ no_schema }
     requires mode { conn.old.in_transaction ≡ false }
     ensures opened { HasCleanDisk (state S.Store conn.new)
-        → IfOk result (λ content. IsOpened (state S.Store conn.new) (content_of content)) }
+        → IfOk result (λ content. IsStored (state S.Store conn.new) (content_of content)) }
     ensures sound { IfOk result (λ content. IsSound (content_of content)) }
     ensures mode { conn.new.in_transaction ≡ false }
     ensures survives { Survives (state S.Store conn.old) (state S.Store conn.new)
         (MakesFirst (state S.Store conn.old)) }
 {
     match make_first(conn) {
-        Ok(()) => if_sound(alloc, Content::new(alloc)),
+        Ok(()) => {
+            empty_content_is_sound();
+            Ok(Content::new(alloc))
+        }
         Err(error) => Err(fault_for(&error, OpenFault::Unopened)),
     }
 }
@@ -148,7 +152,7 @@ fn foreign_fault<S: Alter>(conn: &mut Connection<S>) -> OpenFault
 pub fn open_content<S: Alter>(alloc: Global, conn: &mut Connection<S>) -> Result<Content, OpenFault>
     requires { conn.old.in_transaction ≡ false }
     ensures opened { HasCleanDisk (state S.Store conn.new)
-        → IfOk result (λ content. IsOpened (state S.Store conn.new) (content_of content)) }
+        → IfOk result (λ content. IsStored (state S.Store conn.new) (content_of content)) }
     ensures sound { IfOk result (λ content. IsSound (content_of content)) }
     ensures mode { conn.new.in_transaction ≡ false }
     ensures crash { Survives (state S.Store conn.old) (state S.Store conn.new) (MakesFirst (state S.Store conn.old)) }

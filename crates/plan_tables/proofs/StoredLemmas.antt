@@ -17,7 +17,8 @@ use Rattle.plan_store.specs.declared.changes.Change.{Change}
 use Rattle.plan_store.specs.declared.changes.DefinitionChange.{DefinitionChange}
 use Rattle.plan_store.specs.declared.changes.DefinitionChange.TheVariants.{AsBefore}
 use Rattle.plan_facts.specs.Content.{HaveOneContent, IsContentOf}
-use Rattle.plan_tables.specs.Stored.{IsStored, MayLeave}
+use Rattle.plan_opening.specs.Opened.{IsStored}
+use Rattle.plan_tables.specs.Stored.{MayLeave}
 use Rattle.plan_tables.specs.Redefining.{AreMovesOf, definitions_moved, written}
 use Rattle.plan_tables.specs.Writing.{IsTellableChange}
 use Rattle.plan_tables.specs.declared.redefining.DefinitionMoves.{DefinitionMoves}

@@ -1,17 +1,9 @@
--- A database that keeps a content.
-use Rattle.std.specs.Prelude.{◌≡◌, IsTrue}
+-- What a crash leaves of a database that keeps a content.
 use Rattle.sqlite.specs.State.{State}
 use Rattle.sqlite.specs.Tree.{Trees}
 use Rattle.planner_machine.specs.Content.{Content}
-use Rattle.plan_schema.specs.Rows.{IsPlan, tables_of}
+use Rattle.plan_schema.specs.Rows.{tables_of}
 use Rattle.plan_facts.specs.Content.{IsContentOf}
-
--- the database is open, all of it is committed, and its tables have the content
-pub record IsStored (s : State) (c : Content) : Type 0 where
-  pub is_open : IsTrue s.is_open
-  pub plan : IsPlan s
-  pub settled : s.now ≡ s.committed
-  pub content : IsContentOf (tables_of s.now.trees) c
 
 -- a crash of the database may leave this content
 abbrev pub MayLeave : State → Content → Type 0

@@ -15,7 +15,7 @@ ghost use Rattle.plan_store.specs.declared.changes.Change.{Change as ChangeValue
 ghost use Rattle.plan_store.specs.declared.room.Room.{Room as RoomValue};
 ghost use Rattle.plan_store.specs.declared.stores.StoreFault.TheVariants.{Memory};
 ghost use Rattle.plan_facts.specs.Content.{answer_text, IsContentOf};
-ghost use Rattle.plan_tables.specs.Stored.{IsStored};
+ghost use Rattle.plan_opening.specs.Opened.{IsStored};
 ghost use Rattle.plan_tables.specs.Redefining.{AreMovesOf};
 ghost use Rattle.plan_tables.specs.Writing.{IsTellableChange};
 

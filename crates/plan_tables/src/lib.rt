@@ -9,6 +9,7 @@ mod keeping;
 mod lone_rows;
 mod loops;
 mod moves;
+mod opening;
 mod prepared;
 mod redefining;
 mod table_store;

@@ -15,8 +15,9 @@ ghost use Rattle.plan_store.specs.Contents.{content_of};
 ghost use Rattle.plan_store.specs.Faults.{MoreFailures};
 ghost use Rattle.plan_store.specs.declared.stores.StoreFault.TheVariants.{Device};
 ghost use Rattle.plan_facts.specs.Content.{answer_text, IsContentOf};
+ghost use Rattle.plan_opening.specs.Opened.{IsStored};
 ghost use Rattle.plan_tables.specs.Redefining.{AreMovesOf};
-ghost use Rattle.plan_tables.specs.Stored.{IsStored, MayLeave};
+ghost use Rattle.plan_tables.specs.Stored.{MayLeave};
 
 use crate::answers::change_is_tellable;
 use crate::keeping::{change_both, make_first};
@@ -59,6 +60,22 @@ impl<S: Alter + Drop> TableStore<S> {
     {
         let TableStore { conn, .. } = self;
         conn
+    }
+
+    // A store over a database that has the content of the lists.
+    pub(crate) fn over(conn: Connection<S>, lists: Content) -> TableStore<S>
+        requires mode { conn.in_transaction ≡ false }
+        requires opened { HasCleanDisk (state S.Store conn)
+            → IsStored (state S.Store conn) (content_of lists) }
+        ensures conn { result.conn ≡ conn }
+        ensures lists { result.lists ≡ lists }
+    {
+        TableStore {
+            conn,
+            lists,
+            failures: 0,
+            is_broken: false,
+        }
     }
 
     // Counts a failure, after which the store answers that its device failed.

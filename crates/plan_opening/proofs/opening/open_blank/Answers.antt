@@ -1,7 +1,6 @@
-use Rattle.std.proofs.Common.{◌∙◌, sym}
+use Rattle.std.proofs.Common.{sym}
 use Rattle.sqlite.specs.Held.{state}
 use Rattle.plan_schema.specs.Rows.{tables_of}
-use Rattle.plan_schema.proofs.ResultLemmas.{if_ok}
 use Rattle.plan_store.specs.Contents.{content_of}
 use Rattle.plan_opening.proofs.OpenedLemmas.{blank_content, makes_first}
 use Rattle.plan_opening.proofs.opening.open_blank.Goals as goal
@@ -9,13 +8,13 @@ use Rattle.plan_opening.proofs.opening.open_blank.Goals as goal
 pub returns-in-Ok-clause-opened : goal.returns-in-Ok-clause-opened
 returns-in-Ok-clause-opened g c clean =
     let made = c.in-Ok.ensures.done clean c.requires.blank in
-    if_ok c.if_sound.result _ _ (λ content same. record {
+    record {
       is_open = c.in-Ok.ensures.stays_open clean;
       plan = made.0;
       settled = sym (c.in-Ok.ensures.committed clean);
-      content = blank_content (tables_of (state g.S.Store c.make_first.new.conn).now.trees) (content_of content) made.1
-          (same ∙ c.new.ensures);
-    }) c.if_sound.ensures.same
+      content = blank_content (tables_of (state g.S.Store c.make_first.new.conn).now.trees) (content_of c.new.result)
+          made.1 c.new.ensures;
+    }
 
 pub returns-in-Ok-clause-survives : goal.returns-in-Ok-clause-survives
 returns-in-Ok-clause-survives g c =

@@ -4,7 +4,7 @@ use Rattle.std.proofs.lemmas.Grind.{merely}
 use Rattle.sqlite.specs.Held.{state}
 use Rattle.sqlite.specs.Steps.{over_memory}
 use Rattle.planner_machine.specs.Content.{Content}
-use Rattle.plan_tables.specs.Stored.{IsStored}
+use Rattle.plan_opening.specs.Opened.{IsStored}
 use Rattle.plan_tables.proofs.table_store.TableStore+MemStore.first.Goals as goal
 
 pub invariant_of-result : goal.invariant_of-result

@@ -1,0 +1,56 @@
+// Stores over databases that are opened.
+
+ghost use Rattle.std.specs.Prelude.{◌≡◌, false, IfErr, IfOk};
+ghost use Rattle.sqlite.specs.State.{HasCleanDisk, Survives};
+ghost use Rattle.sqlite.specs.Held.{state};
+ghost use Rattle.planner_machine.specs.Sound.{IsSound};
+ghost use Rattle.plan_store.specs.Contents.{content_of};
+ghost use Rattle.plan_opening.specs.Opened.{IsStored, MakesFirst};
+
+use crate::table_store::TableStore;
+use plan_opening::{OpenFault, open_connection, open_content};
+use sqlite::{Alter, Connection, File, FileStore};
+use std::alloc::Global;
+use std::rt::HostRuntime;
+
+impl<S: Alter + Drop> TableStore<S> {
+    /// A store over the database of a connection, which has the tables of the plan, of a known version, with rows that
+    /// tell a sound content; or is empty, and gets the tables of what a planner knows that was told nothing. Where it is
+    /// not opened, the database stays as it was, and the connection comes back.
+    pub fn adopt(
+        alloc: Global,
+        conn: Connection<S>,
+    ) -> Result<TableStore<S>, (OpenFault, Connection<S>)>
+        requires { conn.in_transaction ≡ false }
+        ensures sound { IfOk result (λ store. IsSound (content_of store.lists)) }
+        ensures opened { IfOk result (λ store. HasCleanDisk (state S.Store store.conn)
+            → IsStored (state S.Store store.conn) (content_of store.lists)) }
+        ensures crash { IfOk result (λ store. Survives (state S.Store conn) (state S.Store store.conn)
+            (MakesFirst (state S.Store conn))) }
+        ensures unopened { IfErr result (λ left. Survives (state S.Store conn) (state S.Store left.1)
+            (MakesFirst (state S.Store conn))) }
+        ensures mode { IfErr result (λ left. left.1.in_transaction ≡ false) }
+    {
+        let mut conn = conn;
+        match open_content(alloc, &mut conn) {
+            Ok(lists) => Ok(TableStore::over(conn, lists)),
+            Err(fault) => Err((fault, conn)),
+        }
+    }
+}
+
+impl TableStore<FileStore<File>> {
+    /// A store over the database in the file, which is made where there is none. The path is taken as it is.
+    pub fn open_path(
+        rt: &HostRuntime,
+        alloc: Global,
+        path: &str,
+    ) -> Result<TableStore<FileStore<File>>, OpenFault>
+        ensures { IfOk result (λ store. IsSound (content_of store.lists)) }
+    {
+        match TableStore::adopt(alloc, open_connection(rt, path)?) {
+            Ok(store) => Ok(store),
+            Err((fault, _conn)) => Err(fault),
+        }
+    }
+}
