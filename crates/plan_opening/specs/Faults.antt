@@ -16,6 +16,14 @@ fault_for (SqliteFailure DiskFull) other = Device
 fault_for (SqliteFailure Closed) other = Device
 fault_for _ other = other
 
+-- why a file was not opened: a file whose bytes are no database is not opened, and is no failure of the device
+abbrev pub unopened_for : Error → OpenFault
+unopened_for (SqliteFailure OutOfMemory) = Memory
+unopened_for (SqliteFailure SystemIoFailure) = Device
+unopened_for (SqliteFailure DiskFull) = Device
+unopened_for (SqliteFailure Closed) = Device
+unopened_for _ = Unopened
+
 -- the number that a program tells
 abbrev pub number_of : OpenFault → ℕ
 number_of Memory = 40
