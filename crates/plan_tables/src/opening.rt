@@ -2,6 +2,7 @@
 
 ghost use Rattle.std.specs.Prelude.{◌≡◌, false, IfErr, IfOk};
 ghost use Rattle.sqlite.specs.State.{HasCleanDisk, Survives};
+ghost use Rattle.sqlite.specs.Files.{file_state};
 ghost use Rattle.sqlite.specs.Held.{state};
 ghost use Rattle.planner_machine.specs.Sound.{IsSound};
 ghost use Rattle.plan_store.specs.Contents.{content_of};
@@ -23,6 +24,7 @@ impl<S: Alter + Drop> TableStore<S> {
     ) -> Result<TableStore<S>, (OpenFault, Connection<S>)>
         requires { conn.in_transaction ≡ false }
         ensures sound { IfOk result (λ store. IsSound (content_of store.lists)) }
+        ensures whole { IfOk result (λ store. store.failures ≡ 0) }
         ensures opened { IfOk result (λ store. HasCleanDisk (state S.Store store.conn)
             → IsStored (state S.Store store.conn) (content_of store.lists)) }
         ensures crash { IfOk result (λ store. Survives (state S.Store conn) (state S.Store store.conn)
@@ -46,7 +48,10 @@ impl TableStore<FileStore<File>> {
         alloc: Global,
         path: &str,
     ) -> Result<TableStore<FileStore<File>>, OpenFault>
-        ensures { IfOk result (λ store. IsSound (content_of store.lists)) }
+        ensures sound { IfOk result (λ store. IsSound (content_of store.lists)) }
+        ensures whole { IfOk result (λ store. store.failures ≡ 0) }
+        ensures opened { IfOk result (λ store. HasCleanDisk (file_state store.conn)
+            → IsStored (file_state store.conn) (content_of store.lists)) }
     {
         match TableStore::adopt(alloc, open_connection(rt, path)?) {
             Ok(store) => Ok(store),

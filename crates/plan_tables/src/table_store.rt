@@ -69,6 +69,7 @@ impl<S: Alter + Drop> TableStore<S> {
             → IsStored (state S.Store conn) (content_of lists) }
         ensures conn { result.conn ≡ conn }
         ensures lists { result.lists ≡ lists }
+        ensures whole { result.failures ≡ 0 }
     {
         TableStore {
             conn,
@@ -226,6 +227,7 @@ impl TableStore<MemStore> {
     pub fn open_memory(alloc: Global) -> Result<TableStore<MemStore>, StoreFault>
         ensures empty { IfOk result (λ store. content_of store.lists ≡ nothing_known) }
         ensures sound { IfOk result (λ store. IsSound (content_of store.lists)) }
+        ensures whole { IfOk result (λ store. store.failures ≡ 0) }
     {
         match Connection::open_in_memory(alloc) {
             Ok(conn) => TableStore::first(alloc, conn),
@@ -238,6 +240,7 @@ impl TableStore<MemStore> {
         requires empty { IsEmpty (state over_memory conn) }
         ensures empty { IfOk result (λ store. content_of store.lists ≡ nothing_known) }
         ensures sound { IfOk result (λ store. IsSound (content_of store.lists)) }
+        ensures whole { IfOk result (λ store. store.failures ≡ 0) }
     {
         empty_content_is_sound();
         let mut conn = conn;
