@@ -16,8 +16,8 @@ use std::rt::HostRuntime;
 
 impl<S: Alter + Drop> TableStore<S> {
     /// A store over the database of a connection, which has the tables of the plan, of a known version, with rows that
-    /// tell a sound content; or is empty, and gets the tables of what a planner knows that was told nothing. Where it is
-    /// not opened, the database stays as it was, and the connection comes back.
+    /// tell a sound content; or is empty, and gets the tables of what a planner knows that was told nothing. Where it
+    /// is not opened, the database stays as it was, and the connection comes back.
     pub fn adopt(
         alloc: Global,
         conn: Connection<S>,
