@@ -21,7 +21,9 @@ pub enum Asked {
 /// The words that may be given: `--db FILE` and `--help`.
 fn command<'a>(alloc: Global) -> Result<Command<'a>, AllocError> {
     Command::new(alloc, "opcplan")
-        .about("Answers the job stream of statements and data blocks on standard input, a reply for each statement")
+        .about(
+            "Answers the job stream of statements and data blocks on standard input, a reply for each statement",
+        )
         .arg(
             Arg::new(alloc, "db")
                 .long("db")
