@@ -1,6 +1,6 @@
 -- Edits of lists in the order of a key.
 use Rattle.std.proofs.Common.{◌≡◌, ◌≢◌, ◌↔◌, ℕ, ◌+◌, ◌-◌, ◌<◌, ◌≤◌, ◌⊎◌, Bool, not, List, [], ◌∷◌, ◌++◌, length, get_or}
-use Rattle.std.proofs.Common.{set, take, refl, sym, ap, subst, ◌∙◌, inl, inr, arith, Ordering}
+use Rattle.std.proofs.Common.{set, take, drop, refl, sym, ap, subst, ◌∙◌, inl, inr, arith, Ordering}
 use Rattle.std.specs.declared.cmp.Ordering.TheVariants.{Less, Greater}
 use Rattle.std.specs.List.{Contains, HoldsAt, insert, remove, swap, filter}
 use Rattle.std.specs.List.Sorted.{IsPartitionPoint, IsPermutation, IsSortedBy}
@@ -9,7 +9,10 @@ use Rattle.std.specs.FinMap.{IsAntisymmetric}
 use Rattle.std.specs.Ordering.{is_lt, ordering_reverse}
 use Rattle.std.proofs.lemmas.Bool.{cases_order, cases_lt, cases_eq, not-true, not_from_false}
 use Rattle.std.proofs.lemmas.List.{get_or-set_same, get_or-set_other, length-set, get_or_default, get_or-take}
-use Rattle.std.proofs.lemmas.List.{length-take-le}
+use Rattle.std.proofs.lemmas.List.{length-take-le, length-append, length-drop, append-nil, take-append-le}
+use Rattle.std.proofs.lemmas.List.{drop-append-le}
+use Rattle.std.proofs.Math.Seq.{take-append_seam, drop-append_seam, take-length, drop-length}
+use borrow.Rule.Slice.PartMut.{post_of}
 use Rattle.std.proofs.lemmas.List.Edits.{length-insert, get_or-insert_below, get_or-insert_at, get_or-insert_above}
 use Rattle.std.proofs.lemmas.List.Edits.{length-remove, get_or-remove_below, get_or-remove_above, Swapped}
 use Rattle.std.proofs.lemmas.List.Edits.{swapped_from_swap, length-swap}
@@ -342,3 +345,31 @@ module _ {X K : Type 0} {cmp : K → K → Ordering} (total : IsTotalOrder cmp) 
         let at_y : get_or xs k y ≡ y = sym (get_or-take i xs k y short) ∙ at in
         let at_i : get_or xs i y ≡ get_or xs i d = get_or_default xs i y d lt in
         apart k i y short lt (ap key at_y ∙ same ∙ ap key (sym at_i))
+
+-- put at the end, and turned to its place
+module _ {X : Type 0} where
+  pub put_last : (xs : List X) (x : X) → insert xs (length xs) x ≡ xs ++ x ∷ []
+  put_last xs x = rw (take-length xs, drop-length xs) refl
+
+  pub turned : (xs : List X) (i : ℕ) (x : X) (n k : ℕ) (part rest : List X) → i ≤ length xs → n ≡ length xs + 1
+      → k + i ≡ n → part ≡ drop (length (take k (drop i (xs ++ x ∷ []))) - 1) (take k (drop i (xs ++ x ∷ [])))
+      ++ take (length (take k (drop i (xs ++ x ∷ []))) - 1) (take k (drop i (xs ++ x ∷ [])))
+      → take n ((take i (xs ++ x ∷ []) ++ (part ++ post_of i k (xs ++ x ∷ []))) ++ rest) ≡ insert xs i x
+  turned xs i x n k part rest low n_is k_is part_is =
+      let all = xs ++ x ∷ [] in
+      let ys = drop i xs in
+      let back : drop i all ≡ ys ++ x ∷ [] = drop-append-le i xs (x ∷ []) low in
+      let k_long : length (ys ++ x ∷ []) ≡ k = omega (arith, length-append ys (x ∷ []), length-drop i xs) in
+      let short : length (ys ++ x ∷ []) - 1 ≡ length ys = omega (arith, length-append ys (x ∷ [])) in
+      let taken : take k (ys ++ x ∷ []) ≡ ys ++ x ∷ [] = subst (λ m. take m (ys ++ x ∷ []) ≡ ys ++ x ∷ []) k_long
+      (take-length (ys ++ x ∷ [])) in
+      let first : part ≡ x ∷ ys = (rw (back, taken, short, drop-append_seam ys (x ∷ []), take-append_seam ys (x ∷ []))
+      at part_is) in
+      let none : drop k (ys ++ x ∷ []) ≡ [] = subst (λ m. drop m (ys ++ x ∷ []) ≡ []) k_long
+      (drop-length (ys ++ x ∷ [])) in
+      let after : post_of i k all ≡ [] = ap (drop k) back ∙ none in
+      let long : length (insert xs i x) ≡ n = omega (arith, length-insert xs i x low) in
+      let whole : take i all ++ (part ++ post_of i k all) ≡ insert xs i x =
+      rw (take-append-le i xs (x ∷ []) low, first, after, append-nil (x ∷ ys)) refl in
+      subst (λ w. take n (w ++ rest) ≡ insert xs i x) (sym whole)
+      (subst (λ m. take m (insert xs i x ++ rest) ≡ insert xs i x) long (take-append_seam (insert xs i x) rest))

@@ -1,4 +1,5 @@
 ghost use Rattle.std.specs.Prelude.{◌≡◌, ◌≢◌, ℕ, ◌+◌, ◌<◌, ◌≤◌, length, Contains, vec_len, vec_capacity, ◌↔◌, ◌⊎◌};
+ghost use Rattle.std.specs.List.{insert};
 ghost use Rattle.plan_lists.specs.Keyed.{IsKeyed, AreApart, HasKey, LacksKey};
 
 use crate::keyed::Keyed;
@@ -88,6 +89,20 @@ pub fn remove_all<T: Keyed>(list: &mut Vec<T>, items: &[T])
     }
 }
 
+// Puts an item in at a place: at the end, and from there to the place by a turn, which moves all items between at once.
+// `Vec::insert` alone may move them one by one.
+fn insert_at<T: Copy>(list: &mut Vec<T>, at: usize, item: T)
+    requires place { at ≤ vec_len list.old }
+    requires room { vec_len list.old < vec_capacity list.old }
+    ensures items { list.new.items ≡ insert list.old.items at item }
+    ensures length { vec_len list.new ≡ vec_len list.old + 1 }
+    ensures capacity { vec_capacity list.new ≡ vec_capacity list.old }
+{
+    let end = list.len();
+    let _ = list.insert(end, item);
+    list[at..].rotate_right(1);
+}
+
 // Puts an item in where it belongs.
 fn insert_one<T: Keyed>(list: &mut Vec<T>, item: T)
     requires keyed { IsKeyed T.Key.cmp T.key_of list.old.items }
@@ -101,7 +116,7 @@ fn insert_one<T: Keyed>(list: &mut Vec<T>, item: T)
     match find(list.as_slice(), &item.key()) {
         Ok(_at) => {}
         Err(at) => {
-            let _ = list.insert(at, item);
+            insert_at(list, at, item);
         }
     }
 }

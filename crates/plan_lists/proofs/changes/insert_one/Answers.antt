@@ -1,7 +1,3 @@
-use Rattle.std.proofs.Common.{◌≡◌, ◌∙◌, rules, true}
-use Rattle.std.specs.List.{insert}
-use Rattle.std.specs.Result.{is_ok}
-use Rattle.std.proofs.lemmas.Bool.{cond-true}
 use Rattle.plan_lists.proofs.KeyLemmas.{has_at}
 use Rattle.plan_lists.proofs.EditLemmas.{insert_keyed, insert_contains}
 use Rattle.plan_lists.proofs.changes.insert_one.Goals as goal
@@ -19,18 +15,13 @@ returns-in-Err-clause-keyed g c =
     let key = g.T.Keyed.key_of in
     let xs = c.args.list.now.items in
     let free = (rw (c.as_slice.ensures.value, c.key.ensures) at c.in-Err.ensures.free) c.requires.keyed in
-    let done : is_ok c.insert.result ≡ true = search rules in
-    let inserted : c.insert.new.self.items ≡ insert xs c.in-Err.at c.args.item = c.insert.ensures.items
-    ∙ cond-true _ _ _ done in
-    rw inserted (insert_keyed g.met.T.Key.Ord.total g.met.T.Keyed.ties key xs c.requires.keyed c.args.item c.in-Err.at
-    free.0 free.1)
+    rw (c.insert_at.ensures.items) (insert_keyed g.met.T.Key.Ord.total g.met.T.Keyed.ties key xs c.requires.keyed
+    c.args.item c.in-Err.at free.0 free.1)
 
 pub returns-in-Err-clause-inserted : goal.returns-in-Err-clause-inserted
 returns-in-Err-clause-inserted g c =
     let key = g.T.Keyed.key_of in
     let xs = c.args.list.now.items in
     let free = (rw (c.as_slice.ensures.value, c.key.ensures) at c.in-Err.ensures.free) c.requires.keyed in
-    let done : is_ok c.insert.result ≡ true = search rules in
-    let inserted : c.insert.new.self.items ≡ insert xs c.in-Err.at c.args.item = c.insert.ensures.items
-    ∙ cond-true _ _ _ done in
-    rw inserted (insert_contains g.met.T.Key.Ord.total g.met.T.Keyed.ties key xs c.in-Err.at c.args.item)
+    rw (c.insert_at.ensures.items) (insert_contains g.met.T.Key.Ord.total g.met.T.Keyed.ties key xs c.in-Err.at
+    c.args.item)
