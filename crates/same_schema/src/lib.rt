@@ -3,5 +3,6 @@
 
 mod schemas;
 mod terms;
+mod values;
 
 pub use schemas::is_same_schema;

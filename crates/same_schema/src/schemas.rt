@@ -1,9 +1,10 @@
 // Tables, indexes and schemas.
 
-ghost use Rattle.std.specs.Prelude.{◌≡◌, IsTrue};
+ghost use Rattle.std.specs.Prelude.{◌≡◌, ◌↔◌, IsTrue};
+ghost use Rattle.same_schema.specs.Alike.{HaveSameChecks, HaveSameColumns, HaveSameKeys};
 
-use crate::terms::{Same, are_same};
-use sqlite_schema::schema::{Column, Index, Reference, Schema, Stamps, Table};
+use crate::values::{Same, are_same};
+use sqlite_schema::schema::{Column, Index, Reference, Schema, Stamps, Table, View};
 
 impl Same for Column {
     fn is_same(&self, other: &Column) -> bool {
@@ -40,10 +41,7 @@ impl Same for Stamps {
 
 // Whether the two have the same name, tree, columns and key.
 fn has_same_columns(a: &Table, b: &Table) -> bool
-    ensures name { IsTrue result → a.now.name ≡ b.now.name }
-    ensures tree { IsTrue result → a.now.tree ≡ b.now.tree }
-    ensures columns { IsTrue result → a.now.columns ≡ b.now.columns }
-    ensures key { IsTrue result → a.now.key ≡ b.now.key }
+    ensures { IsTrue result ↔ HaveSameColumns a.now b.now }
 {
     a.name.is_same(&b.name)
         && a.tree == b.tree
@@ -53,10 +51,7 @@ fn has_same_columns(a: &Table, b: &Table) -> bool
 
 // Whether the two have the same keys.
 fn has_same_keys(a: &Table, b: &Table) -> bool
-    ensures primary { IsTrue result → a.now.primary ≡ b.now.primary }
-    ensures uniques { IsTrue result → a.now.uniques ≡ b.now.uniques }
-    ensures orders { IsTrue result → a.now.orders ≡ b.now.orders }
-    ensures references { IsTrue result → a.now.references ≡ b.now.references }
+    ensures { IsTrue result ↔ HaveSameKeys a.now b.now }
 {
     a.primary.is_same(&b.primary)
         && are_same(a.uniques.as_slice(), b.uniques.as_slice())
@@ -66,10 +61,7 @@ fn has_same_keys(a: &Table, b: &Table) -> bool
 
 // Whether the two have the same checks and defaults.
 fn has_same_checks(a: &Table, b: &Table) -> bool
-    ensures checks { IsTrue result → a.now.checks ≡ b.now.checks }
-    ensures computed { IsTrue result → a.now.computed ≡ b.now.computed }
-    ensures stamps { IsTrue result → a.now.stamps ≡ b.now.stamps }
-    ensures counted { IsTrue result → a.now.is_counted ≡ b.now.is_counted }
+    ensures { IsTrue result ↔ HaveSameChecks a.now b.now }
 {
     a.checks.is_same(&b.checks)
         && a.computed.is_same(&b.computed)
@@ -94,12 +86,22 @@ impl Same for Index {
     }
 }
 
-/// Whether two schemas are the same. A yes is sure. Those with a view, or with a float, are not told to be the same.
+impl Same for View {
+    fn is_same(&self, other: &View) -> bool {
+        self.name.is_same(&other.name)
+            && self.tree == other.tree
+            && self.sql.is_same(&other.sql)
+            && self.foreign.is_same(&other.foreign)
+            && self.binds == other.binds
+            && self.is_bound == other.is_bound
+    }
+}
+
+/// Whether two schemas are the same.
 pub fn is_same_schema(a: &Schema, b: &Schema) -> bool
-    ensures { IsTrue result → a.now ≡ b.now }
+    ensures { IsTrue result ↔ (a.now ≡ b.now) }
 {
     are_same(a.tables.as_slice(), b.tables.as_slice())
         && are_same(a.indexes.as_slice(), b.indexes.as_slice())
-        && a.views.is_empty()
-        && b.views.is_empty()
+        && are_same(a.views.as_slice(), b.views.as_slice())
 }

@@ -1,80 +1,120 @@
-// Values and terms, and lists of what can be compared.
+// Terms: the trees that nodes stand for.
 
-ghost use Rattle.std.specs.Prelude.{◌≡◌, IsTrue};
+ghost use Rattle.std.specs.Prelude.{◌≡◌, ◌<◌, ◌-◌, ◌↔◌, None, IfSome, IsTrue};
+ghost use Rattle.sqlite_schema.specs.Code.{op_term, term_to, terms_in};
+ghost use Rattle.sqlite_sql.specs.Term.{lit};
+ghost use Rattle.sqlite_value.specs.declared.value.Value.TheVariants.{Null};
 
-use sqlite_items::Items;
+use crate::values::Same;
 use sqlite_schema::code::{Op, Terms};
-use sqlite_value::keys::Order;
-use sqlite_value::value::{Bytes, Value};
+use sqlite_value::value::Value;
 
-/// What can be compared. Where it answers no, nothing is said.
-pub(crate) trait Same {
-    /// Whether this is the same as the other.
-    fn is_same(&self, other: &Self) -> bool
-        ensures { IsTrue result → self.now ≡ other.now };
+// The node at the place, where that many more are read; none where it stands for NULL.
+#[tactic(auto, using(crate::proofs::TermLemmas::term_at))]
+fn node_at(nodes: &[Op], depth: usize, place: usize) -> Option<&Op>
+    ensures none { result ≡ None → term_to nodes.now depth place ≡ lit Null }
+    ensures some { IfSome result (λ op. (0 < depth)
+        × (term_to nodes.now depth place ≡ op_term (term_to nodes.now (depth - 1)) op.now)) }
+{
+    if depth == 0 { None } else { nodes.get(place) }
 }
 
-/// Whether these are the same as the others, one by one.
-pub(crate) fn are_same<T: Same>(xs: &[T], ys: &[T]) -> bool
-    ensures { IsTrue result → xs.now ≡ ys.now }
+// Whether the node stands for NULL.
+fn is_null(op: &Op) -> bool
+    ensures { (below : _) → IsTrue result ↔ (op_term below op.now ≡ lit Null) }
 {
-    if xs.len() != ys.len() {
+    matches!(op, Op::Literal(Value::Null))
+}
+
+// Whether the terms at the places are the same, where so many nodes are read of each.
+#[cycle(terms)]
+fn is_same_term(
+    nodes: &[Op],
+    depth: usize,
+    place: usize,
+    others: &[Op],
+    other_depth: usize,
+    other_place: usize,
+) -> bool
+    ensures { IsTrue result ↔ (term_to nodes.now depth place ≡ term_to others.now other_depth other_place) }
+{
+    match (
+        node_at(nodes, depth, place),
+        node_at(others, other_depth, other_place),
+    ) {
+        (None, None) => true,
+        (Some(op), None) | (None, Some(op)) => is_null(op),
+        (Some(node), Some(other)) => {
+            is_same_node(nodes, depth, node, others, other_depth, other)
+        }
+    }
+}
+
+// Whether the two nodes stand for the same term.
+#[cycle(terms)]
+fn is_same_node(
+    nodes: &[Op],
+    depth: usize,
+    node: &Op,
+    others: &[Op],
+    other_depth: usize,
+    other: &Op,
+) -> bool
+    requires { (0 < depth) × (0 < other_depth) }
+    ensures { IsTrue result ↔ (op_term (term_to nodes.now (depth - 1)) node.now
+        ≡ op_term (term_to others.now (other_depth - 1)) other.now) }
+{
+    let (below, other_below) = (depth - 1, other_depth - 1);
+    match (node, other) {
+        (Op::Literal(v), Op::Literal(w)) => v.is_same(w),
+        (Op::Column(s, i), Op::Column(t, j)) => *s == *t && *i == *j,
+        (Op::Unary(f, a), Op::Unary(g, b)) => {
+            *f == *g && is_same_term(nodes, below, *a, others, other_below, *b)
+        }
+        (Op::Binary(f, a, c), Op::Binary(g, b, d)) => {
+            *f == *g
+                && is_same_term(nodes, below, *a, others, other_below, *b)
+                && is_same_term(nodes, below, *c, others, other_below, *d)
+        }
+        (Op::Case(a, c, e), Op::Case(b, d, f)) => {
+            is_same_term(nodes, below, *a, others, other_below, *b)
+                && is_same_term(nodes, below, *c, others, other_below, *d)
+                && is_same_term(nodes, below, *e, others, other_below, *f)
+        }
+        _ => false,
+    }
+}
+
+// Whether the terms at these places are the same, one by one.
+#[tactic(auto, using(crate::proofs::TermLemmas::same_at))]
+fn are_same_terms(nodes: &[Op], places: &[usize], others: &[Op], other_places: &[usize]) -> bool
+    ensures { IsTrue result ↔ (terms_in nodes.now places.now ≡ terms_in others.now other_places.now) }
+{
+    if places.len() != other_places.len() {
         return false;
     }
-    for (i, x) in xs.iter().enumerate() {
-        if !x.is_same(&ys[i]) {
+    for (i, place) in places.iter().enumerate() {
+        if !is_same_term(
+            nodes,
+            nodes.len(),
+            *place,
+            others,
+            others.len(),
+            other_places[i],
+        ) {
             return false;
         }
     }
     true
 }
 
-impl Same for Bytes {
-    fn is_same(&self, other: &Bytes) -> bool {
-        self.as_slice() == other.as_slice()
-    }
-}
-
-impl Same for Items<usize> {
-    fn is_same(&self, other: &Items<usize>) -> bool {
-        self.as_slice() == other.as_slice()
-    }
-}
-
-impl Same for Order {
-    fn is_same(&self, other: &Order) -> bool {
-        *self == *other
-    }
-}
-
-impl Same for Value {
-    // No float is the same as another.
-    fn is_same(&self, other: &Value) -> bool {
-        match (self, other) {
-            (Value::Null, Value::Null) => true,
-            (Value::Int(m), Value::Int(n)) => *m == *n,
-            (Value::Text(s), Value::Text(t)) => s.is_same(t),
-            (Value::Blob(s), Value::Blob(t)) => s.is_same(t),
-            _ => false,
-        }
-    }
-}
-
-impl Same for Op {
-    fn is_same(&self, other: &Op) -> bool {
-        match (self, other) {
-            (Op::Literal(v), Op::Literal(w)) => v.is_same(w),
-            (Op::Column(s, i), Op::Column(t, j)) => *s == *t && *i == *j,
-            (Op::Unary(f, i), Op::Unary(g, j)) => *f == *g && *i == *j,
-            (Op::Binary(f, i, k), Op::Binary(g, j, l)) => *f == *g && *i == *j && *k == *l,
-            (Op::Case(i, k, m), Op::Case(j, l, n)) => *i == *j && *k == *l && *m == *n,
-            _ => false,
-        }
-    }
-}
-
 impl Same for Terms {
     fn is_same(&self, other: &Terms) -> bool {
-        are_same(self.nodes.as_slice(), other.nodes.as_slice()) && self.roots.is_same(&other.roots)
+        are_same_terms(
+            self.nodes.as_slice(),
+            self.roots.as_slice(),
+            other.nodes.as_slice(),
+            other.roots.as_slice(),
+        )
     }
 }
