@@ -1,6 +1,6 @@
 // Whether a database has the tables of the plan.
 
-ghost use Rattle.std.specs.Prelude.{◌≡◌, IfOk, IsTrue};
+ghost use Rattle.std.specs.Prelude.{◌≡◌, ◌↔◌, IfOk, IsTrue};
 ghost use Rattle.sqlite.specs.Held.{state};
 ghost use Rattle.plan_schema.specs.Schema.{no_schema};
 ghost use Rattle.plan_reading.specs.Reading.{HasPlan};
@@ -10,9 +10,9 @@ use same_schema::is_same_schema;
 use sqlite::{Alter, Connection, Error};
 use std::alloc::Global;
 
-/// Whether the database has the tables of the plan, as `make_tables` makes them, and no others. A yes is sure.
+/// Whether the database has the tables of the plan, as `make_tables` makes them, and no others.
 pub(crate) fn has_plan<S: Alter>(alloc: Global, conn: &Connection<S>) -> Result<bool, Error>
-    ensures { IfOk result (λ b. IsTrue b → HasPlan (state S.Store conn.now)) }
+    ensures { IfOk result (λ b. IsTrue b ↔ HasPlan (state S.Store conn.now)) }
 {
     let mut made = Connection::open_in_memory(alloc)?;
     make_tables(&mut made)?;
@@ -21,7 +21,7 @@ pub(crate) fn has_plan<S: Alter>(alloc: Global, conn: &Connection<S>) -> Result<
 
 /// Whether the database has no tables, and nothing else that can be seen.
 pub(crate) fn is_blank<S: Alter>(conn: &Connection<S>) -> bool
-    ensures { IsTrue result → (state S.Store conn.now).now.schema ≡ no_schema }
+    ensures { IsTrue result ↔ ((state S.Store conn.now).now.schema ≡ no_schema) }
 {
     let schema = conn.schema();
     schema.tables.is_empty() && schema.indexes.is_empty() && schema.views.is_empty()
