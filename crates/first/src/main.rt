@@ -1,5 +1,5 @@
-//! Answers the job stream on standard input, over plans in memory alone. It is what `./first` compiles: `opcplan` without
-//! its words and its database.
+//! Answers the job stream on standard input, over plans in memory alone. It is what `./first` compiles: `opcplan`
+//! without its words and its database.
 #![tactic(auto)]
 
 use planner_cli::{exit_status, run_lists};

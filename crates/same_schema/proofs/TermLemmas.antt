@@ -15,7 +15,9 @@ term_at ops (suc depth) place deep = simp unary_clauses refl
 -- lists that are mapped to one list are mapped to the same at each place
 pub same_at : {X : Type 0} (f g : ℕ → X) (xs ys : List ℕ) (i : ℕ) → i < length xs → i < length ys
     → map f xs ≡ map g ys → f (slice_index_or xs i 0) ≡ g (slice_index_or ys i 0)
-same_at f g xs ys i in_xs in_ys same = sym (get_or-map f xs i 0 (f 0) in_xs) ∙ ap (λ all. slice_index_or all i (f 0)) same ∙ get_or-map g ys i 0 (f 0) in_ys
+same_at f g xs ys i in_xs in_ys same = sym (get_or-map f xs i 0 (f 0) in_xs)
+    ∙ ap (λ all. slice_index_or all i (f 0)) same
+    ∙ get_or-map g ys i 0 (f 0) in_ys
 
 -- what two values say of one another, others say that are equal to these
 pub said_of : {X A : Type 0} {a b x y : A} → (X → a ≡ b) × (a ≡ b → X) → x ≡ a → y ≡ b → (X → x ≡ y) × (x ≡ y → X)
