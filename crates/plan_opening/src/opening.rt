@@ -115,6 +115,7 @@ fn open_blank<S: Alter>(alloc: Global, conn: &mut Connection<S>) -> Result<Conte
     ensures opened { HasCleanDisk (state S.Store conn.new)
         → IfOk result (λ content. IsStored (state S.Store conn.new) (content_of content)) }
     ensures sound { IfOk result (λ content. IsSound (content_of content)) }
+    ensures empty { IfOk result (λ content. content_of content ≡ nothing_known) }
     ensures mode { conn.new.in_transaction ≡ false }
     ensures survives { Survives (state S.Store conn.old) (state S.Store conn.new)
         (MakesFirst (state S.Store conn.old)) }
@@ -154,6 +155,8 @@ pub fn open_content<S: Alter>(alloc: Global, conn: &mut Connection<S>) -> Result
     ensures opened { HasCleanDisk (state S.Store conn.new)
         → IfOk result (λ content. IsStored (state S.Store conn.new) (content_of content)) }
     ensures sound { IfOk result (λ content. IsSound (content_of content)) }
+    ensures empty { (state S.Store conn.old).now.schema ≡ no_schema
+        → IfOk result (λ content. content_of content ≡ nothing_known) }
     ensures mode { conn.new.in_transaction ≡ false }
     ensures crash { Survives (state S.Store conn.old) (state S.Store conn.new) (MakesFirst (state S.Store conn.old)) }
 {

@@ -7,7 +7,6 @@ pub mod ChangeLemmas
 pub mod ContentAfter
 pub mod StoredLemmas
 pub mod SetLemmas
-pub mod FirstContent
 pub mod AloneLemmas
 pub mod NameTables
 pub mod NamedRows

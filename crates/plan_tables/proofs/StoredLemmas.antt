@@ -9,7 +9,7 @@ use Rattle.sqlite.specs.Held.{Held, state}
 use Rattle.sqlite.specs.Store.{Ghosts}
 use Rattle.sqlite.specs.State.{HasCleanDisk, IsUnchanged, State, Survives}
 use Rattle.planner_machine.specs.Content.{Content}
-use Rattle.plan_schema.specs.Rows.{HaveRowids, IsPlan, tables_of}
+use Rattle.plan_schema.specs.Rows.{HaveRowids, tables_of}
 use Rattle.plan_schema.specs.declared.tables.Table.{Table}
 use Rattle.plan_store.specs.Changes.{after, Fits, redefined}
 use Rattle.plan_store.specs.Room.{with_definitions, with_pairs_of}
@@ -25,12 +25,7 @@ use Rattle.plan_tables.specs.declared.redefining.DefinitionMoves.{DefinitionMove
 use Rattle.plan_tables.proofs.ContentAfter.{plans_after}
 use Rattle.plan_tables.proofs.DefinitionFacts.{redefined_content}
 use Rattle.plan_tables.proofs.SetLemmas.{content_set}
-use Rattle.plan_tables.proofs.FirstContent.{first_content}
-use Rattle.plan_tables.specs.Writing.{with_meta}
-use Rattle.plan_schema.specs.Rows.{no_rows, Tables}
-use Rattle.planner_machine.specs.Content.{nothing_known}
-use Rattle.app_definitions.specs.Options.{default_options}
-use Rattle.app_definitions.specs.declared.options.Options.{Options}
+use Rattle.plan_schema.specs.Rows.{Tables}
 use Rattle.std.proofs.Common.{None}
 
 pub stored_still : (old new : State) (c : Content) → IsStored old c → IsTrue new.is_open → new.now ≡ old.now
@@ -97,18 +92,6 @@ leaves_either old new d c one was goal clean survives (db, left, is) = elim (sur
   | inr made ↦ inr (∥∥₁_elim was (content_set c goal) (λ h. one (tables_of db) c goal is (made (h (omega
       (arith, survives.clean))))))
 ]
-
--- the first content of a database
-pub stored_first : (mid new : State) (options : Options) → options ≡ default_options → tables_of mid.now.trees ≡ no_rows
-    → IsPlan new × (tables_of new.now.trees ≡ with_meta None 0 options (tables_of mid.now.trees))
-    → new.committed ≡ new.now → IsTrue new.is_open → IsStored new nothing_known
-stored_first mid new options is none done committed opens = record {
-  is_open = opens;
-  plan = done.0;
-  settled = sym committed;
-  content = subst (λ (all : Tables). IsContentOf all nothing_known)
-      (sym (done.1 ∙ (λ i. with_meta None 0 (is i) (none i)))) first_content;
-}
 
 -- a crash of a clean disk leaves one content
 pub settled_so : {A E : Type 0} (r : Result A E) (IsClean : Type 0) (May : Content → Type 0) (d : Content)

@@ -3,10 +3,7 @@
 ghost use Rattle.std.specs.Prelude.{◌≡◌, ◌<◌, ◌^◌, false, [], OnOk, OnErr, IfOk, IfErr, IsTrue, IfSome, unwrap_or};
 ghost use Rattle.sqlite.specs.State.{HasCleanDisk, IsUnchanged, Survives};
 ghost use Rattle.sqlite.specs.Held.{state};
-ghost use Rattle.app_definitions.specs.Options.{default_options};
 ghost use Rattle.plan_schema.specs.Rows.{tables_of};
-ghost use Rattle.plan_schema.specs.Schema.{no_schema};
-ghost use Rattle.planner_machine.specs.Content.{nothing_known};
 ghost use Rattle.planner_machine.specs.declared.job.Job.{Job as JobValue};
 ghost use Rattle.plan_store.specs.Changes.{Fits, after, redefined};
 ghost use Rattle.plan_store.specs.Contents.{content_of};
@@ -19,11 +16,9 @@ ghost use Rattle.plan_opening.specs.Opened.{IsStored};
 ghost use Rattle.plan_tables.specs.Redefining.{AreMovesOf};
 ghost use Rattle.plan_tables.specs.Writing.{IsTellableChange};
 
-use crate::lone_rows::commit_first_meta;
 use crate::redefining::DefinitionMoves;
 use crate::writing::commit_change;
-use app_definitions::{Definitions, Options};
-use plan_schema::make_tables;
+use app_definitions::Definitions;
 use plan_store::{Change, Content, DefinitionChange, Room, StoreFault};
 use sqlite::{Alter, Connection, Error, ErrorCode};
 use std::alloc::{AllocError, Global};
@@ -66,27 +61,6 @@ fn fault_of<S: Alter>(conn: &mut Connection<S>, error: &Error) -> StoreFault
         StoreFault::Memory
     } else {
         StoreFault::Device
-    }
-}
-
-/// Makes the tables in an empty database, and tells in them that nothing is known.
-pub(crate) fn make_first<S: Alter>(
-    conn: &mut Connection<S>,
-    options: &Options,
-) -> Result<(), StoreFault>
-    requires mode { conn.old.in_transaction ≡ false }
-    requires options { options.now ≡ default_options }
-    ensures done { HasCleanDisk (state S.Store conn.new) → (state S.Store conn.old).now.schema ≡ no_schema
-        → OnOk result (IsStored (state S.Store conn.new) nothing_known) }
-    ensures ended { conn.new.in_transaction ≡ false }
-{
-    match make_tables(conn) {
-        Ok(()) => {}
-        Err(error) => return Err(fault_of(conn, &error)),
-    }
-    match commit_first_meta(conn, options) {
-        Ok(()) => Ok(()),
-        Err(error) => Err(fault_of(conn, &error)),
     }
 }
 

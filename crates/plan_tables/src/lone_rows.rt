@@ -1,7 +1,7 @@
 // A job, and how far the plans reach.
 
 ghost use Rattle.std.specs.Prelude.{◌<◌, ◌^◌, ◌∷◌, [], Some, None};
-ghost use Rattle.std.specs.Prelude.{◌≡◌, false, OnOk, IsTrue};
+ghost use Rattle.std.specs.Prelude.{◌≡◌, OnOk, IsTrue};
 ghost use Rattle.sqlite.specs.State.{HasCleanDisk, KeepsCommit, Survives};
 ghost use Rattle.sqlite.specs.Held.{state};
 ghost use Rattle.plan_schema.specs.Rows.{IsPlan, Stands, tables_of};
@@ -16,7 +16,7 @@ use app_definitions::Options;
 use plan_schema::{Table, delete, insert};
 use planner_machine::{Bounds, Job};
 use sqlite::types::ValueRef;
-use sqlite::{Alter, Connection, Error, Transaction};
+use sqlite::{Alter, Error, Transaction};
 
 /// Puts a job into its table. The line is that of its answer.
 #[tactic(auto, using(crate::proofs::KindLemmas::kinds))]
@@ -175,38 +175,4 @@ pub(crate) fn write_meta<S: Alter>(
 {
     take_meta(tx)?;
     put_meta(tx, bounds, issued, options)
-}
-
-/// Puts in that there is no plan, in a transaction of its own, where the tables are empty.
-pub(crate) fn commit_first_meta<S: Alter>(
-    conn: &mut Connection<S>,
-    options: &Options,
-) -> Result<(), Error>
-    requires mode { conn.old.in_transaction ≡ false }
-    ensures done { HasCleanDisk (state S.Store conn.new) → IsPlan (state S.Store conn.old)
-        → OnOk result (IsPlan (state S.Store conn.new) × (tables_of (state S.Store conn.new).now.trees
-        ≡ with_meta None 0 options.now (tables_of (state S.Store conn.old).now.trees))) }
-    ensures committed { HasCleanDisk (state S.Store conn.new)
-        → OnOk result ((state S.Store conn.new).committed ≡ (state S.Store conn.new).now) }
-    ensures ended { conn.new.in_transaction ≡ false }
-    ensures stays_open { HasCleanDisk (state S.Store conn.new) → OnOk result (IsTrue (state S.Store conn.new).is_open) }
-    ensures clean { HasCleanDisk (state S.Store conn.new) → HasCleanDisk (state S.Store conn.old) }
-{
-    let mut tx = conn.transaction();
-    put_first_meta(&mut tx, options)?;
-    tx.commit()?;
-    Ok(())
-}
-
-fn put_first_meta<S: Alter>(tx: &mut Transaction<'_, S>, options: &Options) -> Result<(), Error>
-    ensures same_reference { tx.new.conn.ghost_name ≡ tx.old.conn.ghost_name }
-    ensures ok { HasCleanDisk (state S.Store tx.new.conn.now) → IsPlan (state S.Store tx.old.conn.now)
-        → IsTrue (state S.Store tx.old.conn.now).in_transaction
-        → OnOk result (Stands (state S.Store tx.old.conn.now) (state S.Store tx.new.conn.now)
-        (with_meta None 0 options.now (tables_of (state S.Store tx.old.conn.now).now.trees))) }
-    ensures kept { HasCleanDisk (state S.Store tx.new.conn.now)
-        → KeepsCommit (state S.Store tx.old.conn.now) (state S.Store tx.new.conn.now) }
-    ensures survives { Survives (state S.Store tx.old.conn.now) (state S.Store tx.new.conn.now) (λ _. ⊥) }
-{
-    put_meta(tx, &None, 0, options)
 }

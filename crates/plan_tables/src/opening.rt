@@ -4,13 +4,15 @@ ghost use Rattle.std.specs.Prelude.{◌≡◌, false, IfErr, IfOk};
 ghost use Rattle.sqlite.specs.State.{HasCleanDisk, Survives};
 ghost use Rattle.sqlite.specs.Files.{file_state};
 ghost use Rattle.sqlite.specs.Held.{state};
+ghost use Rattle.planner_machine.specs.Content.{nothing_known};
 ghost use Rattle.planner_machine.specs.Sound.{IsSound};
+ghost use Rattle.plan_schema.specs.Schema.{no_schema};
 ghost use Rattle.plan_store.specs.Contents.{content_of};
 ghost use Rattle.plan_opening.specs.Opened.{IsStored, MakesFirst};
 
 use crate::table_store::TableStore;
 use plan_opening::{OpenFault, open_connection, open_content};
-use sqlite::{Alter, Connection, File, FileStore};
+use sqlite::{Alter, Connection, File, FileStore, MemStore};
 use std::alloc::Global;
 use std::rt::HostRuntime;
 
@@ -27,6 +29,8 @@ impl<S: Alter + Drop> TableStore<S> {
         ensures whole { IfOk result (λ store. store.failures ≡ 0) }
         ensures opened { IfOk result (λ store. HasCleanDisk (state S.Store store.conn)
             → IsStored (state S.Store store.conn) (content_of store.lists)) }
+        ensures empty { (state S.Store conn).now.schema ≡ no_schema
+            → IfOk result (λ store. content_of store.lists ≡ nothing_known) }
         ensures crash { IfOk result (λ store. Survives (state S.Store conn) (state S.Store store.conn)
             (MakesFirst (state S.Store conn))) }
         ensures unopened { IfErr result (λ left. Survives (state S.Store conn) (state S.Store left.1)
@@ -37,6 +41,23 @@ impl<S: Alter + Drop> TableStore<S> {
         match open_content(alloc, &mut conn) {
             Ok(lists) => Ok(TableStore::over(conn, lists)),
             Err(fault) => Err((fault, conn)),
+        }
+    }
+}
+
+impl TableStore<MemStore> {
+    /// A store in memory of what a planner knows that was told nothing.
+    pub fn open_memory(alloc: Global) -> Result<TableStore<MemStore>, OpenFault>
+        ensures empty { IfOk result (λ store. content_of store.lists ≡ nothing_known) }
+        ensures sound { IfOk result (λ store. IsSound (content_of store.lists)) }
+        ensures whole { IfOk result (λ store. store.failures ≡ 0) }
+    {
+        let Ok(conn) = Connection::open_in_memory(alloc) else {
+            return Err(OpenFault::Memory);
+        };
+        match TableStore::adopt(alloc, conn) {
+            Ok(store) => Ok(store),
+            Err((fault, _conn)) => Err(fault),
         }
     }
 }

@@ -2,9 +2,6 @@
 
 ghost use Rattle.std.specs.Prelude.{◌≡◌, ◌⊎◌, ◌<◌, ◌≤◌, false, ◌^◌, OnOk, OnErr, IfOk, IfErr, IfSome, IsTrue};
 ghost use Rattle.sqlite.specs.State.{HasCleanDisk};
-ghost use Rattle.sqlite.specs.Steps.{over_memory, IsEmpty};
-ghost use Rattle.planner_machine.specs.Content.{nothing_known};
-ghost use Rattle.planner_machine.specs.Sound.{IsSound};
 ghost use Rattle.sqlite.specs.Held.{state};
 ghost use Rattle.sqlite.specs.Tree.{Trees};
 ghost use Rattle.planner_machine.specs.Content.{Content as ContentValue};
@@ -20,14 +17,14 @@ ghost use Rattle.plan_tables.specs.Redefining.{AreMovesOf};
 ghost use Rattle.plan_tables.specs.Stored.{MayLeave};
 
 use crate::answers::change_is_tellable;
-use crate::keeping::{change_both, make_first};
+use crate::keeping::change_both;
 use crate::prepared::{Prepared, prepare};
-use app_definitions::{Definitions, Options};
+use app_definitions::Definitions;
 use external_dependencies::Links;
 use plan_facts::tables_have_one_content;
 use plan_store::{Change, Content, ListFault, Need, PlanStore, RowSink, StoreFault, View, What};
-use planner_machine::{Bounds, Job, empty_content_is_sound};
-use sqlite::{Alter, Connection, MemStore};
+use planner_machine::{Bounds, Job};
+use sqlite::{Alter, Connection};
 use std::alloc::Global;
 use work_calendars::App;
 
@@ -219,37 +216,5 @@ impl<S: Alter + Drop> PlanStore for TableStore<S> {
             Ok(None) => Err(self.fail()),
             Err(_) => Err(StoreFault::Memory),
         }
-    }
-}
-
-impl TableStore<MemStore> {
-    /// A store in memory of what a planner knows that was told nothing.
-    pub fn open_memory(alloc: Global) -> Result<TableStore<MemStore>, StoreFault>
-        ensures empty { IfOk result (λ store. content_of store.lists ≡ nothing_known) }
-        ensures sound { IfOk result (λ store. IsSound (content_of store.lists)) }
-        ensures whole { IfOk result (λ store. store.failures ≡ 0) }
-    {
-        match Connection::open_in_memory(alloc) {
-            Ok(conn) => TableStore::first(alloc, conn),
-            Err(_) => Err(StoreFault::Memory),
-        }
-    }
-
-    // A store over an empty database in memory.
-    fn first(alloc: Global, conn: Connection<MemStore>) -> Result<TableStore<MemStore>, StoreFault>
-        requires empty { IsEmpty (state over_memory conn) }
-        ensures empty { IfOk result (λ store. content_of store.lists ≡ nothing_known) }
-        ensures sound { IfOk result (λ store. IsSound (content_of store.lists)) }
-        ensures whole { IfOk result (λ store. store.failures ≡ 0) }
-    {
-        empty_content_is_sound();
-        let mut conn = conn;
-        make_first(&mut conn, &Options::new())?;
-        Ok(TableStore {
-            conn,
-            lists: Content::new(alloc),
-            failures: 0,
-            is_broken: false,
-        })
     }
 }
