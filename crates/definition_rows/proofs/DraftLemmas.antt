@@ -315,3 +315,20 @@ one_status c kind day s t (inl (a, at)) (inl (b, is)) = some_is s t (sym at ∙ 
 one_status c kind day s t (inr (a, at)) (inr (b, is)) = some_is s t (sym at ∙ is)
 one_status c kind day s t (inl (a, at)) (inr (b, is)) = absurd (omega (arith, a, b))
 one_status c kind day s t (inr (a, at)) (inl (b, is)) = absurd (omega (arith, a, b))
+
+-- ---- run cycles
+
+pub width_9 : (v : Values) → length v ≡ 9
+    → v ≡ column v 0 ∷ column v 1 ∷ column v 2 ∷ column v 3 ∷ column v 4 ∷ column v 5 ∷ column v 6 ∷ column v 7
+    ∷ column v 8 ∷ []
+width_9 [] long = absurd (omega (arith, long))
+width_9 (a ∷ []) long = absurd (omega (arith, long))
+width_9 (a ∷ b ∷ []) long = absurd (omega (arith, long))
+width_9 (a ∷ b ∷ c ∷ []) long = absurd (omega (arith, long))
+width_9 (a ∷ b ∷ c ∷ d ∷ []) long = absurd (omega (arith, long))
+width_9 (a ∷ b ∷ c ∷ d ∷ e ∷ []) long = absurd (omega (arith, long))
+width_9 (a ∷ b ∷ c ∷ d ∷ e ∷ f ∷ []) long = absurd (omega (arith, long))
+width_9 (a ∷ b ∷ c ∷ d ∷ e ∷ f ∷ g ∷ []) long = absurd (omega (arith, long))
+width_9 (a ∷ b ∷ c ∷ d ∷ e ∷ f ∷ g ∷ h ∷ []) long = absurd (omega (arith, long))
+width_9 (a ∷ b ∷ c ∷ d ∷ e ∷ f ∷ g ∷ h ∷ i ∷ []) long = refl
+width_9 (a ∷ b ∷ c ∷ d ∷ e ∷ f ∷ g ∷ h ∷ i ∷ j ∷ v) long = absurd (omega (arith, long))

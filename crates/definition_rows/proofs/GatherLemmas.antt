@@ -16,10 +16,10 @@ use Rattle.work_calendars.specs.Name.{IsName}
 use Rattle.app_definitions.specs.ByName.{AreEntriesOf, HaveOwnNames}
 use Rattle.app_definitions.proofs.ByNameLemmas.{get-inserted, get-removed, get-view_of, name_itself, name_sym}
 use Rattle.app_definitions.proofs.ByNameLemmas.{same_name}
-use Rattle.plan_facts.specs.Content.{ByName, IsOfSome}
+use Rattle.plan_facts.specs.Content.{AreEach, ByName, IsOfSome}
 use Rattle.plan_facts.proofs.Decoded.{text_in}
 use Rattle.definition_rows.specs.Adding.{IsOfName}
-use Rattle.definition_rows.specs.Gathering.{Alike, AreRead, AreSound, CanFinish, IsFinish, Joins, Paired, Within}
+use Rattle.definition_rows.specs.Gathering.{Alike, AreRead, AreSound, CanFinish, IsMade, Joins, Paired, Within}
 use Rattle.definition_rows.specs.Storing.{AreRowsOf}
 use Rattle.definition_rows.proofs.AddLemmas.{get_at}
 
@@ -134,44 +134,9 @@ module _ {X : Type 0} (IsRead : List ℕ → X → Values → Type 0) where
   read_next rows n row drafts under is = subst (λ l. AreRead IsRead l drafts)
       (ap (λ r. take n rows ++ r ∷ []) is ∙ sym (take_more rows n row under))
 
--- what a row of sound definitions says of its name
-module _ {X D : Type 0} (IsRow : List ℕ → D → Values → Type 0) (IsRead : List ℕ → X → Values → Type 0)
-    (Is : List ℕ → D → Type 0) (named : (name : List ℕ) (d : D) (v : Values) → IsRow name d v → column v 0 ≡ Text name)
-    (read_named : (name : List ℕ) (x : X) (v : Values) → IsRead name x v → column v 0 ≡ Text name) where
-  -- the definition whose row it is
-  pub has_name : (all : ByName D) (v : Values) → AreSound Is all → IsOfSome IsRow all v
-      → (name : List ℕ) × IsName name × (column v 0 ≡ Text name)
-  has_name all v sound (name, d, got, is) = (name, (sound name d got).0, named name d v is)
+-- ---- entries of the same names, one for one
 
-  pub own_row : (all : ByName D) (name : List ℕ) (v : Values) → column v 0 ≡ Text name → IsOfSome IsRow all v
-      → IsOfName IsRow all name v
-  own_row all name v at (q, d, got, is) =
-      let same : q ≡ name = one_name v q name (named q d v is) at in
-      (d, ap (map.get all) (sym same) ∙ got, subst (λ n. IsRow n d v) same is)
-
-  pub own_read : (all : ByName X) (name : List ℕ) (v : Values) → column v 0 ≡ Text name → IsOfSome IsRead all v
-      → IsOfName IsRead all name v
-  own_read all name v at (q, d, got, is) =
-      let same : q ≡ name = one_name v q name (read_named q d v is) at in
-      (d, ap (map.get all) (sym same) ∙ got, subst (λ n. IsRead n d v) same is)
-
-  -- what a row meets that no definitions have beside the others
-  pub row_met : {A : Type 0} (all : ByName D) (old : ByName X) (name : List ℕ) (x : X) (row : Values)
-      → AreSound Is all → column row 0 ≡ Text name → IsOfSome IsRow all row
-      → Within (IsOfSome IsRead old) (IsOfSome IsRow all) → Alike (IsRead name x) (IsOfName IsRead old name)
-      → ((d : D) → Is name d → IsRow name d row → Within (IsRead name x) (IsRow name d) → A) → A
-  row_met all old name x row sound at is within read then =
-      let (d, got, it) = own_row all name row at is in
-      then d (sound name d got).1 it (λ v was.
-      let (w, there, so) = (read v).0 was in
-      let (e, found, be) = own_row all name v (read_named name x v was) (within v (name, w, there, so)) in
-      let same : e ≡ d = is_some e d (sym found ∙ got) in subst (λ z. IsRow name z v) same be)
-
-  -- ---- the definitions that have the rows that were read
-
-  abbrev Rel : List ℕ → X → D → Type 0
-  Rel name x d = IsFinish IsRow IsRead name x d
-
+module _ {X D : Type 0} (Rel : List ℕ → X → D → Type 0) where
   pub paired_push : (es : List (List ℕ × X)) (fs : List (List ℕ × D)) (e : List ℕ × X) (f : List ℕ × D)
       → e.0 ≡ f.0 → Rel e.0 e.1 f.1 → Paired Rel es fs → Paired Rel (es ++ e ∷ []) (fs ++ f ∷ [])
   paired_push [] [] e f same rel paired = (same, rel, _)
@@ -224,28 +189,70 @@ module _ {X D : Type 0} (IsRow : List ℕ → D → Values → Type 0) (IsRead :
       ] refl (subst (λ n. cond (pointwise nat_eq q n) (Some f.1) (lookup (pointwise nat_eq q) fs) ≡ Some d) (sym same)
       got)
 
+  pub own_names : (es : List (List ℕ × X)) (fs : List (List ℕ × D)) → Paired Rel es fs → HaveOwnNames es
+      → HaveOwnNames fs
+  own_names es fs paired own = subst (IsDistinct (pointwise nat_eq)) (same_keys es fs paired) own
+
+-- what a row of sound definitions says of its name
+module _ {X D : Type 0} (IsRow : List ℕ → D → Values → Type 0) (IsRead : List ℕ → X → Values → Type 0)
+    (Is : List ℕ → D → Type 0) (named : (name : List ℕ) (d : D) (v : Values) → IsRow name d v → column v 0 ≡ Text name)
+    (read_named : (name : List ℕ) (x : X) (v : Values) → IsRead name x v → column v 0 ≡ Text name) where
+  -- the definition whose row it is
+  pub has_name : (all : ByName D) (v : Values) → AreSound Is all → IsOfSome IsRow all v
+      → (name : List ℕ) × IsName name × (column v 0 ≡ Text name)
+  has_name all v sound (name, d, got, is) = (name, (sound name d got).0, named name d v is)
+
+  pub own_row : (all : ByName D) (name : List ℕ) (v : Values) → column v 0 ≡ Text name → IsOfSome IsRow all v
+      → IsOfName IsRow all name v
+  own_row all name v at (q, d, got, is) =
+      let same : q ≡ name = one_name v q name (named q d v is) at in
+      (d, ap (map.get all) (sym same) ∙ got, subst (λ n. IsRow n d v) same is)
+
+  pub own_read : (all : ByName X) (name : List ℕ) (v : Values) → column v 0 ≡ Text name → IsOfSome IsRead all v
+      → IsOfName IsRead all name v
+  own_read all name v at (q, d, got, is) =
+      let same : q ≡ name = one_name v q name (read_named q d v is) at in
+      (d, ap (map.get all) (sym same) ∙ got, subst (λ n. IsRead n d v) same is)
+
+  -- what a row meets that no definitions have beside the others
+  pub row_met : {A : Type 0} (all : ByName D) (old : ByName X) (name : List ℕ) (x : X) (row : Values)
+      → AreSound Is all → column row 0 ≡ Text name → IsOfSome IsRow all row
+      → Within (IsOfSome IsRead old) (IsOfSome IsRow all) → Alike (IsRead name x) (IsOfName IsRead old name)
+      → ((d : D) → Is name d → IsRow name d row → Within (IsRead name x) (IsRow name d) → A) → A
+  row_met all old name x row sound at is within read then =
+      let (d, got, it) = own_row all name row at is in
+      then d (sound name d got).1 it (λ v was.
+      let (w, there, so) = (read v).0 was in
+      let (e, found, be) = own_row all name v (read_named name x v was) (within v (name, w, there, so)) in
+      let same : e ≡ d = is_some e d (sym found ∙ got) in subst (λ z. IsRow name z v) same be)
+
   -- where the entries are those of the maps
-  module _ (es : List (List ℕ × X)) (fs : List (List ℕ × D)) (drafts : ByName X) (made : ByName D)
-      (paired : Paired Rel es fs) (of_drafts : AreEntriesOf es drafts) (of_made : AreEntriesOf fs made) where
+  module _ (IsTold : D → Type 0) (es : List (List ℕ × X)) (fs : List (List ℕ × D)) (drafts : ByName X)
+      (made : ByName D) (paired : Paired (IsMade IsRow IsRead IsTold) es fs) (of_drafts : AreEntriesOf es drafts)
+      (of_made : AreEntriesOf fs made) where
     got_draft : (q : List ℕ) → map.get drafts q ≡ lookup (pointwise nat_eq q) es
     got_draft q = ap (λ m. map.get m q) (sym of_drafts.are) ∙ get-view_of es q
 
     got_made : (q : List ℕ) → map.get made q ≡ lookup (pointwise nat_eq q) fs
     got_made q = ap (λ m. map.get m q) (sym of_made.are) ∙ get-view_of fs q
 
+    abbrev Rel : List ℕ → X → D → Type 0
+    Rel = IsMade IsRow IsRead IsTold
+
     pub made_alike : Alike (IsOfSome IsRow made) (IsOfSome IsRead drafts)
     made_alike v = (
       λ (q, d, got, is).
-          let (x, there, rel) = found_from es fs q d paired (sym (got_made q) ∙ got) in
-          (q, x, got_draft q ∙ there, (rel v).0 is),
+          let (x, there, rel) = found_from Rel es fs q d paired (sym (got_made q) ∙ got) in
+          (q, x, got_draft q ∙ there, (rel.alike v).0 is),
       λ (q, x, got, is).
-          let (d, there, rel) = found_to es fs q x paired (sym (got_draft q) ∙ got) in
-          (q, d, got_made q ∙ there, (rel v).1 is),
+          let (d, there, rel) = found_to Rel es fs q x paired (sym (got_draft q) ∙ got) in
+          (q, d, got_made q ∙ there, (rel.alike v).1 is),
     )
 
-  pub own_names : (es : List (List ℕ × X)) (fs : List (List ℕ × D)) → Paired Rel es fs → HaveOwnNames es
-      → HaveOwnNames fs
-  own_names es fs paired own = subst (IsDistinct (pointwise nat_eq)) (same_keys es fs paired) own
+    pub made_told : (read : List Values) → AreRead IsRead read drafts → AreEach IsTold made
+    made_told read are q d got =
+        let (x, there, rel) = found_from Rel es fs q d paired (sym (got_made q) ∙ got) in
+        let (v, is) = are.some q x (got_draft q ∙ there) in rel.told v is
 
   all_at : (P : List ℕ → Type 0) (es : List (List ℕ × X)) (k : ℕ) (e : List ℕ × X) → AllByRecursion P (keys_of es)
       → slice_get es k ≡ Some e → P e.0

@@ -7,3 +7,5 @@ pub mod GatherLemmas
 pub mod DraftLemmas
 pub mod PlaceLemmas
 pub mod PeriodLemmas
+pub mod CycleLemmas
+pub mod WholeLemmas

@@ -2,6 +2,7 @@
 use Rattle.std.proofs.Common.{◌≡◌, ℕ, zero, suc, ◌+◌, ◌<◌, ◌≤◌, ◌^◌, List, [], ◌∷◌, Option, Some, None}
 use Rattle.std.proofs.Common.{length, refl, sym, ap, ◌∙◌, subst, arith, get_or}
 use Rattle.std.specs.Prelude.{slice_get, map, IfSome, option_map}
+use Rattle.std.specs.Str.{byte}
 use Rattle.std.proofs.lemmas.Option.{get_or_from_slice_get, slice_get-map, slice_get_within}
 use Rattle.sqlite.specs.Order.{Row as Values, column}
 use Rattle.work_calendars.specs.Day.{IsDay}
@@ -56,10 +57,15 @@ one_row name e v = (
 
 pub period_listed : (name : List ℕ) (p : Period)
     → Alike (IsPeriodRow name p) (IsListed (lettered_values name) (entries_of p))
-period_listed name (period.All origin interval) = one_row name (65, origin, Some interval)
-period_listed name (period.Work origin interval) = one_row name (87, origin, Some interval)
+period_listed name (period.All origin interval) = one_row name (byte "A", origin, Some interval)
+period_listed name (period.Work origin interval) = one_row name (byte "W", origin, Some interval)
 period_listed name (period.Listed entries) = λ v. (
-  λ (place, e, at, is). (place, listed_entry e, slice_get-map listed_entry entries place ∙ ap (option_map listed_entry) at, is),
+  λ (place, e, at, is). (
+    place,
+    listed_entry e,
+    slice_get-map listed_entry entries place ∙ ap (option_map listed_entry) at,
+    is,
+  ),
   λ (place, x, at, is). let (e, here, same) = mapped_at entries place x at in
       (place, e, here, is ∙ ap (lettered_values name place) (sym same)),
 )
@@ -89,7 +95,7 @@ all_back : (es : List Entry) → map unlisted (map listed_entry es) ≡ es
 all_back [] = refl
 all_back (e ∷ es) = ap (λ (l : List Entry). e ∷ l) (all_back es)
 
-not_listed : (letter : ℕ) (x : LetteredEntry) (es : List Entry) → x.0 ≡ letter → 0 < letter → (letter ≡ 78 → ⊥)
+not_listed : (letter : ℕ) (x : LetteredEntry) (es : List Entry) → x.0 ≡ letter → 0 < letter → (letter ≡ byte "N" → ⊥)
     → x ∷ [] ≡ map listed_entry es → ⊥
 not_listed letter x [] is some other e = let h : x.0 ≡ 0 = ap letter_of e in absurd (omega (arith, is, h, some))
 not_listed letter x (f ∷ es) is some other e = other (sym is ∙ ap letter_of e)
@@ -100,17 +106,17 @@ same_period (period.Work o m) (period.Work k n) e = λ i. period.Work (ap origin
 same_period (period.Listed es) (period.Listed fs) e = ap period.Listed (sym (all_back es) ∙ ap (map unlisted) e
     ∙ all_back fs)
 same_period (period.All o m) (period.Work k n) e =
-    let h : 65 ≡ 87 = ap letter_of e in absurd (omega (arith, h))
+    let h : byte "A" ≡ byte "W" = ap letter_of e in absurd (omega (arith, h))
 same_period (period.Work o m) (period.All k n) e =
-    let h : 87 ≡ 65 = ap letter_of e in absurd (omega (arith, h))
+    let h : byte "W" ≡ byte "A" = ap letter_of e in absurd (omega (arith, h))
 same_period (period.All o m) (period.Listed fs) e =
-    absurd (not_listed 65 (65, o, Some m) fs refl (omega arith) (λ h. omega (arith, h)) e)
+    absurd (not_listed (byte "A") (byte "A", o, Some m) fs refl (omega arith) (λ h. omega (arith, h)) e)
 same_period (period.Work o m) (period.Listed fs) e =
-    absurd (not_listed 87 (87, o, Some m) fs refl (omega arith) (λ h. omega (arith, h)) e)
+    absurd (not_listed (byte "W") (byte "W", o, Some m) fs refl (omega arith) (λ h. omega (arith, h)) e)
 same_period (period.Listed es) (period.All k n) e =
-    absurd (not_listed 65 (65, k, Some n) es refl (omega arith) (λ h. omega (arith, h)) (sym e))
+    absurd (not_listed (byte "A") (byte "A", k, Some n) es refl (omega arith) (λ h. omega (arith, h)) (sym e))
 same_period (period.Listed es) (period.Work k n) e =
-    absurd (not_listed 87 (87, k, Some n) es refl (omega arith) (λ h. omega (arith, h)) (sym e))
+    absurd (not_listed (byte "W") (byte "W", k, Some n) es refl (omega arith) (λ h. omega (arith, h)) (sym e))
 
 -- ---- entries that rows can tell
 
@@ -134,11 +140,11 @@ end_fits (Some n) is = day_fits n is
 
 pub readable : (name : List ℕ) (p : Period) (place : ℕ) (x : LetteredEntry) → IsSoundPeriodOfDays name p
     → slice_get (entries_of p) place ≡ Some x → (place < 2 ^ 32) × IsReadable x
-readable name (period.All o m) place x is at = let (first, same) = only_one (65, o, Some m) place x at in (
+readable name (period.All o m) place x is at = let (first, same) = only_one (byte "A", o, Some m) place x at in (
   omega (arith, first),
   subst IsReadable same (is.days, let (low, high) = is.sound in omega (arith, high)),
 )
-readable name (period.Work o m) place x is at = let (first, same) = only_one (87, o, Some m) place x at in (
+readable name (period.Work o m) place x is at = let (first, same) = only_one (byte "W", o, Some m) place x at in (
   omega (arith, first),
   subst IsReadable same (is.days, let (low, high) = is.sound in omega (arith, high)),
 )

@@ -1,16 +1,20 @@
 -- Definitions that tables can tell.
-use Rattle.std.proofs.Common.{◌≡◌, ◌≢◌, ◌↔◌, ℕ, List, [], ◌∷◌, length, refl, sym, subst, arith, inl, inr}
-use Rattle.std.specs.Prelude.{Contains, IsSome}
+use Rattle.std.proofs.Common.{◌≡◌, ◌≢◌, ◌↔◌, ℕ, List, [], ◌∷◌, Option, Some, None, length, refl, sym, ap, subst, arith}
+use Rattle.std.proofs.Common.{inl, inr}
+use Rattle.std.specs.Prelude.{Contains, IsSome, slice_get}
 use Rattle.std.specs.List.{All}
 use Rattle.std.proofs.lemmas.List.Elements.{All-contains, All-contains_itself, All-weaker}
 use Rattle.sqlite.specs.Order.{Row as Values}
 use Rattle.work_calendars.specs.Calendar.{CalendarEntries}
+use Rattle.plan_periods.specs.declared.periods.Period.{Period}
+use Rattle.plan_periods.specs.declared.periods.Period.TheVariants as period
 use Rattle.app_definitions.specs.ByName.{AreNamesOf}
-use Rattle.plan_facts.specs.Content.{AreEach, ByName, IsTold}
-use Rattle.plan_facts.specs.Facts.{IsCalendarRow}
+use Rattle.app_definitions.specs.Rising.{AreRising}
+use Rattle.plan_facts.specs.Content.{AreEach, ByName, HasEntry, IsTold}
+use Rattle.plan_facts.specs.Facts.{IsCalendarRow, IsPeriodRow, IsPredecessorRow}
 use Rattle.plan_facts.specs.Facts.IsCalendarRow.{Weekday, Date}
 use Rattle.definition_rows.specs.Adding.{Adds}
-use Rattle.definition_rows.specs.Telling.{IsToldAt}
+use Rattle.definition_rows.specs.Telling.{ArePredecessors, IsToldAt}
 
 module _ {D : Type 0} (Is : D → Type 0) (all : ByName D) where
   pub each_from : (names : List (List ℕ)) → AreNamesOf names all → All (IsToldAt Is all) names → AreEach Is all
@@ -26,6 +30,14 @@ module _ {D : Type 0} (Is : D → Type 0) (all : ByName D) where
 renamed : (c : CalendarEntries) (a b : List ℕ) (v : Values) → IsCalendarRow a c v → (w : Values) × IsCalendarRow b c w
 renamed c a b v (Weekday weekday status at is) = (_, Weekday weekday status at refl)
 renamed c a b v (Date day status at is) = (_, Date day status at refl)
+
+-- where it has a row
+pub calendar_told : (name : List ℕ) (c : CalendarEntries) (v : Values) → length c.weekdays ≡ 7
+    → IsCalendarRow name c v → IsTold c
+calendar_told name c v week is = record { week = week; some = renamed c name [] v is }
+
+none_some : {X : Type 0} (o : Option X) (x : X) → o ≡ None → o ≡ Some x → ⊥
+none_some o x e h = let k : ⊥ = cc in k
 
 first_row : (rows : List Values) → rows ≢ [] → (v : Values) × Contains rows v
 first_row [] some = absurd (some refl)
@@ -45,3 +57,21 @@ lists_told name c old rows empty week h = (
       let (k, under, at) = subst (λ l. Contains l w) none ((h.rows w).1 (inr it)) in
       absurd (omega (arith, under)),
 )
+
+-- ---- periods
+
+pub period_told : (name : List ℕ) (p : Period) (v : Values) → IsPeriodRow name p v → HasEntry p
+period_told name (period.All origin interval) v is = _
+period_told name (period.Work origin interval) v is = _
+period_told name (period.Listed origins) v (place, entry, at, is) = λ none. none_some (slice_get origins place) entry
+    (ap (λ l. slice_get l place) none) at
+
+-- ---- run cycles and predecessors
+
+none_within : {X : Type 0} (xs : List X) (x : X) → Contains xs x → xs ≢ []
+none_within xs x has none = let (k, under, at) = subst (λ l. Contains l x) none has in absurd (omega (arith, under))
+
+pub predecessors_told : (app : List ℕ) (names : List (List ℕ)) (v : Values) → AreRising (λ name. name) names
+    → IsPredecessorRow app names v → ArePredecessors names
+predecessors_told app names v rising (name, has, is) =
+    record { rising = rising; some = none_within names name has }

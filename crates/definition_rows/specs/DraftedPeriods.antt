@@ -1,5 +1,6 @@
 -- Periods as lists of entries, each with the letter of the period's type.
 use Rattle.std.specs.Prelude.{◌≡◌, ℕ, ◌<◌, ◌^◌, List, [], ◌∷◌, Option, Some, map, slice_get, IfSome}
+use Rattle.std.specs.Str.{byte}
 use Rattle.std.proofs.Common.{ap}
 use Rattle.sqlite.specs.Order.{Row as Values, column}
 use Rattle.sqlite.specs.declared.types.Value.TheVariants.{Text}
@@ -20,12 +21,12 @@ lettered_values name place entry = entry_values name place (entry.0 ∷ []) entr
 
 -- an origin of a list, with its end, under the letter N
 abbrev pub listed_entry : Entry → LetteredEntry
-listed_entry e = (78, e.0, e.1)
+listed_entry e = (byte "N", e.0, e.1)
 
--- the entries of a period: A is 65, W is 87
+-- the entries of a period
 abbrev pub entries_of : Period → List LetteredEntry
-entries_of (period.All origin interval) = (65, origin, Some interval) ∷ []
-entries_of (period.Work origin interval) = (87, origin, Some interval) ∷ []
+entries_of (period.All origin interval) = (byte "A", origin, Some interval) ∷ []
+entries_of (period.Work origin interval) = (byte "W", origin, Some interval) ∷ []
 entries_of (period.Listed entries) = map listed_entry entries
 
 -- the origin is a day, and the second number is below 2 ^ 32

@@ -6,3 +6,7 @@ pub mod Gathering
 pub mod Drafted
 pub mod Placed
 pub mod DraftedPeriods
+pub mod DraftedCycles
+pub mod CycleParts
+pub mod WholeCycles
+pub mod Defined

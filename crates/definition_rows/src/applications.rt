@@ -1,6 +1,6 @@
 // Rows of applications.
 
-ghost use Rattle.std.specs.Prelude.{◌≡◌, ◌↔◌, IfOk, IfSome, IsSome, IsTrue};
+ghost use Rattle.std.specs.Prelude.{◌≡◌, ◌↔◌, ⊤, IfOk, IfSome, IsSome, IsTrue};
 ghost use Rattle.plan_facts.specs.Content.{IsApplicationRow};
 ghost use Rattle.plan_facts.specs.Facts.{application_values};
 ghost use Rattle.std.proofs.Common.{ap};
@@ -111,6 +111,8 @@ impl Draft for ApplicationDraft {
     ghost IsRow = { IsApplicationRow };
 
     ghost IsSound = { IsSoundApplication };
+
+    ghost IsTold = { λ _. ⊤ };
 
     ghost IsRead = { λ name x. IsReadApplication name x.application };
 

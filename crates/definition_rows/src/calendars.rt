@@ -11,7 +11,7 @@ ghost use Rattle.definition_rows.specs.Adding.{Adds, IsOfPlace, IsUpTo};
 ghost use Rattle.definition_rows.specs.Parts.{IsDateRow, IsWeekdayRow};
 ghost use Rattle.sqlite.specs.Order.{column};
 ghost use Rattle.work_calendars.specs.Calendar.{CalendarEntries};
-ghost use Rattle.plan_facts.specs.Content.{ByName as Defined};
+ghost use Rattle.plan_facts.specs.Content.{AreEach, ByName as Defined};
 ghost use Rattle.definition_rows.specs.Drafted.{IsSoundCalendar, TellsEntry, calendar_named, calendar_values};
 ghost use Rattle.definition_rows.specs.Gathering.{AreSound, Joins, Within};
 ghost use Rattle.definition_rows.specs.Storing.{AreRowsOf};
@@ -337,6 +337,8 @@ impl Draft for CalendarDraft {
 
     ghost IsSound = { IsSoundCalendar };
 
+    ghost IsTold = { IsTold };
+
     ghost IsRead = { λ name x. IsCalendarRow name x.calendar };
 
     fn begin(alloc: Global) -> CalendarDraft {
@@ -367,6 +369,7 @@ pub(crate) fn read_calendars(
     rows: &[Row],
 ) -> Result<Option<ByName<Calendar>>, AllocError>
     ensures made { IfOk result (λ found. IfSome found (AreRowsOf IsCalendarRow rows.now)) }
+    ensures told { IfOk result (λ found. IfSome found (AreEach IsTold)) }
     ensures found { IfOk result (λ found. (all : Defined CalendarEntries) → AreSound IsSoundCalendar all
         → AreRowsOf IsCalendarRow rows.now all → IsSome found) }
 {

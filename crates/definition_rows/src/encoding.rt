@@ -1,11 +1,10 @@
 // The rows of all definitions of a kind.
 
-ghost use Rattle.std.specs.Prelude.{ℕ, List, length, IfOk, IsTrue, OnOk};
+ghost use Rattle.std.specs.Prelude.{ℕ, List, length, IfOk, OnOk};
 ghost use Rattle.sqlite.specs.Order.{Row as Values};
 ghost use Rattle.definition_rows.specs.Adding.{Adds, IsOfName, IsOfPlace};
 ghost use Rattle.definition_rows.specs.Storing.{AreRowsOf};
 
-use crate::sorting::are_made;
 use app_definitions::ByName;
 use sqlite_value::row::Row;
 use std::alloc::{AllocError, Global};
@@ -71,16 +70,4 @@ pub(crate) fn rows_of<E: Encoding>(
     let mut rows = Vec::new(alloc);
     push_each::<E>(alloc, &mut rows, definitions, &names)?;
     Ok(rows)
-}
-
-/// Whether the definitions have these rows, which stand in order.
-pub(crate) fn have_rows<E: Encoding>(
-    alloc: Global,
-    rows: &[Row],
-    definitions: &ByName<E::Of>,
-) -> Result<bool, AllocError>
-    ensures { IfOk result (λ b. IsTrue b → AreRowsOf E.IsRow rows.now definitions.now) }
-{
-    let made = rows_of::<E>(alloc, definitions)?;
-    Ok(are_made(rows, made))
 }

@@ -4,10 +4,10 @@ ghost use Rattle.std.specs.Prelude.{◌≡◌, ◌∷◌, ◌++◌, ℕ, [], Lis
 ghost use Rattle.std.specs.FinMap as map;
 ghost use Rattle.sqlite.specs.Order.{Row as Values, column};
 ghost use Rattle.sqlite.specs.declared.types.Value.TheVariants.{Text};
-ghost use Rattle.plan_facts.specs.Content.{ByName as Defined, IsOfSome};
+ghost use Rattle.plan_facts.specs.Content.{AreEach, ByName as Defined, IsOfSome};
 ghost use Rattle.definition_rows.specs.Adding.{IsOfName};
-ghost use Rattle.definition_rows.specs.Gathering.{Alike, AreRead, AreSound, CanFinish, IsFinish, Joins, Paired};
-ghost use Rattle.definition_rows.specs.Gathering.{Within};
+ghost use Rattle.definition_rows.specs.Gathering.{Alike, AreRead, AreSound, CanFinish, IsFinish, IsMade, Joins};
+ghost use Rattle.definition_rows.specs.Gathering.{Paired, Within};
 ghost use Rattle.definition_rows.specs.Storing.{AreRowsOf};
 
 use crate::columns::name_at;
@@ -28,6 +28,9 @@ pub(crate) trait Draft: Drop {
     /// It is such as can be told.
     ghost IsSound: { List ℕ → Self.Of → Type 0 };
 
+    /// Its rows tell it from all others.
+    ghost IsTold: { Self.Of → Type 0 };
+
     /// It is a row of the name that was read.
     ghost IsRead: { List ℕ → Self → Values → Type 0 };
 
@@ -46,6 +49,8 @@ pub(crate) trait Draft: Drop {
     /// The definition that has the rows that were read, if there is one.
     fn finish(&self, alloc: Global, name: &Name) -> Result<Option<Self::Of>, AllocError>
         ensures made { IfOk result (λ found. IfSome found (IsFinish IsRow IsRead name.now self.now)) }
+        ensures told { IfOk result (λ found. IfSome found
+            (λ d. (v : Values) → IsRead name.now self.now v → IsTold d)) }
         ensures found { IfOk result (λ found. (d : Self.Of) → IsSound name.now d
             → IsFinish IsRow IsRead name.now self.now d → IsSome found) };
 
@@ -112,7 +117,7 @@ fn finish_each<D: Draft>(
     drafts: &[(Name, D)],
 ) -> Result<Option<Vec<(Name, D::Of)>>, AllocError>
     ensures made { IfOk result (λ found. IfSome found
-        (λ entries. Paired (λ name x d. IsFinish D.IsRow D.IsRead name x d) drafts.now entries.items)) }
+        (λ entries. Paired (λ name x d. IsMade D.IsRow D.IsRead D.IsTold name x d) drafts.now entries.items)) }
     ensures found { IfOk result (λ found. All (CanFinish D.IsRow D.IsRead D.IsSound) drafts.now → IsSome found) }
 {
     let mut entries = Vec::new(alloc);
@@ -132,6 +137,8 @@ fn finish_all<D: Draft>(
 ) -> Result<Option<ByName<D::Of>>, AllocError>
     ensures made { IfOk result (λ found. IfSome found
         (λ all. Alike (IsOfSome D.IsRow all) (IsOfSome D.IsRead drafts))) }
+    ensures told { IfOk result (λ found. IfSome found
+        (λ all. (read : List Values) → AreRead D.IsRead read drafts → AreEach D.IsTold all)) }
     ensures found { IfOk result (λ found. (all : Defined D.Of) (read : List Values) → AreSound D.IsSound all
         → AreRead D.IsRead read drafts → AreRowsOf D.IsRow read all → IsSome found) }
 {
@@ -142,12 +149,13 @@ fn finish_all<D: Draft>(
     }
 }
 
-/// The definitions that have exactly these rows, or none where no sound ones have.
+/// The definitions that have exactly these rows, each one at least, or none where no sound ones have these rows.
 pub(crate) fn gathered<D: Draft>(
     alloc: Global,
     rows: &[Row],
 ) -> Result<Option<ByName<D::Of>>, AllocError>
     ensures made { IfOk result (λ found. IfSome found (AreRowsOf D.IsRow rows.now)) }
+    ensures told { IfOk result (λ found. IfSome found (AreEach D.IsTold)) }
     ensures found { IfOk result (λ found. (all : Defined D.Of) → AreSound D.IsSound all
         → AreRowsOf D.IsRow rows.now all → IsSome found) }
 {

@@ -5,6 +5,8 @@ mod applications;
 mod calendars;
 mod cells;
 mod columns;
+mod copying;
+mod cycle_parts;
 mod cycles;
 mod drafts;
 mod encoding;
@@ -14,10 +16,11 @@ mod offsets;
 mod periods;
 mod places;
 mod predecessors;
-mod reading;
-mod sorting;
 mod stored;
+mod tails;
 mod telling;
+mod told_cycles;
+mod whole_cycles;
 
 pub use applications::application_rows;
 pub use calendars::calendar_rows;
@@ -28,6 +31,6 @@ pub use periods::period_rows;
 pub use predecessors::predecessor_rows;
 pub use stored::{
     StoredRows, applications_of_rows, calendars_of_rows, definitions_of_rows, periods_of_rows,
-    predecessors_of_rows,
+    predecessors_of_rows, run_cycles_of_rows,
 };
-pub use telling::{are_told, block_is_told};
+pub use telling::block_is_told;

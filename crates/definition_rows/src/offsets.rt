@@ -1,21 +1,18 @@
 // Rows of the offsets of run cycles.
 
-ghost use Rattle.std.specs.Prelude.{◌≡◌, ◌↔◌, ◌<◌, ◌^◌, ◌≤◌, length, IfOk, IsTrue, OnOk};
+ghost use Rattle.std.specs.Prelude.{◌<◌, ◌^◌, length, IfOk, OnOk};
 ghost use Rattle.plan_facts.specs.Facts.{IsOffsetRow};
 ghost use Rattle.definition_rows.specs.Adding.{Adds, IsOfPlace};
 ghost use Rattle.definition_rows.specs.Parts.{IsOffsetAt, IsOffsetOf};
 ghost use Rattle.definition_rows.specs.Storing.{AreRowsOf};
 
 use crate::cells::row_of;
-use crate::columns::integer_at;
-use crate::encoding::{Encoding, have_rows, rows_of};
+use crate::encoding::{Encoding, rows_of};
 use app_definitions::{ByName, RunCycles};
-use run_cycles::{Offsets, RunCycle};
+use run_cycles::RunCycle;
 use sqlite::types::ValueRef;
-use sqlite_value::keys::Order;
 use sqlite_value::row::Row;
 use std::alloc::{AllocError, Global};
-use std::cmp::Ordering;
 use work_calendars::{Name, Short};
 
 // The row of an offset.
@@ -108,46 +105,4 @@ pub fn offset_rows(alloc: Global, run_cycles: &ByName<RunCycles>) -> Result<Vec<
     ensures { IfOk result (λ rows. AreRowsOf IsOffsetRow rows.items run_cycles.now) }
 {
     rows_of::<OffsetRows>(alloc, run_cycles)
-}
-
-// The offset that a row tells.
-fn offset_at(row: &Row) -> Option<i16> {
-    i16::try_from(integer_at(row, 3)?).ok()
-}
-
-// Where the first of the rows stands, which are in order, that begins with this key.
-fn first_of(rows: &[Row], key: &Row) -> usize
-    ensures { result ≤ length rows.now }
-{
-    rows.partition_point(|row| row.cmp_prefix(Order::PLAIN, key) == Ordering::Less)
-}
-
-/// The offsets of the run cycle with this key, its application and its name, among rows that stand in order.
-pub(crate) fn read_offsets(
-    alloc: Global,
-    rows: &[Row],
-    key: &Row,
-) -> Result<Option<Offsets>, AllocError> {
-    let mut offsets = Vec::new(alloc);
-    for row in &rows[first_of(rows, key)..] {
-        if row.cmp_prefix(Order::PLAIN, key) != Ordering::Equal {
-            break;
-        }
-        match offset_at(row) {
-            Some(offset) => offsets.push(offset)?,
-            None => return Ok(None),
-        }
-    }
-    Ok(Offsets::from_vec(offsets))
-}
-
-/// Whether these run cycles have these rows of offsets, which stand in order.
-pub(crate) fn have_offsets(
-    alloc: Global,
-    rows: &[Row],
-    run_cycles: &ByName<RunCycles>,
-) -> Result<bool, AllocError>
-    ensures { IfOk result (λ b. IsTrue b → AreRowsOf IsOffsetRow rows.now run_cycles.now) }
-{
-    have_rows::<OffsetRows>(alloc, rows, run_cycles)
 }

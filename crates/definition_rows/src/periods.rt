@@ -7,7 +7,7 @@ ghost use Rattle.sqlite.specs.declared.types.Value.TheVariants.{Text};
 ghost use Rattle.work_calendars.specs.Day.{IsDay};
 ghost use Rattle.plan_periods.specs.Period.{Entry, IsSoundPeriod};
 ghost use Rattle.plan_periods.specs.declared.periods.Period.{Period as PeriodValue};
-ghost use Rattle.plan_facts.specs.Content.{ByName as Defined};
+ghost use Rattle.plan_facts.specs.Content.{AreEach, ByName as Defined, HasEntry};
 ghost use Rattle.plan_facts.specs.Facts.{IsPeriodRow, entry_values};
 ghost use Rattle.definition_rows.specs.Adding.{Adds, IsOfPlace};
 ghost use Rattle.definition_rows.specs.DraftedPeriods.{AreOfDays, IsOfDays, IsReadable, LetteredEntry};
@@ -285,6 +285,8 @@ impl Draft for PeriodDraft {
 
     ghost IsSound = { IsSoundPeriodOfDays };
 
+    ghost IsTold = { HasEntry };
+
     ghost IsRead = { λ name x. IsPlaced (lettered_values name) x.entries };
 
     fn begin(alloc: Global) -> PeriodDraft {
@@ -318,6 +320,7 @@ pub(crate) fn read_periods(
     rows: &[Row],
 ) -> Result<Option<ByName<DefinedPeriod>>, AllocError>
     ensures made { IfOk result (λ found. IfSome found (AreRowsOf IsPeriodRow rows.now)) }
+    ensures told { IfOk result (λ found. IfSome found (AreEach HasEntry)) }
     ensures found { IfOk result (λ found. (all : Defined PeriodValue) → AreSound IsSoundPeriodOfDays all
         → AreRowsOf IsPeriodRow rows.now all → IsSome found) }
 {

@@ -7,11 +7,12 @@ ghost use Rattle.definition_rows.specs.Adding.{Adds, IsOfPlace};
 ghost use Rattle.definition_rows.specs.Parts.{IsLinkRow};
 ghost use Rattle.sqlite.specs.Order.{column};
 ghost use Rattle.work_calendars.specs.Name.{IsName};
-ghost use Rattle.plan_facts.specs.Content.{ByName as Defined};
+ghost use Rattle.plan_facts.specs.Content.{AreEach, ByName as Defined};
 ghost use Rattle.definition_rows.specs.Drafted.{ArePredecessorNames, IsReadPredecessor, predecessors_named};
 ghost use Rattle.definition_rows.specs.Drafted.{read_predecessor_named};
 ghost use Rattle.definition_rows.specs.Gathering.{AreSound};
 ghost use Rattle.definition_rows.specs.Storing.{AreRowsOf};
+ghost use Rattle.definition_rows.specs.Telling.{ArePredecessors};
 
 use crate::cells::row_of;
 use crate::columns::name_at;
@@ -106,6 +107,8 @@ impl Draft for PredecessorDraft {
 
     ghost IsSound = { ArePredecessorNames };
 
+    ghost IsTold = { ArePredecessors };
+
     ghost IsRead = { λ name x. IsReadPredecessor name x.names };
 
     fn begin(alloc: Global) -> PredecessorDraft {
@@ -138,6 +141,7 @@ pub(crate) fn read_predecessors(
     rows: &[Row],
 ) -> Result<Option<ByName<Predecessors>>, AllocError>
     ensures made { IfOk result (λ found. IfSome found (AreRowsOf IsPredecessorRow rows.now)) }
+    ensures told { IfOk result (λ found. IfSome found (AreEach ArePredecessors)) }
     ensures found { IfOk result (λ found. (all : Defined (List (List ℕ))) → AreSound ArePredecessorNames all
         → AreRowsOf IsPredecessorRow rows.now all → IsSome found) }
 {

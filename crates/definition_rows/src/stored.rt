@@ -3,21 +3,25 @@
 ghost use Rattle.std.specs.Prelude.{ℕ, List, IfOk, IfSome, IsSome};
 ghost use Rattle.work_calendars.specs.Calendar.{CalendarEntries};
 ghost use Rattle.app_definitions.specs.declared.applications.Application.{Application as ApplicationValue};
+ghost use Rattle.app_definitions.specs.declared.definitions.Definitions.{Definitions as DefinitionsValue};
+ghost use Rattle.run_cycles.specs.declared.cycles.RunCycle.{RunCycle as RunCycleValue};
 ghost use Rattle.definition_rows.specs.Storing.{AreRowsOf, HaveRows};
-ghost use Rattle.plan_facts.specs.Content.{ByName as Defined, IsApplicationRow};
+ghost use Rattle.plan_facts.specs.Content.{AreEach, ByName as Defined, HasEntry, IsApplicationRow, IsTold};
+ghost use Rattle.definition_rows.specs.Defined.{AreSoundDefinitions};
 ghost use Rattle.definition_rows.specs.Drafted.{ArePredecessorNames, IsSoundApplication, IsSoundCalendar};
 ghost use Rattle.definition_rows.specs.DraftedPeriods.{IsSoundPeriodOfDays};
 ghost use Rattle.definition_rows.specs.Gathering.{AreSound};
+ghost use Rattle.definition_rows.specs.Telling.{AreCycles, ArePredecessors};
+ghost use Rattle.definition_rows.specs.WholeCycles.{AreSoundCycles};
 ghost use Rattle.plan_periods.specs.declared.periods.Period.{Period as PeriodValue};
 ghost use Rattle.plan_facts.specs.Facts.{IsCalendarRow, IsCycleRow, IsOffsetRow, IsPeriodRow, IsPredecessorRow};
 
 use crate::applications::read_applications;
 use crate::calendars::read_calendars;
-use crate::cycles::read_cycles;
+use crate::copying::copied_rows;
 use crate::periods::read_periods;
 use crate::predecessors::read_predecessors;
-use crate::sorting::{copied_rows, sorted_rows};
-use crate::telling::are_told;
+use crate::whole_cycles::read_cycles;
 use app_definitions::{
     Application, ByName, DefinedPeriod, Definitions, Options, Predecessors, RunCycles,
 };
@@ -48,6 +52,7 @@ pub fn calendars_of_rows(
     shown: &[Row],
 ) -> Result<Option<ByName<Calendar>>, AllocError>
     ensures made { IfOk result (λ found. IfSome found (AreRowsOf IsCalendarRow shown.now)) }
+    ensures told { IfOk result (λ found. IfSome found (AreEach IsTold)) }
     ensures found { IfOk result (λ found. (all : Defined CalendarEntries) → AreSound IsSoundCalendar all
         → AreRowsOf IsCalendarRow shown.now all → IsSome found) }
 {
@@ -61,6 +66,7 @@ pub fn periods_of_rows(
     shown: &[Row],
 ) -> Result<Option<ByName<DefinedPeriod>>, AllocError>
     ensures made { IfOk result (λ found. IfSome found (AreRowsOf IsPeriodRow shown.now)) }
+    ensures told { IfOk result (λ found. IfSome found (AreEach HasEntry)) }
     ensures found { IfOk result (λ found. (all : Defined PeriodValue) → AreSound IsSoundPeriodOfDays all
         → AreRowsOf IsPeriodRow shown.now all → IsSome found) }
 {
@@ -87,6 +93,7 @@ pub fn predecessors_of_rows(
     shown: &[Row],
 ) -> Result<Option<ByName<Predecessors>>, AllocError>
     ensures made { IfOk result (λ found. IfSome found (AreRowsOf IsPredecessorRow shown.now)) }
+    ensures told { IfOk result (λ found. IfSome found (AreEach ArePredecessors)) }
     ensures found { IfOk result (λ found. (all : Defined (List (List ℕ))) → AreSound ArePredecessorNames all
         → AreRowsOf IsPredecessorRow shown.now all → IsSome found) }
 {
@@ -94,26 +101,32 @@ pub fn predecessors_of_rows(
     read_predecessors(alloc, &rows)
 }
 
-fn cycles_of(
+/// The run cycles that have exactly these rows, and exactly these rows of offsets, or none where no sound ones have.
+pub fn run_cycles_of_rows(
     alloc: Global,
     shown: &[Row],
     offsets: &[Row],
 ) -> Result<Option<ByName<RunCycles>>, AllocError>
     ensures cycles { IfOk result (λ found. IfSome found (AreRowsOf IsCycleRow shown.now)) }
     ensures offsets { IfOk result (λ found. IfSome found (AreRowsOf IsOffsetRow offsets.now)) }
+    ensures told { IfOk result (λ found. IfSome found (AreEach AreCycles)) }
+    ensures found { IfOk result (λ found. (all : Defined (List RunCycleValue)) → AreSound AreSoundCycles all
+        → AreRowsOf IsCycleRow shown.now all → AreRowsOf IsOffsetRow offsets.now all → IsSome found) }
 {
-    let rows = sorted_rows(alloc, shown)?;
-    let offset_rows = sorted_rows(alloc, offsets)?;
-    read_cycles(alloc, &rows, &offset_rows)
+    let rows = copied_rows(alloc, shown)?;
+    let offset_rows = copied_rows(alloc, offsets)?;
+    read_cycles(alloc, rows, offset_rows)
 }
 
-/// The definitions that have exactly these rows, with these options. Of rows in which it finds none it says nothing.
+/// The definitions that have exactly these rows, with these options, or none where no sound ones have.
 pub fn definitions_of_rows(
     alloc: Global,
     stored: &StoredRows,
     options: Options,
 ) -> Result<Option<Definitions>, AllocError>
-    ensures { IfOk result (λ found. IfSome found (HaveRows stored.now options)) }
+    ensures made { IfOk result (λ found. IfSome found (HaveRows stored.now options)) }
+    ensures found { IfOk result (λ found. (all : DefinitionsValue) → AreSoundDefinitions all
+        → HaveRows stored.now options all → IsSome found) }
 {
     let Some(calendars) = calendars_of_rows(alloc, &stored.calendars)? else {
         return Ok(None);
@@ -124,23 +137,18 @@ pub fn definitions_of_rows(
     let Some(applications) = applications_of_rows(alloc, &stored.applications)? else {
         return Ok(None);
     };
-    let Some(run_cycles) = cycles_of(alloc, &stored.run_cycles, &stored.offsets)? else {
+    let Some(run_cycles) = run_cycles_of_rows(alloc, &stored.run_cycles, &stored.offsets)? else {
         return Ok(None);
     };
     let Some(predecessors) = predecessors_of_rows(alloc, &stored.predecessors)? else {
         return Ok(None);
     };
-    let all = Definitions {
+    Ok(Some(Definitions {
         applications,
         calendars,
         periods,
         predecessors,
         run_cycles,
         options,
-    };
-    if are_told(alloc, &all)? {
-        Ok(Some(all))
-    } else {
-        Ok(None)
-    }
+    }))
 }

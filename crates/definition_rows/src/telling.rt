@@ -2,10 +2,10 @@
 
 ghost use Rattle.std.specs.Prelude.{◌↔◌, All, IsTrue, IfOk};
 ghost use Rattle.plan_facts.specs.Content.{AreEach, HasEntry, IsTold};
-ghost use Rattle.definition_rows.specs.Telling.{AreCycles, ArePredecessors, AreTellable, IsTellableBlock, IsToldAt};
+ghost use Rattle.definition_rows.specs.Telling.{AreCycles, ArePredecessors, IsTellableBlock, IsToldAt};
 
 use crate::calendars::lists_something;
-use app_definitions::{Block, ByName, DefinedPeriod, Definitions, Predecessors, RunCycles};
+use app_definitions::{Block, ByName, DefinedPeriod, Predecessors, RunCycles};
 use plan_periods::Period;
 use std::alloc::{AllocError, Global};
 use work_calendars::{Calendar, Name};
@@ -112,27 +112,8 @@ fn all_told<D: Told>(alloc: Global, definitions: &ByName<D>) -> Result<bool, All
     names_are_told(alloc, definitions, &names)
 }
 
-/// Whether the rows of the definitions tell them from all others: each lists something. It is so of what data blocks
+/// Whether the rows of what a block defines tell it from all else: each lists something. It is so of what data blocks
 /// give.
-pub fn are_told(alloc: Global, definitions: &Definitions) -> Result<bool, AllocError>
-    ensures { IfOk result (λ b. IsTrue b ↔ AreTellable definitions.now) }
-{
-    let calendars = all_told(alloc, &definitions.calendars)?;
-    if !calendars {
-        return Ok(false);
-    }
-    let periods = all_told(alloc, &definitions.periods)?;
-    if !periods {
-        return Ok(false);
-    }
-    let run_cycles = all_told(alloc, &definitions.run_cycles)?;
-    if !run_cycles {
-        return Ok(false);
-    }
-    all_told(alloc, &definitions.predecessors)
-}
-
-/// The same of a block.
 pub fn block_is_told(alloc: Global, block: &Block) -> Result<bool, AllocError>
     ensures { IfOk result (λ b. IsTrue b ↔ IsTellableBlock block.now) }
 {

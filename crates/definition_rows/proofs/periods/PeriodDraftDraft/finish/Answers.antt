@@ -8,6 +8,7 @@ use Rattle.definition_rows.specs.DraftedPeriods.{IsOfDays, entries_of}
 use Rattle.definition_rows.specs.Placed.{AreInOrder}
 use Rattle.definition_rows.proofs.PeriodLemmas.{period_alike, period_in_order}
 use Rattle.definition_rows.proofs.PlaceLemmas.{same_list}
+use Rattle.definition_rows.proofs.TellLemmas.{period_told}
 use Rattle.definition_rows.proofs.periods.PeriodDraftDraft.finish.Goals as goal
 
 pub returns-in-Some-clause-made : goal.returns-in-Some-clause-made
@@ -17,6 +18,15 @@ returns-in-Some-clause-made c =
     IfOk-weaker c.defined_of.result (λ found. IfSome found (λ p. entries_of p ≡ c.deref.result.now)) _
     (λ found made. IfSome_then found made (λ p is. period_alike c.args._name.now p c.args.self.now.entries
     c.in-Some.entries.items (is ∙ c.deref.ensures.value) order)) c.defined_of.ensures.made
+
+pub returns-in-Some-clause-told : goal.returns-in-Some-clause-told
+returns-in-Some-clause-told c =
+    let order = subst (λ o. IfSome o (λ xs. AreInOrder xs.items c.args.self.now.entries)) c.in-Some.is
+    c.in_ok-entries.ensures.made in
+    IfOk-weaker c.defined_of.result (λ found. IfSome found (λ p. entries_of p ≡ c.deref.result.now)) _
+    (λ found made. IfSome_then found made (λ p same v read. period_told c.args._name.now p v ((period_alike
+    c.args._name.now p c.args.self.now.entries c.in-Some.entries.items (same ∙ c.deref.ensures.value) order v).1 read)))
+    c.defined_of.ensures.made
 
 pub returns-in-Some-clause-found : goal.returns-in-Some-clause-found
 returns-in-Some-clause-found c =
