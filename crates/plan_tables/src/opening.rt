@@ -43,6 +43,22 @@ impl<S: Alter + Drop> TableStore<S> {
             Err(fault) => Err((fault, conn)),
         }
     }
+
+    // The same, but where it is not opened the connection is let go.
+    fn over_connection(alloc: Global, conn: Connection<S>) -> Result<TableStore<S>, OpenFault>
+        requires { conn.in_transaction ≡ false }
+        ensures sound { IfOk result (λ store. IsSound (content_of store.lists)) }
+        ensures whole { IfOk result (λ store. store.failures ≡ 0) }
+        ensures opened { IfOk result (λ store. HasCleanDisk (state S.Store store.conn)
+            → IsStored (state S.Store store.conn) (content_of store.lists)) }
+        ensures empty { (state S.Store conn).now.schema ≡ no_schema
+            → IfOk result (λ store. content_of store.lists ≡ nothing_known) }
+    {
+        match TableStore::adopt(alloc, conn) {
+            Ok(store) => Ok(store),
+            Err((fault, _conn)) => Err(fault),
+        }
+    }
 }
 
 impl TableStore<MemStore> {
@@ -52,12 +68,9 @@ impl TableStore<MemStore> {
         ensures sound { IfOk result (λ store. IsSound (content_of store.lists)) }
         ensures whole { IfOk result (λ store. store.failures ≡ 0) }
     {
-        let Ok(conn) = Connection::open_in_memory(alloc) else {
-            return Err(OpenFault::Memory);
-        };
-        match TableStore::adopt(alloc, conn) {
-            Ok(store) => Ok(store),
-            Err((fault, _conn)) => Err(fault),
+        match Connection::open_in_memory(alloc) {
+            Ok(conn) => TableStore::over_connection(alloc, conn),
+            Err(_) => Err(OpenFault::Memory),
         }
     }
 }
@@ -74,9 +87,9 @@ impl TableStore<FileStore<File>> {
         ensures opened { IfOk result (λ store. HasCleanDisk (file_state store.conn)
             → IsStored (file_state store.conn) (content_of store.lists)) }
     {
-        match TableStore::adopt(alloc, open_connection(rt, path)?) {
-            Ok(store) => Ok(store),
-            Err((fault, _conn)) => Err(fault),
+        match open_connection(rt, path) {
+            Ok(conn) => TableStore::over_connection(alloc, conn),
+            Err(fault) => Err(fault),
         }
     }
 }
