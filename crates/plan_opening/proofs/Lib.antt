@@ -3,3 +3,4 @@ pub mod RowidLemmas
 pub mod FirstRows
 pub mod StoredLemmas
 pub mod OpenedLemmas
+pub mod ReadableLemmas

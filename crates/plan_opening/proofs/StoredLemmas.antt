@@ -1,8 +1,10 @@
 -- What tables show, and the definitions that have these rows.
-use Rattle.std.proofs.Common.{◌↔◌, List, map}
+use Rattle.std.proofs.Common.{◌≡◌, ◌↔◌, List, [], ◌∷◌, map, ap, sym, subst, arith}
 use Rattle.std.specs.List.{Contains}
 use Rattle.std.specs.List.Sorted.{IsPermutation}
-use Rattle.std.proofs.lemmas.List.Sorted.{Contains-permutation, IsPermutation-sym}
+use Rattle.std.proofs.lemmas.List.Sorted.{Contains-permutation, IsPermutation-sym, length_permutation}
+use Rattle.plan_lists.proofs.KeyLemmas.{contains_first, one_is}
+use Rattle.plan_opening.specs.Held.{AreKnown}
 use Rattle.sqlite.specs.Order.{Row as Values}
 use Rattle.app_definitions.specs.declared.definitions.Definitions.{Definitions}
 use Rattle.app_definitions.specs.declared.options.Options.{Options}
@@ -53,3 +55,16 @@ pub stored_content : (all : Tables) (lists : PlanLists) (stored : StoredRows) (d
     → IsContentOf all c
 stored_content all lists stored d c rows has plans definitions =
     is_content all d lists c plans (tell_definitions all stored lists.meta.options d definitions rows) rows.options has
+
+one_kept : (xs : List Values) (cells : Values) → IsPermutation xs (cells ∷ []) → xs ≡ cells ∷ []
+one_kept [] cells same = absurd (omega (arith, length_permutation _ _ same))
+one_kept (a ∷ []) cells same = ap (λ (v : Values). v ∷ []) (sym (one_is cells a
+    (Contains-permutation (a ∷ []) (cells ∷ []) a same (contains_first a []))))
+one_kept (a ∷ b ∷ xs) cells same = absurd (omega (arith, length_permutation _ _ same))
+
+-- one row alone is known in any order
+pub still_known : (xs ys : List Values) → IsPermutation xs ys → AreKnown ys ↔ AreKnown xs
+still_known xs ys same = (
+  (λ known. (known.0, one_kept xs known.0 (subst (IsPermutation xs) known.1 same), known.2)),
+  λ known. (known.0, one_kept ys known.0 (subst (IsPermutation ys) known.1 (IsPermutation-sym _ _ same)), known.2),
+)

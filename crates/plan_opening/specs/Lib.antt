@@ -4,3 +4,4 @@ pub mod Places
 pub mod Stored
 pub mod Faults
 pub mod Opened
+pub mod Held

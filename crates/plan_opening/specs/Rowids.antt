@@ -1,15 +1,15 @@
 -- Rowids as they are shown.
-use Rattle.std.specs.Prelude.{◌≡◌, ℕ, ◌<◌, List, [], ◌∷◌, pos, negsuc, codes}
+use Rattle.std.specs.Prelude.{◌≡◌, ℕ, ◌<◌, ◌+◌, ◌*◌, List, [], ◌∷◌, pos, negsuc, codes, IsTrue}
 use Rattle.std.specs.List.{All, AllPairs}
 use Rattle.sqlite.specs.Order.{Row as Values, column}
 use Rattle.sqlite.specs.Term.{Term, col, eval_all}
+use Rattle.sqlite.specs.View.{is_int}
 use Rattle.sqlite.specs.declared.types.Value.{Value}
 use Rattle.sqlite.specs.declared.types.Value.TheVariants.{Null, Int, Real, Text, Blob}
 use Rattle.plan_schema.specs.declared.tables.Table.{Table}
 use Rattle.plan_schema.specs.declared.tables.Table.TheVariants.{Meta, CalendarEntry, Period, Application, RunCycle}
 use Rattle.plan_schema.specs.declared.tables.Table.TheVariants.{Offset, Predecessor, LinkInForce, LongTerm, Current}
 use Rattle.plan_schema.specs.declared.tables.Table.TheVariants.{History, Deletion, Dependency, Job}
-use Rattle.plan_facts.specs.Facts.{natural}
 
 -- shows the rowids of the table
 abbrev pub rowid_sql : Table → List ℕ
@@ -35,16 +35,22 @@ rowid_terms = col 1 0 ∷ []
 abbrev pub rowid_shown : Values → Values
 rowid_shown row = eval_all rowid_terms ([] ∷ row ∷ [])
 
--- the number that a value is, or 0
-abbrev pub number_of : Value → ℕ
-number_of (Int (pos n)) = n
-number_of (Int (negsuc n)) = 0
-number_of Null = 0
-number_of (Real x) = 0
-number_of (Text t) = 0
-number_of (Blob b) = 0
+-- the place of an integer in the order 0, -1, 1, -2 and so on; 0 of any other value
+abbrev pub place_of : Value → ℕ
+place_of (Int (pos n)) = n * 2
+place_of (Int (negsuc n)) = n * 2 + 1
+place_of Null = 0
+place_of (Real x) = 0
+place_of (Text t) = 0
+place_of (Blob b) = 0
 
--- each has a number first, and a greater one than all before it
-pub record AreRising (rows : List Values) : Type 0 where
-  pub numbers : All (λ (r : Values). column r 0 ≡ natural (number_of (column r 0))) rows
-  pub rise : AllPairs (λ (a b : Values). number_of (column a 0) < number_of (column b 0)) rows
+-- each has an integer first
+abbrev pub AreIntegers : List Values → Type 0
+AreIntegers rows = All (λ (r : Values). IsTrue (is_int (column r 0))) rows
+
+-- each has its integer at a greater place than all before it
+abbrev pub PlacesRise : List Values → Type 0
+PlacesRise rows = AllPairs (λ (a b : Values). place_of (column a 0) < place_of (column b 0)) rows
+
+abbrev pub AreRising : List Values → Type 0
+AreRising rows = AreIntegers rows × PlacesRise rows

@@ -1,7 +1,8 @@
 // Why a database of a plan is not opened.
 
-ghost use Rattle.std.specs.Prelude.{◌≡◌};
+ghost use Rattle.std.specs.Prelude.{◌≡◌, ◌⊎◌};
 ghost use Rattle.plan_opening.specs.Faults.{fault_for, number_of};
+ghost use Rattle.plan_opening.specs.declared.faults.OpenFault.TheVariants.{Memory, Device};
 
 use sqlite::{Error, ErrorCode};
 use thiserror::Error as Fault;
@@ -28,7 +29,8 @@ pub enum OpenFault {
 
 /// The fault of a call that failed: memory, the device, or else this one.
 pub(crate) fn fault_for(error: &Error, other: OpenFault) -> OpenFault
-    ensures { result ≡ fault_for error.now other }
+    ensures value { result ≡ fault_for error.now other }
+    ensures cases { (result ≡ Memory) ⊎ (result ≡ Device) ⊎ (result ≡ other) }
 {
     match error {
         Error::SqliteFailure(ErrorCode::OutOfMemory) => OpenFault::Memory,

@@ -1,16 +1,19 @@
 // A database is opened.
 
-ghost use Rattle.std.specs.Prelude.{◌≡◌, false, is_ok, IfOk, IsTrue};
+ghost use Rattle.std.specs.Prelude.{◌≡◌, ◌↔◌, false, is_ok, map, Err, IfOk, IsTrue};
 ghost use Rattle.sqlite.specs.State.{HasCleanDisk, Survives};
 ghost use Rattle.sqlite.specs.Held.{state};
 ghost use Rattle.planner_machine.specs.Content.{nothing_known};
 ghost use Rattle.planner_machine.specs.Sound.{IsSound};
-ghost use Rattle.plan_schema.specs.Rows.{Tables};
+ghost use Rattle.plan_schema.specs.Rows.{Tables, shown, tables_of};
+ghost use Rattle.plan_schema.specs.declared.tables.Table.TheVariants.{Meta};
 ghost use Rattle.plan_schema.specs.Schema.{no_schema};
 ghost use Rattle.plan_store.specs.Contents.{content_of};
 ghost use Rattle.plan_facts.specs.Content.{IsContentOf};
 ghost use Rattle.plan_reading.specs.Reading.{HasPlan, Looks};
 ghost use Rattle.plan_reading.specs.Tables.{TellPlans};
+ghost use Rattle.plan_opening.specs.declared.faults.OpenFault.TheVariants.{Rows, Unopened};
+ghost use Rattle.plan_opening.specs.Held.{AreKnown, HoldSound, HoldsPlan};
 ghost use Rattle.plan_opening.specs.Opened.{IsStored, MakesFirst};
 ghost use Rattle.plan_opening.specs.Stored.{TellStored};
 
@@ -19,6 +22,7 @@ use crate::making::make_first;
 use crate::schemas::{has_plan, is_blank};
 use crate::whole::{DefinitionPart, PlanPart, RowidPart, content_of_tables};
 use definition_rows::StoredRows;
+use plan_facts::tables_have_one_content;
 use plan_reading::{Part, PlanLists};
 use plan_schema::{Table, select};
 use plan_soundness::is_sound;
@@ -32,6 +36,8 @@ use std::alloc::Global;
 fn if_sound(alloc: Global, content: Content) -> Result<Content, OpenFault>
     ensures sound { IfOk result (λ same. IsSound (content_of same)) }
     ensures same { IfOk result (λ same. content_of same ≡ content_of content) }
+    ensures refused { result ≡ Err Rows → IsSound (content_of content) → ⊥ }
+    ensures version { result ≡ Err Unopened → ⊥ }
 {
     match is_sound(alloc, &content) {
         Ok(true) => Ok(content),
@@ -45,7 +51,11 @@ fn sound_content(alloc: Global, lists: PlanLists, stored: &StoredRows) -> Result
     ensures sound { IfOk result (λ content. IsSound (content_of content)) }
     ensures content { IfOk result (λ content. (all : Tables) → TellPlans all lists → TellStored all stored.now
         → IsContentOf all (content_of content)) }
+    ensures refused { result ≡ Err Rows → (all : Tables) → TellPlans all lists → TellStored all stored.now
+        → HoldSound all → ⊥ }
+    ensures version { result ≡ Err Unopened → ⊥ }
 {
+    tables_have_one_content();
     match content_of_tables(alloc, lists, stored) {
         Ok(Some(content)) => if_sound(alloc, content),
         Ok(None) => Err(OpenFault::Rows),
@@ -54,7 +64,9 @@ fn sound_content(alloc: Global, lists: PlanLists, stored: &StoredRows) -> Result
 }
 
 // Whether these are the one row of a known version.
-fn is_known(rows: &[Cells]) -> bool {
+fn is_known(rows: &[Cells]) -> bool
+    ensures { IsTrue result ↔ AreKnown rows.now }
+{
     match rows {
         [cells] => matches!(cells.get_ref(1), Ok(ValueRef::Int(1))),
         _ => false,
@@ -63,6 +75,8 @@ fn is_known(rows: &[Cells]) -> bool {
 
 // Whether the tables of the plan are of a known version.
 fn has_version<S: Alter>(conn: &mut Connection<S>) -> Result<bool, Error>
+    ensures told { HasCleanDisk (state S.Store conn.new) → HasPlan (state S.Store conn.old) → IfOk result (λ b.
+        IsTrue b ↔ AreKnown (map (shown Meta) (tables_of (state S.Store conn.old).now.trees Meta))) }
     ensures looks { Looks (state S.Store conn.old) (state S.Store conn.new) (is_ok result) }
     ensures mode { conn.old.in_transaction ≡ false → conn.new.in_transaction ≡ false }
 {
@@ -76,6 +90,8 @@ fn read_whole<S: Alter>(alloc: Global, conn: &mut Connection<S>) -> Result<Conte
     ensures opened { HasCleanDisk (state S.Store conn.new) → HasPlan (state S.Store conn.old)
         → IfOk result (λ content. IsStored (state S.Store conn.new) (content_of content)) }
     ensures sound { IfOk result (λ content. IsSound (content_of content)) }
+    ensures rows { HasCleanDisk (state S.Store conn.new) → HoldsPlan (state S.Store conn.old) → result ≡ Err Rows → ⊥ }
+    ensures version { result ≡ Err Unopened → ⊥ }
     ensures mode { conn.new.in_transaction ≡ false }
     ensures survives { Survives (state S.Store conn.old) (state S.Store conn.new)
         (λ _. HasPlan (state S.Store conn.old) → ⊥) }
@@ -98,6 +114,9 @@ fn open_plan<S: Alter>(alloc: Global, conn: &mut Connection<S>) -> Result<Conten
     ensures opened { HasCleanDisk (state S.Store conn.new)
         → IfOk result (λ content. IsStored (state S.Store conn.new) (content_of content)) }
     ensures sound { IfOk result (λ content. IsSound (content_of content)) }
+    ensures rows { HasCleanDisk (state S.Store conn.new) → HoldsPlan (state S.Store conn.old) → result ≡ Err Rows → ⊥ }
+    ensures version { HasCleanDisk (state S.Store conn.new)
+        → AreKnown (map (shown Meta) (tables_of (state S.Store conn.old).now.trees Meta)) → result ≡ Err Unopened → ⊥ }
     ensures mode { conn.new.in_transaction ≡ false }
     ensures survives { Survives (state S.Store conn.old) (state S.Store conn.new) (λ _. ⊥) }
 {
@@ -157,6 +176,9 @@ pub fn open_content<S: Alter>(alloc: Global, conn: &mut Connection<S>) -> Result
     ensures sound { IfOk result (λ content. IsSound (content_of content)) }
     ensures empty { (state S.Store conn.old).now.schema ≡ no_schema
         → IfOk result (λ content. content_of content ≡ nothing_known) }
+    ensures rows { HasCleanDisk (state S.Store conn.new) → HoldsPlan (state S.Store conn.old) → result ≡ Err Rows → ⊥ }
+    ensures version { HasCleanDisk (state S.Store conn.new) → HoldsPlan (state S.Store conn.old)
+        → result ≡ Err Unopened → ⊥ }
     ensures mode { conn.new.in_transaction ≡ false }
     ensures crash { Survives (state S.Store conn.old) (state S.Store conn.new) (MakesFirst (state S.Store conn.old)) }
 {

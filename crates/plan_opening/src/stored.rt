@@ -26,6 +26,8 @@ impl<const PLACE: usize> Part for Shown<PLACE> {
 
     ghost in_order = { λ _. Unit {0} };
 
+    ghost readable = { λ _. Unit {0} };
+
     fn read<S: Alter>(_: Global, conn: &mut Connection<S>) -> Result<Option<Shown<PLACE>>, Error> {
         match select(conn, table_at(PLACE)) {
             Ok(rows) => Ok(Some(Shown { rows })),

@@ -1,6 +1,6 @@
 // All that the tables show, read one after another.
 
-ghost use Rattle.std.specs.Prelude.{◌≡◌, false, is_ok, IfOk, IfSome};
+ghost use Rattle.std.specs.Prelude.{◌≡◌, false, is_ok, None, IfOk, IfSome, IsSome};
 ghost use Rattle.sqlite.specs.State.{HasCleanDisk};
 ghost use Rattle.sqlite.specs.Held.{state};
 ghost use Rattle.plan_schema.specs.Rows.{Tables, tables_of};
@@ -9,7 +9,10 @@ ghost use Rattle.plan_facts.specs.Content.{IsContentOf};
 ghost use Rattle.plan_reading.specs.Lists.{HasLists};
 ghost use Rattle.plan_reading.specs.Reading.{HasPlan, Looks};
 ghost use Rattle.plan_reading.specs.Tables.{TellPlans};
+ghost use Rattle.app_definitions.specs.declared.definitions.Definitions.{Definitions as DefinitionsValue};
+ghost use Rattle.definition_rows.specs.Defined.{AreSoundDefinitions};
 ghost use Rattle.definition_rows.specs.Storing.{HaveRows};
+ghost use Rattle.plan_reading.specs.Readable.{ArePlansReadable};
 ghost use Rattle.plan_opening.specs.Stored.{AllHaveRowids, TellStored};
 
 use crate::rowids::Rowids;
@@ -51,6 +54,8 @@ impl Part for PlanPart {
 
     ghost in_order = { λ _. Unit {0} };
 
+    ghost readable = { ArePlansReadable };
+
     fn read<S: Alter>(alloc: Global, conn: &mut Connection<S>) -> Result<Option<PlanPart>, Error> {
         match read_lists(alloc, conn) {
             Ok(Some(lists)) => Ok(Some(PlanPart { lists })),
@@ -86,6 +91,8 @@ impl Part for DefinitionPart {
 
     ghost in_order = { λ _. Unit {0} };
 
+    ghost readable = { λ _. Unit {0} };
+
     fn read<S: Alter>(
         alloc: Global,
         conn: &mut Connection<S>,
@@ -116,6 +123,8 @@ impl Part for RowidPart {
 
     ghost in_order = { λ _. Unit {0} };
 
+    ghost readable = { AllHaveRowids };
+
     fn read<S: Alter>(alloc: Global, conn: &mut Connection<S>) -> Result<Option<RowidPart>, Error> {
         match AllRowids::read(alloc, conn) {
             Ok(Some(parts)) => Ok(Some(are_all(parts))),
@@ -131,7 +140,8 @@ fn some_content(
     definitions: Definitions,
     lists: PlanLists,
 ) -> Result<Option<Content>, AllocError>
-    ensures { IfOk result (λ found. IfSome found (λ content. HasLists definitions lists (content_of content))) }
+    ensures made { IfOk result (λ found. IfSome found (λ content. HasLists definitions lists (content_of content))) }
+    ensures some { IfOk result IsSome }
 {
     Ok(Some(content_of_lists(alloc, definitions, lists)?))
 }
@@ -142,19 +152,23 @@ fn found_definitions(
     lists: &PlanLists,
     stored: &StoredRows,
 ) -> Result<Option<Definitions>, AllocError>
-    ensures { IfOk result (λ found. IfSome found (HaveRows stored.now lists.now.meta.options)) }
+    ensures made { IfOk result (λ found. IfSome found (HaveRows stored.now lists.now.meta.options)) }
+    ensures refused { IfOk result (λ found. found ≡ None → (all : DefinitionsValue) → AreSoundDefinitions all
+        → HaveRows stored.now lists.now.meta.options all → ⊥) }
 {
     definitions_of_rows(alloc, stored, lists.meta.options)
 }
 
-/// The content that has these lists and rows; `None` where no definitions are found that have these rows.
+/// The content that has these lists and rows; `None` where no sound definitions have these rows.
 pub(crate) fn content_of_tables(
     alloc: Global,
     lists: PlanLists,
     stored: &StoredRows,
 ) -> Result<Option<Content>, AllocError>
-    ensures { IfOk result (λ found. IfSome found (λ content. (all : Tables) → TellPlans all lists
+    ensures made { IfOk result (λ found. IfSome found (λ content. (all : Tables) → TellPlans all lists
         → TellStored all stored.now → IsContentOf all (content_of content))) }
+    ensures refused { IfOk result (λ found. found ≡ None → (all : DefinitionsValue) → AreSoundDefinitions all
+        → HaveRows stored.now lists.meta.options all → ⊥) }
 {
     match found_definitions(alloc, &lists, stored) {
         Ok(Some(definitions)) => some_content(alloc, definitions, lists),

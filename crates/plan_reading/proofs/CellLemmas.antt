@@ -15,7 +15,7 @@ use Rattle.app_definitions.specs.declared.options.Options.{Options}
 use Rattle.planner_machine.specs.declared.content.Bounds.{Bounds}
 use Rattle.plan_facts.specs.Content.{answer_text, job_values, meta_values}
 use Rattle.plan_facts.specs.Facts.{current_values, deletion_values, link_values, natural, pair_values, row_values}
-use Rattle.plan_reading.specs.Cells.{HasBounds, Leads}
+use Rattle.plan_reading.specs.Cells.{HasBounds, HasOptions, Leads}
 
 pub two : (cells : Values) → length cells ≡ 2 → column cells 0 ∷ column cells 1 ∷ [] ≡ cells
 two [] len = absurd (omega arith)
@@ -106,6 +106,12 @@ pub job_from : (job : Job) (cells : Values) → length cells ≡ 3 → column ce
     → column cells 1 ≡ Blob job.text → column cells 2 ≡ Text (answer_text job.reply) → job_values job ≡ cells
 job_from job cells len number text line = (λ i. sym number i ∷ sym text i ∷ sym line i ∷ []) ∙ three cells len
 
+pub job_is : (job : Job) (cells : Values) → job_values job ≡ cells → (length cells ≡ 3)
+    × (column cells 0 ≡ natural job.number) × (column cells 1 ≡ Blob job.text)
+    × (column cells 2 ≡ Text (answer_text job.reply))
+job_is job cells is = subst (λ l. (length l ≡ 3) × (column l 0 ≡ natural job.number) × (column l 1 ≡ Blob job.text)
+    × (column l 2 ≡ Text (answer_text job.reply))) is (refl, refl, refl, refl)
+
 nine : (cells : Values) → length cells ≡ 9 → column cells 0 ∷ column cells 1 ∷ column cells 2 ∷ column cells 3
     ∷ column cells 4 ∷ column cells 5 ∷ column cells 6 ∷ column cells 7 ∷ column cells 8 ∷ [] ≡ cells
 nine [] len = absurd (omega arith)
@@ -126,7 +132,43 @@ meta_from (Some bounds) issued options cells len id version (a, b, c, d) number 
     ∷ sym hours i ∷ [])
     ∙ nine cells len
 
+-- the cells of a row of `plan_meta`
+pub record AreMetaCells (bounds : Option Bounds) (issued : ℕ) (options : Options) (cells : Values) : Type 0 where
+  pub size : length cells ≡ 9
+  pub id : column cells 0 ≡ natural 1
+  pub version : column cells 1 ≡ natural 1
+  pub reach : HasBounds bounds cells
+  pub serials : column cells 6 ≡ natural issued
+  pub chosen : HasOptions options cells
+
+meta_cells : (bounds : Option Bounds) (issued : ℕ) (options : Options)
+    → AreMetaCells bounds issued options (meta_values bounds issued options)
+meta_cells None issued options = record {
+  size = refl;
+  id = refl;
+  version = refl;
+  reach = (refl, refl, refl, refl);
+  serials = refl;
+  chosen = (refl, refl);
+}
+meta_cells (Some b) issued options = record {
+  size = refl;
+  id = refl;
+  version = refl;
+  reach = (refl, refl, refl, refl);
+  serials = refl;
+  chosen = (refl, refl);
+}
+
+pub meta_is : (bounds : Option Bounds) (issued : ℕ) (options : Options) (cells : Values)
+    → meta_values bounds issued options ≡ cells → AreMetaCells bounds issued options cells
+meta_is bounds issued options cells is = subst (AreMetaCells bounds issued options) is (meta_cells bounds issued options)
+
 -- what a row of the kind asks for
+pub ruleset of_meta = (meta_from, meta_is)
+
+pub ruleset of_job = (job_from, job_is)
+
 pub ruleset of_row = (row_from, row_leads, row_size)
 
 pub ruleset of_current = (current_from, current_leads, current_rest)

@@ -4,3 +4,4 @@ pub mod FactLemmas
 pub mod MadeLemmas
 pub mod LookLemmas
 pub mod TableLemmas
+pub mod OrderLemmas

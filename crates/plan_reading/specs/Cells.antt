@@ -1,16 +1,23 @@
 -- The cells of a row.
-use Rattle.std.specs.Prelude.{◌≡◌, Option, Some, None, option_map}
+use Rattle.std.specs.Prelude.{◌≡◌, ◌<◌, ◌^◌, Option, Some, None, IfSome, option_map, Result}
 use Rattle.sqlite.specs.Order.{Row as Values, column}
 use Rattle.sqlite.specs.declared.types.Value.TheVariants.{Text}
+use Rattle.work_calendars.specs.Day.{IsDay}
+use Rattle.work_calendars.specs.Moment.{IsMoment}
 use Rattle.work_calendars.specs.Name.{IsName}
+use Rattle.app_definitions.specs.declared.options.Options.{Options}
 use Rattle.occurrences.specs.Row.{run_cycle_of}
 use Rattle.occurrences.specs.Serial.{IsSerial}
+use Rattle.occurrences.specs.declared.refusal.Refusal.{Refusal}
+use Rattle.occurrences.specs.declared.reply.Reply.{Reply}
 use Rattle.occurrences.specs.declared.row.Row.{Row}
 use Rattle.external_dependencies.specs.declared.links.Link.{Link}
 use Rattle.external_dependencies.specs.declared.pairs.Pair.{Pair}
 use Rattle.planner_machine.specs.Sound.{IsRow}
 use Rattle.planner_machine.specs.declared.content.Bounds.{Bounds}
+use Rattle.planner_machine.specs.declared.job.Job.{Job}
 use Rattle.plan_facts.specs.Facts.{natural, or_null}
+use Rattle.plan_reading.specs.declared.meta.Meta.{Meta}
 
 -- the first five cells are those of the occurrence
 pub record Leads (row : Row) (cells : Values) : Type 0 where
@@ -27,7 +34,27 @@ HasBounds None cells = (column cells 2 ≡ natural 0) × (column cells 3 ≡ nat
 HasBounds (Some b) cells = (column cells 2 ≡ natural 1) × (column cells 3 ≡ natural b.first_day)
     × (column cells 4 ≡ natural b.last_day) × (column cells 5 ≡ natural b.plan_end)
 
+-- two cells of `plan_meta` tell the options
+abbrev pub HasOptions : Options → Values → Type 0
+HasOptions options cells =
+    (column cells 7 ≡ Text options.default_calendar) × (column cells 8 ≡ natural options.max_extension_hours)
+
 -- ---- forms and ranges
+
+abbrev pub AreDays : Bounds → Type 0
+AreDays b = IsDay b.first_day × IsDay b.last_day × IsMoment b.plan_end
+
+-- an answer of which it is said that it is read back from its line
+abbrev pub IsReadAnswer : Result Reply Refusal → Type 0
+IsReadAnswer answer = ⊥
+
+abbrev pub IsReadJob : Job → Type 0
+IsReadJob job = IsReadAnswer job.reply
+
+pub record IsMeta (meta : Meta) : Type 0 where
+  pub bounds : IfSome meta.bounds AreDays
+  pub issued : meta.issued < 2 ^ 32
+  pub default_calendar : IsName meta.options.default_calendar
 
 abbrev pub IsNumberedRow : Row → Type 0
 IsNumberedRow row = IsRow row × IsSerial row.serial

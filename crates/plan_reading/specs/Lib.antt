@@ -4,3 +4,4 @@ pub mod Lists
 pub mod Tables
 pub mod Reading
 pub mod Parts
+pub mod Readable

@@ -1,7 +1,10 @@
 // The lines that jobs were answered.
 
-ghost use Rattle.std.specs.Prelude.{◌≡◌, Ok, Err, IfOk, IfSome, IsTrue};
+ghost use Rattle.std.specs.Prelude.{◌≡◌, ◌↔◌, None, Result, Ok, Err, IfOk, IfSome, IsTrue};
+ghost use Rattle.occurrences.specs.declared.refusal.Refusal.{Refusal as RefusalValue};
+ghost use Rattle.occurrences.specs.declared.reply.Reply.{Reply as ReplyValue};
 ghost use Rattle.plan_facts.specs.Content.{answer_text, IsSmall};
+ghost use Rattle.plan_reading.specs.Cells.{IsReadAnswer};
 
 use occurrences::{Refusal, Reply, Serial, Status};
 use plan_listings::{refusal_line, reply_line};
@@ -155,7 +158,7 @@ fn answer_line(alloc: Global, answer: &Answer) -> Result<Vec<u8>, AllocError>
 
 // Whether this is the line of the answer.
 fn is_line(alloc: Global, answer: &Answer, line: &[u8]) -> Result<bool, AllocError>
-    ensures { IfOk result (λ b. IsTrue b → answer_text answer.now ≡ line.now) }
+    ensures { IfOk result (λ b. IsTrue b ↔ (answer_text answer.now ≡ line.now)) }
 {
     let written = answer_line(alloc, answer)?;
     Ok(written.as_slice() == line)
@@ -163,7 +166,9 @@ fn is_line(alloc: Global, answer: &Answer, line: &[u8]) -> Result<bool, AllocErr
 
 /// The answer whose line this is.
 pub(crate) fn told_answer(alloc: Global, line: &str) -> Result<Option<Answer>, AllocError>
-    ensures { IfOk result (λ found. IfSome found (λ answer. answer_text answer ≡ line.now)) }
+    ensures value { IfOk result (λ found. IfSome found (λ answer. answer_text answer ≡ line.now)) }
+    ensures none { IfOk result (λ found. found ≡ None → (answer : Result ReplyValue RefusalValue) → IsReadAnswer answer
+        → answer_text answer ≡ line.now → ⊥) }
 {
     let Some(answer) = answer_in(line) else {
         return Ok(None);

@@ -1,12 +1,15 @@
 // Kept jobs.
 
-ghost use Rattle.std.specs.Prelude.{◌≡◌, IfOk, IfSome};
+ghost use Rattle.std.specs.Prelude.{◌≡◌, ℕ, List, None, Result, IfOk, IfSome};
 ghost use Rattle.std.specs.List.{All};
 ghost use Rattle.sqlite.specs.Order.{column};
 ghost use Rattle.sqlite.specs.declared.types.Value.TheVariants.{Blob, Text};
 ghost use Rattle.planner_machine.specs.declared.job.Job.{Job as JobValue};
 ghost use Rattle.plan_facts.specs.Content.{answer_text, job_values, IsSmall};
 ghost use Rattle.plan_facts.specs.Facts.{natural};
+ghost use Rattle.occurrences.specs.declared.refusal.Refusal.{Refusal as RefusalValue};
+ghost use Rattle.occurrences.specs.declared.reply.Reply.{Reply as ReplyValue};
+ghost use Rattle.plan_reading.specs.Cells.{IsReadAnswer, IsReadJob};
 
 use crate::answers::{answer_is_small, told_answer};
 use crate::cells::text_at;
@@ -18,7 +21,8 @@ use std::alloc::{AllocError, Global};
 
 // The job's number in the cell, if it holds one.
 fn number_in(cells: &Cells, at: usize) -> Option<u64>
-    ensures { IfSome result (λ n. column cells.now at ≡ natural n) }
+    ensures value { IfSome result (λ n. column cells.now at ≡ natural n) }
+    ensures none { result ≡ None → (n : ℕ) → column cells.now at ≡ natural n → ⊥ }
 {
     match cells.get_ref(at) {
         Ok(ValueRef::Int(n)) => u64::try_from(n).ok(),
@@ -28,7 +32,8 @@ fn number_in(cells: &Cells, at: usize) -> Option<u64>
 
 // The bytes in the cell, if it holds bytes.
 fn bytes_in(alloc: Global, cells: &Cells, at: usize) -> Result<Option<Vec<u8>>, AllocError>
-    ensures { IfOk result (λ found. IfSome found (λ bytes. column cells.now at ≡ Blob bytes.items)) }
+    ensures value { IfOk result (λ found. IfSome found (λ bytes. column cells.now at ≡ Blob bytes.items)) }
+    ensures none { IfOk result (λ found. found ≡ None → (bytes : List ℕ) → column cells.now at ≡ Blob bytes → ⊥) }
 {
     match cells.get_ref(at) {
         Ok(ValueRef::Blob(bytes)) => Ok(Some(bytes.to_vec(alloc)?)),
@@ -38,7 +43,9 @@ fn bytes_in(alloc: Global, cells: &Cells, at: usize) -> Result<Option<Vec<u8>>, 
 
 // The answer in the cell, if it holds one's line.
 fn answer_at(alloc: Global, cells: &Cells, at: usize) -> Result<Option<Answer>, AllocError>
-    ensures { IfOk result (λ found. IfSome found (λ answer. column cells.now at ≡ Text (answer_text answer))) }
+    ensures value { IfOk result (λ found. IfSome found (λ answer. column cells.now at ≡ Text (answer_text answer))) }
+    ensures none { IfOk result (λ found. found ≡ None → (answer : Result ReplyValue RefusalValue) → IsReadAnswer answer
+        → column cells.now at ≡ Text (answer_text answer) → ⊥) }
 {
     match text_at(cells, at) {
         Some(line) => told_answer(alloc, line),
@@ -46,9 +53,11 @@ fn answer_at(alloc: Global, cells: &Cells, at: usize) -> Result<Option<Answer>, 
     }
 }
 
-#[tactic(auto, using(crate::proofs::CellLemmas::job_from))]
+#[tactic(auto, using(crate::proofs::CellLemmas::of_job))]
 fn told_job(alloc: Global, cells: &Cells) -> Result<Option<Job>, AllocError>
-    ensures { IfOk result (λ found. IfSome found (λ job. job_values job ≡ cells.now)) }
+    ensures value { IfOk result (λ found. IfSome found (λ job. job_values job ≡ cells.now)) }
+    ensures none { IfOk result (λ found. found ≡ None → (job : JobValue) → IsReadJob job → job_values job ≡ cells.now
+        → ⊥) }
 {
     if cells.column_count() != 3 {
         return Ok(None);
@@ -72,8 +81,7 @@ fn told_job(alloc: Global, cells: &Cells) -> Result<Option<Job>, AllocError>
 impl Told for Job {
     ghost values = { job_values };
 
-    // nothing is said yet of lines that no answer has
-    ghost has_form = { λ _. ⊥ };
+    ghost has_form = { IsReadJob };
 
     fn tell(alloc: Global, cells: &Cells) -> Result<Option<Job>, AllocError> {
         told_job(alloc, cells)

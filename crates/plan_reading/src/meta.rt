@@ -1,11 +1,15 @@
 // How far the plans reach, and the options.
 
-ghost use Rattle.std.specs.Prelude.{◌≡◌, Some, IfSome, IsTrue};
+ghost use Rattle.std.specs.Prelude.{◌≡◌, ◌↔◌, ◌<◌, ◌^◌, ℕ, Option, Some, None, IfSome, IsTrue};
 ghost use Rattle.sqlite.specs.Order.{column};
 ghost use Rattle.sqlite.specs.declared.types.Value.TheVariants.{Text};
 ghost use Rattle.plan_facts.specs.Content.{meta_values};
 ghost use Rattle.plan_facts.specs.Facts.{natural};
-ghost use Rattle.plan_reading.specs.Cells.{HasBounds};
+ghost use Rattle.app_definitions.specs.declared.options.Options.{Options as OptionsValue};
+ghost use Rattle.planner_machine.specs.declared.content.Bounds.{Bounds as BoundsValue};
+ghost use Rattle.work_calendars.specs.Name.{IsName};
+ghost use Rattle.plan_reading.specs.declared.meta.Meta.{Meta as MetaValue};
+ghost use Rattle.plan_reading.specs.Cells.{AreDays, HasBounds, HasOptions, IsMeta};
 
 use crate::cells::{day_at, moment_at, name_at, number_at};
 use crate::told::Told;
@@ -27,7 +31,7 @@ pub struct Meta {
 
 // Whether the cell holds this number.
 fn is_number(cells: &Cells, at: usize, n: u32) -> bool
-    ensures { IsTrue result → column cells.now at ≡ natural n }
+    ensures { IsTrue result ↔ (column cells.now at ≡ natural n) }
 {
     match number_at(cells, at) {
         Some(m) => m == n,
@@ -37,10 +41,7 @@ fn is_number(cells: &Cells, at: usize, n: u32) -> bool
 
 // That there is no plan.
 fn is_unplanned(cells: &Cells) -> bool
-    ensures first { IsTrue result → column cells.now 2 ≡ natural 0 }
-    ensures second { IsTrue result → column cells.now 3 ≡ natural 0 }
-    ensures third { IsTrue result → column cells.now 4 ≡ natural 0 }
-    ensures fourth { IsTrue result → column cells.now 5 ≡ natural 0 }
+    ensures { IsTrue result ↔ HasBounds None cells.now }
 {
     is_number(cells, 2, 0)
         && is_number(cells, 3, 0)
@@ -50,7 +51,8 @@ fn is_unplanned(cells: &Cells) -> bool
 
 // How far a plan reaches.
 fn told_plan(cells: &Cells) -> Option<Bounds>
-    ensures { IfSome result (λ bounds. HasBounds (Some bounds) cells.now) }
+    ensures value { IfSome result (λ bounds. HasBounds (Some bounds) cells.now) }
+    ensures none { result ≡ None → (bounds : BoundsValue) → AreDays bounds → HasBounds (Some bounds) cells.now → ⊥ }
 {
     if !is_number(cells, 2, 1) {
         return None;
@@ -67,7 +69,9 @@ fn told_plan(cells: &Cells) -> Option<Bounds>
 
 // How far the plans reach.
 fn told_bounds(cells: &Cells) -> Option<Option<Bounds>>
-    ensures { IfSome result (λ bounds. HasBounds bounds cells.now) }
+    ensures value { IfSome result (λ bounds. HasBounds bounds cells.now) }
+    ensures none { result ≡ None → (bounds : Option BoundsValue) → IfSome bounds AreDays → HasBounds bounds cells.now
+        → ⊥ }
 {
     if is_unplanned(cells) {
         Some(None)
@@ -81,8 +85,9 @@ fn told_bounds(cells: &Cells) -> Option<Option<Bounds>>
 
 // The options.
 fn told_options(cells: &Cells) -> Option<Options>
-    ensures { IfSome result (λ options. (column cells.now 7 ≡ Text options.default_calendar)
-        × (column cells.now 8 ≡ natural options.max_extension_hours)) }
+    ensures value { IfSome result (λ options. HasOptions options cells.now) }
+    ensures none { result ≡ None → (options : OptionsValue) → IsName options.default_calendar
+        → HasOptions options cells.now → ⊥ }
 {
     let default_calendar = name_at(cells, 7)?;
     let hours = number_at(cells, 8)?;
@@ -95,9 +100,11 @@ fn told_options(cells: &Cells) -> Option<Options>
     })
 }
 
-#[tactic(auto, using(crate::proofs::CellLemmas::meta_from))]
+#[tactic(auto, using(crate::proofs::CellLemmas::of_meta))]
 fn told_meta(cells: &Cells) -> Option<Meta>
-    ensures { IfSome result (λ meta. meta_values meta.bounds meta.issued meta.options ≡ cells.now) }
+    ensures value { IfSome result (λ meta. meta_values meta.bounds meta.issued meta.options ≡ cells.now) }
+    ensures none { result ≡ None → (meta : MetaValue) → IsMeta meta
+        → meta_values meta.bounds meta.issued meta.options ≡ cells.now → ⊥ }
 {
     if cells.column_count() != 9 {
         return None;
@@ -121,8 +128,7 @@ fn told_meta(cells: &Cells) -> Option<Meta>
 impl Told for Meta {
     ghost values = { λ meta. meta_values meta.bounds meta.issued meta.options };
 
-    // nothing is said of what no plan and no options have
-    ghost has_form = { λ _. ⊥ };
+    ghost has_form = { IsMeta };
 
     fn tell(_: Global, cells: &Cells) -> Result<Option<Meta>, AllocError> {
         Ok(told_meta(cells))

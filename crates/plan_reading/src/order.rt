@@ -1,7 +1,9 @@
 // Items in the order of their numbers.
 
-ghost use Rattle.std.specs.Prelude.{◌≡◌, ℕ, ◌<◌, IsTrue};
+ghost use Rattle.std.specs.Prelude.{◌≡◌, ◌≢◌, ◌↔◌, ℕ, ◌<◌, None, IfSome, IsTrue};
 ghost use Rattle.std.specs.List.{AllPairs};
+ghost use Rattle.std.specs.List.Sorted.{IsNonDecreasingBy, IsPermutation};
+ghost use Rattle.plan_reading.specs.Order.{AreInOrder};
 
 use occurrences::{CurrentRow, Deletion, Row};
 use planner_machine::Job;
@@ -48,17 +50,35 @@ impl Numbered for Job {
     }
 }
 
-/// Whether each has a number above 0 and above all before it.
-pub(crate) fn numbers_rise<X: Numbered>(xs: &[X]) -> bool
-    ensures { IsTrue result → AllPairs (λ x y. X.number_of x < X.number_of y) xs.now }
+/// Puts the items in the order of their numbers.
+pub(crate) fn sort_by_number<X: Numbered>(xs: &mut Vec<X>)
+    ensures same { IsPermutation xs.old.items xs.new.items }
+    ensures sorted { IsNonDecreasingBy X.number_of xs.new.items }
 {
-    let mut last = 0;
-    for x in xs {
-        let number = x.number();
+    xs.sort_unstable_by_key(|x| x.number());
+}
+
+/// Whether each has a number above all before it.
+pub(crate) fn numbers_rise<X: Numbered>(xs: &[X]) -> bool
+    ensures { IsTrue result ↔ AllPairs (λ x y. X.number_of x < X.number_of y) xs.now }
+{
+    for at in 1..xs.len() {
+        let last = xs[at - 1].number();
+        let number = xs[at].number();
         if number <= last {
             return false;
         }
-        last = number;
     }
     true
+}
+
+/// The items in the order of their numbers, if no two have the same.
+pub(crate) fn in_order<X: Numbered + Drop>(xs: Vec<X>) -> Option<Vec<X>>
+    ensures same { IfSome result (λ sorted. IsPermutation xs.items sorted.items) }
+    ensures order { IfSome result (λ sorted. AreInOrder X.number_of sorted.items) }
+    ensures refused { result ≡ None → AllPairs (λ x y. X.number_of x ≢ X.number_of y) xs.items → ⊥ }
+{
+    let mut xs = xs;
+    sort_by_number(&mut xs);
+    if numbers_rise(&xs) { Some(xs) } else { None }
 }

@@ -1,6 +1,6 @@
 // Parts of a content, each read from its table, one after another.
 
-ghost use Rattle.std.specs.Prelude.{◌≡◌, ◌∷◌, [], false, is_ok, IfOk, IfSome};
+ghost use Rattle.std.specs.Prelude.{◌≡◌, ◌∷◌, [], false, is_ok, length, None, IfOk, IfSome};
 ghost use Rattle.sqlite.specs.State.{HasCleanDisk};
 ghost use Rattle.sqlite.specs.Held.{state};
 ghost use Rattle.plan_schema.specs.Rows.{Tables, tables_of};
@@ -9,6 +9,8 @@ ghost use Rattle.plan_schema.specs.declared.tables.Table.TheVariants.{LinkInForc
 ghost use Rattle.plan_facts.specs.Content.{job_values};
 ghost use Rattle.plan_facts.specs.Facts.{row_values, current_values, deletion_values, pair_values, link_values};
 ghost use Rattle.plan_reading.specs.Order.{AreInOrder, row_number, current_number, deletion_number, job_number};
+ghost use Rattle.plan_reading.specs.Cells.{IsLink, IsNumberedRow, IsPair, IsReadJob};
+ghost use Rattle.plan_reading.specs.Readable.{ShowsEach, ShowsEachOnce, ShowsMeta};
 ghost use Rattle.plan_reading.specs.Reading.{HasPlan, Looks};
 ghost use Rattle.plan_reading.specs.Tables.{IsOneOf, ShowsOnly, TellsMeta};
 
@@ -29,11 +31,16 @@ pub trait Part: Sized + Drop {
     // what holds of it, whatever was read
     ghost in_order: { Self → Type 0 };
 
+    // all rows that it is read from can be read
+    ghost readable: { Tables → Type 0 };
+
     /// Reads it.
     fn read<S: Alter>(alloc: Global, conn: &mut Connection<S>) -> Result<Option<Self>, Error>
         ensures told { HasCleanDisk (state S.Store conn.new) → HasPlan (state S.Store conn.old)
             → IfOk result (λ found. IfSome found (tells (tables_of (state S.Store conn.old).now.trees))) }
         ensures order { IfOk result (λ found. IfSome found in_order) }
+        ensures refused { HasCleanDisk (state S.Store conn.new) → HasPlan (state S.Store conn.old)
+            → IfOk result (λ found. found ≡ None → readable (tables_of (state S.Store conn.old).now.trees) → ⊥) }
         ensures looks { Looks (state S.Store conn.old) (state S.Store conn.new) (is_ok result) }
         ensures mode { conn.old.in_transaction ≡ false → conn.new.in_transaction ≡ false };
 }
@@ -42,6 +49,8 @@ impl<A: Part, B: Part> Part for (A, B) {
     ghost tells = { λ all both. A.tells all both.0 × B.tells all both.1 };
 
     ghost in_order = { λ both. A.in_order both.0 × B.in_order both.1 };
+
+    ghost readable = { λ all. A.readable all × B.readable all };
 
     fn read<S: Alter>(alloc: Global, conn: &mut Connection<S>) -> Result<Option<(A, B)>, Error> {
         match A::read(alloc, conn) {
@@ -68,6 +77,8 @@ impl Part for LongTermRows {
 
     ghost in_order = { λ part. AreInOrder row_number part.rows.items };
 
+    ghost readable = { λ all. ShowsEachOnce all LongTerm row_values IsNumberedRow };
+
     fn read<S: Alter>(
         alloc: Global,
         conn: &mut Connection<S>,
@@ -91,6 +102,8 @@ impl Part for CurrentRows {
     ghost tells = { λ all part. ShowsOnly all Current (IsOneOf current_values part.rows.items) };
 
     ghost in_order = { λ part. AreInOrder current_number part.rows.items };
+
+    ghost readable = { λ all. ShowsEachOnce all Current current_values (λ current. IsNumberedRow current.row) };
 
     fn read<S: Alter>(
         alloc: Global,
@@ -116,6 +129,8 @@ impl Part for HistoryRows {
 
     ghost in_order = { λ part. AreInOrder row_number part.rows.items };
 
+    ghost readable = { λ all. ShowsEachOnce all History row_values IsNumberedRow };
+
     fn read<S: Alter>(
         alloc: Global,
         conn: &mut Connection<S>,
@@ -139,6 +154,8 @@ impl Part for DeletionRows {
     ghost tells = { λ all part. ShowsOnly all Gone (IsOneOf deletion_values part.rows.items) };
 
     ghost in_order = { λ part. AreInOrder deletion_number part.rows.items };
+
+    ghost readable = { λ all. ShowsEachOnce all Gone deletion_values (λ gone. IsNumberedRow gone.row) };
 
     fn read<S: Alter>(
         alloc: Global,
@@ -164,6 +181,8 @@ impl Part for LinkRows {
 
     ghost in_order = { λ _. Unit {0} };
 
+    ghost readable = { λ all. ShowsEach all LinkInForce link_values IsLink };
+
     fn read<S: Alter>(alloc: Global, conn: &mut Connection<S>) -> Result<Option<LinkRows>, Error> {
         match read_table(alloc, conn, Table::LinkInForce) {
             Ok(Some(links)) => Ok(Some(LinkRows { links })),
@@ -184,6 +203,8 @@ impl Part for PairRows {
     ghost tells = { λ all part. ShowsOnly all Dependency (IsOneOf pair_values part.pairs.items) };
 
     ghost in_order = { λ _. Unit {0} };
+
+    ghost readable = { λ all. ShowsEach all Dependency pair_values IsPair };
 
     fn read<S: Alter>(alloc: Global, conn: &mut Connection<S>) -> Result<Option<PairRows>, Error> {
         match read_table(alloc, conn, Table::Dependency) {
@@ -206,6 +227,8 @@ impl Part for JobRows {
 
     ghost in_order = { λ part. AreInOrder job_number part.jobs.items };
 
+    ghost readable = { λ all. ShowsEachOnce all Kept job_values IsReadJob };
+
     fn read<S: Alter>(alloc: Global, conn: &mut Connection<S>) -> Result<Option<JobRows>, Error> {
         match read_in_order(alloc, conn, Table::Job) {
             Ok(Some(jobs)) => Ok(Some(JobRows { jobs })),
@@ -220,6 +243,8 @@ impl Part for Meta {
 
     ghost in_order = { λ _. Unit {0} };
 
+    ghost readable = { ShowsMeta };
+
     fn read<S: Alter>(alloc: Global, conn: &mut Connection<S>) -> Result<Option<Meta>, Error> {
         match read_table(alloc, conn, Table::Meta) {
             Ok(Some(metas)) => Ok(only(metas)),
@@ -231,7 +256,8 @@ impl Part for Meta {
 
 // The one of the list, if there is just one.
 fn only(metas: Vec<Meta>) -> Option<Meta>
-    ensures { IfSome result (λ meta. metas.items ≡ meta ∷ []) }
+    ensures one { IfSome result (λ meta. metas.items ≡ meta ∷ []) }
+    ensures none { result ≡ None → length metas.items ≡ 1 → ⊥ }
 {
     let mut metas = metas;
     if metas.len() == 1 { metas.pop() } else { None }

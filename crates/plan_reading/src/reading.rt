@@ -1,10 +1,11 @@
 // All that the tables of the plans tell.
 
-ghost use Rattle.std.specs.Prelude.{◌≡◌, false, is_ok, IfOk, IfSome};
+ghost use Rattle.std.specs.Prelude.{◌≡◌, false, is_ok, None, IfOk, IfSome};
 ghost use Rattle.sqlite.specs.State.{HasCleanDisk};
 ghost use Rattle.sqlite.specs.Held.{state};
 ghost use Rattle.plan_schema.specs.Rows.{Tables, tables_of};
 ghost use Rattle.plan_reading.specs.Parts.{AreRowsInOrder, AreRestInOrder, TellRowParts, TellRest};
+ghost use Rattle.plan_reading.specs.Readable.{ArePlansReadable};
 ghost use Rattle.plan_reading.specs.Reading.{HasPlan, Looks};
 ghost use Rattle.plan_reading.specs.Tables.{TellPlans, TellRows};
 
@@ -49,13 +50,16 @@ fn lists_of(rows: PlanRows, rest: Rest) -> PlanLists
     }
 }
 
-/// All that the tables of the plans tell; `None` where they tell no lists in order.
+/// All that the tables of the plans tell; `None` where some row of them cannot be read, or two rows have one number.
 pub fn read_lists<S: Alter>(
     alloc: Global,
     conn: &mut Connection<S>,
 ) -> Result<Option<PlanLists>, Error>
     ensures told { HasCleanDisk (state S.Store conn.new) → HasPlan (state S.Store conn.old)
         → IfOk result (λ found. IfSome found (TellPlans (tables_of (state S.Store conn.old).now.trees))) }
+    ensures refused { HasCleanDisk (state S.Store conn.new) → HasPlan (state S.Store conn.old)
+        → IfOk result (λ found. found ≡ None
+        → ArePlansReadable (tables_of (state S.Store conn.old).now.trees) → ⊥) }
     ensures looks { Looks (state S.Store conn.old) (state S.Store conn.new) (is_ok result) }
     ensures mode { conn.old.in_transaction ≡ false → conn.new.in_transaction ≡ false }
 {

@@ -6,6 +6,7 @@ use Rattle.plan_schema.proofs.ResultLemmas.{if_ok}
 use Rattle.plan_store.specs.Contents.{content_of}
 use Rattle.plan_reading.proofs.TableLemmas.{at_some}
 use Rattle.plan_opening.proofs.OpenedLemmas.{read_opened}
+use Rattle.plan_opening.proofs.ReadableLemmas.{plans_readable}
 use Rattle.plan_opening.proofs.opening.read_whole.Goals as goal
 
 pub returns-in-Ok-Some-clause-opened : goal.returns-in-Ok-Some-clause-opened
@@ -17,3 +18,15 @@ returns-in-Ok-Some-clause-opened g c clean plan =
     if_ok c.sound_content.result _ _ (λ content tells. read_opened old new (content_of content)
     (c.is_autocommit-settled.ensures.settled (c.is_autocommit-settled.ensures.value ∙ ap not c.requires))
     c.in-Ok-Some.ensures.looks clean plan told.0 (tells all told.1.0 told.1.1)) c.sound_content.ensures.content
+
+pub returns-in-Ok-Some-clause-rows : goal.returns-in-Ok-Some-clause-rows
+returns-in-Ok-Some-clause-rows g c clean held rows =
+    let all = tables_of (state g.S.Store c.args.conn.now).now.trees in
+    let told = at_some c.in-Ok-Some.field-0 _ _ c.in-Ok-Some.field-0-is (c.in-Ok-Some.ensures.told clean held.0) in
+    c.sound_content.ensures.refused rows all told.1.0 told.1.1 held.1
+
+pub returns-in-Ok-None-clause-rows : goal.returns-in-Ok-None-clause-rows
+returns-in-Ok-None-clause-rows g c clean held rows =
+    let all = tables_of (state g.S.Store c.args.conn.now).now.trees in
+    c.in-Ok-None.ensures.refused clean held.0 c.in-Ok-None.field-0-is
+    (held.1.rowids, (plans_readable all held.1, tt))

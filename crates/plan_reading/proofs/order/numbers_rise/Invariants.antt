@@ -1,9 +1,6 @@
-use Rattle.std.proofs.Common.{ℕ, ◌<◌, ◌≤◌, get_or}
+use Rattle.std.proofs.Common.{◌<◌}
+use Rattle.std.specs.List.{AllAdjacentBelow}
 use Rattle.plan_reading.proofs.order.numbers_rise.Given as goal
 
-abbrev pub invariant-loop-x : goal.invariant-loop-x
-invariant-loop-x g l = record {
-  below : (i : ℕ) (d : g.row.X.Denot) → i < l.x-index → g.X.Numbered.number_of (get_or l.xs i d) ≤ l.last;
-  rising : (i j : ℕ) (d : g.row.X.Denot) → i < j → j < l.x-index
-      → g.X.Numbered.number_of (get_or l.xs i d) < g.X.Numbered.number_of (get_or l.xs j d);
-}
+abbrev pub invariant-loop-at : goal.invariant-loop-at
+invariant-loop-at g l = AllAdjacentBelow (λ x y. g.X.Numbered.number_of x < g.X.Numbered.number_of y) l.xs l.at
