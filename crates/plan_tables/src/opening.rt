@@ -8,7 +8,9 @@ ghost use Rattle.planner_machine.specs.Content.{nothing_known};
 ghost use Rattle.planner_machine.specs.Sound.{IsSound};
 ghost use Rattle.plan_schema.specs.Schema.{no_schema};
 ghost use Rattle.plan_store.specs.Contents.{content_of};
+ghost use Rattle.plan_opening.specs.Held.{HoldsPlan};
 ghost use Rattle.plan_opening.specs.Opened.{IsStored, MakesFirst};
+ghost use Rattle.plan_opening.specs.declared.faults.OpenFault.TheVariants.{Rows, Unopened};
 
 use crate::table_store::TableStore;
 use plan_opening::{OpenFault, open_connection, open_content};
@@ -36,6 +38,10 @@ impl<S: Alter + Drop> TableStore<S> {
         ensures unopened { IfErr result (λ left. Survives (state S.Store conn) (state S.Store left.1)
             (MakesFirst (state S.Store conn))) }
         ensures mode { IfErr result (λ left. left.1.in_transaction ≡ false) }
+        ensures rows { IfErr result (λ left. HasCleanDisk (state S.Store left.1) → HoldsPlan (state S.Store conn)
+            → left.0 ≡ Rows → ⊥) }
+        ensures version { IfErr result (λ left. HasCleanDisk (state S.Store left.1) → HoldsPlan (state S.Store conn)
+            → left.0 ≡ Unopened → ⊥) }
     {
         let mut conn = conn;
         match open_content(alloc, &mut conn) {
