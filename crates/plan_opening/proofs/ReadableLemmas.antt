@@ -218,7 +218,7 @@ module _ (all : Tables) (hold : HoldSound all) where
       shows = record {
         each = λ v there.
             let fact = (hold.told.facts table.Job v).0 there in
-            (fact.1, hold.jobs fact.0 fact.1 fact.2, sym fact.3);
+            (fact.1, (hold.sound.jobs fact.0 fact.1 fact.2).reply, sym fact.3);
       };
       rowids = hold.rowids table.Job;
     };

@@ -1,5 +1,5 @@
 -- Tables that hold a plan.
-use Rattle.std.specs.Prelude.{◌≡◌, ℕ, List, [], ◌∷◌, Some}
+use Rattle.std.specs.Prelude.{◌≡◌, List, [], ◌∷◌}
 use Rattle.sqlite.specs.Order.{Row as Values, column}
 use Rattle.plan_facts.specs.Facts.{natural}
 use Rattle.planner_machine.specs.Content.{Content}
@@ -8,8 +8,6 @@ use Rattle.plan_schema.specs.Rows.{Tables, tables_of}
 use Rattle.plan_facts.specs.Content.{IsContentOf}
 use Rattle.sqlite.specs.State.{State}
 use Rattle.definition_rows.specs.Defined.{AreSoundDefinitions}
-use Rattle.planner_machine.specs.declared.job.Job.{Job}
-use Rattle.plan_reading.specs.Cells.{IsReadJob}
 use Rattle.plan_reading.specs.Reading.{HasPlan}
 use Rattle.plan_opening.specs.Stored.{AllHaveRowids}
 
@@ -17,13 +15,12 @@ use Rattle.plan_opening.specs.Stored.{AllHaveRowids}
 abbrev pub AreKnown : List Values → Type 0
 AreKnown rows = (cells : Values) × (rows ≡ cells ∷ []) × (column cells 1 ≡ natural 1)
 
--- the tables have a sound content, and no table has two rows with one rowid; it is not said yet that jobs are read back
+-- the tables have a sound content, and no table has two rows with one rowid
 pub record HoldSound (all : Tables) : Type 0 where
   pub content : Content
   pub told : IsContentOf all content
   pub sound : IsSound content
   pub definitions : AreSoundDefinitions content.definitions
-  pub jobs : (number : ℕ) (job : Job) → content.jobs number ≡ Some job → IsReadJob job
   pub rowids : AllHaveRowids all
 
 -- the database has the tables of the plan, and these hold a sound content

@@ -5,3 +5,5 @@ pub mod MadeLemmas
 pub mod LookLemmas
 pub mod TableLemmas
 pub mod OrderLemmas
+pub mod LineLemmas
+pub mod AnswerLemmas

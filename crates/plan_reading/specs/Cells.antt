@@ -1,5 +1,5 @@
 -- The cells of a row.
-use Rattle.std.specs.Prelude.{◌≡◌, ◌<◌, ◌^◌, Option, Some, None, IfSome, option_map, Result}
+use Rattle.std.specs.Prelude.{◌≡◌, ◌<◌, ◌^◌, Option, Some, None, IfSome, option_map}
 use Rattle.sqlite.specs.Order.{Row as Values, column}
 use Rattle.sqlite.specs.declared.types.Value.TheVariants.{Text}
 use Rattle.work_calendars.specs.Day.{IsDay}
@@ -8,12 +8,10 @@ use Rattle.work_calendars.specs.Name.{IsName}
 use Rattle.app_definitions.specs.declared.options.Options.{Options}
 use Rattle.occurrences.specs.Row.{run_cycle_of}
 use Rattle.occurrences.specs.Serial.{IsSerial}
-use Rattle.occurrences.specs.declared.refusal.Refusal.{Refusal}
-use Rattle.occurrences.specs.declared.reply.Reply.{Reply}
 use Rattle.occurrences.specs.declared.row.Row.{Row}
 use Rattle.external_dependencies.specs.declared.links.Link.{Link}
 use Rattle.external_dependencies.specs.declared.pairs.Pair.{Pair}
-use Rattle.planner_machine.specs.Sound.{IsRow}
+use Rattle.planner_machine.specs.Sound.{IsKeptReply, IsRow}
 use Rattle.planner_machine.specs.declared.content.Bounds.{Bounds}
 use Rattle.planner_machine.specs.declared.job.Job.{Job}
 use Rattle.plan_facts.specs.Facts.{natural, or_null}
@@ -44,12 +42,8 @@ HasOptions options cells =
 abbrev pub AreDays : Bounds → Type 0
 AreDays b = IsDay b.first_day × IsDay b.last_day × IsMoment b.plan_end
 
--- an answer of which it is said that it is read back from its line
-abbrev pub IsReadAnswer : Result Reply Refusal → Type 0
-IsReadAnswer answer = ⊥
-
 abbrev pub IsReadJob : Job → Type 0
-IsReadJob job = IsReadAnswer job.reply
+IsReadJob job = IsKeptReply job.reply
 
 pub record IsMeta (meta : Meta) : Type 0 where
   pub bounds : IfSome meta.bounds AreDays

@@ -5,3 +5,4 @@ pub mod Tables
 pub mod Reading
 pub mod Parts
 pub mod Readable
+pub mod Lines

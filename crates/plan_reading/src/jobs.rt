@@ -9,7 +9,8 @@ ghost use Rattle.plan_facts.specs.Content.{answer_text, job_values, IsSmall};
 ghost use Rattle.plan_facts.specs.Facts.{natural};
 ghost use Rattle.occurrences.specs.declared.refusal.Refusal.{Refusal as RefusalValue};
 ghost use Rattle.occurrences.specs.declared.reply.Reply.{Reply as ReplyValue};
-ghost use Rattle.plan_reading.specs.Cells.{IsReadAnswer, IsReadJob};
+ghost use Rattle.planner_machine.specs.Sound.{IsKeptReply};
+ghost use Rattle.plan_reading.specs.Cells.{IsReadJob};
 
 use crate::answers::{answer_is_small, told_answer};
 use crate::cells::text_at;
@@ -44,7 +45,7 @@ fn bytes_in(alloc: Global, cells: &Cells, at: usize) -> Result<Option<Vec<u8>>, 
 // The answer in the cell, if it holds one's line.
 fn answer_at(alloc: Global, cells: &Cells, at: usize) -> Result<Option<Answer>, AllocError>
     ensures value { IfOk result (λ found. IfSome found (λ answer. column cells.now at ≡ Text (answer_text answer))) }
-    ensures none { IfOk result (λ found. found ≡ None → (answer : Result ReplyValue RefusalValue) → IsReadAnswer answer
+    ensures none { IfOk result (λ found. found ≡ None → (answer : Result ReplyValue RefusalValue) → IsKeptReply answer
         → column cells.now at ≡ Text (answer_text answer) → ⊥) }
 {
     match text_at(cells, at) {
