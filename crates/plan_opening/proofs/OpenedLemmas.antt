@@ -1,17 +1,22 @@
 -- A database that was opened.
-use Rattle.std.proofs.Common.{◌≡◌, ◌∙◌, true, sym, subst, refl, IsTrue}
+use Rattle.std.proofs.Common.{◌≡◌, ◌⊎◌, ◌∙◌, ◌≤◌, true, inl, inr, sym, subst, refl, arith, true≢false, IsSome, IsTrue}
 use Rattle.sqlite.specs.Effect.{Database}
-use Rattle.sqlite.specs.State.{HasCleanDisk, State, Survives}
+use Rattle.sqlite.specs.State.{HasCleanDisk, IsUnchanged, State, Survives}
+use Rattle.sqlite.specs.declared.error.Error.{Error}
+use Rattle.sqlite_trees.specs.declared.error.StoreError.TheVariants as store
 use Rattle.sqlite.proofs.StateLemmas.{survives_weaker}
 use Rattle.planner_machine.specs.Content.{Content, nothing_known}
-use Rattle.plan_schema.specs.Rows.{HaveRowids, Tables, tables_of}
+use Rattle.plan_schema.specs.Rows.{HaveRowids, LooksInVain, Tables, tables_of}
 use Rattle.plan_schema.specs.Schema.{no_schema}
 use Rattle.plan_facts.specs.Content.{IsContentOf}
 use Rattle.plan_reading.specs.Reading.{HasPlan, Looks}
 use Rattle.plan_reading.proofs.LookLemmas.{plan_still}
 use Rattle.plan_opening.specs.First.{first_rows}
-use Rattle.plan_opening.specs.Opened.{IsStored, MakesFirst}
+use Rattle.plan_opening.specs.Opened.{IsCaused, IsStored, MakesFirst}
+use Rattle.plan_opening.specs.Faults.{fault_for}
 use Rattle.plan_opening.specs.Stored.{AllHaveRowids}
+use Rattle.plan_opening.specs.declared.faults.OpenFault.{OpenFault}
+use Rattle.plan_opening.specs.declared.faults.OpenFault.TheVariants.{Memory, Device, Unopened, Tables as OtherTables, Rows}
 use Rattle.plan_opening.proofs.FirstRows.{first_content}
 
 pub read_opened : (old new : State) (c : Content) → (IsTrue old.is_open → old.now ≡ old.committed)
@@ -41,3 +46,32 @@ makes_first old new blank = survives_weaker old new _ _ (λ clean db made. (
   blank,
   blank_content (tables_of db) nothing_known (made blank) refl,
 ))
+
+-- ---- why it is not opened
+
+pub caused_by : (a b : State) (e : Error) → LooksInVain a b e → IsCaused a b (fault_for e OtherTables)
+caused_by a b e (inl (store.OutOfMemory, is, more)) = subst (λ x. IsCaused a b (fault_for x OtherTables)) (sym is) tt
+caused_by a b e (inl (store.Io, is, more)) =
+    subst (λ x. IsCaused a b (fault_for x OtherTables)) (sym is) (inl more)
+caused_by a b e (inl (store.Corrupt, is, more)) =
+    subst (λ x. IsCaused a b (fault_for x OtherTables)) (sym is) (inl more)
+caused_by a b e (inl (store.Full, is, more)) =
+    subst (λ x. IsCaused a b (fault_for x OtherTables)) (sym is) (inl more)
+caused_by a b e (inl (store.Broken, is, shut)) =
+    subst (λ x. IsCaused a b (fault_for x OtherTables)) (sym is) (inr shut)
+caused_by a b e (inl (store.Unstorable, is, none)) = absurd none
+caused_by a b e (inr h) = subst (λ x. IsCaused a b (fault_for x OtherTables)) (sym h.0) h.1
+
+-- what causes it after a reading that answered causes it since that reading began
+pub caused_since : (a b c : State) → IsUnchanged a b → a.faults ≤ b.faults → b.step_limit ≡ a.step_limit
+    → (f : OpenFault) → IsCaused b c f → IsCaused a c f
+caused_since a b c same more limit Memory h = tt
+caused_since a b c same more limit Device (inl h) = inl (omega (arith, more, h))
+caused_since a b c same more limit Device (inr h) = absurd (true≢false (sym same.0.is_open ∙ h))
+caused_since a b c same more limit Unopened h = tt
+caused_since a b c same more limit OtherTables h = subst IsSome limit h
+caused_since a b c same more limit Rows h = tt
+
+pub caused_by_content : (a b : State) (f : OpenFault) → (f ≡ Memory) ⊎ (f ≡ Rows) → IsCaused a b f
+caused_by_content a b f (inl is) = subst (IsCaused a b) (sym is) tt
+caused_by_content a b f (inr is) = subst (IsCaused a b) (sym is) tt

@@ -1,5 +1,5 @@
 -- The rows of a sound content can be read, and its definitions have their rows.
-use Rattle.std.proofs.Common.{◌≡◌, ◌↔◌, ◌∙◌, ℕ, ◌^◌, Option, Some, None, refl, sym, ap, subst, inl, inr, arith, map}
+use Rattle.std.proofs.Common.{◌≡◌, ◌↔◌, ◌∙◌, ℕ, Option, Some, None, refl, sym, ap, subst, inl, inr, arith, map}
 use Rattle.std.proofs.Common.{List, [], ◌∷◌, true}
 use Rattle.std.specs.Prelude.{IfSome}
 use Rattle.std.specs.List.{Contains}
@@ -12,7 +12,6 @@ use Rattle.sqlite_value.proofs.OrderLemmas.{value_cmp_total}
 use Rattle.plan_lists.proofs.KeyLemmas.{contains_first, contains_later, nothing}
 use Rattle.app_definitions.specs.declared.definitions.Definitions.{Definitions}
 use Rattle.app_definitions.specs.declared.options.Options.{Options}
-use Rattle.external_dependencies.specs.declared.links.Link.{Link}
 use Rattle.external_dependencies.specs.declared.live.Arrival.{Arrival}
 use Rattle.external_dependencies.specs.declared.pairs.Pair.{Pair}
 use Rattle.external_dependencies.specs.declared.rows.PlacedRow.{PlacedRow}
@@ -23,21 +22,19 @@ use Rattle.occurrences.specs.declared.place.Place.{Place}
 use Rattle.occurrences.specs.declared.place.Place.TheVariants.{LongTerm, Current, History, Deleted}
 use Rattle.occurrences.specs.declared.row.Row.{Row}
 use Rattle.planner_machine.specs.Content.{Content, StandsAt, Seat, alone, empty_seat, seat}
-use Rattle.planner_machine.specs.Sound.{IsSound}
 use Rattle.planner_machine.specs.declared.content.Bounds.{Bounds}
-use Rattle.planner_machine.specs.declared.job.Job.{Job}
 use Rattle.planner_machine.proofs.SeatLemmas.{cases_issued, not_empty}
-use Rattle.plan_facts.specs.Content.{IsContentOf, job_values, meta_values}
-use Rattle.plan_facts.specs.Facts.{current_values, deletion_values, link_values, natural, pair_values, row_values}
+use Rattle.plan_facts.specs.Content.{meta_values}
+use Rattle.plan_facts.specs.Facts.{natural}
 use Rattle.plan_schema.specs.Rows.{HaveRowids, Tables, shown}
 use Rattle.plan_schema.specs.declared.tables.Table.TheVariants as table
 use Rattle.definition_rows.specs.Defined.{AreSoundDefinitions}
 use Rattle.definition_rows.specs.Storing.{HaveRows}
 use Rattle.definition_rows.specs.declared.stored.StoredRows.{StoredRows}
-use Rattle.plan_reading.specs.Cells.{AreDays, IsLink, IsNumberedRow, IsPair, IsReadJob}
+use Rattle.plan_reading.specs.Cells.{AreDays, IsNumberedRow, IsPair}
 use Rattle.plan_reading.specs.Readable.{ArePlansReadable, ShowsMeta}
 use Rattle.plan_opening.specs.Held.{AreKnown, HoldSound}
-use Rattle.plan_opening.specs.Stored.{AllHaveRowids, TellStored}
+use Rattle.plan_opening.specs.Stored.{TellStored}
 
 in_ltp : (q row : Row) (place : Place) → (alone q place).ltp ≡ Some row → q ≡ row
 in_ltp q row LongTerm is = cc

@@ -1,10 +1,12 @@
 -- What the texts that show rowids mean.
-use Rattle.std.proofs.Common.{◌≡◌, ℕ, List, [], ◌∷◌, false, refl}
+use Rattle.std.proofs.Common.{◌≡◌, ℕ, List, [], ◌∷◌, false, true, length, refl}
 use Rattle.std.specs.Prelude.{codes}
 use Rattle.sqlite.specs.Command.TheVariants.{Select}
 use Rattle.sqlite_tied.specs.Compute.{everything}
 use Rattle.sqlite.specs.Listing.{understood, reads_listing}
 use Rattle.sqlite.proofs.Callers.{IsPlain, command_of}
+use Rattle.sqlite_typing.specs.Types.{accepts_program}
+use Rattle.plan_schema.proofs.Meanings.{IsWhole}
 use Rattle.plan_schema.proofs.Steps.{plain_query}
 use Rattle.plan_schema.specs.Schema.{plan_schema, tree}
 use Rattle.plan_schema.specs.declared.tables.Table.{Table}
@@ -62,3 +64,22 @@ rowid_plain History = (refl, refl)
 rowid_plain Deletion = (refl, refl)
 rowid_plain Dependency = (refl, refl)
 rowid_plain Job = (refl, refl)
+
+-- the text is one statement to its end, without parameters, and its types fit
+pub rowid_fits : (t : Table) → IsWhole (understood plan_schema (rowid_sql t)) (length (rowid_sql t))
+    × (accepts_program plan_schema [] (plain_query (tree t) [] rowid_terms) [] ≡ true)
+unfolding understood everything
+rowid_fits Meta = ((refl, refl), refl)
+rowid_fits CalendarEntry = ((refl, refl), refl)
+rowid_fits Period = ((refl, refl), refl)
+rowid_fits Application = ((refl, refl), refl)
+rowid_fits RunCycle = ((refl, refl), refl)
+rowid_fits Offset = ((refl, refl), refl)
+rowid_fits Predecessor = ((refl, refl), refl)
+rowid_fits LinkInForce = ((refl, refl), refl)
+rowid_fits LongTerm = ((refl, refl), refl)
+rowid_fits Current = ((refl, refl), refl)
+rowid_fits History = ((refl, refl), refl)
+rowid_fits Deletion = ((refl, refl), refl)
+rowid_fits Dependency = ((refl, refl), refl)
+rowid_fits Job = ((refl, refl), refl)

@@ -1,11 +1,14 @@
 -- A database that keeps a content.
-use Rattle.std.specs.Prelude.{◌≡◌, IsTrue}
+use Rattle.std.specs.Prelude.{◌≡◌, ◌⊎◌, false, IsSome, IsTrue, ⊤}
 use Rattle.sqlite.specs.State.{State}
 use Rattle.sqlite.specs.Tree.{Trees}
+use Rattle.sqlite_disk.specs.Disk.{MoreFaults}
 use Rattle.planner_machine.specs.Content.{Content, nothing_known}
 use Rattle.plan_schema.specs.Rows.{IsPlan, tables_of}
 use Rattle.plan_schema.specs.Schema.{no_schema}
 use Rattle.plan_facts.specs.Content.{IsContentOf}
+use Rattle.plan_opening.specs.declared.faults.OpenFault.{OpenFault}
+use Rattle.plan_opening.specs.declared.faults.OpenFault.TheVariants.{Device, Tables as OtherTables}
 
 -- the database is open, all of it is committed, and its tables have the content
 pub record IsStored (s : State) (c : Content) : Type 0 where
@@ -17,3 +20,11 @@ pub record IsStored (s : State) (c : Content) : Type 0 where
 -- what opening may commit: the tables of a content of which nothing is known, where there were none
 abbrev pub MakesFirst : State → Trees → Type 0
 MakesFirst s db = (s.now.schema ≡ no_schema) × IsContentOf (tables_of db) nothing_known
+
+-- why a database that has the tables of the plan is not opened: for the device only where it failed meanwhile or the
+-- connection was shut before, and for its tables only where a limit on steps is set; of its version and rows other
+-- clauses tell, and memory may be short at any time
+abbrev pub IsCaused : State → State → OpenFault → Type 0
+IsCaused old new Device = MoreFaults old.faults new.faults ⊎ (old.is_open ≡ false)
+IsCaused old new OtherTables = IsSome old.step_limit
+IsCaused old new _ = ⊤

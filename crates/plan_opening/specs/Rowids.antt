@@ -1,5 +1,5 @@
 -- Rowids as they are shown.
-use Rattle.std.specs.Prelude.{◌≡◌, ℕ, ◌<◌, ◌+◌, ◌*◌, List, [], ◌∷◌, pos, negsuc, codes, IsTrue}
+use Rattle.std.specs.Prelude.{ℕ, ◌<◌, ◌+◌, ◌*◌, List, [], ◌∷◌, pos, negsuc, codes, IsTrue}
 use Rattle.std.specs.List.{All, AllPairs}
 use Rattle.sqlite.specs.Order.{Row as Values, column}
 use Rattle.sqlite.specs.Term.{Term, col, eval_all}

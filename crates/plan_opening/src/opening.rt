@@ -1,20 +1,20 @@
 // A database is opened.
 
-ghost use Rattle.std.specs.Prelude.{◌≡◌, ◌↔◌, false, is_ok, map, Err, IfOk, IsTrue};
+ghost use Rattle.std.specs.Prelude.{◌≡◌, ◌⊎◌, ◌↔◌, false, is_ok, map, Err, IfErr, IfOk, IsTrue};
 ghost use Rattle.sqlite.specs.State.{HasCleanDisk, Survives};
 ghost use Rattle.sqlite.specs.Held.{state};
 ghost use Rattle.planner_machine.specs.Content.{nothing_known};
 ghost use Rattle.planner_machine.specs.Sound.{IsSound};
-ghost use Rattle.plan_schema.specs.Rows.{Tables, shown, tables_of};
+ghost use Rattle.plan_schema.specs.Rows.{LooksInVain, Tables, shown, tables_of};
 ghost use Rattle.plan_schema.specs.declared.tables.Table.TheVariants.{Meta};
 ghost use Rattle.plan_schema.specs.Schema.{no_schema};
 ghost use Rattle.plan_store.specs.Contents.{content_of};
 ghost use Rattle.plan_facts.specs.Content.{IsContentOf};
 ghost use Rattle.plan_reading.specs.Reading.{HasPlan, Looks};
 ghost use Rattle.plan_reading.specs.Tables.{TellPlans};
-ghost use Rattle.plan_opening.specs.declared.faults.OpenFault.TheVariants.{Rows, Unopened};
+ghost use Rattle.plan_opening.specs.declared.faults.OpenFault.TheVariants.{Memory, Rows, Unopened};
 ghost use Rattle.plan_opening.specs.Held.{AreKnown, HoldSound, HoldsPlan};
-ghost use Rattle.plan_opening.specs.Opened.{IsStored, MakesFirst};
+ghost use Rattle.plan_opening.specs.Opened.{IsCaused, IsStored, MakesFirst};
 ghost use Rattle.plan_opening.specs.Stored.{TellStored};
 
 use crate::faults::{OpenFault, fault_for};
@@ -38,6 +38,7 @@ fn if_sound(alloc: Global, content: Content) -> Result<Content, OpenFault>
     ensures same { IfOk result (λ same. content_of same ≡ content_of content) }
     ensures refused { result ≡ Err Rows → IsSound (content_of content) → ⊥ }
     ensures version { result ≡ Err Unopened → ⊥ }
+    ensures caused { IfErr result (λ fault. (fault ≡ Memory) ⊎ (fault ≡ Rows)) }
 {
     match is_sound(alloc, &content) {
         Ok(true) => Ok(content),
@@ -54,6 +55,7 @@ fn sound_content(alloc: Global, lists: PlanLists, stored: &StoredRows) -> Result
     ensures refused { result ≡ Err Rows → (all : Tables) → TellPlans all lists → TellStored all stored.now
         → HoldSound all → ⊥ }
     ensures version { result ≡ Err Unopened → ⊥ }
+    ensures caused { IfErr result (λ fault. (fault ≡ Memory) ⊎ (fault ≡ Rows)) }
 {
     tables_have_one_content();
     match content_of_tables(alloc, lists, stored) {
@@ -78,6 +80,8 @@ fn has_version<S: Alter>(conn: &mut Connection<S>) -> Result<bool, Error>
     ensures told { HasCleanDisk (state S.Store conn.new) → HasPlan (state S.Store conn.old) → IfOk result (λ b.
         IsTrue b ↔ AreKnown (map (shown Meta) (tables_of (state S.Store conn.old).now.trees Meta))) }
     ensures looks { Looks (state S.Store conn.old) (state S.Store conn.new) (is_ok result) }
+    ensures fails { HasCleanDisk (state S.Store conn.new) → HasPlan (state S.Store conn.old)
+        → IfErr result (LooksInVain (state S.Store conn.old) (state S.Store conn.new)) }
     ensures mode { conn.old.in_transaction ≡ false → conn.new.in_transaction ≡ false }
 {
     let rows = select(conn, Table::Meta)?;
@@ -92,6 +96,8 @@ fn read_whole<S: Alter>(alloc: Global, conn: &mut Connection<S>) -> Result<Conte
     ensures sound { IfOk result (λ content. IsSound (content_of content)) }
     ensures rows { HasCleanDisk (state S.Store conn.new) → HoldsPlan (state S.Store conn.old) → result ≡ Err Rows → ⊥ }
     ensures version { result ≡ Err Unopened → ⊥ }
+    ensures caused { HasCleanDisk (state S.Store conn.new) → HasPlan (state S.Store conn.old)
+        → IfErr result (IsCaused (state S.Store conn.old) (state S.Store conn.new)) }
     ensures mode { conn.new.in_transaction ≡ false }
     ensures survives { Survives (state S.Store conn.old) (state S.Store conn.new)
         (λ _. HasPlan (state S.Store conn.old) → ⊥) }
@@ -117,6 +123,8 @@ fn open_plan<S: Alter>(alloc: Global, conn: &mut Connection<S>) -> Result<Conten
     ensures rows { HasCleanDisk (state S.Store conn.new) → HoldsPlan (state S.Store conn.old) → result ≡ Err Rows → ⊥ }
     ensures version { HasCleanDisk (state S.Store conn.new)
         → AreKnown (map (shown Meta) (tables_of (state S.Store conn.old).now.trees Meta)) → result ≡ Err Unopened → ⊥ }
+    ensures caused { HasCleanDisk (state S.Store conn.new)
+        → IfErr result (IsCaused (state S.Store conn.old) (state S.Store conn.new)) }
     ensures mode { conn.new.in_transaction ≡ false }
     ensures survives { Survives (state S.Store conn.old) (state S.Store conn.new) (λ _. ⊥) }
 {
@@ -179,6 +187,8 @@ pub fn open_content<S: Alter>(alloc: Global, conn: &mut Connection<S>) -> Result
     ensures rows { HasCleanDisk (state S.Store conn.new) → HoldsPlan (state S.Store conn.old) → result ≡ Err Rows → ⊥ }
     ensures version { HasCleanDisk (state S.Store conn.new) → HoldsPlan (state S.Store conn.old)
         → result ≡ Err Unopened → ⊥ }
+    ensures caused { HasCleanDisk (state S.Store conn.new) → HasPlan (state S.Store conn.old)
+        → IfErr result (IsCaused (state S.Store conn.old) (state S.Store conn.new)) }
     ensures mode { conn.new.in_transaction ≡ false }
     ensures crash { Survives (state S.Store conn.old) (state S.Store conn.new) (MakesFirst (state S.Store conn.old)) }
 {

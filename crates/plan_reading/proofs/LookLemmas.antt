@@ -1,10 +1,14 @@
 -- Readings in turn.
-use Rattle.std.proofs.Common.{◌≡◌, ◌∙◌, Bool, true, ap, arith, refl}
+use Rattle.std.proofs.Common.{◌≡◌, ◌∙◌, ◌≤◌, Bool, true, ap, arith, inl, inr, refl, subst, sym, true≢false}
 use Rattle.sqlite.specs.Effect.{Database}
-use Rattle.sqlite.specs.State.{HasCleanDisk, IsUnchanged, State}
+use Rattle.sqlite.specs.State.{HasCause, HasCleanDisk, IsUnchanged, State}
+use Rattle.sqlite.specs.declared.error.Error.{Error}
+use Rattle.sqlite_trees.specs.declared.error.StoreError.{StoreError}
+use Rattle.sqlite_trees.specs.declared.error.StoreError.TheVariants.{OutOfMemory, Io, Corrupt, Full, Broken, Unstorable}
 use Rattle.sqlite.proofs.Callers.{unchanged_then}
 use Rattle.sqlite.proofs.StateLemmas.{survives_then}
-use Rattle.plan_schema.specs.Rows.{tables_of}
+use Rattle.std.specs.Prelude.{IsSome}
+use Rattle.plan_schema.specs.Rows.{LooksInVain, tables_of}
 use Rattle.plan_reading.specs.Reading.{HasPlan, Looks}
 
 pub plan_still : (a b : State) → IsUnchanged a b → HasPlan a → HasPlan b
@@ -26,3 +30,20 @@ looks_then a b c o one two = record {
       (λ clean _ none plan. none (plan_still a b (one.same (clean_before b c o two clean) plan refl) plan))
       one.survives two.survives;
 }
+
+-- what causes a failure after a reading that answered causes it since that reading began
+caused : (a b c : State) → IsUnchanged a b → a.faults ≤ b.faults → (cause : StoreError) → HasCause b c ⊥ cause
+    → HasCause a c ⊥ cause
+caused a b c same more OutOfMemory h = tt
+caused a b c same more Io h = omega (arith, more, h)
+caused a b c same more Corrupt h = omega (arith, more, h)
+caused a b c same more Full h = omega (arith, more, h)
+caused a b c same more Broken h = absurd (true≢false (sym same.0.is_open ∙ h))
+caused a b c same more Unstorable h = h
+
+pub vain_then : (a b c : State) (o : Bool) (e : Error) → Looks a b true → Looks b c o → HasCleanDisk c → HasPlan a
+    → LooksInVain b c e → LooksInVain a c e
+vain_then a b c o e one two clean plan (inl h) =
+    let same = one.same (clean_before b c o two clean) plan refl in
+    inl (h.0, h.1, caused a b c same one.survives.counts h.0 h.2)
+vain_then a b c o e one two clean plan (inr h) = inr (h.0, subst IsSome one.survives.limit h.1)

@@ -1,7 +1,6 @@
 -- Numbers that rise, and rowids that differ.
-use Rattle.std.proofs.Common.{◌≡◌, ◌≢◌, ◌∙◌, ℕ, zero, suc, ◌+◌, ◌<◌, ◌≤◌, List, [], ◌∷◌, length, map, get_or, refl, sym}
-use Rattle.std.proofs.Common.{ap, subst, inl, inr, arith, add-one, eqb, true, false, Option, Some, None}
-use Rattle.std.specs.Prelude.{IfSome}
+use Rattle.std.proofs.Common.{◌≡◌, ◌≢◌, ◌∙◌, ℕ, zero, suc, ◌<◌, List, [], ◌∷◌, length, map, get_or, refl, sym}
+use Rattle.std.proofs.Common.{ap, subst, inl, inr, arith, add-one, eqb, true, false}
 use Rattle.std.specs.List.{AllAdjacentBelow, AllByRecursion, AllPairs, Contains, IsDistinct}
 use Rattle.std.specs.List.Sorted.{IsNonDecreasingBy, IsPermutation}
 use Rattle.std.specs.Ordering.{is_eq}
@@ -9,8 +8,8 @@ use Rattle.std.proofs.lemmas.Bool.{cases_order, eqb-false, ne_eqb}
 use Rattle.std.proofs.lemmas.Bool.Decides.{nat_tests}
 use Rattle.std.proofs.lemmas.Cmp.{tied_itself}
 use Rattle.std.proofs.lemmas.List.{get_or-map, length-map}
-use Rattle.std.proofs.lemmas.List.Sorted.{Contains-permutation, IsPermutation-map, IsPermutation-sym, length_permutation}
-use Rattle.std.proofs.lemmas.Map.Keys.{apart_from_distinct, IsDistinct-from_apart, IsDistinct-cons}
+use Rattle.std.proofs.lemmas.List.Sorted.{Contains-permutation, IsPermutation-map}
+use Rattle.std.proofs.lemmas.Map.Keys.{apart_from_distinct, IsDistinct-from_apart}
 use Rattle.std.proofs.lemmas.Map.Keys.{IsDistinct-IsPermutation}
 use Rattle.sqlite.specs.Order.{Row as Values, column}
 use Rattle.sqlite.specs.Tree.{rowid}
@@ -20,7 +19,7 @@ use Rattle.app_definitions.proofs.RisingLemmas.{Contains-map, Contains-map_back}
 use Rattle.plan_lists.proofs.KeyLemmas.{contains_first, contains_later}
 use Rattle.plan_facts.proofs.Decoded.{nat_in}
 use Rattle.plan_facts.specs.Facts.{natural}
-use Rattle.plan_schema.specs.Rows.{Differ, HaveRowids, Tables, shown}
+use Rattle.plan_schema.specs.Rows.{Differ, HaveRowids, shown}
 use Rattle.plan_schema.specs.declared.tables.Table.{Table}
 use Rattle.plan_reading.specs.Order.{AreInOrder}
 use Rattle.plan_reading.specs.Readable.{ShowsNumbers}

@@ -1,9 +1,9 @@
 // All that the tables of the plans tell.
 
-ghost use Rattle.std.specs.Prelude.{◌≡◌, false, is_ok, None, IfOk, IfSome};
+ghost use Rattle.std.specs.Prelude.{◌≡◌, false, is_ok, None, IfErr, IfOk, IfSome};
 ghost use Rattle.sqlite.specs.State.{HasCleanDisk};
 ghost use Rattle.sqlite.specs.Held.{state};
-ghost use Rattle.plan_schema.specs.Rows.{Tables, tables_of};
+ghost use Rattle.plan_schema.specs.Rows.{LooksInVain, Tables, tables_of};
 ghost use Rattle.plan_reading.specs.Parts.{AreRowsInOrder, AreRestInOrder, TellRowParts, TellRest};
 ghost use Rattle.plan_reading.specs.Readable.{ArePlansReadable};
 ghost use Rattle.plan_reading.specs.Reading.{HasPlan, Looks};
@@ -61,6 +61,8 @@ pub fn read_lists<S: Alter>(
         → IfOk result (λ found. found ≡ None
         → ArePlansReadable (tables_of (state S.Store conn.old).now.trees) → ⊥) }
     ensures looks { Looks (state S.Store conn.old) (state S.Store conn.new) (is_ok result) }
+    ensures fails { HasCleanDisk (state S.Store conn.new) → HasPlan (state S.Store conn.old)
+        → IfErr result (LooksInVain (state S.Store conn.old) (state S.Store conn.new)) }
     ensures mode { conn.old.in_transaction ≡ false → conn.new.in_transaction ≡ false }
 {
     match <(RowParts, Rest)>::read(alloc, conn) {

@@ -1,10 +1,10 @@
 // What whole tables tell.
 
-ghost use Rattle.std.specs.Prelude.{◌≡◌, false, is_ok, map, None, IfOk, IfSome};
+ghost use Rattle.std.specs.Prelude.{◌≡◌, false, is_ok, map, None, IfErr, IfOk, IfSome};
 ghost use Rattle.std.specs.List.Sorted.{IsPermutation};
 ghost use Rattle.sqlite.specs.State.{HasCleanDisk};
 ghost use Rattle.sqlite.specs.Held.{state};
-ghost use Rattle.plan_schema.specs.Rows.{shown, tables_of};
+ghost use Rattle.plan_schema.specs.Rows.{LooksInVain, shown, tables_of};
 ghost use Rattle.plan_reading.specs.Reading.{HasPlan, Looks};
 ghost use Rattle.plan_reading.specs.Order.{AreInOrder};
 ghost use Rattle.plan_reading.specs.Tables.{IsOneOf, ShowsOnly};
@@ -33,6 +33,8 @@ pub(crate) fn read_table<X: Told + Drop, S: Alter>(
         → IfOk result (λ found. found ≡ None
         → ShowsEach (tables_of (state S.Store conn.old).now.trees) table X.values X.has_form → ⊥) }
     ensures looks { Looks (state S.Store conn.old) (state S.Store conn.new) (is_ok result) }
+    ensures fails { HasCleanDisk (state S.Store conn.new) → HasPlan (state S.Store conn.old)
+        → IfErr result (LooksInVain (state S.Store conn.old) (state S.Store conn.new)) }
     ensures mode { conn.old.in_transaction ≡ false → conn.new.in_transaction ≡ false }
 {
     let rows = select(conn, table)?;
@@ -53,6 +55,8 @@ pub(crate) fn read_in_order<X: Told + Numbered + Drop, S: Alter>(
         → IfOk result (λ found. found ≡ None → ShowsNumbers table X.values X.number_of
         → ShowsEachOnce (tables_of (state S.Store conn.old).now.trees) table X.values X.has_form → ⊥) }
     ensures looks { Looks (state S.Store conn.old) (state S.Store conn.new) (is_ok result) }
+    ensures fails { HasCleanDisk (state S.Store conn.new) → HasPlan (state S.Store conn.old)
+        → IfErr result (LooksInVain (state S.Store conn.old) (state S.Store conn.new)) }
     ensures mode { conn.old.in_transaction ≡ false → conn.new.in_transaction ≡ false }
 {
     match read_table::<X, S>(alloc, conn, table) {

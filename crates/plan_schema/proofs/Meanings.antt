@@ -1,5 +1,5 @@
 -- What the texts mean.
-use Rattle.std.proofs.Common.{◌≡◌, [], ◌∷◌, false, Ok, refl}
+use Rattle.std.proofs.Common.{◌≡◌, ℕ, [], ◌∷◌, false, true, length, Result, Ok, Err, refl}
 use Rattle.sqlite.specs.Term.{col}
 use Rattle.sqlite.specs.Source.TheVariants.{Values}
 use Rattle.sqlite.specs.Command.TheVariants.{Insert, Select, CreateTable, Delete}
@@ -8,6 +8,9 @@ use Rattle.sqlite.specs.Change.{created}
 use Rattle.sqlite_tied.specs.Compute.{everything}
 use Rattle.sqlite.specs.Listing.{understood, reads_listing}
 use Rattle.sqlite.proofs.Callers.{IsPlain, command_of, statement_of}
+use Rattle.sqlite_resolve.specs.declared.compiled.Compiled.{Compiled}
+use Rattle.sqlite_resolve.specs.declared.error.CompileError.{CompileError}
+use Rattle.sqlite_typing.specs.Types.{accepts_program}
 use Rattle.plan_schema.proofs.Steps.{plain_query}
 use Rattle.plan_schema.specs.Schema.{table_at, before, after, plan_schema, place, tree}
 use Rattle.plan_schema.specs.Texts.{create_sql, insert_sql, delete_sql, select_sql}
@@ -181,3 +184,27 @@ select_plain History = (refl, refl)
 select_plain Deletion = (refl, refl)
 select_plain Dependency = (refl, refl)
 select_plain Job = (refl, refl)
+
+-- it is understood to its end, and has no parameters
+abbrev pub IsWhole : Result Compiled CompileError → ℕ → Type 0
+IsWhole (Ok c) size = (c.tail ≡ size) × (c.names ≡ [])
+IsWhole (Err e) size = ⊥
+
+-- the text is one statement to its end, without parameters, and its types fit
+pub select_fits : (t : Table) → IsWhole (understood plan_schema (select_sql t)) (length (select_sql t))
+    × (accepts_program plan_schema [] (plain_query (tree t) [] (select_terms t)) [] ≡ true)
+unfolding understood everything
+select_fits Meta = ((refl, refl), refl)
+select_fits CalendarEntry = ((refl, refl), refl)
+select_fits Period = ((refl, refl), refl)
+select_fits Application = ((refl, refl), refl)
+select_fits RunCycle = ((refl, refl), refl)
+select_fits Offset = ((refl, refl), refl)
+select_fits Predecessor = ((refl, refl), refl)
+select_fits LinkInForce = ((refl, refl), refl)
+select_fits LongTerm = ((refl, refl), refl)
+select_fits Current = ((refl, refl), refl)
+select_fits History = ((refl, refl), refl)
+select_fits Deletion = ((refl, refl), refl)
+select_fits Dependency = ((refl, refl), refl)
+select_fits Job = ((refl, refl), refl)

@@ -1,5 +1,6 @@
 -- What the statements do to the tables.
 use Rattle.std.proofs.Common.{◌≡◌, ◌&&◌, ◌/◌, ◌≢◌, ℕ, Bool, true, false, not, cond, ◌==◌}
+use Rattle.std.proofs.Common.{◌⊎◌, ◌≤◌, inl, inr, Option, IsSome, true≢false}
 use Rattle.std.proofs.Common.{List, [], ◌∷◌, ◌++◌, append-nil, length, map, filter, Some, Ok, refl, sym}
 use Rattle.std.proofs.Common.{ap, subst, ◌∙◌, IsTrue, arith, slice_get}
 use Rattle.std.specs.List.{AllByRecursion, flat_map, filter_map}
@@ -7,20 +8,25 @@ use Rattle.std.specs.List.Sorted.{IsPermutation}
 use Rattle.std.proofs.lemmas.Bool.Decides.{nat_tests}
 use Rattle.sqlite_keyed.proofs.ListLemmas.{all-append, all_both, all_of, filter_all}
 use Rattle.sqlite.specs.Order.{Row}
-use Rattle.sqlite.specs.Term.{col}
+use Rattle.sqlite.specs.Term.{Term, col}
 use Rattle.sqlite.specs.Tree.{Trees, put_row, rowid}
 use Rattle.sqlite.specs.View.{is_int}
 use Rattle.sqlite.specs.Source.TheVariants.{Values}
-use Rattle.sqlite.specs.Command.TheVariants.{Insert, Delete}
-use Rattle.sqlite.specs.Effect.{value_rows}
-use Rattle.sqlite.specs.Listing.{understood}
+use Rattle.sqlite.specs.Command.TheVariants.{Insert, Delete, Select}
+use Rattle.sqlite.specs.Effect.{Database, RefusesQuery, RefusesToRead, value_rows}
+use Rattle.sqlite.specs.Listing.{IsSourceOf, reads_listing, understood}
+use Rattle.sqlite_resolve.specs.declared.compiled.Compiled.{Compiled}
+use Rattle.sqlite.specs.declared.error.Error.{Error}
+use Rattle.sqlite.specs.declared.error.Error.TheVariants.{SqliteFailure}
+use Rattle.sqlite.specs.declared.error.ErrorCode.TheVariants.{OperationInterrupted}
+use Rattle.sqlite_typing.specs.Types.{accepts_program}
 use Rattle.sqlite.specs.Rowids.TheVariants.{Chosen, Given}
 use Rattle.sqlite.specs.Change.{created, next_tree}
 use Rattle.sqlite.specs.Clock.{timed}
 use Rattle.sqlite.specs.Program.{overlay}
 use Rattle.sqlite.specs.Does.{lacks_sequence}
 use Rattle.sqlite.specs.Schema.{Schema}
-use Rattle.sqlite.specs.State.{State, CommitsShowing, ExecutesInside, IsUnchanged, Shown, ShowsRows, Survives}
+use Rattle.sqlite.specs.State.{State, CommitsShowing, ExecutesInside, FailsToQuery, IsNotRun, IsUnchanged, Shown, ShowsRows, Survives}
 use Rattle.sqlite.specs.declared.types.Value.TheVariants.{Null}
 use Rattle.sqlite.proofs.StateLemmas.{survives_weaker}
 use Rattle.sqlite.specs.Table.{Table as Described}
@@ -28,7 +34,7 @@ use Rattle.sqlite.specs.Query.{IsAnswer}
 use Rattle.sqlite_rules.specs.Action as action
 use Rattle.sqlite_rules.specs.Calls.{ids_of}
 use Rattle.plan_schema.proofs.CycleLemmas.{cycles_alone}
-use Rattle.sqlite.proofs.Callers.{IsPlain, never_commits, one_step, reads_as, runs_as, statement_of}
+use Rattle.sqlite.proofs.Callers.{IsPlain, command_of, never_commits, one_step, reads_as, runs_as, statement_of}
 use Rattle.sqlite_rules.specs.Action.{deed_for, work_by, works}
 use Rattle.sqlite_schema.specs.Names.{same_name}
 use Rattle.sqlite_schema.specs.Rules.{parent_key}
@@ -36,8 +42,8 @@ use Rattle.sqlite_value.specs.Keys.{joined}
 use Rattle.sqlite_rules.specs.Cast.{cast_row}
 use Rattle.sqlite_rules.specs.Edit.{Applies, edit_of, is_taken, with_rowid}
 use Rattle.sqlite_schema.specs.declared.schema.Keys.TheVariants.{Enforced}
-use Rattle.plan_schema.specs.Cells.{delete_tests, insert_terms, select_terms, width}
-use Rattle.plan_schema.specs.Rows.{AreOfKinds, HaveRowids, IsMade, IsMadeWhole, IsPlan, IsAlone, Stands}
+use Rattle.plan_schema.specs.Cells.{column_names, delete_tests, insert_terms, select_terms, width}
+use Rattle.plan_schema.specs.Rows.{AreOfKinds, HaveRowids, IsMade, IsMadeWhole, IsPlan, IsAlone, LooksInVain, Stands}
 use Rattle.plan_schema.specs.Rows.{Tables, matches, placed, shown, stored, tables_of, with_cells}
 use Rattle.plan_schema.specs.Rows.{with_rows, without_key}
 use Rattle.plan_schema.specs.Schema.{after, before, checks, columns, key, name, no_schema, orders, place}
@@ -49,7 +55,7 @@ use Rattle.plan_schema.specs.declared.tables.Table.TheVariants.{RunCycle, Offset
 use Rattle.plan_schema.specs.declared.tables.Table.TheVariants.{LongTerm, Current, History, Deletion}
 use Rattle.plan_schema.specs.declared.tables.Table.TheVariants.{Dependency, Job}
 use Rattle.plan_schema.proofs.Meanings.{create_is, create_plain, delete_is, delete_plain, insert_is}
-use Rattle.plan_schema.proofs.Meanings.{insert_plain, made, select_is, select_plain}
+use Rattle.plan_schema.proofs.Meanings.{IsWhole, insert_plain, made, select_fits, select_is, select_plain}
 use Rattle.plan_schema.proofs.RowLemmas.{left_after, put_is_placed, rowids_filter, rowids_placed}
 use Rattle.plan_schema.proofs.Steps.{creates, deletes, inserts, plain_query, plain_rows}
 
@@ -382,6 +388,56 @@ reads t old new rows has h =
     t).1 rows h in
     subst (λ l. IsPermutation (map (shown t) l) rows) (filter_all (λ _. true) was (all_of _ (λ _. refl) was))
     (plain_rows (tree t) [] (select_terms t) old.now.trees [] rows (own t old.now.trees) (answers.answer Null))
+
+-- it fails for memory, the disk, a connection that was shut, or a limit on steps
+is_refused : (c : Compiled) (size : ℕ) (A B C : Type 0) → (c.tail ≡ size) × (c.names ≡ []) → c.formats ≡ []
+    → ((¬ (size ≤ c.tail)) × A) ⊎ (((0 ≢ length c.names) × B) ⊎ ((c.formats ≢ []) × C)) → ⊥
+is_refused c size A B C whole bare (inl h) = h.0 (let same = whole.0 in omega arith)
+is_refused c size A B C whole bare (inr (inl h)) = h.0 (sym (ap length whole.1))
+is_refused c size A B C whole bare (inr (inr h)) = h.0 bare
+
+module _ (sql : List ℕ) (number : ℕ) (terms : List Term) (names : List (List ℕ))
+    (whole : IsWhole (understood plan_schema sql) (length sql)) (plain : IsPlain (understood plan_schema sql))
+    (is : command_of (understood plan_schema sql) ≡ Select (record {
+      lets = [];
+      body = plain_query number [] terms;
+    }) names)
+    (unlisted : reads_listing plan_schema sql ≡ false)
+    (fits : accepts_program plan_schema [] (plain_query number [] terms) [] ≡ true) where
+  stops : (limit : Option ℕ) (db : Database) (e : Error) → db.schema ≡ plan_schema
+      → RefusesQuery limit db (record { lets = []; body = plain_query number [] terms }) [] e
+      → (e ≡ SqliteFailure OperationInterrupted) × IsSome limit
+  stops limit db e has (inl h) =
+      absurd (true≢false (sym fits ∙ subst (λ s. accepts_program s [] (plain_query number [] terms) [] ≡ false) has
+      h.1))
+  stops limit db e has (inr (inl (same, inl h))) = absurd h
+  stops limit db e has (inr (inl (same, inr h))) = absurd h.4
+  stops limit db e has (inr (inr h)) = h
+
+  pub fails_by : (old new : State) (e : Error) → old.now.schema ≡ plan_schema → FailsToQuery sql [] old new e
+      → LooksInVain old new e
+  unfolding FailsToQuery IsNotRun
+  fails_by old new e has (inl (inl (inl h, same))) =
+      absurd (subst (λ r. IsWhole r (length sql)) (ap (λ s. understood s sql) (sym has) ∙ h.1) whole)
+  fails_by old new e has (inl (inl (inr h, same))) =
+      let known = ap (λ s. understood s sql) (sym has) ∙ h.1 in
+      absurd (is_refused h.0 (length sql) _ _ _ (subst (λ r. IsWhole r (length sql)) known whole) (subst IsPlain known
+      plain).1 h.2)
+  fails_by old new e has (inl (inr h)) = inl (h.0, h.1, h.2)
+  fails_by old new e has (inr h) =
+      let known = sym h.1.is ∙ ap (λ s. understood s sql) has in
+      let bare = subst IsPlain (sym known) plain in
+      let it = rw (bare.0, bare.1, append-nil []) at h.2 in
+      let db : it.0 ≡ old.now = subst (λ b. IsSourceOf b old.now it.0) (ap (λ s. reads_listing s sql) has
+      ∙ unlisted) it.1 in
+      inr (stops old.step_limit it.0 e (ap (λ (d : Database). d.schema) db ∙ has)
+      (subst (λ k. RefusesToRead old.step_limit k it.0 [] e) (ap command_of known ∙ is) it.2))
+
+pub fails_as : (t : Table) (old new : State) (e : Error) → old.now.schema ≡ plan_schema
+    → FailsToQuery (select_sql t) [] old new e → LooksInVain old new e
+fails_as t =
+    fails_by (select_sql t) (tree t) (select_terms t) (column_names t) (select_fits t).0 (select_plain t)
+    (select_is t).0 (select_is t).1 (select_fits t).1
 
 -- a query changes nothing
 pub unchanged_by : (schema : Schema) (sql : List ℕ) (old new : State) (rows : List Row)

@@ -1,10 +1,14 @@
 -- The rows of the tables, and what one statement makes of them.
-use Rattle.std.specs.Prelude.{◌≡◌, Bool, false, not, ◌==◌, if◌then◌else◌, List, [], ◌∷◌, filter, IsTrue, ⊤}
+use Rattle.std.specs.Prelude.{◌≡◌, ◌⊎◌, Bool, false, not, ◌==◌, if◌then◌else◌, List, [], ◌∷◌, filter, IsTrue, IsSome, ⊤}
 use Rattle.std.specs.List.{AllByRecursion, list_all}
 use Rattle.std.specs.Ordering.{is_eq, match_ordering}
 use Rattle.sqlite.specs.Order.{Row}
 use Rattle.sqlite.specs.Schema.{Schema}
-use Rattle.sqlite.specs.State.{State}
+use Rattle.sqlite.specs.State.{HasCause, State, store_error}
+use Rattle.sqlite_trees.specs.declared.error.StoreError.{StoreError}
+use Rattle.sqlite.specs.declared.error.Error.{Error}
+use Rattle.sqlite.specs.declared.error.Error.TheVariants.{SqliteFailure}
+use Rattle.sqlite.specs.declared.error.ErrorCode.TheVariants.{OperationInterrupted}
 use Rattle.sqlite.specs.Term.{eval_all, holds}
 use Rattle.sqlite.specs.Tree.{Trees, rowid}
 use Rattle.sqlite.specs.View.{is_int}
@@ -82,6 +86,12 @@ pub record Stands (old new : State) (rows : Tables) : Type 0 where
   pub rows_are : tables_of new.now.trees ≡ rows
   pub committed : new.committed ≡ old.committed
   pub mode : IsTrue new.in_transaction
+
+-- what a look at a plan may fail for: memory is short, the device fails meanwhile, the connection was shut before, or
+-- the limit on steps is met, where one is set
+abbrev pub LooksInVain : State → State → Error → Type 0
+LooksInVain old new e = ((cause : StoreError) × (e ≡ store_error cause) × HasCause old new ⊥ cause)
+    ⊎ ((e ≡ SqliteFailure OperationInterrupted) × IsSome old.step_limit)
 
 -- no table has a row
 abbrev pub no_rows : Tables

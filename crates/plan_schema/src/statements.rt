@@ -1,11 +1,11 @@
 // Rows of values in the tables.
 
-ghost use Rattle.std.specs.Prelude.{◌≡◌, map, false, IfOk, OnOk, IsTrue};
+ghost use Rattle.std.specs.Prelude.{◌≡◌, map, false, IfErr, IfOk, OnOk, IsTrue};
 ghost use Rattle.std.specs.List.Sorted.{IsPermutation};
 ghost use Rattle.sqlite.specs.State.{HasCleanDisk, IsUnchanged, KeepsCommit, Survives};
 ghost use Rattle.sqlite.specs.Held.{state};
 ghost use Rattle.sqlite.specs.Values.{bound};
-ghost use Rattle.plan_schema.specs.Rows.{AreOfKinds, IsPlan, IsAlone, Stands, shown, tables_of};
+ghost use Rattle.plan_schema.specs.Rows.{AreOfKinds, IsPlan, IsAlone, LooksInVain, Stands, shown, tables_of};
 ghost use Rattle.plan_schema.specs.Rows.{with_cells, without_key};
 ghost use Rattle.plan_schema.specs.Schema.{plan_schema};
 
@@ -54,13 +54,16 @@ pub fn delete<S: Alter>(
     Ok(())
 }
 
-/// All rows of the table as they are shown, in some order.
+/// All rows of the table as they are shown, in some order. Over a plan it fails for want of memory, for a failure of
+/// the device, for a connection that was shut, or for a limit on steps.
 pub fn select<S: Alter>(conn: &mut Connection<S>, table: Table) -> Result<Vec<Row>, Error>
     ensures rows { HasCleanDisk (state S.Store conn.new) → (state S.Store conn.old).now.schema ≡ plan_schema
         → IfOk result (λ rows.
         IsPermutation (map (shown table) (tables_of (state S.Store conn.old).now.trees table)) rows.items) }
     ensures same { HasCleanDisk (state S.Store conn.new) → (state S.Store conn.old).now.schema ≡ plan_schema
         → OnOk result (IsUnchanged (state S.Store conn.old) (state S.Store conn.new)) }
+    ensures fails { HasCleanDisk (state S.Store conn.new) → (state S.Store conn.old).now.schema ≡ plan_schema
+        → IfErr result (LooksInVain (state S.Store conn.old) (state S.Store conn.new)) }
     ensures mode { conn.old.in_transaction ≡ false → conn.new.in_transaction ≡ false }
     ensures survives { Survives (state S.Store conn.old) (state S.Store conn.new)
         (λ _. (state S.Store conn.old).now.schema ≡ plan_schema → ⊥) }

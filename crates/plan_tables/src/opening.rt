@@ -8,8 +8,9 @@ ghost use Rattle.planner_machine.specs.Content.{nothing_known};
 ghost use Rattle.planner_machine.specs.Sound.{IsSound};
 ghost use Rattle.plan_schema.specs.Schema.{no_schema};
 ghost use Rattle.plan_store.specs.Contents.{content_of};
+ghost use Rattle.plan_reading.specs.Reading.{HasPlan};
 ghost use Rattle.plan_opening.specs.Held.{HoldsPlan};
-ghost use Rattle.plan_opening.specs.Opened.{IsStored, MakesFirst};
+ghost use Rattle.plan_opening.specs.Opened.{IsCaused, IsStored, MakesFirst};
 ghost use Rattle.plan_opening.specs.declared.faults.OpenFault.TheVariants.{Rows, Unopened};
 
 use crate::table_store::TableStore;
@@ -42,6 +43,8 @@ impl<S: Alter + Drop> TableStore<S> {
             → left.0 ≡ Rows → ⊥) }
         ensures version { IfErr result (λ left. HasCleanDisk (state S.Store left.1) → HoldsPlan (state S.Store conn)
             → left.0 ≡ Unopened → ⊥) }
+        ensures caused { IfErr result (λ left. HasCleanDisk (state S.Store left.1) → HasPlan (state S.Store conn)
+            → IsCaused (state S.Store conn) (state S.Store left.1) left.0) }
     {
         let mut conn = conn;
         match open_content(alloc, &mut conn) {

@@ -1,11 +1,12 @@
-use Rattle.std.proofs.Common.{◌∙◌, ap}
+use Rattle.std.proofs.Common.{◌∙◌, ap, subst, sym}
 use Rattle.std.specs.Prelude.{not}
 use Rattle.sqlite.specs.Held.{state}
 use Rattle.plan_schema.specs.Rows.{tables_of}
-use Rattle.plan_schema.proofs.ResultLemmas.{if_ok}
+use Rattle.plan_schema.proofs.ResultLemmas.{if_err, if_ok}
 use Rattle.plan_store.specs.Contents.{content_of}
 use Rattle.plan_reading.proofs.TableLemmas.{at_some}
-use Rattle.plan_opening.proofs.OpenedLemmas.{read_opened}
+use Rattle.plan_opening.specs.Opened.{IsCaused}
+use Rattle.plan_opening.proofs.OpenedLemmas.{caused_by, caused_by_content, read_opened}
 use Rattle.plan_opening.proofs.ReadableLemmas.{plans_readable}
 use Rattle.plan_opening.proofs.opening.read_whole.Goals as goal
 
@@ -30,3 +31,14 @@ returns-in-Ok-None-clause-rows g c clean held rows =
     let all = tables_of (state g.S.Store c.args.conn.now).now.trees in
     c.in-Ok-None.ensures.refused clean held.0 c.in-Ok-None.field-0-is
     (held.1.rowids, (plans_readable all held.1, tt))
+
+pub returns-in-Ok-Some-clause-caused : goal.returns-in-Ok-Some-clause-caused
+returns-in-Ok-Some-clause-caused g c clean plan =
+    if_err c.sound_content.result _ _ (caused_by_content (state g.S.Store c.args.conn.now) (state g.S.Store
+    c.read.new.conn)) c.sound_content.ensures.caused
+
+pub returns-in-Err-clause-caused : goal.returns-in-Err-clause-caused
+returns-in-Err-clause-caused g c clean plan =
+    let a = state g.S.Store c.args.conn.now in
+    let b = state g.S.Store c.read.new.conn in
+    subst (IsCaused a b) (sym c.fault_for.ensures.value) (caused_by a b c.in-Err.error (c.in-Err.ensures.fails clean plan))

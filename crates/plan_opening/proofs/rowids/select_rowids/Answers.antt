@@ -1,10 +1,11 @@
+use Rattle.std.proofs.Common.{[], ◌∷◌}
 use Rattle.sqlite.specs.Held.{state}
-use Rattle.plan_schema.specs.Schema.{plan_schema}
-use Rattle.plan_schema.proofs.ResultLemmas.{if_ok}
-use Rattle.plan_schema.proofs.StepLemmas.{quiet_by, unchanged_by}
-use Rattle.plan_opening.specs.Rowids.{rowid_sql}
+use Rattle.plan_schema.specs.Schema.{plan_schema, tree}
+use Rattle.plan_schema.proofs.ResultLemmas.{if_err, if_ok}
+use Rattle.plan_schema.proofs.StepLemmas.{fails_by, quiet_by, unchanged_by}
+use Rattle.plan_opening.specs.Rowids.{rowid_sql, rowid_terms}
 use Rattle.plan_opening.proofs.RowidLemmas.{on_done, reads_rowids}
-use Rattle.plan_opening.proofs.RowidTexts.{rowid_plain}
+use Rattle.plan_opening.proofs.RowidTexts.{rowid_fits, rowid_is, rowid_name, rowid_plain}
 use Rattle.plan_opening.proofs.rowids.select_rowids.Goals as goal
 
 pub returns-clause-rows : goal.returns-clause-rows
@@ -24,3 +25,11 @@ returns-clause-looks g c =
       survives = quiet_by plan_schema (rowid_sql c.args.table) old new (rowid_plain c.args.table)
           (rw c.rowid_text.ensures at c.query_all.ensures.survives);
     }
+
+pub returns-clause-fails : goal.returns-clause-fails
+returns-clause-fails g c clean has =
+    let t = c.args.table in
+    if_err c.query_all.result _ _ (λ e h. fails_by (rowid_sql t) (tree t) rowid_terms (rowid_name t ∷ [])
+    (rowid_fits t).0 (rowid_plain t) (rowid_is t).0 (rowid_is t).1 (rowid_fits t).1 (state g.S.Store c.args.conn.now)
+    (state g.S.Store c.query_all.new.self) e has h)
+    (rw c.rowid_text.ensures at (c.query_all.ensures.err clean))

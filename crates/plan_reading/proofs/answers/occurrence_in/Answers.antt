@@ -1,4 +1,4 @@
-use Rattle.std.proofs.Common.{◌≡◌, ◌∙◌, ◌∷◌, [], ◌++◌, ap, None, Some}
+use Rattle.std.proofs.Common.{◌≡◌, ◌∙◌, ◌∷◌, [], ◌++◌, ap}
 use Rattle.std.specs.Prelude.{codes}
 use Rattle.occurrences.specs.Status.{status_letter}
 use Rattle.plan_reading.specs.Lines.{back}

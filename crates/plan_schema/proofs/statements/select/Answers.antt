@@ -2,8 +2,8 @@ use Rattle.sqlite.specs.Held.{state}
 use Rattle.plan_schema.specs.Schema.{plan_schema}
 use Rattle.plan_schema.specs.Texts.{select_sql}
 use Rattle.plan_schema.proofs.Meanings.{select_plain}
-use Rattle.plan_schema.proofs.ResultLemmas.{if_ok, on_ok}
-use Rattle.plan_schema.proofs.StepLemmas.{quiet_by, reads, unchanged_by}
+use Rattle.plan_schema.proofs.ResultLemmas.{if_err, if_ok, on_ok}
+use Rattle.plan_schema.proofs.StepLemmas.{fails_as, quiet_by, reads, unchanged_by}
 use Rattle.plan_schema.proofs.statements.select.Goals as goal
 
 pub returns-clause-rows : goal.returns-clause-rows
@@ -23,3 +23,9 @@ returns-clause-survives g c =
     quiet_by plan_schema (select_sql c.args.table) (state g.S.Store c.args.conn.now) (state g.S.Store
     c.query_all.new.self) (select_plain c.args.table)
     (rw c.select_text.ensures at c.query_all.ensures.survives)
+
+pub returns-clause-fails : goal.returns-clause-fails
+returns-clause-fails g c clean has =
+    if_err c.query_all.result _ _ (λ e h. fails_as c.args.table (state g.S.Store c.args.conn.now) (state g.S.Store
+    c.query_all.new.self) e has h)
+    (rw c.select_text.ensures at (c.query_all.ensures.err clean))

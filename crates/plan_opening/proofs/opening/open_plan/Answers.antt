@@ -1,0 +1,24 @@
+use Rattle.std.proofs.Common.{arith, refl, subst, sym}
+use Rattle.sqlite.specs.Held.{state}
+use Rattle.plan_schema.proofs.ResultLemmas.{if_err}
+use Rattle.plan_reading.proofs.LookLemmas.{plan_still}
+use Rattle.plan_opening.specs.Opened.{IsCaused}
+use Rattle.plan_opening.proofs.OpenedLemmas.{caused_by, caused_since}
+use Rattle.plan_opening.proofs.opening.open_plan.Goals as goal
+
+pub returns-in-Ok-true-clause-caused : goal.returns-in-Ok-true-clause-caused
+returns-in-Ok-true-clause-caused g c clean =
+    let a = state g.S.Store c.args.conn.now in
+    let b = state g.S.Store c.has_version.new.conn in
+    let d = state g.S.Store c.read_whole.new.conn in
+    let look = c.in-Ok-true.ensures.looks in
+    let same = look.same (omega (arith, c.read_whole.ensures.survives.clean, clean)) c.requires.plan refl in
+    if_err c.read_whole.result _ _ (caused_since a b d same look.survives.counts look.survives.limit)
+    (c.read_whole.ensures.caused clean (plan_still a b same c.requires.plan))
+
+pub returns-in-Err-clause-caused : goal.returns-in-Err-clause-caused
+returns-in-Err-clause-caused g c clean =
+    let a = state g.S.Store c.args.conn.now in
+    let b = state g.S.Store c.has_version.new.conn in
+    subst (IsCaused a b) (sym c.fault_for.ensures.value)
+    (caused_by a b c.in-Err.error (c.in-Err.ensures.fails clean c.requires.plan))
