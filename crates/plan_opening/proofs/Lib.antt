@@ -1,3 +1,4 @@
+pub mod SchemaLemmas
 pub mod RowidTexts
 pub mod RowidLemmas
 pub mod FirstRows

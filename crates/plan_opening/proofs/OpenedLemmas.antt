@@ -22,6 +22,7 @@ use Rattle.plan_opening.proofs.FirstRows.{first_content}
 pub read_opened : (old new : State) (c : Content) → (IsTrue old.is_open → old.now ≡ old.committed)
     → Looks old new true → HasCleanDisk new → HasPlan old → AllHaveRowids (tables_of old.now.trees)
     → IsContentOf (tables_of old.now.trees) c → IsStored new c
+unfolding HasPlan
 read_opened old new c settled look clean plan rowids content =
     let same = look.same clean plan refl in
     let now = same.0.now_is in

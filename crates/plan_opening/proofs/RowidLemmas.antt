@@ -31,7 +31,7 @@ use Rattle.sqlite_value.proofs.OrderLemmas.{value_cmp-Int, value_cmp_total}
 use Rattle.plan_lists.proofs.KeyLemmas.{contains_first, contains_later}
 use Rattle.plan_schema.proofs.Steps.{plain_rows}
 use Rattle.plan_schema.specs.Rows.{Differ, HaveRowids, tables_of}
-use Rattle.plan_schema.specs.Schema.{plan_schema, tree}
+use Rattle.plan_schema.specs.Schema.{HasTables, plan_and, tree}
 use Rattle.plan_schema.specs.declared.tables.Table.{Table}
 use Rattle.plan_schema.specs.declared.tables.Table.TheVariants as table
 use Rattle.plan_reading.proofs.OrderLemmas.{apart_rise}
@@ -54,12 +54,12 @@ own table.Deletion db = refl
 own table.Dependency db = refl
 own table.Job db = refl
 
-pub reads_rowids : (t : Table) (old new : State) (rows : List Values) → old.now.schema ≡ plan_schema
+pub reads_rowids : (t : Table) (old new : State) (rows : List Values) → HasTables old.now.schema
     → Shown (rowid_sql t) [] old new rows → IsPermutation (map rowid_shown (tables_of old.now.trees t)) rows
 reads_rowids t old new rows has h =
     let was = old.now.trees (tree t) in
-    let answers = reads_as (rowid_sql t) [] old new plan_schema has _ (rowid_is t).0 (rowid_plain t) (rowid_is
-    t).1 rows h in
+    let answers = reads_as (rowid_sql t) [] old new (plan_and has.more) has.is _ (rowid_is has.more t).0
+    (rowid_plain has.more t) (rowid_is has.more t).1 rows h in
     subst (λ l. IsPermutation (map rowid_shown l) rows) (filter_all (λ _. true) was (all_of _ (λ _. refl) was))
     (plain_rows (tree t) [] rowid_terms old.now.trees [] rows (own t old.now.trees) (answers.answer Null))
 

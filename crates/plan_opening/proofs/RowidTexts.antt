@@ -8,7 +8,7 @@ use Rattle.sqlite.proofs.Callers.{IsPlain, command_of}
 use Rattle.sqlite_typing.specs.Types.{accepts_program}
 use Rattle.plan_schema.proofs.Meanings.{IsWhole}
 use Rattle.plan_schema.proofs.Steps.{plain_query}
-use Rattle.plan_schema.specs.Schema.{plan_schema, tree}
+use Rattle.plan_schema.specs.Schema.{Further, plan_and, tree}
 use Rattle.plan_schema.specs.declared.tables.Table.{Table}
 use Rattle.plan_schema.specs.declared.tables.Table.TheVariants.{Meta, CalendarEntry, Period, Application}
 use Rattle.plan_schema.specs.declared.tables.Table.TheVariants.{RunCycle, Offset, Predecessor, LinkInForce}
@@ -26,60 +26,60 @@ rowid_name Deletion = codes "serial"
 rowid_name Job = codes "number"
 rowid_name _ = codes "rowid"
 
-pub rowid_is : (t : Table) → (command_of (understood plan_schema (rowid_sql t)) ≡ Select (record {
+pub rowid_is : (more : Further) (t : Table) → (command_of (understood (plan_and more) (rowid_sql t)) ≡ Select (record {
   lets =
       [];
   body = plain_query (tree t) [] rowid_terms;
 }) (rowid_name t ∷ []))
-    × (reads_listing plan_schema (rowid_sql t) ≡ false)
+    × (reads_listing (plan_and more) (rowid_sql t) ≡ false)
 unfolding understood everything
-rowid_is Meta = (refl, refl)
-rowid_is CalendarEntry = (refl, refl)
-rowid_is Period = (refl, refl)
-rowid_is Application = (refl, refl)
-rowid_is RunCycle = (refl, refl)
-rowid_is Offset = (refl, refl)
-rowid_is Predecessor = (refl, refl)
-rowid_is LinkInForce = (refl, refl)
-rowid_is LongTerm = (refl, refl)
-rowid_is Current = (refl, refl)
-rowid_is History = (refl, refl)
-rowid_is Deletion = (refl, refl)
-rowid_is Dependency = (refl, refl)
-rowid_is Job = (refl, refl)
+rowid_is more Meta = (refl, refl)
+rowid_is more CalendarEntry = (refl, refl)
+rowid_is more Period = (refl, refl)
+rowid_is more Application = (refl, refl)
+rowid_is more RunCycle = (refl, refl)
+rowid_is more Offset = (refl, refl)
+rowid_is more Predecessor = (refl, refl)
+rowid_is more LinkInForce = (refl, refl)
+rowid_is more LongTerm = (refl, refl)
+rowid_is more Current = (refl, refl)
+rowid_is more History = (refl, refl)
+rowid_is more Deletion = (refl, refl)
+rowid_is more Dependency = (refl, refl)
+rowid_is more Job = (refl, refl)
 
-pub rowid_plain : (t : Table) → IsPlain (understood plan_schema (rowid_sql t))
+pub rowid_plain : (more : Further) (t : Table) → IsPlain (understood (plan_and more) (rowid_sql t))
 unfolding understood everything
-rowid_plain Meta = (refl, refl)
-rowid_plain CalendarEntry = (refl, refl)
-rowid_plain Period = (refl, refl)
-rowid_plain Application = (refl, refl)
-rowid_plain RunCycle = (refl, refl)
-rowid_plain Offset = (refl, refl)
-rowid_plain Predecessor = (refl, refl)
-rowid_plain LinkInForce = (refl, refl)
-rowid_plain LongTerm = (refl, refl)
-rowid_plain Current = (refl, refl)
-rowid_plain History = (refl, refl)
-rowid_plain Deletion = (refl, refl)
-rowid_plain Dependency = (refl, refl)
-rowid_plain Job = (refl, refl)
+rowid_plain more Meta = (refl, refl)
+rowid_plain more CalendarEntry = (refl, refl)
+rowid_plain more Period = (refl, refl)
+rowid_plain more Application = (refl, refl)
+rowid_plain more RunCycle = (refl, refl)
+rowid_plain more Offset = (refl, refl)
+rowid_plain more Predecessor = (refl, refl)
+rowid_plain more LinkInForce = (refl, refl)
+rowid_plain more LongTerm = (refl, refl)
+rowid_plain more Current = (refl, refl)
+rowid_plain more History = (refl, refl)
+rowid_plain more Deletion = (refl, refl)
+rowid_plain more Dependency = (refl, refl)
+rowid_plain more Job = (refl, refl)
 
 -- the text is one statement to its end, without parameters, and its types fit
-pub rowid_fits : (t : Table) → IsWhole (understood plan_schema (rowid_sql t)) (length (rowid_sql t))
-    × (accepts_program plan_schema [] (plain_query (tree t) [] rowid_terms) [] ≡ true)
+pub rowid_fits : (more : Further) (t : Table) → IsWhole (understood (plan_and more) (rowid_sql t)) (length (rowid_sql t))
+    × (accepts_program (plan_and more) [] (plain_query (tree t) [] rowid_terms) [] ≡ true)
 unfolding understood everything
-rowid_fits Meta = ((refl, refl), refl)
-rowid_fits CalendarEntry = ((refl, refl), refl)
-rowid_fits Period = ((refl, refl), refl)
-rowid_fits Application = ((refl, refl), refl)
-rowid_fits RunCycle = ((refl, refl), refl)
-rowid_fits Offset = ((refl, refl), refl)
-rowid_fits Predecessor = ((refl, refl), refl)
-rowid_fits LinkInForce = ((refl, refl), refl)
-rowid_fits LongTerm = ((refl, refl), refl)
-rowid_fits Current = ((refl, refl), refl)
-rowid_fits History = ((refl, refl), refl)
-rowid_fits Deletion = ((refl, refl), refl)
-rowid_fits Dependency = ((refl, refl), refl)
-rowid_fits Job = ((refl, refl), refl)
+rowid_fits more Meta = ((refl, refl), refl)
+rowid_fits more CalendarEntry = ((refl, refl), refl)
+rowid_fits more Period = ((refl, refl), refl)
+rowid_fits more Application = ((refl, refl), refl)
+rowid_fits more RunCycle = ((refl, refl), refl)
+rowid_fits more Offset = ((refl, refl), refl)
+rowid_fits more Predecessor = ((refl, refl), refl)
+rowid_fits more LinkInForce = ((refl, refl), refl)
+rowid_fits more LongTerm = ((refl, refl), refl)
+rowid_fits more Current = ((refl, refl), refl)
+rowid_fits more History = ((refl, refl), refl)
+rowid_fits more Deletion = ((refl, refl), refl)
+rowid_fits more Dependency = ((refl, refl), refl)
+rowid_fits more Job = ((refl, refl), refl)

@@ -76,6 +76,7 @@ fn is_known(rows: &[Cells]) -> bool
 }
 
 // Whether the tables of the plan are of a known version.
+#[tactic(auto, unfolding(plan_reading::specs::Reading::HasPlan))]
 fn has_version<S: Alter>(conn: &mut Connection<S>) -> Result<bool, Error>
     ensures told { HasCleanDisk (state S.Store conn.new) → HasPlan (state S.Store conn.old) → IfOk result (λ b.
         IsTrue b ↔ AreKnown (map (shown Meta) (tables_of (state S.Store conn.old).now.trees Meta))) }

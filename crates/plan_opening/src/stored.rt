@@ -28,6 +28,7 @@ impl<const PLACE: usize> Part for Shown<PLACE> {
 
     ghost readable = { λ _. Unit {0} };
 
+    #[tactic(auto, unfolding(plan_reading::specs::Reading::HasPlan))]
     fn read<S: Alter>(_: Global, conn: &mut Connection<S>) -> Result<Option<Shown<PLACE>>, Error> {
         match select(conn, table_at(PLACE)) {
             Ok(rows) => Ok(Some(Shown { rows })),

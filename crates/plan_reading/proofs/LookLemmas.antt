@@ -9,10 +9,12 @@ use Rattle.sqlite.proofs.Callers.{unchanged_then}
 use Rattle.sqlite.proofs.StateLemmas.{survives_then}
 use Rattle.std.specs.Prelude.{IsSome}
 use Rattle.plan_schema.specs.Rows.{LooksInVain, tables_of}
+use Rattle.plan_schema.specs.Schema.{HasTables}
 use Rattle.plan_reading.specs.Reading.{HasPlan, Looks}
 
 pub plan_still : (a b : State) → IsUnchanged a b → HasPlan a → HasPlan b
-plan_still a b same plan = ap (λ (d : Database). d.schema) same.0.now_is ∙ plan
+unfolding HasPlan
+plan_still a b same plan = subst HasTables (sym (ap (λ (d : Database). d.schema) same.0.now_is)) plan
 
 pub tables_still : (a b : State) → IsUnchanged a b → tables_of b.now.trees ≡ tables_of a.now.trees
 tables_still a b same = ap (λ (d : Database). tables_of d.trees) same.0.now_is

@@ -18,6 +18,7 @@ use sqlite::{Alter, Connection, Error};
 use std::alloc::Global;
 
 /// What the rows of the table tell.
+#[tactic(auto, unfolding(crate::specs::Reading::HasPlan))]
 pub(crate) fn read_table<X: Told + Drop, S: Alter>(
     alloc: Global,
     conn: &mut Connection<S>,

@@ -4,7 +4,7 @@ use Rattle.std.proofs.Common.{if◌then◌else◌}
 use Rattle.std.proofs.Common.{List, [], ◌∷◌, ◌++◌, length, length-append, map, filter, find}
 use Rattle.std.proofs.Common.{Some, None, unwrap_or}
 use Rattle.std.proofs.Common.{Ok, refl, sym, ap, subst, ◌∙◌, arith, Ordering, Less, Equal, Greater, is_eq}
-use Rattle.std.proofs.Common.{IsTrue, filter_map}
+use Rattle.std.proofs.Common.{IsTrue, Option, filter_map, flat_map}
 use Rattle.std.specs.List.{AllByRecursion, list_any}
 use Rattle.std.specs.List.Sorted.{IsPermutation}
 use Rattle.std.proofs.lemmas.Bool.{or_parts, and_parts}
@@ -12,7 +12,7 @@ use Rattle.std.proofs.lemmas.List.Elements.{All-from_recursion, recursion_from_A
 use Rattle.std.proofs.lemmas.List.Sorted.{All-permutation}
 use Rattle.sqlite.specs.Tree.{Trees}
 use Rattle.sqlite_keyed.proofs.ListLemmas.{all_both, all_map}
-use Rattle.sqlite_rules.specs.Action.{Work, Leads, Writes, works, pairs, loses, is_child_of, Acts}
+use Rattle.sqlite_rules.specs.Action.{Work, Leads, Writes, works, work_for, pairs, loses, is_child_of, Acts}
 use Rattle.sqlite_rules.specs.declared.action.Deed.TheVariants.{Delete}
 use Rattle.sqlite_rules.specs.Calls.{ids_of}
 use Rattle.sqlite_rules.specs.Edit.{Applies, edit_of, id_in, row_at}
@@ -35,7 +35,8 @@ use Rattle.sqlite_value.specs.declared.keys.Order.{Order}
 use Rattle.sqlite_value.specs.declared.value.Value.{Value}
 use Rattle.sqlite_value.specs.declared.value.Value.TheVariants.{Null, Int}
 use Rattle.plan_schema.specs.Rows.{Differ, HaveRowids, matches}
-use Rattle.plan_schema.specs.Schema.{plan_schema, table, to_run_cycle, tree}
+use Rattle.sqlite_schema.specs.declared.schema.Table.{Table as Described}
+use Rattle.plan_schema.specs.Schema.{Further, IsAside, plan_and, table, to_run_cycle, tree}
 use Rattle.plan_schema.specs.declared.tables.Table.TheVariants.{Offset, RunCycle}
 use Rattle.plan_schema.proofs.RowLemmas.{id_back, tied}
 
@@ -92,10 +93,19 @@ abbrev set_off : Bool → List Row → List Work
 set_off some olds = filter_map (λ (ref : Reference). if some then Some (their_offsets olds) else None)
     (to_run_cycle ∷ []) ++ []
 
-works_are : (olds : List Row) → works plan_schema Enforced 0 (tree RunCycle) olds [] ≡ set_off (list_any (loses
+-- further tables refer to none, so nothing is set off for them
+pub sets_off_none : {W : Type 0} (g : Described → Reference → Option W) (ts : List Described)
+    → AllByRecursion IsAside ts → flat_map (λ child. filter_map (g child) child.references) ts ≡ []
+sets_off_none g [] all = refl
+sets_off_none g (t ∷ ts) all = ap (λ refs. filter_map (g t) refs ++ flat_map (λ child. filter_map (g child)
+    child.references) ts) all.0 ∙ sets_off_none g ts all.1
+
+works_are : (more : Further) (olds : List Row) → AllByRecursion IsAside more.tables
+    → works (plan_and more) Enforced 0 (tree RunCycle) olds [] ≡ set_off (list_any (loses
     name_order (1 ∷ 2 ∷ [])) (pairs olds [])) olds
 unfolding same_name joined
-works_are olds = refl
+works_are more olds aside = ap (λ (rest : List Work). filter_map (λ (ref : Reference). if list_any (loses name_order (1 ∷ 2 ∷ [])) (pairs olds []) then Some (their_offsets olds) else None)
+    (to_run_cycle ∷ []) ++ rest) (sets_off_none (work_for (plan_and more) Enforced 0 (tree RunCycle) olds []) more.tables aside)
 
 binary_names : (first_key name_order).collation ≡ Binary
 unfolding first_key joined
@@ -131,15 +141,15 @@ has_all P [] x all h = absurd h
 has_all P (y ∷ ys) x all (inl same) = subst P (sym same) all.0
 has_all P (y ∷ ys) x all (inr later) = has_all P ys x all.1 later
 
-nothing_left : (n : ℕ) (db next : Trees) → Leads plan_schema Enforced n db [] (Ok next) → db ≡ next
-nothing_left zero db next h = let e = h.1 in cc
-nothing_left (suc n) db next h = absurd (omega (arith, ap length h.2, length-append h.0 (h.1 ∷ [])))
+nothing_left : (more : Further) (n : ℕ) (db next : Trees) → Leads (plan_and more) Enforced n db [] (Ok next) → db ≡ next
+nothing_left more zero db next h = let e = h.1 in cc
+nothing_left more (suc n) db next h = absurd (omega (arith, ap length h.2, length-append h.0 (h.1 ∷ [])))
 
 one_left : (w : Work) (below : List Work) (last : Work) → w ∷ [] ≡ below ++ last ∷ [] → (below ≡ []) × (last ≡ w)
 one_left w [] last e = (refl, cc)
 one_left w (b ∷ bs) last e = absurd (omega (arith, ap length e, length-append bs (last ∷ [])))
 
-module _ (key : Row) (olds : List Row) (all : AllByRecursion (λ o. matches RunCycle key o ≡ true) olds) (mid next :
+module _ (more : Further) (key : Row) (olds : List Row) (all : AllByRecursion (λ o. matches RunCycle key o ≡ true) olds) (mid next :
     Trees)
     (free : AllByRecursion (λ r. matches Offset key r ≡ false) (mid (tree Offset))) where
   no_child_at : (r : Row) → Has (mid (tree Offset)) r → list_any (is_child_of (their_offsets olds) r) (pairs olds
@@ -149,20 +159,20 @@ module _ (key : Row) (olds : List Row) (all : AllByRecursion (λ o. matches RunC
       all in
       let e : true ≡ false = sym is ∙ none in cc
 
-  acted : (n : ℕ) → Acts plan_schema Enforced (Leads plan_schema Enforced n) mid (their_offsets olds) [] (Ok next)
+  acted : (n : ℕ) → Acts (plan_and more) Enforced (Leads (plan_and more) Enforced n) mid (their_offsets olds) [] (Ok next)
       → mid ≡ next
-  acted n ([], children, rest) = nothing_left n mid next rest
+  acted n ([], children, rest) = nothing_left more n mid next rest
   acted n (id ∷ ids, children, rest) = let child = children.sound id (inl refl) in absurd (no_child_at child.0
       child.1 child.2)
 
-  settled : (b : Bool) (n : ℕ) → Leads plan_schema Enforced n mid (set_off b olds) (Ok next) → mid ≡ next
-  settled false n h = nothing_left n mid next h
+  settled : (b : Bool) (n : ℕ) → Leads (plan_and more) Enforced n mid (set_off b olds) (Ok next) → mid ≡ next
+  settled false n h = nothing_left more n mid next h
   settled true zero h = let e = h.0 in cc
   settled true (suc n) h =
       let last = one_left (their_offsets olds) h.0 h.1 h.2 in
-      acted n (subst (λ below. Acts plan_schema Enforced (Leads plan_schema Enforced n) mid (their_offsets olds)
+      acted n (subst (λ below. Acts (plan_and more) Enforced (Leads (plan_and more) Enforced n) mid (their_offsets olds)
       below (Ok next)) last.0
-      (subst (λ w. Acts plan_schema Enforced (Leads plan_schema Enforced n) mid w h.0 (Ok next)) last.1 h.3))
+      (subst (λ w. Acts (plan_and more) Enforced (Leads (plan_and more) Enforced n) mid w h.0 (Ok next)) last.1 h.3))
 
 -- ---- the rows that are taken out have the key
 
@@ -224,20 +234,20 @@ found_pass test rows found all same =
     id_in (rowid r)) found seen)
 
 -- Where no offset has the key, taking out the run cycles that have it is one step.
-pub cycles_alone : (key : Row) (db next : Trees) (found : List Row) → HaveRowids (db (tree RunCycle))
+pub cycles_alone : (more : Further) → AllByRecursion IsAside more.tables → (key : Row) (db next : Trees) (found : List Row) → HaveRowids (db (tree RunCycle))
     → AllByRecursion (λ r. matches Offset key r ≡ false) (db (tree Offset))
     → IsPermutation (map (λ r. rowid r ∷ []) (filter (matches RunCycle key) (db (tree RunCycle)))) found
-    → Writes plan_schema Enforced db (edit_of db (table RunCycle) (ids_of found) Given 0 []) (Ok next)
-    → Applies plan_schema Enforced db (edit_of db (table RunCycle) (ids_of found) Given 0 []) next
-cycles_alone key db next found all free same (inl refused) = absurd (let e = refused.2 in cc)
-cycles_alone key db next found all free same (inr (inl big)) = absurd (let e = big.3 in cc)
-cycles_alone key db next found all free same (inr (inr went)) =
+    → Writes (plan_and more) Enforced db (edit_of db (table RunCycle) (ids_of found) Given 0 []) (Ok next)
+    → Applies (plan_and more) Enforced db (edit_of db (table RunCycle) (ids_of found) Given 0 []) next
+cycles_alone more aside key db next found all free same (inl refused) = absurd (let e = refused.2 in cc)
+cycles_alone more aside key db next found all free same (inr (inl big)) = absurd (let e = big.3 in cc)
+cycles_alone more aside key db next found all free same (inr (inr went)) =
     let olds = map (row_at (db (tree RunCycle))) (ids_of found) in
     let offsets : went.0 (tree Offset) ≡ db (tree Offset) = went.1.tables.1.1.1.1.1.0 (λ e. cc) in
     let still = subst (AllByRecursion (λ r. matches Offset key r ≡ false)) (sym offsets) free in
     let have = found_pass (matches RunCycle key) (db (tree RunCycle)) found all same in
-    let leads = subst (λ stack. Leads plan_schema Enforced went.2.0 went.0 stack (Ok next)) (works_are olds)
+    let leads = subst (λ stack. Leads (plan_and more) Enforced went.2.0 went.0 stack (Ok next)) (works_are more olds aside)
     went.2.1 in
-    subst (Applies plan_schema Enforced db (edit_of db (table RunCycle) (ids_of found) Given 0 [])) (settled key
+    subst (Applies (plan_and more) Enforced db (edit_of db (table RunCycle) (ids_of found) Given 0 [])) (settled more key
     olds have went.0 next still (list_any (loses name_order (1 ∷ 2 ∷ [])) (pairs olds [])) went.2.0 leads)
     went.1

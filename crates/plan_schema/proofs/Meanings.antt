@@ -12,7 +12,7 @@ use Rattle.sqlite_resolve.specs.declared.compiled.Compiled.{Compiled}
 use Rattle.sqlite_resolve.specs.declared.error.CompileError.{CompileError}
 use Rattle.sqlite_typing.specs.Types.{accepts_program}
 use Rattle.plan_schema.proofs.Steps.{plain_query}
-use Rattle.plan_schema.specs.Schema.{table_at, before, after, plan_schema, place, tree}
+use Rattle.plan_schema.specs.Schema.{Further, table_at, before, after, plan_and, place, tree}
 use Rattle.plan_schema.specs.Texts.{create_sql, insert_sql, delete_sql, select_sql}
 use Rattle.plan_schema.specs.Cells.{insert_terms, delete_tests, select_terms, column_names, width}
 use Rattle.plan_schema.specs.declared.tables.Table.{Table}
@@ -73,117 +73,117 @@ made Deletion = refl
 made Dependency = refl
 made Job = refl
 
-pub insert_is : (t : Table) → command_of (understood plan_schema (insert_sql t)) ≡ Insert (place t) (Values
+pub insert_is : (more : Further) (t : Table) → command_of (understood (plan_and more) (insert_sql t)) ≡ Insert (place t) (Values
     (insert_terms t) (width t))
 unfolding understood everything
-insert_is Meta = refl
-insert_is CalendarEntry = refl
-insert_is Period = refl
-insert_is Application = refl
-insert_is RunCycle = refl
-insert_is Offset = refl
-insert_is Predecessor = refl
-insert_is LinkInForce = refl
-insert_is LongTerm = refl
-insert_is Current = refl
-insert_is History = refl
-insert_is Deletion = refl
-insert_is Dependency = refl
-insert_is Job = refl
+insert_is more Meta = refl
+insert_is more CalendarEntry = refl
+insert_is more Period = refl
+insert_is more Application = refl
+insert_is more RunCycle = refl
+insert_is more Offset = refl
+insert_is more Predecessor = refl
+insert_is more LinkInForce = refl
+insert_is more LongTerm = refl
+insert_is more Current = refl
+insert_is more History = refl
+insert_is more Deletion = refl
+insert_is more Dependency = refl
+insert_is more Job = refl
 
-pub insert_plain : (t : Table) → IsPlain (understood plan_schema (insert_sql t))
+pub insert_plain : (more : Further) (t : Table) → IsPlain (understood (plan_and more) (insert_sql t))
 unfolding understood everything
-insert_plain Meta = (refl, refl)
-insert_plain CalendarEntry = (refl, refl)
-insert_plain Period = (refl, refl)
-insert_plain Application = (refl, refl)
-insert_plain RunCycle = (refl, refl)
-insert_plain Offset = (refl, refl)
-insert_plain Predecessor = (refl, refl)
-insert_plain LinkInForce = (refl, refl)
-insert_plain LongTerm = (refl, refl)
-insert_plain Current = (refl, refl)
-insert_plain History = (refl, refl)
-insert_plain Deletion = (refl, refl)
-insert_plain Dependency = (refl, refl)
-insert_plain Job = (refl, refl)
+insert_plain more Meta = (refl, refl)
+insert_plain more CalendarEntry = (refl, refl)
+insert_plain more Period = (refl, refl)
+insert_plain more Application = (refl, refl)
+insert_plain more RunCycle = (refl, refl)
+insert_plain more Offset = (refl, refl)
+insert_plain more Predecessor = (refl, refl)
+insert_plain more LinkInForce = (refl, refl)
+insert_plain more LongTerm = (refl, refl)
+insert_plain more Current = (refl, refl)
+insert_plain more History = (refl, refl)
+insert_plain more Deletion = (refl, refl)
+insert_plain more Dependency = (refl, refl)
+insert_plain more Job = (refl, refl)
 
-pub delete_is : (t : Table) → command_of (understood plan_schema (delete_sql t)) ≡ Delete (place t) (record {
+pub delete_is : (more : Further) (t : Table) → command_of (understood (plan_and more) (delete_sql t)) ≡ Delete (place t) (record {
   lets =
       [];
   body = plain_query (tree t) (delete_tests t) (col 1 0 ∷ []);
 })
 unfolding understood everything
-delete_is Meta = refl
-delete_is CalendarEntry = refl
-delete_is Period = refl
-delete_is Application = refl
-delete_is RunCycle = refl
-delete_is Offset = refl
-delete_is Predecessor = refl
-delete_is LinkInForce = refl
-delete_is LongTerm = refl
-delete_is Current = refl
-delete_is History = refl
-delete_is Deletion = refl
-delete_is Dependency = refl
-delete_is Job = refl
+delete_is more Meta = refl
+delete_is more CalendarEntry = refl
+delete_is more Period = refl
+delete_is more Application = refl
+delete_is more RunCycle = refl
+delete_is more Offset = refl
+delete_is more Predecessor = refl
+delete_is more LinkInForce = refl
+delete_is more LongTerm = refl
+delete_is more Current = refl
+delete_is more History = refl
+delete_is more Deletion = refl
+delete_is more Dependency = refl
+delete_is more Job = refl
 
-pub delete_plain : (t : Table) → IsPlain (understood plan_schema (delete_sql t))
+pub delete_plain : (more : Further) (t : Table) → IsPlain (understood (plan_and more) (delete_sql t))
 unfolding understood everything
-delete_plain Meta = (refl, refl)
-delete_plain CalendarEntry = (refl, refl)
-delete_plain Period = (refl, refl)
-delete_plain Application = (refl, refl)
-delete_plain RunCycle = (refl, refl)
-delete_plain Offset = (refl, refl)
-delete_plain Predecessor = (refl, refl)
-delete_plain LinkInForce = (refl, refl)
-delete_plain LongTerm = (refl, refl)
-delete_plain Current = (refl, refl)
-delete_plain History = (refl, refl)
-delete_plain Deletion = (refl, refl)
-delete_plain Dependency = (refl, refl)
-delete_plain Job = (refl, refl)
+delete_plain more Meta = (refl, refl)
+delete_plain more CalendarEntry = (refl, refl)
+delete_plain more Period = (refl, refl)
+delete_plain more Application = (refl, refl)
+delete_plain more RunCycle = (refl, refl)
+delete_plain more Offset = (refl, refl)
+delete_plain more Predecessor = (refl, refl)
+delete_plain more LinkInForce = (refl, refl)
+delete_plain more LongTerm = (refl, refl)
+delete_plain more Current = (refl, refl)
+delete_plain more History = (refl, refl)
+delete_plain more Deletion = (refl, refl)
+delete_plain more Dependency = (refl, refl)
+delete_plain more Job = (refl, refl)
 
-pub select_is : (t : Table) → (command_of (understood plan_schema (select_sql t)) ≡ Select (record {
+pub select_is : (more : Further) (t : Table) → (command_of (understood (plan_and more) (select_sql t)) ≡ Select (record {
   lets =
       [];
   body = plain_query (tree t) [] (select_terms t);
 }) (column_names t))
-    × (reads_listing plan_schema (select_sql t) ≡ false)
+    × (reads_listing (plan_and more) (select_sql t) ≡ false)
 unfolding understood everything
-select_is Meta = (refl, refl)
-select_is CalendarEntry = (refl, refl)
-select_is Period = (refl, refl)
-select_is Application = (refl, refl)
-select_is RunCycle = (refl, refl)
-select_is Offset = (refl, refl)
-select_is Predecessor = (refl, refl)
-select_is LinkInForce = (refl, refl)
-select_is LongTerm = (refl, refl)
-select_is Current = (refl, refl)
-select_is History = (refl, refl)
-select_is Deletion = (refl, refl)
-select_is Dependency = (refl, refl)
-select_is Job = (refl, refl)
+select_is more Meta = (refl, refl)
+select_is more CalendarEntry = (refl, refl)
+select_is more Period = (refl, refl)
+select_is more Application = (refl, refl)
+select_is more RunCycle = (refl, refl)
+select_is more Offset = (refl, refl)
+select_is more Predecessor = (refl, refl)
+select_is more LinkInForce = (refl, refl)
+select_is more LongTerm = (refl, refl)
+select_is more Current = (refl, refl)
+select_is more History = (refl, refl)
+select_is more Deletion = (refl, refl)
+select_is more Dependency = (refl, refl)
+select_is more Job = (refl, refl)
 
-pub select_plain : (t : Table) → IsPlain (understood plan_schema (select_sql t))
+pub select_plain : (more : Further) (t : Table) → IsPlain (understood (plan_and more) (select_sql t))
 unfolding understood everything
-select_plain Meta = (refl, refl)
-select_plain CalendarEntry = (refl, refl)
-select_plain Period = (refl, refl)
-select_plain Application = (refl, refl)
-select_plain RunCycle = (refl, refl)
-select_plain Offset = (refl, refl)
-select_plain Predecessor = (refl, refl)
-select_plain LinkInForce = (refl, refl)
-select_plain LongTerm = (refl, refl)
-select_plain Current = (refl, refl)
-select_plain History = (refl, refl)
-select_plain Deletion = (refl, refl)
-select_plain Dependency = (refl, refl)
-select_plain Job = (refl, refl)
+select_plain more Meta = (refl, refl)
+select_plain more CalendarEntry = (refl, refl)
+select_plain more Period = (refl, refl)
+select_plain more Application = (refl, refl)
+select_plain more RunCycle = (refl, refl)
+select_plain more Offset = (refl, refl)
+select_plain more Predecessor = (refl, refl)
+select_plain more LinkInForce = (refl, refl)
+select_plain more LongTerm = (refl, refl)
+select_plain more Current = (refl, refl)
+select_plain more History = (refl, refl)
+select_plain more Deletion = (refl, refl)
+select_plain more Dependency = (refl, refl)
+select_plain more Job = (refl, refl)
 
 -- it is understood to its end, and has no parameters
 abbrev pub IsWhole : Result Compiled CompileError → ℕ → Type 0
@@ -191,20 +191,20 @@ IsWhole (Ok c) size = (c.tail ≡ size) × (c.names ≡ [])
 IsWhole (Err e) size = ⊥
 
 -- the text is one statement to its end, without parameters, and its types fit
-pub select_fits : (t : Table) → IsWhole (understood plan_schema (select_sql t)) (length (select_sql t))
-    × (accepts_program plan_schema [] (plain_query (tree t) [] (select_terms t)) [] ≡ true)
+pub select_fits : (more : Further) (t : Table) → IsWhole (understood (plan_and more) (select_sql t)) (length (select_sql t))
+    × (accepts_program (plan_and more) [] (plain_query (tree t) [] (select_terms t)) [] ≡ true)
 unfolding understood everything
-select_fits Meta = ((refl, refl), refl)
-select_fits CalendarEntry = ((refl, refl), refl)
-select_fits Period = ((refl, refl), refl)
-select_fits Application = ((refl, refl), refl)
-select_fits RunCycle = ((refl, refl), refl)
-select_fits Offset = ((refl, refl), refl)
-select_fits Predecessor = ((refl, refl), refl)
-select_fits LinkInForce = ((refl, refl), refl)
-select_fits LongTerm = ((refl, refl), refl)
-select_fits Current = ((refl, refl), refl)
-select_fits History = ((refl, refl), refl)
-select_fits Deletion = ((refl, refl), refl)
-select_fits Dependency = ((refl, refl), refl)
-select_fits Job = ((refl, refl), refl)
+select_fits more Meta = ((refl, refl), refl)
+select_fits more CalendarEntry = ((refl, refl), refl)
+select_fits more Period = ((refl, refl), refl)
+select_fits more Application = ((refl, refl), refl)
+select_fits more RunCycle = ((refl, refl), refl)
+select_fits more Offset = ((refl, refl), refl)
+select_fits more Predecessor = ((refl, refl), refl)
+select_fits more LinkInForce = ((refl, refl), refl)
+select_fits more LongTerm = ((refl, refl), refl)
+select_fits more Current = ((refl, refl), refl)
+select_fits more History = ((refl, refl), refl)
+select_fits more Deletion = ((refl, refl), refl)
+select_fits more Dependency = ((refl, refl), refl)
+select_fits more Job = ((refl, refl), refl)

@@ -6,6 +6,7 @@ use Rattle.std.proofs.Common.{ap, subst, ◌∙◌, IsTrue, arith, slice_get}
 use Rattle.std.specs.List.{AllByRecursion, flat_map, filter_map}
 use Rattle.std.specs.List.Sorted.{IsPermutation}
 use Rattle.std.proofs.lemmas.Bool.Decides.{nat_tests}
+use Rattle.std.proofs.lemmas.List.Elements.{All-nil, recursion_from_All}
 use Rattle.sqlite_keyed.proofs.ListLemmas.{all-append, all_both, all_of, filter_all}
 use Rattle.sqlite.specs.Order.{Row}
 use Rattle.sqlite.specs.Term.{Term, col}
@@ -33,21 +34,22 @@ use Rattle.sqlite.specs.Table.{Table as Described}
 use Rattle.sqlite.specs.Query.{IsAnswer}
 use Rattle.sqlite_rules.specs.Action as action
 use Rattle.sqlite_rules.specs.Calls.{ids_of}
-use Rattle.plan_schema.proofs.CycleLemmas.{cycles_alone}
+use Rattle.plan_schema.proofs.CycleLemmas.{cycles_alone, sets_off_none}
 use Rattle.sqlite.proofs.Callers.{IsPlain, command_of, never_commits, one_step, reads_as, runs_as, statement_of}
-use Rattle.sqlite_rules.specs.Action.{deed_for, work_by, works}
+use Rattle.sqlite_rules.specs.Action.{deed_for, work_by, work_for, works}
 use Rattle.sqlite_schema.specs.Names.{same_name}
 use Rattle.sqlite_schema.specs.Rules.{parent_key}
 use Rattle.sqlite_value.specs.Keys.{joined}
 use Rattle.sqlite_rules.specs.Cast.{cast_row}
-use Rattle.sqlite_rules.specs.Edit.{Applies, edit_of, is_taken, with_rowid}
+use Rattle.sqlite_rules.specs.Edit.{Applies, edit_of, is_taken, taken_by, with_rowid}
 use Rattle.sqlite_schema.specs.declared.schema.Keys.TheVariants.{Enforced}
 use Rattle.plan_schema.specs.Cells.{column_names, delete_tests, insert_terms, select_terms, width}
 use Rattle.plan_schema.specs.Rows.{AreOfKinds, HaveRowids, IsMade, IsMadeWhole, IsPlan, IsAlone, LooksInVain, Stands}
 use Rattle.plan_schema.specs.Rows.{Tables, matches, placed, shown, stored, tables_of, with_cells}
 use Rattle.plan_schema.specs.Rows.{with_rows, without_key}
 use Rattle.plan_schema.specs.Schema.{after, before, checks, columns, key, name, no_schema, orders, place}
-use Rattle.plan_schema.specs.Schema.{plan_schema, primary, references, table, table_at, tree, uniques}
+use Rattle.plan_schema.specs.Schema.{Further, HasTables, IsApart, IsAside, plan_and, plan_schema, primary, references}
+use Rattle.plan_schema.specs.Schema.{table, table_at, tree, uniques}
 use Rattle.plan_schema.specs.Texts.{create_sql, delete_sql, insert_sql, select_sql}
 use Rattle.plan_schema.specs.declared.tables.Table.{Table}
 use Rattle.plan_schema.specs.declared.tables.Table.TheVariants.{Meta, CalendarEntry, Period, Application}
@@ -59,109 +61,140 @@ use Rattle.plan_schema.proofs.Meanings.{IsWhole, insert_plain, made, select_fits
 use Rattle.plan_schema.proofs.RowLemmas.{left_after, put_is_placed, rowids_filter, rowids_placed}
 use Rattle.plan_schema.proofs.Steps.{creates, deletes, inserts, plain_query, plain_rows}
 
-found : (t : Table) → slice_get plan_schema.tables (place t) ≡ Some (table t)
-found Meta = refl
-found CalendarEntry = refl
-found Period = refl
-found Application = refl
-found RunCycle = refl
-found Offset = refl
-found Predecessor = refl
-found LinkInForce = refl
-found LongTerm = refl
-found Current = refl
-found History = refl
-found Deletion = refl
-found Dependency = refl
-found Job = refl
+found : (more : Further) (t : Table) → slice_get (plan_and more).tables (place t) ≡ Some (table t)
+found more Meta = refl
+found more CalendarEntry = refl
+found more Period = refl
+found more Application = refl
+found more RunCycle = refl
+found more Offset = refl
+found more Predecessor = refl
+found more LinkInForce = refl
+found more LongTerm = refl
+found more Current = refl
+found more History = refl
+found more Deletion = refl
+found more Dependency = refl
+found more Job = refl
 
 -- what holds of each table of the schema
-each : (P : Described → Type 0) → AllByRecursion P plan_schema.tables → (t : Table) → P (table t)
-each P all Meta = all.0
-each P all CalendarEntry = all.1.0
-each P all Period = all.1.1.0
-each P all Application = all.1.1.1.0
-each P all RunCycle = all.1.1.1.1.0
-each P all Offset = all.1.1.1.1.1.0
-each P all Predecessor = all.1.1.1.1.1.1.0
-each P all LinkInForce = all.1.1.1.1.1.1.1.0
-each P all LongTerm = all.1.1.1.1.1.1.1.1.0
-each P all Current = all.1.1.1.1.1.1.1.1.1.0
-each P all History = all.1.1.1.1.1.1.1.1.1.1.0
-each P all Deletion = all.1.1.1.1.1.1.1.1.1.1.1.0
-each P all Dependency = all.1.1.1.1.1.1.1.1.1.1.1.1.0
-each P all Job = all.1.1.1.1.1.1.1.1.1.1.1.1.1.0
+each : (more : Further) (P : Described → Type 0) → AllByRecursion P (plan_and more).tables → (t : Table) → P (table t)
+each more P all Meta = all.0
+each more P all CalendarEntry = all.1.0
+each more P all Period = all.1.1.0
+each more P all Application = all.1.1.1.0
+each more P all RunCycle = all.1.1.1.1.0
+each more P all Offset = all.1.1.1.1.1.0
+each more P all Predecessor = all.1.1.1.1.1.1.0
+each more P all LinkInForce = all.1.1.1.1.1.1.1.0
+each more P all LongTerm = all.1.1.1.1.1.1.1.1.0
+each more P all Current = all.1.1.1.1.1.1.1.1.1.0
+each more P all History = all.1.1.1.1.1.1.1.1.1.1.0
+each more P all Deletion = all.1.1.1.1.1.1.1.1.1.1.1.0
+each more P all Dependency = all.1.1.1.1.1.1.1.1.1.1.1.1.0
+each more P all Job = all.1.1.1.1.1.1.1.1.1.1.1.1.1.0
 
--- a row that is put in sets nothing off
-quiet : (t : Table) (b : Bool) → flat_map (λ child. filter_map (λ ref. work_by 0 (tree t) [] child ref (deed_for
-    Enforced b ref) (parent_key plan_schema.tables ref)) child.references) plan_schema.tables ≡ []
-unfolding same_name joined
-quiet Meta true = refl
-quiet Meta false = refl
-quiet CalendarEntry true = refl
-quiet CalendarEntry false = refl
-quiet Period true = refl
-quiet Period false = refl
-quiet Application true = refl
-quiet Application false = refl
-quiet RunCycle true = refl
-quiet RunCycle false = refl
-quiet Offset true = refl
-quiet Offset false = refl
-quiet Predecessor true = refl
-quiet Predecessor false = refl
-quiet LinkInForce true = refl
-quiet LinkInForce false = refl
-quiet LongTerm true = refl
-quiet LongTerm false = refl
-quiet Current true = refl
-quiet Current false = refl
-quiet History true = refl
-quiet History false = refl
-quiet Deletion true = refl
-quiet Deletion false = refl
-quiet Dependency true = refl
-quiet Dependency false = refl
-quiet Job true = refl
-quiet Job false = refl
+module _ (more : Further) (aside : AllByRecursion IsAside more.tables) where
+  -- of the tables of the plan a row that is put in sets nothing off
+  quiet : (t : Table) (b : Bool) → flat_map (λ child. filter_map (λ ref. work_by 0 (tree t) [] child ref (deed_for
+      Enforced b ref) (parent_key (plan_and more).tables ref)) child.references) (plan_and more).tables ≡ flat_map (λ
+      child. filter_map (λ ref. work_by 0 (tree t) [] child ref (deed_for Enforced b ref) (parent_key (plan_and
+      more).tables ref)) child.references) more.tables
+  unfolding same_name joined
+  quiet Meta true = refl
+  quiet Meta false = refl
+  quiet CalendarEntry true = refl
+  quiet CalendarEntry false = refl
+  quiet Period true = refl
+  quiet Period false = refl
+  quiet Application true = refl
+  quiet Application false = refl
+  quiet RunCycle true = refl
+  quiet RunCycle false = refl
+  quiet Offset true = refl
+  quiet Offset false = refl
+  quiet Predecessor true = refl
+  quiet Predecessor false = refl
+  quiet LinkInForce true = refl
+  quiet LinkInForce false = refl
+  quiet LongTerm true = refl
+  quiet LongTerm false = refl
+  quiet Current true = refl
+  quiet Current false = refl
+  quiet History true = refl
+  quiet History false = refl
+  quiet Deletion true = refl
+  quiet Deletion false = refl
+  quiet Dependency true = refl
+  quiet Dependency false = refl
+  quiet Job true = refl
+  quiet Job false = refl
 
-quiet_insert : (t : Table) (news : List Row) → works plan_schema Enforced 0 (tree t) [] news ≡ []
-quiet_insert t news = quiet t (length news == 0)
+  quiet_insert : (t : Table) (news : List Row) → works (plan_and more) Enforced 0 (tree t) [] news ≡ []
+  quiet_insert t news = quiet t (length news == 0)
+      ∙ sets_off_none (work_for (plan_and more) Enforced 0 (tree t) [] news) more.tables aside
 
--- nor does one that is taken out, of a run cycle only where it has no offsets
-settles : (t : Table) (values : Row) (db next : Trees) (found : List Row) → HaveRowids (db (tree t))
-    → IsAlone t values (tables_of db) → IsPermutation (map (λ r. rowid r ∷ []) (filter (matches t values) (db (tree
-    t)))) found
-    → action.Writes plan_schema Enforced db (edit_of db (table t) (ids_of found) Given 0 []) (Ok next)
-    → Applies plan_schema Enforced db (edit_of db (table t) (ids_of found) Given 0 []) next
-unfolding same_name joined
-settles Meta values db next found rowids free same h = one_step plan_schema Enforced db next (edit_of db (table
-    Meta) (ids_of found) Given 0 []) refl h
-settles CalendarEntry values db next found rowids free same h =
-    one_step plan_schema Enforced db next (edit_of db (table CalendarEntry) (ids_of found) Given 0 []) refl h
-settles Period values db next found rowids free same h = one_step plan_schema Enforced db next (edit_of db (table
-    Period) (ids_of found) Given 0 []) refl h
-settles Application values db next found rowids free same h = one_step plan_schema Enforced db next (edit_of db
-    (table Application) (ids_of found) Given 0 []) refl h
-settles RunCycle values db next found rowids free same h = cycles_alone values db next found rowids free same h
-settles Offset values db next found rowids free same h = one_step plan_schema Enforced db next (edit_of db (table
-    Offset) (ids_of found) Given 0 []) refl h
-settles Predecessor values db next found rowids free same h = one_step plan_schema Enforced db next (edit_of db
-    (table Predecessor) (ids_of found) Given 0 []) refl h
-settles LinkInForce values db next found rowids free same h = one_step plan_schema Enforced db next (edit_of db
-    (table LinkInForce) (ids_of found) Given 0 []) refl h
-settles LongTerm values db next found rowids free same h = one_step plan_schema Enforced db next (edit_of db (table
-    LongTerm) (ids_of found) Given 0 []) refl h
-settles Current values db next found rowids free same h = one_step plan_schema Enforced db next (edit_of db (table
-    Current) (ids_of found) Given 0 []) refl h
-settles History values db next found rowids free same h = one_step plan_schema Enforced db next (edit_of db (table
-    History) (ids_of found) Given 0 []) refl h
-settles Deletion values db next found rowids free same h = one_step plan_schema Enforced db next (edit_of db (table
-    Deletion) (ids_of found) Given 0 []) refl h
-settles Dependency values db next found rowids free same h = one_step plan_schema Enforced db next (edit_of db
-    (table Dependency) (ids_of found) Given 0 []) refl h
-settles Job values db next found rowids free same h = one_step plan_schema Enforced db next (edit_of db (table Job)
-    (ids_of found) Given 0 []) refl h
+  -- nor does one that is taken out, of a run cycle only where it has no offsets
+  settles : (t : Table) (values : Row) (db next : Trees) (found : List Row) → HaveRowids (db (tree t))
+      → IsAlone t values (tables_of db) → IsPermutation (map (λ r. rowid r ∷ []) (filter (matches t values) (db
+      (tree t)))) found
+      → action.Writes (plan_and more) Enforced db (edit_of db (table t) (ids_of found) Given 0 []) (Ok next)
+      → Applies (plan_and more) Enforced db (edit_of db (table t) (ids_of found) Given 0 []) next
+  unfolding same_name joined
+  settles Meta values db next found rowids free same h =
+      let edit = edit_of db (table Meta) (ids_of found) Given 0 [] in
+      one_step (plan_and more) Enforced db next edit (sets_off_none (work_for (plan_and more) Enforced 0 (tree Meta)
+      (taken_by db edit) []) more.tables aside) h
+  settles CalendarEntry values db next found rowids free same h =
+      let edit = edit_of db (table CalendarEntry) (ids_of found) Given 0 [] in
+      one_step (plan_and more) Enforced db next edit (sets_off_none (work_for (plan_and more) Enforced 0 (tree CalendarEntry)
+      (taken_by db edit) []) more.tables aside) h
+  settles Period values db next found rowids free same h =
+      let edit = edit_of db (table Period) (ids_of found) Given 0 [] in
+      one_step (plan_and more) Enforced db next edit (sets_off_none (work_for (plan_and more) Enforced 0 (tree Period)
+      (taken_by db edit) []) more.tables aside) h
+  settles Application values db next found rowids free same h =
+      let edit = edit_of db (table Application) (ids_of found) Given 0 [] in
+      one_step (plan_and more) Enforced db next edit (sets_off_none (work_for (plan_and more) Enforced 0 (tree Application)
+      (taken_by db edit) []) more.tables aside) h
+  settles RunCycle values db next found rowids free same h =
+      cycles_alone more aside values db next found rowids free same h
+  settles Offset values db next found rowids free same h =
+      let edit = edit_of db (table Offset) (ids_of found) Given 0 [] in
+      one_step (plan_and more) Enforced db next edit (sets_off_none (work_for (plan_and more) Enforced 0 (tree Offset)
+      (taken_by db edit) []) more.tables aside) h
+  settles Predecessor values db next found rowids free same h =
+      let edit = edit_of db (table Predecessor) (ids_of found) Given 0 [] in
+      one_step (plan_and more) Enforced db next edit (sets_off_none (work_for (plan_and more) Enforced 0 (tree Predecessor)
+      (taken_by db edit) []) more.tables aside) h
+  settles LinkInForce values db next found rowids free same h =
+      let edit = edit_of db (table LinkInForce) (ids_of found) Given 0 [] in
+      one_step (plan_and more) Enforced db next edit (sets_off_none (work_for (plan_and more) Enforced 0 (tree LinkInForce)
+      (taken_by db edit) []) more.tables aside) h
+  settles LongTerm values db next found rowids free same h =
+      let edit = edit_of db (table LongTerm) (ids_of found) Given 0 [] in
+      one_step (plan_and more) Enforced db next edit (sets_off_none (work_for (plan_and more) Enforced 0 (tree LongTerm)
+      (taken_by db edit) []) more.tables aside) h
+  settles Current values db next found rowids free same h =
+      let edit = edit_of db (table Current) (ids_of found) Given 0 [] in
+      one_step (plan_and more) Enforced db next edit (sets_off_none (work_for (plan_and more) Enforced 0 (tree Current)
+      (taken_by db edit) []) more.tables aside) h
+  settles History values db next found rowids free same h =
+      let edit = edit_of db (table History) (ids_of found) Given 0 [] in
+      one_step (plan_and more) Enforced db next edit (sets_off_none (work_for (plan_and more) Enforced 0 (tree History)
+      (taken_by db edit) []) more.tables aside) h
+  settles Deletion values db next found rowids free same h =
+      let edit = edit_of db (table Deletion) (ids_of found) Given 0 [] in
+      one_step (plan_and more) Enforced db next edit (sets_off_none (work_for (plan_and more) Enforced 0 (tree Deletion)
+      (taken_by db edit) []) more.tables aside) h
+  settles Dependency values db next found rowids free same h =
+      let edit = edit_of db (table Dependency) (ids_of found) Given 0 [] in
+      one_step (plan_and more) Enforced db next edit (sets_off_none (work_for (plan_and more) Enforced 0 (tree Dependency)
+      (taken_by db edit) []) more.tables aside) h
+  settles Job values db next found rowids free same h =
+      let edit = edit_of db (table Job) (ids_of found) Given 0 [] in
+      one_step (plan_and more) Enforced db next edit (sets_off_none (work_for (plan_and more) Enforced 0 (tree Job)
+      (taken_by db edit) []) more.tables aside) h
 
 given_rows : (t : Table) (cells : Row) → value_rows cells (width t) (length (insert_terms t) / width t)
     (insert_terms t) ≡ stored t cells ∷ []
@@ -196,14 +229,14 @@ own Deletion db = refl
 own Dependency db = refl
 own Job db = refl
 
-same_tables : (t : Table) (rows : List Row) (old new : Trees) → AllByRecursion (λ d. d.tree ≢ tree t
-    → new d.tree ≡ old d.tree) plan_schema.tables → new (tree t) ≡ rows
+same_tables : (more : Further) (t : Table) (rows : List Row) (old new : Trees) → AllByRecursion (λ d. d.tree ≢ tree t
+    → new d.tree ≡ old d.tree) (plan_and more).tables → new (tree t) ≡ rows
     → tables_of new ≡ with_rows t rows (tables_of old)
-same_tables t rows old new others here = λ i u. go u (tree u == tree t) refl i
+same_tables more t rows old new others here = λ i u. go u (tree u == tree t) refl i
   where
     go : (u : Table) (b : Bool) → (tree u == tree t) ≡ b → new (tree u) ≡ cond b rows (old (tree u))
     go u true e = let same : tree u ≡ tree t = grind (arith, nat_tests) in ap new same ∙ here
-    go u false e = each (λ d. d.tree ≢ tree t → new d.tree ≡ old d.tree) others u (λ same. absurd (grind (
+    go u false e = each more (λ d. d.tree ≢ tree t → new d.tree ≡ old d.tree) others u (λ same. absurd (grind (
       arith,
       nat_tests,
     )))
@@ -229,18 +262,20 @@ pub inserted : (t : Table) (cells : Row) (old new : State) (count : ℕ) → IsP
     → ExecutesInside 0 (insert_sql t) cells old new (Ok count)
     → Stands old new (with_cells t cells (tables_of old.now.trees))
 inserted t cells old new count plan kinds h =
-    let w = runs_as (insert_sql t) cells old new plan_schema plan.schema (Insert (place t) (Values (insert_terms t)
-    (width t))) (insert_is t) (insert_plain t) count h.0 in
-    let step = inserts plan_schema (place t) (name t) (tree t) (columns t) (key t) (primary t) (uniques t) (orders
-    t) (checks t) (references t) (found t) (quiet_insert t) old new (insert_terms t) (width t) cells
-    (statement_of (insert_sql t) (understood plan_schema (insert_sql t))) count plan.schema w in
+    let has = plan.schema in
+    let more = has.more in
+    let w = runs_as (insert_sql t) cells old new (plan_and more) has.is (Insert (place t) (Values (insert_terms t)
+    (width t))) (insert_is more t) (insert_plain more t) count h.0 in
+    let step = inserts (plan_and more) (place t) (name t) (tree t) (columns t) (key t) (primary t) (uniques t) (orders
+    t) (checks t) (references t) (found more t) (quiet_insert more (recursion_from_All IsAside more.tables has.aside) t) old new (insert_terms t) (width t) cells
+    (statement_of (insert_sql t) (understood (plan_and more) (insert_sql t))) count has.is w in
     let was = old.now.trees (tree t) in
     let row = with_rowid Chosen was (stored t cells) in
     let given : value_rows (cells ++ []) (width t) (length (insert_terms t) / width t) (insert_terms t) ≡ stored t
     cells ∷ []
     = ap (λ c. value_rows c (width t) (length (insert_terms t) / width t) (insert_terms t)) (append-nil cells)
     ∙ given_rows t cells in
-    let applies = subst (λ l. Applies plan_schema Enforced old.now.trees (edit_of old.now.trees (table t) [] Chosen
+    let applies = subst (λ l. Applies (plan_and more) Enforced old.now.trees (edit_of old.now.trees (table t) [] Chosen
     0 l) new.now.trees) given step.1 in
     let same : with_rowid Chosen was (cast_row (table t) (stored t cells)) ≡ row =
     ap (with_rowid Chosen was) kinds in
@@ -249,10 +284,10 @@ inserted t cells old new count plan kinds h =
     in
     let here : new.now.trees (tree t) ≡ placed row was = applies.rows ∙ ap (λ r. put_row r was) same
     ∙ put_is_placed row was fresh in
-    let all = same_tables t (placed row was) old.now.trees new.now.trees applies.tables here in
+    let all = same_tables more t (placed row was) old.now.trees new.now.trees applies.tables here in
     record {
       plan = record {
-        schema = step.0;
+        schema = record { more = more; is = step.0; aside = has.aside; apart = has.apart };
         rowids = rowids_in t (placed row was) (tables_of old.now.trees) (tables_of new.now.trees) all
             (rowids_placed row was keyed fresh (plan.rowids t)) plan.rowids;
       };
@@ -265,28 +300,30 @@ pub deleted : (t : Table) (values : Row) (old new : State) (count : ℕ) → IsP
     → IsAlone t values (tables_of old.now.trees) → ExecutesInside 0 (delete_sql t) values old new (Ok count)
     → Stands old new (without_key t values (tables_of old.now.trees))
 deleted t values old new count plan free h =
+    let has = plan.schema in
+    let more = has.more in
     let q = plain_query (tree t) (delete_tests t) (col 1 0 ∷ []) in
     let was = old.now.trees (tree t) in
     let left = filter (λ r. not (matches t values r)) was in
     let seen = λ (found : List Row) (a : IsAnswer q (overlay old.now.trees []) values found).
     plain_rows (tree t) (delete_tests t) (col 1 0 ∷ []) old.now.trees values found (own t old.now.trees) a in
-    let w = runs_as (delete_sql t) values old new plan_schema plan.schema (Delete (place t) (record {
+    let w = runs_as (delete_sql t) values old new (plan_and more) has.is (Delete (place t) (record {
       lets =
           [];
       body = q;
     }))
-    (delete_is t) (delete_plain t) count h.0 in
-    let step = deletes plan_schema (place t) (name t) (tree t) (columns t) (key t) (primary t) (uniques t) (orders
+    (delete_is more t) (delete_plain more t) count h.0 in
+    let step = deletes (plan_and more) (place t) (name t) (tree t) (columns t) (key t) (primary t) (uniques t) (orders
     t) (checks t)
-    (references t) (found t) old new q values
-    (λ rows next a writes. settles t values old.now.trees next rows (plan.rowids t) free (seen rows a) writes)
-    (statement_of (delete_sql t) (understood plan_schema (delete_sql t))) count plan.schema w in
+    (references t) (found more t) old new q values
+    (λ rows next a writes. settles more (recursion_from_All IsAside more.tables has.aside) t values old.now.trees next rows (plan.rowids t) free (seen rows a) writes)
+    (statement_of (delete_sql t) (understood (plan_and more) (delete_sql t))) count has.is w in
     let here : new.now.trees (tree t) ≡ left
     = step.1.2.rows ∙ left_after (matches t values) was step.1.0 (plan.rowids t) (seen step.1.0 step.1.1) in
-    let all = same_tables t left old.now.trees new.now.trees step.1.2.tables here in
+    let all = same_tables more t left old.now.trees new.now.trees step.1.2.tables here in
     record {
       plan = record {
-        schema = step.0;
+        schema = record { more = more; is = step.0; aside = has.aside; apart = has.apart };
         rowids = rowids_in t left (tables_of old.now.trees) (tables_of new.now.trees) all
             (rowids_filter (λ r. not (matches t values r)) was (plan.rowids t)) plan.rowids;
       };
@@ -362,15 +399,20 @@ makes t old new count has h =
       mode = h.1.mode;
     }
 
+-- no table stands after those of the plan
+abbrev nothing : Further
+nothing = record { tables = []; indexes = [] }
+
 -- all tables are made
 pub all_made : (s : State) → IsMade s plan_schema → IsMadeWhole s
 all_made s is = record {
+  alone = is.schema;
   plan = record {
-    schema = is.schema;
-    rowids = λ t. subst HaveRowids (sym (each (λ d. s.now.trees d.tree ≡ [])
+    schema = record { more = nothing; is = is.schema; aside = All-nil IsAside; apart = All-nil (IsApart plan_schema.tables) };
+    rowids = λ t. subst HaveRowids (sym (each nothing (λ d. s.now.trees d.tree ≡ [])
         is.empty t)) tt;
   };
-  rows_are = λ i t. each (λ d. s.now.trees d.tree ≡ []) is.empty t i;
+  rows_are = λ i t. each nothing (λ d. s.now.trees d.tree ≡ []) is.empty t i;
   mode = is.mode;
 }
 
@@ -379,13 +421,13 @@ none_made s is mode = record { schema = is; empty = tt; mode = mode }
 
 -- ---- the rows are read
 
-pub reads : (t : Table) (old new : State) (rows : List Row) → old.now.schema ≡ plan_schema
+pub reads : (t : Table) (old new : State) (rows : List Row) → HasTables old.now.schema
     → Shown (select_sql t) [] old new rows
     → IsPermutation (map (shown t) (tables_of old.now.trees t)) rows
 reads t old new rows has h =
     let was = old.now.trees (tree t) in
-    let answers = reads_as (select_sql t) [] old new plan_schema has _ (select_is t).0 (select_plain t) (select_is
-    t).1 rows h in
+    let answers = reads_as (select_sql t) [] old new (plan_and has.more) has.is _ (select_is has.more t).0 (select_plain has.more t)
+    (select_is has.more t).1 rows h in
     subst (λ l. IsPermutation (map (shown t) l) rows) (filter_all (λ _. true) was (all_of _ (λ _. refl) was))
     (plain_rows (tree t) [] (select_terms t) old.now.trees [] rows (own t old.now.trees) (answers.answer Null))
 
@@ -396,15 +438,15 @@ is_refused c size A B C whole bare (inl h) = h.0 (let same = whole.0 in omega ar
 is_refused c size A B C whole bare (inr (inl h)) = h.0 (sym (ap length whole.1))
 is_refused c size A B C whole bare (inr (inr h)) = h.0 bare
 
-module _ (sql : List ℕ) (number : ℕ) (terms : List Term) (names : List (List ℕ))
-    (whole : IsWhole (understood plan_schema sql) (length sql)) (plain : IsPlain (understood plan_schema sql))
-    (is : command_of (understood plan_schema sql) ≡ Select (record {
+module _ (more : Further) (sql : List ℕ) (number : ℕ) (terms : List Term) (names : List (List ℕ))
+    (whole : IsWhole (understood (plan_and more) sql) (length sql)) (plain : IsPlain (understood (plan_and more) sql))
+    (is : command_of (understood (plan_and more) sql) ≡ Select (record {
       lets = [];
       body = plain_query number [] terms;
     }) names)
-    (unlisted : reads_listing plan_schema sql ≡ false)
-    (fits : accepts_program plan_schema [] (plain_query number [] terms) [] ≡ true) where
-  stops : (limit : Option ℕ) (db : Database) (e : Error) → db.schema ≡ plan_schema
+    (unlisted : reads_listing (plan_and more) sql ≡ false)
+    (fits : accepts_program (plan_and more) [] (plain_query number [] terms) [] ≡ true) where
+  stops : (limit : Option ℕ) (db : Database) (e : Error) → db.schema ≡ (plan_and more)
       → RefusesQuery limit db (record { lets = []; body = plain_query number [] terms }) [] e
       → (e ≡ SqliteFailure OperationInterrupted) × IsSome limit
   stops limit db e has (inl h) =
@@ -414,7 +456,7 @@ module _ (sql : List ℕ) (number : ℕ) (terms : List Term) (names : List (List
   stops limit db e has (inr (inl (same, inr h))) = absurd h.4
   stops limit db e has (inr (inr h)) = h
 
-  pub fails_by : (old new : State) (e : Error) → old.now.schema ≡ plan_schema → FailsToQuery sql [] old new e
+  pub fails_by : (old new : State) (e : Error) → old.now.schema ≡ (plan_and more) → FailsToQuery sql [] old new e
       → LooksInVain old new e
   unfolding FailsToQuery IsNotRun
   fails_by old new e has (inl (inl (inl h, same))) =
@@ -433,11 +475,12 @@ module _ (sql : List ℕ) (number : ℕ) (terms : List Term) (names : List (List
       inr (stops old.step_limit it.0 e (ap (λ (d : Database). d.schema) db ∙ has)
       (subst (λ k. RefusesToRead old.step_limit k it.0 [] e) (ap command_of known ∙ is) it.2))
 
-pub fails_as : (t : Table) (old new : State) (e : Error) → old.now.schema ≡ plan_schema
+pub fails_as : (t : Table) (old new : State) (e : Error) → HasTables old.now.schema
     → FailsToQuery (select_sql t) [] old new e → LooksInVain old new e
-fails_as t =
-    fails_by (select_sql t) (tree t) (select_terms t) (column_names t) (select_fits t).0 (select_plain t)
-    (select_is t).0 (select_is t).1 (select_fits t).1
+fails_as t old new e has =
+    let more = has.more in
+    fails_by more (select_sql t) (tree t) (select_terms t) (column_names t) (select_fits more t).0 (select_plain more
+    t) (select_is more t).0 (select_is more t).1 (select_fits more t).1 old new e has.is
 
 -- a query changes nothing
 pub unchanged_by : (schema : Schema) (sql : List ℕ) (old new : State) (rows : List Row)
@@ -447,7 +490,7 @@ unchanged_by schema sql old new rows plain has h =
     let none = (subst IsPlain (ap (λ s. understood s sql) (sym has) ∙ h.1.is) plain).0 in
     (subst (ShowsRows old new sql h.0 (timed [] h.0.formats h.1.now) rows) none h.2).3
 
-pub quiet_by : (schema : Schema) (sql : List ℕ) (old new : State) → IsPlain (understood schema sql)
-    → Survives old new (CommitsShowing sql [] old) → Survives old new (λ _. old.now.schema ≡ schema → ⊥)
-quiet_by schema sql old new plain = survives_weaker old new _ _ (λ _ db c has. never_commits sql [] old db (subst
-    (λ s. IsPlain (understood s sql)) (sym has) plain) c)
+pub quiet_by : (sql : List ℕ) (old new : State) → ((more : Further) → IsPlain (understood (plan_and more) sql))
+    → Survives old new (CommitsShowing sql [] old) → Survives old new (λ _. HasTables old.now.schema → ⊥)
+quiet_by sql old new plain = survives_weaker old new _ _ (λ _ db c has. never_commits sql [] old db (subst
+    (λ s. IsPlain (understood s sql)) (sym has.is) (plain has.more)) c)

@@ -17,7 +17,7 @@ use Rattle.sqlite_rules.specs.Edit.{with_rowid}
 use Rattle.sqlite.specs.Rowids.TheVariants.{Chosen}
 use Rattle.sqlite_value.specs.Order.{value_cmp}
 use Rattle.plan_schema.specs.Cells.{delete_tests, insert_terms, select_terms}
-use Rattle.plan_schema.specs.Schema.{plan_schema, table, tree}
+use Rattle.plan_schema.specs.Schema.{HasTables, plan_schema, table, tree}
 use Rattle.plan_schema.specs.declared.tables.Table.{Table}
 use Rattle.plan_schema.specs.declared.tables.Table.TheVariants.{Offset, RunCycle}
 
@@ -75,9 +75,9 @@ abbrev pub HaveRowids : List Row → Type 0
 HaveRowids [] = ⊤
 HaveRowids (r ∷ rs) = IsTrue (is_int (rowid r)) × AllByRecursion (Differ r) rs × HaveRowids rs
 
--- the database has the tables of the plan
+-- the database has the tables of the plan, and after them perhaps others
 pub record IsPlan (s : State) : Type 0 where
-  pub schema : s.now.schema ≡ plan_schema
+  pub schema : HasTables s.now.schema
   pub rowids : (t : Table) → HaveRowids (tables_of s.now.trees t)
 
 -- inside a transaction the tables now have these rows
@@ -103,8 +103,9 @@ pub record IsMade (s : State) (made : Schema) : Type 0 where
   pub empty : AllByRecursion (λ t. s.now.trees t.tree ≡ []) made.tables
   pub mode : IsTrue s.in_transaction
 
--- in a transaction the database has the tables of the plan, and no rows in them
+-- in a transaction the database has the tables of the plan, no others, and no rows in them
 pub record IsMadeWhole (s : State) : Type 0 where
+  pub alone : s.now.schema ≡ plan_schema
   pub plan : IsPlan s
   pub rows_are : tables_of s.now.trees ≡ no_rows
   pub mode : IsTrue s.in_transaction

@@ -1,5 +1,6 @@
 -- The tables of the plan and their indexes.
-use Rattle.std.specs.Prelude.{ℕ, true, false, List, [], ◌∷◌, map, take, Option, Some, None, pos, codes}
+use Rattle.std.specs.Prelude.{◌≡◌, ◌≢◌, ℕ, true, false, List, [], ◌∷◌, ◌++◌, map, take, Option, Some, None, pos, codes}
+use Rattle.std.specs.List.{All}
 use Rattle.sqlite.specs.declared.types.Value.TheVariants.{Null, Int}
 use Rattle.sqlite.specs.Collation.TheVariants.{Binary}
 use Rattle.sqlite.specs.Kind.{Kind}
@@ -317,6 +318,33 @@ before t = first_tables (place t) (indexes_before t)
 
 abbrev pub plan_schema : Schema
 plan_schema = record { tables = map table all_tables; indexes = indexes; views = [] }
+
+-- what stands after the tables of the plan and their indexes
+pub record Further : Type 0 where
+  pub tables : List Described
+  pub indexes : List Index
+
+abbrev pub plan_and : Further → Schema
+plan_and more = record {
+  tables = map table all_tables ++ more.tables;
+  indexes = indexes ++ more.indexes;
+  views = [];
+}
+
+-- the table refers to no other
+abbrev pub IsAside : Described → Type 0
+IsAside t = t.references ≡ []
+
+-- the index is of none of the tables
+abbrev pub IsApart : List Described → Index → Type 0
+IsApart tables i = All (λ t. t.tree ≢ i.table) tables
+
+-- the tables of the plan, and after them perhaps others, which refer to none, with indexes of their own
+pub record HasTables (schema : Schema) : Type 0 where
+  pub more : Further
+  pub is : schema ≡ plan_and more
+  pub aside : All IsAside more.tables
+  pub apart : All (IsApart plan_schema.tables) more.indexes
 
 abbrev pub no_schema : Schema
 no_schema = record { tables = []; indexes = []; views = [] }

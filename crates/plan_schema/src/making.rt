@@ -4,7 +4,7 @@ ghost use Rattle.std.specs.Prelude.{◌≡◌, false, OnOk, IsTrue};
 ghost use Rattle.sqlite.specs.State.{HasCleanDisk, KeepsCommit, Survives};
 ghost use Rattle.sqlite.specs.Held.{state};
 ghost use Rattle.plan_schema.specs.Rows.{IsMade, IsMadeWhole, IsPlan, no_rows, tables_of};
-ghost use Rattle.plan_schema.specs.Schema.{after, before, no_schema};
+ghost use Rattle.plan_schema.specs.Schema.{after, before, no_schema, plan_schema};
 ghost use Rattle.plan_schema.specs.declared.tables.Table.TheVariants as table;
 
 use crate::tables::Table;
@@ -106,6 +106,8 @@ pub fn make_tables<S: Alter>(conn: &mut Connection<S>) -> Result<(), Error>
     requires { conn.old.in_transaction ≡ false }
     ensures done { HasCleanDisk (state S.Store conn.new) → (state S.Store conn.old).now.schema ≡ no_schema
         → OnOk result (IsPlan (state S.Store conn.new) × (tables_of (state S.Store conn.new).now.trees ≡ no_rows)) }
+    ensures alone { HasCleanDisk (state S.Store conn.new) → (state S.Store conn.old).now.schema ≡ no_schema
+        → OnOk result ((state S.Store conn.new).now.schema ≡ plan_schema) }
     ensures committed { HasCleanDisk (state S.Store conn.new)
         → OnOk result ((state S.Store conn.new).committed ≡ (state S.Store conn.new).now) }
     ensures ended { conn.new.in_transaction ≡ false }

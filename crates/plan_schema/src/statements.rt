@@ -7,7 +7,7 @@ ghost use Rattle.sqlite.specs.Held.{state};
 ghost use Rattle.sqlite.specs.Values.{bound};
 ghost use Rattle.plan_schema.specs.Rows.{AreOfKinds, IsPlan, IsAlone, LooksInVain, Stands, shown, tables_of};
 ghost use Rattle.plan_schema.specs.Rows.{with_cells, without_key};
-ghost use Rattle.plan_schema.specs.Schema.{plan_schema};
+ghost use Rattle.plan_schema.specs.Schema.{HasTables};
 
 use crate::tables::Table;
 use crate::texts::{delete_text, insert_text, select_text};
@@ -57,16 +57,16 @@ pub fn delete<S: Alter>(
 /// All rows of the table as they are shown, in some order. Over a plan it fails for want of memory, for a failure of
 /// the device, for a connection that was shut, or for a limit on steps.
 pub fn select<S: Alter>(conn: &mut Connection<S>, table: Table) -> Result<Vec<Row>, Error>
-    ensures rows { HasCleanDisk (state S.Store conn.new) → (state S.Store conn.old).now.schema ≡ plan_schema
+    ensures rows { HasCleanDisk (state S.Store conn.new) → HasTables (state S.Store conn.old).now.schema
         → IfOk result (λ rows.
         IsPermutation (map (shown table) (tables_of (state S.Store conn.old).now.trees table)) rows.items) }
-    ensures same { HasCleanDisk (state S.Store conn.new) → (state S.Store conn.old).now.schema ≡ plan_schema
+    ensures same { HasCleanDisk (state S.Store conn.new) → HasTables (state S.Store conn.old).now.schema
         → OnOk result (IsUnchanged (state S.Store conn.old) (state S.Store conn.new)) }
-    ensures fails { HasCleanDisk (state S.Store conn.new) → (state S.Store conn.old).now.schema ≡ plan_schema
+    ensures fails { HasCleanDisk (state S.Store conn.new) → HasTables (state S.Store conn.old).now.schema
         → IfErr result (LooksInVain (state S.Store conn.old) (state S.Store conn.new)) }
     ensures mode { conn.old.in_transaction ≡ false → conn.new.in_transaction ≡ false }
     ensures survives { Survives (state S.Store conn.old) (state S.Store conn.new)
-        (λ _. (state S.Store conn.old).now.schema ≡ plan_schema → ⊥) }
+        (λ _. HasTables (state S.Store conn.old).now.schema → ⊥) }
 {
     conn.query_all(select_text(table), &[])
 }

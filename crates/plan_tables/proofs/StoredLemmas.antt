@@ -26,6 +26,7 @@ use Rattle.plan_tables.proofs.ContentAfter.{plans_after}
 use Rattle.plan_tables.proofs.DefinitionFacts.{redefined_content}
 use Rattle.plan_tables.proofs.SetLemmas.{content_set}
 use Rattle.plan_schema.specs.Rows.{Tables}
+use Rattle.plan_schema.specs.Schema.{HasTables}
 use Rattle.std.proofs.Common.{None}
 
 pub stored_still : (old new : State) (c : Content) → IsStored old c → IsTrue new.is_open → new.now ≡ old.now
@@ -33,7 +34,7 @@ pub stored_still : (old new : State) (c : Content) → IsStored old c → IsTrue
 stored_still old new c is opens now committed = record {
   is_open = opens;
   plan = record {
-    schema = ap (λ (d : Database). d.schema) now ∙ is.plan.schema;
+    schema = subst HasTables (sym (ap (λ (d : Database). d.schema) now)) is.plan.schema;
     rowids = subst (λ (d : Database). (t : Table) → HaveRowids (tables_of d.trees t)) (sym now) is.plan.rowids;
   };
   settled = now ∙ is.settled ∙ sym committed;

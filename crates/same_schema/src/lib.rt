@@ -1,8 +1,8 @@
-//! Whether two schemas of a database are the same.
+//! Whether a schema of a database has another as its first part.
 #![tactic(auto)]
 
 mod schemas;
 mod terms;
 mod values;
 
-pub use schemas::is_same_schema;
+pub use schemas::extends_schema;

@@ -1,9 +1,11 @@
 // Tables, indexes and schemas.
 
-ghost use Rattle.std.specs.Prelude.{◌≡◌, ◌↔◌, IsTrue};
+ghost use Rattle.std.specs.Prelude.{◌≡◌, ◌↔◌, drop, length, IsTrue};
+ghost use Rattle.std.specs.List.{All};
 ghost use Rattle.same_schema.specs.Alike.{HaveSameChecks, HaveSameColumns, HaveSameKeys};
+ghost use Rattle.same_schema.specs.Extended.{BeginsWith, Extends, IsApart, IsAside};
 
-use crate::values::{Same, are_same};
+use crate::values::{Same, are_same, begins_with};
 use sqlite_schema::schema::{Column, Index, Reference, Schema, Stamps, Table, View};
 
 impl Same for Column {
@@ -97,11 +99,68 @@ impl Same for View {
     }
 }
 
-/// Whether two schemas are the same.
-pub fn is_same_schema(a: &Schema, b: &Schema) -> bool
-    ensures { IsTrue result ↔ (a.now ≡ b.now) }
+// Whether none of the tables refers to another.
+fn are_aside(tables: &[Table]) -> bool
+    ensures { IsTrue result ↔ All IsAside tables.now }
 {
-    are_same(a.tables.as_slice(), b.tables.as_slice())
-        && are_same(a.indexes.as_slice(), b.indexes.as_slice())
+    for table in tables {
+        if !table.references.is_empty() {
+            return false;
+        }
+    }
+    true
+}
+
+// Whether the tables have the others as their first part, and those after them refer to none.
+fn extend_tables(tables: &[Table], others: &[Table]) -> bool
+    ensures { IsTrue result ↔ (BeginsWith tables.now others.now
+        × All IsAside (drop (length others.now) tables.now)) }
+{
+    begins_with(tables, others) && are_aside(&tables[others.len()..])
+}
+
+// Whether the index is of none of the tables.
+fn is_apart(index: &Index, tables: &[Table]) -> bool
+    ensures { IsTrue result ↔ IsApart tables.now index.now }
+{
+    for table in tables {
+        if table.tree == index.table {
+            return false;
+        }
+    }
+    true
+}
+
+// Whether each of the indexes is of none of the tables.
+fn are_apart(indexes: &[Index], tables: &[Table]) -> bool
+    ensures { IsTrue result ↔ All (IsApart tables.now) indexes.now }
+{
+    for index in indexes {
+        if !is_apart(index, tables) {
+            return false;
+        }
+    }
+    true
+}
+
+// Whether the indexes have the others as their first part, and those after them are of none of the tables.
+fn extend_indexes(indexes: &[Index], others: &[Index], tables: &[Table]) -> bool
+    ensures { IsTrue result ↔ (BeginsWith indexes.now others.now
+        × All (IsApart tables.now) (drop (length others.now) indexes.now)) }
+{
+    begins_with(indexes, others) && are_apart(&indexes[others.len()..], tables)
+}
+
+/// Whether the schema has the tables and indexes of the other as its first part, and the same views; further tables
+/// refer to none, and further indexes are of these.
+pub fn extends_schema(a: &Schema, b: &Schema) -> bool
+    ensures { IsTrue result ↔ Extends a.now b.now }
+{
+    extend_tables(a.tables.as_slice(), b.tables.as_slice())
+        && extend_indexes(
+            a.indexes.as_slice(),
+            b.indexes.as_slice(),
+            b.tables.as_slice(),
+        )
         && are_same(a.views.as_slice(), b.views.as_slice())
 }

@@ -1,7 +1,9 @@
 use Rattle.std.proofs.Common.{arith, refl, subst, sym}
 use Rattle.sqlite.specs.Held.{state}
 use Rattle.plan_schema.proofs.ResultLemmas.{if_err}
-use Rattle.plan_reading.proofs.LookLemmas.{plan_still}
+use Rattle.sqlite.proofs.StateLemmas.{survives_then}
+use Rattle.plan_reading.proofs.LookLemmas.{plan_still, tables_still}
+use Rattle.plan_opening.specs.Held.{HoldSound}
 use Rattle.plan_opening.specs.Opened.{IsCaused}
 use Rattle.plan_opening.proofs.OpenedLemmas.{caused_by, caused_since}
 use Rattle.plan_opening.proofs.opening.open_plan.Goals as goal
@@ -22,3 +24,29 @@ returns-in-Err-clause-caused g c clean =
     let b = state g.S.Store c.has_version.new.conn in
     subst (IsCaused a b) (sym c.fault_for.ensures.value)
     (caused_by a b c.in-Err.error (c.in-Err.ensures.fails clean c.requires.plan))
+
+pub returns-in-Ok-true-clause-opened : goal.returns-in-Ok-true-clause-opened
+returns-in-Ok-true-clause-opened g c clean =
+    let a = state g.S.Store c.args.conn.now in
+    let b = state g.S.Store c.has_version.new.conn in
+    let same = c.in-Ok-true.ensures.looks.same (omega (arith, c.read_whole.ensures.survives.clean, clean))
+    c.requires.plan refl in
+    c.read_whole.ensures.opened clean (plan_still a b same c.requires.plan)
+
+pub returns-in-Ok-true-clause-rows : goal.returns-in-Ok-true-clause-rows
+returns-in-Ok-true-clause-rows g c clean held =
+    let a = state g.S.Store c.args.conn.now in
+    let b = state g.S.Store c.has_version.new.conn in
+    let same = c.in-Ok-true.ensures.looks.same (omega (arith, c.read_whole.ensures.survives.clean, clean))
+    c.requires.plan refl in
+    c.read_whole.ensures.rows clean (plan_still a b same held.0, subst HoldSound (sym (tables_still a b same)) held.1)
+
+pub returns-in-Ok-true-clause-survives : goal.returns-in-Ok-true-clause-survives
+returns-in-Ok-true-clause-survives g c =
+    let a = state g.S.Store c.args.conn.now in
+    let b = state g.S.Store c.has_version.new.conn in
+    let d = state g.S.Store c.read_whole.new.conn in
+    let look = c.in-Ok-true.ensures.looks in
+    survives_then a b d _ _ (λ _. ⊥) (λ _ _ none. none c.requires.plan) (λ clean _ none. none (plan_still a b
+    (look.same (omega (arith, c.read_whole.ensures.survives.clean, clean)) c.requires.plan refl) c.requires.plan))
+    look.survives c.read_whole.ensures.survives

@@ -1,5 +1,5 @@
 use Rattle.sqlite.specs.Held.{state}
-use Rattle.plan_schema.specs.Schema.{plan_schema}
+use Rattle.plan_schema.specs.Schema.{plan_and}
 use Rattle.plan_schema.specs.Texts.{select_sql}
 use Rattle.plan_schema.proofs.Meanings.{select_plain}
 use Rattle.plan_schema.proofs.ResultLemmas.{if_err, if_ok, on_ok}
@@ -14,14 +14,14 @@ returns-clause-rows g c clean has =
 
 pub returns-clause-same : goal.returns-clause-same
 returns-clause-same g c clean has =
-    on_ok c.query_all.result _ _ (λ rows h. unchanged_by plan_schema (select_sql c.args.table) (state g.S.Store
-    c.args.conn.now) (state g.S.Store c.query_all.new.self) rows.items (select_plain c.args.table) has h)
+    on_ok c.query_all.result _ _ (λ rows h. unchanged_by (plan_and has.more) (select_sql c.args.table) (state g.S.Store
+    c.args.conn.now) (state g.S.Store c.query_all.new.self) rows.items (select_plain has.more c.args.table) has.is h)
     (rw c.select_text.ensures at (c.query_all.ensures.ok clean))
 
 pub returns-clause-survives : goal.returns-clause-survives
 returns-clause-survives g c =
-    quiet_by plan_schema (select_sql c.args.table) (state g.S.Store c.args.conn.now) (state g.S.Store
-    c.query_all.new.self) (select_plain c.args.table)
+    quiet_by (select_sql c.args.table) (state g.S.Store c.args.conn.now) (state g.S.Store
+    c.query_all.new.self) (λ more. select_plain more c.args.table)
     (rw c.select_text.ensures at c.query_all.ensures.survives)
 
 pub returns-clause-fails : goal.returns-clause-fails
