@@ -6,13 +6,13 @@ use Rattle.sqlite.specs.declared.error.Error.{Error}
 use Rattle.sqlite_trees.specs.declared.error.StoreError.TheVariants as store
 use Rattle.sqlite.proofs.StateLemmas.{survives_weaker}
 use Rattle.planner_machine.specs.Content.{Content, nothing_known}
-use Rattle.plan_schema.specs.Rows.{HaveRowids, LooksInVain, Tables, tables_of}
+use Rattle.plan_schema.specs.Rows.{HaveRowids, MayFail, Tables, tables_of}
 use Rattle.plan_schema.specs.Schema.{no_schema}
 use Rattle.plan_facts.specs.Content.{IsContentOf}
 use Rattle.plan_reading.specs.Reading.{HasPlan, Looks}
 use Rattle.plan_reading.proofs.LookLemmas.{plan_still}
 use Rattle.plan_opening.specs.First.{first_rows}
-use Rattle.plan_opening.specs.Opened.{IsCaused, IsStored, MakesFirst}
+use Rattle.plan_opening.specs.Opened.{IsUnmade, IsCaused, IsStored, MakesFirst}
 use Rattle.plan_opening.specs.Faults.{fault_for}
 use Rattle.plan_opening.specs.Stored.{AllHaveRowids}
 use Rattle.plan_opening.specs.declared.faults.OpenFault.{OpenFault}
@@ -50,7 +50,7 @@ makes_first old new blank = survives_weaker old new _ _ (λ clean db made. (
 
 -- ---- why it is not opened
 
-pub caused_by : (a b : State) (e : Error) → LooksInVain a b e → IsCaused a b (fault_for e OtherTables)
+pub caused_by : (a b : State) (e : Error) → MayFail a b e → IsCaused a b (fault_for e OtherTables)
 caused_by a b e (inl (store.OutOfMemory, is, more)) = subst (λ x. IsCaused a b (fault_for x OtherTables)) (sym is) tt
 caused_by a b e (inl (store.Io, is, more)) =
     subst (λ x. IsCaused a b (fault_for x OtherTables)) (sym is) (inl more)
@@ -76,3 +76,12 @@ caused_since a b c same more limit Rows h = tt
 pub caused_by_content : (a b : State) (f : OpenFault) → (f ≡ Memory) ⊎ (f ≡ Rows) → IsCaused a b f
 caused_by_content a b f (inl is) = subst (IsCaused a b) (sym is) tt
 caused_by_content a b f (inr is) = subst (IsCaused a b) (sym is) tt
+
+pub unmade_by : (a b : State) (e : Error) → MayFail a b e → IsUnmade a b (fault_for e Unopened)
+unmade_by a b e (inl (store.OutOfMemory, is, more)) = subst (λ x. IsUnmade a b (fault_for x Unopened)) (sym is) tt
+unmade_by a b e (inl (store.Io, is, more)) = subst (λ x. IsUnmade a b (fault_for x Unopened)) (sym is) (inl more)
+unmade_by a b e (inl (store.Corrupt, is, more)) = subst (λ x. IsUnmade a b (fault_for x Unopened)) (sym is) (inl more)
+unmade_by a b e (inl (store.Full, is, more)) = subst (λ x. IsUnmade a b (fault_for x Unopened)) (sym is) (inl more)
+unmade_by a b e (inl (store.Broken, is, shut)) = subst (λ x. IsUnmade a b (fault_for x Unopened)) (sym is) (inr shut)
+unmade_by a b e (inl (store.Unstorable, is, none)) = absurd none
+unmade_by a b e (inr h) = subst (λ x. IsUnmade a b (fault_for x Unopened)) (sym h.0) h.1

@@ -66,7 +66,7 @@ rowid_plain more Dependency = (refl, refl)
 rowid_plain more Job = (refl, refl)
 
 -- the text is one statement to its end, without parameters, and its types fit
-pub rowid_fits : (more : Further) (t : Table) → IsWhole (understood (plan_and more) (rowid_sql t)) (length (rowid_sql t))
+pub rowid_fits : (more : Further) (t : Table) → IsWhole (understood (plan_and more) (rowid_sql t)) (length (rowid_sql t)) 0
     × (accepts_program (plan_and more) [] (plain_query (tree t) [] rowid_terms) [] ≡ true)
 unfolding understood everything
 rowid_fits more Meta = ((refl, refl), refl)

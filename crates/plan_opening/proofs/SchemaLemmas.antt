@@ -4,23 +4,22 @@ use Rattle.sqlite.specs.State.{State}
 use Rattle.sqlite.specs.Table.{Table as Described}
 use Rattle.plan_reading.specs.Reading.{HasPlan}
 use Rattle.sqlite.specs.Schema.{Schema}
-use Rattle.same_schema.specs.Extended.{Extends}
+use Rattle.same_schema.specs.Extended.{Extends, IsApart}
 use Rattle.plan_schema.specs.Schema.{HasTables, no_schema, plan_and, plan_schema}
 
 has_plan_tables : (schema : Schema) → Extends schema plan_schema → HasTables schema
+unfolding IsApart
 has_plan_tables schema h = record {
-  more = record { tables = drop 14 schema.tables; indexes = drop 10 schema.indexes };
-  is = λ i. record { tables = h.tables i; indexes = h.indexes i; views = h.views i };
-  aside = h.aside;
+  more = record { tables = drop 14 schema.tables; indexes = drop 10 schema.indexes; views = schema.views };
+  is = λ i. record { tables = h.tables i; indexes = h.indexes i; views = schema.views };
   apart = h.apart;
 }
 
 extends_plan : (schema : Schema) → HasTables schema → Extends schema plan_schema
+unfolding IsApart
 extends_plan schema has = subst (λ s. Extends s plan_schema) (sym has.is) (record {
   tables = refl;
   indexes = refl;
-  views = refl;
-  aside = has.aside;
   apart = has.apart;
 })
 

@@ -1,10 +1,11 @@
 -- Tables that hold a plan.
-use Rattle.std.specs.Prelude.{◌≡◌, List, [], ◌∷◌}
+use Rattle.std.specs.Prelude.{◌≡◌, List, [], ◌∷◌, map}
 use Rattle.sqlite.specs.Order.{Row as Values, column}
 use Rattle.plan_facts.specs.Facts.{natural}
 use Rattle.planner_machine.specs.Content.{Content}
 use Rattle.planner_machine.specs.Sound.{IsSound}
-use Rattle.plan_schema.specs.Rows.{Tables, tables_of}
+use Rattle.plan_schema.specs.Rows.{Tables, shown, tables_of}
+use Rattle.plan_schema.specs.declared.tables.Table.TheVariants.{Meta}
 use Rattle.plan_facts.specs.Content.{IsContentOf}
 use Rattle.sqlite.specs.State.{State}
 use Rattle.definition_rows.specs.Defined.{AreSoundDefinitions}
@@ -26,3 +27,7 @@ pub record HoldSound (all : Tables) : Type 0 where
 -- the database has the tables of the plan, and these hold a sound content
 abbrev pub HoldsPlan : State → Type 0
 HoldsPlan s = HasPlan s × HoldSound (tables_of s.now.trees)
+
+-- the database has the tables of the plan, of a known version
+abbrev pub HasVersion : State → Type 0
+HasVersion s = HasPlan s × AreKnown (map (shown Meta) (tables_of s.now.trees Meta))

@@ -8,7 +8,7 @@ use Rattle.plan_schema.specs.Rows.{IsPlan, tables_of}
 use Rattle.plan_schema.specs.Schema.{no_schema}
 use Rattle.plan_facts.specs.Content.{IsContentOf}
 use Rattle.plan_opening.specs.declared.faults.OpenFault.{OpenFault}
-use Rattle.plan_opening.specs.declared.faults.OpenFault.TheVariants.{Device, Tables as OtherTables}
+use Rattle.plan_opening.specs.declared.faults.OpenFault.TheVariants.{Memory, Device, Unopened, Tables as OtherTables}
 
 -- the database is open, all of it is committed, and its tables have the content
 pub record IsStored (s : State) (c : Content) : Type 0 where
@@ -28,3 +28,11 @@ abbrev pub IsCaused : State → State → OpenFault → Type 0
 IsCaused old new Device = MoreFaults old.faults new.faults ⊎ (old.is_open ≡ false)
 IsCaused old new OtherTables = IsSome old.step_limit
 IsCaused old new _ = ⊤
+
+-- why a database without tables does not get them: memory is short, the device failed meanwhile, the connection was shut
+-- before, or a limit on steps is set
+abbrev pub IsUnmade : State → State → OpenFault → Type 0
+IsUnmade old new Memory = ⊤
+IsUnmade old new Device = MoreFaults old.faults new.faults ⊎ (old.is_open ≡ false)
+IsUnmade old new Unopened = IsSome old.step_limit
+IsUnmade old new _ = ⊥

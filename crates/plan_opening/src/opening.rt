@@ -5,7 +5,7 @@ ghost use Rattle.sqlite.specs.State.{HasCleanDisk, Survives};
 ghost use Rattle.sqlite.specs.Held.{state};
 ghost use Rattle.planner_machine.specs.Content.{nothing_known};
 ghost use Rattle.planner_machine.specs.Sound.{IsSound};
-ghost use Rattle.plan_schema.specs.Rows.{LooksInVain, Tables, shown, tables_of};
+ghost use Rattle.plan_schema.specs.Rows.{MayFail, Tables, shown, tables_of};
 ghost use Rattle.plan_schema.specs.declared.tables.Table.TheVariants.{Meta};
 ghost use Rattle.plan_schema.specs.Schema.{no_schema};
 ghost use Rattle.plan_store.specs.Contents.{content_of};
@@ -13,8 +13,8 @@ ghost use Rattle.plan_facts.specs.Content.{IsContentOf};
 ghost use Rattle.plan_reading.specs.Reading.{HasPlan, Looks};
 ghost use Rattle.plan_reading.specs.Tables.{TellPlans};
 ghost use Rattle.plan_opening.specs.declared.faults.OpenFault.TheVariants.{Memory, Rows, Unopened};
-ghost use Rattle.plan_opening.specs.Held.{AreKnown, HoldSound, HoldsPlan};
-ghost use Rattle.plan_opening.specs.Opened.{IsCaused, IsStored, MakesFirst};
+ghost use Rattle.plan_opening.specs.Held.{AreKnown, HasVersion, HoldSound, HoldsPlan};
+ghost use Rattle.plan_opening.specs.Opened.{IsCaused, IsStored, IsUnmade, MakesFirst};
 ghost use Rattle.plan_opening.specs.Stored.{TellStored};
 
 use crate::faults::{OpenFault, fault_for};
@@ -82,7 +82,7 @@ fn has_version<S: Alter>(conn: &mut Connection<S>) -> Result<bool, Error>
         IsTrue b ↔ AreKnown (map (shown Meta) (tables_of (state S.Store conn.old).now.trees Meta))) }
     ensures looks { Looks (state S.Store conn.old) (state S.Store conn.new) (is_ok result) }
     ensures fails { HasCleanDisk (state S.Store conn.new) → HasPlan (state S.Store conn.old)
-        → IfErr result (LooksInVain (state S.Store conn.old) (state S.Store conn.new)) }
+        → IfErr result (MayFail (state S.Store conn.old) (state S.Store conn.new)) }
     ensures mode { conn.old.in_transaction ≡ false → conn.new.in_transaction ≡ false }
 {
     let rows = select(conn, Table::Meta)?;
@@ -122,6 +122,8 @@ fn open_plan<S: Alter>(alloc: Global, conn: &mut Connection<S>) -> Result<Conten
         → IfOk result (λ content. IsStored (state S.Store conn.new) (content_of content)) }
     ensures sound { IfOk result (λ content. IsSound (content_of content)) }
     ensures rows { HasCleanDisk (state S.Store conn.new) → HoldsPlan (state S.Store conn.old) → result ≡ Err Rows → ⊥ }
+    ensures known { HasCleanDisk (state S.Store conn.new) → result ≡ Err Rows
+        → AreKnown (map (shown Meta) (tables_of (state S.Store conn.old).now.trees Meta)) }
     ensures version { HasCleanDisk (state S.Store conn.new)
         → AreKnown (map (shown Meta) (tables_of (state S.Store conn.old).now.trees Meta)) → result ≡ Err Unopened → ⊥ }
     ensures caused { HasCleanDisk (state S.Store conn.new)
@@ -144,6 +146,8 @@ fn open_blank<S: Alter>(alloc: Global, conn: &mut Connection<S>) -> Result<Conte
         → IfOk result (λ content. IsStored (state S.Store conn.new) (content_of content)) }
     ensures sound { IfOk result (λ content. IsSound (content_of content)) }
     ensures empty { IfOk result (λ content. content_of content ≡ nothing_known) }
+    ensures unmade { HasCleanDisk (state S.Store conn.new)
+        → IfErr result (IsUnmade (state S.Store conn.old) (state S.Store conn.new)) }
     ensures mode { conn.new.in_transaction ≡ false }
     ensures survives { Survives (state S.Store conn.old) (state S.Store conn.new)
         (MakesFirst (state S.Store conn.old)) }
@@ -160,6 +164,7 @@ fn open_blank<S: Alter>(alloc: Global, conn: &mut Connection<S>) -> Result<Conte
 // Why a database of other tables is not opened: where the version can be read and is known, for its tables.
 fn foreign_fault<S: Alter>(conn: &mut Connection<S>) -> OpenFault
     requires { conn.old.in_transaction ≡ false }
+    ensures rows { result ≡ Rows → ⊥ }
     ensures mode { conn.new.in_transaction ≡ false }
     ensures survives { Survives (state S.Store conn.old) (state S.Store conn.new) (λ _. ⊥) }
 {
@@ -185,11 +190,14 @@ pub fn open_content<S: Alter>(alloc: Global, conn: &mut Connection<S>) -> Result
     ensures sound { IfOk result (λ content. IsSound (content_of content)) }
     ensures empty { (state S.Store conn.old).now.schema ≡ no_schema
         → IfOk result (λ content. content_of content ≡ nothing_known) }
-    ensures rows { HasCleanDisk (state S.Store conn.new) → HoldsPlan (state S.Store conn.old) → result ≡ Err Rows → ⊥ }
-    ensures version { HasCleanDisk (state S.Store conn.new) → HoldsPlan (state S.Store conn.old)
+    ensures rows { HasCleanDisk (state S.Store conn.new) → result ≡ Err Rows
+        → HasVersion (state S.Store conn.old) × (HoldsPlan (state S.Store conn.old) → ⊥) }
+    ensures version { HasCleanDisk (state S.Store conn.new) → HasVersion (state S.Store conn.old)
         → result ≡ Err Unopened → ⊥ }
     ensures caused { HasCleanDisk (state S.Store conn.new) → HasPlan (state S.Store conn.old)
         → IfErr result (IsCaused (state S.Store conn.old) (state S.Store conn.new)) }
+    ensures unmade { HasCleanDisk (state S.Store conn.new) → (state S.Store conn.old).now.schema ≡ no_schema
+        → IfErr result (IsUnmade (state S.Store conn.old) (state S.Store conn.new)) }
     ensures mode { conn.new.in_transaction ≡ false }
     ensures crash { Survives (state S.Store conn.old) (state S.Store conn.new) (MakesFirst (state S.Store conn.old)) }
 {

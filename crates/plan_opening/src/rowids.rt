@@ -7,7 +7,7 @@ ghost use Rattle.sqlite.specs.View.{is_int};
 ghost use Rattle.sqlite.specs.declared.types.Value.TheVariants.{Int};
 ghost use Rattle.sqlite.specs.State.{HasCleanDisk};
 ghost use Rattle.sqlite.specs.Held.{state};
-ghost use Rattle.plan_schema.specs.Rows.{HaveRowids, LooksInVain, tables_of};
+ghost use Rattle.plan_schema.specs.Rows.{HaveRowids, MayFail, tables_of};
 ghost use Rattle.plan_reading.specs.Reading.{HasPlan, Looks};
 ghost use Rattle.plan_opening.specs.Rowids.{AreIntegers, AreRising, PlacesRise, place_of, rowid_shown};
 ghost use Rattle.plan_opening.specs.Places.{table_of};
@@ -90,7 +90,7 @@ fn select_rowids<S: Alter>(conn: &mut Connection<S>, table: Table) -> Result<Vec
         IsPermutation (map rowid_shown (tables_of (state S.Store conn.old).now.trees table)) rows.items) }
     ensures looks { Looks (state S.Store conn.old) (state S.Store conn.new) (is_ok result) }
     ensures fails { HasCleanDisk (state S.Store conn.new) → HasPlan (state S.Store conn.old)
-        → IfErr result (LooksInVain (state S.Store conn.old) (state S.Store conn.new)) }
+        → IfErr result (MayFail (state S.Store conn.old) (state S.Store conn.new)) }
     ensures mode { conn.old.in_transaction ≡ false → conn.new.in_transaction ≡ false }
 {
     conn.query_all(rowid_text(table), &[])
@@ -111,7 +111,7 @@ pub(crate) fn has_rowids<S: Alter>(conn: &mut Connection<S>, table: Table) -> Re
         IsTrue b ↔ HaveRowids (tables_of (state S.Store conn.old).now.trees table)) }
     ensures looks { Looks (state S.Store conn.old) (state S.Store conn.new) (is_ok result) }
     ensures fails { HasCleanDisk (state S.Store conn.new) → HasPlan (state S.Store conn.old)
-        → IfErr result (LooksInVain (state S.Store conn.old) (state S.Store conn.new)) }
+        → IfErr result (MayFail (state S.Store conn.old) (state S.Store conn.new)) }
     ensures mode { conn.old.in_transaction ≡ false → conn.new.in_transaction ≡ false }
 {
     let mut rows = select_rowids(conn, table)?;

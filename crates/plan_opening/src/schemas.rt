@@ -11,7 +11,7 @@ use sqlite::{Alter, Connection, Error};
 use std::alloc::Global;
 
 /// Whether the database has the tables of the plan, as `make_tables` makes them, and after them none but tables that
-/// refer to no other.
+/// refer to none of these. Further indexes and views may be there.
 pub(crate) fn has_plan<S: Alter>(alloc: Global, conn: &Connection<S>) -> Result<bool, Error>
     ensures { IfOk result (λ b. IsTrue b ↔ HasPlan (state S.Store conn.now)) }
 {

@@ -8,7 +8,7 @@ use Rattle.sqlite_trees.specs.declared.error.StoreError.TheVariants.{OutOfMemory
 use Rattle.sqlite.proofs.Callers.{unchanged_then}
 use Rattle.sqlite.proofs.StateLemmas.{survives_then}
 use Rattle.std.specs.Prelude.{IsSome}
-use Rattle.plan_schema.specs.Rows.{LooksInVain, tables_of}
+use Rattle.plan_schema.specs.Rows.{MayFail, tables_of}
 use Rattle.plan_schema.specs.Schema.{HasTables}
 use Rattle.plan_reading.specs.Reading.{HasPlan, Looks}
 
@@ -44,7 +44,7 @@ caused a b c same more Broken h = absurd (true≢false (sym same.0.is_open ∙ h
 caused a b c same more Unstorable h = h
 
 pub vain_then : (a b c : State) (o : Bool) (e : Error) → Looks a b true → Looks b c o → HasCleanDisk c → HasPlan a
-    → LooksInVain b c e → LooksInVain a c e
+    → MayFail b c e → MayFail a c e
 vain_then a b c o e one two clean plan (inl h) =
     let same = one.same (clean_before b c o two clean) plan refl in
     inl (h.0, h.1, caused a b c same one.survives.counts h.0 h.2)

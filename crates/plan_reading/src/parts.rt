@@ -3,7 +3,7 @@
 ghost use Rattle.std.specs.Prelude.{◌≡◌, ◌∷◌, [], false, is_ok, length, None, IfErr, IfOk, IfSome};
 ghost use Rattle.sqlite.specs.State.{HasCleanDisk};
 ghost use Rattle.sqlite.specs.Held.{state};
-ghost use Rattle.plan_schema.specs.Rows.{LooksInVain, Tables, tables_of};
+ghost use Rattle.plan_schema.specs.Rows.{MayFail, Tables, tables_of};
 ghost use Rattle.plan_schema.specs.declared.tables.Table.TheVariants.{LongTerm, Current, History, Deletion as Gone};
 ghost use Rattle.plan_schema.specs.declared.tables.Table.TheVariants.{LinkInForce, Dependency, Job as Kept};
 ghost use Rattle.plan_facts.specs.Content.{job_values};
@@ -43,7 +43,7 @@ pub trait Part: Sized + Drop {
             → IfOk result (λ found. found ≡ None → readable (tables_of (state S.Store conn.old).now.trees) → ⊥) }
         ensures looks { Looks (state S.Store conn.old) (state S.Store conn.new) (is_ok result) }
         ensures fails { HasCleanDisk (state S.Store conn.new) → HasPlan (state S.Store conn.old)
-            → IfErr result (LooksInVain (state S.Store conn.old) (state S.Store conn.new)) }
+            → IfErr result (MayFail (state S.Store conn.old) (state S.Store conn.new)) }
         ensures mode { conn.old.in_transaction ≡ false → conn.new.in_transaction ≡ false };
 }
 

@@ -3,7 +3,7 @@
 ghost use Rattle.std.specs.Prelude.{◌≡◌, false, is_ok, None, IfErr, IfOk, IfSome};
 ghost use Rattle.sqlite.specs.State.{HasCleanDisk};
 ghost use Rattle.sqlite.specs.Held.{state};
-ghost use Rattle.plan_schema.specs.Rows.{LooksInVain, Tables, tables_of};
+ghost use Rattle.plan_schema.specs.Rows.{MayFail, Tables, tables_of};
 ghost use Rattle.plan_reading.specs.Parts.{AreRowsInOrder, AreRestInOrder, TellRowParts, TellRest};
 ghost use Rattle.plan_reading.specs.Readable.{ArePlansReadable};
 ghost use Rattle.plan_reading.specs.Reading.{HasPlan, Looks};
@@ -62,7 +62,7 @@ pub fn read_lists<S: Alter>(
         → ArePlansReadable (tables_of (state S.Store conn.old).now.trees) → ⊥) }
     ensures looks { Looks (state S.Store conn.old) (state S.Store conn.new) (is_ok result) }
     ensures fails { HasCleanDisk (state S.Store conn.new) → HasPlan (state S.Store conn.old)
-        → IfErr result (LooksInVain (state S.Store conn.old) (state S.Store conn.new)) }
+        → IfErr result (MayFail (state S.Store conn.old) (state S.Store conn.new)) }
     ensures mode { conn.old.in_transaction ≡ false → conn.new.in_transaction ≡ false }
 {
     match <(RowParts, Rest)>::read(alloc, conn) {

@@ -4,7 +4,7 @@ ghost use Rattle.std.specs.Prelude.{◌≡◌, false, is_ok, map, None, IfErr, I
 ghost use Rattle.std.specs.List.Sorted.{IsPermutation};
 ghost use Rattle.sqlite.specs.State.{HasCleanDisk};
 ghost use Rattle.sqlite.specs.Held.{state};
-ghost use Rattle.plan_schema.specs.Rows.{LooksInVain, shown, tables_of};
+ghost use Rattle.plan_schema.specs.Rows.{MayFail, shown, tables_of};
 ghost use Rattle.plan_reading.specs.Reading.{HasPlan, Looks};
 ghost use Rattle.plan_reading.specs.Order.{AreInOrder};
 ghost use Rattle.plan_reading.specs.Tables.{IsOneOf, ShowsOnly};
@@ -35,7 +35,7 @@ pub(crate) fn read_table<X: Told + Drop, S: Alter>(
         → ShowsEach (tables_of (state S.Store conn.old).now.trees) table X.values X.has_form → ⊥) }
     ensures looks { Looks (state S.Store conn.old) (state S.Store conn.new) (is_ok result) }
     ensures fails { HasCleanDisk (state S.Store conn.new) → HasPlan (state S.Store conn.old)
-        → IfErr result (LooksInVain (state S.Store conn.old) (state S.Store conn.new)) }
+        → IfErr result (MayFail (state S.Store conn.old) (state S.Store conn.new)) }
     ensures mode { conn.old.in_transaction ≡ false → conn.new.in_transaction ≡ false }
 {
     let rows = select(conn, table)?;
@@ -57,7 +57,7 @@ pub(crate) fn read_in_order<X: Told + Numbered + Drop, S: Alter>(
         → ShowsEachOnce (tables_of (state S.Store conn.old).now.trees) table X.values X.has_form → ⊥) }
     ensures looks { Looks (state S.Store conn.old) (state S.Store conn.new) (is_ok result) }
     ensures fails { HasCleanDisk (state S.Store conn.new) → HasPlan (state S.Store conn.old)
-        → IfErr result (LooksInVain (state S.Store conn.old) (state S.Store conn.new)) }
+        → IfErr result (MayFail (state S.Store conn.old) (state S.Store conn.new)) }
     ensures mode { conn.old.in_transaction ≡ false → conn.new.in_transaction ≡ false }
 {
     match read_table::<X, S>(alloc, conn, table) {

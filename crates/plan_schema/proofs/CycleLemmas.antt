@@ -36,7 +36,8 @@ use Rattle.sqlite_value.specs.declared.value.Value.{Value}
 use Rattle.sqlite_value.specs.declared.value.Value.TheVariants.{Null, Int}
 use Rattle.plan_schema.specs.Rows.{Differ, HaveRowids, matches}
 use Rattle.sqlite_schema.specs.declared.schema.Table.{Table as Described}
-use Rattle.plan_schema.specs.Schema.{Further, IsAside, plan_and, table, to_run_cycle, tree}
+use Rattle.plan_schema.specs.Schema.{Further, IsApart, plan_and, plan_schema, table, to_run_cycle, tree}
+use Rattle.plan_schema.proofs.FurtherLemmas.{sets_off_none}
 use Rattle.plan_schema.specs.declared.tables.Table.TheVariants.{Offset, RunCycle}
 use Rattle.plan_schema.proofs.RowLemmas.{id_back, tied}
 
@@ -93,19 +94,13 @@ abbrev set_off : Bool → List Row → List Work
 set_off some olds = filter_map (λ (ref : Reference). if some then Some (their_offsets olds) else None)
     (to_run_cycle ∷ []) ++ []
 
--- further tables refer to none, so nothing is set off for them
-pub sets_off_none : {W : Type 0} (g : Described → Reference → Option W) (ts : List Described)
-    → AllByRecursion IsAside ts → flat_map (λ child. filter_map (g child) child.references) ts ≡ []
-sets_off_none g [] all = refl
-sets_off_none g (t ∷ ts) all = ap (λ refs. filter_map (g t) refs ++ flat_map (λ child. filter_map (g child)
-    child.references) ts) all.0 ∙ sets_off_none g ts all.1
-
-works_are : (more : Further) (olds : List Row) → AllByRecursion IsAside more.tables
+works_are : (more : Further) (olds : List Row) → AllByRecursion (IsApart plan_schema.tables) more.tables
     → works (plan_and more) Enforced 0 (tree RunCycle) olds [] ≡ set_off (list_any (loses
     name_order (1 ∷ 2 ∷ [])) (pairs olds [])) olds
 unfolding same_name joined
-works_are more olds aside = ap (λ (rest : List Work). filter_map (λ (ref : Reference). if list_any (loses name_order (1 ∷ 2 ∷ [])) (pairs olds []) then Some (their_offsets olds) else None)
-    (to_run_cycle ∷ []) ++ rest) (sets_off_none (work_for (plan_and more) Enforced 0 (tree RunCycle) olds []) more.tables aside)
+works_are more olds apart = ap (λ (rest : List Work). filter_map (λ (ref : Reference). if list_any (loses name_order
+    (1 ∷ 2 ∷ [])) (pairs olds []) then Some (their_offsets olds) else None) (to_run_cycle ∷ []) ++ rest)
+    (sets_off_none more apart RunCycle olds [])
 
 binary_names : (first_key name_order).collation ≡ Binary
 unfolding first_key joined
@@ -234,19 +229,20 @@ found_pass test rows found all same =
     id_in (rowid r)) found seen)
 
 -- Where no offset has the key, taking out the run cycles that have it is one step.
-pub cycles_alone : (more : Further) → AllByRecursion IsAside more.tables → (key : Row) (db next : Trees) (found : List Row) → HaveRowids (db (tree RunCycle))
+pub cycles_alone : (more : Further) → AllByRecursion (IsApart plan_schema.tables) more.tables → (key : Row)
+    (db next : Trees) (found : List Row) → HaveRowids (db (tree RunCycle))
     → AllByRecursion (λ r. matches Offset key r ≡ false) (db (tree Offset))
     → IsPermutation (map (λ r. rowid r ∷ []) (filter (matches RunCycle key) (db (tree RunCycle)))) found
     → Writes (plan_and more) Enforced db (edit_of db (table RunCycle) (ids_of found) Given 0 []) (Ok next)
     → Applies (plan_and more) Enforced db (edit_of db (table RunCycle) (ids_of found) Given 0 []) next
-cycles_alone more aside key db next found all free same (inl refused) = absurd (let e = refused.2 in cc)
-cycles_alone more aside key db next found all free same (inr (inl big)) = absurd (let e = big.3 in cc)
-cycles_alone more aside key db next found all free same (inr (inr went)) =
+cycles_alone more apart key db next found all free same (inl refused) = absurd (let e = refused.2 in cc)
+cycles_alone more apart key db next found all free same (inr (inl big)) = absurd (let e = big.3 in cc)
+cycles_alone more apart key db next found all free same (inr (inr went)) =
     let olds = map (row_at (db (tree RunCycle))) (ids_of found) in
     let offsets : went.0 (tree Offset) ≡ db (tree Offset) = went.1.tables.1.1.1.1.1.0 (λ e. cc) in
     let still = subst (AllByRecursion (λ r. matches Offset key r ≡ false)) (sym offsets) free in
     let have = found_pass (matches RunCycle key) (db (tree RunCycle)) found all same in
-    let leads = subst (λ stack. Leads (plan_and more) Enforced went.2.0 went.0 stack (Ok next)) (works_are more olds aside)
+    let leads = subst (λ stack. Leads (plan_and more) Enforced went.2.0 went.0 stack (Ok next)) (works_are more olds apart)
     went.2.1 in
     subst (Applies (plan_and more) Enforced db (edit_of db (table RunCycle) (ids_of found) Given 0 [])) (settled more key
     olds have went.0 next still (list_any (loses name_order (1 ∷ 2 ∷ [])) (pairs olds [])) went.2.0 leads)

@@ -1,6 +1,9 @@
 pub mod Steps
 pub mod Meanings
 pub mod RowLemmas
+pub mod RefusalLemmas
+pub mod FurtherLemmas
 pub mod CycleLemmas
 pub mod StepLemmas
+pub mod BlankLemmas
 pub mod ResultLemmas

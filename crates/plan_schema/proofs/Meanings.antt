@@ -21,6 +21,11 @@ use Rattle.plan_schema.specs.declared.tables.Table.TheVariants.{RunCycle, Offset
 use Rattle.plan_schema.specs.declared.tables.Table.TheVariants.{LongTerm, Current, History, Deletion}
 use Rattle.plan_schema.specs.declared.tables.Table.TheVariants.{Dependency, Job}
 
+-- it is understood to its end, and has so many parameters
+abbrev pub IsWhole : Result Compiled CompileError → ℕ → ℕ → Type 0
+IsWhole (Ok c) size given = (c.tail ≡ size) × (length c.names ≡ given)
+IsWhole (Err e) size given = ⊥
+
 pub create_is : (t : Table) → (command_of (understood (before t) (create_sql t)) ≡ CreateTable)
     × (statement_of (create_sql t) (understood (before t) (create_sql t)) ≡ create_sql t)
     × (table_defined_by (create_sql t) ≡ Ok (table_at 0 t))
@@ -39,6 +44,23 @@ create_is History = (refl, refl, refl)
 create_is Deletion = (refl, refl, refl)
 create_is Dependency = (refl, refl, refl)
 create_is Job = (refl, refl, refl)
+
+pub create_fits : (t : Table) → IsWhole (understood (before t) (create_sql t)) (length (create_sql t)) 0
+unfolding understood everything
+create_fits Meta = (refl, refl)
+create_fits CalendarEntry = (refl, refl)
+create_fits Period = (refl, refl)
+create_fits Application = (refl, refl)
+create_fits RunCycle = (refl, refl)
+create_fits Offset = (refl, refl)
+create_fits Predecessor = (refl, refl)
+create_fits LinkInForce = (refl, refl)
+create_fits LongTerm = (refl, refl)
+create_fits Current = (refl, refl)
+create_fits History = (refl, refl)
+create_fits Deletion = (refl, refl)
+create_fits Dependency = (refl, refl)
+create_fits Job = (refl, refl)
 
 pub create_plain : (t : Table) → IsPlain (understood (before t) (create_sql t))
 unfolding understood everything
@@ -185,13 +207,9 @@ select_plain more Deletion = (refl, refl)
 select_plain more Dependency = (refl, refl)
 select_plain more Job = (refl, refl)
 
--- it is understood to its end, and has no parameters
-abbrev pub IsWhole : Result Compiled CompileError → ℕ → Type 0
-IsWhole (Ok c) size = (c.tail ≡ size) × (c.names ≡ [])
-IsWhole (Err e) size = ⊥
-
 -- the text is one statement to its end, without parameters, and its types fit
-pub select_fits : (more : Further) (t : Table) → IsWhole (understood (plan_and more) (select_sql t)) (length (select_sql t))
+pub select_fits : (more : Further) (t : Table) → IsWhole (understood (plan_and more) (select_sql t))
+    (length (select_sql t)) 0
     × (accepts_program (plan_and more) [] (plain_query (tree t) [] (select_terms t)) [] ≡ true)
 unfolding understood everything
 select_fits more Meta = ((refl, refl), refl)

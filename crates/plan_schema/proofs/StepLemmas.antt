@@ -34,7 +34,8 @@ use Rattle.sqlite.specs.Table.{Table as Described}
 use Rattle.sqlite.specs.Query.{IsAnswer}
 use Rattle.sqlite_rules.specs.Action as action
 use Rattle.sqlite_rules.specs.Calls.{ids_of}
-use Rattle.plan_schema.proofs.CycleLemmas.{cycles_alone, sets_off_none}
+use Rattle.plan_schema.proofs.CycleLemmas.{cycles_alone}
+use Rattle.plan_schema.proofs.FurtherLemmas.{each, nothing, sets_off_none}
 use Rattle.sqlite.proofs.Callers.{IsPlain, command_of, never_commits, one_step, reads_as, runs_as, statement_of}
 use Rattle.sqlite_rules.specs.Action.{deed_for, work_by, work_for, works}
 use Rattle.sqlite_schema.specs.Names.{same_name}
@@ -44,11 +45,11 @@ use Rattle.sqlite_rules.specs.Cast.{cast_row}
 use Rattle.sqlite_rules.specs.Edit.{Applies, edit_of, is_taken, taken_by, with_rowid}
 use Rattle.sqlite_schema.specs.declared.schema.Keys.TheVariants.{Enforced}
 use Rattle.plan_schema.specs.Cells.{column_names, delete_tests, insert_terms, select_terms, width}
-use Rattle.plan_schema.specs.Rows.{AreOfKinds, HaveRowids, IsMade, IsMadeWhole, IsPlan, IsAlone, LooksInVain, Stands}
+use Rattle.plan_schema.specs.Rows.{AreOfKinds, HaveRowids, IsMade, IsMadeWhole, IsPlan, IsAlone, MayFail, Stands}
 use Rattle.plan_schema.specs.Rows.{Tables, matches, placed, shown, stored, tables_of, with_cells}
 use Rattle.plan_schema.specs.Rows.{with_rows, without_key}
 use Rattle.plan_schema.specs.Schema.{after, before, checks, columns, key, name, no_schema, orders, place}
-use Rattle.plan_schema.specs.Schema.{Further, HasTables, IsApart, IsAside, plan_and, plan_schema, primary, references}
+use Rattle.plan_schema.specs.Schema.{Further, HasTables, IsApart, plan_and, plan_schema, primary, references}
 use Rattle.plan_schema.specs.Schema.{table, table_at, tree, uniques}
 use Rattle.plan_schema.specs.Texts.{create_sql, delete_sql, insert_sql, select_sql}
 use Rattle.plan_schema.specs.declared.tables.Table.{Table}
@@ -58,6 +59,7 @@ use Rattle.plan_schema.specs.declared.tables.Table.TheVariants.{LongTerm, Curren
 use Rattle.plan_schema.specs.declared.tables.Table.TheVariants.{Dependency, Job}
 use Rattle.plan_schema.proofs.Meanings.{create_is, create_plain, delete_is, delete_plain, insert_is}
 use Rattle.plan_schema.proofs.Meanings.{IsWhole, insert_plain, made, select_fits, select_is, select_plain}
+use Rattle.plan_schema.proofs.RefusalLemmas.{is_refused, uncounted}
 use Rattle.plan_schema.proofs.RowLemmas.{left_after, put_is_placed, rowids_filter, rowids_placed}
 use Rattle.plan_schema.proofs.Steps.{creates, deletes, inserts, plain_query, plain_rows}
 
@@ -77,24 +79,7 @@ found more Deletion = refl
 found more Dependency = refl
 found more Job = refl
 
--- what holds of each table of the schema
-each : (more : Further) (P : Described → Type 0) → AllByRecursion P (plan_and more).tables → (t : Table) → P (table t)
-each more P all Meta = all.0
-each more P all CalendarEntry = all.1.0
-each more P all Period = all.1.1.0
-each more P all Application = all.1.1.1.0
-each more P all RunCycle = all.1.1.1.1.0
-each more P all Offset = all.1.1.1.1.1.0
-each more P all Predecessor = all.1.1.1.1.1.1.0
-each more P all LinkInForce = all.1.1.1.1.1.1.1.0
-each more P all LongTerm = all.1.1.1.1.1.1.1.1.0
-each more P all Current = all.1.1.1.1.1.1.1.1.1.0
-each more P all History = all.1.1.1.1.1.1.1.1.1.1.0
-each more P all Deletion = all.1.1.1.1.1.1.1.1.1.1.1.0
-each more P all Dependency = all.1.1.1.1.1.1.1.1.1.1.1.1.0
-each more P all Job = all.1.1.1.1.1.1.1.1.1.1.1.1.1.0
-
-module _ (more : Further) (aside : AllByRecursion IsAside more.tables) where
+module _ (more : Further) (apart : AllByRecursion (IsApart plan_schema.tables) more.tables) where
   -- of the tables of the plan a row that is put in sets nothing off
   quiet : (t : Table) (b : Bool) → flat_map (λ child. filter_map (λ ref. work_by 0 (tree t) [] child ref (deed_for
       Enforced b ref) (parent_key (plan_and more).tables ref)) child.references) (plan_and more).tables ≡ flat_map (λ
@@ -130,9 +115,9 @@ module _ (more : Further) (aside : AllByRecursion IsAside more.tables) where
   quiet Job true = refl
   quiet Job false = refl
 
-  quiet_insert : (t : Table) (news : List Row) → works (plan_and more) Enforced 0 (tree t) [] news ≡ []
+  pub quiet_insert : (t : Table) (news : List Row) → works (plan_and more) Enforced 0 (tree t) [] news ≡ []
   quiet_insert t news = quiet t (length news == 0)
-      ∙ sets_off_none (work_for (plan_and more) Enforced 0 (tree t) [] news) more.tables aside
+      ∙ sets_off_none more apart t [] news
 
   -- nor does one that is taken out, of a run cycle only where it has no offsets
   settles : (t : Table) (values : Row) (db next : Trees) (found : List Row) → HaveRowids (db (tree t))
@@ -143,58 +128,45 @@ module _ (more : Further) (aside : AllByRecursion IsAside more.tables) where
   unfolding same_name joined
   settles Meta values db next found rowids free same h =
       let edit = edit_of db (table Meta) (ids_of found) Given 0 [] in
-      one_step (plan_and more) Enforced db next edit (sets_off_none (work_for (plan_and more) Enforced 0 (tree Meta)
-      (taken_by db edit) []) more.tables aside) h
+      one_step (plan_and more) Enforced db next edit (sets_off_none more apart Meta (taken_by db edit) []) h
   settles CalendarEntry values db next found rowids free same h =
       let edit = edit_of db (table CalendarEntry) (ids_of found) Given 0 [] in
-      one_step (plan_and more) Enforced db next edit (sets_off_none (work_for (plan_and more) Enforced 0 (tree CalendarEntry)
-      (taken_by db edit) []) more.tables aside) h
+      one_step (plan_and more) Enforced db next edit (sets_off_none more apart CalendarEntry (taken_by db edit) []) h
   settles Period values db next found rowids free same h =
       let edit = edit_of db (table Period) (ids_of found) Given 0 [] in
-      one_step (plan_and more) Enforced db next edit (sets_off_none (work_for (plan_and more) Enforced 0 (tree Period)
-      (taken_by db edit) []) more.tables aside) h
+      one_step (plan_and more) Enforced db next edit (sets_off_none more apart Period (taken_by db edit) []) h
   settles Application values db next found rowids free same h =
       let edit = edit_of db (table Application) (ids_of found) Given 0 [] in
-      one_step (plan_and more) Enforced db next edit (sets_off_none (work_for (plan_and more) Enforced 0 (tree Application)
-      (taken_by db edit) []) more.tables aside) h
+      one_step (plan_and more) Enforced db next edit (sets_off_none more apart Application (taken_by db edit) []) h
   settles RunCycle values db next found rowids free same h =
-      cycles_alone more aside values db next found rowids free same h
+      cycles_alone more apart values db next found rowids free same h
   settles Offset values db next found rowids free same h =
       let edit = edit_of db (table Offset) (ids_of found) Given 0 [] in
-      one_step (plan_and more) Enforced db next edit (sets_off_none (work_for (plan_and more) Enforced 0 (tree Offset)
-      (taken_by db edit) []) more.tables aside) h
+      one_step (plan_and more) Enforced db next edit (sets_off_none more apart Offset (taken_by db edit) []) h
   settles Predecessor values db next found rowids free same h =
       let edit = edit_of db (table Predecessor) (ids_of found) Given 0 [] in
-      one_step (plan_and more) Enforced db next edit (sets_off_none (work_for (plan_and more) Enforced 0 (tree Predecessor)
-      (taken_by db edit) []) more.tables aside) h
+      one_step (plan_and more) Enforced db next edit (sets_off_none more apart Predecessor (taken_by db edit) []) h
   settles LinkInForce values db next found rowids free same h =
       let edit = edit_of db (table LinkInForce) (ids_of found) Given 0 [] in
-      one_step (plan_and more) Enforced db next edit (sets_off_none (work_for (plan_and more) Enforced 0 (tree LinkInForce)
-      (taken_by db edit) []) more.tables aside) h
+      one_step (plan_and more) Enforced db next edit (sets_off_none more apart LinkInForce (taken_by db edit) []) h
   settles LongTerm values db next found rowids free same h =
       let edit = edit_of db (table LongTerm) (ids_of found) Given 0 [] in
-      one_step (plan_and more) Enforced db next edit (sets_off_none (work_for (plan_and more) Enforced 0 (tree LongTerm)
-      (taken_by db edit) []) more.tables aside) h
+      one_step (plan_and more) Enforced db next edit (sets_off_none more apart LongTerm (taken_by db edit) []) h
   settles Current values db next found rowids free same h =
       let edit = edit_of db (table Current) (ids_of found) Given 0 [] in
-      one_step (plan_and more) Enforced db next edit (sets_off_none (work_for (plan_and more) Enforced 0 (tree Current)
-      (taken_by db edit) []) more.tables aside) h
+      one_step (plan_and more) Enforced db next edit (sets_off_none more apart Current (taken_by db edit) []) h
   settles History values db next found rowids free same h =
       let edit = edit_of db (table History) (ids_of found) Given 0 [] in
-      one_step (plan_and more) Enforced db next edit (sets_off_none (work_for (plan_and more) Enforced 0 (tree History)
-      (taken_by db edit) []) more.tables aside) h
+      one_step (plan_and more) Enforced db next edit (sets_off_none more apart History (taken_by db edit) []) h
   settles Deletion values db next found rowids free same h =
       let edit = edit_of db (table Deletion) (ids_of found) Given 0 [] in
-      one_step (plan_and more) Enforced db next edit (sets_off_none (work_for (plan_and more) Enforced 0 (tree Deletion)
-      (taken_by db edit) []) more.tables aside) h
+      one_step (plan_and more) Enforced db next edit (sets_off_none more apart Deletion (taken_by db edit) []) h
   settles Dependency values db next found rowids free same h =
       let edit = edit_of db (table Dependency) (ids_of found) Given 0 [] in
-      one_step (plan_and more) Enforced db next edit (sets_off_none (work_for (plan_and more) Enforced 0 (tree Dependency)
-      (taken_by db edit) []) more.tables aside) h
+      one_step (plan_and more) Enforced db next edit (sets_off_none more apart Dependency (taken_by db edit) []) h
   settles Job values db next found rowids free same h =
       let edit = edit_of db (table Job) (ids_of found) Given 0 [] in
-      one_step (plan_and more) Enforced db next edit (sets_off_none (work_for (plan_and more) Enforced 0 (tree Job)
-      (taken_by db edit) []) more.tables aside) h
+      one_step (plan_and more) Enforced db next edit (sets_off_none more apart Job (taken_by db edit) []) h
 
 given_rows : (t : Table) (cells : Row) → value_rows cells (width t) (length (insert_terms t) / width t)
     (insert_terms t) ≡ stored t cells ∷ []
@@ -267,7 +239,7 @@ inserted t cells old new count plan kinds h =
     let w = runs_as (insert_sql t) cells old new (plan_and more) has.is (Insert (place t) (Values (insert_terms t)
     (width t))) (insert_is more t) (insert_plain more t) count h.0 in
     let step = inserts (plan_and more) (place t) (name t) (tree t) (columns t) (key t) (primary t) (uniques t) (orders
-    t) (checks t) (references t) (found more t) (quiet_insert more (recursion_from_All IsAside more.tables has.aside) t) old new (insert_terms t) (width t) cells
+    t) (checks t) (references t) (found more t) (quiet_insert more (recursion_from_All (IsApart plan_schema.tables) more.tables has.apart) t) old new (insert_terms t) (width t) cells
     (statement_of (insert_sql t) (understood (plan_and more) (insert_sql t))) count has.is w in
     let was = old.now.trees (tree t) in
     let row = with_rowid Chosen was (stored t cells) in
@@ -287,7 +259,7 @@ inserted t cells old new count plan kinds h =
     let all = same_tables more t (placed row was) old.now.trees new.now.trees applies.tables here in
     record {
       plan = record {
-        schema = record { more = more; is = step.0; aside = has.aside; apart = has.apart };
+        schema = record { more = more; is = step.0; apart = has.apart };
         rowids = rowids_in t (placed row was) (tables_of old.now.trees) (tables_of new.now.trees) all
             (rowids_placed row was keyed fresh (plan.rowids t)) plan.rowids;
       };
@@ -316,14 +288,14 @@ deleted t values old new count plan free h =
     let step = deletes (plan_and more) (place t) (name t) (tree t) (columns t) (key t) (primary t) (uniques t) (orders
     t) (checks t)
     (references t) (found more t) old new q values
-    (λ rows next a writes. settles more (recursion_from_All IsAside more.tables has.aside) t values old.now.trees next rows (plan.rowids t) free (seen rows a) writes)
+    (λ rows next a writes. settles more (recursion_from_All (IsApart plan_schema.tables) more.tables has.apart) t values old.now.trees next rows (plan.rowids t) free (seen rows a) writes)
     (statement_of (delete_sql t) (understood (plan_and more) (delete_sql t))) count has.is w in
     let here : new.now.trees (tree t) ≡ left
     = step.1.2.rows ∙ left_after (matches t values) was step.1.0 (plan.rowids t) (seen step.1.0 step.1.1) in
     let all = same_tables more t left old.now.trees new.now.trees step.1.2.tables here in
     record {
       plan = record {
-        schema = record { more = more; is = step.0; aside = has.aside; apart = has.apart };
+        schema = record { more = more; is = step.0; apart = has.apart };
         rowids = rowids_in t left (tables_of old.now.trees) (tables_of new.now.trees) all
             (rowids_filter (λ r. not (matches t values r)) was (plan.rowids t)) plan.rowids;
       };
@@ -366,22 +338,6 @@ next_is Deletion = refl
 next_is Dependency = refl
 next_is Job = refl
 
-uncounted : (t : Table) → lacks_sequence (created (before t) (table_at 0 t)) ≡ false
-uncounted Meta = refl
-uncounted CalendarEntry = refl
-uncounted Period = refl
-uncounted Application = refl
-uncounted RunCycle = refl
-uncounted Offset = refl
-uncounted Predecessor = refl
-uncounted LinkInForce = refl
-uncounted LongTerm = refl
-uncounted Current = refl
-uncounted History = refl
-uncounted Deletion = refl
-uncounted Dependency = refl
-uncounted Job = refl
-
 pub makes : (t : Table) (old new : State) (count : ℕ) → IsMade old (before t)
     → ExecutesInside 0 (create_sql t) [] old new (Ok count) → IsMade new (after t)
 makes t old new count has h =
@@ -399,16 +355,12 @@ makes t old new count has h =
       mode = h.1.mode;
     }
 
--- no table stands after those of the plan
-abbrev nothing : Further
-nothing = record { tables = []; indexes = [] }
-
 -- all tables are made
 pub all_made : (s : State) → IsMade s plan_schema → IsMadeWhole s
 all_made s is = record {
   alone = is.schema;
   plan = record {
-    schema = record { more = nothing; is = is.schema; aside = All-nil IsAside; apart = All-nil (IsApart plan_schema.tables) };
+    schema = record { more = nothing; is = is.schema; apart = All-nil (IsApart plan_schema.tables) };
     rowids = λ t. subst HaveRowids (sym (each nothing (λ d. s.now.trees d.tree ≡ [])
         is.empty t)) tt;
   };
@@ -432,14 +384,8 @@ reads t old new rows has h =
     (plain_rows (tree t) [] (select_terms t) old.now.trees [] rows (own t old.now.trees) (answers.answer Null))
 
 -- it fails for memory, the disk, a connection that was shut, or a limit on steps
-is_refused : (c : Compiled) (size : ℕ) (A B C : Type 0) → (c.tail ≡ size) × (c.names ≡ []) → c.formats ≡ []
-    → ((¬ (size ≤ c.tail)) × A) ⊎ (((0 ≢ length c.names) × B) ⊎ ((c.formats ≢ []) × C)) → ⊥
-is_refused c size A B C whole bare (inl h) = h.0 (let same = whole.0 in omega arith)
-is_refused c size A B C whole bare (inr (inl h)) = h.0 (sym (ap length whole.1))
-is_refused c size A B C whole bare (inr (inr h)) = h.0 bare
-
 module _ (more : Further) (sql : List ℕ) (number : ℕ) (terms : List Term) (names : List (List ℕ))
-    (whole : IsWhole (understood (plan_and more) sql) (length sql)) (plain : IsPlain (understood (plan_and more) sql))
+    (whole : IsWhole (understood (plan_and more) sql) (length sql) 0) (plain : IsPlain (understood (plan_and more) sql))
     (is : command_of (understood (plan_and more) sql) ≡ Select (record {
       lets = [];
       body = plain_query number [] terms;
@@ -457,13 +403,13 @@ module _ (more : Further) (sql : List ℕ) (number : ℕ) (terms : List Term) (n
   stops limit db e has (inr (inr h)) = h
 
   pub fails_by : (old new : State) (e : Error) → old.now.schema ≡ (plan_and more) → FailsToQuery sql [] old new e
-      → LooksInVain old new e
+      → MayFail old new e
   unfolding FailsToQuery IsNotRun
   fails_by old new e has (inl (inl (inl h, same))) =
-      absurd (subst (λ r. IsWhole r (length sql)) (ap (λ s. understood s sql) (sym has) ∙ h.1) whole)
+      absurd (subst (λ r. IsWhole r (length sql) 0) (ap (λ s. understood s sql) (sym has) ∙ h.1) whole)
   fails_by old new e has (inl (inl (inr h, same))) =
       let known = ap (λ s. understood s sql) (sym has) ∙ h.1 in
-      absurd (is_refused h.0 (length sql) _ _ _ (subst (λ r. IsWhole r (length sql)) known whole) (subst IsPlain known
+      absurd (is_refused h.0 (length sql) 0 _ _ _ (subst (λ r. IsWhole r (length sql) 0) known whole) (subst IsPlain known
       plain).1 h.2)
   fails_by old new e has (inl (inr h)) = inl (h.0, h.1, h.2)
   fails_by old new e has (inr h) =
@@ -476,7 +422,7 @@ module _ (more : Further) (sql : List ℕ) (number : ℕ) (terms : List Term) (n
       (subst (λ k. RefusesToRead old.step_limit k it.0 [] e) (ap command_of known ∙ is) it.2))
 
 pub fails_as : (t : Table) (old new : State) (e : Error) → HasTables old.now.schema
-    → FailsToQuery (select_sql t) [] old new e → LooksInVain old new e
+    → FailsToQuery (select_sql t) [] old new e → MayFail old new e
 fails_as t old new e has =
     let more = has.more in
     fails_by more (select_sql t) (tree t) (select_terms t) (column_names t) (select_fits more t).0 (select_plain more

@@ -87,10 +87,10 @@ pub record Stands (old new : State) (rows : Tables) : Type 0 where
   pub committed : new.committed ≡ old.committed
   pub mode : IsTrue new.in_transaction
 
--- what a look at a plan may fail for: memory is short, the device fails meanwhile, the connection was shut before, or
--- the limit on steps is met, where one is set
-abbrev pub LooksInVain : State → State → Error → Type 0
-LooksInVain old new e = ((cause : StoreError) × (e ≡ store_error cause) × HasCause old new ⊥ cause)
+-- why a statement may fail that nothing in the tables stands against: memory is short, the device fails meanwhile, the
+-- connection was shut before, or the limit on steps is met, where one is set
+abbrev pub MayFail : State → State → Error → Type 0
+MayFail old new e = ((cause : StoreError) × (e ≡ store_error cause) × HasCause old new ⊥ cause)
     ⊎ ((e ≡ SqliteFailure OperationInterrupted) × IsSome old.step_limit)
 
 -- no table has a row

@@ -13,6 +13,8 @@ use Rattle.sqlite_schema.specs.declared.schema.Action.TheVariants.{NoAction, Cas
 use Rattle.sqlite_schema.specs.declared.schema.Column.{Column}
 use Rattle.sqlite_schema.specs.declared.schema.Index.{Index}
 use Rattle.sqlite_schema.specs.declared.schema.Reference.{Reference}
+use Rattle.sqlite_schema.specs.declared.schema.View.{View}
+use Rattle.sqlite_schema.specs.Names.{same_name}
 use Rattle.sqlite_sql.specs.declared.ops.BinaryOp.TheVariants.{Compare}
 use Rattle.sqlite_sql.specs.declared.ops.CompareOp.TheVariants.{Eq}
 use Rattle.sqlite_value.specs.Keys.{plain}
@@ -319,32 +321,32 @@ before t = first_tables (place t) (indexes_before t)
 abbrev pub plan_schema : Schema
 plan_schema = record { tables = map table all_tables; indexes = indexes; views = [] }
 
--- what stands after the tables of the plan and their indexes
+-- what stands after the tables of the plan and their indexes, and the views
 pub record Further : Type 0 where
   pub tables : List Described
   pub indexes : List Index
+  pub views : List View
 
 abbrev pub plan_and : Further → Schema
 plan_and more = record {
   tables = map table all_tables ++ more.tables;
   indexes = indexes ++ more.indexes;
-  views = [];
+  views = more.views;
 }
 
--- the table refers to no other
-abbrev pub IsAside : Described → Type 0
-IsAside t = t.references ≡ []
+-- the reference is to none of the tables
+abbrev pub IsAside : List Described → Reference → Type 0
+IsAside tables ref = All (λ t. same_name t.name ref.parent ≡ false) tables
 
--- the index is of none of the tables
-abbrev pub IsApart : List Described → Index → Type 0
-IsApart tables i = All (λ t. t.tree ≢ i.table) tables
+-- the table is in the tree of none of the tables, and refers to none
+abbrev pub IsApart : List Described → Described → Type 0
+IsApart tables other = All (λ t. t.tree ≢ other.tree) tables × All (IsAside tables) other.references
 
--- the tables of the plan, and after them perhaps others, which refer to none, with indexes of their own
+-- the tables of the plan with their indexes, and after them perhaps others, which refer to none of the plan; and views
 pub record HasTables (schema : Schema) : Type 0 where
   pub more : Further
   pub is : schema ≡ plan_and more
-  pub aside : All IsAside more.tables
-  pub apart : All (IsApart plan_schema.tables) more.indexes
+  pub apart : All (IsApart plan_schema.tables) more.tables
 
 abbrev pub no_schema : Schema
 no_schema = record { tables = []; indexes = []; views = [] }

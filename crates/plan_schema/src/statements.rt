@@ -1,13 +1,14 @@
 // Rows of values in the tables.
 
-ghost use Rattle.std.specs.Prelude.{◌≡◌, map, false, IfErr, IfOk, OnOk, IsTrue};
+ghost use Rattle.std.specs.Prelude.{◌≡◌, map, false, Err, IfErr, IfOk, OnOk, IsTrue};
 ghost use Rattle.std.specs.List.Sorted.{IsPermutation};
-ghost use Rattle.sqlite.specs.State.{HasCleanDisk, IsUnchanged, KeepsCommit, Survives};
+ghost use Rattle.sqlite.specs.State.{ExecutesInside, HasCleanDisk, IsUnchanged, KeepsCommit, Survives};
 ghost use Rattle.sqlite.specs.Held.{state};
 ghost use Rattle.sqlite.specs.Values.{bound};
-ghost use Rattle.plan_schema.specs.Rows.{AreOfKinds, IsPlan, IsAlone, LooksInVain, Stands, shown, tables_of};
+ghost use Rattle.plan_schema.specs.Rows.{AreOfKinds, IsPlan, IsAlone, MayFail, Stands, shown, tables_of};
 ghost use Rattle.plan_schema.specs.Rows.{with_cells, without_key};
 ghost use Rattle.plan_schema.specs.Schema.{HasTables};
+ghost use Rattle.plan_schema.specs.Texts.{insert_sql};
 
 use crate::tables::Table;
 use crate::texts::{delete_text, insert_text, select_text};
@@ -25,6 +26,13 @@ pub fn insert<S: Alter>(
         → IsTrue (state S.Store tx.old.conn.now).in_transaction → AreOfKinds table (bound values.now)
         → OnOk result (Stands (state S.Store tx.old.conn.now) (state S.Store tx.new.conn.now)
         (with_cells table (bound values.now) (tables_of (state S.Store tx.old.conn.now).now.trees))) }
+    ensures fails { HasCleanDisk (state S.Store tx.new.conn.now)
+        → IsTrue (state S.Store tx.old.conn.now).in_transaction
+        → IfErr result (λ e. ExecutesInside 0 (insert_sql table) (bound values.now)
+        (state S.Store tx.old.conn.now) (state S.Store tx.new.conn.now) (Err e)) }
+    ensures stays_open { HasCleanDisk (state S.Store tx.new.conn.now)
+        → IsTrue (state S.Store tx.old.conn.now).in_transaction
+        → OnOk result (IsTrue (state S.Store tx.new.conn.now).is_open) }
     ensures kept { HasCleanDisk (state S.Store tx.new.conn.now)
         → KeepsCommit (state S.Store tx.old.conn.now) (state S.Store tx.new.conn.now) }
     ensures survives { Survives (state S.Store tx.old.conn.now) (state S.Store tx.new.conn.now) (λ _. ⊥) }
@@ -63,7 +71,7 @@ pub fn select<S: Alter>(conn: &mut Connection<S>, table: Table) -> Result<Vec<Ro
     ensures same { HasCleanDisk (state S.Store conn.new) → HasTables (state S.Store conn.old).now.schema
         → OnOk result (IsUnchanged (state S.Store conn.old) (state S.Store conn.new)) }
     ensures fails { HasCleanDisk (state S.Store conn.new) → HasTables (state S.Store conn.old).now.schema
-        → IfErr result (LooksInVain (state S.Store conn.old) (state S.Store conn.new)) }
+        → IfErr result (MayFail (state S.Store conn.old) (state S.Store conn.new)) }
     ensures mode { conn.old.in_transaction ≡ false → conn.new.in_transaction ≡ false }
     ensures survives { Survives (state S.Store conn.old) (state S.Store conn.new)
         (λ _. HasTables (state S.Store conn.old).now.schema → ⊥) }

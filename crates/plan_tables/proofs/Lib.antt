@@ -12,3 +12,4 @@ pub mod NameTables
 pub mod NamedRows
 pub mod DefinitionFacts
 pub mod StorableMoves
+pub mod UnopenedLemmas

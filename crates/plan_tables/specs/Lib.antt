@@ -1,3 +1,4 @@
 pub mod Writing
 pub mod Stored
 pub mod Redefining
+pub mod Unopened

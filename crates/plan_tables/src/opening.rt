@@ -9,9 +9,10 @@ ghost use Rattle.planner_machine.specs.Sound.{IsSound};
 ghost use Rattle.plan_schema.specs.Schema.{no_schema};
 ghost use Rattle.plan_store.specs.Contents.{content_of};
 ghost use Rattle.plan_reading.specs.Reading.{HasPlan};
-ghost use Rattle.plan_opening.specs.Held.{HoldsPlan};
-ghost use Rattle.plan_opening.specs.Opened.{IsCaused, IsStored, MakesFirst};
-ghost use Rattle.plan_opening.specs.declared.faults.OpenFault.TheVariants.{Rows, Unopened};
+ghost use Rattle.plan_opening.specs.Held.{HasVersion, HoldsPlan};
+ghost use Rattle.plan_opening.specs.Opened.{IsCaused, IsStored, IsUnmade, MakesFirst};
+ghost use Rattle.plan_tables.specs.Unopened.{IsUnmadeBy};
+ghost use Rattle.plan_opening.specs.declared.faults.OpenFault.TheVariants.{Memory, Rows, Unopened};
 
 use crate::table_store::TableStore;
 use plan_opening::{OpenFault, open_connection, open_content};
@@ -39,12 +40,15 @@ impl<S: Alter + Drop> TableStore<S> {
         ensures unopened { IfErr result (λ left. Survives (state S.Store conn) (state S.Store left.1)
             (MakesFirst (state S.Store conn))) }
         ensures mode { IfErr result (λ left. left.1.in_transaction ≡ false) }
-        ensures rows { IfErr result (λ left. HasCleanDisk (state S.Store left.1) → HoldsPlan (state S.Store conn)
-            → left.0 ≡ Rows → ⊥) }
-        ensures version { IfErr result (λ left. HasCleanDisk (state S.Store left.1) → HoldsPlan (state S.Store conn)
+        ensures rows { IfErr result (λ left. HasCleanDisk (state S.Store left.1) → left.0 ≡ Rows
+            → HasVersion (state S.Store conn) × (HoldsPlan (state S.Store conn) → ⊥)) }
+        ensures version { IfErr result (λ left. HasCleanDisk (state S.Store left.1) → HasVersion (state S.Store conn)
             → left.0 ≡ Unopened → ⊥) }
         ensures caused { IfErr result (λ left. HasCleanDisk (state S.Store left.1) → HasPlan (state S.Store conn)
             → IsCaused (state S.Store conn) (state S.Store left.1) left.0) }
+        ensures unmade { IfErr result (λ left. HasCleanDisk (state S.Store left.1)
+            → (state S.Store conn).now.schema ≡ no_schema
+            → IsUnmade (state S.Store conn) (state S.Store left.1) left.0) }
     {
         let mut conn = conn;
         match open_content(alloc, &mut conn) {
@@ -62,6 +66,7 @@ impl<S: Alter + Drop> TableStore<S> {
             → IsStored (state S.Store store.conn) (content_of store.lists)) }
         ensures empty { (state S.Store conn).now.schema ≡ no_schema
             → IfOk result (λ store. content_of store.lists ≡ nothing_known) }
+        ensures unmade { IfErr result (IsUnmadeBy S.Store conn) }
     {
         match TableStore::adopt(alloc, conn) {
             Ok(store) => Ok(store),
@@ -71,11 +76,12 @@ impl<S: Alter + Drop> TableStore<S> {
 }
 
 impl TableStore<MemStore> {
-    /// A store in memory of what a planner knows that was told nothing.
+    /// A store in memory of what a planner knows that was told nothing. Only memory can be short for it.
     pub fn open_memory(alloc: Global) -> Result<TableStore<MemStore>, OpenFault>
         ensures empty { IfOk result (λ store. content_of store.lists ≡ nothing_known) }
         ensures sound { IfOk result (λ store. IsSound (content_of store.lists)) }
         ensures whole { IfOk result (λ store. store.failures ≡ 0) }
+        ensures refused { IfErr result (λ fault. fault ≡ Memory) }
     {
         match Connection::open_in_memory(alloc) {
             Ok(conn) => TableStore::over_connection(alloc, conn),

@@ -1,12 +1,13 @@
 // Tables, indexes and schemas.
 
-ghost use Rattle.std.specs.Prelude.{◌≡◌, ◌↔◌, drop, length, IsTrue};
+ghost use Rattle.std.specs.Prelude.{◌≡◌, ◌≢◌, ◌↔◌, drop, length, IsTrue};
 ghost use Rattle.std.specs.List.{All};
 ghost use Rattle.same_schema.specs.Alike.{HaveSameChecks, HaveSameColumns, HaveSameKeys};
 ghost use Rattle.same_schema.specs.Extended.{BeginsWith, Extends, IsApart, IsAside};
 
 use crate::values::{Same, are_same, begins_with};
-use sqlite_schema::schema::{Column, Index, Reference, Schema, Stamps, Table, View};
+use sqlite_schema::names::same_name;
+use sqlite_schema::schema::{Column, Index, Reference, Schema, Stamps, Table};
 
 impl Same for Column {
     fn is_same(&self, other: &Column) -> bool {
@@ -88,79 +89,75 @@ impl Same for Index {
     }
 }
 
-impl Same for View {
-    fn is_same(&self, other: &View) -> bool {
-        self.name.is_same(&other.name)
-            && self.tree == other.tree
-            && self.sql.is_same(&other.sql)
-            && self.foreign.is_same(&other.foreign)
-            && self.binds == other.binds
-            && self.is_bound == other.is_bound
-    }
-}
-
-// Whether none of the tables refers to another.
-fn are_aside(tables: &[Table]) -> bool
-    ensures { IsTrue result ↔ All IsAside tables.now }
+// Whether the reference is to none of the tables.
+fn is_aside(reference: &Reference, tables: &[Table]) -> bool
+    ensures { IsTrue result ↔ IsAside tables.now reference.now }
 {
     for table in tables {
-        if !table.references.is_empty() {
+        if same_name(table.name.as_slice(), reference.parent.as_slice()) {
             return false;
         }
     }
     true
 }
 
-// Whether the tables have the others as their first part, and those after them refer to none.
+// Whether each of the references is to none of the tables.
+fn are_aside(references: &[Reference], tables: &[Table]) -> bool
+    ensures { IsTrue result ↔ All (IsAside tables.now) references.now }
+{
+    for reference in references {
+        if !is_aside(reference, tables) {
+            return false;
+        }
+    }
+    true
+}
+
+// Whether the tree is that of none of the tables.
+fn is_other_tree(tree: u32, tables: &[Table]) -> bool
+    ensures { IsTrue result ↔ All (λ t. t.tree ≢ tree) tables.now }
+{
+    for table in tables {
+        if table.tree == tree {
+            return false;
+        }
+    }
+    true
+}
+
+// Whether the table is apart from the first ones.
+#[tactic(auto, unfolding(crate::specs::Extended::IsApart))]
+fn is_apart(table: &Table, first: &[Table]) -> bool
+    ensures { IsTrue result ↔ IsApart first.now table.now }
+{
+    is_other_tree(table.tree, first) && are_aside(table.references.as_slice(), first)
+}
+
+// Whether each of the tables is apart from the first ones.
+fn are_apart(tables: &[Table], first: &[Table]) -> bool
+    ensures { IsTrue result ↔ All (IsApart first.now) tables.now }
+{
+    for table in tables {
+        if !is_apart(table, first) {
+            return false;
+        }
+    }
+    true
+}
+
+// Whether the tables have the others as their first part, and those after them are apart from these.
 fn extend_tables(tables: &[Table], others: &[Table]) -> bool
     ensures { IsTrue result ↔ (BeginsWith tables.now others.now
-        × All IsAside (drop (length others.now) tables.now)) }
+        × All (IsApart others.now) (drop (length others.now) tables.now)) }
 {
-    begins_with(tables, others) && are_aside(&tables[others.len()..])
+    begins_with(tables, others) && are_apart(&tables[others.len()..], others)
 }
 
-// Whether the index is of none of the tables.
-fn is_apart(index: &Index, tables: &[Table]) -> bool
-    ensures { IsTrue result ↔ IsApart tables.now index.now }
-{
-    for table in tables {
-        if table.tree == index.table {
-            return false;
-        }
-    }
-    true
-}
-
-// Whether each of the indexes is of none of the tables.
-fn are_apart(indexes: &[Index], tables: &[Table]) -> bool
-    ensures { IsTrue result ↔ All (IsApart tables.now) indexes.now }
-{
-    for index in indexes {
-        if !is_apart(index, tables) {
-            return false;
-        }
-    }
-    true
-}
-
-// Whether the indexes have the others as their first part, and those after them are of none of the tables.
-fn extend_indexes(indexes: &[Index], others: &[Index], tables: &[Table]) -> bool
-    ensures { IsTrue result ↔ (BeginsWith indexes.now others.now
-        × All (IsApart tables.now) (drop (length others.now) indexes.now)) }
-{
-    begins_with(indexes, others) && are_apart(&indexes[others.len()..], tables)
-}
-
-/// Whether the schema has the tables and indexes of the other as its first part, and the same views; further tables
-/// refer to none, and further indexes are of these.
+/// Whether the schema has the tables and indexes of the other as its first part, and its further tables are in other
+/// trees and refer to none of these. Further indexes and views may be there.
 pub fn extends_schema(a: &Schema, b: &Schema) -> bool
     ensures { IsTrue result ↔ Extends a.now b.now }
 {
     extend_tables(a.tables.as_slice(), b.tables.as_slice())
-        && extend_indexes(
-            a.indexes.as_slice(),
-            b.indexes.as_slice(),
-            b.tables.as_slice(),
-        )
-        && are_same(a.views.as_slice(), b.views.as_slice())
+        && begins_with(a.indexes.as_slice(), b.indexes.as_slice())
 }

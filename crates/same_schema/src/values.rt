@@ -49,16 +49,6 @@ impl Same for Bytes {
     }
 }
 
-impl Same for Option<Bytes> {
-    fn is_same(&self, other: &Option<Bytes>) -> bool {
-        match (self, other) {
-            (None, None) => true,
-            (Some(a), Some(b)) => a.is_same(b),
-            _ => false,
-        }
-    }
-}
-
 impl Same for Items<usize> {
     fn is_same(&self, other: &Items<usize>) -> bool {
         self.as_slice() == other.as_slice()

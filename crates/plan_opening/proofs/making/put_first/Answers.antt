@@ -5,6 +5,8 @@ use Rattle.app_definitions.specs.Options.{default_options}
 use Rattle.plan_schema.specs.Rows.{Stands, Tables, with_cells}
 use Rattle.plan_schema.specs.declared.tables.Table.TheVariants.{Meta}
 use Rattle.plan_facts.specs.Content.{meta_values}
+use Rattle.plan_schema.proofs.BlankLemmas.{first_row_fails}
+use Rattle.plan_schema.proofs.ResultLemmas.{if_err}
 use Rattle.plan_opening.proofs.FirstRows.{first_kinds}
 use Rattle.plan_opening.proofs.making.put_first.Goals as goal
 
@@ -14,3 +16,8 @@ returns-clause-ok g c clean plan empty mode =
     let new = state g.S.Store c.insert.new.tx.conn.now in
     subst (λ (all : Tables). OnOk c.insert.result (Stands old new (with_cells Meta (meta_values None 0 default_options)
     all))) empty (c.insert.ensures.ok clean plan mode first_kinds)
+
+pub returns-clause-fails : goal.returns-clause-fails
+returns-clause-fails g c clean has none mode =
+    if_err c.insert.result _ _ (λ e h. first_row_fails (state g.S.Store c.args.tx.now.conn.now) (state g.S.Store
+    c.insert.new.tx.conn.now) e has none h) (c.insert.ensures.fails clean mode)

@@ -50,3 +50,8 @@ returns-in-Ok-true-clause-survives g c =
     survives_then a b d _ _ (λ _. ⊥) (λ _ _ none. none c.requires.plan) (λ clean _ none. none (plan_still a b
     (look.same (omega (arith, c.read_whole.ensures.survives.clean, clean)) c.requires.plan refl) c.requires.plan))
     look.survives c.read_whole.ensures.survives
+
+pub returns-in-Ok-true-clause-known : goal.returns-in-Ok-true-clause-known
+returns-in-Ok-true-clause-known g c clean is =
+    (c.in-Ok-true.ensures.told (omega (arith, c.read_whole.ensures.survives.clean, clean)) c.requires.plan).0
+    c.in-Ok-true.field-0-test
