@@ -5,3 +5,4 @@ pub mod FirstRows
 pub mod StoredLemmas
 pub mod OpenedLemmas
 pub mod ReadableLemmas
+pub mod ForeignLemmas

@@ -5,3 +5,4 @@ pub mod Stored
 pub mod Faults
 pub mod Opened
 pub mod Held
+pub mod Foreign

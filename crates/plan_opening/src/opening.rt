@@ -13,6 +13,7 @@ ghost use Rattle.plan_facts.specs.Content.{IsContentOf};
 ghost use Rattle.plan_reading.specs.Reading.{HasPlan, Looks};
 ghost use Rattle.plan_reading.specs.Tables.{TellPlans};
 ghost use Rattle.plan_opening.specs.declared.faults.OpenFault.TheVariants.{Memory, Rows, Unopened};
+ghost use Rattle.plan_opening.specs.Foreign.{IsForeign};
 ghost use Rattle.plan_opening.specs.Held.{AreKnown, HasVersion, HoldSound, HoldsPlan};
 ghost use Rattle.plan_opening.specs.Opened.{IsCaused, IsStored, IsUnmade, MakesFirst};
 ghost use Rattle.plan_opening.specs.Stored.{TellStored};
@@ -164,14 +165,13 @@ fn open_blank<S: Alter>(alloc: Global, conn: &mut Connection<S>) -> Result<Conte
 // Why a database of other tables is not opened: where the version can be read and is known, for its tables.
 fn foreign_fault<S: Alter>(conn: &mut Connection<S>) -> OpenFault
     requires { conn.old.in_transaction ≡ false }
+    ensures told { HasCleanDisk (state S.Store conn.new)
+        → IsForeign (state S.Store conn.old) (state S.Store conn.new) result }
     ensures rows { result ≡ Rows → ⊥ }
     ensures mode { conn.new.in_transaction ≡ false }
     ensures survives { Survives (state S.Store conn.old) (state S.Store conn.new) (λ _. ⊥) }
 {
-    let mut tx = conn.transaction();
-    let found = tx.query_all("SELECT id, version FROM plan_meta", &[]);
-    tx.rollback();
-    match found {
+    match conn.query_all("SELECT id, version FROM plan_meta", &[]) {
         Ok(rows) => if is_known(&rows) {
             OpenFault::Tables
         } else {
@@ -198,6 +198,9 @@ pub fn open_content<S: Alter>(alloc: Global, conn: &mut Connection<S>) -> Result
         → IfErr result (IsCaused (state S.Store conn.old) (state S.Store conn.new)) }
     ensures unmade { HasCleanDisk (state S.Store conn.new) → (state S.Store conn.old).now.schema ≡ no_schema
         → IfErr result (IsUnmade (state S.Store conn.old) (state S.Store conn.new)) }
+    ensures foreign { HasCleanDisk (state S.Store conn.new) → (HasPlan (state S.Store conn.old) → ⊥)
+        → ((state S.Store conn.old).now.schema ≡ no_schema → ⊥)
+        → IfErr result (IsForeign (state S.Store conn.old) (state S.Store conn.new)) }
     ensures mode { conn.new.in_transaction ≡ false }
     ensures crash { Survives (state S.Store conn.old) (state S.Store conn.new) (MakesFirst (state S.Store conn.old)) }
 {

@@ -9,6 +9,7 @@ ghost use Rattle.planner_machine.specs.Sound.{IsSound};
 ghost use Rattle.plan_schema.specs.Schema.{no_schema};
 ghost use Rattle.plan_store.specs.Contents.{content_of};
 ghost use Rattle.plan_reading.specs.Reading.{HasPlan};
+ghost use Rattle.plan_opening.specs.Foreign.{IsForeign};
 ghost use Rattle.plan_opening.specs.Held.{HasVersion, HoldsPlan};
 ghost use Rattle.plan_opening.specs.Opened.{IsCaused, IsStored, IsUnmade, MakesFirst};
 ghost use Rattle.plan_tables.specs.Unopened.{IsUnmadeBy};
@@ -49,6 +50,9 @@ impl<S: Alter + Drop> TableStore<S> {
         ensures unmade { IfErr result (λ left. HasCleanDisk (state S.Store left.1)
             → (state S.Store conn).now.schema ≡ no_schema
             → IsUnmade (state S.Store conn) (state S.Store left.1) left.0) }
+        ensures foreign { IfErr result (λ left. HasCleanDisk (state S.Store left.1)
+            → (HasPlan (state S.Store conn) → ⊥) → ((state S.Store conn).now.schema ≡ no_schema → ⊥)
+            → IsForeign (state S.Store conn) (state S.Store left.1) left.0) }
     {
         let mut conn = conn;
         match open_content(alloc, &mut conn) {

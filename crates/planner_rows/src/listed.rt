@@ -9,6 +9,15 @@ pub enum Ends {
     Both,
 }
 
+/// The stores that a stream is tried over.
+#[derive(Clone, Copy, Debug, PartialEq, Eq)]
+pub enum Stores {
+    /// Lists alone.
+    Lists,
+    /// Lists, and tables in memory.
+    Both,
+}
+
 /// A line of the list.
 #[derive(Clone, Copy, Debug)]
 pub struct Listed<'a> {
@@ -18,6 +27,8 @@ pub struct Listed<'a> {
     pub status: u8,
     /// The line ends that it is tried with.
     pub ends: Ends,
+    /// The stores that it is tried over.
+    pub stores: Stores,
 }
 
 /// Whether a line of the list is blank or a remark, which begins with `#`.
@@ -27,7 +38,8 @@ pub fn is_remark(line: &str) -> bool {
 }
 
 impl<'a> Listed<'a> {
-    /// Reads `NAME STATUS own` or `NAME STATUS both`; `None` where the line is neither.
+    /// Reads `NAME STATUS own` or `NAME STATUS both`, with `lists` behind it where the stream is tried over lists alone;
+    /// `None` where the line is neither.
     pub fn from_line(line: &'a str) -> Option<Listed<'a>> {
         let mut words = line.split_whitespace();
         let name = words.next()?;
@@ -37,9 +49,19 @@ impl<'a> Listed<'a> {
             "both" => Ends::Both,
             _ => return None,
         };
+        let stores = match words.next() {
+            None => Stores::Both,
+            Some("lists") => Stores::Lists,
+            Some(_) => return None,
+        };
         match words.next() {
             Some(_) => None,
-            None => Some(Listed { name, status, ends }),
+            None => Some(Listed {
+                name,
+                status,
+                ends,
+                stores,
+            }),
         }
     }
 }

@@ -1,10 +1,13 @@
-//! Tries worked job streams: each is run over memory, and all that it prints, and the exit status,
-//! is compared with what its files say. A line tells of each whether it holds.
+//! Tries worked job streams: each is run over lists in memory, and over tables in memory which are let go and taken up
+//! again in its midst. All that it prints, and the exit status, is compared with what its files say, and what
+//! the tables hold at its end with the lists. A line tells of each stream whether it holds.
 #![tactic(auto)]
 
 mod differences;
+mod items;
 mod listed;
 mod pieces;
+mod tables;
 mod trials;
 
 use listed::Listed;
@@ -50,7 +53,7 @@ fn try_one<R: AllocGlobal + Files + Print>(rt: &R, stream: &Listed<'_>) -> io::R
         replies: &replies,
         status: stream.status,
     };
-    match try_stream(alloc, &text, stream.ends, &expected)? {
+    match try_stream(alloc, &text, stream, &expected)? {
         None => {
             println!(rt; "{name} holds")?;
             Ok(true)

@@ -1,7 +1,8 @@
 //! One stream, run in each way that it is tried in.
 use crate::differences::first_difference;
-use crate::listed::Ends;
+use crate::listed::{Ends, Listed, Stores};
 use crate::pieces::Pieces;
+use crate::tables::run_over_tables;
 use planner_cli::{exit_status, run_lists};
 use std::alloc::{AllocError, Global};
 use std::io;
@@ -24,6 +25,16 @@ pub struct Answered {
     pub status: u8,
 }
 
+impl Answered {
+    /// Nothing printed.
+    fn none(alloc: Global) -> Answered {
+        Answered {
+            replies: Vec::new(alloc),
+            status: 0,
+        }
+    }
+}
+
 /// A run that went wrong.
 #[derive(Debug, Drop)]
 pub struct Wrong {
@@ -33,6 +44,8 @@ pub struct Wrong {
     pub pieces: &'static str,
     /// What came of it.
     pub answered: Answered,
+    /// What the store has otherwise than it should, if that is known.
+    pub unlike: Option<&'static str>,
 }
 
 /// Runs a stream over a store of its own, at most so many bytes a call.
@@ -67,27 +80,53 @@ fn try_text(
 ) -> Option<Wrong> {
     for (most, pieces) in [(usize::MAX, "whole"), (1, "byte by byte")] {
         let answered = run_stream(alloc, text, most);
-        if answered.status != expected.status || answered.replies.as_slice() != expected.replies {
+        if !is_expected(&answered, expected) {
             return Some(Wrong {
                 ends,
                 pieces,
                 answered,
+                unlike: None,
             });
         }
     }
     None
 }
 
+/// Whether the stream printed what it should, and ended with the right status.
+fn is_expected(answered: &Answered, expected: &Expected<'_>) -> bool {
+    answered.status == expected.status && answered.replies.as_slice() == expected.replies
+}
+
+/// Runs the text over tables, and answers the run if it goes wrong.
+fn try_tables(alloc: Global, text: &[u8], expected: &Expected<'_>) -> Option<Wrong> {
+    let (answered, unlike) = match run_over_tables(alloc, text) {
+        Ok(run) => (run.answered, run.unlike),
+        Err(_) => (Answered::none(alloc), Some("opening")),
+    };
+    if is_expected(&answered, expected) && unlike.is_none() {
+        return None;
+    }
+    Some(Wrong {
+        ends: "as it stands",
+        pieces: "over tables in memory",
+        answered,
+        unlike,
+    })
+}
+
 /// Runs a stream in each way, and answers the first run that goes wrong, if one does.
 pub fn try_stream(
     alloc: Global,
     text: &[u8],
-    ends: Ends,
+    stream: &Listed<'_>,
     expected: &Expected<'_>,
 ) -> Result<Option<Wrong>, AllocError> {
-    let own = try_text(alloc, text, "as it stands", expected);
-    if own.is_some() || ends == Ends::Own {
-        return Ok(own);
+    let mut wrong = try_text(alloc, text, "as it stands", expected);
+    if wrong.is_none() && stream.stores == Stores::Both {
+        wrong = try_tables(alloc, text, expected);
+    }
+    if wrong.is_some() || stream.ends == Ends::Own {
+        return Ok(wrong);
     }
     let returned = with_returns(alloc, text)?;
     Ok(try_text(alloc, &returned, "with carriage returns", expected))
@@ -118,6 +157,9 @@ pub fn show_wrong<W: io::Write>(
             writer,
             "  it ended with status {ended}, and {wanted} is wanted"
         )?;
+    }
+    if let Some(part) = wrong.unlike {
+        writeln!(writer, "  its {part} is not as it should be")?;
     }
     if let Some(first) = first_difference(&wrong.answered.replies, expected.replies) {
         let line = first.line;

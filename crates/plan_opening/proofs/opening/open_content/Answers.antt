@@ -1,5 +1,4 @@
 use Rattle.sqlite.specs.Held.{state}
-use Rattle.plan_schema.specs.Rows.{tables_of}
 use Rattle.plan_opening.proofs.SchemaLemmas.{blank_has_none}
 use Rattle.plan_opening.proofs.opening.open_content.Goals as goal
 

@@ -1,7 +1,5 @@
 use Rattle.std.proofs.Common.{sym, subst, ◌∙◌}
 use Rattle.sqlite.proofs.Callers.{memory_is_clean}
-use Rattle.sqlite.specs.Schema.{Schema}
-use Rattle.same_schema.specs.Extended.{Extends}
 use Rattle.plan_schema.specs.Schema.{HasTables}
 use Rattle.plan_reading.specs.Reading.{HasPlan}
 use Rattle.plan_opening.proofs.SchemaLemmas.{extends_iff}
