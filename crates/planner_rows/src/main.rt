@@ -1,6 +1,6 @@
 //! Tries worked job streams: each is run over lists in memory, and over tables in memory which are let go and taken up
-//! again in its midst. All that it prints, and the exit status, is compared with what its files say, and what
-//! the tables hold at its end with the lists. A line tells of each stream whether it holds.
+//! again in its midst. All that it prints, and the exit status, is compared with what its files say; the plans and jobs
+//! that the tables hold at its end are compared with those of the lists. A line tells of each stream whether it holds.
 #![tactic(auto)]
 
 mod differences;

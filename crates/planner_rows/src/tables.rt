@@ -30,7 +30,8 @@ fn are_same_jobs(kept: &Content, wanted: &Content) -> bool {
         })
 }
 
-/// The first part of the content that is otherwise than it should be. What definitions mean, statements tell.
+/// The first part of the content that is otherwise than it should be. Definitions are not compared: that they were kept
+/// is shown by what later statements are answered.
 fn unlike(kept: &Content, wanted: &Content) -> Option<&'static str> {
     let parts = [
         ("bounds", kept.bounds == wanted.bounds),
@@ -132,8 +133,8 @@ fn unlike_lists(
     }
 }
 
-/// Runs a stream over tables in memory, which are let go and taken up again in its midst and behind it, and holds what
-/// is in them then against the lists of a whole run.
+/// Runs a stream over tables in memory, which are let go and taken up again in its midst and behind it, and holds the
+/// plans and jobs in them then against the lists of a whole run.
 pub fn run_over_tables(alloc: Global, text: &[u8]) -> Result<Tabled, OpenFault> {
     let (first, second) = text.split_at(middle_of(text).min(text.len()));
     let mut replies = Vec::new(alloc);
