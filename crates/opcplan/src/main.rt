@@ -41,7 +41,11 @@ fn answer_over_file<R: BufRead, W: Write>(
 ) -> u8 {
     let alloc = rt.alloc();
     match TableStore::open_path(rt, alloc, path) {
-        Ok(mut store) => exit_status(&run(alloc, &mut store, reader, writer)),
+        Ok(mut store) => {
+            let status = exit_status(&run(alloc, &mut store, reader, writer));
+            drop(store.into_files());
+            status
+        }
         Err(fault) => tell(rt, open_fault_number(&fault)),
     }
 }

@@ -6,3 +6,4 @@ pub mod StoredLemmas
 pub mod OpenedLemmas
 pub mod ReadableLemmas
 pub mod ForeignLemmas
+pub mod FileLemmas

@@ -6,3 +6,4 @@ pub mod Faults
 pub mod Opened
 pub mod Held
 pub mod Foreign
+pub mod Files

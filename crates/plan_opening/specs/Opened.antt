@@ -1,11 +1,12 @@
 -- A database that keeps a content.
 use Rattle.std.specs.Prelude.{◌≡◌, ◌⊎◌, false, IsSome, IsTrue, ⊤}
+use Rattle.sqlite.specs.Effect.{Database}
 use Rattle.sqlite.specs.State.{State}
 use Rattle.sqlite.specs.Tree.{Trees}
 use Rattle.sqlite_disk.specs.Disk.{MoreFaults}
 use Rattle.planner_machine.specs.Content.{Content, nothing_known}
 use Rattle.plan_schema.specs.Rows.{IsPlan, tables_of}
-use Rattle.plan_schema.specs.Schema.{no_schema}
+use Rattle.plan_schema.specs.Schema.{HasTables, no_schema}
 use Rattle.plan_facts.specs.Content.{IsContentOf}
 use Rattle.plan_opening.specs.declared.faults.OpenFault.{OpenFault}
 use Rattle.plan_opening.specs.declared.faults.OpenFault.TheVariants.{Memory, Device, Unopened, Tables as OtherTables}
@@ -16,6 +17,10 @@ pub record IsStored (s : State) (c : Content) : Type 0 where
   pub plan : IsPlan s
   pub settled : s.now ≡ s.committed
   pub content : IsContentOf (tables_of s.now.trees) c
+
+-- the database has the tables of the plan, which tell the content; or it has no tables, and nothing is known
+abbrev pub IsToldBy : Database → Content → Type 0
+IsToldBy db c = (HasTables db.schema × IsContentOf (tables_of db.trees) c) ⊎ ((db.schema ≡ no_schema) × (c ≡ nothing_known))
 
 -- what opening may commit: the tables of a content of which nothing is known, where there were none
 abbrev pub MakesFirst : State → Trees → Type 0

@@ -1,20 +1,24 @@
 // Databases in files.
 
-ghost use Rattle.std.specs.Prelude.{◌≡◌, IfErr, IfOk, IsTrue};
-ghost use Rattle.sqlite.specs.Opening.{is_open_error};
-ghost use Rattle.sqlite.specs.declared.error.Error.{Error as ErrorValue};
+ghost use Rattle.std.specs.Prelude.{◌≡◌, ◌⊎◌, true, false, None, IfErr, IfOk, IfSome};
 ghost use Rattle.sqlite.specs.State.{HasCleanDisk};
 ghost use Rattle.sqlite.specs.Held.{IsNew};
-ghost use Rattle.sqlite.specs.Files.{file_state, IsOpened};
+ghost use Rattle.sqlite.specs.Files.{file_state, IsCleanLeft, IsOpened, LeavesFiles};
+ghost use Rattle.sqlite.specs.Start.{FindsIn};
+ghost use Rattle.sqlite_std_file.specs.File.{IsFresh};
+ghost use Rattle.sqlite_wal.specs.Files.{image_at};
 ghost use Rattle.plan_opening.specs.Faults.{unopened_for};
+ghost use Rattle.plan_opening.specs.Files.{IsRefused};
+ghost use Rattle.plan_opening.specs.declared.faults.OpenFault.TheVariants.{Memory, Device, Unopened};
 
 use crate::faults::OpenFault;
-use sqlite::{Connection, Error, ErrorCode, File, FileStore};
+use sqlite::{Connection, Error, ErrorCode, File, FileFrom, FileStore, Leftover, Start, Unknown};
 use std::rt::HostRuntime;
 
 // The fault of a file that was not opened.
 fn unopened_for(error: &Error) -> OpenFault
-    ensures { result ≡ unopened_for error.now }
+    ensures value { result ≡ unopened_for error.now }
+    ensures cases { (result ≡ Memory) ⊎ (result ≡ Device) ⊎ (result ≡ Unopened) }
 {
     match error {
         Error::SqliteFailure(ErrorCode::OutOfMemory) => OpenFault::Memory,
@@ -25,6 +29,28 @@ fn unopened_for(error: &Error) -> OpenFault
     }
 }
 
+/// The database in the files at the path, which are made where there are none; `start` stands for what they hold. Where
+/// it is not opened, the fault comes with what is left of the files, once they were opened. The path is taken as it is.
+pub fn open_connection_from<S: Start>(
+    rt: &HostRuntime,
+    path: &str,
+    start: S,
+) -> Result<Connection<FileStore<FileFrom<S>>>, (OpenFault, Option<Leftover<FileFrom<S>>>)>
+    ensures opened { IfOk result (λ conn. HasCleanDisk (file_state conn) → IsOpened conn) }
+    ensures found { IfOk result (λ conn. HasCleanDisk (file_state conn)
+        → FindsIn (image_at S.Start) (file_state conn)) }
+    ensures fresh { IfOk result IsNew }
+    ensures cases { IfErr result (λ left. (left.0 ≡ Memory) ⊎ (left.0 ≡ Device) ⊎ (left.0 ≡ Unopened)) }
+    ensures unopened { IfErr result (λ left. left.1 ≡ None → (left.0 ≡ Memory) ⊎ (left.0 ≡ Unopened)) }
+    ensures caused { IfErr result (λ left. IfSome left.1 (λ rest. (files : _) × IsFresh true files.log
+        × IsFresh false files.db × (IsCleanLeft rest → IsRefused files rest left.0 × LeavesFiles files rest))) }
+{
+    match Connection::open_from(rt, path, false, start) {
+        Ok(conn) => Ok(conn),
+        Err((error, left)) => Err((unopened_for(&error), left)),
+    }
+}
+
 /// The database in the file, which is made where there is none. The path is taken as it is.
 pub fn open_connection(
     rt: &HostRuntime,
@@ -32,11 +58,10 @@ pub fn open_connection(
 ) -> Result<Connection<FileStore<File>>, OpenFault>
     ensures opened { IfOk result (λ conn. HasCleanDisk (file_state conn) → IsOpened conn) }
     ensures fresh { IfOk result IsNew }
-    ensures causes { IfErr result (λ fault. (error : ErrorValue) × IsTrue (is_open_error error)
-        × (fault ≡ unopened_for error)) }
+    ensures cases { IfErr result (λ fault. (fault ≡ Memory) ⊎ (fault ≡ Device) ⊎ (fault ≡ Unopened)) }
 {
-    match Connection::open(rt, path) {
+    match open_connection_from(rt, path, Unknown) {
         Ok(conn) => Ok(conn),
-        Err(error) => Err(unopened_for(&error)),
+        Err((fault, _left)) => Err(fault),
     }
 }

@@ -13,5 +13,5 @@ mod table_places;
 mod whole;
 
 pub use faults::{OpenFault, open_fault_number};
-pub use files::open_connection;
+pub use files::{open_connection, open_connection_from};
 pub use opening::open_content;

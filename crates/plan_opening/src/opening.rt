@@ -15,7 +15,7 @@ ghost use Rattle.plan_reading.specs.Tables.{TellPlans};
 ghost use Rattle.plan_opening.specs.declared.faults.OpenFault.TheVariants.{Memory, Rows, Unopened};
 ghost use Rattle.plan_opening.specs.Foreign.{IsForeign};
 ghost use Rattle.plan_opening.specs.Held.{AreKnown, HasVersion, HoldSound, HoldsPlan};
-ghost use Rattle.plan_opening.specs.Opened.{IsCaused, IsStored, IsUnmade, MakesFirst};
+ghost use Rattle.plan_opening.specs.Opened.{IsCaused, IsStored, IsToldBy, IsUnmade, MakesFirst};
 ghost use Rattle.plan_opening.specs.Stored.{TellStored};
 
 use crate::faults::{OpenFault, fault_for};
@@ -95,6 +95,8 @@ fn read_whole<S: Alter>(alloc: Global, conn: &mut Connection<S>) -> Result<Conte
     requires { conn.old.in_transaction ≡ false }
     ensures opened { HasCleanDisk (state S.Store conn.new) → HasPlan (state S.Store conn.old)
         → IfOk result (λ content. IsStored (state S.Store conn.new) (content_of content)) }
+    ensures told { HasCleanDisk (state S.Store conn.new) → HasPlan (state S.Store conn.old)
+        → IfOk result (λ content. IsContentOf (tables_of (state S.Store conn.old).now.trees) (content_of content)) }
     ensures sound { IfOk result (λ content. IsSound (content_of content)) }
     ensures rows { HasCleanDisk (state S.Store conn.new) → HoldsPlan (state S.Store conn.old) → result ≡ Err Rows → ⊥ }
     ensures version { result ≡ Err Unopened → ⊥ }
@@ -121,6 +123,8 @@ fn open_plan<S: Alter>(alloc: Global, conn: &mut Connection<S>) -> Result<Conten
     requires mode { conn.old.in_transaction ≡ false }
     ensures opened { HasCleanDisk (state S.Store conn.new)
         → IfOk result (λ content. IsStored (state S.Store conn.new) (content_of content)) }
+    ensures told { HasCleanDisk (state S.Store conn.new)
+        → IfOk result (λ content. IsContentOf (tables_of (state S.Store conn.old).now.trees) (content_of content)) }
     ensures sound { IfOk result (λ content. IsSound (content_of content)) }
     ensures rows { HasCleanDisk (state S.Store conn.new) → HoldsPlan (state S.Store conn.old) → result ≡ Err Rows → ⊥ }
     ensures known { HasCleanDisk (state S.Store conn.new) → result ≡ Err Rows
@@ -187,6 +191,8 @@ pub fn open_content<S: Alter>(alloc: Global, conn: &mut Connection<S>) -> Result
     requires { conn.old.in_transaction ≡ false }
     ensures opened { HasCleanDisk (state S.Store conn.new)
         → IfOk result (λ content. IsStored (state S.Store conn.new) (content_of content)) }
+    ensures told { HasCleanDisk (state S.Store conn.new)
+        → IfOk result (λ content. IsToldBy (state S.Store conn.old).now (content_of content)) }
     ensures sound { IfOk result (λ content. IsSound (content_of content)) }
     ensures empty { (state S.Store conn.old).now.schema ≡ no_schema
         → IfOk result (λ content. content_of content ≡ nothing_known) }

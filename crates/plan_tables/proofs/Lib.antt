@@ -13,3 +13,4 @@ pub mod NamedRows
 pub mod DefinitionFacts
 pub mod StorableMoves
 pub mod UnopenedLemmas
+pub mod FoundLemmas

@@ -2,3 +2,4 @@ pub mod Writing
 pub mod Stored
 pub mod Redefining
 pub mod Unopened
+pub mod Found

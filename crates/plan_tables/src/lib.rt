@@ -3,6 +3,7 @@
 
 mod answers;
 mod cells;
+mod closing;
 mod definition_moves;
 mod facts;
 mod keeping;

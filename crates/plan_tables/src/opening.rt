@@ -4,6 +4,7 @@ ghost use Rattle.std.specs.Prelude.{◌≡◌, false, IfErr, IfOk};
 ghost use Rattle.sqlite.specs.State.{HasCleanDisk, Survives};
 ghost use Rattle.sqlite.specs.Files.{file_state};
 ghost use Rattle.sqlite.specs.Held.{state};
+ghost use Rattle.sqlite_wal.specs.Files.{image_at};
 ghost use Rattle.planner_machine.specs.Content.{nothing_known};
 ghost use Rattle.planner_machine.specs.Sound.{IsSound};
 ghost use Rattle.plan_schema.specs.Schema.{no_schema};
@@ -11,13 +12,14 @@ ghost use Rattle.plan_store.specs.Contents.{content_of};
 ghost use Rattle.plan_reading.specs.Reading.{HasPlan};
 ghost use Rattle.plan_opening.specs.Foreign.{IsForeign};
 ghost use Rattle.plan_opening.specs.Held.{HasVersion, HoldsPlan};
-ghost use Rattle.plan_opening.specs.Opened.{IsCaused, IsStored, IsUnmade, MakesFirst};
+ghost use Rattle.plan_opening.specs.Opened.{IsCaused, IsStored, IsToldBy, IsUnmade, MakesFirst};
+ghost use Rattle.plan_tables.specs.Found.{IsFoundIn};
 ghost use Rattle.plan_tables.specs.Unopened.{IsUnmadeBy};
 ghost use Rattle.plan_opening.specs.declared.faults.OpenFault.TheVariants.{Memory, Rows, Unopened};
 
 use crate::table_store::TableStore;
-use plan_opening::{OpenFault, open_connection, open_content};
-use sqlite::{Alter, Connection, File, FileStore, MemStore};
+use plan_opening::{OpenFault, open_connection_from, open_content};
+use sqlite::{Alter, Connection, File, FileFrom, FileStore, MemStore, Start, Unknown};
 use std::alloc::Global;
 use std::rt::HostRuntime;
 
@@ -34,6 +36,8 @@ impl<S: Alter + Drop> TableStore<S> {
         ensures whole { IfOk result (λ store. store.failures ≡ 0) }
         ensures opened { IfOk result (λ store. HasCleanDisk (state S.Store store.conn)
             → IsStored (state S.Store store.conn) (content_of store.lists)) }
+        ensures told { IfOk result (λ store. HasCleanDisk (state S.Store store.conn)
+            → IsToldBy (state S.Store conn).now (content_of store.lists)) }
         ensures empty { (state S.Store conn).now.schema ≡ no_schema
             → IfOk result (λ store. content_of store.lists ≡ nothing_known) }
         ensures crash { IfOk result (λ store. Survives (state S.Store conn) (state S.Store store.conn)
@@ -68,6 +72,10 @@ impl<S: Alter + Drop> TableStore<S> {
         ensures whole { IfOk result (λ store. store.failures ≡ 0) }
         ensures opened { IfOk result (λ store. HasCleanDisk (state S.Store store.conn)
             → IsStored (state S.Store store.conn) (content_of store.lists)) }
+        ensures told { IfOk result (λ store. HasCleanDisk (state S.Store store.conn)
+            → IsToldBy (state S.Store conn).now (content_of store.lists)) }
+        ensures honest { IfOk result (λ store. HasCleanDisk (state S.Store store.conn)
+            → HasCleanDisk (state S.Store conn)) }
         ensures empty { (state S.Store conn).now.schema ≡ no_schema
             → IfOk result (λ store. content_of store.lists ≡ nothing_known) }
         ensures unmade { IfErr result (IsUnmadeBy S.Store conn) }
@@ -94,8 +102,32 @@ impl TableStore<MemStore> {
     }
 }
 
+impl<S: Start> TableStore<FileStore<FileFrom<S>>> {
+    /// A store over the database in the files at the path, which are made where there are none; `start` stands for what
+    /// they hold. The path is taken as it is.
+    pub fn open_path_from(
+        rt: &HostRuntime,
+        alloc: Global,
+        path: &str,
+        start: S,
+    ) -> Result<TableStore<FileStore<FileFrom<S>>>, OpenFault>
+        ensures sound { IfOk result (λ store. IsSound (content_of store.lists)) }
+        ensures whole { IfOk result (λ store. store.failures ≡ 0) }
+        ensures opened { IfOk result (λ store. HasCleanDisk (file_state store.conn)
+            → IsStored (file_state store.conn) (content_of store.lists)) }
+        ensures found { IfOk result (λ store. HasCleanDisk (file_state store.conn)
+            → IsFoundIn (image_at S.Start) (content_of store.lists)) }
+    {
+        match open_connection_from(rt, path, start) {
+            Ok(conn) => TableStore::over_connection(alloc, conn),
+            Err((fault, _left)) => Err(fault),
+        }
+    }
+}
+
 impl TableStore<FileStore<File>> {
-    /// A store over the database in the file, which is made where there is none. The path is taken as it is.
+    /// A store over the database in the file, which is made where there is none. The path is taken as it is. What is
+    /// proved of it for whatever the file holds is said at `open_path_from`.
     pub fn open_path(
         rt: &HostRuntime,
         alloc: Global,
@@ -106,9 +138,6 @@ impl TableStore<FileStore<File>> {
         ensures opened { IfOk result (λ store. HasCleanDisk (file_state store.conn)
             → IsStored (file_state store.conn) (content_of store.lists)) }
     {
-        match open_connection(rt, path) {
-            Ok(conn) => TableStore::over_connection(alloc, conn),
-            Err(fault) => Err(fault),
-        }
+        TableStore::open_path_from(rt, alloc, path, Unknown)
     }
 }

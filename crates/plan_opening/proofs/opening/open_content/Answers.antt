@@ -1,4 +1,7 @@
+use Rattle.std.proofs.Common.{inl}
 use Rattle.sqlite.specs.Held.{state}
+use Rattle.plan_schema.proofs.ResultLemmas.{if_ok}
+use Rattle.plan_reading.specs.Reading.{HasPlan}
 use Rattle.plan_opening.proofs.SchemaLemmas.{blank_has_none}
 use Rattle.plan_opening.proofs.opening.open_content.Goals as goal
 
@@ -18,3 +21,9 @@ returns-in-Ok-true-clause-empty g c blank =
 pub returns-in-Ok-true-clause-unmade : goal.returns-in-Ok-true-clause-unmade
 returns-in-Ok-true-clause-unmade g c clean blank =
     absurd (blank_has_none (state g.S.Store c.args.conn.now) blank (c.in-Ok-true.ensures.0 c.in-Ok-true.field-0-test))
+
+pub returns-in-Ok-true-clause-told : goal.returns-in-Ok-true-clause-told
+unfolding HasPlan
+returns-in-Ok-true-clause-told g c clean =
+    if_ok c.open_plan.result _ _ (λ content tells. inl (c.in-Ok-true.ensures.0 c.in-Ok-true.field-0-test, tells))
+    (c.open_plan.ensures.told clean)

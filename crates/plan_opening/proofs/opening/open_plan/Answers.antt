@@ -1,6 +1,8 @@
 use Rattle.std.proofs.Common.{arith, refl, subst, sym}
 use Rattle.sqlite.specs.Held.{state}
-use Rattle.plan_schema.proofs.ResultLemmas.{if_err}
+use Rattle.plan_facts.specs.Content.{IsContentOf}
+use Rattle.plan_schema.proofs.ResultLemmas.{if_err, if_ok}
+use Rattle.plan_store.specs.Contents.{content_of}
 use Rattle.sqlite.proofs.StateLemmas.{survives_then}
 use Rattle.plan_reading.proofs.LookLemmas.{plan_still, tables_still}
 use Rattle.plan_opening.specs.Held.{HoldSound}
@@ -32,6 +34,15 @@ returns-in-Ok-true-clause-opened g c clean =
     let same = c.in-Ok-true.ensures.looks.same (omega (arith, c.read_whole.ensures.survives.clean, clean))
     c.requires.plan refl in
     c.read_whole.ensures.opened clean (plan_still a b same c.requires.plan)
+
+pub returns-in-Ok-true-clause-told : goal.returns-in-Ok-true-clause-told
+returns-in-Ok-true-clause-told g c clean =
+    let a = state g.S.Store c.args.conn.now in
+    let b = state g.S.Store c.has_version.new.conn in
+    let same = c.in-Ok-true.ensures.looks.same (omega (arith, c.read_whole.ensures.survives.clean, clean))
+    c.requires.plan refl in
+    if_ok c.read_whole.result _ _ (λ content. subst (λ all. IsContentOf all (content_of content))
+    (tables_still a b same)) (c.read_whole.ensures.told clean (plan_still a b same c.requires.plan))
 
 pub returns-in-Ok-true-clause-rows : goal.returns-in-Ok-true-clause-rows
 returns-in-Ok-true-clause-rows g c clean held =

@@ -20,6 +20,12 @@ returns-in-Ok-Some-clause-opened g c clean plan =
     (c.is_autocommit-settled.ensures.settled (c.is_autocommit-settled.ensures.value ∙ ap not c.requires))
     c.in-Ok-Some.ensures.looks clean plan told.0 (tells all told.1.0 told.1.1)) c.sound_content.ensures.content
 
+pub returns-in-Ok-Some-clause-told : goal.returns-in-Ok-Some-clause-told
+returns-in-Ok-Some-clause-told g c clean plan =
+    let all = tables_of (state g.S.Store c.args.conn.now).now.trees in
+    let told = at_some c.in-Ok-Some.field-0 _ _ c.in-Ok-Some.field-0-is (c.in-Ok-Some.ensures.told clean plan) in
+    if_ok c.sound_content.result _ _ (λ content tells. tells all told.1.0 told.1.1) c.sound_content.ensures.content
+
 pub returns-in-Ok-Some-clause-rows : goal.returns-in-Ok-Some-clause-rows
 returns-in-Ok-Some-clause-rows g c clean held rows =
     let all = tables_of (state g.S.Store c.args.conn.now).now.trees in

@@ -1,0 +1,122 @@
+-- What a store kept is found again.
+use Rattle.std.proofs.Common.{◌≡◌, ◌⊎◌, ◌∙◌, ◌<◌, ℕ, Bool, Result, Ok, Err, true, false, length, inl, inr, ap, arith, refl, subst, sym, IsTrue, filter}
+use Rattle.std.specs.Prelude.{IfOk}
+use Rattle.std.proofs.Math.Logic.{∥∥₁_elim, ∥∥₁_map}
+use Rattle.std.proofs.lemmas.Slice.Zip.{AllZip-long}
+use Rattle.sqlite.specs.Effect.{Database, IsDatabase}
+use Rattle.sqlite.specs.Files.{AreFoundIn, file_state}
+use Rattle.sqlite.specs.Held.{AreDatabases, Held, state}
+use Rattle.sqlite.specs.Schema.{Schema}
+use Rattle.sqlite.specs.Start.{FindsIn}
+use Rattle.sqlite.specs.State.{HasCleanDisk, IsLive, Opens, State}
+use Rattle.sqlite.specs.Store.{Ghosts}
+use Rattle.sqlite.specs.Tree.{Trees}
+use Rattle.sqlite.proofs.Theorems.{opens_again}
+use Rattle.sqlite_catalog.specs.Listing.{IsSound, IsTableRow, is_table_row}
+use Rattle.sqlite_disk.specs.declared.Disk as disk
+use Rattle.sqlite_store.specs.declared.store.FileStore.{FileStore}
+use Rattle.sqlite_store.specs.FileStore as files
+use Rattle.sqlite_trees.specs.Objects.{catalog_tree}
+use Rattle.sqlite_wal.specs.Recovery.{Image}
+use Rattle.planner_machine.specs.Content.{Content, nothing_known}
+use Rattle.plan_schema.specs.Rows.{tables_of}
+use Rattle.plan_schema.specs.Schema.{HasTables, no_schema, plan_and}
+use Rattle.plan_facts.specs.Content.{HaveOneContent, IsContentOf}
+use Rattle.plan_opening.specs.Opened.{IsStored, IsToldBy}
+use Rattle.plan_tables.specs.Found.{IsFoundIn, Tells}
+use Rattle.plan_tables.specs.Stored.{MayLeave}
+use Rattle.plan_tables.proofs.SetLemmas.{content_set}
+
+-- a database lists as many tables under each schema that it obeys
+as_many : (a b : Schema) (db : Trees) → IsSound a db → IsSound b db → length a.tables ≡ length b.tables
+as_many a b db one two =
+    AllZip-long IsTableRow (filter is_table_row (db catalog_tree)) a.tables one.lists.listed.tables
+    ∙ sym (AllZip-long IsTableRow (filter is_table_row (db catalog_tree)) b.tables two.lists.listed.tables)
+
+never_blank : (schema blank : Schema) (db : Trees) → HasTables schema → IsSound schema db → blank ≡ no_schema
+    → IsSound blank db → ⊥
+never_blank schema blank db has sound none other =
+    let fourteen : length (plan_and has.more).tables ≡ length (no_schema).tables =
+    ap (λ (s : Schema). length s.tables) (sym has.is) ∙ as_many schema blank db sound other
+    ∙ ap (λ (s : Schema). length s.tables) none in
+    absurd (cc)
+
+-- what a crash leaves of a database that keeps a content
+tells_stored : {S : Type 0} (g : Ghosts S)
+    (law : (s : S) (db : Trees) → IsTrue (g.view s).is_open → g.recovers s db → db ≡ (g.view s).committed)
+    (held : Held S) (k : Content) → IsStored (state g held) k → IsLive (state g held) → (db : Trees)
+    → g.recovers held.store db → Tells db k
+tells_stored g law held k stored live db left =
+    let same : (state g held).now.trees ≡ db = ap (λ (b : Database). b.trees) stored.settled
+    ∙ sym (law held.store db stored.is_open left) in
+    record {
+      schema = held.schema;
+      obeys = subst (IsSound held.schema) same (live stored.is_open).0;
+      plan = stored.plan.schema;
+      content = subst (λ t. IsContentOf (tables_of t) k) same stored.content;
+    }
+
+-- a store of which no failure was counted is whole
+whole : (broken : Bool) (failures : ℕ) → (IsTrue broken → 0 < failures) → failures ≡ 0 → broken ≡ false
+whole true failures counted none = absurd (omega (arith, counted refl, none))
+whole false failures counted none = refl
+
+pub tells_kept : {S : Type 0} (g : Ghosts S)
+    (law : (s : S) (db : Trees) → IsTrue (g.view s).is_open → g.recovers s db → db ≡ (g.view s).committed)
+    (own held : Held S) (k : Content) (broken : Bool) (failures : ℕ) → held ≡ own → (IsTrue broken → 0 < failures)
+    → failures ≡ 0 → ∥ (broken ≡ false → HasCleanDisk (state g own) → IsStored (state g own) k) ∥₁
+    → HasCleanDisk (state g held) → IsLive (state g held) → (db : Trees) → g.recovers held.store db → ∥ Tells db k ∥₁
+tells_kept {S} g law own held k broken failures same counted none stored clean live db left =
+    ∥∥₁_map stored (λ h. tells_stored g law held k (subst (λ (x : Held S). IsStored (state g x) k) (sym same)
+    (h (whole broken failures counted none) (subst (λ (x : Held S). HasCleanDisk (state g x)) same clean))) live db left)
+
+told_again : (found : Database) (k c : Content) → HaveOneContent → IsDatabase found → Tells found.trees k
+    → IsToldBy found c → c ≡ k
+told_again found k c one obeys tells (inl told) = one (tables_of found.trees) c k told.1 tells.content
+told_again found k c one obeys tells (inr blank) =
+    absurd (never_blank tells.schema found.schema found.trees tells.plan tells.obeys blank.0 obeys)
+
+-- what a crash leaves of files whose databases all tell the content tells it to whoever opens them
+pub found_again : {D : Type 0} {g : disk.Ghosts D} (it : FileStore D g) (k : Content) → HaveOneContent
+    → IsTrue (files.view it).is_numbered → AreDatabases (files.recovers it)
+    → ((db : Trees) → files.recovers it db → ∥ Tells db k ∥₁)
+    → (left : Image) → (files.state it).may_leave left → (c : Content) → IsFoundIn left c → c ≡ k
+found_again it k one numbered sound tells left may c found =
+    ∥∥₁_elim (opens_again it numbered sound left may) (content_set c k) (λ held.
+    ∥∥₁_elim (tells held.0 held.1) (content_set c k) (λ told. told_again found.found k c one found.obeys
+    (subst (λ db. Tells db k) (sym (found.holds held.0 held.2)) told) found.told))
+
+-- what is found again was a content that a crash might leave, unless it is nothing
+pub found_left : {D : Type 0} {g : disk.Ghosts D} (conn : Held (FileStore D g)) (it : FileStore D g)
+    → IsTrue (files.view it).is_numbered → AreDatabases (files.recovers it)
+    → ((db : Trees) → files.recovers it db → files.recovers conn.store db)
+    → (left : Image) → (files.state it).may_leave left → (c : Content) → IsFoundIn left c
+    → ∥ MayLeave (file_state conn) c ⊎ (c ≡ nothing_known) ∥₁
+found_left conn it numbered sound outcomes left may c found =
+    ∥∥₁_map (opens_again it numbered sound left may) (λ held. elim found.told [
+      | inl told ↦ inl (
+        held.0,
+        outcomes held.0 held.1,
+        subst (λ t. IsContentOf (tables_of t) c)
+            (found.holds held.0 held.2) told.1,
+      )
+      | inr blank ↦ inr blank.1
+    ])
+
+-- what the database tells that an open found
+pub found_in : (image : Image) (s : State) (c : Content) → Opens s → IsLive s → FindsIn image s → IsToldBy s.now c
+    → IsFoundIn image c
+found_in image s c opens live found told = record {
+  found = s.now;
+  obeys = (live opens.is_open).0;
+  holds = λ db held. ap (λ (d : Database). d.trees) opens.clean ∙ found.holds db held;
+  reads = subst (AreFoundIn image) (ap (λ (d : Database). d.trees) (sym opens.clean)) found.reads;
+  told = told;
+}
+
+-- a clause that stands under two others
+pub both_so : {A E : Type 0} (r : Result A E) (IsClean Told Found : A → Type 0) (Honest : Type 0)
+    → IfOk r (λ a. IsClean a → Honest) → IfOk r (λ a. IsClean a → Told a) → ((a : A) → Honest → Told a → Found a)
+    → IfOk r (λ a. IsClean a → Found a)
+both_so (Ok a) IsClean Told Found Honest honest told f = λ clean. f a (honest clean) (told clean)
+both_so (Err e) IsClean Told Found Honest honest told f = tt

@@ -1,0 +1,13 @@
+use Rattle.plan_store.specs.Contents.{content_of}
+use Rattle.plan_tables.proofs.FoundLemmas.{found_again, found_left}
+use Rattle.plan_tables.proofs.closing.TableStore+FileStore+D.into_files.Goals as goal
+
+pub returns-clause-goes_on : goal.returns-clause-goes_on
+returns-clause-goes_on g c clean =
+    found_left c.args.self.conn c.into_store.result (c.into_store.ensures.numbered clean)
+    (c.into_store.ensures.sound clean) c.into_store.ensures.left
+
+pub returns-clause-found_again : goal.returns-clause-found_again
+returns-clause-found_again g c none clean =
+    found_again c.into_store.result (content_of c.args.self.lists) c.tables_have_one_content.ensures
+    (c.into_store.ensures.numbered clean) (c.into_store.ensures.sound clean) (c.into_store.ensures.tells none clean)

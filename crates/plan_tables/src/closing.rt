@@ -1,0 +1,51 @@
+// A store is let go at the end of a run.
+
+ghost use Rattle.std.specs.Prelude.{◌≡◌, ◌⊎◌, IsTrue};
+ghost use Rattle.sqlite.specs.Files.{file_state};
+ghost use Rattle.sqlite.specs.Held.{AreDatabases, state};
+ghost use Rattle.sqlite.specs.Tree.{Trees};
+ghost use Rattle.sqlite_store.specs.FileStore.{recovers, state as files_state, view};
+ghost use Rattle.sqlite_trees.specs.View.{IsClean};
+ghost use Rattle.sqlite_wal.specs.Recovery.{Image};
+ghost use Rattle.planner_machine.specs.Content.{Content as ContentValue, nothing_known};
+ghost use Rattle.plan_store.specs.Contents.{content_of};
+ghost use Rattle.plan_tables.specs.Found.{IsFoundIn, Tells};
+ghost use Rattle.plan_tables.specs.Stored.{MayLeave};
+
+use crate::table_store::TableStore;
+use plan_facts::tables_have_one_content;
+use sqlite::{Alter, FileStore};
+use sqlite_disk::Disk;
+
+impl<S: Alter + Drop> TableStore<S> {
+    /// Lets the tables go, as a program does at its end. Where no failure was counted, each database that they may be
+    /// after a crash tells what the store kept.
+    pub fn into_store(self) -> S
+        ensures numbered { IsClean (S.Store.view result) → IsTrue (S.Store.view result).is_numbered }
+        ensures sound { IsClean (S.Store.view result) → AreDatabases (S.Store.recovers result) }
+        ensures left { (db : Trees) → S.Store.recovers result db → (state S.Store self.conn).may_leave db }
+        ensures tells { self.failures ≡ 0 → IsClean (S.Store.view result)
+            → (db : Trees) → S.Store.recovers result db → ∥ Tells db (content_of self.lists) ∥₁ }
+    {
+        let conn = self.into_connection();
+        let _schema = conn.schema();
+        conn.into_store()
+    }
+}
+
+impl<D: Disk + Drop> TableStore<FileStore<D>> {
+    /// Lets the files go, as a program does at its end. Whoever opens them, whatever a crash left of them, finds a
+    /// content that a crash might leave of the tables, unless it is that of which nothing is known; and where no failure
+    /// was counted, what the store kept and nothing else.
+    pub fn into_files(self) -> FileStore<D>
+        ensures sound { IsClean (view result) → AreDatabases (recovers result) }
+        ensures goes_on { IsClean (view result) → (left : Image) → (files_state result).may_leave left
+            → (c : ContentValue) → IsFoundIn left c → ∥ MayLeave (file_state self.conn) c ⊎ (c ≡ nothing_known) ∥₁ }
+        ensures found_again { self.failures ≡ 0 → IsClean (view result)
+            → (left : Image) → (files_state result).may_leave left
+            → (c : ContentValue) → IsFoundIn left c → c ≡ content_of self.lists }
+    {
+        tables_have_one_content();
+        self.into_store()
+    }
+}
