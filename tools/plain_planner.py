@@ -178,6 +178,9 @@ RECORDS = {
 OPTIONS = {"default_calendar": "DEFAULT", "max_extension_hours": 504}
 
 
+BYTE_ORDER_MARK = b"\xef\xbb\xbf"
+
+
 def read_options(block):
     try:
         given = tomllib.loads(block.decode("utf-8"))
@@ -191,6 +194,7 @@ def read_options(block):
 
 
 def read_block(kind, block):
+    block = block.removeprefix(BYTE_ORDER_MARK)
     if kind == "options":
         return read_options(block)
     width, take = RECORDS[kind]

@@ -1,12 +1,8 @@
 ghost use Rattle.std.specs.Prelude.{◌≡◌, IfOk};
 
 use std::alloc::{AllocError, Global};
-use std::cmp::Ordering;
-use std::process::Abort;
 use std::test::Fail;
-use work_calendars::{
-    Calendar, CountedIndex, Day, DayStatus, Minute, Moment, Name, Short, Weekday, WorkIndex,
-};
+use work_calendars::{Calendar, CountedIndex, Day, DayStatus, Minute, Moment, Weekday, WorkIndex};
 
 // The numbers of 1972-01-01, 2071-12-31 and 2068-12-31 from an almanac, and how many days the first two span.
 const FIRST: u32 = 730;
@@ -17,131 +13,57 @@ const LAST_PLANNING: u32 = 36_159;
 
 const DAYS: usize = 36_525;
 
-// Asserts what holds of the row of a table.
-fn assert_row(rt: &impl Abort, holds: bool, text: &str) {
-    assert!(rt; holds, "{text}");
-}
-
-fn spells_day(text: &str, number: u32, weekday: u8) -> Option<bool> {
-    let day = Day::from_text(text)?;
-    let mut spelled = [0; 10];
-    day.write_text(&mut spelled);
-    let is_it = day.number() == number && day.weekday() == weekday;
-    Some(is_it && spelled.as_slice() == text.as_bytes())
-}
-
-fn spells_minute(text: &str, number: u32) -> Option<bool> {
-    let minute = Minute::from_text(text)?;
-    let mut spelled = [0; 5];
-    minute.write_text(&mut spelled);
-    Some(minute.number() == number && spelled.as_slice() == text.as_bytes())
-}
-
-// Whether the text spells the moment of the number, which its day and minute make again.
-fn spells_moment(text: &str, number: u32) -> Option<bool> {
-    let moment = Moment::from_text(text)?;
+// Whether the moment's text is this one, its day's text the beginning, and its day and minute make it again.
+fn is_written(moment: Moment, text: &str) -> bool {
     let mut spelled = [0; 16];
     moment.write_text(&mut spelled);
+    let mut day = [0; 10];
+    moment.day().write_text(&mut day);
     let again = Moment::new(moment.day(), moment.minute()) == moment
         && Moment::from_number(moment.number()) == Some(moment);
-    Some(again && moment.number() == number && spelled.as_slice() == text.as_bytes())
+    again && spelled.as_slice() == text.as_bytes() && day.as_slice() == &spelled[..10]
 }
 
-fn spells_name(text: &str) -> Option<bool> {
-    Some(Name::from_text(text)?.as_str() == text)
-}
-
-fn spells_short(text: &str) -> Option<bool> {
-    Some(Short::from_text(text)?.as_str() == text)
-}
-
-// Whether the text spells the day, minute, moment, name or short name of the number and weekday; none where it spells
-// none.
-fn spells(kind: &str, text: &str, number: u32, weekday: u8) -> Option<bool> {
-    match kind {
-        "day" => spells_day(text, number, weekday),
-        "minute" => spells_minute(text, number),
-        "moment" => spells_moment(text, number),
-        "name" => spells_name(text),
-        _ => spells_short(text),
-    }
-}
-
-// The same of a row: the kind, the text, the number, and the weekday.
-fn row_is_spelled(row: &str) -> Option<bool> {
+// Whether the row is a moment's text, its number, those of its day and minute, and the weekday.
+fn row_holds(row: &str) -> Option<bool> {
     let mut words = row.split_whitespace();
-    let kind = words.next()?;
     let text = words.next()?;
-    let number = words.next()?.parse().ok()?;
-    let weekday = words.next()?.parse().ok()?;
-    spells(kind, text, number, weekday)
+    let moment = Moment::from_text(text)?;
+    let day = moment.day();
+    let mut holds = is_written(moment, text);
+    for number in [
+        moment.number(),
+        day.number(),
+        moment.minute().number(),
+        u32::from(day.weekday()),
+    ] {
+        holds = holds & (words.next()?.parse() == Ok(number));
+    }
+    Some(holds)
 }
 
-// Days with their numbers and weekdays from an almanac, Monday 0; minutes and moments with their numbers.
+// Days have their numbers and weekdays from an almanac, Monday 0.
 #[test]
-fn texts_are_spelled(rt: HostRuntime) {
-    for row in SPELLED.lines() {
-        assert_row(&rt, row_is_spelled(row) == Some(true), row);
+fn moments_have_numbers(rt: HostRuntime) {
+    for row in MOMENTS.lines() {
+        assert!(rt; row_holds(row) == Some(true), "{row}");
     }
+    // These two no line can have.
+    assert!(rt; Moment::from_text("2024-01-01 08.00").is_none());
+    assert!(rt; Moment::from_text("2024-01-01/08.00 ").is_none());
 }
 
-const SPELLED: &str = "\
-day 1972-01-01 730 5
-day 1972-02-29 789 1
-day 1999-12-31 10956 4
-day 2000-01-01 10957 5
-day 2000-02-29 11016 1
-day 2024-01-01 19723 0
-day 2024-02-29 19782 3
-day 2024-03-01 19783 4
-day 2068-12-31 36159 0
-day 2071-12-31 37254 3
-minute 00.00 0 0
-minute 00.59 59 0
-minute 01.00 60 0
-minute 08.05 485 0
-minute 23.59 1439 0
-moment 1972-01-01/00.00 1051200 0
-moment 2024-01-01/08.00 28401600 0
-moment 2071-12-31/23.59 53647199 0
-name A 0 0
-name PAY 0 0
-name Z9 0 0
-name @#$ 0 0
-name $0 0 0
-name A234567890123456 0 0
-short MORNING8 0 0";
-
-// Whether none of the texts after the kind spells anything.
-fn none_is_spelled(row: &str) -> bool {
-    let mut texts = row.split('|');
-    let kind = texts.next().unwrap_or("");
-    for text in texts {
-        if spells(kind, text, 0, 0).is_some() {
-            return false;
-        }
-    }
-    true
-}
-
-#[test]
-fn other_texts_spell_nothing(rt: HostRuntime) {
-    for row in UNSPELLED.lines() {
-        assert_row(&rt, none_is_spelled(row), row);
-    }
-}
-
-const UNSPELLED: &str = "\
-day||1971-12-31|2072-01-01|2024-02-30|2023-02-29
-day|2024-04-31|2024-00-10|2024-13-01|2024-01-00|2024-1-01
-day|2024-01-1|24-01-01| 2024-01-01|2024-01-01 |2024- 1-01
-day|+024-01-01|-024-01-01|2024-+1-01|2024/01/01|20240101
-day|2024-01-0x|2024-01-01/|12024-01-01|2024-01-é
-minute||24.00|23.60|8.00|08.0|08:00|0800| 8.00|+8.00|08.000|08.00 |0a.00|08.é
-moment||2024-01-01|2024-01-01 08.00|2024-01-01/24.00|2024-01-01/8.00|2024-02-30/08.00
-moment|1971-12-31/23.59|2072-01-01/00.00|2024-01-01/08.00 |2024-01-01/08.000
-name||1A|a|A B|A-B| A|A |A_|É|A2345678901234567
-short||9|MORNING89|noon";
+const MOMENTS: &str = "\
+1972-01-01/00.00 1051200 730 0 5
+1972-02-29/00.59 1136219 789 59 1
+1999-12-31/01.00 15776700 10956 60 4
+2000-01-01/08.05 15778565 10957 485 5
+2000-02-29/23.59 15864479 11016 1439 1
+2024-01-01/08.00 28401600 19723 480 0
+2024-02-29/00.01 28486081 19782 1 3
+2024-03-01/12.30 28488270 19783 750 4
+2068-12-31/23.59 52070399 36159 1439 0
+2071-12-31/23.59 53647199 37254 1439 3";
 
 fn number_of(day: Option<Day>) -> u32 {
     match day {
@@ -186,139 +108,12 @@ fn minutes_and_moments_have_a_last(rt: HostRuntime) {
     assert!(rt; Moment::from_number(53_647_200).is_none());
 }
 
-// How the names of two texts compare, and whether their short names are equal; none where a text is no name.
-fn compare(text: &str, other: &str) -> Option<(Ordering, bool)> {
-    let order = Name::from_text(text)?.cmp(&Name::from_text(other)?);
-    Some((order, Short::from_text(text)? == Short::from_text(other)?))
-}
-
-// In the order of ASCII: # $ 0 9 @ A Z, and a name before those that it begins.
-#[test]
-fn names_have_an_order(rt: HostRuntime) {
-    let rising = ["#", "$", "$0", "@", "A", "A#", "A0", "A@", "AA", "AB", "B"];
-    for (at, text) in rising.iter().enumerate() {
-        for (later, other) in rising.iter().enumerate() {
-            assert_row(
-                &rt,
-                compare(text, other) == Some((at.cmp(&later), at == later)),
-                text,
-            );
-        }
-    }
-}
-
-fn weekdays(alloc: Global) -> Calendar {
+// Saturdays and Sundays are free.
+pub(crate) fn weekdays(alloc: Global) -> Calendar {
     let mut calendar = Calendar::new(alloc);
     calendar.set_weekday(Weekday::Saturday, DayStatus::Free);
     calendar.set_weekday(Weekday::Sunday, DayStatus::Free);
     calendar
-}
-
-// Whether the day is a work day, if the calendar and its index agree.
-fn is_work(calendar: &Calendar, index: &WorkIndex, text: &str) -> Option<bool> {
-    let day = Day::from_text(text)?;
-    let is_work = calendar.is_work(day);
-    (index.is_work(day) == is_work).then_some(is_work)
-}
-
-// The work day after the day, before it, or with as many work days before it.
-fn found(index: &WorkIndex, day: Day, way: char) -> Option<Day> {
-    match way {
-        '>' => index.next_work(day),
-        '<' => index.prev_work(day),
-        '=' => index.nth(index.rank(day)),
-        _ => None,
-    }
-}
-
-// Whether that way leads from the day of one text to that of the other.
-fn leads(index: &WorkIndex, from: &str, way: char, to: &str) -> Option<bool> {
-    Some(found(index, Day::from_text(from)?, way)? == Day::from_text(to)?)
-}
-
-fn assert_ways(rt: &impl Abort, index: &WorkIndex, ways: &[(&str, char, &str)]) {
-    for &(from, way, to) in ways {
-        assert!(rt;
-            leads(index, from, way, to) == Some(true),
-            "{from} {way} {to}"
-        );
-    }
-}
-
-fn assert_statuses(rt: &impl Abort, calendar: &Calendar, index: &WorkIndex) {
-    for (text, status) in [
-        ("2024-01-01", true),
-        ("2024-01-05", true),
-        ("2024-01-06", false),
-        ("2024-01-07", false),
-        ("2024-01-08", true),
-    ] {
-        assert_row(rt, is_work(calendar, index, text) == Some(status), text);
-    }
-}
-
-#[test]
-fn calendar_of_free_weekdays(rt: HostRuntime) -> Result<(), AllocError> {
-    let calendar = weekdays(rt.alloc());
-    let index = WorkIndex::build(rt.alloc(), &calendar)?;
-    assert_statuses(&rt, &calendar, &index);
-    assert_ways(
-        &rt,
-        &index,
-        &[
-            ("2024-01-05", '>', "2024-01-08"),
-            ("2024-01-06", '>', "2024-01-08"),
-            ("2024-01-08", '<', "2024-01-05"),
-            ("2024-01-07", '<', "2024-01-05"),
-        ],
-    );
-    Ok(())
-}
-
-// How many work days there are from 2024-01-06 to the day before.
-fn work_days_to(index: &WorkIndex, text: &str) -> Option<usize> {
-    let start = index.rank(Day::from_text("2024-01-06")?);
-    index.rank(Day::from_text(text)?).checked_sub(start)
-}
-
-fn assert_ranks(rt: &impl Abort, index: &WorkIndex, ranks: &[(&str, usize)]) {
-    for &(text, rank) in ranks {
-        assert_row(rt, work_days_to(index, text) == Some(rank), text);
-    }
-}
-
-// The index of the calendar whose Saturdays and Sundays are free, and that date.
-fn with_a_free_date(alloc: Global, date: Day) -> Result<WorkIndex, AllocError> {
-    let mut calendar = weekdays(alloc);
-    calendar.set_date(date, DayStatus::Free)?;
-    WorkIndex::build(alloc, &calendar)
-}
-
-#[test]
-fn calendar_with_a_free_date(rt: HostRuntime) -> Result<(), Fail> {
-    let free = Day::from_text("2024-01-10").ok_or("no day")?;
-    let index = with_a_free_date(rt.alloc(), free)?;
-    assert_ranks(
-        &rt,
-        &index,
-        &[
-            ("2024-01-08", 0),
-            ("2024-01-09", 1),
-            ("2024-01-11", 2),
-            ("2024-01-12", 3),
-            ("2024-01-15", 4),
-            ("2024-01-16", 5),
-        ],
-    );
-    assert_ways(
-        &rt,
-        &index,
-        &[
-            ("2024-01-06", '=', "2024-01-08"),
-            ("2024-01-09", '>', "2024-01-11"),
-        ],
-    );
-    Ok(())
 }
 
 // What the calendar lists for the first of two days, and whether each is a work day.

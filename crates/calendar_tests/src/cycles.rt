@@ -1,17 +1,14 @@
-ghost use Rattle.std.specs.Prelude.{IsTrue};
-ghost use Rattle.run_cycles.specs.Occurrence.{HaveOwnNames};
-
+use crate::calendars::weekdays;
 use plan_periods::{Origins, Period};
-use run_cycles::{CycleType, Deadline, Named, Offsets, Periods, Rule, RunCycle, generate};
+use run_cycles::{CycleType, Deadline, Offsets, Periods, Rule, RunCycle};
 use std::alloc::{AllocError, Global};
 use std::process::Abort;
 use std::str::SplitWhitespace;
-use work_calendars::{Calendar, Day, DayStatus, Minute, Short, Weekday, WorkIndex};
+use work_calendars::{Calendar, Day, DayStatus, Minute, Short, WorkIndex};
 
 mod jump;
-mod plain;
-mod rows;
 mod types;
+mod windows;
 
 fn day(rt: &impl Abort, text: &str) -> Day {
     Day::from_text(text).expect(rt, "a day")
@@ -32,82 +29,27 @@ pub(crate) fn two_days(rt: &impl Abort, text: &str) -> (Day, Day) {
     (from, day(rt, words.next().unwrap_or("")))
 }
 
-// The weekday of a digit, 1 for Monday.
-fn weekday_of(digit: u8) -> Option<Weekday> {
-    match digit {
-        b'1' => Some(Weekday::Monday),
-        b'2' => Some(Weekday::Tuesday),
-        b'3' => Some(Weekday::Wednesday),
-        b'4' => Some(Weekday::Thursday),
-        b'5' => Some(Weekday::Friday),
-        b'6' => Some(Weekday::Saturday),
-        b'7' => Some(Weekday::Sunday),
-        _ => None,
-    }
-}
-
-// Sets the weekdays of these digits free.
-fn set_weekdays_free(calendar: &mut Calendar, digits: &str) {
-    for digit in digits.bytes() {
-        if let Some(weekday) = weekday_of(digit) {
-            calendar.set_weekday(weekday, DayStatus::Free);
-        }
-    }
-}
-
-// Sets these dates free, and those after a `+` to work.
-fn set_dates(rt: &impl Abort, calendar: &mut Calendar, dates: &str) -> Result<(), AllocError> {
+// Saturdays and Sundays are free, and so are these dates.
+fn calendar_of(rt: &impl Abort, alloc: Global, dates: &str) -> Result<Calendar, AllocError> {
+    let mut calendar = weekdays(alloc);
     for date in dates.split_whitespace() {
-        match date.strip_prefix('+') {
-            Some(date) => calendar.set_date(day(rt, date), DayStatus::Work)?,
-            None => calendar.set_date(day(rt, date), DayStatus::Free)?,
-        }
+        calendar.set_date(day(rt, date), DayStatus::Free)?;
     }
-    Ok(())
-}
-
-// The calendar whose free weekdays, by their digits or `-` for none, and dates the text gives.
-fn calendar_of(rt: &impl Abort, alloc: Global, text: &str) -> Result<Calendar, AllocError> {
-    let (digits, dates) = text.split_once(' ').unwrap_or((text, ""));
-    let mut calendar = Calendar::new(alloc);
-    set_weekdays_free(&mut calendar, digits);
-    set_dates(rt, &mut calendar, dates)?;
     Ok(calendar)
 }
 
-fn index_of(rt: &impl Abort, alloc: Global, text: &str) -> Result<WorkIndex, AllocError> {
-    let calendar = calendar_of(rt, alloc, text)?;
+fn index_of(rt: &impl Abort, alloc: Global, dates: &str) -> Result<WorkIndex, AllocError> {
+    let calendar = calendar_of(rt, alloc, dates)?;
     WorkIndex::build(alloc, &calendar)
 }
 
-fn push_offset(
-    rt: &impl Abort,
-    offsets: &mut Vec<i16>,
-    offset: &str,
-    times: usize,
-) -> Result<(), AllocError> {
-    let offset: i16 = offset.parse().ok().expect(rt, "an offset");
-    for _ in 0..times {
-        offsets.push(offset)?;
-    }
-    Ok(())
-}
-
-// Offsets parted by commas, or so many times one, as `64x999`.
-fn push_offsets(rt: &impl Abort, offsets: &mut Vec<i16>, text: &str) -> Result<(), AllocError> {
-    if let Some((times, offset)) = text.split_once('x') {
-        let times = times.parse().ok().expect(rt, "a number");
-        return push_offset(rt, offsets, offset, times);
-    }
-    for offset in text.split(',') {
-        push_offset(rt, offsets, offset, 1)?;
-    }
-    Ok(())
-}
-
+// Offsets parted by commas.
 fn offsets_of(rt: &impl Abort, alloc: Global, text: &str) -> Result<Offsets, AllocError> {
     let mut items = Vec::new(alloc);
-    push_offsets(rt, &mut items, text)?;
+    for offset in text.split(',') {
+        let offset: i16 = offset.parse().ok().expect(rt, "an offset");
+        items.push(offset)?;
+    }
     Ok(Offsets::from_vec(items).expect(rt, "offsets"))
 }
 
@@ -142,7 +84,7 @@ fn deadline_of(rt: &impl Abort, words: &mut SplitWhitespace<'_>) -> Deadline {
 }
 
 // A run cycle by its name, rule, offsets, the days from which on and before which it is in effect (`-` for none), time,
-// and deadline; one whose name begins with X takes away.
+// and deadline.
 fn cycle_of(rt: &impl Abort, alloc: Global, text: &str) -> Result<RunCycle, AllocError> {
     let mut words = text.split_whitespace();
     let name = word(&mut words);
@@ -152,14 +94,9 @@ fn cycle_of(rt: &impl Abort, alloc: Global, text: &str) -> Result<RunCycle, Allo
     let out_effect = day_or_none(rt, word(&mut words));
     let ia = minute(rt, word(&mut words));
     let deadline = deadline_of(rt, &mut words);
-    let kind = if name.starts_with('X') {
-        CycleType::Negative(None)
-    } else {
-        CycleType::Normal(deadline)
-    };
     Ok(RunCycle {
         name: short(rt, name),
-        kind,
+        kind: CycleType::Normal(deadline),
         period: short(rt, "WEEK"),
         rule,
         offsets,
@@ -167,15 +104,6 @@ fn cycle_of(rt: &impl Abort, alloc: Global, text: &str) -> Result<RunCycle, Allo
         out_effect,
         ia,
     })
-}
-
-// Run cycles parted by `;`.
-fn cycles_of(rt: &impl Abort, alloc: Global, text: &str) -> Result<Vec<RunCycle>, AllocError> {
-    let mut cycles = Vec::new(alloc);
-    for cycle in text.split(';') {
-        cycles.push(cycle_of(rt, alloc, cycle)?)?;
-    }
-    Ok(cycles)
 }
 
 // Intervals by origin and end, `-` for none, parted by `;`.
@@ -215,31 +143,4 @@ fn periods_of(rt: &impl Abort, alloc: Global, text: &str) -> Result<Periods, All
     let mut periods = Periods::new(alloc);
     periods.insert(short(rt, "WEEK"), period)?;
     Ok(periods)
-}
-
-fn have_own_names(cycles: &[RunCycle]) -> bool
-    ensures { IsTrue result → HaveOwnNames cycles.now }
-{
-    for i in 0..cycles.len() {
-        for j in 0..i {
-            if cycles[j].name == cycles[i].name {
-                return false;
-            }
-        }
-    }
-    true
-}
-
-// What the run cycles name from the first day to the last.
-fn generated(
-    rt: &impl Abort,
-    alloc: Global,
-    index: &WorkIndex,
-    periods: &Periods,
-    cycles: &[RunCycle],
-    (from, to): (Day, Day),
-) -> Result<Vec<Named>, AllocError> {
-    assert!(rt; have_own_names(cycles));
-    assert!(rt; to.number() <= 36159, "past the last planning day");
-    generate(alloc, cycles, periods, index, from, to)
 }

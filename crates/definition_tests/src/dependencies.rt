@@ -41,37 +41,6 @@ fn lists(rt: &impl Abort, alloc: Global, text: &str) -> Links {
     Links::from_vec(links)
 }
 
-// The least application on a loop of the lists, `-` for none.
-fn loop_in(rt: &impl Abort, alloc: Global, text: &str) -> App {
-    let links = lists(rt, alloc, text);
-    find_loop(alloc, &links)
-        .expect(rt, "memory")
-        .unwrap_or(app(rt, "NONE"))
-}
-
-// Lists, and the least application on a loop of them.
-#[test]
-fn loops_of_lists(rt: HostRuntime) {
-    for (text, least) in [
-        ("A B; B C; C B", "B"),
-        ("A B; B C; C B D", "B"),
-        ("A A", "NONE"),
-        ("A A B; B B A", "A"),
-        ("A Q; P Q Z; Q R; R S; S P A2; Z S", "P"),
-        ("Y Z; Z Y; A Y N; M N; N O; O M", "M"),
-        ("A B GONE; B GONE", "NONE"),
-        (
-            "A B; B C; C D; D E; E F; F G; G H; H I; I A B C D E F G H I",
-            "A",
-        ),
-        ("A B C; B D; C D; D E; E E", "NONE"),
-        ("A C; B C; C D; D E C; E F; F E", "C"),
-    ] {
-        let found = loop_in(&rt, rt.alloc(), text);
-        assert_eq!(rt; found.as_str(), least, "in {text}");
-    }
-}
-
 #[test]
 fn no_lists_have_no_loop(rt: HostRuntime) {
     let links = Links::new(rt.alloc());

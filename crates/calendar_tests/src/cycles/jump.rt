@@ -133,7 +133,7 @@ const RULES: [Rule; 5] = [
 
 // Saturdays and Sundays are free, and so are 2024-01-08 to 01-12 and 2024-01-31 to 02-02.
 const CLUSTERS: &str =
-    "67 2024-01-08 2024-01-09 2024-01-10 2024-01-11 2024-01-12 2024-01-31 2024-02-01 2024-02-02";
+    "2024-01-08 2024-01-09 2024-01-10 2024-01-11 2024-01-12 2024-01-31 2024-02-01 2024-02-02";
 
 #[test]
 fn jumps_as_named(rt: HostRuntime) -> Result<(), AllocError> {
@@ -167,10 +167,10 @@ fn counts(
     Ok((given, jump.visited(), jump.asked()))
 }
 
-// The same of a calendar, a period, a run cycle and a window, parted by `|`.
+// The same of a period, a run cycle and a window, parted by `|`.
 fn counts_of(rt: &impl Abort, alloc: Global, row: &str) -> Result<(usize, usize, u64), AllocError> {
     let mut parts = row.split('|');
-    let index = index_of(rt, alloc, parts.next().unwrap_or(""))?;
+    let index = index_of(rt, alloc, "")?;
     let period = period_of(rt, alloc, parts.next().unwrap_or(""))?;
     let cycle = cycle_of(rt, alloc, parts.next().unwrap_or(""))?;
     let window = two_days(rt, parts.next().unwrap_or(""));
@@ -194,13 +194,12 @@ fn visits_of_two_weeks(rt: HostRuntime) -> Result<(), AllocError> {
     Ok(())
 }
 
-const ONE_OFFSET: &str =
-    "67|A 2024-01-01 7|RC 3 1 2024-01-01 - 08.00 0 18.00|2024-01-01 2024-01-14";
+const ONE_OFFSET: &str = "A 2024-01-01 7|RC 3 1 2024-01-01 - 08.00 0 18.00|2024-01-01 2024-01-14";
 
 const MANY_OFFSETS: &str =
-    "67|A 2024-01-01 7|RC 3 1,2,3,4,5,6,7,8,9,10,11,12,13,14,15,16,17,18,19,20,21,22,23,24,25,\
+    "A 2024-01-01 7|RC 3 1,2,3,4,5,6,7,8,9,10,11,12,13,14,15,16,17,18,19,20,21,22,23,24,25,\
 26,27,28,29,30,31,32,-1,-2,-3,-4,-5,-6,-7,-8,-9,-10,-11,-12,-13,-14,-15,-16,-17,-18,-19,-20,-21,-22,-23,-24,-25,-26,\
 -27,-28,-29,-30,-31,-32 2024-01-01 - 08.00 0 18.00|2024-01-01 2024-01-14";
 
 const LONG: &str =
-    "67|A 1972-01-01 999|RC 3 -999,999 1972-01-01 - 08.00 0 18.00|1972-01-01 1974-09-25";
+    "A 1972-01-01 999|RC 3 -999,999 1972-01-01 - 08.00 0 18.00|1972-01-01 1974-09-25";
