@@ -45,16 +45,35 @@ impl Definitions {
         }
     }
 
+    // Copies of the calendars and the periods.
+    fn copied_days(&self) -> Result<(ByName<Calendar>, ByName<DefinedPeriod>), AllocError>
+        ensures calendars { IfOk result (λ copy. copy.0 ≡ self.now.calendars) }
+        ensures periods { IfOk result (λ copy. copy.1 ≡ self.now.periods) }
+    {
+        Ok((self.calendars.clone()?, self.periods.clone()?))
+    }
+
+    // Copies of the lists of predecessors and the run cycles.
+    fn copied_lists(&self) -> Result<(ByName<Predecessors>, ByName<RunCycles>), AllocError>
+        ensures predecessors { IfOk result (λ copy. copy.0 ≡ self.now.predecessors) }
+        ensures run_cycles { IfOk result (λ copy. copy.1 ≡ self.now.run_cycles) }
+    {
+        Ok((self.predecessors.clone()?, self.run_cycles.clone()?))
+    }
+
     /// An owned copy.
     pub fn clone(&self) -> Result<Definitions, AllocError>
         ensures { IfOk result (λ copy. copy ≡ self.now) }
     {
+        let applications = self.applications.clone()?;
+        let (calendars, periods) = self.copied_days()?;
+        let (predecessors, run_cycles) = self.copied_lists()?;
         Ok(Definitions {
-            applications: self.applications.clone()?,
-            calendars: self.calendars.clone()?,
-            periods: self.periods.clone()?,
-            predecessors: self.predecessors.clone()?,
-            run_cycles: self.run_cycles.clone()?,
+            applications,
+            calendars,
+            periods,
+            predecessors,
+            run_cycles,
             options: self.options,
         })
     }

@@ -1,6 +1,6 @@
 // All definitions, read from the tables.
 
-ghost use Rattle.std.specs.Prelude.{ℕ, List, IfOk, IfSome, IsSome};
+ghost use Rattle.std.specs.Prelude.{◌≡◌, ℕ, List, IfOk, IfSome, IsSome};
 ghost use Rattle.work_calendars.specs.Calendar.{CalendarEntries};
 ghost use Rattle.app_definitions.specs.declared.applications.Application.{Application as ApplicationValue};
 ghost use Rattle.app_definitions.specs.declared.definitions.Definitions.{Definitions as DefinitionsValue};
@@ -118,6 +118,82 @@ pub fn run_cycles_of_rows(
     read_cycles(alloc, rows, offset_rows)
 }
 
+// What tells days.
+#[derive(Drop)]
+struct Days {
+    calendars: ByName<Calendar>,
+    periods: ByName<DefinedPeriod>,
+}
+
+// What tells applications, beside their run cycles.
+#[derive(Drop)]
+struct Listed {
+    applications: ByName<Application>,
+    predecessors: ByName<Predecessors>,
+}
+
+// The calendars and the periods that have exactly these rows, or none where no sound ones have.
+fn days_of_rows(alloc: Global, stored: &StoredRows) -> Result<Option<Days>, AllocError>
+    ensures calendars { IfOk result (λ found. IfSome found
+        (λ days. AreRowsOf IsCalendarRow stored.now.calendars.items days.calendars)) }
+    ensures periods { IfOk result (λ found. IfSome found
+        (λ days. AreRowsOf IsPeriodRow stored.now.periods.items days.periods)) }
+    ensures told { IfOk result (λ found. IfSome found (λ days. AreEach IsTold days.calendars)) }
+    ensures entries { IfOk result (λ found. IfSome found (λ days. AreEach HasEntry days.periods)) }
+    ensures found { IfOk result (λ found. (calendars : Defined CalendarEntries) (periods : Defined PeriodValue)
+        → AreSound IsSoundCalendar calendars → AreSound IsSoundPeriodOfDays periods
+        → AreRowsOf IsCalendarRow stored.now.calendars.items calendars
+        → AreRowsOf IsPeriodRow stored.now.periods.items periods → IsSome found) }
+{
+    let Some(calendars) = calendars_of_rows(alloc, &stored.calendars)? else {
+        return Ok(None);
+    };
+    let Some(periods) = periods_of_rows(alloc, &stored.periods)? else {
+        return Ok(None);
+    };
+    Ok(Some(Days { calendars, periods }))
+}
+
+// The applications and the lists of predecessors that have exactly these rows, or none where no sound ones have.
+fn listed_of_rows(alloc: Global, stored: &StoredRows) -> Result<Option<Listed>, AllocError>
+    ensures applications { IfOk result (λ found. IfSome found
+        (λ listed. AreRowsOf IsApplicationRow stored.now.applications.items listed.applications)) }
+    ensures predecessors { IfOk result (λ found. IfSome found
+        (λ listed. AreRowsOf IsPredecessorRow stored.now.predecessors.items listed.predecessors)) }
+    ensures told { IfOk result (λ found. IfSome found (λ listed. AreEach ArePredecessors listed.predecessors)) }
+    ensures found { IfOk result (λ found. (applications : Defined ApplicationValue)
+        (predecessors : Defined (List (List ℕ)))
+        → AreSound IsSoundApplication applications → AreSound ArePredecessorNames predecessors
+        → AreRowsOf IsApplicationRow stored.now.applications.items applications
+        → AreRowsOf IsPredecessorRow stored.now.predecessors.items predecessors → IsSome found) }
+{
+    let Some(applications) = applications_of_rows(alloc, &stored.applications)? else {
+        return Ok(None);
+    };
+    let Some(predecessors) = predecessors_of_rows(alloc, &stored.predecessors)? else {
+        return Ok(None);
+    };
+    Ok(Some(Listed {
+        applications,
+        predecessors,
+    }))
+}
+
+// The run cycles that have exactly these rows, or none where no sound ones have.
+fn cycles_of_stored(
+    alloc: Global,
+    stored: &StoredRows,
+) -> Result<Option<ByName<RunCycles>>, AllocError>
+    ensures cycles { IfOk result (λ found. IfSome found (AreRowsOf IsCycleRow stored.now.run_cycles.items)) }
+    ensures offsets { IfOk result (λ found. IfSome found (AreRowsOf IsOffsetRow stored.now.offsets.items)) }
+    ensures told { IfOk result (λ found. IfSome found (AreEach AreCycles)) }
+    ensures found { IfOk result (λ found. (all : Defined (List RunCycleValue)) → AreSound AreSoundCycles all
+        → AreRowsOf IsCycleRow stored.now.run_cycles.items all
+        → AreRowsOf IsOffsetRow stored.now.offsets.items all → IsSome found) }
+{
+    run_cycles_of_rows(alloc, &stored.run_cycles, &stored.offsets)
+}
+
 /// The definitions that have exactly these rows, with these options, or none where no sound ones have.
 pub fn definitions_of_rows(
     alloc: Global,
@@ -128,27 +204,40 @@ pub fn definitions_of_rows(
     ensures found { IfOk result (λ found. (all : DefinitionsValue) → AreSoundDefinitions all
         → HaveRows stored.now options all → IsSome found) }
 {
-    let Some(calendars) = calendars_of_rows(alloc, &stored.calendars)? else {
+    let Some(days) = days_of_rows(alloc, stored)? else {
         return Ok(None);
     };
-    let Some(periods) = periods_of_rows(alloc, &stored.periods)? else {
+    let Some(run_cycles) = cycles_of_stored(alloc, stored)? else {
         return Ok(None);
     };
-    let Some(applications) = applications_of_rows(alloc, &stored.applications)? else {
+    let Some(listed) = listed_of_rows(alloc, stored)? else {
         return Ok(None);
     };
-    let Some(run_cycles) = run_cycles_of_rows(alloc, &stored.run_cycles, &stored.offsets)? else {
-        return Ok(None);
-    };
-    let Some(predecessors) = predecessors_of_rows(alloc, &stored.predecessors)? else {
-        return Ok(None);
-    };
-    Ok(Some(Definitions {
-        applications,
-        calendars,
-        periods,
-        predecessors,
+    Ok(Some(joined(days, listed, run_cycles, options)))
+}
+
+// The definitions of these parts.
+fn joined(
+    days: Days,
+    listed: Listed,
+    run_cycles: ByName<RunCycles>,
+    options: Options,
+) -> Definitions
+    ensures { result ≡ record {
+      applications = listed.applications;
+      calendars = days.calendars;
+      periods = days.periods;
+      predecessors = listed.predecessors;
+      run_cycles = run_cycles;
+      options = options;
+    } }
+{
+    Definitions {
+        applications: listed.applications,
+        calendars: days.calendars,
+        periods: days.periods,
+        predecessors: listed.predecessors,
         run_cycles,
         options,
-    }))
+    }
 }

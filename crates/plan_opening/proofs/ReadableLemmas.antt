@@ -1,6 +1,7 @@
 -- The rows of a sound content can be read, and its definitions have their rows.
 use Rattle.std.proofs.Common.{◌≡◌, ◌↔◌, ◌∙◌, ℕ, Option, Some, None, refl, sym, ap, subst, inl, inr, arith, map}
-use Rattle.std.proofs.Common.{List, [], ◌∷◌, true}
+use Rattle.std.proofs.Common.{List, [], ◌∷◌, true, ◌≤◌, ◌<◌}
+use Rattle.std.specs.Prelude.{◌^◌}
 use Rattle.std.specs.Prelude.{IfSome}
 use Rattle.std.specs.List.{Contains}
 use Rattle.std.specs.Ordering.{is_eq}
@@ -16,6 +17,7 @@ use Rattle.external_dependencies.specs.declared.live.Arrival.{Arrival}
 use Rattle.external_dependencies.specs.declared.pairs.Pair.{Pair}
 use Rattle.external_dependencies.specs.declared.rows.PlacedRow.{PlacedRow}
 use Rattle.occurrences.specs.Serial.{IsSerial}
+use Rattle.occurrences.specs.declared.serial.TheConstants.{GREATEST_SERIAL}
 use Rattle.occurrences.specs.declared.place.CurrentRow.{CurrentRow}
 use Rattle.occurrences.specs.declared.place.Deletion.{Deletion}
 use Rattle.occurrences.specs.declared.place.Place.{Place}
@@ -60,6 +62,25 @@ in_deletions q gone (Current status) is = absurd (cc)
 in_deletions q gone History is = absurd (cc)
 in_deletions q gone (Deleted reason) is = cc
 
+small : (n issued : ℕ) → n ≤ issued → issued ≤ GREATEST_SERIAL → n ≤ GREATEST_SERIAL
+small n issued within few = omega arith
+
+below : (issued : ℕ) → issued ≤ GREATEST_SERIAL → issued < 2 ^ 32
+below issued few = omega arith
+
+-- a seat that has a row, a row with its status or a deletion is taken
+taken_ltp : (s : Seat) (row : Row) → s.ltp ≡ Some row → s ≡ empty_seat → ⊥
+taken_ltp s row is e = let no = ap (λ (s : Seat). s.ltp) e in absurd (cc)
+
+taken_cp : (s : Seat) (current : CurrentRow) → s.cp ≡ Some current → s ≡ empty_seat → ⊥
+taken_cp s current is e = let no = ap (λ (s : Seat). s.cp) e in absurd (cc)
+
+taken_history : (s : Seat) (row : Row) → s.history ≡ Some row → s ≡ empty_seat → ⊥
+taken_history s row is e = let no = ap (λ (s : Seat). s.history) e in absurd (cc)
+
+taken_deletions : (s : Seat) (gone : Deletion) → s.deletions ≡ Some gone → s ≡ empty_seat → ⊥
+taken_deletions s gone is e = let no = ap (λ (s : Seat). s.deletions) e in absurd (cc)
+
 some_is : {X : Type 0} (o : Option X) (P : X → Type 0) → ((x : X) → o ≡ Some x → P x) → IfSome o P
 some_is None P f = tt
 some_is (Some x) P f = f x refl
@@ -92,7 +113,7 @@ module _ (all : Tables) (hold : HoldSound all) where
   -- what stands somewhere has a serial
   is_serial : (n : ℕ) (p : PlacedRow) → StandsAt c.sets n p → IsSerial n
   is_serial n p there = elim (cases_issued c.sets.issued n) [
-    | inl within ↦ let few = hold.sound.sizes.issued in (within.0, omega (arith, within.1))
+    | inl within ↦ (within.0, small n c.sets.issued within.1 hold.sound.sizes.issued)
     | inr past ↦ absurd (not_empty c.sets n p there (hold.sound.serials.unissued n past))
   ]
 
@@ -125,23 +146,23 @@ module _ (all : Tables) (hold : HoldSound all) where
 
   ltp_form : (n : ℕ) (row : Row) → c.sets.ltp n ≡ Some row → IsNumberedRow row
   ltp_form n row is =
-      let (p, stands) = seated n (λ e. let no = ap (λ (s : Seat). s.ltp) e in absurd (cc)) in
+      let (p, stands) = seated n (taken_ltp (seat c.sets n) row is) in
       subst IsNumberedRow (in_ltp p.row row p.place (sym (ap (λ (s : Seat). s.ltp) stands) ∙ is)) (numbered n p stands)
 
   cp_form : (n : ℕ) (current : CurrentRow) → c.sets.cp n ≡ Some current → IsNumberedRow current.row
   cp_form n current is =
-      let (p, stands) = seated n (λ e. let no = ap (λ (s : Seat). s.cp) e in absurd (cc)) in
+      let (p, stands) = seated n (taken_cp (seat c.sets n) current is) in
       subst IsNumberedRow (in_cp p.row current p.place (sym (ap (λ (s : Seat). s.cp) stands) ∙ is)) (numbered n p stands)
 
   history_form : (n : ℕ) (row : Row) → c.sets.history n ≡ Some row → IsNumberedRow row
   history_form n row is =
-      let (p, stands) = seated n (λ e. let no = ap (λ (s : Seat). s.history) e in absurd (cc)) in
+      let (p, stands) = seated n (taken_history (seat c.sets n) row is) in
       subst IsNumberedRow (in_history p.row row p.place (sym (ap (λ (s : Seat). s.history) stands) ∙ is))
       (numbered n p stands)
 
   deletion_form : (n : ℕ) (gone : Deletion) → c.sets.deletions n ≡ Some gone → IsNumberedRow gone.row
   deletion_form n gone is =
-      let (p, stands) = seated n (λ e. let no = ap (λ (s : Seat). s.deletions) e in absurd (cc)) in
+      let (p, stands) = seated n (taken_deletions (seat c.sets n) gone is) in
       subst IsNumberedRow (in_deletions p.row gone p.place (sym (ap (λ (s : Seat). s.deletions) stands) ∙ is))
       (numbered n p stands)
 
@@ -159,7 +180,7 @@ module _ (all : Tables) (hold : HoldSound all) where
     meta = record { bounds = c.sets.bounds; issued = c.sets.issued; options = c.definitions.options };
     form = record {
       bounds = some_is c.sets.bounds AreDays hold.sound.ranges.days;
-      issued = let few = hold.sound.sizes.issued in omega (arith, few);
+      issued = below c.sets.issued hold.sound.sizes.issued;
       default_calendar = hold.sound.ranges.definitions.default_calendar;
     };
     tells = record { exactly = hold.told.facts table.Meta };

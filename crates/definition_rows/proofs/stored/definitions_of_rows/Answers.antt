@@ -1,60 +1,51 @@
-use Rattle.std.proofs.Common.{refl, subst, sym}
+use Rattle.std.proofs.Common.{◌≡◌, refl, subst, sym}
 use Rattle.std.specs.Prelude.{IfSome, IsSome}
 use Rattle.plan_facts.specs.Content.{AreEach, HasEntry, IsApplicationRow, IsTold}
 use Rattle.plan_facts.specs.Facts.{IsCalendarRow, IsCycleRow, IsOffsetRow, IsPeriodRow, IsPredecessorRow}
-use Rattle.definition_rows.specs.Storing.{AreRowsOf}
+use Rattle.definition_rows.specs.Storing.{AreRowsOf, HaveRows}
 use Rattle.definition_rows.specs.Telling.{AreCycles, ArePredecessors}
-use Rattle.definition_rows.proofs.StoredLemmas.{got_rows}
+use Rattle.definition_rows.specs.declared.stored.Days.{Days}
+use Rattle.definition_rows.specs.declared.stored.Listed.{Listed}
 use Rattle.definition_rows.proofs.stored.definitions_of_rows.Goals as goal
 
 pub returns-in_default-clause-found : goal.returns-in_default-clause-found
 returns-in_default-clause-found c all sound have = subst IsSome c.in_default.is
-    (c.in_ok-calendars.ensures.found all.calendars sound.calendars
-    (subst (λ l. AreRowsOf IsCalendarRow l all.calendars) (sym c.deref.ensures.value) have.calendars))
+    (c.in_ok-days.ensures.found all.calendars all.periods sound.calendars sound.periods have.calendars have.periods)
 
 pub returns-in_default-2-clause-found : goal.returns-in_default-2-clause-found
 returns-in_default-2-clause-found c all sound have = subst IsSome c.in_default-2.is
-    (c.in_ok-periods.ensures.found all.periods sound.periods
-    (subst (λ l. AreRowsOf IsPeriodRow l all.periods) (sym c.deref-2.ensures.value) have.periods))
+    (c.in_ok-run_cycles.ensures.found all.run_cycles sound.run_cycles have.run_cycles have.offsets)
 
 pub returns-in_default-3-clause-found : goal.returns-in_default-3-clause-found
 returns-in_default-3-clause-found c all sound have = subst IsSome c.in_default-3.is
-    (c.in_ok-applications.ensures.found all.applications sound.applications
-    (subst (λ l. AreRowsOf IsApplicationRow l all.applications) (sym c.deref-3.ensures.value) have.applications))
-
-pub returns-in_default-4-clause-found : goal.returns-in_default-4-clause-found
-returns-in_default-4-clause-found c all sound have = subst IsSome c.in_default-4.is
-    (c.in_ok-run_cycles.ensures.found all.run_cycles sound.run_cycles
-    (subst (λ l. AreRowsOf IsCycleRow l all.run_cycles) (sym c.deref-4.ensures.value) have.run_cycles)
-    (subst (λ l. AreRowsOf IsOffsetRow l all.run_cycles) (sym c.deref-5.ensures.value) have.offsets))
-
-pub returns-in_default-5-clause-found : goal.returns-in_default-5-clause-found
-returns-in_default-5-clause-found c all sound have = subst IsSome c.in_default-5.is
-    (c.in_ok-predecessors.ensures.found all.predecessors sound.predecessors
-    (subst (λ l. AreRowsOf IsPredecessorRow l all.predecessors) (sym c.deref-6.ensures.value) have.predecessors))
+    (c.in_ok-listed.ensures.found all.applications all.predecessors sound.applications sound.predecessors
+    have.applications have.predecessors)
 
 pub returns-clause-made : goal.returns-clause-made
-returns-clause-made c = let stored = c.args.stored.now in record {
-  calendars = got_rows IsCalendarRow c.deref.result.now stored.calendars.items c.in_ok-calendars.field-0
-      c.in-Some.calendars c.deref.ensures.value c.in-Some.is c.in_ok-calendars.ensures.made;
-  periods = got_rows IsPeriodRow c.deref-2.result.now stored.periods.items c.in_ok-periods.field-0
-      c.in-Some-2.periods c.deref-2.ensures.value c.in-Some-2.is c.in_ok-periods.ensures.made;
-  applications = got_rows IsApplicationRow c.deref-3.result.now stored.applications.items
-      c.in_ok-applications.field-0 c.in-Some-3.applications c.deref-3.ensures.value c.in-Some-3.is
-      c.in_ok-applications.ensures.made;
-  run_cycles = got_rows IsCycleRow c.deref-4.result.now stored.run_cycles.items c.in_ok-run_cycles.field-0
-      c.in-Some-4.run_cycles c.deref-4.ensures.value c.in-Some-4.is c.in_ok-run_cycles.ensures.cycles;
-  offsets = got_rows IsOffsetRow c.deref-5.result.now stored.offsets.items c.in_ok-run_cycles.field-0
-      c.in-Some-4.run_cycles c.deref-5.ensures.value c.in-Some-4.is c.in_ok-run_cycles.ensures.offsets;
-  predecessors = got_rows IsPredecessorRow c.deref-6.result.now stored.predecessors.items
-      c.in_ok-predecessors.field-0 c.in-Some-5.predecessors c.deref-6.ensures.value c.in-Some-5.is
-      c.in_ok-predecessors.ensures.made;
-  options = refl;
-  tellable = record {
-    calendars = subst (λ o. IfSome o (AreEach IsTold)) c.in-Some.is c.in_ok-calendars.ensures.told;
-    periods = subst (λ o. IfSome o (AreEach HasEntry)) c.in-Some-2.is c.in_ok-periods.ensures.told;
-    run_cycles = subst (λ o. IfSome o (AreEach AreCycles)) c.in-Some-4.is c.in_ok-run_cycles.ensures.told;
-    predecessors = subst (λ o. IfSome o (AreEach ArePredecessors)) c.in-Some-5.is
-        c.in_ok-predecessors.ensures.told;
-  };
-}
+returns-clause-made c =
+    let stored = c.args.stored.now in
+    let days = c.in_ok-days.ensures in
+    let cycles = c.in_ok-run_cycles.ensures in
+    let listed = c.in_ok-listed.ensures in
+    subst (HaveRows stored c.args.options) (sym c.joined.ensures) (record {
+      calendars = subst (λ o. IfSome o (λ (days : Days). AreRowsOf IsCalendarRow stored.calendars.items days.calendars))
+          c.in-Some.is days.calendars;
+      periods = subst (λ o. IfSome o (λ (days : Days). AreRowsOf IsPeriodRow stored.periods.items days.periods))
+          c.in-Some.is days.periods;
+      applications = subst (λ o. IfSome o
+          (λ (listed : Listed). AreRowsOf IsApplicationRow stored.applications.items listed.applications))
+          c.in-Some-3.is listed.applications;
+      run_cycles = subst (λ o. IfSome o (AreRowsOf IsCycleRow stored.run_cycles.items)) c.in-Some-2.is cycles.cycles;
+      offsets = subst (λ o. IfSome o (AreRowsOf IsOffsetRow stored.offsets.items)) c.in-Some-2.is cycles.offsets;
+      predecessors = subst (λ o. IfSome o
+          (λ (listed : Listed). AreRowsOf IsPredecessorRow stored.predecessors.items listed.predecessors))
+          c.in-Some-3.is listed.predecessors;
+      options = refl;
+      tellable = record {
+        calendars = subst (λ o. IfSome o (λ (days : Days). AreEach IsTold days.calendars)) c.in-Some.is days.told;
+        periods = subst (λ o. IfSome o (λ (days : Days). AreEach HasEntry days.periods)) c.in-Some.is days.entries;
+        run_cycles = subst (λ o. IfSome o (AreEach AreCycles)) c.in-Some-2.is cycles.told;
+        predecessors = subst (λ o. IfSome o (λ (listed : Listed). AreEach ArePredecessors listed.predecessors))
+            c.in-Some-3.is listed.told;
+      };
+    })
