@@ -30,7 +30,7 @@ use Rattle.sqlite.specs.declared.types.Value.TheVariants.{Text}
 use Rattle.plan_store.proofs.PairLemmas.{held_pair, itself, pair_total, pairs_after_contains}
 use Rattle.plan_facts.specs.Facts.{link_values, natural, pair_values}
 use Rattle.plan_facts.specs.Content.{IsOfList, IsOfSet, job_values, meta_values}
-use Rattle.plan_tables.specs.Writing.{beside, job_put, links_replaced, meta_told, pairs_moved, without_each}
+use Rattle.plan_writing.specs.Writing.{beside, job_put, links_replaced, meta_told, pairs_moved, without_each}
 use Rattle.plan_tables.proofs.Held.{equal_from, Shows, matched, natural_itself, one_natural, one_text, same_cell}
 use Rattle.plan_tables.proofs.Held.{text_itself}
 use Rattle.plan_tables.proofs.SetMoves.{shows_cells, shows_with, shows_without}

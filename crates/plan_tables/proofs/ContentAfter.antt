@@ -30,14 +30,14 @@ use Rattle.plan_store.specs.declared.changes.DefinitionChange.TheVariants.{AsBef
 use Rattle.plan_store.proofs.PairLemmas.{pairs_after_rising}
 use Rattle.plan_facts.specs.Facts.{current_key, current_values, deletion_key, deletion_values, link_values, natural}
 use Rattle.plan_facts.specs.Facts.{pair_values, row_key, row_values}
-use Rattle.plan_tables.specs.Writing.{cp_moved, deletions_moved, history_moved, ltp_moved}
+use Rattle.plan_writing.specs.Writing.{cp_moved, deletions_moved, history_moved, ltp_moved}
 use Rattle.std.proofs.Common.{filter, not}
 use Rattle.plan_facts.specs.Content.{AreEach, HasEntry, IsContentOf, IsFact, IsNamed, IsOfList, IsOfSet, IsSmall}
 use Rattle.plan_facts.specs.Content.{IsTellable}
 use Rattle.plan_facts.specs.Content.{IsTold, IsUnderOwn, job_values, meta_values}
 use Rattle.run_cycles.specs.declared.cycles.RunCycle.{RunCycle}
-use Rattle.plan_tables.specs.Writing.{IsTellableChange, job_kept, links_moved, meta_moved, meta_told, pairs_moved}
-use Rattle.plan_tables.specs.Writing.{beside, rows_moved, plans_written}
+use Rattle.plan_writing.specs.Writing.{IsTellableChange, job_kept, links_moved, meta_moved, meta_told, pairs_moved}
+use Rattle.plan_writing.specs.Writing.{beside, rows_moved, plans_written}
 use Rattle.plan_tables.proofs.ChangeLemmas.{and_both, and_true, job_shown, links_shown, meta_key, meta_shown}
 use Rattle.plan_tables.proofs.ChangeLemmas.{pairs_shown}
 use Rattle.plan_tables.proofs.Held.{Shows, natural_itself, one_natural, same_cell}

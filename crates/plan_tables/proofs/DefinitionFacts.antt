@@ -26,11 +26,11 @@ use Rattle.definition_rows.specs.Telling.{IsTellableBlock}
 use Rattle.plan_facts.specs.Content.{AreEach, ByName, HasEntry, IsApplicationRow, IsContentOf, IsFact, IsNamed}
 use Rattle.plan_facts.specs.Content.{IsOfSome, IsTellable, IsTold, meta_values}
 use Rattle.plan_facts.specs.Facts.{IsCalendarRow, IsCycleRow, IsOffsetRow, IsPeriodRow, IsPredecessorRow}
-use Rattle.plan_tables.specs.Redefining.{AreMovesOf, AreRowsOf, BringsRows, cycles_gone, cycles_renewed}
-use Rattle.plan_tables.specs.Redefining.{definitions_moved, kind_moved, kind_of, moved_by, name_key}
-use Rattle.plan_tables.specs.Redefining.{renewed, rows_of}
-use Rattle.plan_tables.specs.Writing.{meta_told, with_each, without_each}
-use Rattle.plan_tables.specs.declared.redefining.DefinitionMoves.{DefinitionMoves}
+use Rattle.plan_writing.specs.Redefining.{AreMovesOf, AreRowsOf, BringsRows, cycles_gone, cycles_renewed}
+use Rattle.plan_writing.specs.Redefining.{definitions_moved, kind_moved, kind_of, moved_by, name_key}
+use Rattle.plan_writing.specs.Redefining.{renewed, rows_of}
+use Rattle.plan_writing.specs.Writing.{meta_told, with_each, without_each}
+use Rattle.plan_writing.specs.declared.redefining.DefinitionMoves.{DefinitionMoves}
 use Rattle.plan_tables.proofs.ChangeLemmas.{meta_key, meta_shown}
 use Rattle.plan_tables.proofs.ContentAfter.{told_other}
 use Rattle.plan_tables.proofs.Held.{Shows, matched}

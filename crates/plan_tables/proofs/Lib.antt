@@ -1,5 +1,3 @@
-pub mod Turns
-pub mod KindLemmas
 pub mod Held
 pub mod SetMoves
 pub mod MovedSets
@@ -7,7 +5,6 @@ pub mod ChangeLemmas
 pub mod ContentAfter
 pub mod StoredLemmas
 pub mod SetLemmas
-pub mod AloneLemmas
 pub mod NameTables
 pub mod NamedRows
 pub mod DefinitionFacts

@@ -18,7 +18,7 @@ use Rattle.plan_store.specs.Changes.{FitsSet, moved_set}
 use Rattle.plan_store.specs.declared.changes.Moves.{Moves}
 use Rattle.plan_store.proofs.LookLemmas.{look_at, look_lacks, look_none, look_some}
 use Rattle.plan_facts.specs.Content.{IsOfSet, IsUnderOwn}
-use Rattle.plan_tables.specs.Writing.{moved_in, with_each, without_each}
+use Rattle.plan_writing.specs.Writing.{moved_in, with_each, without_each}
 use Rattle.plan_tables.proofs.Held.{Shows, matched}
 use Rattle.plan_tables.proofs.SetMoves.{shows_with, shows_without, with_other, without_other}
 use Rattle.plan_facts.proofs.Told.{is_some as same_some, none_some}

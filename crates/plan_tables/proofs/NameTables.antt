@@ -20,8 +20,8 @@ use Rattle.plan_lists.proofs.KeyLemmas.{contains_cases, contains_first, contains
 use Rattle.plan_schema.specs.Rows.{Tables, shown, stored, with_cells}
 use Rattle.plan_schema.specs.declared.tables.Table.{Table}
 use Rattle.plan_facts.specs.Content.{AreEach, ByName, IsOfSome}
-use Rattle.plan_tables.specs.Redefining.{AreRowsOf, name_key, rows_of}
-use Rattle.plan_tables.specs.Writing.{with_each, without_each}
+use Rattle.plan_writing.specs.Redefining.{AreRowsOf, name_key, rows_of}
+use Rattle.plan_writing.specs.Writing.{with_each, without_each}
 use Rattle.plan_tables.proofs.ChangeLemmas.{and_both, and_true, apart}
 use Rattle.plan_tables.proofs.Held.{Shows, equal_from, matched, one_text, same_cell, text_itself}
 use Rattle.plan_tables.proofs.SetMoves.{shows_cells, shows_without}

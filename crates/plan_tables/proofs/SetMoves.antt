@@ -11,7 +11,7 @@ use Rattle.plan_schema.specs.Rows.{Tables, matches, placed, shown, stored, with_
 use Rattle.plan_schema.specs.Schema.{tree}
 use Rattle.plan_schema.specs.declared.tables.Table.{Table}
 use Rattle.plan_facts.specs.Content.{IsOfList}
-use Rattle.plan_tables.specs.Writing.{with_each, without_each}
+use Rattle.plan_writing.specs.Writing.{with_each, without_each}
 use Rattle.plan_tables.proofs.Held.{Shows, matched, matches_shown, mem_filter, mem_placed}
 
 same_tree : (t : Table) → (tree t == tree t) ≡ true

@@ -14,9 +14,9 @@ use Rattle.definition_rows.specs.Storing.{IsStorable}
 use Rattle.definition_rows.proofs.StorableRows.{applications_storable, calendars_storable, cycles_storable}
 use Rattle.definition_rows.proofs.StorableRows.{offsets_storable, periods_storable, predecessors_storable}
 use Rattle.plan_facts.specs.Content.{ByName, IsOfSome}
-use Rattle.plan_tables.specs.Redefining.{AreMovesOf, AreRowsFor, AreRowsOf, AreStorableMoves, BringsRows, CanStore}
-use Rattle.plan_tables.specs.Redefining.{kind_of}
-use Rattle.plan_tables.specs.declared.redefining.DefinitionMoves.{DefinitionMoves}
+use Rattle.plan_writing.specs.Redefining.{AreMovesOf, AreRowsFor, AreRowsOf, AreStorableMoves, BringsRows, CanStore}
+use Rattle.plan_writing.specs.Redefining.{kind_of}
+use Rattle.plan_writing.specs.declared.redefining.DefinitionMoves.{DefinitionMoves}
 
 rows_for : {D : Type 0} (t : Table) (IsRow : List ℕ → D → Values → Type 0) (all : ByName D)
     (names : List (List ℕ)) (rows : List Values)

@@ -19,9 +19,9 @@ use Rattle.plan_store.specs.declared.changes.DefinitionChange.TheVariants.{AsBef
 use Rattle.plan_facts.specs.Content.{HaveOneContent, IsContentOf}
 use Rattle.plan_opening.specs.Opened.{IsStored}
 use Rattle.plan_tables.specs.Stored.{MayLeave}
-use Rattle.plan_tables.specs.Redefining.{AreMovesOf, definitions_moved, written}
-use Rattle.plan_tables.specs.Writing.{IsTellableChange}
-use Rattle.plan_tables.specs.declared.redefining.DefinitionMoves.{DefinitionMoves}
+use Rattle.plan_writing.specs.Redefining.{AreMovesOf, definitions_moved, written}
+use Rattle.plan_writing.specs.Writing.{IsTellableChange}
+use Rattle.plan_writing.specs.declared.redefining.DefinitionMoves.{DefinitionMoves}
 use Rattle.plan_tables.proofs.ContentAfter.{plans_after}
 use Rattle.plan_tables.proofs.DefinitionFacts.{redefined_content}
 use Rattle.plan_tables.proofs.SetLemmas.{content_set}

@@ -1,5 +1,3 @@
-pub mod Writing
 pub mod Stored
-pub mod Redefining
 pub mod Unopened
 pub mod Found

@@ -2,15 +2,15 @@
 
 ghost use Rattle.std.specs.Prelude.{◌≡◌, ◌∷◌, [], None, Some, IfOk, IfSome};
 ghost use Rattle.definition_rows.specs.Telling.{IsTellableBlock};
-ghost use Rattle.plan_tables.specs.Redefining.{AreMovesOf, BringsRows, kind_of};
+ghost use Rattle.plan_writing.specs.Redefining.{AreMovesOf, BringsRows, kind_of};
 
-use crate::redefining::DefinitionMoves;
 use app_definitions::{Block, Kind};
 use definition_rows::{
     application_rows, block_is_told, calendar_rows, cycle_rows, offset_rows, period_rows,
     predecessor_rows,
 };
 use plan_store::DefinitionChange;
+use plan_writing::DefinitionMoves;
 use std::alloc::{AllocError, Global};
 use work_calendars::Name;
 

@@ -13,13 +13,12 @@ ghost use Rattle.plan_store.specs.declared.room.Room.{Room as RoomValue};
 ghost use Rattle.plan_store.specs.declared.stores.StoreFault.TheVariants.{Memory};
 ghost use Rattle.plan_facts.specs.Content.{answer_text, IsContentOf};
 ghost use Rattle.plan_opening.specs.Opened.{IsStored};
-ghost use Rattle.plan_tables.specs.Redefining.{AreMovesOf};
-ghost use Rattle.plan_tables.specs.Writing.{IsTellableChange};
+ghost use Rattle.plan_writing.specs.Redefining.{AreMovesOf};
+ghost use Rattle.plan_writing.specs.Writing.{IsTellableChange};
 
-use crate::redefining::DefinitionMoves;
-use crate::writing::commit_change;
 use app_definitions::Definitions;
 use plan_store::{Change, Content, DefinitionChange, Room, StoreFault};
+use plan_writing::{DefinitionMoves, commit_change};
 use sqlite::{Alter, Connection, Error, ErrorCode};
 use std::alloc::{AllocError, Global};
 use std::mem::replace;

@@ -3,12 +3,12 @@
 ghost use Rattle.std.specs.Prelude.{◌≡◌, ◌<◌, ◌^◌, IfOk, IfSome};
 ghost use Rattle.planner_machine.specs.declared.job.Job.{Job as JobValue};
 ghost use Rattle.plan_facts.specs.Content.{answer_text};
-ghost use Rattle.plan_tables.specs.Redefining.{AreMovesOf};
+ghost use Rattle.plan_writing.specs.Redefining.{AreMovesOf};
 
 use crate::answers::{has_number, job_line};
 use crate::definition_moves::moves_of;
-use crate::redefining::DefinitionMoves;
 use plan_store::Change;
+use plan_writing::DefinitionMoves;
 use std::alloc::{AllocError, Global};
 
 /// What moves in the tables of definitions, and the line that the job was answered.

@@ -13,7 +13,7 @@ ghost use Rattle.plan_store.specs.Faults.{MoreFailures};
 ghost use Rattle.plan_store.specs.declared.stores.StoreFault.TheVariants.{Device};
 ghost use Rattle.plan_facts.specs.Content.{answer_text, IsContentOf};
 ghost use Rattle.plan_opening.specs.Opened.{IsStored};
-ghost use Rattle.plan_tables.specs.Redefining.{AreMovesOf};
+ghost use Rattle.plan_writing.specs.Redefining.{AreMovesOf};
 ghost use Rattle.plan_tables.specs.Stored.{MayLeave};
 
 use crate::answers::change_is_tellable;
