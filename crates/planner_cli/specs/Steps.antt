@@ -6,12 +6,13 @@ use Rattle.plan_store.specs.Listings.{ShowPairs, ShowRows, Shown}
 use Rattle.run_cycles.specs.declared.named.Named.{Named}
 use Rattle.planner_machine.specs.Content.{Content}
 use Rattle.planner_machine.specs.Days.{ListsDays}
-use Rattle.planner_machine.specs.Statement.{Answer, Days, ListPairs, ListRows, Statement, Steps, Trial}
+use Rattle.planner_machine.specs.Statement.{Answer, Change, Days, ListPairs, ListRows, Statement, Steps, Trial}
 use Rattle.planner_machine.specs.Stream.{IsStatement}
 use Rattle.stream_items.specs.Items.{Item}
 use Rattle.planner_cli.specs.Asked.{Asks}
 use Rattle.planner_cli.specs.Outcomes.{answer_text, refusing}
-use Rattle.planner_cli.specs.Replies.{Reply}
+use Rattle.planner_cli.specs.Replies.{Prints, Reply}
+use Rattle.planner_cli.specs.declared.answers.Printed.{Printed}
 use Rattle.planner_cli.specs.Rows.{AreDaysLines, IsShownText, ShowsTrial}
 
 -- the rows that a statement prints before its reply line
@@ -33,6 +34,11 @@ pub record Serves (statement : Statement) (c : Content) (reply : Reply) (c' : Co
   pub line : reply.line ≡ answer_text answer
   -- its values are such as a line and a block give
   pub well_formed : IsStatement statement
+
+-- what is printed answers a trial of the change, and the content stays as it is
+abbrev pub TellsTrial : Change → Content → Printed → Type 0
+TellsTrial change c printed =
+    (reply : Reply) × Serves (Trial change) c reply c × Prints reply printed.text.items printed.is_accepted
 
 -- what is no statement is refused, and nothing changes
 abbrev pub AnswersAsked : Option Statement → Content → Reply → Content → Type 0

@@ -35,8 +35,12 @@ pub(crate) fn print_answer(
     }
 }
 
-// What a refused statement prints.
-fn refused(alloc: Global, rows: Vec<u8>, refusal: &Refusal) -> Result<Printed, AllocError>
+/// What a refused statement prints.
+pub(crate) fn refused(
+    alloc: Global,
+    rows: Vec<u8>,
+    refusal: &Refusal,
+) -> Result<Printed, AllocError>
     ensures { IfOk result (λ printed. (lines : List (List ℕ)) → rows.items ≡ flat_map ended lines
         → Prints (record { rows = lines; line = refusal_text refusal.now }) printed.text.items printed.is_accepted) }
 {
@@ -50,8 +54,8 @@ fn refused(alloc: Global, rows: Vec<u8>, refusal: &Refusal) -> Result<Printed, A
 
 ghost use Rattle.plan_listings.specs.Reply.{refusal_text, reply_text};
 
-// What an accepted statement prints.
-fn accepted(alloc: Global, rows: Vec<u8>, reply: &Reply) -> Result<Printed, AllocError>
+/// What an accepted statement prints.
+pub(crate) fn accepted(alloc: Global, rows: Vec<u8>, reply: &Reply) -> Result<Printed, AllocError>
     ensures { IfOk result (λ printed. (lines : List (List ℕ)) → rows.items ≡ flat_map ended lines
         → Prints (record { rows = lines; line = reply_text reply.now }) printed.text.items printed.is_accepted) }
 {

@@ -3,18 +3,22 @@ ghost use Rattle.std.specs.Prelude.{◌≡◌, IfOk, filter, map};
 ghost use Rattle.planner_machine.specs.Content.{Content};
 ghost use Rattle.planner_machine.specs.DailyPlan.{is_completed, is_deleted, is_uncompleted};
 ghost use Rattle.planner_machine.specs.Sound.{IsSound};
-ghost use Rattle.planner_machine.specs.Statement.{Trial};
+ghost use Rattle.planner_machine.specs.Laws.{IsWellFormed};
+ghost use Rattle.planner_machine.specs.Statement.{Trial, decision_of};
 ghost use Rattle.plan_listings.specs.Report.{IsReport};
-ghost use Rattle.plan_store.specs.Views.{shown};
-ghost use Rattle.planner_cli.specs.Replies.{Prints, Reply as ReplyValue};
+ghost use Rattle.plan_lists.specs.Rows.{of_current};
+ghost use Rattle.plan_store.specs.Verdicts.{VerdictIs};
+ghost use Rattle.plan_store.specs.Views.{IsAny, ListsSet, shown};
+ghost use Rattle.planner_cli.specs.declared.requests.DailyRequest.{DailyRequest as DailyValue};
+ghost use Rattle.planner_cli.specs.declared.requests.PlanRequest.{PlanRequest as PlanValue};
 ghost use Rattle.planner_cli.specs.Requests.{daily_change, plan_change};
-ghost use Rattle.planner_cli.specs.Steps.{Serves};
+ghost use Rattle.planner_cli.specs.Steps.{Serves, TellsTrial};
 ghost use Rattle.planner_cli.specs.Stores.{AnswersBy};
 ghost use Rattle.occurrences.specs.declared.place.CurrentRow.{CurrentRow as CurrentRowValue};
 ghost use Rattle.planner_cli.specs.Rows.{daily_signed};
 ghost use Rattle.planner_cli.specs.Trials.{daily_changes};
 
-use crate::answers::{Printed, print_answer};
+use crate::answers::{Printed, accepted, refused};
 use crate::decisions::{decide_daily, decide_plan, need_of_daily};
 use crate::requests::{DailyRequest, PlanRequest, tell_days};
 use occurrences::{CurrentRow, Row, Status};
@@ -42,19 +46,27 @@ pub(crate) fn answer_plan_trial<S: PlanStore>(
 
 // What a trial of the long-term plan prints.
 fn plan_trial(alloc: Global, view: &View<'_>, plan: &PlanRequest) -> Result<Printed, AllocError>
-    ensures { IfOk result (λ printed. (c : Content) → shown view.now ≡ c → IsSound c → (reply : ReplyValue)
-        × Serves (Trial (plan_change plan.now)) c reply c × Prints reply printed.text.items printed.is_accepted) }
+    ensures { IfOk result (λ printed. (c : Content) → shown view.now ≡ c → IsSound c
+        → TellsTrial (plan_change plan.now) c printed) }
+{
+    tell_days(plan);
+    let verdict = decide_plan(alloc, view, plan)?;
+    print_plan(alloc, &verdict)
+}
+
+// What a trial prints of the verdict on a change of the long-term plan.
+fn print_plan(alloc: Global, verdict: &Verdict) -> Result<Printed, AllocError>
+    ensures { IfOk result (λ printed. (plan : PlanValue) (c : Content) → IsWellFormed (plan_change plan) → IsSound c
+        → VerdictIs (decision_of (plan_change plan)) c verdict.now → TellsTrial (plan_change plan) c printed) }
 {
     fate_is_followed();
     sound_content_stays_sound();
-    tell_days(plan);
-    let verdict = decide_plan(alloc, view, plan)?;
     match verdict {
         Verdict::Done(change, reply) => {
             let rows = ltp_report(alloc, &change.ltp.put, &change.ltp.gone)?;
-            print_answer(alloc, rows, &Ok(reply))
+            accepted(alloc, rows, reply)
         }
-        Verdict::Refused(refusal) => print_answer(alloc, Vec::new(alloc), &Err(refusal)),
+        Verdict::Refused(refusal) => refused(alloc, Vec::new(alloc), refusal),
     }
 }
 
@@ -77,19 +89,31 @@ pub(crate) fn answer_daily_trial<S: PlanStore>(
 
 // What a trial of a daily plan prints.
 fn daily_trial(alloc: Global, view: &View<'_>, daily: &DailyRequest) -> Result<Printed, AllocError>
-    ensures { IfOk result (λ printed. (c : Content) → shown view.now ≡ c → IsSound c → (reply : ReplyValue)
-        × Serves (Trial (daily_change daily.now)) c reply c × Prints reply printed.text.items printed.is_accepted) }
+    ensures { IfOk result (λ printed. (c : Content) → shown view.now ≡ c → IsSound c
+        → TellsTrial (daily_change daily.now) c printed) }
+{
+    let verdict = decide_daily(alloc, view, daily)?;
+    print_daily(alloc, view.cp(), &verdict)
+}
+
+// What a trial prints of the verdict on a daily plan, over these rows of the current plan.
+fn print_daily(
+    alloc: Global,
+    current: &[CurrentRow],
+    verdict: &Verdict,
+) -> Result<Printed, AllocError>
+    ensures { IfOk result (λ printed. (daily : DailyValue) (c : Content) → IsSound c
+        → ListsSet of_current c.sets.cp IsAny current.now
+        → VerdictIs (decision_of (daily_change daily)) c verdict.now → TellsTrial (daily_change daily) c printed) }
 {
     fate_is_followed();
     sound_content_stays_sound();
-    let verdict = decide_daily(alloc, view, daily)?;
     match verdict {
         Verdict::Done(change, reply) => {
-            let current = view.cp();
             let rows = daily_rows(alloc, current, &change.ltp.gone)?;
-            print_answer(alloc, rows, &Ok(reply))
+            accepted(alloc, rows, reply)
         }
-        Verdict::Refused(refusal) => print_answer(alloc, Vec::new(alloc), &Err(refusal)),
+        Verdict::Refused(refusal) => refused(alloc, Vec::new(alloc), refusal),
     }
 }
 
