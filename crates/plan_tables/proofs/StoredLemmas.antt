@@ -14,7 +14,6 @@ use Rattle.plan_schema.specs.declared.tables.Table.{Table}
 use Rattle.plan_store.specs.Changes.{after, Fits, redefined}
 use Rattle.plan_store.specs.Room.{with_definitions, with_pairs_of}
 use Rattle.plan_store.specs.declared.changes.Change.{Change}
-use Rattle.plan_store.specs.declared.changes.DefinitionChange.{DefinitionChange}
 use Rattle.plan_store.specs.declared.changes.DefinitionChange.TheVariants.{AsBefore}
 use Rattle.plan_facts.specs.Content.{HaveOneContent, IsContentOf}
 use Rattle.plan_opening.specs.Opened.{IsStored}
@@ -60,18 +59,20 @@ module _ (c : Content) (change : Change) (moves : DefinitionMoves) (fits : Fits 
       (record { ltp = fits.ltp; cp = fits.cp; history = fits.history; deletions = fits.deletions; job = fits.job })
       refl (record { links = told.links; job = told.job })
 
+  -- what is left fits the lists once the definitions are changed and the pairs are out
+  pub left_fits : (left : Change) → left ≡ rest → (d : Content)
+      → d ≡ with_definitions (redefined change.definitions c.definitions) (with_pairs_of [] c) → Fits left d
+  left_fits left is_rest d is = subst (λ (k : Change). Fits k d) (sym is_rest)
+      (subst (λ (k : Content). Fits rest k) (sym is)
+      (record { ltp = fits.ltp; cp = fits.cp; history = fits.history; deletions = fits.deletions; job = fits.job }))
+
   -- the pairs are out of the lists while the tables are written
-  pub tables_after : (definitions left : DefinitionChange) → definitions ≡ change.definitions → left ≡ AsBefore
-      → (old : State) (db : Trees) (d : Content)
-      → d ≡ with_definitions (redefined definitions c.definitions) (with_pairs_of [] c) → IsStored old c
-      → tables_of db ≡ written d moves (record change { definitions = left }) (tables_of old.now.trees)
-      → IsContentOf (tables_of db) (after change c)
-  tables_after definitions left taken as_before old db d is stored e =
-      let same : d ≡ with_definitions (redefined change.definitions c.definitions) (with_pairs_of [] c) =
-      is ∙ ap (λ k. with_definitions (redefined k c.definitions) (with_pairs_of [] c)) taken in
-      subst (λ all. IsContentOf all (after change c)) (sym (e ∙ (λ i. written (same i) moves
-      (record change { definitions = as_before i }) (tables_of old.now.trees))))
-      (content_after (tables_of old.now.trees) stored.content)
+  pub tables_after : (left : Change) → left ≡ rest → (old : State) (db : Trees) (d : Content)
+      → d ≡ with_definitions (redefined change.definitions c.definitions) (with_pairs_of [] c) → IsStored old c
+      → tables_of db ≡ written d moves left (tables_of old.now.trees) → IsContentOf (tables_of db) (after change c)
+  tables_after left is_rest old db d is stored e =
+      subst (λ all. IsContentOf all (after change c)) (sym (e ∙ (λ i. written (is i) moves (is_rest i)
+      (tables_of old.now.trees)))) (content_after (tables_of old.now.trees) stored.content)
 
 -- what a crash leaves of a database that keeps a content is that content
 pub leaves_one : {S : Type 0} (g : Ghosts S)

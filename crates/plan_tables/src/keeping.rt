@@ -9,6 +9,7 @@ ghost use Rattle.plan_store.specs.Changes.{Fits, after, redefined};
 ghost use Rattle.plan_store.specs.Contents.{content_of};
 ghost use Rattle.plan_store.specs.Room.{HasRoom, with_definitions, with_pairs_of};
 ghost use Rattle.plan_store.specs.declared.changes.Change.{Change as ChangeValue};
+ghost use Rattle.plan_store.specs.declared.changes.DefinitionChange.TheVariants.{AsBefore};
 ghost use Rattle.plan_store.specs.declared.room.Room.{Room as RoomValue};
 ghost use Rattle.plan_store.specs.declared.stores.StoreFault.TheVariants.{Memory};
 ghost use Rattle.plan_facts.specs.Content.{answer_text, IsContentOf};
@@ -68,6 +69,13 @@ fn fault_of<S: Alter>(conn: &mut Connection<S>, error: &Error) -> StoreFault
 struct Begun {
     room: Room,
     was: Option<Definitions>,
+}
+
+// A change under way: what it has begun in the lists, and what is left of it.
+#[derive(Drop)]
+struct Underway {
+    begun: Begun,
+    rest: Change,
 }
 
 // Changes the definitions of the lists, and gives them as they were, where they change; or where memory is refused,
@@ -133,14 +141,46 @@ fn begin(
     }
 }
 
-// Takes back what was begun.
-fn undo(lists: &mut Content, begun: Begun)
-    ensures { content_of lists.new ≡ with_pairs_of begun.room.pairs.items
-        (with_definitions (unwrap_or begun.was (content_of lists.old).definitions) (content_of lists.old)) }
+// Begins a change in the lists; or where memory is refused, changes nothing.
+fn start(lists: &mut Content, alloc: Global, change: Change) -> Result<Underway, AllocError>
+    requires { Fits change (content_of lists.old) }
+    ensures rest { IfOk result (λ underway. underway.rest ≡ record change { definitions = AsBefore }) }
+    ensures pairs { IfOk result (λ underway. underway.begun.room.pairs.items ≡ (content_of lists.old).pairs) }
+    ensures room { IfOk result (λ underway. HasRoom underway.rest lists.new underway.begun.room) }
+    ensures was { IfOk result (λ underway. unwrap_or underway.begun.was (content_of lists.new).definitions
+        ≡ (content_of lists.old).definitions) }
+    ensures ok { OnOk result (content_of lists.new
+        ≡ with_definitions (redefined change.definitions (content_of lists.old).definitions)
+        (with_pairs_of [] (content_of lists.old))) }
+    ensures err { OnErr result (content_of lists.new ≡ content_of lists.old) }
 {
-    let Begun { room, was } = begun;
+    let mut rest = change;
+    let definitions = replace(&mut rest.definitions, DefinitionChange::AsBefore);
+    let begun = begin(lists, alloc, &rest, definitions)?;
+    Ok(Underway { begun, rest })
+}
+
+// Takes back what was begun.
+fn undo(lists: &mut Content, underway: Underway)
+    ensures { content_of lists.new ≡ with_pairs_of underway.begun.room.pairs.items
+        (with_definitions (unwrap_or underway.begun.was (content_of lists.old).definitions) (content_of lists.old)) }
+{
+    let Begun { room, was } = underway.begun;
     restore(lists, was);
     lists.put_back(room);
+}
+
+// Changes the lists by what is left of the change.
+fn complete(lists: &mut Content, underway: Underway)
+    requires fits { Fits underway.rest (content_of lists.old) }
+    requires room { HasRoom underway.rest lists.old underway.begun.room }
+    requires defined { underway.rest.definitions ≡ AsBefore }
+    ensures { content_of lists.new
+        ≡ after underway.rest (with_pairs_of underway.begun.room.pairs.items (content_of lists.old)) }
+{
+    let Underway { begun, rest } = underway;
+    let Begun { room, was: _ } = begun;
+    lists.finish(room, rest);
 }
 
 /// Makes a change in the lists and in the tables, all of it or nothing, also over a crash. The line is that of the
@@ -170,19 +210,17 @@ pub(crate) fn change_both<S: Alter>(
         (λ db. IsStored (state S.Store conn.old) (content_of lists.old)
         → IsContentOf (tables_of db) (after change (content_of lists.old))) }
 {
-    let mut rest = change;
-    let definitions = replace(&mut rest.definitions, DefinitionChange::AsBefore);
-    let begun = match begin(lists, alloc, &rest, definitions) {
-        Ok(begun) => begun,
+    let underway = match start(lists, alloc, change) {
+        Ok(underway) => underway,
         Err(_) => return Err(StoreFault::Memory),
     };
-    match commit_change(conn, alloc, lists, moves, &rest, line) {
+    match commit_change(conn, alloc, lists, moves, &underway.rest, line) {
         Ok(()) => {
-            lists.finish(begun.room, rest);
+            complete(lists, underway);
             Ok(())
         }
         Err(error) => {
-            undo(lists, begun);
+            undo(lists, underway);
             Err(fault_of(conn, &error))
         }
     }

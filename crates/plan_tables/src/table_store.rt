@@ -89,6 +89,31 @@ impl<S: Alter + Drop> TableStore<S> {
         StoreFault::Device
     }
 
+    // What is made of a change before it is written. None is where the store is broken, where tables can't tell the
+    // change, which breaks it, or where memory is refused.
+    fn prepared(&mut self, alloc: Global, change: &Change) -> Result<Prepared, StoreFault>
+        ensures whole { OnOk result (self.old.is_broken ≡ false) }
+        ensures same { OnOk result (self.new ≡ self.old) }
+        ensures moves { IfOk result (λ made. AreMovesOf change.now.definitions made.moves) }
+        ensures number { IfOk result (λ _. IfSome change.now.job (λ (job : JobValue). job.number < 2 ^ 63)) }
+        ensures line { IfOk result (λ made. IfSome change.now.job
+            (λ (job : JobValue). made.line.items ≡ answer_text job.reply)) }
+        ensures lists { self.new.lists ≡ self.old.lists }
+        ensures conn { self.new.conn ≡ self.old.conn }
+        ensures blames { IfErr result (λ fault. fault ≡ Device
+            → MoreFailures self.old.failures self.new.failures ⊎ (0 < self.old.failures)) }
+        ensures counts { self.old.failures ≤ self.new.failures }
+    {
+        if self.is_broken {
+            return Err(StoreFault::Device);
+        }
+        match prepare(alloc, change) {
+            Ok(Some(prepared)) => Ok(prepared),
+            Ok(None) => Err(self.fail()),
+            Err(_) => Err(StoreFault::Memory),
+        }
+    }
+
     // Makes a change that is prepared in the tables and in the lists, all of it or nothing, also over a crash.
     fn change_so(
         &mut self,
@@ -208,13 +233,7 @@ impl<S: Alter + Drop> PlanStore for TableStore<S> {
     }
 
     fn apply(&mut self, alloc: Global, change: Change) -> Result<(), StoreFault> {
-        if self.is_broken {
-            return Err(StoreFault::Device);
-        }
-        match prepare(alloc, &change) {
-            Ok(Some(prepared)) => self.change_so(alloc, &prepared, change),
-            Ok(None) => Err(self.fail()),
-            Err(_) => Err(StoreFault::Memory),
-        }
+        let prepared = self.prepared(alloc, &change)?;
+        self.change_so(alloc, &prepared, change)
     }
 }

@@ -1,19 +1,15 @@
-use Rattle.std.proofs.Common.{sym, subst}
+use Rattle.std.proofs.Common.{sym}
 use Rattle.sqlite.specs.Held.{state}
 use Rattle.sqlite.proofs.StateLemmas.{survives_then, survives_weaker}
-use Rattle.planner_machine.specs.Content.{Content}
-use Rattle.plan_store.specs.Changes.{Fits}
 use Rattle.plan_store.specs.Contents.{content_of}
 use Rattle.plan_tables.proofs.StorableMoves.{storable_moves}
-use Rattle.plan_tables.proofs.StoredLemmas.{tables_after}
+use Rattle.plan_tables.proofs.StoredLemmas.{left_fits, tables_after}
 use Rattle.plan_tables.proofs.keeping.change_both.Goals as goal
 
-pub finish-requires-clause-fits : goal.finish-requires-clause-fits
-finish-requires-clause-fits g c =
-    let fits = c.requires.fits in
-    subst (λ (k : Content). Fits (record c.args.change { definitions = c.replace-definitions.new.dest }) k)
-    (sym c.in-Ok.ensures.ok)
-    (record { ltp = fits.ltp; cp = fits.cp; history = fits.history; deletions = fits.deletions; job = fits.job })
+pub complete-requires-clause-fits : goal.complete-requires-clause-fits
+complete-requires-clause-fits g c = left_fits (content_of c.args.lists.now) c.args.change c.args.moves.now
+    c.requires.fits c.requires.moves c.requires.told c.in-Ok.underway.rest c.in-Ok.ensures.rest
+    (content_of c.start.new.lists) c.in-Ok.ensures.ok
 
 pub commit_change-requires-clause-storable : goal.commit_change-requires-clause-storable
 commit_change-requires-clause-storable g c = storable_moves c.args.change.definitions c.args.moves.now c.requires.moves
@@ -27,21 +23,17 @@ returns-in-Ok-commit_change-clause-done g c clean stored =
       plan = d.0;
       settled = sym (told.committed clean);
       content = tables_after (content_of c.args.lists.now) c.args.change c.args.moves.now c.requires.fits
-          c.requires.moves c.requires.told
-          c.replace-definitions.result c.replace-definitions.new.dest
-          c.replace-definitions.ensures.value c.replace-definitions.ensures.after
+          c.requires.moves c.requires.told c.in-Ok.underway.rest c.in-Ok.ensures.rest
           (state g.S.Store c.args.conn.now) (state g.S.Store c.commit_change.new.conn).now.trees
-          (content_of c.begin.new.lists) c.in-Ok.ensures.ok stored d.1;
+          (content_of c.start.new.lists) c.in-Ok.ensures.ok stored d.1;
     }
 
 pub returns-in-Ok-commit_change-clause-crash : goal.returns-in-Ok-commit_change-clause-crash
 returns-in-Ok-commit_change-clause-crash g c =
     survives_weaker (state g.S.Store c.args.conn.now) (state g.S.Store c.commit_change.new.conn) _ _
     (λ clean db h stored. tables_after (content_of c.args.lists.now) c.args.change c.args.moves.now c.requires.fits
-    c.requires.moves c.requires.told
-    c.replace-definitions.result c.replace-definitions.new.dest
-    c.replace-definitions.ensures.value c.replace-definitions.ensures.after
-    (state g.S.Store c.args.conn.now) db (content_of c.begin.new.lists) c.in-Ok.ensures.ok stored (h stored.plan))
+    c.requires.moves c.requires.told c.in-Ok.underway.rest c.in-Ok.ensures.rest
+    (state g.S.Store c.args.conn.now) db (content_of c.start.new.lists) c.in-Ok.ensures.ok stored (h stored.plan))
     c.commit_change.ensures.crash
 
 pub returns-in-Err-commit_change-clause-crash : goal.returns-in-Err-commit_change-clause-crash
@@ -49,9 +41,7 @@ returns-in-Err-commit_change-clause-crash g c =
     survives_then (state g.S.Store c.args.conn.now) (state g.S.Store c.commit_change.new.conn)
     (state g.S.Store c.fault_of.new.conn) _ (λ _. ⊥) _
     (λ clean db h stored. tables_after (content_of c.args.lists.now) c.args.change c.args.moves.now c.requires.fits
-    c.requires.moves c.requires.told
-    c.replace-definitions.result c.replace-definitions.new.dest
-    c.replace-definitions.ensures.value c.replace-definitions.ensures.after
-    (state g.S.Store c.args.conn.now) db (content_of c.begin.new.lists) c.in-Ok.ensures.ok stored (h stored.plan))
+    c.requires.moves c.requires.told c.in-Ok.underway.rest c.in-Ok.ensures.rest
+    (state g.S.Store c.args.conn.now) db (content_of c.start.new.lists) c.in-Ok.ensures.ok stored (h stored.plan))
     (λ _ _ none. absurd none)
     c.commit_change.ensures.crash c.fault_of.ensures.survives

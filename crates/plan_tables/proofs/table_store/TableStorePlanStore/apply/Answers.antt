@@ -7,14 +7,15 @@ use Rattle.plan_tables.specs.Stored.{MayLeave}
 use Rattle.plan_tables.proofs.StoredLemmas.{settled_so}
 use Rattle.plan_tables.proofs.table_store.TableStorePlanStore.apply.Goals as goal
 
-pub returns-in-Ok-Some-clause-settled : goal.returns-in-Ok-Some-clause-settled
-returns-in-Ok-Some-clause-settled g c honest =
+pub returns-clause-settled : goal.returns-clause-settled
+returns-clause-settled g c honest =
     let now = c.change_so.new.self in
     settled_so c.change_so.result (HasCleanDisk (state g.S.Store now.conn))
     (λ (d : Content). MayLeave (state g.S.Store now.conn) d) (content_of now.lists) c.change_so.ensures.settled
 
-pub returns-in-Ok-Some-clause-crash : goal.returns-in-Ok-Some-clause-crash
-returns-in-Ok-Some-clause-crash g c honest d (clean, may) = elim (c.change_so.ensures.crash clean d may) [
-  | inl was ↦ inl (c.change_so.ensures.honest clean, was)
-  | inr made ↦ inr (inr made)
-]
+pub returns-clause-crash : goal.returns-clause-crash
+returns-clause-crash g c honest d (clean, may) =
+    elim (rw (c.prepared.ensures.conn, c.prepared.ensures.lists) at c.change_so.ensures.crash clean d may) [
+      | inl was ↦ inl (rw c.prepared.ensures.conn at c.change_so.ensures.honest clean, was)
+      | inr made ↦ inr (inr made)
+    ]
