@@ -14,13 +14,17 @@ fn lacks_key(view: &View<'_>, key: &Key) -> bool {
         && !view.is_deleted_by_operator(key)
 }
 
-// Whether a window has no rows, pairs, lists and bounds.
-fn is_empty(view: &View<'_>, serial: Serial) -> bool {
+// Whether a window has no rows.
+fn has_no_rows(view: &View<'_>, serial: Serial) -> bool {
     view.ltp().is_empty()
         && view.cp().is_empty()
         && view.history().is_empty()
         && view.placed(serial).is_none()
-        && view.pairs_of_successor(serial).is_empty()
+}
+
+// Whether a window has no pairs, lists and bounds.
+fn is_bare(view: &View<'_>, serial: Serial) -> bool {
+    view.pairs_of_successor(serial).is_empty()
         && view.in_force().as_slice().is_empty()
         && view.issued() == 0
         && view.bounds().is_none()
@@ -30,7 +34,7 @@ fn is_empty(view: &View<'_>, serial: Serial) -> bool {
 fn finds_nothing(alloc: Global, key: &Key, serial: Serial) -> Option<bool> {
     let mut store = ListStore::new(alloc);
     let view = store.read_window(Need::Key(*key)).ok()?;
-    Some(is_empty(&view, serial) && lacks_key(&view, key))
+    Some(has_no_rows(&view, serial) && is_bare(&view, serial) && lacks_key(&view, key))
 }
 
 #[test]
@@ -41,17 +45,37 @@ fn an_empty_content_shows_nothing(rt: HostRuntime) {
     assert!(rt; finds_nothing(rt.alloc(), &Key { ia, app }, serial) == Some(true));
 }
 
+// Whether a store has no lists in force.
+fn has_no_links(store: &mut ListStore) -> bool {
+    match store.links() {
+        Ok(links) => links.as_slice().is_empty(),
+        Err(_) => false,
+    }
+}
+
+// Whether a store has no bounds.
+fn has_no_bounds(store: &mut ListStore) -> bool {
+    match store.bounds() {
+        Ok(bounds) => bounds.is_none(),
+        Err(_) => false,
+    }
+}
+
+// Whether a store keeps no job of this number.
+fn keeps_no_job(store: &mut ListStore, number: u64) -> bool {
+    match store.job(number) {
+        Ok(job) => job.is_none(),
+        Err(_) => false,
+    }
+}
+
 // Whether a store that was told nothing answers so.
-fn answers_nothing(alloc: Global) -> Option<bool> {
+fn answers_nothing(alloc: Global) -> bool {
     let mut store = ListStore::new(alloc);
-    Some(
-        store.links().ok()?.as_slice().is_empty()
-            && store.bounds().ok()?.is_none()
-            && store.job(1).ok()?.is_none(),
-    )
+    has_no_links(&mut store) && has_no_bounds(&mut store) && keeps_no_job(&mut store, 1)
 }
 
 #[test]
 fn an_empty_store_answers_nothing(rt: HostRuntime) {
-    assert!(rt; answers_nothing(rt.alloc()) == Some(true));
+    assert!(rt; answers_nothing(rt.alloc()));
 }
