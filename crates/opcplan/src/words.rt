@@ -1,6 +1,6 @@
 //! The words that the program is called with.
 
-use crate::FAILED;
+use crate::faults::FAILED;
 use clap::error::ErrorKind;
 use clap::{Arg, ArgAction, ArgMatches, Command, Error};
 use std::alloc::{AllocError, Global};

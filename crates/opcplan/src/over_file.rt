@@ -1,0 +1,38 @@
+//! The stream over the plans that a file keeps.
+
+use crate::faults::{MEMORY, tell};
+use plan_opening::open_fault_number;
+use plan_tables::TableStore;
+use planner_cli::{exit_status, run};
+use std::io::{self, BufRead, BufReader, BufWriter, Write};
+
+/// Runs the stream on standard input, over the plans that the file keeps, and gives the exit status. A reply is handed
+/// to standard output with its last byte, and a listing some thousand bytes at a time.
+pub fn answer_over_file(rt: &HostRuntime, path: &str) -> u8 {
+    let alloc = rt.alloc();
+    let Ok(mut reader) = BufReader::new(alloc, rt.reader()) else {
+        return tell(rt, MEMORY);
+    };
+    let Ok(mut writer) = BufWriter::new(alloc, io::writer(rt)) else {
+        return tell(rt, MEMORY);
+    };
+    run_over_file(rt, path, &mut reader, &mut writer)
+}
+
+/// Runs the stream of the reader over the plans that the file keeps, and gives the exit status.
+fn run_over_file<R: BufRead, W: Write>(
+    rt: &HostRuntime,
+    path: &str,
+    reader: &mut R,
+    writer: &mut W,
+) -> u8 {
+    let alloc = rt.alloc();
+    match TableStore::open_path(rt, alloc, path) {
+        Ok(mut store) => {
+            let status = exit_status(&run(alloc, &mut store, reader, writer));
+            drop(store.into_files());
+            status
+        }
+        Err(fault) => tell(rt, open_fault_number(&fault)),
+    }
+}
