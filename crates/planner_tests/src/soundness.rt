@@ -38,20 +38,6 @@ fn are_sound(alloc: Global, definitions: Definitions) -> Result<bool, AllocError
     is_sound(alloc, &content)
 }
 
-#[test]
-fn nothing_known_is_sound(rt: HostRuntime) -> Result<(), Fail> {
-    let content = Content::new(rt.alloc());
-    assert!(rt; is_sound(rt.alloc(), &content)?);
-    Ok(())
-}
-
-#[test]
-fn definitions_of_blocks_are_sound(rt: HostRuntime) -> Result<(), Fail> {
-    let all = some_definitions(rt.alloc())?;
-    assert!(rt; are_sound(rt.alloc(), all)?);
-    Ok(())
-}
-
 // Whether they are sound together with this calendar.
 fn sound_with_calendar(alloc: Global, calendar: Calendar) -> Result<bool, Fail> {
     let name = Name::from_text("MORE").ok_or("a name")?;

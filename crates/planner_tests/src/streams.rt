@@ -219,16 +219,6 @@ fn seen_of_text(alloc: Global, text: &[u8], calls: usize, by: Break) -> Result<S
     seen_of(alloc, &mut reader, calls, by)
 }
 
-#[test]
-fn words_that_are_no_statement(rt: HostRuntime) -> Result<(), Fail> {
-    let text = b"list --help\nlist\nltp-modify-all\nhelp\n";
-    let four = seen_of_text(rt.alloc(), text, 0, Break::Never)?;
-    assert_eq!(rt; four, whole(4, 44, 4));
-    let none = seen_of_text(rt.alloc(), b"", 0, Break::Never)?;
-    assert_eq!(rt; none, whole(0, 0, 0));
-    Ok(())
-}
-
 /// What a reader gives that fails at this call: the first line ends with byte 8, the data of the second with byte 54,
 /// and the end of the stream is shown by call 60.
 fn after_reading(calls: usize) -> Seen {
