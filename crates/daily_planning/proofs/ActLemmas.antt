@@ -33,7 +33,7 @@ use Rattle.planner_machine.specs.Sound.{IsSound}
 use Rattle.planner_machine.proofs.ActionLemmas.{action_sound, one_current}
 use Rattle.planner_machine.specs.RowsSound.{RowsSound}
 use Rattle.planner_machine.proofs.SoundLemmas.{rows_sound}
-use Rattle.plan_lists.specs.Rows.{look_up, of_current, of_deletion, of_row}
+use Rattle.keyed_lists.specs.Rows.{look_up, of_current, of_deletion, of_row}
 use Rattle.plan_store.specs.Changes.{Fits, FitsSet, MovesNothing, after, moved_set, pairs_after, sets_after}
 use Rattle.plan_store.specs.Verdicts.{VerdictIs}
 use Rattle.plan_store.specs.Views.{IsAny, IsCurrentRow, ListsSet}
@@ -199,11 +199,11 @@ module _ (c : Content) (sound : IsSound c) (action : Action) (changed : CurrentR
 
     fits_cp : FitsSet of_current change.cp c.sets.cp
     fits_cp = record {
-      gone_once = subst (λ xs. Rattle.plan_lists.specs.Rows.HasEachOnce of_current xs) (sym d.gone)
+      gone_once = subst (λ xs. Rattle.keyed_lists.specs.Rows.HasEachOnce of_current xs) (sym d.gone)
           (once_nothing of_current);
-      changed_once = subst (λ xs. Rattle.plan_lists.specs.Rows.HasEachOnce of_current xs) (sym d.one_changed)
+      changed_once = subst (λ xs. Rattle.keyed_lists.specs.Rows.HasEachOnce of_current xs) (sym d.one_changed)
           (once_one of_current changed);
-      put_once = subst (λ xs. Rattle.plan_lists.specs.Rows.HasEachOnce of_current xs) (sym d.put)
+      put_once = subst (λ xs. Rattle.keyed_lists.specs.Rows.HasEachOnce of_current xs) (sym d.put)
           (once_nothing of_current);
       goes = λ x has. absurd (nothing x (subst (λ l. Contains l x) d.gone has));
       changes = λ x has.

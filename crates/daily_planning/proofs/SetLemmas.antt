@@ -10,7 +10,7 @@ use Rattle.occurrences.specs.declared.row.Row.{Row}
 use Rattle.external_dependencies.specs.Arrival.{arrival_cmp}
 use Rattle.external_dependencies.specs.Nearest.{arrival_of}
 use Rattle.planner_machine.specs.Moves.{keep, size}
-use Rattle.plan_lists.specs.Rows.{HasEachOnce, look_up}
+use Rattle.keyed_lists.specs.Rows.{HasEachOnce, look_up}
 use Rattle.plan_store.specs.Views.{IsAny, ListsSet}
 use Rattle.plan_store.proofs.LookLemmas.{look_some, look_none}
 use Rattle.plan_store.proofs.ViewLemmas.{once_from_rows, size_listed, size_same}

@@ -22,7 +22,7 @@ use Rattle.planner_machine.proofs.DeleteLemmas.{stands_in_ltp}
 use Rattle.planner_machine.proofs.ModifyLemmas.{between, between_sound, any_tests, that_tests, Tests}
 use Rattle.planner_machine.specs.RowsSound.{RowsSound}
 use Rattle.planner_machine.proofs.SoundLemmas.{rows_sound}
-use Rattle.plan_lists.specs.Rows.{HasEachOnce, look_up, of_current, of_deletion, of_row}
+use Rattle.keyed_lists.specs.Rows.{HasEachOnce, look_up, of_current, of_deletion, of_row}
 use Rattle.plan_store.specs.Changes.{Fits, MovesNothing, pairs_after, sets_after}
 use Rattle.plan_store.specs.Views.{IsAny, ListsSet}
 use Rattle.plan_store.specs.declared.changes.Change.{Change}

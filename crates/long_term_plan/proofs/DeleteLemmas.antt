@@ -25,7 +25,7 @@ use Rattle.planner_machine.specs.Sound.{IsSound}
 use Rattle.planner_machine.proofs.DeleteLemmas.{stands_in_ltp}
 use Rattle.planner_machine.specs.RowsSound.{RowsSound}
 use Rattle.planner_machine.proofs.SoundLemmas.{rows_sound}
-use Rattle.plan_lists.specs.Rows.{of_current, of_deletion, of_row}
+use Rattle.keyed_lists.specs.Rows.{of_current, of_deletion, of_row}
 use Rattle.planner_machine.specs.Pairs.{ArePairs}
 use Rattle.plan_store.specs.Changes.{Fits, after, jobs_after, pairs_after, redefined, sets_after}
 use Rattle.plan_store.specs.Verdicts.{VerdictIs}

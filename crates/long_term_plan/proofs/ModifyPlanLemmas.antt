@@ -20,7 +20,7 @@ use Rattle.planner_machine.specs.Sound.{AreDefinitions, IsSound}
 use Rattle.planner_machine.proofs.ModifyLemmas.{between, modify_keeps}
 use Rattle.planner_machine.specs.RowsSound.{RowsSound}
 use Rattle.planner_machine.proofs.SoundLemmas.{rows_sound}
-use Rattle.plan_lists.specs.Rows.{of_row}
+use Rattle.keyed_lists.specs.Rows.{of_row}
 use Rattle.plan_store.specs.Views.{IsAny, ListsSet}
 use Rattle.long_term_plan.specs.Drafting.{NamesFor}
 use Rattle.long_term_plan.specs.Modifying.{AreAsked, AreParted, AreTooMany, Looks, NamesThen, looks, modified_reply}

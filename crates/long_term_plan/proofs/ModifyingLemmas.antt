@@ -13,7 +13,7 @@ use Rattle.planner_machine.specs.Modify.{draft_with, looks_at, stamped, withdraw
 use Rattle.planner_machine.specs.Moves.{keep, or_else, size}
 use Rattle.planner_machine.specs.RowsSound.{RowsSound}
 use Rattle.planner_machine.proofs.SeatLemmas.{cases_issued}
-use Rattle.plan_lists.specs.Rows.{HasEachOnce, look_up, of_deletion, of_row}
+use Rattle.keyed_lists.specs.Rows.{HasEachOnce, look_up, of_deletion, of_row}
 use Rattle.plan_store.specs.Changes.{FitsSet}
 use Rattle.plan_store.specs.Views.{IsAny, ListsSet}
 use Rattle.plan_store.specs.declared.changes.Moves.{Moves}

@@ -21,7 +21,7 @@ use Rattle.planner_machine.specs.ModifyAll.{IsAnyApp, is_any_app}
 use Rattle.planner_machine.specs.ModifyOne.{IsThatApp, is_that_app}
 use Rattle.planner_machine.specs.Moves.{each, size, with_made}
 use Rattle.planner_machine.specs.Plans.{HoldTooMany}
-use Rattle.plan_lists.specs.Rows.{HasEachOnce, of_current, of_row}
+use Rattle.keyed_lists.specs.Rows.{HasEachOnce, of_current, of_row}
 use Rattle.plan_pairs.specs.LiveRows.{HasLists}
 use Rattle.plan_store.specs.Views.{IsAny, ListsSet}
 use Rattle.plan_store.specs.declared.changes.Verdict.{Verdict}

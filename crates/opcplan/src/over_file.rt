@@ -1,10 +1,10 @@
 //! The stream over the plans that a file keeps.
 
 use crate::faults::{MEMORY, tell};
-use plan_opening::open_fault_number;
 use plan_tables::TableStore;
 use planner_cli::{exit_status, run};
 use std::io::{self, BufRead, BufReader, BufWriter, Write};
+use table_opening::open_fault_number;
 
 /// Runs the stream on standard input, over the plans that the file keeps, and gives the exit status. A reply is handed
 /// to standard output with its last byte, and a listing some thousand bytes at a time.

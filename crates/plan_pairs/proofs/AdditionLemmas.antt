@@ -39,7 +39,7 @@ use Rattle.planner_machine.proofs.MadeLemmas.{made_follows}
 use Rattle.planner_machine.specs.RowsSound.{RowsSound}
 use Rattle.planner_machine.proofs.SeatLemmas.{cases_issued, one_place}
 use Rattle.planner_machine.proofs.SoundLemmas.{rows_sound}
-use Rattle.plan_lists.specs.Rows.{of_current, of_deletion, of_row}
+use Rattle.keyed_lists.specs.Rows.{of_current, of_deletion, of_row}
 use Rattle.plan_store.specs.Changes.{Fits, FitsSet, after, jobs_after, moved_set, pairs_after, redefined}
 use Rattle.plan_store.specs.Changes.{sets_after}
 use Rattle.plan_store.specs.Verdicts.{VerdictIs}

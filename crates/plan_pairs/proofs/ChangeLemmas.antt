@@ -9,7 +9,7 @@ use Rattle.external_dependencies.specs.declared.links.Link.{Link}
 use Rattle.external_dependencies.specs.declared.pairs.Pair.{Pair}
 use Rattle.planner_machine.specs.Content.{Sets}
 use Rattle.planner_machine.specs.Pairs.{ArePairs}
-use Rattle.plan_lists.proofs.KeyLemmas.{holds_lacks}
+use Rattle.keyed_lists.proofs.KeyLemmas.{holds_lacks}
 use Rattle.external_dependencies.proofs.PairLemmas.{pair_ties}
 use Rattle.plan_store.specs.Changes.{is_among, pairs_after}
 use Rattle.plan_store.proofs.PairLemmas.{held_pair, itself, pair_total, pairs_after_contains}

@@ -5,7 +5,7 @@ use Rattle.std.specs.Prelude.{is_some, nat_eq, if◌then◌else◌}
 use Rattle.std.specs.List.{Contains}
 use Rattle.occurrences.specs.declared.row.Row.{Row}
 use Rattle.planner_machine.specs.Moves.{keep, or_else}
-use Rattle.plan_lists.specs.Rows.{HasEachOnce, look_up}
+use Rattle.keyed_lists.specs.Rows.{HasEachOnce, look_up}
 use Rattle.plan_store.specs.Changes.{FitsSet, MovesNothing, moved_set}
 use Rattle.plan_store.specs.declared.changes.Moves.{Moves}
 use Rattle.plan_pairs.proofs.ListLemmas.{none, only_one}

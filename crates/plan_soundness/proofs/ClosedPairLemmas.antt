@@ -22,7 +22,7 @@ use Rattle.planner_machine.specs.Content.{Sets, StandsAt}
 use Rattle.planner_machine.specs.Pairs.{IsClosedAt, IsClosedPair, pair_of}
 use Rattle.planner_machine.specs.Sound.{AreNumbered}
 use Rattle.planner_machine.proofs.SeatLemmas.{one_place}
-use Rattle.plan_lists.proofs.KeyLemmas.{contains_filter, filter_contains}
+use Rattle.keyed_lists.proofs.KeyLemmas.{contains_filter, filter_contains}
 use Rattle.plan_store.specs.Contents.{content_of}
 use Rattle.plan_store.specs.Views.{IsPlacedAt}
 use Rattle.plan_store.specs.declared.contents.Content.{Content as Kept}

@@ -6,8 +6,8 @@ use Rattle.std.proofs.lemmas.Cmp.{nat_cmp_total}
 use Rattle.std.proofs.lemmas.List.Elements.{All-contains, All-contains_itself, All-weaker}
 use Rattle.planner_machine.specs.Sound.{IsJob}
 use Rattle.planner_machine.specs.declared.job.Job.{Job}
-use Rattle.plan_lists.proofs.KeyLemmas.{one_item}
-use Rattle.plan_lists.specs.Rows.{OneEach}
+use Rattle.keyed_lists.proofs.KeyLemmas.{one_item}
+use Rattle.keyed_lists.specs.Rows.{OneEach}
 use Rattle.plan_store.specs.Jobs.{AreJobs}
 use Rattle.plan_store.proofs.LookLemmas.{look_has, look_some}
 use Rattle.plan_store.specs.Contents.{content_of}

@@ -13,7 +13,7 @@ use Rattle.external_dependencies.specs.declared.rows.PlacedRow.{PlacedRow}
 use Rattle.planner_machine.specs.Content.{Seat, Sets, StandsAt, alone, seat}
 use Rattle.planner_machine.specs.Sound.{AreNumbered}
 use Rattle.planner_machine.proofs.SeatLemmas.{not_empty, one_place}
-use Rattle.plan_lists.specs.Rows.{AreRows, of_current, of_deletion, of_row}
+use Rattle.keyed_lists.specs.Rows.{AreRows, of_current, of_deletion, of_row}
 use Rattle.plan_store.specs.Contents.{content_of}
 use Rattle.plan_store.specs.declared.contents.Content.{Content as Kept}
 use Rattle.plan_store.proofs.LookLemmas.{look_at, look_some}

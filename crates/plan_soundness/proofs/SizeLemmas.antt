@@ -11,7 +11,7 @@ use Rattle.occurrences.specs.declared.place.Place.TheVariants.{LongTerm, Current
 use Rattle.planner_machine.specs.Content.{Seat, Sets, alone, seat}
 use Rattle.planner_machine.specs.Moves.{bit, size}
 use Rattle.planner_machine.specs.Sound.{AreNumbered, IsUnplanned}
-use Rattle.plan_lists.specs.Rows.{look_up, of_current, of_deletion, of_row}
+use Rattle.keyed_lists.specs.Rows.{look_up, of_current, of_deletion, of_row}
 use Rattle.plan_store.specs.Contents.{content_of}
 use Rattle.plan_store.specs.declared.contents.Content.{Content as Kept}
 use Rattle.plan_store.proofs.LookLemmas.{look_has, look_none}

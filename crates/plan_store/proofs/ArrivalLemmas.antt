@@ -22,8 +22,8 @@ use Rattle.external_dependencies.specs.declared.live.Arrival.{Arrival}
 use Rattle.planner_machine.specs.Content.{Seat, Sets, alone, seat}
 use Rattle.planner_machine.specs.Pairs.{LiveAt}
 use Rattle.planner_machine.specs.Sound.{AreNumbered}
-use Rattle.plan_lists.specs.Keyed.{IsKeyed}
-use Rattle.plan_lists.specs.Rows.{AreRows, look_up, of_current, of_row}
+use Rattle.keyed_lists.specs.Keyed.{IsKeyed}
+use Rattle.keyed_lists.specs.Rows.{AreRows, look_up, of_current, of_row}
 use Rattle.external_dependencies.proofs.NearestLemmas.{arrival_ties}
 use Rattle.plan_store.specs.Arrivals.{IsGreatestOf, arrives, arrives_live, later_of}
 use Rattle.plan_store.specs.Slices.{HaveOneApp}

@@ -5,8 +5,8 @@ use Rattle.std.specs.List.{Contains}
 use Rattle.std.proofs.lemmas.Bool.{eq-eqb, ne_eqb}
 use Rattle.occurrences.specs.declared.row.Row.{Row}
 use Rattle.external_dependencies.specs.Nearest.{arrival_of}
-use Rattle.plan_lists.specs.Rows.{HasEachOnce, look_up}
-use Rattle.plan_lists.proofs.KeyLemmas.{nothing, one_is}
+use Rattle.keyed_lists.specs.Rows.{HasEachOnce, look_up}
+use Rattle.keyed_lists.proofs.KeyLemmas.{nothing, one_is}
 use Rattle.plan_store.specs.Changes.{FitsSet, MovesNothing}
 use Rattle.plan_store.specs.declared.changes.Moves.{Moves}
 

@@ -4,7 +4,7 @@ use Rattle.std.proofs.Common.{arith, Some, None}
 use Rattle.std.specs.List.{Contains}
 use Rattle.std.proofs.lemmas.Bool.{eqb-true, eqb-false, ne_eqb}
 use Rattle.std.specs.Prelude.{nat_eq, cond}
-use Rattle.plan_lists.specs.Rows.{OneEach, look_up}
+use Rattle.keyed_lists.specs.Rows.{OneEach, look_up}
 
 module _ {X : Type 0} (number_of : X → ℕ) where
   contains_first : (x : X) (xs : List X) → Contains (x ∷ xs) x

@@ -8,8 +8,8 @@ use Rattle.occurrences.specs.declared.row.Row.{Row}
 use Rattle.external_dependencies.specs.Nearest.{arrival_of}
 use Rattle.external_dependencies.specs.declared.live.Arrival.{Arrival}
 use Rattle.planner_machine.specs.Moves.{or_else}
-use Rattle.plan_lists.specs.Keyed.{AreApart, HasKey, LacksKey}
-use Rattle.plan_lists.specs.Rows.{HasEachOnce, OneEach, look_up}
+use Rattle.keyed_lists.specs.Keyed.{AreApart, HasKey, LacksKey}
+use Rattle.keyed_lists.specs.Rows.{HasEachOnce, OneEach, look_up}
 use Rattle.plan_store.specs.Changes.{FitsSet, moved_set}
 use Rattle.plan_store.specs.declared.changes.Moves.{Moves}
 use Rattle.plan_store.proofs.LookLemmas.{look_some, look_none, look_lacks, look_at}

@@ -5,10 +5,10 @@ use Rattle.occurrences.specs.declared.row.Row.{Row}
 use Rattle.external_dependencies.specs.Nearest.{arrival_of}
 use Rattle.external_dependencies.specs.declared.live.Arrival.{Arrival}
 use Rattle.planner_machine.specs.Moves.{or_else}
-use Rattle.plan_lists.specs.Keyed.{holds_key}
-use Rattle.plan_lists.specs.Rows.{AreRows, look_up}
-use Rattle.plan_lists.specs.Seats.{HasSeats, seat_cmp, seat_of}
-use Rattle.plan_lists.specs.declared.seats.Seat.{Seat}
+use Rattle.keyed_lists.specs.Keyed.{holds_key}
+use Rattle.keyed_lists.specs.Rows.{AreRows, look_up}
+use Rattle.keyed_lists.specs.Seats.{HasSeats, seat_cmp, seat_of}
+use Rattle.keyed_lists.specs.declared.seats.Seat.{Seat}
 use Rattle.plan_store.specs.Changes.{FitsSet, moved_set}
 use Rattle.plan_store.specs.declared.changes.Moves.{Moves}
 use Rattle.plan_store.proofs.LookLemmas.{look_some, look_has}

@@ -17,8 +17,8 @@ use Rattle.occurrences.specs.declared.place.Place.TheVariants.{LongTerm, Current
 use Rattle.occurrences.specs.declared.row.Row.{Row}
 use Rattle.planner_machine.specs.Content.{Seat, Sets, alone, seat}
 use Rattle.planner_machine.specs.Sound.{AreNumbered}
-use Rattle.plan_lists.specs.Rows.{of_current, of_deletion, of_row}
-use Rattle.plan_lists.proofs.KeyLemmas.{missed_all}
+use Rattle.keyed_lists.specs.Rows.{of_current, of_deletion, of_row}
+use Rattle.keyed_lists.proofs.KeyLemmas.{missed_all}
 use Rattle.plan_store.specs.Contents.{content_of}
 use Rattle.plan_store.specs.Listed.{AreBySerial, row_at}
 use Rattle.plan_store.specs.declared.contents.Content.{Content as Kept}

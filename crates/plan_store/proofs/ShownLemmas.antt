@@ -31,8 +31,8 @@ use Rattle.planner_machine.specs.Shown.{IsLinked, IsListed, IsOfApp, IsPlaceOf, 
 use Rattle.planner_machine.specs.Shown.{ListsPairs}
 use Rattle.planner_machine.specs.Shown.{CurrentPlan, InDeletions, InHistory, LongTermPlan}
 use Rattle.planner_machine.specs.Sound.{AreNumbered}
-use Rattle.plan_lists.specs.Rows.{AreRows, look_up, of_current, of_deletion, of_row}
-use Rattle.plan_lists.proofs.KeyLemmas.{contains_cases, contains_first, contains_later, nothing}
+use Rattle.keyed_lists.specs.Rows.{AreRows, look_up, of_current, of_deletion, of_row}
+use Rattle.keyed_lists.proofs.KeyLemmas.{contains_cases, contains_first, contains_later, nothing}
 use Rattle.plan_store.specs.Listed.{EndsWithin, ShowsSet, is_of_app, link_at, link_of, links_at, row_at, row_in}
 use Rattle.plan_store.specs.Listed.{shown_as, with_link}
 use Rattle.plan_store.specs.Listings.{HandsAll, HandsPart, ShowPairs, ShowRows, Shown, TakesAll, link_shown, row_shown}

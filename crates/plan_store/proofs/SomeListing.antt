@@ -15,8 +15,8 @@ use Rattle.external_dependencies.specs.Pair.{pair_cmp}
 use Rattle.external_dependencies.specs.Rising.{IsRising}
 use Rattle.planner_machine.specs.Shown.{IsOfApp}
 use Rattle.planner_machine.specs.Sound.{AreNumbered}
-use Rattle.plan_lists.specs.Rows.{AreRows, of_current, of_deletion, of_row}
-use Rattle.plan_lists.proofs.KeyLemmas.{contains_filter, filter_contains}
+use Rattle.keyed_lists.specs.Rows.{AreRows, of_current, of_deletion, of_row}
+use Rattle.keyed_lists.proofs.KeyLemmas.{contains_filter, filter_contains}
 use Rattle.plan_store.specs.Contents.{content_of}
 use Rattle.plan_store.specs.Listed.{is_of_app, links_at, ShowsSet}
 use Rattle.plan_store.specs.Listings.{IsListing, link_shown, Shown}

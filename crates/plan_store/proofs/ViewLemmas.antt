@@ -9,7 +9,7 @@ use Rattle.std.specs.declared.cmp.Ordering.TheVariants.{Less, Equal}
 use Rattle.std.proofs.lemmas.Bool.{cases_lt, cases_eq, eq-eqb, ne_eqb, ltb-true, lt-ltb}
 use Rattle.std.proofs.lemmas.Cmp.{tied_itself}
 use Rattle.std.proofs.lemmas.List.Kept.{AllPairs-filter}
-use Rattle.plan_lists.proofs.KeyLemmas.{contains_filter, filter_contains}
+use Rattle.keyed_lists.proofs.KeyLemmas.{contains_filter, filter_contains}
 use Rattle.occurrences.specs.declared.key.Key.{Key}
 use Rattle.occurrences.specs.declared.place.Deletion.{Deletion}
 use Rattle.occurrences.specs.declared.place.Reason.TheVariants.{Operator}
@@ -23,8 +23,8 @@ use Rattle.occurrences.specs.declared.place.CurrentRow.{CurrentRow}
 use Rattle.planner_machine.specs.Content.{Seat, Sets, empty_seat, seat}
 use Rattle.planner_machine.specs.Moves.{bit, keep, size}
 use Rattle.planner_machine.specs.Sound.{AreNumbered}
-use Rattle.plan_lists.specs.Keyed.{IsKeyed}
-use Rattle.plan_lists.specs.Rows.{AreRows, HasEachOnce, look_up, of_current, of_deletion, of_row}
+use Rattle.keyed_lists.specs.Keyed.{IsKeyed}
+use Rattle.keyed_lists.specs.Rows.{AreRows, HasEachOnce, look_up, of_current, of_deletion, of_row}
 use Rattle.plan_store.specs.Views.{IsAny, IsCurrentRow, IsDeletedKey, IsPlannedRow, ListsSet}
 use Rattle.plan_store.proofs.LookLemmas.{look_some, look_none, look_lacks, look_has, look_at}
 use Rattle.plan_store.proofs.OrderLemmas.{arrival_total}

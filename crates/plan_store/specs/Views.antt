@@ -12,7 +12,7 @@ use Rattle.planner_machine.specs.Content.{Content, Sets, StandsAt}
 use Rattle.planner_machine.specs.Pairs.{LiveAt}
 use Rattle.occurrences.specs.declared.place.CurrentRow.{CurrentRow}
 use Rattle.plan_store.specs.Contents.{content_of}
-use Rattle.plan_lists.specs.Rows.{AreRows}
+use Rattle.keyed_lists.specs.Rows.{AreRows}
 use Rattle.plan_store.specs.declared.stores.Need.{Need}
 use Rattle.plan_store.specs.declared.views.View.{View}
 

@@ -8,8 +8,8 @@ use crate::room::{Room, grow};
 use crate::views::View;
 use app_definitions::Definitions;
 use external_dependencies::{Links, Pairs};
+use keyed_lists::{Seat, note_rows};
 use occurrences::{CurrentRow, Deletion, Row};
-use plan_lists::{Seat, note_rows};
 use planner_machine::{Bounds, Job};
 use std::alloc::{AllocError, Global};
 use std::mem::replace;
@@ -51,13 +51,13 @@ pub struct Content {
     ghost deletion_seats: { HasSeats of_deletion deletions.items seats.items },
 }
 
-ghost use Rattle.plan_lists.specs.Rows.{AreRows, of_row, of_current, of_deletion};
+ghost use Rattle.keyed_lists.specs.Rows.{AreRows, of_row, of_current, of_deletion};
 ghost use Rattle.planner_machine.specs.Moves.{or_else};
 ghost use Rattle.plan_store.specs.Changes.{redefined};
 ghost use Rattle.plan_store.specs.Jobs.{AreJobs};
-ghost use Rattle.plan_lists.specs.Rows.{HasEachOnce};
-ghost use Rattle.plan_lists.specs.Seats.{AreSeats, HasSeats};
-ghost use Rattle.plan_lists.specs.declared.seats.Seat.{Seat as SeatValue};
+ghost use Rattle.keyed_lists.specs.Rows.{HasEachOnce};
+ghost use Rattle.keyed_lists.specs.Seats.{AreSeats, HasSeats};
+ghost use Rattle.keyed_lists.specs.declared.seats.Seat.{Seat as SeatValue};
 ghost use Rattle.plan_store.specs.declared.changes.Change.{Change as ChangeValue};
 ghost use Rattle.plan_store.specs.declared.room.Room.{Room as RoomValue};
 

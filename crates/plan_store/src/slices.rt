@@ -2,15 +2,15 @@ ghost use Rattle.std.specs.Prelude.{◌≡◌, ◌≢◌, ◌↔◌, ◌<◌, le
 ghost use Rattle.occurrences.specs.declared.place.CurrentRow.{CurrentRow as CurrentValue};
 ghost use Rattle.occurrences.specs.declared.place.Deletion.{Deletion as DeletionValue};
 ghost use Rattle.planner_machine.specs.DailyPlan.{arrives_before};
-ghost use Rattle.plan_lists.specs.Keyed.{IsKeyed};
-ghost use Rattle.plan_lists.specs.Rows.{of_row};
-ghost use Rattle.plan_lists.specs.Seats.{AreSeats, HasSeats};
+ghost use Rattle.keyed_lists.specs.Keyed.{IsKeyed};
+ghost use Rattle.keyed_lists.specs.Rows.{of_row};
+ghost use Rattle.keyed_lists.specs.Seats.{AreSeats, HasSeats};
 ghost use Rattle.external_dependencies.specs.Arrival.{arrival_cmp};
 ghost use Rattle.external_dependencies.specs.Nearest.{arrival_of};
 ghost use Rattle.plan_store.specs.Slices.{HaveOneApp, IsFront};
 
+use keyed_lists::{PlanRow, Seat, seats_of};
 use occurrences::{CurrentRow, Deletion, Key, Reason, Row, Serial, Status};
-use plan_lists::{PlanRow, Seat, seats_of};
 use std::alloc::{AllocError, Global};
 use work_calendars::{App, Moment};
 

@@ -39,7 +39,7 @@ pub struct View<'a> {
 }
 
 impl<'a> View<'a> {
-    ghost use Rattle.plan_lists.specs.Rows.{of_current, of_deletion, of_row};
+    ghost use Rattle.keyed_lists.specs.Rows.{of_current, of_deletion, of_row};
     ghost use Rattle.plan_store.specs.Views.{IsAny, IsCurrentRow, IsDeletedKey, IsLastBefore, IsLiveRow, IsPlacedAt};
     ghost use Rattle.plan_store.specs.Views.{IsPlannedRow, ListsSet, shown};
 

@@ -13,13 +13,13 @@ use Rattle.external_dependencies.specs.declared.links.Link.{Link}
 use Rattle.external_dependencies.specs.declared.pairs.Pair.{Pair}
 use Rattle.planner_machine.specs.declared.content.Bounds.{Bounds}
 use Rattle.planner_machine.specs.declared.job.Job.{Job}
-use Rattle.plan_schema.specs.Rows.{Tables, shown, stored, without_key}
-use Rattle.plan_schema.specs.declared.tables.Table.TheVariants as table
+use Rattle.table_schema.specs.Rows.{Tables, shown, stored, without_key}
+use Rattle.table_schema.specs.declared.tables.Table.TheVariants as table
 use Rattle.plan_store.specs.Changes.{jobs_after, pairs_after}
 use Rattle.external_dependencies.specs.Pair.{pair_cmp}
-use Rattle.plan_lists.specs.Keyed.{holds_key}
+use Rattle.keyed_lists.specs.Keyed.{holds_key}
 use Rattle.external_dependencies.proofs.PairLemmas.{pair_ties}
-use Rattle.plan_lists.proofs.KeyLemmas.{contains_filter, contains_first, filter_contains, holds_lacks}
+use Rattle.keyed_lists.proofs.KeyLemmas.{contains_filter, contains_first, filter_contains, holds_lacks}
 use Rattle.external_dependencies.specs.Link.{link_cmp}
 use Rattle.external_dependencies.proofs.LexLemmas.{link_total}
 use Rattle.external_dependencies.proofs.OrderLemmas.{link_ties}
@@ -28,13 +28,13 @@ use Rattle.std.specs.Ordering.{is_eq}
 use Rattle.std.proofs.lemmas.List.Folds.{Any-from_list_any}
 use Rattle.sqlite.specs.declared.types.Value.TheVariants.{Text}
 use Rattle.plan_store.proofs.PairLemmas.{held_pair, itself, pair_total, pairs_after_contains}
-use Rattle.plan_facts.specs.Facts.{link_values, natural, pair_values}
-use Rattle.plan_facts.specs.Content.{IsOfList, IsOfSet, job_values, meta_values}
-use Rattle.plan_writing.specs.Writing.{beside, job_put, links_replaced, meta_told, pairs_moved, without_each}
+use Rattle.table_facts.specs.Facts.{link_values, natural, pair_values}
+use Rattle.table_facts.specs.Content.{IsOfList, IsOfSet, job_values, meta_values}
+use Rattle.table_writing.specs.Writing.{beside, job_put, links_replaced, meta_told, pairs_moved, without_each}
 use Rattle.plan_tables.proofs.Held.{equal_from, Shows, matched, natural_itself, one_natural, one_text, same_cell}
 use Rattle.plan_tables.proofs.Held.{text_itself}
 use Rattle.plan_tables.proofs.SetMoves.{shows_cells, shows_with, shows_without}
-use Rattle.plan_facts.proofs.Told.{is_some as same_some, none_some}
+use Rattle.table_facts.proofs.Told.{is_some as same_some, none_some}
 
 pub and_both : (a b : Bool) → (a && b) ≡ true → (a ≡ true) × (b ≡ true)
 and_both true b h = (refl, h)

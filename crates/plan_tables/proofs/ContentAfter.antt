@@ -19,31 +19,31 @@ use Rattle.planner_machine.specs.Content.{Content}
 use Rattle.planner_machine.specs.Moves.{or_else}
 use Rattle.planner_machine.specs.declared.content.Bounds.{Bounds}
 use Rattle.planner_machine.specs.declared.job.Job.{Job}
-use Rattle.plan_lists.specs.Rows.{of_current, of_deletion, of_row}
-use Rattle.plan_schema.specs.Rows.{Tables, matches, placed, shown, stored, without_key}
-use Rattle.plan_schema.specs.Schema.{tree}
-use Rattle.plan_schema.specs.declared.tables.Table.{Table}
-use Rattle.plan_schema.specs.declared.tables.Table.TheVariants as table
+use Rattle.keyed_lists.specs.Rows.{of_current, of_deletion, of_row}
+use Rattle.table_schema.specs.Rows.{Tables, matches, placed, shown, stored, without_key}
+use Rattle.table_schema.specs.Schema.{tree}
+use Rattle.table_schema.specs.declared.tables.Table.{Table}
+use Rattle.table_schema.specs.declared.tables.Table.TheVariants as table
 use Rattle.plan_store.specs.Changes.{after, Fits, jobs_after, redefined}
 use Rattle.plan_store.specs.declared.changes.Change.{Change}
 use Rattle.plan_store.specs.declared.changes.DefinitionChange.TheVariants.{AsBefore}
 use Rattle.plan_store.proofs.PairLemmas.{pairs_after_rising}
-use Rattle.plan_facts.specs.Facts.{current_key, current_values, deletion_key, deletion_values, link_values, natural}
-use Rattle.plan_facts.specs.Facts.{pair_values, row_key, row_values}
-use Rattle.plan_writing.specs.Writing.{cp_moved, deletions_moved, history_moved, ltp_moved}
+use Rattle.table_facts.specs.Facts.{current_key, current_values, deletion_key, deletion_values, link_values, natural}
+use Rattle.table_facts.specs.Facts.{pair_values, row_key, row_values}
+use Rattle.table_writing.specs.Writing.{cp_moved, deletions_moved, history_moved, ltp_moved}
 use Rattle.std.proofs.Common.{filter, not}
-use Rattle.plan_facts.specs.Content.{AreEach, HasEntry, IsContentOf, IsFact, IsNamed, IsOfList, IsOfSet, IsSmall}
-use Rattle.plan_facts.specs.Content.{IsTellable}
-use Rattle.plan_facts.specs.Content.{IsTold, IsUnderOwn, job_values, meta_values}
+use Rattle.table_facts.specs.Content.{AreEach, HasEntry, IsContentOf, IsFact, IsNamed, IsOfList, IsOfSet, IsSmall}
+use Rattle.table_facts.specs.Content.{IsTellable}
+use Rattle.table_facts.specs.Content.{IsTold, IsUnderOwn, job_values, meta_values}
 use Rattle.run_cycles.specs.declared.cycles.RunCycle.{RunCycle}
-use Rattle.plan_writing.specs.Writing.{IsTellableChange, job_kept, links_moved, meta_moved, meta_told, pairs_moved}
-use Rattle.plan_writing.specs.Writing.{beside, rows_moved, plans_written}
+use Rattle.table_writing.specs.Writing.{IsTellableChange, job_kept, links_moved, meta_moved, meta_told, pairs_moved}
+use Rattle.table_writing.specs.Writing.{beside, rows_moved, plans_written}
 use Rattle.plan_tables.proofs.ChangeLemmas.{and_both, and_true, job_shown, links_shown, meta_key, meta_shown}
 use Rattle.plan_tables.proofs.ChangeLemmas.{pairs_shown}
 use Rattle.plan_tables.proofs.Held.{Shows, natural_itself, one_natural, same_cell}
 use Rattle.plan_tables.proofs.MovedSets.{moved_other, moved_own, set_moved}
 use Rattle.plan_tables.proofs.SetMoves.{at_other, with_other, without_other}
-use Rattle.plan_facts.proofs.Told.{is_some as same_some}
+use Rattle.table_facts.proofs.Told.{is_some as same_some}
 
 abbrev IsApart : Table → Table → Type 0
 IsApart u t = (tree u == tree t) ≡ false

@@ -14,23 +14,23 @@ use Rattle.app_definitions.specs.declared.kinds.Kind.{Kind}
 use Rattle.app_definitions.specs.declared.kinds.Kind.TheVariants as kind
 use Rattle.app_definitions.specs.declared.options.Options.{Options}
 use Rattle.planner_machine.specs.Content.{Content}
-use Rattle.plan_schema.specs.Rows.{Tables}
-use Rattle.plan_schema.specs.Schema.{tree}
-use Rattle.plan_schema.specs.declared.tables.Table.{Table}
-use Rattle.plan_schema.specs.declared.tables.Table.TheVariants as table
+use Rattle.table_schema.specs.Rows.{Tables}
+use Rattle.table_schema.specs.Schema.{tree}
+use Rattle.table_schema.specs.declared.tables.Table.{Table}
+use Rattle.table_schema.specs.declared.tables.Table.TheVariants as table
 use Rattle.plan_store.specs.Changes.{redefined}
 use Rattle.plan_store.specs.Room.{with_definitions}
 use Rattle.plan_store.specs.declared.changes.DefinitionChange.{DefinitionChange}
 use Rattle.plan_store.specs.declared.changes.DefinitionChange.TheVariants.{AsBefore, Merged, Removed}
-use Rattle.definition_rows.specs.Telling.{IsTellableBlock}
-use Rattle.plan_facts.specs.Content.{AreEach, ByName, HasEntry, IsApplicationRow, IsContentOf, IsFact, IsNamed}
-use Rattle.plan_facts.specs.Content.{IsOfSome, IsTellable, IsTold, meta_values}
-use Rattle.plan_facts.specs.Facts.{IsCalendarRow, IsCycleRow, IsOffsetRow, IsPeriodRow, IsPredecessorRow}
-use Rattle.plan_writing.specs.Redefining.{AreMovesOf, AreRowsOf, BringsRows, cycles_gone, cycles_renewed}
-use Rattle.plan_writing.specs.Redefining.{definitions_moved, kind_moved, kind_of, moved_by, name_key}
-use Rattle.plan_writing.specs.Redefining.{renewed, rows_of}
-use Rattle.plan_writing.specs.Writing.{meta_told, with_each, without_each}
-use Rattle.plan_writing.specs.declared.redefining.DefinitionMoves.{DefinitionMoves}
+use Rattle.table_definitions.specs.Telling.{IsTellableBlock}
+use Rattle.table_facts.specs.Content.{AreEach, ByName, HasEntry, IsApplicationRow, IsContentOf, IsFact, IsNamed}
+use Rattle.table_facts.specs.Content.{IsOfSome, IsTellable, IsTold, meta_values}
+use Rattle.table_facts.specs.Facts.{IsCalendarRow, IsCycleRow, IsOffsetRow, IsPeriodRow, IsPredecessorRow}
+use Rattle.table_writing.specs.Redefining.{AreMovesOf, AreRowsOf, BringsRows, cycles_gone, cycles_renewed}
+use Rattle.table_writing.specs.Redefining.{definitions_moved, kind_moved, kind_of, moved_by, name_key}
+use Rattle.table_writing.specs.Redefining.{renewed, rows_of}
+use Rattle.table_writing.specs.Writing.{meta_told, with_each, without_each}
+use Rattle.table_writing.specs.declared.redefining.DefinitionMoves.{DefinitionMoves}
 use Rattle.plan_tables.proofs.ChangeLemmas.{meta_key, meta_shown}
 use Rattle.plan_tables.proofs.ContentAfter.{told_other}
 use Rattle.plan_tables.proofs.Held.{Shows, matched}

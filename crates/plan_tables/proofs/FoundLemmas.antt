@@ -19,10 +19,10 @@ use Rattle.sqlite_store.specs.FileStore as files
 use Rattle.sqlite_trees.specs.Objects.{catalog_tree}
 use Rattle.sqlite_wal.specs.Recovery.{Image}
 use Rattle.planner_machine.specs.Content.{Content, nothing_known}
-use Rattle.plan_schema.specs.Rows.{tables_of}
-use Rattle.plan_schema.specs.Schema.{HasTables, no_schema, plan_and}
-use Rattle.plan_facts.specs.Content.{HaveOneContent, IsContentOf}
-use Rattle.plan_opening.specs.Opened.{IsStored, IsToldBy}
+use Rattle.table_schema.specs.Rows.{tables_of}
+use Rattle.table_schema.specs.Schema.{HasTables, no_schema, plan_and}
+use Rattle.table_facts.specs.Content.{HaveOneContent, IsContentOf}
+use Rattle.table_opening.specs.Opened.{IsStored, IsToldBy}
 use Rattle.plan_tables.specs.Found.{IsFoundIn, Tells}
 use Rattle.plan_tables.specs.Stored.{MayLeave}
 use Rattle.plan_tables.proofs.SetLemmas.{content_set}

@@ -20,11 +20,11 @@ use Rattle.sqlite_value.specs.declared.value.Value.{Value}
 use Rattle.sqlite_value.specs.declared.value.Value.TheVariants.{Int, Text}
 use Rattle.sqlite_value.specs.Order.{value_cmp}
 use Rattle.sqlite_value.proofs.OrderLemmas.{value_cmp-Int, value_cmp-Text}
-use Rattle.plan_lists.proofs.KeyLemmas.{contains_cases, contains_first, contains_later, nothing}
-use Rattle.plan_schema.specs.Rows.{matches, placed, shown}
-use Rattle.plan_schema.specs.declared.tables.Table.{Table}
-use Rattle.plan_schema.specs.declared.tables.Table.TheVariants as table
-use Rattle.plan_facts.specs.Facts.{natural}
+use Rattle.keyed_lists.proofs.KeyLemmas.{contains_cases, contains_first, contains_later, nothing}
+use Rattle.table_schema.specs.Rows.{matches, placed, shown}
+use Rattle.table_schema.specs.declared.tables.Table.{Table}
+use Rattle.table_schema.specs.declared.tables.Table.TheVariants as table
+use Rattle.table_facts.specs.Facts.{natural}
 
 -- the table shows these values
 abbrev pub Shows : Table → List Values → Values → Type 0

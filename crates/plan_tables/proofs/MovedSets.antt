@@ -10,18 +10,18 @@ use Rattle.sqlite.specs.Rowids.TheVariants.{Chosen}
 use Rattle.sqlite_rules.specs.Edit.{with_rowid}
 use Rattle.occurrences.specs.declared.row.Row.{Row}
 use Rattle.planner_machine.specs.Moves.{or_else}
-use Rattle.plan_lists.specs.Rows.{HasEachOnce, OneEach, look_up}
-use Rattle.plan_schema.specs.Rows.{Tables, shown, stored}
-use Rattle.plan_schema.specs.Schema.{tree}
-use Rattle.plan_schema.specs.declared.tables.Table.{Table}
+use Rattle.keyed_lists.specs.Rows.{HasEachOnce, OneEach, look_up}
+use Rattle.table_schema.specs.Rows.{Tables, shown, stored}
+use Rattle.table_schema.specs.Schema.{tree}
+use Rattle.table_schema.specs.declared.tables.Table.{Table}
 use Rattle.plan_store.specs.Changes.{FitsSet, moved_set}
 use Rattle.plan_store.specs.declared.changes.Moves.{Moves}
 use Rattle.plan_store.proofs.LookLemmas.{look_at, look_lacks, look_none, look_some}
-use Rattle.plan_facts.specs.Content.{IsOfSet, IsUnderOwn}
-use Rattle.plan_writing.specs.Writing.{moved_in, with_each, without_each}
+use Rattle.table_facts.specs.Content.{IsOfSet, IsUnderOwn}
+use Rattle.table_writing.specs.Writing.{moved_in, with_each, without_each}
 use Rattle.plan_tables.proofs.Held.{Shows, matched}
 use Rattle.plan_tables.proofs.SetMoves.{shows_with, shows_without, with_other, without_other}
-use Rattle.plan_facts.proofs.Told.{is_some as same_some, none_some}
+use Rattle.table_facts.proofs.Told.{is_some as same_some, none_some}
 
 module _ {X : Type 0} (row_of : X → Row) where
   abbrev serial : X → ℕ

@@ -16,16 +16,16 @@ use Rattle.sqlite.specs.declared.types.Value.TheVariants.{Text}
 use Rattle.sqlite_rules.specs.Edit.{with_rowid}
 use Rattle.app_definitions.specs.ByName.{overlaid}
 use Rattle.app_definitions.proofs.ByNameLemmas.{get-overlaid}
-use Rattle.plan_lists.proofs.KeyLemmas.{contains_cases, contains_first, contains_later, nothing, one_is}
-use Rattle.plan_schema.specs.Rows.{Tables, shown, stored, with_cells}
-use Rattle.plan_schema.specs.declared.tables.Table.{Table}
-use Rattle.plan_facts.specs.Content.{AreEach, ByName, IsOfSome}
-use Rattle.plan_writing.specs.Redefining.{AreRowsOf, name_key, rows_of}
-use Rattle.plan_writing.specs.Writing.{with_each, without_each}
+use Rattle.keyed_lists.proofs.KeyLemmas.{contains_cases, contains_first, contains_later, nothing, one_is}
+use Rattle.table_schema.specs.Rows.{Tables, shown, stored, with_cells}
+use Rattle.table_schema.specs.declared.tables.Table.{Table}
+use Rattle.table_facts.specs.Content.{AreEach, ByName, IsOfSome}
+use Rattle.table_writing.specs.Redefining.{AreRowsOf, name_key, rows_of}
+use Rattle.table_writing.specs.Writing.{with_each, without_each}
 use Rattle.plan_tables.proofs.ChangeLemmas.{and_both, and_true, apart}
 use Rattle.plan_tables.proofs.Held.{Shows, equal_from, matched, one_text, same_cell, text_itself}
 use Rattle.plan_tables.proofs.SetMoves.{shows_cells, shows_without}
-use Rattle.plan_facts.proofs.Told.{none_some}
+use Rattle.table_facts.proofs.Told.{none_some}
 
 same_text : (a b : List ℕ) → is_eq (slice_cmp nat_cmp a b) ≡ true → a ≡ b
 same_text a b e = slice_cmp-IsAntisymmetric nat_cmp-IsAntisymmetric a b (equal_from _ e)

@@ -6,10 +6,10 @@ use Rattle.plan_periods.specs.declared.periods.Period.{Period}
 use Rattle.plan_periods.specs.declared.periods.Period.TheVariants as period
 use Rattle.run_cycles.specs.declared.cycles.RunCycle.{RunCycle}
 use Rattle.app_definitions.specs.declared.applications.Application.{Application}
-use Rattle.plan_schema.specs.declared.tables.Table.{Table}
-use Rattle.plan_schema.specs.declared.tables.Table.TheVariants as table
-use Rattle.plan_facts.specs.Content.{IsApplicationRow}
-use Rattle.plan_facts.specs.Facts.{IsCalendarRow, IsCycleRow, IsOffsetRow, IsPeriodRow, IsPredecessorRow}
+use Rattle.table_schema.specs.declared.tables.Table.{Table}
+use Rattle.table_schema.specs.declared.tables.Table.TheVariants as table
+use Rattle.table_facts.specs.Content.{IsApplicationRow}
+use Rattle.table_facts.specs.Facts.{IsCalendarRow, IsCycleRow, IsOffsetRow, IsPeriodRow, IsPredecessorRow}
 use Rattle.plan_tables.proofs.NameTables.{HasName, IsShown}
 
 -- the values are those, which are shown as they are

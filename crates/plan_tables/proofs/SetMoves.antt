@@ -6,12 +6,12 @@ use Rattle.std.proofs.lemmas.Bool.{eq-eqb, not-true, not_from_false}
 use Rattle.sqlite.specs.Order.{Row as Values}
 use Rattle.sqlite.specs.Rowids.TheVariants.{Chosen}
 use Rattle.sqlite_rules.specs.Edit.{with_rowid}
-use Rattle.plan_lists.proofs.KeyLemmas.{contains_cases, contains_first, contains_later, nothing}
-use Rattle.plan_schema.specs.Rows.{Tables, matches, placed, shown, stored, with_cells, with_rows, without_key}
-use Rattle.plan_schema.specs.Schema.{tree}
-use Rattle.plan_schema.specs.declared.tables.Table.{Table}
-use Rattle.plan_facts.specs.Content.{IsOfList}
-use Rattle.plan_writing.specs.Writing.{with_each, without_each}
+use Rattle.keyed_lists.proofs.KeyLemmas.{contains_cases, contains_first, contains_later, nothing}
+use Rattle.table_schema.specs.Rows.{Tables, matches, placed, shown, stored, with_cells, with_rows, without_key}
+use Rattle.table_schema.specs.Schema.{tree}
+use Rattle.table_schema.specs.declared.tables.Table.{Table}
+use Rattle.table_facts.specs.Content.{IsOfList}
+use Rattle.table_writing.specs.Writing.{with_each, without_each}
 use Rattle.plan_tables.proofs.Held.{Shows, matched, matches_shown, mem_filter, mem_placed}
 
 same_tree : (t : Table) → (tree t == tree t) ≡ true

@@ -9,23 +9,23 @@ use Rattle.sqlite.specs.Held.{Held, state}
 use Rattle.sqlite.specs.Store.{Ghosts}
 use Rattle.sqlite.specs.State.{HasCleanDisk, IsUnchanged, State, Survives}
 use Rattle.planner_machine.specs.Content.{Content}
-use Rattle.plan_schema.specs.Rows.{HaveRowids, tables_of}
-use Rattle.plan_schema.specs.declared.tables.Table.{Table}
+use Rattle.table_schema.specs.Rows.{HaveRowids, tables_of}
+use Rattle.table_schema.specs.declared.tables.Table.{Table}
 use Rattle.plan_store.specs.Changes.{after, Fits, redefined}
 use Rattle.plan_store.specs.Room.{with_definitions, with_pairs_of}
 use Rattle.plan_store.specs.declared.changes.Change.{Change}
 use Rattle.plan_store.specs.declared.changes.DefinitionChange.TheVariants.{AsBefore}
-use Rattle.plan_facts.specs.Content.{HaveOneContent, IsContentOf}
-use Rattle.plan_opening.specs.Opened.{IsStored}
+use Rattle.table_facts.specs.Content.{HaveOneContent, IsContentOf}
+use Rattle.table_opening.specs.Opened.{IsStored}
 use Rattle.plan_tables.specs.Stored.{MayLeave}
-use Rattle.plan_writing.specs.Redefining.{AreMovesOf, definitions_moved, written}
-use Rattle.plan_writing.specs.Writing.{IsTellableChange}
-use Rattle.plan_writing.specs.declared.redefining.DefinitionMoves.{DefinitionMoves}
+use Rattle.table_writing.specs.Redefining.{AreMovesOf, definitions_moved, written}
+use Rattle.table_writing.specs.Writing.{IsTellableChange}
+use Rattle.table_writing.specs.declared.redefining.DefinitionMoves.{DefinitionMoves}
 use Rattle.plan_tables.proofs.ContentAfter.{plans_after}
 use Rattle.plan_tables.proofs.DefinitionFacts.{redefined_content}
 use Rattle.plan_tables.proofs.SetLemmas.{content_set}
-use Rattle.plan_schema.specs.Rows.{Tables}
-use Rattle.plan_schema.specs.Schema.{HasTables}
+use Rattle.table_schema.specs.Rows.{Tables}
+use Rattle.table_schema.specs.Schema.{HasTables}
 use Rattle.std.proofs.Common.{None}
 
 pub stored_still : (old new : State) (c : Content) → IsStored old c → IsTrue new.is_open → new.now ≡ old.now

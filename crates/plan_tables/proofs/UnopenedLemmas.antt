@@ -6,9 +6,9 @@ use Rattle.sqlite.specs.State.{State}
 use Rattle.sqlite.specs.Steps.{IsEmpty, over_memory}
 use Rattle.sqlite.proofs.Callers.{memory_is_clean}
 use Rattle.sqlite_trees.specs.declared.memory.MemStore.{MemStore}
-use Rattle.plan_opening.specs.Opened.{IsUnmade}
-use Rattle.plan_opening.specs.declared.faults.OpenFault.{OpenFault}
-use Rattle.plan_opening.specs.declared.faults.OpenFault.TheVariants.{Memory, Device, Unopened, Tables as OtherTables, Rows}
+use Rattle.table_opening.specs.Opened.{IsUnmade}
+use Rattle.table_opening.specs.declared.faults.OpenFault.{OpenFault}
+use Rattle.table_opening.specs.declared.faults.OpenFault.TheVariants.{Memory, Device, Unopened, Tables as OtherTables, Rows}
 use Rattle.plan_tables.specs.Unopened.{IsUnmadeBy}
 
 memory_alone : (a b : State) (fault : OpenFault) → a.faults ≡ 0 → b.faults ≡ 0 → IsTrue a.is_open

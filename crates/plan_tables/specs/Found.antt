@@ -6,10 +6,10 @@ use Rattle.sqlite.specs.Schema.{Schema}
 use Rattle.sqlite.specs.Tree.{Trees}
 use Rattle.sqlite_wal.specs.Recovery.{Image}
 use Rattle.planner_machine.specs.Content.{Content}
-use Rattle.plan_schema.specs.Rows.{tables_of}
-use Rattle.plan_schema.specs.Schema.{HasTables}
-use Rattle.plan_facts.specs.Content.{IsContentOf}
-use Rattle.plan_opening.specs.Opened.{IsToldBy}
+use Rattle.table_schema.specs.Rows.{tables_of}
+use Rattle.table_schema.specs.Schema.{HasTables}
+use Rattle.table_facts.specs.Content.{IsContentOf}
+use Rattle.table_opening.specs.Opened.{IsToldBy}
 
 -- the database that such files hold, or an empty one where they hold none yet, tells the content
 pub record IsFoundIn (image : Image) (c : Content) : Type 0 where

@@ -2,8 +2,8 @@
 use Rattle.sqlite.specs.State.{State}
 use Rattle.sqlite.specs.Tree.{Trees}
 use Rattle.planner_machine.specs.Content.{Content}
-use Rattle.plan_schema.specs.Rows.{tables_of}
-use Rattle.plan_facts.specs.Content.{IsContentOf}
+use Rattle.table_schema.specs.Rows.{tables_of}
+use Rattle.table_facts.specs.Content.{IsContentOf}
 
 -- a crash of the database may leave this content
 abbrev pub MayLeave : State → Content → Type 0

@@ -4,8 +4,8 @@ ghost use Rattle.std.specs.Prelude.{◌≡◌, ◌<◌, ◌^◌, Ok, Err, IfOk, 
 ghost use Rattle.external_dependencies.specs.Link.{link_cmp};
 ghost use Rattle.external_dependencies.specs.Rising.{IsRising};
 ghost use Rattle.planner_machine.specs.declared.job.Job.{Job as JobValue};
-ghost use Rattle.plan_facts.specs.Content.{answer_text, IsSmall};
-ghost use Rattle.plan_writing.specs.Writing.{IsTellableChange};
+ghost use Rattle.table_facts.specs.Content.{answer_text, IsSmall};
+ghost use Rattle.table_writing.specs.Writing.{IsTellableChange};
 
 use external_dependencies::Links;
 use occurrences::{Refusal, Reply};

@@ -13,9 +13,9 @@ ghost use Rattle.plan_tables.specs.Found.{IsFoundIn, Tells};
 ghost use Rattle.plan_tables.specs.Stored.{MayLeave};
 
 use crate::table_store::TableStore;
-use plan_facts::tables_have_one_content;
 use sqlite::{Alter, FileStore};
 use sqlite_disk::Disk;
+use table_facts::tables_have_one_content;
 
 impl<S: Alter + Drop> TableStore<S> {
     /// Lets the tables go, as a program does at its end. Where no failure was counted, each database that they may be

@@ -1,17 +1,17 @@
 // What a change of definitions moves in their tables.
 
 ghost use Rattle.std.specs.Prelude.{◌≡◌, ◌∷◌, [], None, Some, IfOk, IfSome};
-ghost use Rattle.definition_rows.specs.Telling.{IsTellableBlock};
-ghost use Rattle.plan_writing.specs.Redefining.{AreMovesOf, BringsRows, kind_of};
+ghost use Rattle.table_definitions.specs.Telling.{IsTellableBlock};
+ghost use Rattle.table_writing.specs.Redefining.{AreMovesOf, BringsRows, kind_of};
 
 use app_definitions::{Block, Kind};
-use definition_rows::{
+use plan_store::DefinitionChange;
+use std::alloc::{AllocError, Global};
+use table_definitions::{
     application_rows, block_is_told, calendar_rows, cycle_rows, offset_rows, period_rows,
     predecessor_rows,
 };
-use plan_store::DefinitionChange;
-use plan_writing::DefinitionMoves;
-use std::alloc::{AllocError, Global};
+use table_writing::DefinitionMoves;
 use work_calendars::Name;
 
 // Nothing moves.

@@ -3,7 +3,7 @@
 ghost use Rattle.std.specs.Prelude.{◌≡◌, ◌<◌, ◌^◌, false, [], OnOk, OnErr, IfOk, IfErr, IsTrue, IfSome, unwrap_or};
 ghost use Rattle.sqlite.specs.State.{HasCleanDisk, IsUnchanged, Survives};
 ghost use Rattle.sqlite.specs.Held.{state};
-ghost use Rattle.plan_schema.specs.Rows.{tables_of};
+ghost use Rattle.table_schema.specs.Rows.{tables_of};
 ghost use Rattle.planner_machine.specs.declared.job.Job.{Job as JobValue};
 ghost use Rattle.plan_store.specs.Changes.{Fits, after, redefined};
 ghost use Rattle.plan_store.specs.Contents.{content_of};
@@ -12,17 +12,17 @@ ghost use Rattle.plan_store.specs.declared.changes.Change.{Change as ChangeValue
 ghost use Rattle.plan_store.specs.declared.changes.DefinitionChange.TheVariants.{AsBefore};
 ghost use Rattle.plan_store.specs.declared.room.Room.{Room as RoomValue};
 ghost use Rattle.plan_store.specs.declared.stores.StoreFault.TheVariants.{Memory};
-ghost use Rattle.plan_facts.specs.Content.{answer_text, IsContentOf};
-ghost use Rattle.plan_opening.specs.Opened.{IsStored};
-ghost use Rattle.plan_writing.specs.Redefining.{AreMovesOf};
-ghost use Rattle.plan_writing.specs.Writing.{IsTellableChange};
+ghost use Rattle.table_facts.specs.Content.{answer_text, IsContentOf};
+ghost use Rattle.table_opening.specs.Opened.{IsStored};
+ghost use Rattle.table_writing.specs.Redefining.{AreMovesOf};
+ghost use Rattle.table_writing.specs.Writing.{IsTellableChange};
 
 use app_definitions::Definitions;
 use plan_store::{Change, Content, DefinitionChange, Room, StoreFault};
-use plan_writing::{DefinitionMoves, commit_change};
 use sqlite::{Alter, Connection, Error, ErrorCode};
 use std::alloc::{AllocError, Global};
 use std::mem::replace;
+use table_writing::{DefinitionMoves, commit_change};
 
 // Whether the connection is open, which leaves it as it is.
 fn is_open<S: Alter>(conn: &mut Connection<S>) -> bool

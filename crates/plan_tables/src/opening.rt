@@ -7,21 +7,21 @@ ghost use Rattle.sqlite.specs.Held.{state};
 ghost use Rattle.sqlite_wal.specs.Files.{image_at};
 ghost use Rattle.planner_machine.specs.Content.{nothing_known};
 ghost use Rattle.planner_machine.specs.Sound.{IsSound};
-ghost use Rattle.plan_schema.specs.Schema.{no_schema};
+ghost use Rattle.table_schema.specs.Schema.{no_schema};
 ghost use Rattle.plan_store.specs.Contents.{content_of};
-ghost use Rattle.plan_reading.specs.Reading.{HasPlan};
-ghost use Rattle.plan_opening.specs.Foreign.{IsForeign};
-ghost use Rattle.plan_opening.specs.Held.{HasVersion, HoldsPlan};
-ghost use Rattle.plan_opening.specs.Opened.{IsCaused, IsStored, IsToldBy, IsUnmade, MakesFirst};
+ghost use Rattle.table_reading.specs.Reading.{HasPlan};
+ghost use Rattle.table_opening.specs.Foreign.{IsForeign};
+ghost use Rattle.table_opening.specs.Held.{HasVersion, HoldsPlan};
+ghost use Rattle.table_opening.specs.Opened.{IsCaused, IsStored, IsToldBy, IsUnmade, MakesFirst};
 ghost use Rattle.plan_tables.specs.Found.{IsFoundIn};
 ghost use Rattle.plan_tables.specs.Unopened.{IsUnmadeBy};
-ghost use Rattle.plan_opening.specs.declared.faults.OpenFault.TheVariants.{Memory, Rows, Unopened};
+ghost use Rattle.table_opening.specs.declared.faults.OpenFault.TheVariants.{Memory, Rows, Unopened};
 
 use crate::table_store::TableStore;
-use plan_opening::{OpenFault, open_connection_from, open_content};
 use sqlite::{Alter, Connection, File, FileFrom, FileStore, MemStore, Start, Unknown};
 use std::alloc::Global;
 use std::rt::HostRuntime;
+use table_opening::{OpenFault, open_connection_from, open_content};
 
 impl<S: Alter + Drop> TableStore<S> {
     /// A store over the database of a connection, which has the tables of the plan, of a known version, with rows that

@@ -2,14 +2,14 @@
 
 ghost use Rattle.std.specs.Prelude.{◌≡◌, ◌<◌, ◌^◌, IfOk, IfSome};
 ghost use Rattle.planner_machine.specs.declared.job.Job.{Job as JobValue};
-ghost use Rattle.plan_facts.specs.Content.{answer_text};
-ghost use Rattle.plan_writing.specs.Redefining.{AreMovesOf};
+ghost use Rattle.table_facts.specs.Content.{answer_text};
+ghost use Rattle.table_writing.specs.Redefining.{AreMovesOf};
 
 use crate::answers::{has_number, job_line};
 use crate::definition_moves::moves_of;
 use plan_store::Change;
-use plan_writing::DefinitionMoves;
 use std::alloc::{AllocError, Global};
+use table_writing::DefinitionMoves;
 
 /// What moves in the tables of definitions, and the line that the job was answered.
 #[derive(Drop)]

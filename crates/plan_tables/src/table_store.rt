@@ -6,14 +6,14 @@ ghost use Rattle.sqlite.specs.Held.{state};
 ghost use Rattle.sqlite.specs.Tree.{Trees};
 ghost use Rattle.planner_machine.specs.Content.{Content as ContentValue};
 ghost use Rattle.planner_machine.specs.declared.job.Job.{Job as JobValue};
-ghost use Rattle.plan_schema.specs.Rows.{tables_of};
+ghost use Rattle.table_schema.specs.Rows.{tables_of};
 ghost use Rattle.plan_store.specs.Changes.{Fits, after};
 ghost use Rattle.plan_store.specs.Contents.{content_of};
 ghost use Rattle.plan_store.specs.Faults.{MoreFailures};
 ghost use Rattle.plan_store.specs.declared.stores.StoreFault.TheVariants.{Device};
-ghost use Rattle.plan_facts.specs.Content.{answer_text, IsContentOf};
-ghost use Rattle.plan_opening.specs.Opened.{IsStored};
-ghost use Rattle.plan_writing.specs.Redefining.{AreMovesOf};
+ghost use Rattle.table_facts.specs.Content.{answer_text, IsContentOf};
+ghost use Rattle.table_opening.specs.Opened.{IsStored};
+ghost use Rattle.table_writing.specs.Redefining.{AreMovesOf};
 ghost use Rattle.plan_tables.specs.Stored.{MayLeave};
 
 use crate::answers::change_is_tellable;
@@ -21,11 +21,11 @@ use crate::keeping::change_both;
 use crate::prepared::{Prepared, prepare};
 use app_definitions::Definitions;
 use external_dependencies::Links;
-use plan_facts::tables_have_one_content;
 use plan_store::{Change, Content, ListFault, Need, PlanStore, RowSink, StoreFault, View, What};
 use planner_machine::{Bounds, Job};
 use sqlite::{Alter, Connection};
 use std::alloc::Global;
+use table_facts::tables_have_one_content;
 use work_calendars::App;
 
 /// What a planner knows, in the tables of a database, with lists of the same content in memory, which serve what is

@@ -13,7 +13,7 @@ use Rattle.planner_machine.specs.Moves.{or_else}
 use Rattle.planner_machine.specs.Statement.{Act, Add, AddCurrent, Change as MachineChange, Create, DailyExtend, Define}
 use Rattle.planner_machine.specs.Statement.{Delete, Extend, ModifyAll, ModifyOne, Replan, Undefine, decision_of}
 use Rattle.planner_machine.specs.declared.job.Job.{Job}
-use Rattle.plan_lists.specs.Rows.{HasEachOnce, of_current, of_deletion, of_row}
+use Rattle.keyed_lists.specs.Rows.{HasEachOnce, of_current, of_deletion, of_row}
 use Rattle.plan_store.specs.Changes.{ChangesNothing, Fits, FitsSet, MovesNothing, after, jobs_after, moved_set}
 use Rattle.plan_store.specs.Changes.{pairs_after, redefined}
 use Rattle.plan_store.specs.declared.changes.Change.{Change}

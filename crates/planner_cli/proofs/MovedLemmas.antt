@@ -4,7 +4,7 @@ use Rattle.std.specs.List.{Contains}
 use Rattle.std.specs.Prelude.{is_some, if◌then◌else◌}
 use Rattle.occurrences.specs.declared.row.Row.{Row}
 use Rattle.planner_machine.specs.Moves.{or_else}
-use Rattle.plan_lists.specs.Rows.{HasEachOnce, OneEach, look_up}
+use Rattle.keyed_lists.specs.Rows.{HasEachOnce, OneEach, look_up}
 use Rattle.plan_store.specs.Changes.{FitsSet, moved_set}
 use Rattle.plan_store.specs.declared.changes.Moves.{Moves}
 use Rattle.plan_store.proofs.LookLemmas.{look_has, look_lacks, look_none, look_some}

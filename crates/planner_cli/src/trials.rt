@@ -6,7 +6,7 @@ ghost use Rattle.planner_machine.specs.Sound.{IsSound};
 ghost use Rattle.planner_machine.specs.Laws.{IsWellFormed};
 ghost use Rattle.planner_machine.specs.Statement.{Trial, decision_of};
 ghost use Rattle.plan_listings.specs.Report.{IsReport};
-ghost use Rattle.plan_lists.specs.Rows.{of_current};
+ghost use Rattle.keyed_lists.specs.Rows.{of_current};
 ghost use Rattle.plan_store.specs.Verdicts.{VerdictIs};
 ghost use Rattle.plan_store.specs.Views.{IsAny, ListsSet, shown};
 ghost use Rattle.planner_cli.specs.declared.requests.DailyRequest.{DailyRequest as DailyValue};

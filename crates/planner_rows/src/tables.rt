@@ -3,12 +3,12 @@ ghost use Rattle.std.specs.Prelude.{◌≡◌, false, IfOk};
 
 use crate::items::middle_of;
 use crate::trials::Answered;
-use plan_opening::OpenFault;
 use plan_store::{Content, ListStore};
 use plan_tables::TableStore;
 use planner_cli::{exit_status, run};
 use sqlite::{Connection, MemStore};
 use std::alloc::Global;
+use table_opening::OpenFault;
 
 /// The exit status after a fault.
 const FAILED: u8 = 8;

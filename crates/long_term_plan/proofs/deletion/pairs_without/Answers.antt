@@ -3,7 +3,7 @@ use Rattle.std.specs.Prelude.{IfOk, Result, Ok, Err}
 use Rattle.planner_machine.specs.Delete.{delete_move}
 use Rattle.planner_machine.specs.Moves.{each}
 use Rattle.planner_machine.proofs.SoundLemmas.{rows_sound}
-use Rattle.plan_lists.specs.Rows.{of_current, of_row}
+use Rattle.keyed_lists.specs.Rows.{of_current, of_row}
 use Rattle.plan_store.specs.Views.{shown}
 use Rattle.plan_pairs.specs.LiveRows.{AreLiveRows, HasLists, HasPairsAfter}
 use Rattle.plan_pairs.proofs.RowLemmas.{of_set}

@@ -7,7 +7,7 @@ use Rattle.std.proofs.lemmas.List.Sorted.{answers_always}
 use Rattle.occurrences.proofs.KeyLemmas.{key_cmp_total, key_equal, key_less}
 use Rattle.occurrences.specs.Key.{key_cmp}
 use Rattle.planner_machine.specs.declared.content.Draft.{Draft}
-use Rattle.plan_lists.proofs.KeyLemmas.{found, missed, missed_all}
+use Rattle.keyed_lists.proofs.KeyLemmas.{found, missed, missed_all}
 use Rattle.long_term_plan.proofs.PartingLemmas.{draft_nowhere, draft_there}
 use Rattle.long_term_plan.proofs.parting.draft_with.Goals as goal
 

@@ -12,7 +12,7 @@ use Rattle.planner_machine.specs.Drafts.{added}
 use Rattle.planner_machine.specs.Moves.{with_made}
 use Rattle.planner_machine.specs.Pairs.{ArePairs}
 use Rattle.planner_machine.proofs.SoundLemmas.{rows_sound}
-use Rattle.plan_lists.specs.Rows.{of_current, of_row}
+use Rattle.keyed_lists.specs.Rows.{of_current, of_row}
 use Rattle.plan_store.specs.Changes.{pairs_after}
 use Rattle.plan_store.specs.Views.{shown}
 use Rattle.plan_pairs.specs.Additions.{place_in}

@@ -4,8 +4,8 @@ use Rattle.std.specs.Result.{is_ok}
 use Rattle.std.specs.FinMap.{nat_cmp-IsAntisymmetric}
 use Rattle.std.proofs.lemmas.Bool.{cond-true}
 use Rattle.std.proofs.lemmas.Cmp.{nat_cmp_total}
-use Rattle.plan_lists.proofs.KeyLemmas.{has_at}
-use Rattle.plan_lists.proofs.EditLemmas.{insert_contains, insert_keyed}
+use Rattle.keyed_lists.proofs.KeyLemmas.{has_at}
+use Rattle.keyed_lists.proofs.EditLemmas.{insert_contains, insert_keyed}
 use Rattle.plan_store.proofs.JobLemmas.{look_kept, number_of, one_jobs}
 use Rattle.plan_store.proofs.LookLemmas.{look_none}
 use Rattle.plan_store.proofs.jobs.insert_job.Goals as goal

@@ -7,8 +7,8 @@ use Rattle.std.proofs.lemmas.List.Sorted.{IsPartitionPoint-from_clause}
 use Rattle.occurrences.specs.declared.row.Row.{Row}
 use Rattle.external_dependencies.specs.Arrival.{arrival_cmp}
 use Rattle.external_dependencies.specs.Nearest.{arrival_of}
-use Rattle.plan_lists.specs.Rows.{of_row}
-use Rattle.plan_lists.proofs.SliceLemmas.{parted_upto, take_keyed}
+use Rattle.keyed_lists.specs.Rows.{of_row}
+use Rattle.keyed_lists.proofs.SliceLemmas.{parted_upto, take_keyed}
 use Rattle.plan_store.proofs.SliceLemmas.{apps_rise, one_of_first, some_of_first}
 use Rattle.plan_store.proofs.slices.front_app.Goals as goal
 

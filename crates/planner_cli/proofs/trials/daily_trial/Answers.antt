@@ -1,7 +1,7 @@
 use Rattle.std.proofs.Common.{subst}
 use Rattle.app_definitions.proofs.ByNameLemmas.{IfOk-map}
 use Rattle.planner_machine.specs.Content.{Content}
-use Rattle.plan_lists.specs.Rows.{of_current}
+use Rattle.keyed_lists.specs.Rows.{of_current}
 use Rattle.plan_store.specs.Views.{IsAny, ListsSet}
 use Rattle.planner_cli.proofs.trials.daily_trial.Goals as goal
 

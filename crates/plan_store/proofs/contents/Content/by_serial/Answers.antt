@@ -1,7 +1,7 @@
 use Rattle.std.proofs.Common.{◌≡◌, ◌∙◌, ◌++◌, Bor, ap₂, map, rules}
 use Rattle.std.proofs.lemmas.List.Sorted.{answers_always}
 use Rattle.occurrences.specs.declared.row.Row.{Row}
-use Rattle.plan_lists.specs.Rows.{of_current, of_deletion, of_row}
+use Rattle.keyed_lists.specs.Rows.{of_current, of_deletion, of_row}
 use Rattle.plan_store.proofs.SerialLemmas.{all_by_serial, all_rows}
 use Rattle.plan_store.proofs.contents.Content.by_serial.Goals as goal
 

@@ -7,7 +7,7 @@ use Rattle.occurrences.specs.declared.place.Deletion.{Deletion}
 use Rattle.occurrences.specs.declared.row.Row.{Row}
 use Rattle.occurrences.specs.declared.status.Status.TheVariants.{C}
 use Rattle.planner_machine.specs.Shown.{CurrentPlan, InDeletions, InHistory, LongTermPlan}
-use Rattle.plan_lists.specs.Rows.{of_current, of_deletion, of_row}
+use Rattle.keyed_lists.specs.Rows.{of_current, of_deletion, of_row}
 use Rattle.plan_store.specs.Contents.{content_of}
 use Rattle.plan_store.specs.Listed.{ShowsSet}
 use Rattle.plan_store.specs.Listings.{ShowRows}

@@ -1,6 +1,6 @@
 use Rattle.std.proofs.Common.{refl}
 use Rattle.plan_store.specs.Contents.{content_of}
-use Rattle.plan_lists.specs.Rows.{of_current}
+use Rattle.keyed_lists.specs.Rows.{of_current}
 use Rattle.plan_store.proofs.ViewLemmas.{lists_all, once_from_rows, size_listed, within_cp}
 use Rattle.plan_store.proofs.views.View.cp.Goals as goal
 

@@ -1,4 +1,4 @@
-use Rattle.plan_lists.specs.Rows.{of_row}
+use Rattle.keyed_lists.specs.Rows.{of_row}
 use Rattle.plan_store.proofs.ViewLemmas.{lists_all}
 use Rattle.plan_store.proofs.views.View.history.Goals as goal
 

@@ -1,5 +1,5 @@
 use Rattle.std.proofs.Common.{◌⊎◌, refl}
-use Rattle.plan_lists.specs.Rows.{of_current, of_row}
+use Rattle.keyed_lists.specs.Rows.{of_current, of_row}
 use Rattle.plan_store.specs.Arrivals.{IsGreatestOf, arrives, arrives_live}
 use Rattle.plan_store.specs.Contents.{content_of}
 use Rattle.plan_store.proofs.ArrivalLemmas.{greatest_later, last_is, part_of}

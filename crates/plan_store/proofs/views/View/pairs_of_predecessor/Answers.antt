@@ -7,7 +7,7 @@ use Rattle.std.proofs.lemmas.Result.{IfOk-weaker}
 use Rattle.external_dependencies.specs.Pair.{pair_cmp}
 use Rattle.external_dependencies.specs.Rising.{IsRising}
 use Rattle.external_dependencies.specs.declared.pairs.Pair.{Pair}
-use Rattle.plan_lists.proofs.KeyLemmas.{contains_filter, filter_contains}
+use Rattle.keyed_lists.proofs.KeyLemmas.{contains_filter, filter_contains}
 use Rattle.plan_store.proofs.views.View.pairs_of_predecessor.Goals as goal
 
 pub returns-clause-rising : goal.returns-clause-rising

@@ -2,7 +2,7 @@ use Rattle.sqlite.specs.Files.{file_state}
 use Rattle.sqlite.specs.State.{HasCleanDisk}
 use Rattle.sqlite_wal.specs.Files.{image_at}
 use Rattle.plan_store.specs.Contents.{content_of}
-use Rattle.plan_opening.specs.Opened.{IsToldBy}
+use Rattle.table_opening.specs.Opened.{IsToldBy}
 use Rattle.plan_tables.specs.Found.{IsFoundIn}
 use Rattle.plan_tables.proofs.FoundLemmas.{both_so, found_in}
 use Rattle.plan_tables.proofs.opening.TableStore+FileStore+FileFrom+S.open_path_from.Goals as goal

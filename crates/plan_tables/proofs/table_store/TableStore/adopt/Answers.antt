@@ -2,7 +2,7 @@ use Rattle.std.proofs.Common.{Err, ap, subst, sym}
 use Rattle.sqlite.specs.Held.{state}
 use Rattle.sqlite.specs.State.{HasCleanDisk}
 use Rattle.plan_store.specs.Contents.{content_of}
-use Rattle.plan_opening.specs.Opened.{IsToldBy}
+use Rattle.table_opening.specs.Opened.{IsToldBy}
 use Rattle.plan_tables.proofs.table_store.TableStore.adopt.Goals as goal
 
 pub returns-in-Ok-clause-told : goal.returns-in-Ok-clause-told

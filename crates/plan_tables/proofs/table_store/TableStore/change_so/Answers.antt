@@ -5,7 +5,7 @@ use Rattle.sqlite.specs.State.{HasCleanDisk}
 use Rattle.planner_machine.specs.Content.{Content}
 use Rattle.plan_store.specs.Changes.{after}
 use Rattle.plan_store.specs.Contents.{content_of}
-use Rattle.plan_opening.specs.Opened.{IsStored}
+use Rattle.table_opening.specs.Opened.{IsStored}
 use Rattle.plan_tables.proofs.SetLemmas.{content_set}
 use Rattle.plan_tables.proofs.StoredLemmas.{leaves_either, leaves_one}
 use Rattle.plan_tables.proofs.table_store.TableStore.change_so.Goals as goal

@@ -1,6 +1,0 @@
-use Rattle.definition_rows.specs.Adding.{Adds, IsOfPlace}
-use Rattle.definition_rows.specs.Parts.{IsOffsetOf}
-use Rattle.definition_rows.proofs.offsets.push_of_cycles.Given as goal
-
-abbrev pub invariant-loop-cycle : goal.invariant-loop-cycle
-invariant-loop-cycle l = Adds (IsOfPlace (λ _. IsOffsetOf l.app) l.cycles l.cycle-index) l.fn.rows.items l.rows.items

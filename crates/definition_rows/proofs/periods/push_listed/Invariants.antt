@@ -1,6 +1,0 @@
-use Rattle.definition_rows.specs.Adding.{Adds, IsOfPlace}
-use Rattle.definition_rows.specs.Parts.{IsListedRow}
-use Rattle.definition_rows.proofs.periods.push_listed.Given as goal
-
-abbrev pub invariant-loop-place : goal.invariant-loop-place
-invariant-loop-place l = Adds (IsOfPlace (IsListedRow l.name) l.entries l.place) l.fn.rows.items l.rows.items

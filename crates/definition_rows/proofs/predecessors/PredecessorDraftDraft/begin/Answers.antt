@@ -1,5 +1,0 @@
-use Rattle.definition_rows.proofs.DraftLemmas.{no_predecessor}
-use Rattle.definition_rows.proofs.predecessors.PredecessorDraftDraft.begin.Goals as goal
-
-pub returns : goal.returns
-returns c name v is = no_predecessor name c.new.result v c.new.ensures is

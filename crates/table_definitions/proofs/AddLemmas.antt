@@ -1,0 +1,172 @@
+-- Rows that are put behind others, one after another.
+use Rattle.std.proofs.Common.{◌≡◌, ◌↔◌, ◌⊎◌, inl, inr, ℕ, ◌<◌, ◌+◌, List, [], ◌∷◌, ◌++◌, Some, None, length}
+use Rattle.std.proofs.Common.{zero, suc, refl, sym, ap, ◌∙◌, subst, arith, get_or}
+use Rattle.std.specs.Prelude.{slice_get, Contains}
+use Rattle.std.proofs.lemmas.Bool.{cases_lt}
+use Rattle.std.proofs.lemmas.List.Elements.{Contains-append_left, Contains-push, Contains-push_cases}
+use Rattle.std.proofs.lemmas.Option.{get_or_from_slice_get, slice_get-get_or}
+use Rattle.std.specs.Prelude.{IsSome}
+use Rattle.std.specs.FinMap as map
+use Rattle.sqlite.specs.Order.{Row as Values}
+use Rattle.app_definitions.specs.ByName.{AreNamesOf}
+use Rattle.table_facts.specs.Content.{ByName, IsOfSome}
+use Rattle.table_definitions.specs.Adding.{Adds, IsOfName, IsOfPlace, IsUpTo}
+
+pub adds_as : (P Q : Values → Type 0) (a b : List Values) → ((v : Values) → P v ↔ Q v) → Adds P a b → Adds Q a b
+adds_as P Q a b same h = record {
+  rows = λ v. (
+    λ has. elim ((h.rows v).0 has) [ inl old ↦ inl old | inr is ↦ inr ((same v).0 is) ],
+    λ is. (h.rows v).1 (elim is [ inl old ↦ inl old | inr it ↦ inr ((same v).1 it) ]),
+  );
+}
+
+pub adds_nothing : (P : Values → Type 0) (a : List Values) → ((v : Values) → P v → ⊥) → Adds P a a
+adds_nothing P a none = record {
+  rows = λ v. (
+    λ has. inl has,
+    λ is. elim is [ inl old ↦ old | inr it ↦ absurd (none v it) ],
+  );
+}
+
+pub adds_both : (P Q : Values → Type 0) (a b c : List Values) → Adds P a b → Adds Q b c → Adds (λ v. P v ⊎ Q v) a c
+adds_both P Q a b c first then = record {
+  rows = λ v. (
+    λ has. elim ((then.rows v).0 has) [
+      | inl mid ↦ elim ((first.rows v).0 mid) [ inl old ↦ inl old | inr p ↦ inr (inl p) ]
+      | inr q ↦ inr (inr q)
+    ],
+    λ is. (then.rows v).1 (elim is [
+      | inl old ↦ inl ((first.rows v).1 (inl old))
+      | inr new ↦ elim new [ inl p ↦ inl ((first.rows v).1 (inr p)) | inr q ↦ inr q ]
+    ]),
+  );
+}
+
+pub adds_one : (row : Values) (a : List Values) → Adds (λ v. v ≡ row) a (a ++ row ∷ [])
+adds_one row a = record {
+  rows = λ v. (
+    λ has. elim (Contains-push_cases a row v has) [ inl old ↦ inl old | inr is ↦ inr (sym is) ],
+    λ is. elim is [
+      | inl old ↦ Contains-append_left a (row ∷ []) v old
+      | inr it ↦ subst (Contains (a ++ row ∷ [])) (sym it) (Contains-push a row)
+    ],
+  );
+}
+
+-- a row that has these values
+pub row_added : (values row : Values) (a b : List Values) → row ≡ values → b ≡ a ++ row ∷ [] → Adds (λ v. v ≡ values)
+    a b
+row_added values row a b is pushed = subst (Adds (λ v. v ≡ values) a) (ap (λ r. a ++ r ∷ []) (sym is) ∙ sym pushed)
+    (adds_one values a)
+
+is_some : {X : Type 0} (a b : X) → Some a ≡ Some b → a ≡ b
+is_some a b e = cc
+
+module _ {X : Type 0} (IsAt : ℕ → X → Values → Type 0) (xs : List X) where
+  pub adds_start : (a : List Values) → Adds (IsOfPlace IsAt xs 0) a a
+  adds_start a = adds_nothing (IsOfPlace IsAt xs 0) a (λ v (place, x, under, at, is). omega (arith, under))
+
+  step_to : (n : ℕ) (x : X) → slice_get xs n ≡ Some x → (v : Values) → IsOfPlace IsAt xs n v ⊎ IsAt n x v
+      → IsOfPlace IsAt xs (n + 1) v
+  step_to n x at v (inl (place, y, under, there, is)) = (place, y, omega (arith, under), there, is)
+  step_to n x at v (inr is) = (n, x, omega arith, at, is)
+
+  step_from : (n : ℕ) (x : X) → slice_get xs n ≡ Some x → (v : Values) → IsOfPlace IsAt xs (n + 1) v
+      → IsOfPlace IsAt xs n v ⊎ IsAt n x v
+  step_from n x at v (place, y, under, there, is) = elim (cases_lt place n) [
+    | inl less ↦ inl (place, y, less, there, is)
+    | inr more ↦
+        let one : place ≡ n = omega (arith, under, more) in
+        let same : y ≡ x = is_some y x (sym there ∙ ap (slice_get xs) one ∙ at) in
+        inr (subst (λ k. IsAt k x v) one (subst (λ z. IsAt place z v) same is))
+  ]
+
+  pub adds_step : (n : ℕ) (x : X) (a b c : List Values) → slice_get xs n ≡ Some x → Adds (IsOfPlace IsAt xs n) a b
+      → Adds (IsAt n x) b c → Adds (IsOfPlace IsAt xs (n + 1)) a c
+  adds_step n x a b c at first then =
+      adds_as (λ v. IsOfPlace IsAt xs n v ⊎ IsAt n x v) (IsOfPlace IsAt xs (n + 1)) a c
+      (λ v. (step_to n x at v, step_from n x at v)) (adds_both (IsOfPlace IsAt xs n) (IsAt n x) a b c first then)
+
+-- the element at a place
+pub get_at : {X : Type 0} (xs : List X) (n : ℕ) (x : X) → n < length xs → x ≡ get_or xs n x → slice_get xs n ≡ Some x
+get_at xs n x under is = slice_get-get_or xs n x under ∙ ap Some (sym is)
+
+-- the rows of the definition of a name
+pub adds_named : {D : Type 0} (IsRow : List ℕ → D → Values → Type 0) (all : ByName D) (name : List ℕ) (d : D)
+    (a b : List Values) → map.get all name ≡ Some d → Adds (IsRow name d) a b → Adds (IsOfName IsRow all name) a b
+adds_named {D} IsRow all name d a b at h = adds_as (IsRow name d) (IsOfName IsRow all name) a b
+    (λ v. (λ is. (d, at, is), λ (e, got, is). subst (λ z. IsRow name z v) (is_some e d (sym got ∙ at)) is)) h
+
+-- there is none, where there is no definition
+pub adds_unnamed : {D : Type 0} (IsRow : List ℕ → D → Values → Type 0) (all : ByName D) (name : List ℕ)
+    (a : List Values) → map.get all name ≡ None → Adds (IsOfName IsRow all name) a a
+adds_unnamed {D} IsRow all name a none = adds_nothing (IsOfName IsRow all name) a
+    (λ v (d, got, is). absurd (let h : ⊥ = cc in h))
+
+-- the rows of the definitions of all names are those of all definitions
+pub adds_all : {D : Type 0} (IsRow : List ℕ → D → Values → Type 0) (all : ByName D) (names : List (List ℕ))
+    (old rows : List Values) → AreNamesOf names all → old ≡ []
+    → Adds (IsOfPlace (λ _. IsOfName IsRow all) names (length names)) old rows
+    → (v : Values) → Contains rows v ↔ IsOfSome IsRow all v
+adds_all {D} IsRow all names old rows are empty h v = (
+  λ has. elim ((h.rows v).0 has) [
+    | inl before ↦ absurd (none (subst (λ l. Contains l v) empty before))
+    | inr is ↦ to is
+  ],
+  λ is. (h.rows v).1 (inr (from is)),
+)
+  where
+    none : Contains {X = Values} [] v → ⊥
+    none (k, under, is) = omega (arith, under)
+
+    to : IsOfPlace (λ _. IsOfName IsRow all) names (length names) v → IsOfSome IsRow all v
+    to (place, name, under, at, (d, got, is)) = (name, d, got, is)
+
+    from : IsOfSome IsRow all v → IsOfPlace (λ _. IsOfName IsRow all) names (length names) v
+    from (name, d, got, is) = let (k, under, at) = (are.exactly name).1 (subst IsSome (sym got) refl) in
+        (k, name, under, slice_get-get_or names k name under ∙ ap Some at, (d, got, is))
+
+-- ---- rows of a list
+
+pub under_get : {X : Type 0} (xs : List X) (n : ℕ) (x : X) → slice_get xs n ≡ Some x → n < length xs
+under_get [] n x at = absurd (let h : ⊥ = cc in h)
+under_get (y ∷ ys) zero x at = omega arith
+under_get (y ∷ ys) (suc n) x at = let less : n < length ys = under_get ys n x at in omega (arith, less)
+
+-- a row of some element, at whatever place
+pub of_list : {X : Type 0} (Is : X → Values → Type 0) (xs : List X) (v : Values)
+    → IsOfPlace (λ _. Is) xs (length xs) v ↔ ((x : X) × Contains xs x × Is x v)
+of_list {X} Is xs v = (
+  λ (place, x, under, at, is). (x, (place, under, get_or_from_slice_get xs place x x at), is),
+  λ (x, (place, under, reads), is). (place, x, under, slice_get-get_or xs place x under ∙ ap Some reads, is),
+)
+
+-- a row of some element at its place
+pub of_places : {X : Type 0} (IsAt : ℕ → X → Values → Type 0) (xs : List X) (v : Values)
+    → IsOfPlace IsAt xs (length xs) v
+    ↔ ((place : ℕ) × (x : X) × (slice_get xs place ≡ Some x) × IsAt place x v)
+of_places {X} IsAt xs v = (
+  λ (place, x, under, at, is). (place, x, at, is),
+  λ (place, x, at, is). (place, x, under_get xs place x at, at, is),
+)
+
+-- ---- rows of the first numbers
+
+module _ (Is : ℕ → Values → Type 0) where
+  pub first_none : (a : List Values) → Adds (IsUpTo Is 0) a a
+  first_none a = adds_nothing (IsUpTo Is 0) a (λ v (k, under, is). omega (arith, under))
+
+  more_to : (n : ℕ) (v : Values) → IsUpTo Is n v ⊎ Is n v → IsUpTo Is (n + 1) v
+  more_to n v (inl (k, under, is)) = (k, omega (arith, under), is)
+  more_to n v (inr is) = (n, omega arith, is)
+
+  more_from : (n : ℕ) (v : Values) → IsUpTo Is (n + 1) v → IsUpTo Is n v ⊎ Is n v
+  more_from n v (k, under, is) = elim (cases_lt k n) [
+    | inl less ↦ inl (k, less, is)
+    | inr more ↦ let one : k ≡ n = omega (arith, under, more) in inr (subst (λ j. Is j v) one is)
+  ]
+
+  pub first_more : (n : ℕ) (a b c : List Values) → Adds (IsUpTo Is n) a b → Adds (Is n) b c → Adds (IsUpTo Is (n + 1))
+      a c
+  first_more n a b c first then = adds_as (λ v. IsUpTo Is n v ⊎ Is n v) (IsUpTo Is (n + 1)) a c
+      (λ v. (more_to n v, more_from n v)) (adds_both (IsUpTo Is n) (Is n) a b c first then)

@@ -1,0 +1,18 @@
+use Rattle.std.proofs.Common.{List, ℕ, subst, ◌∙◌}
+use Rattle.std.specs.Prelude.{IfOk, IfSome, IsSome}
+use Rattle.table_facts.specs.Facts.{IsPredecessorRow}
+use Rattle.table_facts.specs.Content.{ByName}
+use Rattle.table_definitions.specs.Drafted.{ArePredecessorNames}
+use Rattle.table_definitions.specs.Gathering.{AreSound}
+use Rattle.table_definitions.specs.Storing.{AreRowsOf}
+use Rattle.table_definitions.proofs.stored.predecessors_of_rows.Goals as goal
+
+pub returns-clause-made : goal.returns-clause-made
+returns-clause-made c = subst (λ l. IfOk c.read_predecessors.result (λ found. IfSome found (AreRowsOf IsPredecessorRow
+    l)))
+    (c.deref.ensures.value ∙ c.in_ok-rows.ensures) c.read_predecessors.ensures.made
+
+pub returns-clause-found : goal.returns-clause-found
+returns-clause-found c = subst (λ l. IfOk c.read_predecessors.result (λ found. (all : ByName (List (List ℕ)))
+    → AreSound ArePredecessorNames all → AreRowsOf IsPredecessorRow l all → IsSome found))
+    (c.deref.ensures.value ∙ c.in_ok-rows.ensures) c.read_predecessors.ensures.found

@@ -1,0 +1,14 @@
+-- Definitions as the program has them.
+use Rattle.app_definitions.specs.declared.definitions.Definitions.{Definitions}
+use Rattle.table_definitions.specs.Drafted.{ArePredecessorNames, IsSoundApplication, IsSoundCalendar}
+use Rattle.table_definitions.specs.DraftedPeriods.{IsSoundPeriodOfDays}
+use Rattle.table_definitions.specs.Gathering.{AreSound}
+use Rattle.table_definitions.specs.WholeCycles.{AreSoundCycles}
+
+-- names are names, days are days, and each definition is sound for itself; whether it is told by rows is not asked
+pub record AreSoundDefinitions (all : Definitions) : Type 0 where
+  pub applications : AreSound IsSoundApplication all.applications
+  pub calendars : AreSound IsSoundCalendar all.calendars
+  pub periods : AreSound IsSoundPeriodOfDays all.periods
+  pub run_cycles : AreSound AreSoundCycles all.run_cycles
+  pub predecessors : AreSound ArePredecessorNames all.predecessors

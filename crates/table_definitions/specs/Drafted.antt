@@ -1,0 +1,68 @@
+-- What rows of one name have told so far, kind by kind, and definitions that rows can tell.
+use Rattle.std.specs.Prelude.{◌≡◌, ◌⊎◌, ℕ, List, [], ◌∷◌, Option, Some, None, length, Contains, IfSome, IsSome}
+use Rattle.std.specs.FinMap as map
+use Rattle.std.specs.List.{slice_index_or}
+use Rattle.std.proofs.Common.{ap}
+use Rattle.sqlite.specs.Order.{Row as Values, column}
+use Rattle.sqlite.specs.declared.types.Value.TheVariants.{Text}
+use Rattle.work_calendars.specs.Calendar.{CalendarEntries}
+use Rattle.work_calendars.specs.Day.{IsDay}
+use Rattle.work_calendars.specs.Name.{IsName}
+use Rattle.work_calendars.specs.declared.statuses.DayStatus.{DayStatus}
+use Rattle.app_definitions.specs.declared.applications.Application.{Application}
+use Rattle.table_facts.specs.Content.{ByName}
+use Rattle.table_facts.specs.Facts.{IsCalendarRow, IsPredecessorRow, application_values, is_work, natural}
+use Rattle.table_facts.specs.Facts.IsCalendarRow.{Weekday, Date}
+
+-- ---- applications
+
+abbrev pub IsReadApplication : List ℕ → Option Application → Values → Type 0
+IsReadApplication name None values = ⊥
+IsReadApplication name (Some a) values = values ≡ application_values name a
+
+pub application_named : (name : List ℕ) (a : Option Application) (v : Values) → IsReadApplication name a v
+    → column v 0 ≡ Text name
+application_named name None v is = absurd is
+application_named name (Some a) v is = ap (λ (r : Values). column r 0) is
+
+-- its calendar is a name
+abbrev pub IsSoundApplication : List ℕ → Application → Type 0
+IsSoundApplication name a = IfSome a.calendar IsName
+
+-- ---- calendars
+
+abbrev pub calendar_values : List ℕ → ℕ → ℕ → DayStatus → Values
+calendar_values name kind day status = Text name ∷ natural kind ∷ natural day ∷ is_work status ∷ []
+
+-- what a row of a calendar tells: kind 0 is a weekday, 1 a date
+abbrev pub TellsEntry : CalendarEntries → ℕ → ℕ → DayStatus → Type 0
+TellsEntry c kind day status = ((kind ≡ 0) × (slice_index_or c.weekdays day None ≡ Some status))
+    ⊎ ((kind ≡ 1) × (map.get c.dates day ≡ Some status))
+
+pub calendar_named : (name : List ℕ) (c : CalendarEntries) (v : Values) → IsCalendarRow name c v
+    → column v 0 ≡ Text name
+calendar_named name c v (Weekday weekday status at is) = ap (λ (r : Values). column r 0) is
+calendar_named name c v (Date day status at is) = ap (λ (r : Values). column r 0) is
+
+-- a week has seven days, and the dates are days
+pub record IsSoundCalendar (name : List ℕ) (c : CalendarEntries) : Type 0 where
+  pub week : length c.weekdays ≡ 7
+  pub days : (day : ℕ) (status : DayStatus) → map.get c.dates day ≡ Some status → IsDay day
+
+-- ---- predecessors
+
+abbrev pub IsReadPredecessor : List ℕ → ByName (Unit {0}) → Values → Type 0
+IsReadPredecessor app names values = (name : List ℕ) × IsSome (map.get names name) × (values ≡ Text app ∷ Text name ∷
+    [])
+
+-- they are names
+abbrev pub ArePredecessorNames : List ℕ → List (List ℕ) → Type 0
+ArePredecessorNames app names = (name : List ℕ) → Contains names name → IsName name
+
+pub predecessors_named : (app : List ℕ) (names : List (List ℕ)) (v : Values) → IsPredecessorRow app names v
+    → column v 0 ≡ Text app
+predecessors_named app names v (name, has, is) = ap (λ (r : Values). column r 0) is
+
+pub read_predecessor_named : (app : List ℕ) (names : ByName (Unit {0})) (v : Values) → IsReadPredecessor app names v
+    → column v 0 ≡ Text app
+read_predecessor_named app names v (name, has, is) = ap (λ (r : Values). column r 0) is

@@ -1,0 +1,13 @@
+//! What the tables of a plan stand for: each row tells one fact, and no two contents have the same rows.
+#![tactic(auto)]
+
+ghost use Rattle.table_facts.specs.Content.{HaveOneContent};
+
+use external_dependencies::rising_is_unique;
+
+/// Tables have one content at most.
+pub fn tables_have_one_content()
+    ensures { HaveOneContent }
+{
+    rising_is_unique();
+}

@@ -1,0 +1,87 @@
+-- A database that was opened.
+use Rattle.std.proofs.Common.{◌≡◌, ◌⊎◌, ◌∙◌, ◌≤◌, true, inl, inr, sym, subst, refl, arith, true≢false, IsSome, IsTrue}
+use Rattle.sqlite.specs.Effect.{Database}
+use Rattle.sqlite.specs.State.{HasCleanDisk, IsUnchanged, State, Survives}
+use Rattle.sqlite.specs.declared.error.Error.{Error}
+use Rattle.sqlite_trees.specs.declared.error.StoreError.TheVariants as store
+use Rattle.sqlite.proofs.StateLemmas.{survives_weaker}
+use Rattle.planner_machine.specs.Content.{Content, nothing_known}
+use Rattle.table_schema.specs.Rows.{HaveRowids, MayFail, Tables, tables_of}
+use Rattle.table_schema.specs.Schema.{no_schema}
+use Rattle.table_facts.specs.Content.{IsContentOf}
+use Rattle.table_reading.specs.Reading.{HasPlan, Looks}
+use Rattle.table_reading.proofs.LookLemmas.{plan_still}
+use Rattle.table_opening.specs.First.{first_rows}
+use Rattle.table_opening.specs.Opened.{IsUnmade, IsCaused, IsStored, MakesFirst}
+use Rattle.table_opening.specs.Faults.{fault_for}
+use Rattle.table_opening.specs.Stored.{AllHaveRowids}
+use Rattle.table_opening.specs.declared.faults.OpenFault.{OpenFault}
+use Rattle.table_opening.specs.declared.faults.OpenFault.TheVariants.{Memory, Device, Unopened, Tables as OtherTables, Rows}
+use Rattle.table_opening.proofs.FirstRows.{first_content}
+
+pub read_opened : (old new : State) (c : Content) → (IsTrue old.is_open → old.now ≡ old.committed)
+    → Looks old new true → HasCleanDisk new → HasPlan old → AllHaveRowids (tables_of old.now.trees)
+    → IsContentOf (tables_of old.now.trees) c → IsStored new c
+unfolding HasPlan
+read_opened old new c settled look clean plan rowids content =
+    let same = look.same clean plan refl in
+    let now = same.0.now_is in
+    record {
+      is_open = same.0.is_open;
+      plan = record {
+        schema = plan_still old new same plan;
+        rowids = λ t. subst (λ (d : Database). HaveRowids (tables_of d.trees t)) (sym now) (rowids t);
+      };
+      settled = now ∙ settled same.0.was_open ∙ sym same.0.committed_is;
+      content = subst (λ (d : Database). IsContentOf (tables_of d.trees) c) (sym now) content;
+    }
+
+pub blank_content : (all : Tables) (c : Content) → all ≡ first_rows → c ≡ nothing_known → IsContentOf all c
+blank_content all c rows is =
+    subst (IsContentOf all) (sym is) (subst (λ (a : Tables). IsContentOf a nothing_known) (sym rows) first_content)
+
+pub makes_first : (old new : State) → old.now.schema ≡ no_schema
+    → Survives old new (λ db. old.now.schema ≡ no_schema → tables_of db ≡ first_rows)
+    → Survives old new (MakesFirst old)
+makes_first old new blank = survives_weaker old new _ _ (λ clean db made. (
+  blank,
+  blank_content (tables_of db) nothing_known (made blank) refl,
+))
+
+-- ---- why it is not opened
+
+pub caused_by : (a b : State) (e : Error) → MayFail a b e → IsCaused a b (fault_for e OtherTables)
+caused_by a b e (inl (store.OutOfMemory, is, more)) = subst (λ x. IsCaused a b (fault_for x OtherTables)) (sym is) tt
+caused_by a b e (inl (store.Io, is, more)) =
+    subst (λ x. IsCaused a b (fault_for x OtherTables)) (sym is) (inl more)
+caused_by a b e (inl (store.Corrupt, is, more)) =
+    subst (λ x. IsCaused a b (fault_for x OtherTables)) (sym is) (inl more)
+caused_by a b e (inl (store.Full, is, more)) =
+    subst (λ x. IsCaused a b (fault_for x OtherTables)) (sym is) (inl more)
+caused_by a b e (inl (store.Broken, is, shut)) =
+    subst (λ x. IsCaused a b (fault_for x OtherTables)) (sym is) (inr shut)
+caused_by a b e (inl (store.Unstorable, is, none)) = absurd none
+caused_by a b e (inr h) = subst (λ x. IsCaused a b (fault_for x OtherTables)) (sym h.0) h.1
+
+-- what causes it after a reading that answered causes it since that reading began
+pub caused_since : (a b c : State) → IsUnchanged a b → a.faults ≤ b.faults → b.step_limit ≡ a.step_limit
+    → (f : OpenFault) → IsCaused b c f → IsCaused a c f
+caused_since a b c same more limit Memory h = tt
+caused_since a b c same more limit Device (inl h) = inl (omega (arith, more, h))
+caused_since a b c same more limit Device (inr h) = absurd (true≢false (sym same.0.is_open ∙ h))
+caused_since a b c same more limit Unopened h = tt
+caused_since a b c same more limit OtherTables h = subst IsSome limit h
+caused_since a b c same more limit Rows h = tt
+
+pub caused_by_content : (a b : State) (f : OpenFault) → (f ≡ Memory) ⊎ (f ≡ Rows) → IsCaused a b f
+caused_by_content a b f (inl is) = subst (IsCaused a b) (sym is) tt
+caused_by_content a b f (inr is) = subst (IsCaused a b) (sym is) tt
+
+pub unmade_by : (a b : State) (e : Error) → MayFail a b e → IsUnmade a b (fault_for e Unopened)
+unmade_by a b e (inl (store.OutOfMemory, is, more)) = subst (λ x. IsUnmade a b (fault_for x Unopened)) (sym is) tt
+unmade_by a b e (inl (store.Io, is, more)) = subst (λ x. IsUnmade a b (fault_for x Unopened)) (sym is) (inl more)
+unmade_by a b e (inl (store.Corrupt, is, more)) = subst (λ x. IsUnmade a b (fault_for x Unopened)) (sym is) (inl more)
+unmade_by a b e (inl (store.Full, is, more)) = subst (λ x. IsUnmade a b (fault_for x Unopened)) (sym is) (inl more)
+unmade_by a b e (inl (store.Broken, is, shut)) = subst (λ x. IsUnmade a b (fault_for x Unopened)) (sym is) (inr shut)
+unmade_by a b e (inl (store.Unstorable, is, none)) = absurd none
+unmade_by a b e (inr h) = subst (λ x. IsUnmade a b (fault_for x Unopened)) (sym h.0) h.1

@@ -1,0 +1,29 @@
+-- A database of other tables.
+use Rattle.std.specs.Prelude.{◌≡◌, ◌⊎◌, false, ℕ, List, [], codes, ⊤}
+use Rattle.sqlite.specs.Order.{Row as Values}
+use Rattle.sqlite.specs.State.{State, FailsToQuery, Shown}
+use Rattle.sqlite.specs.declared.error.Error.{Error}
+use Rattle.sqlite_disk.specs.Disk.{MoreFaults}
+use Rattle.table_opening.specs.Faults.{fault_for}
+use Rattle.table_opening.specs.Held.{AreKnown}
+use Rattle.table_opening.specs.declared.faults.OpenFault.{OpenFault}
+use Rattle.table_opening.specs.declared.faults.OpenFault.TheVariants.{Memory, Device, Unopened, Rows, Tables as OtherTables}
+
+-- shows the version of a plan
+abbrev pub version_sql : List ℕ
+version_sql = codes "SELECT id, version FROM plan_meta"
+
+-- it refuses to show the version of a plan, neither for want of memory nor for the device
+abbrev pub RefusesVersion : State → State → Type 0
+RefusesVersion old new = (e : Error) × FailsToQuery version_sql [] old new e × (fault_for e Unopened ≡ Unopened)
+
+-- why a database of other tables is not opened: memory is short; the device failed meanwhile, or the connection was
+-- shut before; or by what it shows that is asked for the version of a plan: a known one, none that is known, or nothing,
+-- since it refuses
+abbrev pub IsForeign : State → State → OpenFault → Type 0
+IsForeign old new Memory = ⊤
+IsForeign old new Device = MoreFaults old.faults new.faults ⊎ (old.is_open ≡ false)
+IsForeign old new OtherTables = (rows : List Values) × Shown version_sql [] old new rows × AreKnown rows
+IsForeign old new Unopened =
+    RefusesVersion old new ⊎ ((rows : List Values) × Shown version_sql [] old new rows × (AreKnown rows → ⊥))
+IsForeign old new Rows = ⊥

@@ -1,0 +1,18 @@
+//! A database of a plan is opened: it has the tables of the plan, or gets them, and they tell a sound content.
+#![tactic(auto)]
+
+mod faults;
+mod files;
+mod making;
+mod opening;
+mod rowid_texts;
+mod rowids;
+mod same_schema;
+mod schemas;
+mod stored;
+mod table_places;
+mod whole;
+
+pub use faults::{OpenFault, open_fault_number};
+pub use files::{open_connection, open_connection_from};
+pub use opening::open_content;

@@ -1,0 +1,178 @@
+// All that the tables show, read one after another.
+
+ghost use Rattle.std.specs.Prelude.{◌≡◌, false, is_ok, None, IfOk, IfSome, IsSome};
+ghost use Rattle.sqlite.specs.State.{HasCleanDisk};
+ghost use Rattle.sqlite.specs.Held.{state};
+ghost use Rattle.table_schema.specs.Rows.{Tables, tables_of};
+ghost use Rattle.plan_store.specs.Contents.{content_of};
+ghost use Rattle.table_facts.specs.Content.{IsContentOf};
+ghost use Rattle.table_reading.specs.Lists.{HasLists};
+ghost use Rattle.table_reading.specs.Reading.{HasPlan, Looks};
+ghost use Rattle.table_reading.specs.Tables.{TellPlans};
+ghost use Rattle.app_definitions.specs.declared.definitions.Definitions.{Definitions as DefinitionsValue};
+ghost use Rattle.table_definitions.specs.Defined.{AreSoundDefinitions};
+ghost use Rattle.table_definitions.specs.Storing.{HaveRows};
+ghost use Rattle.table_reading.specs.Readable.{ArePlansReadable};
+ghost use Rattle.table_opening.specs.Stored.{AllHaveRowids, TellStored};
+
+use crate::rowids::Rowids;
+use crate::stored::Shown;
+use app_definitions::Definitions;
+use plan_store::Content;
+use sqlite::{Alter, Connection, Error};
+use std::alloc::{AllocError, Global};
+use table_definitions::{StoredRows, definitions_of_rows};
+use table_reading::{Part, PlanLists, content_of_lists, read_lists};
+
+// The rows of the tables of definitions.
+type StoredParts = (
+    (Shown<1>, Shown<2>),
+    ((Shown<3>, Shown<4>), (Shown<5>, Shown<6>)),
+);
+
+// The rowids of all tables.
+type AllRowids = (
+    (
+        ((Rowids<0>, Rowids<1>), (Rowids<2>, Rowids<3>)),
+        ((Rowids<4>, Rowids<5>), (Rowids<6>, Rowids<7>)),
+    ),
+    (
+        ((Rowids<8>, Rowids<9>), (Rowids<10>, Rowids<11>)),
+        (Rowids<12>, Rowids<13>),
+    ),
+);
+
+/// The tables of the plans.
+#[derive(Drop)]
+pub(crate) struct PlanPart {
+    /// What they list.
+    pub lists: PlanLists,
+}
+
+impl Part for PlanPart {
+    ghost tells = { λ all part. TellPlans all part.lists };
+
+    ghost in_order = { λ _. Unit {0} };
+
+    ghost readable = { ArePlansReadable };
+
+    fn read<S: Alter>(alloc: Global, conn: &mut Connection<S>) -> Result<Option<PlanPart>, Error> {
+        match read_lists(alloc, conn) {
+            Ok(Some(lists)) => Ok(Some(PlanPart { lists })),
+            Ok(None) => Ok(None),
+            Err(error) => Err(error),
+        }
+    }
+}
+
+/// The tables of the definitions.
+#[derive(Drop)]
+pub(crate) struct DefinitionPart {
+    /// Their rows.
+    pub stored: StoredRows,
+}
+
+fn stored_of(parts: StoredParts) -> StoredRows
+    ensures { (all : Tables) → ⟦<StoredParts as Part>⟧.tells all parts → TellStored all result }
+{
+    let ((calendars, periods), ((applications, run_cycles), (offsets, predecessors))) = parts;
+    StoredRows {
+        calendars: calendars.rows,
+        periods: periods.rows,
+        applications: applications.rows,
+        run_cycles: run_cycles.rows,
+        offsets: offsets.rows,
+        predecessors: predecessors.rows,
+    }
+}
+
+impl Part for DefinitionPart {
+    ghost tells = { λ all part. TellStored all part.stored };
+
+    ghost in_order = { λ _. Unit {0} };
+
+    ghost readable = { λ _. Unit {0} };
+
+    fn read<S: Alter>(
+        alloc: Global,
+        conn: &mut Connection<S>,
+    ) -> Result<Option<DefinitionPart>, Error> {
+        match StoredParts::read(alloc, conn) {
+            Ok(Some(parts)) => Ok(Some(DefinitionPart {
+                stored: stored_of(parts),
+            })),
+            Ok(None) => Ok(None),
+            Err(error) => Err(error),
+        }
+    }
+}
+
+/// The rowids of all tables.
+#[derive(Drop)]
+pub(crate) struct RowidPart {}
+
+fn are_all(parts: AllRowids) -> RowidPart
+    ensures { (all : Tables) → ⟦<AllRowids as Part>⟧.tells all parts → AllHaveRowids all }
+{
+    drop(parts);
+    RowidPart {}
+}
+
+impl Part for RowidPart {
+    ghost tells = { λ all _. AllHaveRowids all };
+
+    ghost in_order = { λ _. Unit {0} };
+
+    ghost readable = { AllHaveRowids };
+
+    fn read<S: Alter>(alloc: Global, conn: &mut Connection<S>) -> Result<Option<RowidPart>, Error> {
+        match AllRowids::read(alloc, conn) {
+            Ok(Some(parts)) => Ok(Some(are_all(parts))),
+            Ok(None) => Ok(None),
+            Err(error) => Err(error),
+        }
+    }
+}
+
+// The content of these definitions and lists.
+fn some_content(
+    alloc: Global,
+    definitions: Definitions,
+    lists: PlanLists,
+) -> Result<Option<Content>, AllocError>
+    ensures made { IfOk result (λ found. IfSome found (λ content. HasLists definitions lists (content_of content))) }
+    ensures some { IfOk result IsSome }
+{
+    Ok(Some(content_of_lists(alloc, definitions, lists)?))
+}
+
+// The definitions that have these rows, with the options that were read.
+fn found_definitions(
+    alloc: Global,
+    lists: &PlanLists,
+    stored: &StoredRows,
+) -> Result<Option<Definitions>, AllocError>
+    ensures made { IfOk result (λ found. IfSome found (HaveRows stored.now lists.now.meta.options)) }
+    ensures refused { IfOk result (λ found. found ≡ None → (all : DefinitionsValue) → AreSoundDefinitions all
+        → HaveRows stored.now lists.now.meta.options all → ⊥) }
+{
+    definitions_of_rows(alloc, stored, lists.meta.options)
+}
+
+/// The content that has these lists and rows; `None` where no sound definitions have these rows.
+pub(crate) fn content_of_tables(
+    alloc: Global,
+    lists: PlanLists,
+    stored: &StoredRows,
+) -> Result<Option<Content>, AllocError>
+    ensures made { IfOk result (λ found. IfSome found (λ content. (all : Tables) → TellPlans all lists
+        → TellStored all stored.now → IsContentOf all (content_of content))) }
+    ensures refused { IfOk result (λ found. found ≡ None → (all : DefinitionsValue) → AreSoundDefinitions all
+        → HaveRows stored.now lists.meta.options all → ⊥) }
+{
+    match found_definitions(alloc, &lists, stored) {
+        Ok(Some(definitions)) => some_content(alloc, definitions, lists),
+        Ok(None) => Ok(None),
+        Err(error) => Err(error),
+    }
+}

@@ -1,0 +1,127 @@
+-- Numbers that rise, and rowids that differ.
+use Rattle.std.proofs.Common.{◌≡◌, ◌≢◌, ◌∙◌, ℕ, zero, suc, ◌<◌, List, [], ◌∷◌, length, map, get_or, refl, sym}
+use Rattle.std.proofs.Common.{ap, subst, inl, inr, arith, add-one, eqb, true, false}
+use Rattle.std.specs.List.{AllAdjacentBelow, AllByRecursion, AllPairs, Contains, IsDistinct}
+use Rattle.std.specs.List.Sorted.{IsNonDecreasingBy, IsPermutation}
+use Rattle.std.specs.Ordering.{is_eq}
+use Rattle.std.proofs.lemmas.Bool.{cases_order, eqb-false, ne_eqb}
+use Rattle.std.proofs.lemmas.Bool.Decides.{nat_tests}
+use Rattle.std.proofs.lemmas.Cmp.{tied_itself}
+use Rattle.std.proofs.lemmas.List.{get_or-map, length-map}
+use Rattle.std.proofs.lemmas.List.Sorted.{Contains-permutation, IsPermutation-map}
+use Rattle.std.proofs.lemmas.Map.Keys.{apart_from_distinct, IsDistinct-from_apart}
+use Rattle.std.proofs.lemmas.Map.Keys.{IsDistinct-IsPermutation}
+use Rattle.sqlite.specs.Order.{Row as Values, column}
+use Rattle.sqlite.specs.Tree.{rowid}
+use Rattle.sqlite_value.specs.Order.{value_cmp}
+use Rattle.sqlite_value.proofs.OrderLemmas.{value_cmp_total}
+use Rattle.app_definitions.proofs.RisingLemmas.{Contains-map, Contains-map_back}
+use Rattle.keyed_lists.proofs.KeyLemmas.{contains_first, contains_later}
+use Rattle.table_facts.proofs.Decoded.{nat_in}
+use Rattle.table_facts.specs.Facts.{natural}
+use Rattle.table_schema.specs.Rows.{Differ, HaveRowids, shown}
+use Rattle.table_schema.specs.declared.tables.Table.{Table}
+use Rattle.table_reading.specs.Order.{AreInOrder}
+use Rattle.table_reading.specs.Readable.{ShowsNumbers}
+
+flips : (m n : ℕ) → eqb m n ≡ eqb n m
+flips m n = grind (arith, nat_tests)
+
+module _ {X : Type 0} (number_of : X → ℕ) where
+  -- each number is below the next, so below all after it
+  pub rise_far : (xs : List X) (n : ℕ) → AllAdjacentBelow (λ x y. number_of x < number_of y) xs n → (i j : ℕ) (d : X)
+      → i < j → j < n → number_of (get_or xs i d) < number_of (get_or xs j d)
+  rise_far xs n next i zero d low within = absurd (omega (arith, low))
+  rise_far xs n next i (suc j) d low within =
+      let step : number_of (get_or xs j d) < number_of (get_or xs (suc j) d) =
+      subst (λ k. number_of (get_or xs j d) < number_of (get_or xs k d)) (add-one j)
+      (next j d (omega (arith, within))) in
+      elim (cases_order i j) [
+        | inl is ↦ subst (λ k. number_of (get_or xs k d) < number_of (get_or xs (suc j) d)) (sym is) step
+        | inr (inl below) ↦ omega (arith, step, rise_far xs n next i j d below (omega (arith, within)))
+        | inr (inr above) ↦ absurd (omega (arith, above, low))
+      ]
+
+  -- sorted numbers of which no two are the same rise
+  pub apart_rise : (xs sorted : List X) → IsPermutation xs sorted → IsNonDecreasingBy number_of sorted
+      → AllPairs (λ x y. number_of x ≢ number_of y) xs → AreInOrder number_of sorted
+  apart_rise xs sorted same order apart i j d low within =
+      let distinct : IsDistinct eqb (map number_of xs) = IsDistinct-from_apart eqb (map number_of xs) (λ k l e below in_xs.
+      let in_xs' : l < length xs = omega (arith, in_xs, length-map xs number_of) in
+      let one = get_or-map number_of xs k d e (omega (arith, below, in_xs')) in
+      let other = get_or-map number_of xs l d e in_xs' in
+      ne_eqb _ _ (λ is. apart k l d below in_xs' (sym one ∙ is ∙ other))) in
+      let distinct' = IsDistinct-IsPermutation eqb flips _ _ (IsPermutation-map number_of xs sorted same) distinct in
+      let mapped : j < length (map number_of sorted) = omega (arith, within, length-map sorted number_of) in
+      let differ = eqb-false _ _ (apart_from_distinct eqb (map number_of sorted) i j 0 distinct' low mapped) in
+      let one = get_or-map number_of sorted i d 0 (omega (arith, low, within)) in
+      let other = get_or-map number_of sorted j d 0 within in
+      let up = order i j d (omega (arith, low)) within in
+      let differ' : number_of (get_or sorted i d) ≢ number_of (get_or sorted j d) = λ is. differ (one ∙ is ∙ sym other) in
+      omega (arith, up, differ')
+
+-- ---- rowids
+
+abbrev HasNatural : Values → Type 0
+HasNatural row = rowid row ≡ natural (nat_in (rowid row))
+
+abbrev row_numbers : List Values → List ℕ
+row_numbers rows = map (λ row. nat_in (rowid row)) rows
+
+-- different rowids that are numbers are different numbers
+differ_numbers : (a b : Values) → HasNatural a → HasNatural b → Differ a b
+    → eqb (nat_in (rowid a)) (nat_in (rowid b)) ≡ false
+differ_numbers a b is_a is_b differ = ne_eqb _ _ (λ same.
+    let alike : rowid b ≡ rowid a = is_b ∙ ap natural (sym same) ∙ sym is_a in
+    let tied : is_eq (value_cmp (rowid a) (rowid b)) ≡ true =
+    ap (λ v. is_eq (value_cmp (rowid a) v)) alike ∙ ap is_eq (tied_itself value_cmp_total (rowid a)) in
+    absurd (cc))
+
+differ_each : (a : Values) (rows : List Values) → HasNatural a → ((r : Values) → Contains rows r → HasNatural r)
+    → AllByRecursion (Differ a) rows → AllByRecursion (λ n. eqb (nat_in (rowid a)) n ≡ false) (row_numbers rows)
+differ_each a [] is numbers apart = tt
+differ_each a (r ∷ rs) is numbers apart = (
+  differ_numbers a r is (numbers r (contains_first r rs)) apart.0,
+  differ_each a rs is (λ s there. numbers s (contains_later r s rs there)) apart.1,
+)
+
+distinct_rowids : (rows : List Values) → ((r : Values) → Contains rows r → HasNatural r) → HaveRowids rows
+    → IsDistinct eqb (row_numbers rows)
+unfolding IsDistinct
+distinct_rowids [] numbers have = tt
+distinct_rowids (r ∷ rs) numbers have =
+    let later : (s : Values) → Contains rs s → HasNatural s = λ s there. numbers s (contains_later r s rs there) in
+    (differ_each r rs (numbers r (contains_first r rs)) later have.1, distinct_rowids rs later have.2)
+
+module _ {X : Type 0} (t : Table) (values_of : X → Values) (number_of : X → ℕ)
+    (leads : ShowsNumbers t values_of number_of) where
+  numbers_of_rows : (rows : List Values) → map (λ (v : Values). nat_in (column v 0)) (map (shown t) rows)
+      ≡ row_numbers rows
+  numbers_of_rows [] = refl
+  numbers_of_rows (r ∷ rs) = λ i. nat_in (leads.of_row r i) ∷ numbers_of_rows rs i
+
+  numbers_of_items : (xs : List X) → map (λ (v : Values). nat_in (column v 0)) (map values_of xs) ≡ map number_of xs
+  numbers_of_items [] = refl
+  numbers_of_items (x ∷ xs) = λ i. nat_in (leads.of_item x i) ∷ numbers_of_items xs i
+
+  -- the items of rows with own rowids have own numbers
+  pub items_apart : (rows : List Values) (xs : List X) → IsPermutation (map (shown t) rows) (map values_of xs)
+      → HaveRowids rows → AllPairs (λ x y. number_of x ≢ number_of y) xs
+  items_apart rows xs same have i j d low within is =
+      let numbers : (r : Values) → Contains rows r → HasNatural r = λ r there.
+      let back = Contains-map_back values_of xs (shown t r)
+      (Contains-permutation _ _ (shown t r) same (Contains-map (shown t) rows r there)) in
+      let number = sym (leads.of_row r) ∙ ap (λ (v : Values). column v 0) (sym back.2) ∙ leads.of_item back.0 in
+      number ∙ ap natural (ap nat_in (sym number)) in
+      let distinct : IsDistinct eqb (map number_of xs) =
+      IsDistinct-IsPermutation eqb flips (row_numbers rows) (map number_of xs)
+      (subst (λ l. IsPermutation l (map number_of xs)) (numbers_of_rows rows)
+      (subst (IsPermutation (map (λ (v : Values). nat_in (column v 0)) (map (shown t) rows))) (numbers_of_items xs)
+      (IsPermutation-map (λ (v : Values). nat_in (column v 0)) _ _ same)))
+      (distinct_rowids rows numbers have) in
+      let mapped : j < length (map number_of xs) = omega (arith, within, length-map xs number_of) in
+      let differ : get_or (map number_of xs) i 0 ≢ get_or (map number_of xs) j 0 =
+      eqb-false _ _ (apart_from_distinct eqb (map number_of xs) i j 0 distinct low mapped) in
+      let one = get_or-map number_of xs i d 0 (omega (arith, low, within)) in
+      let other = get_or-map number_of xs j d 0 within in
+      differ (one ∙ is ∙ sym other)

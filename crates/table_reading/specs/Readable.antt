@@ -1,0 +1,47 @@
+-- What tables show where all of it can be read.
+use Rattle.std.specs.Prelude.{◌≡◌, ℕ, Contains, map}
+use Rattle.sqlite.specs.Order.{Row as Values, column}
+use Rattle.sqlite.specs.Tree.{rowid}
+use Rattle.table_schema.specs.Rows.{HaveRowids, Tables, shown}
+use Rattle.table_schema.specs.declared.tables.Table.{Table}
+use Rattle.table_schema.specs.declared.tables.Table.TheVariants as table
+use Rattle.occurrences.specs.declared.place.CurrentRow.{CurrentRow}
+use Rattle.occurrences.specs.declared.place.Deletion.{Deletion}
+use Rattle.table_facts.specs.Content.{job_values}
+use Rattle.table_facts.specs.Facts.{current_values, deletion_values, link_values, natural, pair_values, row_values}
+use Rattle.table_reading.specs.Cells.{IsLink, IsMeta, IsNumberedRow, IsPair, IsReadJob}
+use Rattle.table_reading.specs.Tables.{TellsMeta}
+use Rattle.table_reading.specs.declared.meta.Meta.{Meta}
+
+-- each row that the table shows is that of something such
+pub record ShowsEach {X : Type 0} (all : Tables) (t : Table) (values_of : X → Values) (Is : X → Type 0) : Type 0 where
+  pub each : (v : Values) → Contains (map (shown t) (all t)) v → (x : X) × Is x × (values_of x ≡ v)
+
+-- and its rowids are integers, none twice
+pub record ShowsEachOnce {X : Type 0} (all : Tables) (t : Table) (values_of : X → Values) (Is : X → Type 0)
+    : Type 0 where
+  pub shows : ShowsEach all t values_of Is
+  pub rowids : HaveRowids (all t)
+
+-- the number stands first in the values, where the table shows the rowid
+pub record ShowsNumbers {X : Type 0} (t : Table) (values_of : X → Values) (number_of : X → ℕ) : Type 0 where
+  pub of_item : (x : X) → column (values_of x) 0 ≡ natural (number_of x)
+  pub of_row : (row : Values) → column (shown t row) 0 ≡ rowid row
+
+-- `plan_meta` shows one row, which tells how far the plans reach
+pub record ShowsMeta (all : Tables) : Type 0 where
+  pub meta : Meta
+  pub form : IsMeta meta
+  pub tells : TellsMeta all meta
+  pub rowids : HaveRowids (all table.Meta)
+
+-- all rows of the tables of the plans can be read
+pub record ArePlansReadable (all : Tables) : Type 0 where
+  pub ltp : ShowsEachOnce all table.LongTerm row_values IsNumberedRow
+  pub cp : ShowsEachOnce all table.Current current_values (λ (current : CurrentRow). IsNumberedRow current.row)
+  pub history : ShowsEachOnce all table.History row_values IsNumberedRow
+  pub deletions : ShowsEachOnce all table.Deletion deletion_values (λ (gone : Deletion). IsNumberedRow gone.row)
+  pub links : ShowsEach all table.LinkInForce link_values IsLink
+  pub pairs : ShowsEach all table.Dependency pair_values IsPair
+  pub meta : ShowsMeta all
+  pub jobs : ShowsEachOnce all table.Job job_values IsReadJob

@@ -1,0 +1,55 @@
+-- What tables tell.
+use Rattle.std.specs.Prelude.{◌≡◌, ◌↔◌, List, Contains, map}
+use Rattle.sqlite.specs.Order.{Row as Values}
+use Rattle.run_cycles.specs.declared.cycles.RunCycle.{RunCycle}
+use Rattle.app_definitions.specs.declared.definitions.Definitions.{Definitions}
+use Rattle.table_schema.specs.Rows.{Tables, shown}
+use Rattle.table_schema.specs.declared.tables.Table.{Table}
+use Rattle.table_schema.specs.declared.tables.Table.TheVariants as table
+use Rattle.table_facts.specs.Content.{AreEach, HasEntry, IsApplicationRow, IsNamed, IsOfSome, IsTold, job_values}
+use Rattle.table_facts.specs.Content.{meta_values}
+use Rattle.table_facts.specs.Facts.{IsCalendarRow, IsCycleRow, IsOffsetRow, IsPeriodRow, IsPredecessorRow}
+use Rattle.table_facts.specs.Facts.{current_values, deletion_values, link_values, pair_values, row_values}
+use Rattle.table_reading.specs.declared.lists.PlanLists.{PlanLists}
+use Rattle.table_reading.specs.declared.lists.PlanRows.{PlanRows}
+use Rattle.table_reading.specs.declared.meta.Meta.{Meta}
+
+-- the table shows exactly these values
+pub record ShowsOnly (all : Tables) (t : Table) (Is : Values → Type 0) : Type 0 where
+  pub exactly : (v : Values) → Contains (map (shown t) (all t)) v ↔ Is v
+
+-- one of these has the values
+abbrev pub IsOneOf : {X : Type 0} → (X → Values) → List X → Values → Type 0
+IsOneOf values_of xs v = Contains (map values_of xs) v
+
+-- the tables of the sets tell these rows
+pub record TellRows (all : Tables) (rows : PlanRows) : Type 0 where
+  pub in_ltp : ShowsOnly all table.LongTerm (IsOneOf row_values rows.ltp.items)
+  pub in_cp : ShowsOnly all table.Current (IsOneOf current_values rows.cp.items)
+  pub in_history : ShowsOnly all table.History (IsOneOf row_values rows.history.items)
+  pub in_deletions : ShowsOnly all table.Deletion (IsOneOf deletion_values rows.deletions.items)
+
+-- the one row of how far the plans reach
+abbrev pub TellsMeta : Tables → Meta → Type 0
+TellsMeta all m = ShowsOnly all table.Meta (λ v. v ≡ meta_values m.bounds m.issued m.options)
+
+-- the tables of the plans tell what is listed
+pub record TellPlans (all : Tables) (lists : PlanLists) : Type 0 where
+  pub meta : TellsMeta all lists.meta
+  pub links : ShowsOnly all table.LinkInForce (IsOneOf link_values lists.links.items)
+  pub placed : TellRows all lists.rows
+  pub pairs : ShowsOnly all table.Dependency (IsOneOf pair_values lists.pairs.items)
+  pub jobs : ShowsOnly all table.Job (IsOneOf job_values lists.jobs.items)
+
+-- the tables of the definitions tell these, which tables can tell
+pub record TellDefinitions (all : Tables) (d : Definitions) : Type 0 where
+  pub calendar_rows : ShowsOnly all table.CalendarEntry (IsOfSome IsCalendarRow d.calendars)
+  pub period_rows : ShowsOnly all table.Period (IsOfSome IsPeriodRow d.periods)
+  pub application_rows : ShowsOnly all table.Application (IsOfSome IsApplicationRow d.applications)
+  pub cycle_rows : ShowsOnly all table.RunCycle (IsOfSome IsCycleRow d.run_cycles)
+  pub offset_rows : ShowsOnly all table.Offset (IsOfSome IsOffsetRow d.run_cycles)
+  pub predecessor_rows : ShowsOnly all table.Predecessor (IsOfSome IsPredecessorRow d.predecessors)
+  pub calendars : AreEach IsTold d.calendars
+  pub periods : AreEach HasEntry d.periods
+  pub run_cycles : AreEach (IsNamed (λ (cycle : RunCycle). cycle.name)) d.run_cycles
+  pub predecessors : AreEach (IsNamed (λ name. name)) d.predecessors

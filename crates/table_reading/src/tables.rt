@@ -1,0 +1,68 @@
+// What whole tables tell.
+
+ghost use Rattle.std.specs.Prelude.{◌≡◌, false, is_ok, map, None, IfErr, IfOk, IfSome};
+ghost use Rattle.std.specs.List.Sorted.{IsPermutation};
+ghost use Rattle.sqlite.specs.State.{HasCleanDisk};
+ghost use Rattle.sqlite.specs.Held.{state};
+ghost use Rattle.table_schema.specs.Rows.{MayFail, shown, tables_of};
+ghost use Rattle.table_reading.specs.Reading.{HasPlan, Looks};
+ghost use Rattle.table_reading.specs.Order.{AreInOrder};
+ghost use Rattle.table_reading.specs.Tables.{IsOneOf, ShowsOnly};
+ghost use Rattle.table_reading.specs.Readable.{ShowsEach, ShowsEachOnce, ShowsNumbers};
+
+use crate::loops::tell_each;
+use crate::order::{Numbered, in_order};
+use crate::told::Told;
+use sqlite::{Alter, Connection, Error};
+use std::alloc::Global;
+use table_schema::{Table, select};
+
+/// What the rows of the table tell.
+#[tactic(auto, unfolding(crate::specs::Reading::HasPlan))]
+pub(crate) fn read_table<X: Told + Drop, S: Alter>(
+    alloc: Global,
+    conn: &mut Connection<S>,
+    table: Table,
+) -> Result<Option<Vec<X>>, Error>
+    ensures told { HasCleanDisk (state S.Store conn.new) → HasPlan (state S.Store conn.old)
+        → IfOk result (λ found. IfSome found (λ xs. ShowsOnly (tables_of (state S.Store conn.old).now.trees) table
+        (IsOneOf X.values xs.items))) }
+    ensures listed { HasCleanDisk (state S.Store conn.new) → HasPlan (state S.Store conn.old)
+        → IfOk result (λ found. IfSome found (λ xs. IsPermutation
+        (map (shown table) (tables_of (state S.Store conn.old).now.trees table)) (map X.values xs.items))) }
+    ensures refused { HasCleanDisk (state S.Store conn.new) → HasPlan (state S.Store conn.old)
+        → IfOk result (λ found. found ≡ None
+        → ShowsEach (tables_of (state S.Store conn.old).now.trees) table X.values X.has_form → ⊥) }
+    ensures looks { Looks (state S.Store conn.old) (state S.Store conn.new) (is_ok result) }
+    ensures fails { HasCleanDisk (state S.Store conn.new) → HasPlan (state S.Store conn.old)
+        → IfErr result (MayFail (state S.Store conn.old) (state S.Store conn.new)) }
+    ensures mode { conn.old.in_transaction ≡ false → conn.new.in_transaction ≡ false }
+{
+    let rows = select(conn, table)?;
+    Ok(tell_each(alloc, &rows)?)
+}
+
+/// What the rows of the table tell, in the order of their numbers, where no two have the same.
+pub(crate) fn read_in_order<X: Told + Numbered + Drop, S: Alter>(
+    alloc: Global,
+    conn: &mut Connection<S>,
+    table: Table,
+) -> Result<Option<Vec<X>>, Error>
+    ensures told { HasCleanDisk (state S.Store conn.new) → HasPlan (state S.Store conn.old)
+        → IfOk result (λ found. IfSome found (λ xs. ShowsOnly (tables_of (state S.Store conn.old).now.trees) table
+        (IsOneOf X.values xs.items))) }
+    ensures order { IfOk result (λ found. IfSome found (λ xs. AreInOrder X.number_of xs.items)) }
+    ensures refused { HasCleanDisk (state S.Store conn.new) → HasPlan (state S.Store conn.old)
+        → IfOk result (λ found. found ≡ None → ShowsNumbers table X.values X.number_of
+        → ShowsEachOnce (tables_of (state S.Store conn.old).now.trees) table X.values X.has_form → ⊥) }
+    ensures looks { Looks (state S.Store conn.old) (state S.Store conn.new) (is_ok result) }
+    ensures fails { HasCleanDisk (state S.Store conn.new) → HasPlan (state S.Store conn.old)
+        → IfErr result (MayFail (state S.Store conn.old) (state S.Store conn.new)) }
+    ensures mode { conn.old.in_transaction ≡ false → conn.new.in_transaction ≡ false }
+{
+    match read_table::<X, S>(alloc, conn, table) {
+        Ok(Some(xs)) => Ok(in_order(xs)),
+        Ok(None) => Ok(None),
+        Err(error) => Err(error),
+    }
+}

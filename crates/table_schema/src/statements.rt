@@ -1,0 +1,80 @@
+// Rows of values in the tables.
+
+ghost use Rattle.std.specs.Prelude.{◌≡◌, map, false, Err, IfErr, IfOk, OnOk, IsTrue};
+ghost use Rattle.std.specs.List.Sorted.{IsPermutation};
+ghost use Rattle.sqlite.specs.State.{ExecutesInside, HasCleanDisk, IsUnchanged, KeepsCommit, Survives};
+ghost use Rattle.sqlite.specs.Held.{state};
+ghost use Rattle.sqlite.specs.Values.{bound};
+ghost use Rattle.table_schema.specs.Rows.{AreOfKinds, IsPlan, IsAlone, MayFail, Stands, shown, tables_of};
+ghost use Rattle.table_schema.specs.Rows.{with_cells, without_key};
+ghost use Rattle.table_schema.specs.Schema.{HasTables};
+ghost use Rattle.table_schema.specs.Texts.{insert_sql};
+
+use crate::tables::Table;
+use crate::texts::{delete_text, insert_text, select_text};
+use sqlite::types::ValueRef;
+use sqlite::{Alter, Connection, Error, Row, Transaction};
+
+/// Puts a row of these values, one for each column, into the table. The transaction goes on where it is refused.
+pub fn insert<S: Alter>(
+    tx: &mut Transaction<'_, S>,
+    table: Table,
+    values: &[ValueRef<'_>],
+) -> Result<(), Error>
+    ensures same_reference { tx.new.conn.ghost_name ≡ tx.old.conn.ghost_name }
+    ensures ok { HasCleanDisk (state S.Store tx.new.conn.now) → IsPlan (state S.Store tx.old.conn.now)
+        → IsTrue (state S.Store tx.old.conn.now).in_transaction → AreOfKinds table (bound values.now)
+        → OnOk result (Stands (state S.Store tx.old.conn.now) (state S.Store tx.new.conn.now)
+        (with_cells table (bound values.now) (tables_of (state S.Store tx.old.conn.now).now.trees))) }
+    ensures fails { HasCleanDisk (state S.Store tx.new.conn.now)
+        → IsTrue (state S.Store tx.old.conn.now).in_transaction
+        → IfErr result (λ e. ExecutesInside 0 (insert_sql table) (bound values.now)
+        (state S.Store tx.old.conn.now) (state S.Store tx.new.conn.now) (Err e)) }
+    ensures stays_open { HasCleanDisk (state S.Store tx.new.conn.now)
+        → IsTrue (state S.Store tx.old.conn.now).in_transaction
+        → OnOk result (IsTrue (state S.Store tx.new.conn.now).is_open) }
+    ensures kept { HasCleanDisk (state S.Store tx.new.conn.now)
+        → KeepsCommit (state S.Store tx.old.conn.now) (state S.Store tx.new.conn.now) }
+    ensures survives { Survives (state S.Store tx.old.conn.now) (state S.Store tx.new.conn.now) (λ _. ⊥) }
+{
+    tx.execute(insert_text(table), values)?;
+    Ok(())
+}
+
+/// Takes the rows that have the key out of the table: those of a name, of a serial, of a pair or of a number. Run
+/// cycles of which there are offsets would take them along.
+pub fn delete<S: Alter>(
+    tx: &mut Transaction<'_, S>,
+    table: Table,
+    key: &[ValueRef<'_>],
+) -> Result<(), Error>
+    ensures same_reference { tx.new.conn.ghost_name ≡ tx.old.conn.ghost_name }
+    ensures ok { HasCleanDisk (state S.Store tx.new.conn.now) → IsPlan (state S.Store tx.old.conn.now)
+        → IsTrue (state S.Store tx.old.conn.now).in_transaction
+        → IsAlone table (bound key.now) (tables_of (state S.Store tx.old.conn.now).now.trees)
+        → OnOk result (Stands (state S.Store tx.old.conn.now) (state S.Store tx.new.conn.now)
+        (without_key table (bound key.now) (tables_of (state S.Store tx.old.conn.now).now.trees))) }
+    ensures kept { HasCleanDisk (state S.Store tx.new.conn.now)
+        → KeepsCommit (state S.Store tx.old.conn.now) (state S.Store tx.new.conn.now) }
+    ensures survives { Survives (state S.Store tx.old.conn.now) (state S.Store tx.new.conn.now) (λ _. ⊥) }
+{
+    tx.execute(delete_text(table), key)?;
+    Ok(())
+}
+
+/// All rows of the table as they are shown, in some order. Over a plan it fails for want of memory, for a failure of
+/// the device, for a connection that was shut, or for a limit on steps.
+pub fn select<S: Alter>(conn: &mut Connection<S>, table: Table) -> Result<Vec<Row>, Error>
+    ensures rows { HasCleanDisk (state S.Store conn.new) → HasTables (state S.Store conn.old).now.schema
+        → IfOk result (λ rows.
+        IsPermutation (map (shown table) (tables_of (state S.Store conn.old).now.trees table)) rows.items) }
+    ensures same { HasCleanDisk (state S.Store conn.new) → HasTables (state S.Store conn.old).now.schema
+        → OnOk result (IsUnchanged (state S.Store conn.old) (state S.Store conn.new)) }
+    ensures fails { HasCleanDisk (state S.Store conn.new) → HasTables (state S.Store conn.old).now.schema
+        → IfErr result (MayFail (state S.Store conn.old) (state S.Store conn.new)) }
+    ensures mode { conn.old.in_transaction ≡ false → conn.new.in_transaction ≡ false }
+    ensures survives { Survives (state S.Store conn.old) (state S.Store conn.new)
+        (λ _. HasTables (state S.Store conn.old).now.schema → ⊥) }
+{
+    conn.query_all(select_text(table), &[])
+}

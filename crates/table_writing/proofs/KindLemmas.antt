@@ -1,0 +1,108 @@
+-- The values of each kind of fact are of the kinds of the columns, and are shown as they are stored.
+use Rattle.std.proofs.Common.{◌≡◌, ℕ, ℤ, Bool, true, false, cond, List, Option, Some, None, option_map, refl}
+use Rattle.sqlite.specs.Kind.TheVariants.{Integer}
+use Rattle.sqlite.specs.declared.types.Value.{Value}
+use Rattle.sqlite.specs.declared.types.Value.TheVariants.{Null, Int, Text}
+use Rattle.sqlite.specs.Ops.{unary}
+use Rattle.sqlite.specs.Cast.{cast, as_text}
+use Rattle.table_schema.specs.Rows.{AreOfKinds}
+use Rattle.table_schema.specs.declared.tables.Table.TheVariants as table
+use Rattle.table_facts.specs.Facts.{current_values, deletion_values, link_values, or_null, pair_values, row_values}
+use Rattle.app_definitions.specs.declared.options.Options.{Options}
+use Rattle.planner_machine.specs.declared.content.Bounds.{Bounds}
+use Rattle.planner_machine.specs.declared.job.Job.{Job}
+use Rattle.table_facts.specs.Content.{job_values, meta_values}
+use Rattle.table_writing.specs.Writing.{AreStorable, StandAlone}
+
+either : (b : Bool) (x : Value) → cond b x x ≡ x
+either true x = refl
+either false x = refl
+
+pub cast-Int : (n : ℤ) → cast Integer (Int n) ≡ Int n
+unfolding unary
+cast-Int n = either _ (Int n)
+
+pub cast-Null : cast Integer Null ≡ Null
+unfolding unary
+cast-Null = either _ Null
+
+cast-text : (o : Option (List ℕ)) → as_text (or_null (option_map Text o)) ≡ or_null (option_map Text o)
+cast-text None = refl
+cast-text (Some t) = refl
+
+pub ltp_storable : AreStorable table.LongTerm row_values
+ltp_storable row = simp (cast-Int, cast-Null, cast-text)
+
+pub history_storable : AreStorable table.History row_values
+history_storable row = simp (cast-Int, cast-Null, cast-text)
+
+pub cp_storable : AreStorable table.Current current_values
+cp_storable row = simp (cast-Int, cast-Null, cast-text)
+
+pub deletions_storable : AreStorable table.Deletion deletion_values
+deletions_storable row = simp (cast-Int, cast-Null, cast-text)
+
+pub pairs_storable : AreStorable table.Dependency pair_values
+pairs_storable pair = simp (cast-Int, cast-Null)
+
+pub links_storable : AreStorable table.LinkInForce link_values
+links_storable link = simp (cast-Null)
+
+pub ltp_alone : StandAlone table.LongTerm
+ltp_alone key all = tt
+
+pub history_alone : StandAlone table.History
+history_alone key all = tt
+
+pub cp_alone : StandAlone table.Current
+cp_alone key all = tt
+
+pub deletions_alone : StandAlone table.Deletion
+deletions_alone key all = tt
+
+pub pairs_alone : StandAlone table.Dependency
+pairs_alone key all = tt
+
+pub links_alone : StandAlone table.LinkInForce
+links_alone key all = tt
+
+pub calendars_alone : StandAlone table.CalendarEntry
+calendars_alone key all = tt
+
+pub periods_alone : StandAlone table.Period
+periods_alone key all = tt
+
+pub applications_alone : StandAlone table.Application
+applications_alone key all = tt
+
+pub predecessors_alone : StandAlone table.Predecessor
+predecessors_alone key all = tt
+
+pub job_storable : (job : Job) → AreOfKinds table.Job (job_values job)
+job_storable job = simp (cast-Int, cast-Null)
+
+pub meta_storable : (bounds : Option Bounds) (issued : ℕ) (options : Options)
+    → AreOfKinds table.Meta (meta_values bounds issued options)
+meta_storable None issued options = simp (cast-Int, cast-Null)
+meta_storable (Some b) issued options = simp (cast-Int, cast-Null)
+
+pub ruleset kinds = (
+  ltp_storable,
+  history_storable,
+  cp_storable,
+  deletions_storable,
+  pairs_storable,
+  links_storable,
+  job_storable,
+  meta_storable,
+  ltp_alone,
+  history_alone,
+  cp_alone,
+  deletions_alone,
+  pairs_alone,
+  links_alone,
+  calendars_alone,
+  periods_alone,
+  applications_alone,
+  predecessors_alone,
+)

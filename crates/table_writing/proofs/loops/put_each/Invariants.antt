@@ -1,0 +1,19 @@
+use Rattle.std.proofs.Common.{◌≡◌, drop, IsTrue}
+use Rattle.sqlite.specs.State.{HasCleanDisk, KeepsCommit, Survives}
+use Rattle.sqlite.specs.Held.{state}
+use Rattle.table_schema.specs.Rows.{IsPlan, tables_of}
+use Rattle.table_writing.specs.Writing.{AreStorable, IsOnWay, with_each}
+use Rattle.table_writing.proofs.loops.put_each.Given as goal
+
+abbrev pub invariant-loop-fact : goal.invariant-loop-fact
+invariant-loop-fact g l =
+    let old = state g.S.Store l.fn.tx.conn.now in
+    let now = state g.S.Store l.tx.conn.now in
+    record {
+      same : l.tx.conn.ghost_name ≡ l.fn.tx.conn.ghost_name;
+      kept : HasCleanDisk now → KeepsCommit old now;
+      survives : Survives old now (λ _. ⊥);
+      leaves : HasCleanDisk now → IsPlan old → IsTrue old.in_transaction → AreStorable l.table g.R.Fact.values
+          → IsOnWay old now (with_each l.table g.R.Fact.values (drop l.fact-index l.facts))
+          (with_each l.table g.R.Fact.values l.facts (tables_of old.now.trees));
+    }

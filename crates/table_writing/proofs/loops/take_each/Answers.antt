@@ -1,0 +1,28 @@
+use Rattle.std.proofs.Common.{arith, rules}
+use Rattle.sqlite.specs.Held.{state}
+use Rattle.sqlite.proofs.InsideLemmas.{keeps_then}
+use Rattle.table_schema.specs.Rows.{Tables, tables_of, without_key}
+use Rattle.table_writing.proofs.Turns.{fold_on, stands_on, survives_both}
+use Rattle.table_writing.proofs.loops.take_each.Goals as goal
+
+pub loop-fact-preserved : goal.loop-fact-preserved
+loop-fact-preserved g c =
+    let old = state g.S.Store c.args.tx.now.conn.now in
+    let mid = state g.S.Store c.loop-fact.tx.conn.now in
+    let new = state g.S.Store c.take.new.tx.conn.now in
+    record {
+      same = search rules;
+      kept = λ clean. keeps_then old mid new (c.loop-fact.invariant.kept (omega
+          (arith, c.take.ensures.survives.clean))) (c.take.ensures.kept clean);
+      survives = survives_both old mid new c.loop-fact.invariant.survives c.take.ensures.survives;
+      leaves = λ clean plan mode kinds.
+          let before = c.loop-fact.invariant.leaves (omega (arith, c.take.ensures.survives.clean)) plan mode kinds in
+          let step = c.in_ok-take.ensures.ok clean before.0.plan before.0.mode (kinds
+          (g.R.Fact.key c.fact-item.result) (tables_of mid.now.trees)) in (
+            stands_on old mid new _ before.0 step,
+            fold_on (λ (now : Tables) x. without_key c.args.table
+                (g.R.Fact.key x) now) c.args.facts.now c.loop-fact.fact-index c.fact-item.result
+                (tables_of mid.now.trees) (tables_of new.now.trees) _
+                (omega arith) c.fact-item.is step.rows_are before.1,
+          );
+    }

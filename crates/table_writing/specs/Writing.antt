@@ -1,0 +1,120 @@
+-- What the statements of a change make of the tables.
+use Rattle.std.specs.Prelude.{◌≡◌, List, [], ◌∷◌, fold}
+use Rattle.sqlite.specs.Order.{Row as Values}
+use Rattle.sqlite.specs.State.{State}
+use Rattle.table_schema.specs.Rows.{AreOfKinds, IsAlone, Stands, Tables, tables_of, with_cells, without_key}
+use Rattle.table_schema.specs.declared.tables.Table.{Table}
+use Rattle.table_schema.specs.declared.tables.Table.TheVariants as table
+use Rattle.std.specs.Prelude.{ℕ, Option, Some, None, filter, not}
+use Rattle.app_definitions.specs.declared.options.Options.{Options}
+use Rattle.external_dependencies.specs.declared.change.PairChange.{PairChange}
+use Rattle.external_dependencies.specs.declared.links.Link.{Link}
+use Rattle.planner_machine.specs.declared.content.Bounds.{Bounds}
+use Rattle.planner_machine.specs.declared.job.Job.{Job}
+use Rattle.keyed_lists.specs.Keyed.{holds_key}
+use Rattle.plan_store.specs.declared.changes.Change.{Change}
+use Rattle.plan_store.specs.declared.changes.Moves.{Moves}
+use Rattle.table_facts.specs.Facts.{current_key, current_values, deletion_key, deletion_values, link_values, natural}
+use Rattle.table_facts.specs.Facts.{pair_values, row_key, row_values}
+use Rattle.table_facts.specs.Content.{job_values, meta_values, IsSmall}
+use Rattle.std.specs.Prelude.{is_some, ◌||◌, if◌then◌else◌, unwrap_or, IfSome}
+use Rattle.planner_machine.specs.Moves.{or_else}
+use Rattle.planner_machine.specs.Content.{Content}
+use Rattle.external_dependencies.specs.Link.{link_cmp}
+use Rattle.external_dependencies.specs.Rising.{IsRising}
+
+-- the values that all of these have can be stored in the table
+abbrev pub AreStorable : {X : Type 0} → Table → (X → Values) → Type 0
+AreStorable {X} t values_of = (x : X) → AreOfKinds t (values_of x)
+
+-- no row of another table goes with a row of this one
+abbrev pub StandAlone : Table → Type 0
+StandAlone t = (key : Values) (all : Tables) → IsAlone t key all
+
+-- with a row for each of these, and without the rows of these keys
+abbrev pub with_each : {X : Type 0} → Table → (X → Values) → List X → Tables → Tables
+with_each t values_of xs all = fold (λ (now : Tables) x. with_cells t (values_of x) now) all xs
+
+abbrev pub without_each : {X : Type 0} → Table → (X → Values) → List X → Tables → Tables
+without_each t key_of xs all = fold (λ (now : Tables) x. without_key t (key_of x) now) all xs
+
+-- what moves in a set: the rows of what goes and of what changes go, and those of what changed and of what is put come
+abbrev pub moved_in : {X : Type 0} → Table → (values_of key_of : X → Values) → Moves X → Tables → Tables
+moved_in t values_of key_of moves all =
+    with_each t values_of moves.put.items
+    (with_each t values_of moves.changed.items
+    (without_each t key_of moves.changed.items
+    (without_each t key_of moves.gone.items all)))
+
+abbrev pub ltp_moved : Change → Tables → Tables
+ltp_moved change all = moved_in table.LongTerm row_values row_key change.ltp all
+
+abbrev pub cp_moved : Change → Tables → Tables
+cp_moved change all = moved_in table.Current current_values current_key change.cp all
+
+abbrev pub history_moved : Change → Tables → Tables
+history_moved change all = moved_in table.History row_values row_key change.history all
+
+abbrev pub deletions_moved : Change → Tables → Tables
+deletions_moved change all = moved_in table.Deletion deletion_values deletion_key change.deletions all
+
+abbrev pub rows_moved : Change → Tables → Tables
+rows_moved change all = deletions_moved change (history_moved change (cp_moved change (ltp_moved change all)))
+
+-- pairs that are added are taken out first, since they may stand there already
+abbrev pub pairs_moved : PairChange → Tables → Tables
+pairs_moved change all =
+    with_each table.Dependency pair_values change.added
+    (without_each table.Dependency pair_values change.added
+    (without_each table.Dependency pair_values change.removed all))
+
+-- those of the links that the others lack
+abbrev pub beside : List Link → List Link → List Link
+beside others links = filter (λ (l : Link). not (holds_key link_cmp (λ (m : Link). m) others l)) links
+
+-- the lists in force: what the new ones lack goes, and what the old ones lack comes
+abbrev pub links_replaced : List Link → List Link → Tables → Tables
+links_replaced old new all =
+    with_each table.LinkInForce link_values (beside old new)
+    (without_each table.LinkInForce link_values (beside new old) all)
+
+abbrev pub links_moved : List Link → Option (List Link) → Tables → Tables
+links_moved old None all = all
+links_moved old (Some new) all = links_replaced old new all
+
+abbrev pub job_put : Job → Tables → Tables
+job_put job all = with_cells table.Job (job_values job) all
+
+abbrev pub job_kept : Option Job → Tables → Tables
+job_kept None all = all
+job_kept (Some job) all = job_put job all
+
+-- the one row of how far the plans reach, anew
+abbrev pub with_meta : Option Bounds → ℕ → Options → Tables → Tables
+with_meta bounds issued options all = with_cells table.Meta (meta_values bounds issued options) all
+
+abbrev pub meta_told : Option Bounds → ℕ → Options → Tables → Tables
+meta_told bounds issued options all =
+    with_meta bounds issued options (without_key table.Meta (natural 1 ∷ []) all)
+
+-- how far the plans reach, anew where that changes
+abbrev pub meta_moved : Change → Option Bounds → ℕ → Options → Tables → Tables
+meta_moved change bounds issued options all =
+    if is_some change.bounds || is_some change.issued
+    then meta_told (or_else change.bounds bounds) (unwrap_or change.issued issued) options all else all
+
+-- what changes beside the definitions, of a content that had these lists in force and reached so far
+abbrev pub plans_written : Content → Change → Tables → Tables
+plans_written c change all =
+    job_kept change.job
+    (meta_moved change c.sets.bounds c.sets.issued c.definitions.options
+    (links_moved c.in_force change.in_force (pairs_moved change.pairs (rows_moved change all))))
+
+-- the lists that come into force are in their order, and the answer of the job can be told
+pub record IsTellableChange (change : Change) : Type 0 where
+  pub links : IfSome change.in_force (IsRising link_cmp)
+  pub job : IfSome change.job (λ (job : Job). IsSmall job.reply)
+
+-- on the way: in a transaction the tables have some rows, and what is left to do makes of them what is to come
+abbrev pub IsOnWay : State → State → (Tables → Tables) → Tables → Type 0
+IsOnWay old now rest goal = Stands old now (tables_of now.now.trees) × (rest (tables_of now.now.trees) ≡ goal)

@@ -1,0 +1,172 @@
+// Facts, each a row of a table.
+
+ghost use Rattle.std.specs.Prelude.{◌≡◌, OnOk, IsTrue};
+ghost use Rattle.sqlite.specs.State.{HasCleanDisk, KeepsCommit, Survives};
+ghost use Rattle.sqlite.specs.Held.{state};
+ghost use Rattle.sqlite.specs.Order.{Row as Values};
+ghost use Rattle.table_schema.specs.Rows.{AreOfKinds, IsAlone, IsPlan, Stands, tables_of, with_cells, without_key};
+ghost use Rattle.table_facts.specs.Facts.{row_values, current_values, deletion_values, pair_values, link_values};
+ghost use Rattle.table_facts.specs.Facts.{row_key, current_key, deletion_key};
+
+use crate::cells::{number, origin};
+use external_dependencies::{Link, Pair};
+use occurrences::{CurrentRow, Deletion, Row};
+use sqlite::types::ValueRef;
+use sqlite::{Alter, Error, Transaction};
+use table_schema::{Table, delete, insert};
+
+/// What stands in one row of a table.
+pub(crate) trait Fact {
+    // the values of its row
+    ghost values: { Self → Values };
+
+    // the key by which its row is found
+    ghost key: { Self → Values };
+
+    /// Puts its row into the table.
+    fn put<S: Alter>(&self, tx: &mut Transaction<'_, S>, table: Table) -> Result<(), Error>
+        ensures same_reference { tx.new.conn.ghost_name ≡ tx.old.conn.ghost_name }
+        ensures ok { HasCleanDisk (state S.Store tx.new.conn.now) → IsPlan (state S.Store tx.old.conn.now)
+            → IsTrue (state S.Store tx.old.conn.now).in_transaction → AreOfKinds table (values self.now)
+            → OnOk result (Stands (state S.Store tx.old.conn.now) (state S.Store tx.new.conn.now)
+            (with_cells table (values self.now) (tables_of (state S.Store tx.old.conn.now).now.trees))) }
+        ensures kept { HasCleanDisk (state S.Store tx.new.conn.now)
+            → KeepsCommit (state S.Store tx.old.conn.now) (state S.Store tx.new.conn.now) }
+        ensures survives { Survives (state S.Store tx.old.conn.now) (state S.Store tx.new.conn.now) (λ _. ⊥) };
+
+    /// Takes its row out of the table.
+    fn take<S: Alter>(&self, tx: &mut Transaction<'_, S>, table: Table) -> Result<(), Error>
+        ensures same_reference { tx.new.conn.ghost_name ≡ tx.old.conn.ghost_name }
+        ensures ok { HasCleanDisk (state S.Store tx.new.conn.now) → IsPlan (state S.Store tx.old.conn.now)
+            → IsTrue (state S.Store tx.old.conn.now).in_transaction
+            → IsAlone table (key self.now) (tables_of (state S.Store tx.old.conn.now).now.trees)
+            → OnOk result (Stands (state S.Store tx.old.conn.now) (state S.Store tx.new.conn.now)
+            (without_key table (key self.now) (tables_of (state S.Store tx.old.conn.now).now.trees))) }
+        ensures kept { HasCleanDisk (state S.Store tx.new.conn.now)
+            → KeepsCommit (state S.Store tx.old.conn.now) (state S.Store tx.new.conn.now) }
+        ensures survives { Survives (state S.Store tx.old.conn.now) (state S.Store tx.new.conn.now) (λ _. ⊥) };
+}
+
+impl Fact for Row {
+    ghost values = { row_values };
+
+    ghost key = { row_key };
+
+    fn put<S: Alter>(&self, tx: &mut Transaction<'_, S>, table: Table) -> Result<(), Error> {
+        insert(
+            tx,
+            table,
+            &[
+                number(self.serial.get()),
+                ValueRef::Text(self.key.app.as_bytes()),
+                number(self.key.ia.number()),
+                number(self.deadline.number()),
+                origin(&self.origin),
+            ],
+        )
+    }
+
+    fn take<S: Alter>(&self, tx: &mut Transaction<'_, S>, table: Table) -> Result<(), Error> {
+        delete(tx, table, &[number(self.serial.get())])
+    }
+}
+
+impl Fact for Pair {
+    ghost values = { pair_values };
+
+    ghost key = { pair_values };
+
+    fn put<S: Alter>(&self, tx: &mut Transaction<'_, S>, table: Table) -> Result<(), Error> {
+        insert(
+            tx,
+            table,
+            &[number(self.successor.get()), number(self.predecessor.get())],
+        )
+    }
+
+    fn take<S: Alter>(&self, tx: &mut Transaction<'_, S>, table: Table) -> Result<(), Error> {
+        delete(
+            tx,
+            table,
+            &[number(self.successor.get()), number(self.predecessor.get())],
+        )
+    }
+}
+
+impl Fact for CurrentRow {
+    ghost values = { current_values };
+
+    ghost key = { current_key };
+
+    fn put<S: Alter>(&self, tx: &mut Transaction<'_, S>, table: Table) -> Result<(), Error> {
+        insert(
+            tx,
+            table,
+            &[
+                number(self.row.serial.get()),
+                ValueRef::Text(self.row.key.app.as_bytes()),
+                number(self.row.key.ia.number()),
+                number(self.row.deadline.number()),
+                origin(&self.row.origin),
+                ValueRef::Text(&[self.status.letter()]),
+            ],
+        )
+    }
+
+    fn take<S: Alter>(&self, tx: &mut Transaction<'_, S>, table: Table) -> Result<(), Error> {
+        delete(tx, table, &[number(self.row.serial.get())])
+    }
+}
+
+impl Fact for Deletion {
+    ghost values = { deletion_values };
+
+    ghost key = { deletion_key };
+
+    fn put<S: Alter>(&self, tx: &mut Transaction<'_, S>, table: Table) -> Result<(), Error> {
+        insert(
+            tx,
+            table,
+            &[
+                number(self.row.serial.get()),
+                ValueRef::Text(self.row.key.app.as_bytes()),
+                number(self.row.key.ia.number()),
+                number(self.row.deadline.number()),
+                origin(&self.row.origin),
+                ValueRef::Text(&[self.reason.letter()]),
+            ],
+        )
+    }
+
+    fn take<S: Alter>(&self, tx: &mut Transaction<'_, S>, table: Table) -> Result<(), Error> {
+        delete(tx, table, &[number(self.row.serial.get())])
+    }
+}
+
+impl Fact for Link {
+    ghost values = { link_values };
+
+    ghost key = { link_values };
+
+    fn put<S: Alter>(&self, tx: &mut Transaction<'_, S>, table: Table) -> Result<(), Error> {
+        insert(
+            tx,
+            table,
+            &[
+                ValueRef::Text(self.app.as_bytes()),
+                ValueRef::Text(self.predecessor.as_bytes()),
+            ],
+        )
+    }
+
+    fn take<S: Alter>(&self, tx: &mut Transaction<'_, S>, table: Table) -> Result<(), Error> {
+        delete(
+            tx,
+            table,
+            &[
+                ValueRef::Text(self.app.as_bytes()),
+                ValueRef::Text(self.predecessor.as_bytes()),
+            ],
+        )
+    }
+}

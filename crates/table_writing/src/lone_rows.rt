@@ -1,0 +1,178 @@
+// A job, and how far the plans reach.
+
+ghost use Rattle.std.specs.Prelude.{◌<◌, ◌^◌, ◌∷◌, [], Some, None};
+ghost use Rattle.std.specs.Prelude.{◌≡◌, OnOk, IsTrue};
+ghost use Rattle.sqlite.specs.State.{HasCleanDisk, KeepsCommit, Survives};
+ghost use Rattle.sqlite.specs.Held.{state};
+ghost use Rattle.table_schema.specs.Rows.{IsPlan, Stands, tables_of};
+ghost use Rattle.table_facts.specs.Content.{answer_text, meta_values};
+ghost use Rattle.table_facts.specs.Facts.{natural};
+ghost use Rattle.table_schema.specs.Rows.{AreOfKinds, with_cells, without_key};
+ghost use Rattle.table_schema.specs.declared.tables.Table.TheVariants.{Meta};
+ghost use Rattle.table_writing.specs.Writing.{job_put, meta_told, with_meta};
+
+use crate::cells::number;
+use app_definitions::Options;
+use planner_machine::{Bounds, Job};
+use sqlite::types::ValueRef;
+use sqlite::{Alter, Error, Transaction};
+use table_schema::{Table, delete, insert};
+
+/// Puts a job into its table. The line is that of its answer.
+#[tactic(auto, using(crate::proofs::KindLemmas::kinds))]
+pub(crate) fn put_job<'x, S: Alter>(
+    tx: &mut Transaction<'_, S>,
+    job: &'x Job,
+    line: &'x [u8],
+) -> Result<(), Error>
+    requires number { job.now.number < 2 ^ 63 }
+    requires line { line.now ≡ answer_text job.now.reply }
+    ensures same_reference { tx.new.conn.ghost_name ≡ tx.old.conn.ghost_name }
+    ensures ok { HasCleanDisk (state S.Store tx.new.conn.now) → IsPlan (state S.Store tx.old.conn.now)
+        → IsTrue (state S.Store tx.old.conn.now).in_transaction
+        → OnOk result (Stands (state S.Store tx.old.conn.now) (state S.Store tx.new.conn.now)
+        (job_put job.now
+        (tables_of (state S.Store tx.old.conn.now).now.trees))) }
+    ensures kept { HasCleanDisk (state S.Store tx.new.conn.now)
+        → KeepsCommit (state S.Store tx.old.conn.now) (state S.Store tx.new.conn.now) }
+    ensures survives { Survives (state S.Store tx.old.conn.now) (state S.Store tx.new.conn.now) (λ _. ⊥) }
+{
+    insert(
+        tx,
+        Table::Job,
+        &[
+            ValueRef::Int(job.number as i64),
+            ValueRef::Blob(job.text.as_slice()),
+            ValueRef::Text(line),
+        ],
+    )
+}
+
+// Puts in that there is no plan.
+fn put_no_bounds<S: Alter>(
+    tx: &mut Transaction<'_, S>,
+    table: Table,
+    issued: u32,
+    options: &Options,
+) -> Result<(), Error>
+    ensures same_reference { tx.new.conn.ghost_name ≡ tx.old.conn.ghost_name }
+    ensures ok { HasCleanDisk (state S.Store tx.new.conn.now) → IsPlan (state S.Store tx.old.conn.now)
+        → IsTrue (state S.Store tx.old.conn.now).in_transaction
+        → AreOfKinds table (meta_values None issued options.now)
+        → OnOk result (Stands (state S.Store tx.old.conn.now) (state S.Store tx.new.conn.now)
+        (with_cells table (meta_values None issued options.now)
+        (tables_of (state S.Store tx.old.conn.now).now.trees))) }
+    ensures kept { HasCleanDisk (state S.Store tx.new.conn.now)
+        → KeepsCommit (state S.Store tx.old.conn.now) (state S.Store tx.new.conn.now) }
+    ensures survives { Survives (state S.Store tx.old.conn.now) (state S.Store tx.new.conn.now) (λ _. ⊥) }
+{
+    insert(
+        tx,
+        table,
+        &[
+            number(1),
+            number(1),
+            number(0),
+            number(0),
+            number(0),
+            number(0),
+            number(issued),
+            ValueRef::Text(options.default_calendar.as_bytes()),
+            number(u32::from(options.max_extension_hours)),
+        ],
+    )
+}
+
+// Puts in how far the plans reach.
+fn put_bounds<S: Alter>(
+    tx: &mut Transaction<'_, S>,
+    table: Table,
+    bounds: &Bounds,
+    issued: u32,
+    options: &Options,
+) -> Result<(), Error>
+    ensures same_reference { tx.new.conn.ghost_name ≡ tx.old.conn.ghost_name }
+    ensures ok { HasCleanDisk (state S.Store tx.new.conn.now) → IsPlan (state S.Store tx.old.conn.now)
+        → IsTrue (state S.Store tx.old.conn.now).in_transaction
+        → AreOfKinds table (meta_values (Some bounds.now) issued options.now)
+        → OnOk result (Stands (state S.Store tx.old.conn.now) (state S.Store tx.new.conn.now)
+        (with_cells table (meta_values (Some bounds.now) issued options.now)
+        (tables_of (state S.Store tx.old.conn.now).now.trees))) }
+    ensures kept { HasCleanDisk (state S.Store tx.new.conn.now)
+        → KeepsCommit (state S.Store tx.old.conn.now) (state S.Store tx.new.conn.now) }
+    ensures survives { Survives (state S.Store tx.old.conn.now) (state S.Store tx.new.conn.now) (λ _. ⊥) }
+{
+    insert(
+        tx,
+        table,
+        &[
+            number(1),
+            number(1),
+            number(1),
+            number(bounds.first_day.number()),
+            number(bounds.last_day.number()),
+            number(bounds.plan_end.number()),
+            number(issued),
+            ValueRef::Text(options.default_calendar.as_bytes()),
+            number(u32::from(options.max_extension_hours)),
+        ],
+    )
+}
+
+fn put_meta<S: Alter>(
+    tx: &mut Transaction<'_, S>,
+    bounds: &Option<Bounds>,
+    issued: u32,
+    options: &Options,
+) -> Result<(), Error>
+    ensures same_reference { tx.new.conn.ghost_name ≡ tx.old.conn.ghost_name }
+    ensures ok { HasCleanDisk (state S.Store tx.new.conn.now) → IsPlan (state S.Store tx.old.conn.now)
+        → IsTrue (state S.Store tx.old.conn.now).in_transaction
+        → AreOfKinds Meta (meta_values bounds.now issued options.now)
+        → OnOk result (Stands (state S.Store tx.old.conn.now) (state S.Store tx.new.conn.now)
+        (with_meta bounds.now issued options.now
+        (tables_of (state S.Store tx.old.conn.now).now.trees))) }
+    ensures kept { HasCleanDisk (state S.Store tx.new.conn.now)
+        → KeepsCommit (state S.Store tx.old.conn.now) (state S.Store tx.new.conn.now) }
+    ensures survives { Survives (state S.Store tx.old.conn.now) (state S.Store tx.new.conn.now) (λ _. ⊥) }
+{
+    match bounds {
+        None => put_no_bounds(tx, Table::Meta, issued, options),
+        Some(bounds) => put_bounds(tx, Table::Meta, bounds, issued, options),
+    }
+}
+
+fn take_meta<S: Alter>(tx: &mut Transaction<'_, S>) -> Result<(), Error>
+    ensures same_reference { tx.new.conn.ghost_name ≡ tx.old.conn.ghost_name }
+    ensures ok { HasCleanDisk (state S.Store tx.new.conn.now) → IsPlan (state S.Store tx.old.conn.now)
+        → IsTrue (state S.Store tx.old.conn.now).in_transaction
+        → OnOk result (Stands (state S.Store tx.old.conn.now) (state S.Store tx.new.conn.now)
+        (without_key Meta (natural 1 ∷ [])
+        (tables_of (state S.Store tx.old.conn.now).now.trees))) }
+    ensures kept { HasCleanDisk (state S.Store tx.new.conn.now)
+        → KeepsCommit (state S.Store tx.old.conn.now) (state S.Store tx.new.conn.now) }
+    ensures survives { Survives (state S.Store tx.old.conn.now) (state S.Store tx.new.conn.now) (λ _. ⊥) }
+{
+    delete(tx, Table::Meta, &[number(1)])
+}
+
+/// Tells anew how far the plans reach, how many serials are issued, and the options.
+pub(crate) fn write_meta<S: Alter>(
+    tx: &mut Transaction<'_, S>,
+    bounds: &Option<Bounds>,
+    issued: u32,
+    options: &Options,
+) -> Result<(), Error>
+    ensures same_reference { tx.new.conn.ghost_name ≡ tx.old.conn.ghost_name }
+    ensures ok { HasCleanDisk (state S.Store tx.new.conn.now) → IsPlan (state S.Store tx.old.conn.now)
+        → IsTrue (state S.Store tx.old.conn.now).in_transaction
+        → OnOk result (Stands (state S.Store tx.old.conn.now) (state S.Store tx.new.conn.now)
+        (meta_told bounds.now issued options.now
+        (tables_of (state S.Store tx.old.conn.now).now.trees))) }
+    ensures kept { HasCleanDisk (state S.Store tx.new.conn.now)
+        → KeepsCommit (state S.Store tx.old.conn.now) (state S.Store tx.new.conn.now) }
+    ensures survives { Survives (state S.Store tx.old.conn.now) (state S.Store tx.new.conn.now) (λ _. ⊥) }
+{
+    take_meta(tx)?;
+    put_meta(tx, bounds, issued, options)
+}

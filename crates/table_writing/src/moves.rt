@@ -1,0 +1,148 @@
+// What moves in the tables of occurrences, pairs and links.
+
+ghost use Rattle.std.specs.Prelude.{◌≡◌, OnOk, IfOk, IsTrue};
+ghost use Rattle.external_dependencies.specs.Link.{link_cmp};
+ghost use Rattle.external_dependencies.specs.Rising.{IsRising};
+ghost use Rattle.external_dependencies.specs.declared.links.Link.{Link as LinkValue};
+ghost use Rattle.keyed_lists.specs.Keyed.{holds_key};
+ghost use Rattle.sqlite.specs.State.{HasCleanDisk, KeepsCommit, Survives};
+ghost use Rattle.sqlite.specs.Held.{state};
+ghost use Rattle.table_schema.specs.Rows.{IsPlan, Stands, tables_of};
+ghost use Rattle.table_writing.specs.Writing.{AreStorable, StandAlone, moved_in, rows_moved, pairs_moved};
+ghost use Rattle.table_writing.specs.Writing.{beside, links_moved, links_replaced};
+
+use crate::facts::Fact;
+use crate::loops::{put_each, take_each};
+use external_dependencies::{Link, Links, PairChange};
+use plan_store::{Change, Moves};
+use sqlite::{Alter, Error, Transaction};
+use std::alloc::{AllocError, Global};
+use table_schema::Table;
+
+// Makes the moves in the table of a set.
+fn write_moves<R: Fact, S: Alter>(
+    tx: &mut Transaction<'_, S>,
+    table: Table,
+    moves: &Moves<R>,
+) -> Result<(), Error>
+    ensures same_reference { tx.new.conn.ghost_name ≡ tx.old.conn.ghost_name }
+    ensures ok { HasCleanDisk (state S.Store tx.new.conn.now) → IsPlan (state S.Store tx.old.conn.now)
+        → IsTrue (state S.Store tx.old.conn.now).in_transaction
+        → AreStorable table R.values → StandAlone table
+        → OnOk result (Stands (state S.Store tx.old.conn.now) (state S.Store tx.new.conn.now)
+        (moved_in table R.values R.key moves.now (tables_of (state S.Store tx.old.conn.now).now.trees))) }
+    ensures kept { HasCleanDisk (state S.Store tx.new.conn.now)
+        → KeepsCommit (state S.Store tx.old.conn.now) (state S.Store tx.new.conn.now) }
+    ensures survives { Survives (state S.Store tx.old.conn.now) (state S.Store tx.new.conn.now) (λ _. ⊥) }
+{
+    take_each(tx, table, &moves.gone)?;
+    take_each(tx, table, &moves.changed)?;
+    put_each(tx, table, &moves.changed)?;
+    put_each(tx, table, &moves.put)
+}
+
+/// Makes the moves of a change in the four tables of occurrences.
+#[tactic(auto, using(crate::proofs::KindLemmas::kinds))]
+pub(crate) fn write_rows<S: Alter>(
+    tx: &mut Transaction<'_, S>,
+    change: &Change,
+) -> Result<(), Error>
+    ensures same_reference { tx.new.conn.ghost_name ≡ tx.old.conn.ghost_name }
+    ensures ok { HasCleanDisk (state S.Store tx.new.conn.now) → IsPlan (state S.Store tx.old.conn.now)
+        → IsTrue (state S.Store tx.old.conn.now).in_transaction
+        → OnOk result (Stands (state S.Store tx.old.conn.now) (state S.Store tx.new.conn.now)
+        (rows_moved change.now (tables_of (state S.Store tx.old.conn.now).now.trees))) }
+    ensures kept { HasCleanDisk (state S.Store tx.new.conn.now)
+        → KeepsCommit (state S.Store tx.old.conn.now) (state S.Store tx.new.conn.now) }
+    ensures survives { Survives (state S.Store tx.old.conn.now) (state S.Store tx.new.conn.now) (λ _. ⊥) }
+{
+    write_moves(tx, Table::LongTerm, &change.ltp)?;
+    write_moves(tx, Table::Current, &change.cp)?;
+    write_moves(tx, Table::History, &change.history)?;
+    write_moves(tx, Table::Deletion, &change.deletions)
+}
+
+/// Makes a change of the pairs.
+#[tactic(auto, using(crate::proofs::KindLemmas::kinds))]
+pub(crate) fn write_pairs<S: Alter>(
+    tx: &mut Transaction<'_, S>,
+    change: &PairChange,
+) -> Result<(), Error>
+    ensures same_reference { tx.new.conn.ghost_name ≡ tx.old.conn.ghost_name }
+    ensures ok { HasCleanDisk (state S.Store tx.new.conn.now) → IsPlan (state S.Store tx.old.conn.now)
+        → IsTrue (state S.Store tx.old.conn.now).in_transaction
+        → OnOk result (Stands (state S.Store tx.old.conn.now) (state S.Store tx.new.conn.now)
+        (pairs_moved change.now (tables_of (state S.Store tx.old.conn.now).now.trees))) }
+    ensures kept { HasCleanDisk (state S.Store tx.new.conn.now)
+        → KeepsCommit (state S.Store tx.old.conn.now) (state S.Store tx.new.conn.now) }
+    ensures survives { Survives (state S.Store tx.old.conn.now) (state S.Store tx.new.conn.now) (λ _. ⊥) }
+{
+    take_each(tx, Table::Dependency, change.removed.as_slice())?;
+    take_each(tx, Table::Dependency, change.added.as_slice())?;
+    put_each(tx, Table::Dependency, change.added.as_slice())
+}
+
+// Whether the link is one of these.
+fn has_link(links: &[Link], link: &Link) -> bool
+    ensures { IsRising link_cmp links.now
+        → result ≡ holds_key link_cmp (λ (l : LinkValue). l) links.now link.now }
+{
+    links.binary_search(link).is_ok()
+}
+
+// Those of the links that the others lack.
+fn links_beside(alloc: Global, others: &Links, links: &Links) -> Result<Vec<Link>, AllocError>
+    ensures { IfOk result (λ found. found.items ≡ beside others.now links.now) }
+{
+    let others = others.as_slice();
+    links
+        .as_slice()
+        .iter()
+        .copied()
+        .filter(|link| !has_link(others, link))
+        .collect(alloc)
+}
+
+// Puts lists in force in place of others: takes out those that are no longer there, and puts in the new ones.
+fn replace_links<S: Alter>(
+    tx: &mut Transaction<'_, S>,
+    alloc: Global,
+    old: &Links,
+    new: &Links,
+) -> Result<(), Error>
+    ensures same_reference { tx.new.conn.ghost_name ≡ tx.old.conn.ghost_name }
+    ensures ok { HasCleanDisk (state S.Store tx.new.conn.now) → IsPlan (state S.Store tx.old.conn.now)
+        → IsTrue (state S.Store tx.old.conn.now).in_transaction
+        → OnOk result (Stands (state S.Store tx.old.conn.now) (state S.Store tx.new.conn.now)
+        (links_replaced old.now new.now (tables_of (state S.Store tx.old.conn.now).now.trees))) }
+    ensures kept { HasCleanDisk (state S.Store tx.new.conn.now)
+        → KeepsCommit (state S.Store tx.old.conn.now) (state S.Store tx.new.conn.now) }
+    ensures survives { Survives (state S.Store tx.old.conn.now) (state S.Store tx.new.conn.now) (λ _. ⊥) }
+{
+    let gone = links_beside(alloc, new, old)?;
+    let come = links_beside(alloc, old, new)?;
+    take_each(tx, Table::LinkInForce, &gone)?;
+    put_each(tx, Table::LinkInForce, &come)
+}
+
+/// Puts new lists in force in place of the old ones, if there are any.
+pub(crate) fn write_links<S: Alter>(
+    tx: &mut Transaction<'_, S>,
+    alloc: Global,
+    old: &Links,
+    new: &Option<Links>,
+) -> Result<(), Error>
+    ensures same_reference { tx.new.conn.ghost_name ≡ tx.old.conn.ghost_name }
+    ensures ok { HasCleanDisk (state S.Store tx.new.conn.now) → IsPlan (state S.Store tx.old.conn.now)
+        → IsTrue (state S.Store tx.old.conn.now).in_transaction
+        → OnOk result (Stands (state S.Store tx.old.conn.now) (state S.Store tx.new.conn.now)
+        (links_moved old.now new.now (tables_of (state S.Store tx.old.conn.now).now.trees))) }
+    ensures kept { HasCleanDisk (state S.Store tx.new.conn.now)
+        → KeepsCommit (state S.Store tx.old.conn.now) (state S.Store tx.new.conn.now) }
+    ensures survives { Survives (state S.Store tx.old.conn.now) (state S.Store tx.new.conn.now) (λ _. ⊥) }
+{
+    match new {
+        None => Ok(()),
+        Some(new) => replace_links(tx, alloc, old, new),
+    }
+}

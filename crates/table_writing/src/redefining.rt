@@ -1,0 +1,229 @@
+// Definitions in their tables.
+
+ghost use Rattle.std.specs.Prelude.{◌≡◌, OnOk, IsTrue};
+ghost use Rattle.sqlite.specs.State.{HasCleanDisk, KeepsCommit, Survives};
+ghost use Rattle.sqlite.specs.Held.{state};
+ghost use Rattle.table_schema.specs.Rows.{IsAlone, IsPlan, Stands, tables_of, with_cells, without_key};
+ghost use Rattle.table_definitions.specs.Storing.{IsStorable};
+ghost use Rattle.table_writing.specs.Redefining.{AreAlone, AreRowsFor, AreStorableMoves};
+ghost use Rattle.table_schema.specs.declared.tables.Table.TheVariants.{Offset, RunCycle};
+ghost use Rattle.table_writing.specs.Redefining.{cycles_gone, cycles_put, cycles_renewed, definitions_moved};
+ghost use Rattle.table_writing.specs.Redefining.{name_key, renewed, rows_of};
+ghost use Rattle.table_writing.specs.Writing.{StandAlone, with_each, without_each};
+
+use crate::lone_rows::write_meta;
+use app_definitions::Kind;
+use plan_store::Content;
+use sqlite::types::ValueRef;
+use sqlite::{Alter, Error, Transaction};
+use sqlite_value::row::Row;
+use std::alloc::Global;
+use table_definitions::lend;
+use table_schema::{Table, delete, insert};
+use work_calendars::Name;
+
+/// What moves in the tables of definitions: of one kind, if any, the rows of these names go, and those rows come.
+#[derive(Drop)]
+pub struct DefinitionMoves {
+    /// The kind; `None` where nothing moves.
+    pub kind: Option<Kind>,
+    /// The names whose rows go.
+    pub names: Vec<Name>,
+    /// The rows that come.
+    pub rows: Vec<Row>,
+    /// Of run cycles, the rows of their offsets, which come too.
+    pub offsets: Vec<Row>,
+}
+
+// Puts a row into the table.
+fn put_row<S: Alter>(
+    tx: &mut Transaction<'_, S>,
+    alloc: Global,
+    table: Table,
+    row: &Row,
+) -> Result<(), Error>
+    ensures same_reference { tx.new.conn.ghost_name ≡ tx.old.conn.ghost_name }
+    ensures ok { HasCleanDisk (state S.Store tx.new.conn.now) → IsPlan (state S.Store tx.old.conn.now)
+        → IsTrue (state S.Store tx.old.conn.now).in_transaction → IsStorable table row.now
+        → OnOk result (Stands (state S.Store tx.old.conn.now) (state S.Store tx.new.conn.now)
+        (with_cells table row.now (tables_of (state S.Store tx.old.conn.now).now.trees))) }
+    ensures kept { HasCleanDisk (state S.Store tx.new.conn.now)
+        → KeepsCommit (state S.Store tx.old.conn.now) (state S.Store tx.new.conn.now) }
+    ensures survives { Survives (state S.Store tx.old.conn.now) (state S.Store tx.new.conn.now) (λ _. ⊥) }
+{
+    let values = lend(alloc, row)?;
+    insert(tx, table, &values)
+}
+
+// Puts rows into the table.
+fn put_rows<S: Alter>(
+    tx: &mut Transaction<'_, S>,
+    alloc: Global,
+    table: Table,
+    rows: &[Row],
+) -> Result<(), Error>
+    ensures same_reference { tx.new.conn.ghost_name ≡ tx.old.conn.ghost_name }
+    ensures ok { HasCleanDisk (state S.Store tx.new.conn.now) → IsPlan (state S.Store tx.old.conn.now)
+        → IsTrue (state S.Store tx.old.conn.now).in_transaction → AreRowsFor table rows.now
+        → OnOk result (Stands (state S.Store tx.old.conn.now) (state S.Store tx.new.conn.now)
+        (with_each table rows_of rows.now (tables_of (state S.Store tx.old.conn.now).now.trees))) }
+    ensures kept { HasCleanDisk (state S.Store tx.new.conn.now)
+        → KeepsCommit (state S.Store tx.old.conn.now) (state S.Store tx.new.conn.now) }
+    ensures survives { Survives (state S.Store tx.old.conn.now) (state S.Store tx.new.conn.now) (λ _. ⊥) }
+{
+    for row in rows {
+        put_row(tx, alloc, table, row)?;
+    }
+    Ok(())
+}
+
+// Takes the rows of a name out of the table.
+fn take_name<S: Alter>(tx: &mut Transaction<'_, S>, table: Table, name: &Name) -> Result<(), Error>
+    ensures same_reference { tx.new.conn.ghost_name ≡ tx.old.conn.ghost_name }
+    ensures ok { HasCleanDisk (state S.Store tx.new.conn.now) → IsPlan (state S.Store tx.old.conn.now)
+        → IsTrue (state S.Store tx.old.conn.now).in_transaction
+        → IsAlone table (name_key name.now) (tables_of (state S.Store tx.old.conn.now).now.trees)
+        → OnOk result (Stands (state S.Store tx.old.conn.now) (state S.Store tx.new.conn.now)
+        (without_key table (name_key name.now) (tables_of (state S.Store tx.old.conn.now).now.trees))) }
+    ensures kept { HasCleanDisk (state S.Store tx.new.conn.now)
+        → KeepsCommit (state S.Store tx.old.conn.now) (state S.Store tx.new.conn.now) }
+    ensures survives { Survives (state S.Store tx.old.conn.now) (state S.Store tx.new.conn.now) (λ _. ⊥) }
+{
+    delete(tx, table, &[ValueRef::Text(name.as_bytes())])
+}
+
+// Takes the rows of these names out of the table.
+fn take_names<S: Alter>(
+    tx: &mut Transaction<'_, S>,
+    table: Table,
+    names: &[Name],
+) -> Result<(), Error>
+    ensures same_reference { tx.new.conn.ghost_name ≡ tx.old.conn.ghost_name }
+    ensures ok { HasCleanDisk (state S.Store tx.new.conn.now) → IsPlan (state S.Store tx.old.conn.now)
+        → IsTrue (state S.Store tx.old.conn.now).in_transaction
+        → AreAlone table names.now (tables_of (state S.Store tx.old.conn.now).now.trees)
+        → OnOk result (Stands (state S.Store tx.old.conn.now) (state S.Store tx.new.conn.now)
+        (without_each table name_key names.now (tables_of (state S.Store tx.old.conn.now).now.trees))) }
+    ensures kept { HasCleanDisk (state S.Store tx.new.conn.now)
+        → KeepsCommit (state S.Store tx.old.conn.now) (state S.Store tx.new.conn.now) }
+    ensures survives { Survives (state S.Store tx.old.conn.now) (state S.Store tx.new.conn.now) (λ _. ⊥) }
+{
+    for name in names {
+        take_name(tx, table, name)?;
+    }
+    Ok(())
+}
+
+// Takes the rows of these names out of the table, and puts rows in.
+fn renew<S: Alter>(
+    tx: &mut Transaction<'_, S>,
+    alloc: Global,
+    table: Table,
+    moves: &DefinitionMoves,
+) -> Result<(), Error>
+    ensures same_reference { tx.new.conn.ghost_name ≡ tx.old.conn.ghost_name }
+    ensures ok { HasCleanDisk (state S.Store tx.new.conn.now) → IsPlan (state S.Store tx.old.conn.now)
+        → IsTrue (state S.Store tx.old.conn.now).in_transaction
+        → StandAlone table → AreRowsFor table moves.now.rows.items
+        → OnOk result (Stands (state S.Store tx.old.conn.now) (state S.Store tx.new.conn.now)
+        (renewed table moves.now.names.items moves.now.rows.items
+        (tables_of (state S.Store tx.old.conn.now).now.trees))) }
+    ensures kept { HasCleanDisk (state S.Store tx.new.conn.now)
+        → KeepsCommit (state S.Store tx.old.conn.now) (state S.Store tx.new.conn.now) }
+    ensures survives { Survives (state S.Store tx.old.conn.now) (state S.Store tx.new.conn.now) (λ _. ⊥) }
+{
+    take_names(tx, table, &moves.names)?;
+    put_rows(tx, alloc, table, &moves.rows)
+}
+
+// Takes the run cycles of these applications out of their table, after their offsets.
+fn take_cycles<S: Alter>(tx: &mut Transaction<'_, S>, apps: &[Name]) -> Result<(), Error>
+    ensures same_reference { tx.new.conn.ghost_name ≡ tx.old.conn.ghost_name }
+    ensures ok { HasCleanDisk (state S.Store tx.new.conn.now) → IsPlan (state S.Store tx.old.conn.now)
+        → IsTrue (state S.Store tx.old.conn.now).in_transaction
+        → OnOk result (Stands (state S.Store tx.old.conn.now) (state S.Store tx.new.conn.now)
+        (cycles_gone apps.now (tables_of (state S.Store tx.old.conn.now).now.trees))) }
+    ensures kept { HasCleanDisk (state S.Store tx.new.conn.now)
+        → KeepsCommit (state S.Store tx.old.conn.now) (state S.Store tx.new.conn.now) }
+    ensures survives { Survives (state S.Store tx.old.conn.now) (state S.Store tx.new.conn.now) (λ _. ⊥) }
+{
+    take_names(tx, Table::Offset, apps)?;
+    take_names(tx, Table::RunCycle, apps)
+}
+
+// Puts run cycles into their table, before their offsets.
+fn put_cycles<S: Alter>(
+    tx: &mut Transaction<'_, S>,
+    alloc: Global,
+    cycles: &[Row],
+    offsets: &[Row],
+) -> Result<(), Error>
+    ensures same_reference { tx.new.conn.ghost_name ≡ tx.old.conn.ghost_name }
+    ensures ok { HasCleanDisk (state S.Store tx.new.conn.now) → IsPlan (state S.Store tx.old.conn.now)
+        → IsTrue (state S.Store tx.old.conn.now).in_transaction
+        → AreRowsFor RunCycle cycles.now → AreRowsFor Offset offsets.now
+        → OnOk result (Stands (state S.Store tx.old.conn.now) (state S.Store tx.new.conn.now)
+        (cycles_put cycles.now offsets.now (tables_of (state S.Store tx.old.conn.now).now.trees))) }
+    ensures kept { HasCleanDisk (state S.Store tx.new.conn.now)
+        → KeepsCommit (state S.Store tx.old.conn.now) (state S.Store tx.new.conn.now) }
+    ensures survives { Survives (state S.Store tx.old.conn.now) (state S.Store tx.new.conn.now) (λ _. ⊥) }
+{
+    put_rows(tx, alloc, Table::RunCycle, cycles)?;
+    put_rows(tx, alloc, Table::Offset, offsets)
+}
+
+// Takes the run cycles of these applications out, and puts run cycles in.
+fn renew_cycles<S: Alter>(
+    tx: &mut Transaction<'_, S>,
+    alloc: Global,
+    moves: &DefinitionMoves,
+) -> Result<(), Error>
+    ensures same_reference { tx.new.conn.ghost_name ≡ tx.old.conn.ghost_name }
+    ensures ok { HasCleanDisk (state S.Store tx.new.conn.now) → IsPlan (state S.Store tx.old.conn.now)
+        → IsTrue (state S.Store tx.old.conn.now).in_transaction
+        → AreRowsFor RunCycle moves.now.rows.items → AreRowsFor Offset moves.now.offsets.items
+        → OnOk result (Stands (state S.Store tx.old.conn.now) (state S.Store tx.new.conn.now)
+        (cycles_renewed moves.now.names.items moves.now.rows.items moves.now.offsets.items
+        (tables_of (state S.Store tx.old.conn.now).now.trees))) }
+    ensures kept { HasCleanDisk (state S.Store tx.new.conn.now)
+        → KeepsCommit (state S.Store tx.old.conn.now) (state S.Store tx.new.conn.now) }
+    ensures survives { Survives (state S.Store tx.old.conn.now) (state S.Store tx.new.conn.now) (λ _. ⊥) }
+{
+    take_cycles(tx, &moves.names)?;
+    put_cycles(tx, alloc, &moves.rows, &moves.offsets)
+}
+
+/// Moves the rows of definitions. The content has the options that are told.
+#[tactic(auto, using(crate::proofs::KindLemmas::kinds))]
+pub(crate) fn write_definitions<S: Alter>(
+    tx: &mut Transaction<'_, S>,
+    alloc: Global,
+    content: &Content,
+    moves: &DefinitionMoves,
+) -> Result<(), Error>
+    ensures same_reference { tx.new.conn.ghost_name ≡ tx.old.conn.ghost_name }
+    ensures ok { HasCleanDisk (state S.Store tx.new.conn.now) → IsPlan (state S.Store tx.old.conn.now)
+        → IsTrue (state S.Store tx.old.conn.now).in_transaction
+        → AreStorableMoves moves.now
+        → OnOk result (Stands (state S.Store tx.old.conn.now) (state S.Store tx.new.conn.now)
+        (definitions_moved content.now.bounds content.now.issued content.now.definitions.options moves.now
+        (tables_of (state S.Store tx.old.conn.now).now.trees))) }
+    ensures kept { HasCleanDisk (state S.Store tx.new.conn.now)
+        → KeepsCommit (state S.Store tx.old.conn.now) (state S.Store tx.new.conn.now) }
+    ensures survives { Survives (state S.Store tx.old.conn.now) (state S.Store tx.new.conn.now) (λ _. ⊥) }
+{
+    match moves.kind {
+        None => Ok(()),
+        Some(Kind::Applications) => renew(tx, alloc, Table::Application, moves),
+        Some(Kind::Calendars) => renew(tx, alloc, Table::CalendarEntry, moves),
+        Some(Kind::Periods) => renew(tx, alloc, Table::Period, moves),
+        Some(Kind::Predecessors) => renew(tx, alloc, Table::Predecessor, moves),
+        Some(Kind::RunCycles) => renew_cycles(tx, alloc, moves),
+        Some(Kind::Options) => write_meta(
+            tx,
+            &content.bounds,
+            content.issued,
+            &content.definitions.options,
+        ),
+    }
+}

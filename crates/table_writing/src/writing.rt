@@ -1,0 +1,170 @@
+// A change is written.
+
+ghost use Rattle.std.specs.Prelude.{◌≡◌, ◌<◌, ◌^◌, false, OnOk, OnErr, IsTrue, IfSome};
+ghost use Rattle.sqlite.specs.State.{HasCleanDisk, KeepsCommit, Survives};
+ghost use Rattle.sqlite.specs.Held.{state};
+ghost use Rattle.table_schema.specs.Rows.{IsPlan, Stands, tables_of};
+ghost use Rattle.planner_machine.specs.Moves.{or_else};
+ghost use Rattle.planner_machine.specs.declared.job.Job.{Job as JobValue};
+ghost use Rattle.plan_store.specs.Contents.{content_of};
+ghost use Rattle.table_facts.specs.Content.{answer_text};
+ghost use Rattle.table_writing.specs.Redefining.{AreStorableMoves, written};
+ghost use Rattle.table_writing.specs.Writing.{job_kept, meta_moved, plans_written};
+
+use crate::lone_rows::{put_job, write_meta};
+use crate::moves::{write_links, write_pairs, write_rows};
+use crate::redefining::{DefinitionMoves, write_definitions};
+use plan_store::{Change, Content};
+use planner_machine::{Bounds, Job};
+use sqlite::{Alter, Connection, Error, Transaction};
+use std::alloc::Global;
+
+// The new bounds, or the old ones where there are no new.
+fn new_or_old(new: Option<Bounds>, old: Option<Bounds>) -> Option<Bounds>
+    ensures { result ≡ or_else new old }
+{
+    match new {
+        Some(bounds) => Some(bounds),
+        None => old,
+    }
+}
+
+// Tells anew how far the plans reach, where that changes.
+fn write_new_meta<S: Alter>(
+    tx: &mut Transaction<'_, S>,
+    old: &Content,
+    change: &Change,
+) -> Result<(), Error>
+    ensures same_reference { tx.new.conn.ghost_name ≡ tx.old.conn.ghost_name }
+    ensures ok { HasCleanDisk (state S.Store tx.new.conn.now) → IsPlan (state S.Store tx.old.conn.now)
+        → IsTrue (state S.Store tx.old.conn.now).in_transaction
+        → OnOk result (Stands (state S.Store tx.old.conn.now) (state S.Store tx.new.conn.now)
+        (meta_moved change.now old.now.bounds old.now.issued old.now.definitions.options
+        (tables_of (state S.Store tx.old.conn.now).now.trees))) }
+    ensures kept { HasCleanDisk (state S.Store tx.new.conn.now)
+        → KeepsCommit (state S.Store tx.old.conn.now) (state S.Store tx.new.conn.now) }
+    ensures survives { Survives (state S.Store tx.old.conn.now) (state S.Store tx.new.conn.now) (λ _. ⊥) }
+{
+    if change.bounds.is_some() || change.issued.is_some() {
+        let bounds = new_or_old(change.bounds, old.bounds);
+        let issued = change.issued.unwrap_or(old.issued);
+        write_meta(tx, &bounds, issued, &old.definitions.options)
+    } else {
+        Ok(())
+    }
+}
+
+// Puts the job in, if there is one. The line is that of its answer.
+fn write_job<S: Alter>(
+    tx: &mut Transaction<'_, S>,
+    job: &Option<Job>,
+    line: &[u8],
+) -> Result<(), Error>
+    requires number { IfSome job.now (λ (job : JobValue). job.number < 2 ^ 63) }
+    requires line { IfSome job.now (λ (job : JobValue). line.now ≡ answer_text job.reply) }
+    ensures same_reference { tx.new.conn.ghost_name ≡ tx.old.conn.ghost_name }
+    ensures ok { HasCleanDisk (state S.Store tx.new.conn.now) → IsPlan (state S.Store tx.old.conn.now)
+        → IsTrue (state S.Store tx.old.conn.now).in_transaction
+        → OnOk result (Stands (state S.Store tx.old.conn.now) (state S.Store tx.new.conn.now)
+        (job_kept job.now (tables_of (state S.Store tx.old.conn.now).now.trees))) }
+    ensures kept { HasCleanDisk (state S.Store tx.new.conn.now)
+        → KeepsCommit (state S.Store tx.old.conn.now) (state S.Store tx.new.conn.now) }
+    ensures survives { Survives (state S.Store tx.old.conn.now) (state S.Store tx.new.conn.now) (λ _. ⊥) }
+{
+    match job {
+        None => Ok(()),
+        Some(job) => put_job(tx, job, line),
+    }
+}
+
+// Makes what changes beside the definitions. The line is that of the answer of its job.
+fn write_plans<S: Alter>(
+    tx: &mut Transaction<'_, S>,
+    alloc: Global,
+    old: &Content,
+    change: &Change,
+    line: &[u8],
+) -> Result<(), Error>
+    requires number { IfSome change.now.job (λ (job : JobValue). job.number < 2 ^ 63) }
+    requires line { IfSome change.now.job (λ (job : JobValue). line.now ≡ answer_text job.reply) }
+    ensures same_reference { tx.new.conn.ghost_name ≡ tx.old.conn.ghost_name }
+    ensures ok { HasCleanDisk (state S.Store tx.new.conn.now) → IsPlan (state S.Store tx.old.conn.now)
+        → IsTrue (state S.Store tx.old.conn.now).in_transaction
+        → OnOk result (Stands (state S.Store tx.old.conn.now) (state S.Store tx.new.conn.now)
+        (plans_written (content_of old.now) change.now (tables_of (state S.Store tx.old.conn.now).now.trees))) }
+    ensures kept { HasCleanDisk (state S.Store tx.new.conn.now)
+        → KeepsCommit (state S.Store tx.old.conn.now) (state S.Store tx.new.conn.now) }
+    ensures survives { Survives (state S.Store tx.old.conn.now) (state S.Store tx.new.conn.now) (λ _. ⊥) }
+{
+    write_rows(tx, change)?;
+    write_pairs(tx, &change.pairs)?;
+    write_links(tx, alloc, &old.in_force, &change.in_force)?;
+    write_new_meta(tx, old, change)?;
+    write_job(tx, &change.job, line)
+}
+
+/// Makes a change in the tables of a content, which has its definitions already, in a transaction that is open.
+/// The line is that of the answer of its job.
+pub(crate) fn write_change<S: Alter>(
+    tx: &mut Transaction<'_, S>,
+    alloc: Global,
+    content: &Content,
+    moves: &DefinitionMoves,
+    change: &Change,
+    line: &[u8],
+) -> Result<(), Error>
+    requires number { IfSome change.now.job (λ (job : JobValue). job.number < 2 ^ 63) }
+    requires line { IfSome change.now.job (λ (job : JobValue). line.now ≡ answer_text job.reply) }
+    ensures same_reference { tx.new.conn.ghost_name ≡ tx.old.conn.ghost_name }
+    ensures ok { HasCleanDisk (state S.Store tx.new.conn.now) → IsPlan (state S.Store tx.old.conn.now)
+        → IsTrue (state S.Store tx.old.conn.now).in_transaction → AreStorableMoves moves.now
+        → OnOk result (Stands (state S.Store tx.old.conn.now) (state S.Store tx.new.conn.now)
+        (written (content_of content.now) moves.now change.now
+        (tables_of (state S.Store tx.old.conn.now).now.trees))) }
+    ensures kept { HasCleanDisk (state S.Store tx.new.conn.now)
+        → KeepsCommit (state S.Store tx.old.conn.now) (state S.Store tx.new.conn.now) }
+    ensures survives { Survives (state S.Store tx.old.conn.now) (state S.Store tx.new.conn.now) (λ _. ⊥) }
+{
+    write_definitions(tx, alloc, content, moves)?;
+    write_plans(tx, alloc, content, change, line)
+}
+
+/// Makes a change in the tables of a content, which has its definitions already, in one transaction: all of it or
+/// nothing, also over a crash. The line is that of the answer of its job.
+pub fn commit_change<S: Alter>(
+    conn: &mut Connection<S>,
+    alloc: Global,
+    content: &Content,
+    moves: &DefinitionMoves,
+    change: &Change,
+    line: &[u8],
+) -> Result<(), Error>
+    requires storable { AreStorableMoves moves.now }
+    requires mode { conn.old.in_transaction ≡ false }
+    requires number { IfSome change.now.job (λ (job : JobValue). job.number < 2 ^ 63) }
+    requires line { IfSome change.now.job (λ (job : JobValue). line.now ≡ answer_text job.reply) }
+    ensures done { HasCleanDisk (state S.Store conn.new) → IsPlan (state S.Store conn.old)
+        → OnOk result (IsPlan (state S.Store conn.new) × (tables_of (state S.Store conn.new).now.trees
+        ≡ written (content_of content.now) moves.now change.now
+        (tables_of (state S.Store conn.old).now.trees))) }
+    ensures committed { HasCleanDisk (state S.Store conn.new)
+        → OnOk result ((state S.Store conn.new).committed ≡ (state S.Store conn.new).now) }
+    ensures kept { HasCleanDisk (state S.Store conn.new) → IsPlan (state S.Store conn.old)
+        → IsTrue (state S.Store conn.new).is_open → OnErr result
+        (((state S.Store conn.new).now ≡ (state S.Store conn.old).now)
+        × ((state S.Store conn.new).committed ≡ (state S.Store conn.old).committed)) }
+    ensures ended { conn.new.in_transaction ≡ false }
+    ensures stays_open { HasCleanDisk (state S.Store conn.new) → OnOk result (IsTrue
+        (state S.Store conn.new).is_open) }
+    ensures crash { Survives (state S.Store conn.old) (state S.Store conn.new)
+        (λ db. IsPlan (state S.Store conn.old) → tables_of db
+        ≡ written (content_of content.now) moves.now change.now
+        (tables_of (state S.Store conn.old).now.trees)) }
+{
+    let settled = conn.is_autocommit();
+    prove!(settled);
+    let mut tx = conn.transaction();
+    write_change(&mut tx, alloc, content, moves, change, line)?;
+    tx.commit()?;
+    Ok(())
+}
