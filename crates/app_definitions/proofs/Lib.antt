@@ -1,16 +1,3 @@
-pub mod RecordLemmas
-pub mod RisingLemmas
-pub mod ByNameLemmas
-pub mod EntryLemmas
-pub mod FieldLemmas
-pub mod CalendarLemmas
-pub mod CycleLemmas
-pub mod PeriodLemmas
-pub mod PredecessorLemmas
 pub mod OptionLemmas
 pub mod OneBlock
-pub mod LinkLemmas
-pub mod NamedLemmas
-pub mod LeastLemmas
-pub mod NameLemmas
 pub mod BlockNames

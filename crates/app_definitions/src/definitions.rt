@@ -3,13 +3,9 @@
 ghost use Rattle.std.specs.Prelude.{◌≡◌, ◌↔◌, IsTrue, IfOk, OnOk, OnErr};
 ghost use Rattle.app_definitions.specs.Definitions.{merged, names_given, without, IsDefined, no_definitions};
 
-use crate::applications::Application;
-use crate::by_name::ByName;
-use crate::cycle_records::RunCycles;
 use crate::kinds::{Block, Kind};
 use crate::options::Options;
-use crate::periods::DefinedPeriod;
-use crate::predecessors::Predecessors;
+use definition_records::{Application, ByName, DefinedPeriod, Predecessors, RunCycles};
 use std::alloc::{AllocError, Global};
 use work_calendars::{Calendar, Name};
 

@@ -1,11 +1,7 @@
 // Kinds of definitions, and what a block of each holds.
 
-use crate::applications::Application;
-use crate::by_name::ByName;
-use crate::cycle_records::RunCycles;
 use crate::options::Options;
-use crate::periods::DefinedPeriod;
-use crate::predecessors::Predecessors;
+use definition_records::{Application, ByName, DefinedPeriod, Predecessors, RunCycles};
 use work_calendars::Calendar;
 
 /// A kind of definitions.

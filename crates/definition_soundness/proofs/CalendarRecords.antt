@@ -13,14 +13,14 @@ use Rattle.work_calendars.specs.Spelling.{SpellsDay}
 use Rattle.work_calendars.specs.declared.statuses.DayStatus.{DayStatus}
 use Rattle.work_calendars.specs.declared.statuses.DayStatus.TheVariants.{Free, Work}
 use Rattle.work_calendars.proofs.SpellingFacts.{SpellsDay-one_day}
-use Rattle.app_definitions.specs.Calendars.{FitsCalendar, IsCalendarOf, IsListedBy, IsStatusText, IsWeekdayText}
-use Rattle.app_definitions.specs.Calendars.{status_of}
-use Rattle.app_definitions.specs.Calendars.{weekday_letters}
-use Rattle.app_definitions.specs.Fields.{IsDayText, field}
-use Rattle.app_definitions.specs.Records.{Record, Records}
-use Rattle.app_definitions.specs.declared.columns.TheConstants.{CALENDAR_ENTRY, CALENDAR_FIELDS}
-use Rattle.app_definitions.proofs.CalendarLemmas.{one_weekday, weekday-no_day}
-use Rattle.app_definitions.proofs.RisingLemmas.{Contains-map, Contains-map_back}
+use Rattle.definition_records.specs.Calendars.{FitsCalendar, IsCalendarOf, IsListedBy, IsStatusText, IsWeekdayText}
+use Rattle.definition_records.specs.Calendars.{status_of}
+use Rattle.definition_records.specs.Calendars.{weekday_letters}
+use Rattle.definition_records.specs.Fields.{IsDayText, field}
+use Rattle.definition_records.specs.Records.{Record, Records}
+use Rattle.definition_records.specs.declared.columns.TheConstants.{CALENDAR_ENTRY, CALENDAR_FIELDS}
+use Rattle.definition_records.proofs.CalendarLemmas.{one_weekday, weekday-no_day}
+use Rattle.definition_records.proofs.RisingLemmas.{Contains-map, Contains-map_back}
 use Rattle.definition_soundness.specs.Given.{IsGiven}
 use Rattle.definition_soundness.specs.Values.{IsCalendarValue, ListsDate, ListsWeekday}
 use Rattle.definition_soundness.proofs.RecordLemmas.{AreFitting, about, begun, fitting_more, fitting_none, given}

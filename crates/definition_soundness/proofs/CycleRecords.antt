@@ -14,15 +14,15 @@ use Rattle.run_cycles.specs.declared.cycles.CycleType.TheVariants.{Normal, Negat
 use Rattle.run_cycles.specs.declared.cycles.Deadline.{Deadline}
 use Rattle.run_cycles.specs.declared.cycles.RunCycle.{RunCycle}
 use Rattle.work_calendars.specs.Name.{IsName, IsShort}
-use Rattle.app_definitions.specs.CycleRecords.{AreRunCyclesOf, FitsRunCycle, IsOffsetText, SpellsDeadline}
-use Rattle.app_definitions.specs.CycleRecords.{SpellsOffsets}
-use Rattle.app_definitions.specs.CycleRecords.{SpellsRunCycle, SpellsType, cycle_names_of, has_minus}
-use Rattle.app_definitions.specs.CycleRecords.{offset_value, pieces_of, rule_text}
-use Rattle.app_definitions.specs.Fields.{field, number_value}
-use Rattle.app_definitions.specs.Records.{Record}
-use Rattle.app_definitions.specs.Rising.{AreRising, IsBelow}
-use Rattle.app_definitions.specs.declared.columns.TheConstants.{CYCLE_FIELDS, CYCLE_OUT_EFFECT}
-use Rattle.app_definitions.proofs.RisingLemmas.{Contains-map_back, not_itself}
+use Rattle.definition_records.specs.CycleRecords.{AreRunCyclesOf, FitsRunCycle, IsOffsetText, SpellsDeadline}
+use Rattle.definition_records.specs.CycleRecords.{SpellsOffsets}
+use Rattle.definition_records.specs.CycleRecords.{SpellsRunCycle, SpellsType, cycle_names_of, has_minus}
+use Rattle.definition_records.specs.CycleRecords.{offset_value, pieces_of, rule_text}
+use Rattle.definition_records.specs.Fields.{field, number_value}
+use Rattle.definition_records.specs.Records.{Record}
+use Rattle.definition_records.specs.Rising.{AreRising, IsBelow}
+use Rattle.definition_records.specs.declared.columns.TheConstants.{CYCLE_FIELDS, CYCLE_OUT_EFFECT}
+use Rattle.definition_records.proofs.RisingLemmas.{Contains-map_back, not_itself}
 use Rattle.definition_soundness.specs.Given.{IsGiven}
 use Rattle.definition_soundness.specs.Values.{AreCycleValues, HasDeadline, IsCycleValue, IsDeadlineValue}
 use Rattle.definition_soundness.proofs.NumberLemmas.{join, minute_spelled, minute_text, number_spelled, number_text}

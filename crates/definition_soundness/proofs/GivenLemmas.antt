@@ -6,8 +6,8 @@ use Rattle.std.specs.Ordering.{nat_cmp}
 use Rattle.std.specs.FinMap as map
 use Rattle.std.specs.List.{All, Contains}
 use Rattle.std.proofs.lemmas.List.Elements.{All-contains, All-contains_itself, All-weaker}
-use Rattle.app_definitions.specs.ByName.{AreNamesOf, FitsKind, IsDefinedBy, records_of}
-use Rattle.app_definitions.specs.Records.{AllGood, Record, Records}
+use Rattle.definition_records.specs.ByName.{AreNamesOf, FitsKind, IsDefinedBy, records_of}
+use Rattle.definition_records.specs.Records.{AllGood, Record, Records}
 use Rattle.planner_machine.specs.Sound.{AreDefinable}
 use Rattle.definition_soundness.specs.Given.{AllGiven, IsGiven}
 

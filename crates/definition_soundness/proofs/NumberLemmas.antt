@@ -12,9 +12,9 @@ use Rattle.std.proofs.lemmas.List.Splits.{slice_split_at, slice_split_none}
 use Rattle.run_cycles.specs.Offset.{IsOffset, IsOffsets}
 use Rattle.work_calendars.specs.Minute.{IsMinute}
 use Rattle.work_calendars.specs.Spelling.{SpellsMinute, clock_spelling}
-use Rattle.app_definitions.specs.Fields.{IsNumber, number_value}
-use Rattle.app_definitions.specs.CycleRecords.{IsOffsetText, SpellsOffsets, has_minus, offset_digits, offset_value}
-use Rattle.app_definitions.specs.CycleRecords.{pieces_of}
+use Rattle.definition_records.specs.Fields.{IsNumber, number_value}
+use Rattle.definition_records.specs.CycleRecords.{IsOffsetText, SpellsOffsets, has_minus, offset_digits, offset_value}
+use Rattle.definition_records.specs.CycleRecords.{pieces_of}
 
 -- the text is the number in decimal
 pub record SpellsNumber (text : List ℕ) (n : ℕ) : Type 0 where

@@ -12,12 +12,12 @@ use Rattle.work_calendars.specs.Day.{IsDay}
 use Rattle.work_calendars.specs.Name.{IsName, IsShort}
 use Rattle.work_calendars.specs.Spelling.{SpellsDay}
 use Rattle.work_calendars.proofs.SpellingFacts.{SpellsDay-one_day}
-use Rattle.app_definitions.specs.Fields.{IsNumberUpTo, SpellsOptionalDay, field, number_value}
-use Rattle.app_definitions.specs.Periods.{BeginsPeriod, FitsPeriod, GivesEntry, GoesOnPeriod, HasInterval}
-use Rattle.app_definitions.specs.Periods.{IsPeriodOf}
-use Rattle.app_definitions.specs.Records.{Record, Records}
-use Rattle.app_definitions.specs.declared.columns.TheConstants.{PERIOD_FIELDS, PERIOD_LENGTH, PERIOD_ORIGIN}
-use Rattle.app_definitions.specs.declared.columns.TheConstants.{PERIOD_TYPE}
+use Rattle.definition_records.specs.Fields.{IsNumberUpTo, SpellsOptionalDay, field, number_value}
+use Rattle.definition_records.specs.Periods.{BeginsPeriod, FitsPeriod, GivesEntry, GoesOnPeriod, HasInterval}
+use Rattle.definition_records.specs.Periods.{IsPeriodOf}
+use Rattle.definition_records.specs.Records.{Record, Records}
+use Rattle.definition_records.specs.declared.columns.TheConstants.{PERIOD_FIELDS, PERIOD_LENGTH, PERIOD_ORIGIN}
+use Rattle.definition_records.specs.declared.columns.TheConstants.{PERIOD_TYPE}
 use Rattle.definition_soundness.specs.Given.{IsGiven}
 use Rattle.definition_soundness.specs.Values.{HasDays, IsEntryValue, IsPeriodValue}
 use Rattle.definition_soundness.proofs.NumberLemmas.{number_spelled, number_text}

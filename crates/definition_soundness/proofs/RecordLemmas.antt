@@ -11,11 +11,11 @@ use Rattle.std.proofs.lemmas.List.{take-append-le, take-map}
 use Rattle.std.proofs.Math.Seq.{take-append_seam}
 use Rattle.std.proofs.lemmas.Bool.{cases_lt}
 use Rattle.work_calendars.specs.Name.{IsName}
-use Rattle.app_definitions.specs.ByName.{FitsKind, records_of}
-use Rattle.app_definitions.specs.Fields.{field}
-use Rattle.app_definitions.specs.Records.{Record, Records}
-use Rattle.app_definitions.specs.declared.columns.TheConstants.{NAME}
-use Rattle.app_definitions.proofs.ByNameLemmas.{name_itself, same_name}
+use Rattle.definition_records.specs.ByName.{FitsKind, records_of}
+use Rattle.definition_records.specs.Fields.{field}
+use Rattle.definition_records.specs.Records.{Record, Records}
+use Rattle.definition_records.specs.declared.columns.TheConstants.{NAME}
+use Rattle.definition_records.proofs.ByNameLemmas.{name_itself, same_name}
 use Rattle.definition_soundness.specs.Given.{IsGiven}
 
 -- the records of a list that pass a test are records of it

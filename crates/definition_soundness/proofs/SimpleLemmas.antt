@@ -7,15 +7,15 @@ use Rattle.std.specs.List.{Contains}
 use Rattle.std.proofs.lemmas.List.{get_or-map, get_or_default, length-map, take-map}
 use Rattle.std.proofs.lemmas.List.Elements.{All-contains_itself, All-weaker, Contains-get_or}
 use Rattle.work_calendars.specs.Name.{IsName}
-use Rattle.app_definitions.specs.Applications.{FitsApplication, IsApplicationOf}
-use Rattle.app_definitions.specs.Fields.{IsEmptyOr, field, some_unless_empty}
-use Rattle.app_definitions.specs.Predecessors.{ArePredecessorsOf, FitsPredecessors, predecessors_of}
-use Rattle.app_definitions.specs.Records.{Record}
-use Rattle.app_definitions.specs.Rising.{AreRising, IsBelow}
-use Rattle.app_definitions.specs.declared.applications.Application.{Application}
-use Rattle.app_definitions.specs.declared.columns.TheConstants.{APPLICATION_CALENDAR, APPLICATION_FIELDS}
-use Rattle.app_definitions.specs.declared.columns.TheConstants.{PREDECESSOR, PREDECESSOR_FIELDS}
-use Rattle.app_definitions.proofs.RisingLemmas.{Contains-map, Contains-map_back, not_itself}
+use Rattle.definition_records.specs.Applications.{FitsApplication, IsApplicationOf}
+use Rattle.definition_records.specs.Fields.{IsEmptyOr, field, some_unless_empty}
+use Rattle.definition_records.specs.Predecessors.{ArePredecessorsOf, FitsPredecessors, predecessors_of}
+use Rattle.definition_records.specs.Records.{Record}
+use Rattle.definition_records.specs.Rising.{AreRising, IsBelow}
+use Rattle.definition_records.specs.declared.applications.Application.{Application}
+use Rattle.definition_records.specs.declared.columns.TheConstants.{APPLICATION_CALENDAR, APPLICATION_FIELDS}
+use Rattle.definition_records.specs.declared.columns.TheConstants.{PREDECESSOR, PREDECESSOR_FIELDS}
+use Rattle.definition_records.proofs.RisingLemmas.{Contains-map, Contains-map_back, not_itself}
 use Rattle.definition_soundness.specs.Given.{IsGiven}
 use Rattle.definition_soundness.specs.Values.{ArePredecessorValues, IsApplicationValue}
 use Rattle.definition_soundness.proofs.RecordLemmas.{about, begun, given, rows_of}

@@ -3,8 +3,8 @@ use Rattle.std.specs.Prelude.{◌≡◌, ℕ, List, Some}
 use Rattle.std.specs.Cmp.Lexicographic.{slice_cmp}
 use Rattle.std.specs.Ordering.{nat_cmp}
 use Rattle.std.specs.FinMap as map
-use Rattle.app_definitions.specs.ByName.{FitsKind, IsDefinedBy, records_of}
-use Rattle.app_definitions.specs.Records.{AllGood, Record, Records}
+use Rattle.definition_records.specs.ByName.{FitsKind, IsDefinedBy, records_of}
+use Rattle.definition_records.specs.Records.{AllGood, Record, Records}
 
 -- some good records make the definition of the name
 abbrev pub IsGiven : {D : Type 0} → ℕ → (Records → Record → Type 0) → (D → Records → Type 0) → List ℕ → D → Type 0

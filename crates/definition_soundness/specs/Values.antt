@@ -15,7 +15,7 @@ use Rattle.run_cycles.specs.declared.cycles.CycleType.TheVariants.{Normal, Negat
 use Rattle.run_cycles.specs.declared.cycles.Deadline.{Deadline}
 use Rattle.run_cycles.specs.declared.cycles.RunCycle.{RunCycle}
 use Rattle.run_cycles.specs.declared.cycles.TheConstants.{MAX_DEADLINE_DAYS}
-use Rattle.app_definitions.specs.declared.applications.Application.{Application}
+use Rattle.definition_records.specs.declared.applications.Application.{Application}
 
 -- an application's name, and that of its calendar
 pub record IsApplicationValue (name : List ℕ) (a : Application) : Type 0 where

@@ -1,8 +1,8 @@
 // Applications.
 
 ghost use Rattle.std.specs.Prelude.{◌↔◌, IsTrue, IfSome};
-ghost use Rattle.app_definitions.specs.Applications.{FitsApplication, IsApplicationOf};
-ghost use Rattle.app_definitions.specs.declared.columns.TheConstants.{APPLICATION_FIELDS};
+ghost use Rattle.definition_records.specs.Applications.{FitsApplication, IsApplicationOf};
+ghost use Rattle.definition_records.specs.declared.columns.TheConstants.{APPLICATION_FIELDS};
 ghost use Rattle.definition_soundness.specs.Given.{IsGiven};
 ghost use Rattle.definition_soundness.specs.Values.{IsApplicationValue};
 ghost use Rattle.work_calendars.specs.Name.{IsName};

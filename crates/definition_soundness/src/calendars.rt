@@ -1,8 +1,8 @@
 // Calendars.
 
 ghost use Rattle.std.specs.Prelude.{◌≢◌, ◌↔◌, ◌⊎◌, [], IsTrue};
-ghost use Rattle.app_definitions.specs.Calendars.{FitsCalendar, IsCalendarOf};
-ghost use Rattle.app_definitions.specs.declared.columns.TheConstants.{CALENDAR_FIELDS};
+ghost use Rattle.definition_records.specs.Calendars.{FitsCalendar, IsCalendarOf};
+ghost use Rattle.definition_records.specs.declared.columns.TheConstants.{CALENDAR_FIELDS};
 ghost use Rattle.definition_soundness.specs.Given.{IsGiven};
 ghost use Rattle.definition_soundness.specs.Values.{ListsWeekday};
 ghost use Rattle.work_calendars.specs.Name.{IsName};

@@ -2,8 +2,8 @@
 
 ghost use Rattle.std.specs.Prelude.{◌↔◌, IsTrue};
 ghost use Rattle.std.specs.List.{All};
-ghost use Rattle.app_definitions.specs.CycleRecords.{AreRunCyclesOf, FitsRunCycle};
-ghost use Rattle.app_definitions.specs.declared.columns.TheConstants.{CYCLE_FIELDS};
+ghost use Rattle.definition_records.specs.CycleRecords.{AreRunCyclesOf, FitsRunCycle};
+ghost use Rattle.definition_records.specs.declared.columns.TheConstants.{CYCLE_FIELDS};
 ghost use Rattle.run_cycles.specs.Offset.{IsOffsets};
 ghost use Rattle.definition_soundness.specs.Given.{IsGiven};
 ghost use Rattle.definition_soundness.specs.Values.{AreCycleValues, HasDeadline, IsCycleValue, IsDeadlineValue};

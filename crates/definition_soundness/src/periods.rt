@@ -2,8 +2,8 @@
 
 ghost use Rattle.std.specs.Prelude.{◌↔◌, IsTrue};
 ghost use Rattle.std.specs.List.{All};
-ghost use Rattle.app_definitions.specs.Periods.{FitsPeriod, IsPeriodOf};
-ghost use Rattle.app_definitions.specs.declared.columns.TheConstants.{PERIOD_FIELDS};
+ghost use Rattle.definition_records.specs.Periods.{FitsPeriod, IsPeriodOf};
+ghost use Rattle.definition_records.specs.declared.columns.TheConstants.{PERIOD_FIELDS};
 ghost use Rattle.definition_soundness.specs.Given.{IsGiven};
 ghost use Rattle.definition_soundness.specs.Values.{HasDays, IsEntryValue, IsPeriodValue};
 

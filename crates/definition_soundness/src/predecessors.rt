@@ -1,8 +1,8 @@
 // Lists of predecessors.
 
 ghost use Rattle.std.specs.Prelude.{◌↔◌, IsTrue};
-ghost use Rattle.app_definitions.specs.Predecessors.{ArePredecessorsOf, FitsPredecessors};
-ghost use Rattle.app_definitions.specs.declared.columns.TheConstants.{PREDECESSOR_FIELDS};
+ghost use Rattle.definition_records.specs.Predecessors.{ArePredecessorsOf, FitsPredecessors};
+ghost use Rattle.definition_records.specs.declared.columns.TheConstants.{PREDECESSOR_FIELDS};
 ghost use Rattle.definition_soundness.specs.Given.{IsGiven};
 ghost use Rattle.definition_soundness.specs.Values.{ArePredecessorValues};
 

@@ -5,7 +5,7 @@ use Rattle.std.specs.Prelude.{is_some, option_map, unwrap_or, if◌then◌else�
 use Rattle.std.specs.List.{Contains}
 use Rattle.std.proofs.lemmas.List.Elements.{Contains-append_cases, Contains-append_left, Contains-append_right}
 use Rattle.app_definitions.specs.declared.definitions.Definitions.{Definitions}
-use Rattle.app_definitions.proofs.RisingLemmas.{Contains-map_back}
+use Rattle.definition_records.proofs.RisingLemmas.{Contains-map_back}
 use Rattle.occurrences.specs.declared.place.CurrentRow.{CurrentRow}
 use Rattle.occurrences.specs.declared.place.Deletion.{Deletion}
 use Rattle.occurrences.specs.declared.place.Place.TheVariants.{LongTerm}

@@ -1,7 +1,7 @@
 -- Creation of the long-term plan is what the machine decides.
 use Rattle.std.proofs.Common.{◌≡◌, ◌≢◌, ℕ, ◌<◌, ◌≤◌, List, length, refl, sym, subst, inl, inr, arith, None, Some}
 use Rattle.std.proofs.lemmas.Bool.{cases_lt}
-use Rattle.app_definitions.specs.Active.{HasNoCalendar, HasNoPeriod}
+use Rattle.app_occurrences.specs.Active.{HasNoCalendar, HasNoPeriod}
 use Rattle.occurrences.specs.Refusal.{refusal_number}
 use Rattle.occurrences.specs.declared.refusal.Refusal.{Refusal}
 use Rattle.occurrences.specs.declared.refusal.Refusal.TheVariants.{CalendarUndefined, DatesOutOfRange, Loop}

@@ -17,12 +17,12 @@ use Rattle.work_calendars.specs.Minute.{IsMinute}
 use Rattle.work_calendars.specs.Moment.{day_of_moment, moment_of}
 use Rattle.run_cycles.specs.Occurrence.{IsEarlier, IsOccurrence}
 use Rattle.run_cycles.specs.declared.named.Named.{Named}
-use Rattle.app_definitions.specs.Active.{IsActive, cycles_of}
-use Rattle.app_definitions.specs.ByName.{AreNamesOf}
-use Rattle.app_definitions.specs.NamedOccurrences.{ListsNamed, work_of}
-use Rattle.app_definitions.specs.declared.applications.Application.{Application}
+use Rattle.app_occurrences.specs.Active.{IsActive, cycles_of}
+use Rattle.definition_records.specs.ByName.{AreNamesOf}
+use Rattle.app_occurrences.specs.NamedOccurrences.{ListsNamed, work_of}
+use Rattle.definition_records.specs.declared.applications.Application.{Application}
 use Rattle.app_definitions.specs.declared.definitions.Definitions.{Definitions}
-use Rattle.app_definitions.proofs.RisingLemmas.{Contains-map, Contains-map_back}
+use Rattle.definition_records.proofs.RisingLemmas.{Contains-map, Contains-map_back}
 use Rattle.occurrences.specs.Key.{KeyBefore}
 use Rattle.occurrences.specs.declared.key.Key.{Key}
 use Rattle.occurrences.specs.declared.row.Row.{Row}

@@ -4,7 +4,7 @@ use Rattle.std.proofs.Common.{arith, Option, None, Some}
 use Rattle.std.specs.Prelude.{unwrap_or}
 use Rattle.std.specs.List.{Contains}
 use Rattle.std.proofs.lemmas.List.Elements.{Contains-append_cases, Contains-append_left, Contains-append_right}
-use Rattle.app_definitions.specs.ByName.{AreNamesOf}
+use Rattle.definition_records.specs.ByName.{AreNamesOf}
 use Rattle.app_definitions.specs.declared.definitions.Definitions.{Definitions}
 use Rattle.occurrences.specs.declared.place.CurrentRow.{CurrentRow}
 use Rattle.occurrences.specs.declared.place.Place.TheVariants.{LongTerm}

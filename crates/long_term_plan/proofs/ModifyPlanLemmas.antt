@@ -4,11 +4,11 @@ use Rattle.std.proofs.Common.{Some}
 use Rattle.std.specs.Prelude.{IsSome, filter, is_none}
 use Rattle.std.specs.List.{filter_map}
 use Rattle.work_calendars.specs.Day.{last_planning_day}
-use Rattle.app_definitions.specs.Active.{IsActive}
-use Rattle.app_definitions.specs.ByName.{AreNamesOf}
-use Rattle.app_definitions.specs.declared.applications.Application.{Application}
+use Rattle.app_occurrences.specs.Active.{IsActive}
+use Rattle.definition_records.specs.ByName.{AreNamesOf}
+use Rattle.definition_records.specs.declared.applications.Application.{Application}
 use Rattle.app_definitions.specs.declared.definitions.Definitions.{Definitions}
-use Rattle.app_definitions.proofs.RisingLemmas.{own_names}
+use Rattle.definition_records.proofs.RisingLemmas.{own_names}
 use Rattle.occurrences.specs.declared.row.Row.{Row}
 use Rattle.planner_machine.specs.declared.content.Bounds.{Bounds}
 use Rattle.planner_machine.specs.declared.content.Draft.{Draft}

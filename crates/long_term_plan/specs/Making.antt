@@ -1,6 +1,6 @@
 -- What statements that make rows of the long-term plan change.
 use Rattle.std.specs.Prelude.{◌≡◌, ℕ, suc, ◌+◌, List, [], ◌∷◌, length, Option, None, Some}
-use Rattle.app_definitions.specs.Active.{HasNoCalendar, HasNoPeriod, IsLeastName}
+use Rattle.app_occurrences.specs.Active.{HasNoCalendar, HasNoPeriod, IsLeastName}
 use Rattle.app_definitions.specs.declared.definitions.Definitions.{Definitions}
 use Rattle.occurrences.specs.declared.place.Place.TheVariants.{LongTerm}
 use Rattle.occurrences.specs.declared.refusal.Refusal.{Refusal}

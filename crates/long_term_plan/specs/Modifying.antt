@@ -1,8 +1,8 @@
 -- What `ltp-modify-all` and `ltp-modify-one` make of the rows of the long-term plan.
 use Rattle.std.specs.Prelude.{◌≡◌, ◌⊎◌, ℕ, ◌+◌, ◌<◌, Bool, List, Contains, Option, None, Some, filter, is_none, length}
 use Rattle.std.specs.List.{AllPairs, filter_map}
-use Rattle.app_definitions.specs.Active.{IsActive}
-use Rattle.app_definitions.specs.declared.applications.Application.{Application}
+use Rattle.app_occurrences.specs.Active.{IsActive}
+use Rattle.definition_records.specs.declared.applications.Application.{Application}
 use Rattle.app_definitions.specs.declared.definitions.Definitions.{Definitions}
 use Rattle.occurrences.specs.declared.place.CurrentRow.{CurrentRow}
 use Rattle.occurrences.specs.declared.place.Place.TheVariants.{LongTerm}

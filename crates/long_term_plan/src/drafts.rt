@@ -1,7 +1,7 @@
 ghost use Rattle.std.specs.Prelude.{◌≡◌, ◌≢◌, ◌↔◌, ℕ, ◌+◌, ◌≤◌, ◌++◌, List, Contains, IfOk, OnOk, IsTrue};
 ghost use Rattle.std.specs.List.{AllPairs};
 ghost use Rattle.work_calendars.specs.Day.{last_planning_day};
-ghost use Rattle.app_definitions.specs.NamedOccurrences.{AreIndexesOf};
+ghost use Rattle.app_occurrences.specs.NamedOccurrences.{AreIndexesOf};
 ghost use Rattle.planner_machine.specs.declared.content.Draft.{Draft as DraftValue};
 ghost use Rattle.planner_machine.specs.Content.{midnight};
 ghost use Rattle.planner_machine.specs.Drafts.{AreDrafts, draft_of};
@@ -10,7 +10,8 @@ ghost use Rattle.plan_store.specs.Views.{shown};
 ghost use Rattle.long_term_plan.specs.Drafting.{AddsDrafts, AreInOrder, AreNew, HaveOwnKeys, IsNewKey, NamesFor};
 ghost use Rattle.long_term_plan.specs.Drafting.{drafts_from};
 
-use app_definitions::{Definitions, WorkIndexes};
+use app_definitions::Definitions;
+use app_occurrences::{WorkIndexes, active, named_occurrences};
 use occurrences::{Key, Origin};
 use plan_store::View;
 use planner_machine::Draft;
@@ -56,10 +57,10 @@ fn add_drafts(
     ensures indexes { AreIndexesOf all.now indexes.new }
     ensures added { OnOk result (AddsDrafts all.now app.now first last drafts.old.items drafts.new.items) }
 {
-    let Some(application) = all.active(app) else {
+    let Some(application) = active(all, app) else {
         return Ok(());
     };
-    let named = all.named_occurrences(alloc, indexes, app, &application, first.day(), last)?;
+    let named = named_occurrences(alloc, all, indexes, app, &application, first.day(), last)?;
     push_drafts(drafts, app, named.as_slice(), first)
 }
 

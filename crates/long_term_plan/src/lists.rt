@@ -5,6 +5,7 @@ ghost use Rattle.long_term_plan.specs.Lists.{is_of_other, link_of, link_to};
 
 use crate::parting::looks;
 use app_definitions::Definitions;
+use app_occurrences::defined_links;
 use external_dependencies::{Link, Links};
 use std::alloc::{AllocError, Global};
 use work_calendars::{App, Name};
@@ -13,7 +14,7 @@ use work_calendars::{App, Name};
 pub(crate) fn defined_lists(alloc: Global, all: &Definitions) -> Result<Links, AllocError>
     ensures { IfOk result (λ links. AreLinks (IsDefinedLink all.now) links) }
 {
-    let listed = all.links(alloc)?;
+    let listed = defined_links(alloc, all)?;
     let links = links_of(alloc, listed.as_slice())?;
     Ok(Links::from_vec(links))
 }

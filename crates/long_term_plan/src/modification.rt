@@ -25,6 +25,7 @@ use crate::making::numbered_rows;
 use crate::parting::{changed_rows, staying_rows, withdrawn_rows};
 use crate::refusals::{lacking_definition, lacking_own_definition};
 use app_definitions::Definitions;
+use app_occurrences::active;
 use external_dependencies::{Links, Rows, find_loop};
 use occurrences::{Deletion, GREATEST_SERIAL, Reason, Refusal, Reply, Row};
 use plan_pairs::{live_rows_with, pair_change, single};
@@ -73,7 +74,7 @@ pub fn modify_one(alloc: Global, view: &View<'_>, app: &App) -> Result<Verdict, 
     if let Some(least) = find_loop(alloc, &links)? {
         return Ok(Verdict::Refused(Refusal::Loop { app: least }));
     }
-    if all.active(app).is_none() {
+    if active(all, app).is_none() {
         return Ok(Verdict::Refused(Refusal::NoActiveApplication));
     }
     modify(alloc, view, &bounds, &Some(*app), links)

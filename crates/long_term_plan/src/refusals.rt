@@ -1,6 +1,9 @@
 ghost use Rattle.long_term_plan.specs.Making.{LacksDefinition, LacksOwnDefinition};
 
 use app_definitions::Definitions;
+use app_occurrences::{
+    active, lacks_calendar, lacks_period, least_without_calendar, least_without_period,
+};
 use occurrences::Refusal;
 use work_calendars::App;
 
@@ -8,10 +11,10 @@ use work_calendars::App;
 pub(crate) fn lacking_definition(all: &Definitions) -> Option<Refusal>
     ensures { LacksDefinition all.now result }
 {
-    if let Some(app) = all.least_without_calendar() {
+    if let Some(app) = least_without_calendar(all) {
         return Some(Refusal::CalendarUndefined { app });
     }
-    let app = all.least_without_period()?;
+    let app = least_without_period(all)?;
     Some(Refusal::PeriodUndefined { app })
 }
 
@@ -19,11 +22,11 @@ pub(crate) fn lacking_definition(all: &Definitions) -> Option<Refusal>
 pub(crate) fn lacking_own_definition(all: &Definitions, app: &App) -> Option<Refusal>
     ensures { LacksOwnDefinition all.now app.now result }
 {
-    let application = all.active(app)?;
-    if all.lacks_calendar(&application) {
+    let application = active(all, app)?;
+    if lacks_calendar(all, &application) {
         return Some(Refusal::CalendarUndefined { app: *app });
     }
-    if all.lacks_period(app) {
+    if lacks_period(all, app) {
         return Some(Refusal::PeriodUndefined { app: *app });
     }
     None

@@ -11,6 +11,7 @@ ghost use Rattle.plan_pairs.specs.Additions.{place_in};
 use crate::change::pair_change;
 use crate::listing::live_rows_in;
 use crate::singles::single;
+use app_occurrences::active;
 use external_dependencies::{PairChange, PlacedRow, Rows};
 use occurrences::{CurrentRow, Key, Origin, Place, Refusal, Reply, Row, Serial, Status};
 use plan_store::{Change, Need, Verdict, View};
@@ -65,7 +66,7 @@ fn new_row(view: &View<'_>, plan: Plan, key: &Key) -> Result<Row, Refusal>
     let Some(due) = key.ia.day().next() else {
         return Err(Refusal::DatesOutOfRange);
     };
-    if view.definitions().active(&key.app).is_none() {
+    if active(view.definitions(), &key.app).is_none() {
         return Err(Refusal::NoActiveApplication);
     }
     if view.live_row(key).is_some() {

@@ -5,8 +5,8 @@ use Rattle.sqlite.specs.Order.{Row as Values}
 use Rattle.work_calendars.specs.Calendar.{CalendarEntries}
 use Rattle.plan_periods.specs.declared.periods.Period.{Period}
 use Rattle.run_cycles.specs.declared.cycles.RunCycle.{RunCycle}
-use Rattle.app_definitions.specs.ByName.{overlaid}
-use Rattle.app_definitions.specs.declared.applications.Application.{Application}
+use Rattle.definition_records.specs.ByName.{overlaid}
+use Rattle.definition_records.specs.declared.applications.Application.{Application}
 use Rattle.app_definitions.specs.declared.definitions.Definitions.{Definitions}
 use Rattle.app_definitions.specs.declared.kinds.Block.{Block}
 use Rattle.app_definitions.specs.declared.kinds.Block.TheVariants as block

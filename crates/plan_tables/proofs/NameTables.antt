@@ -14,8 +14,8 @@ use Rattle.sqlite.specs.Order.{Row as Values, column}
 use Rattle.sqlite.specs.Rowids.TheVariants.{Chosen}
 use Rattle.sqlite.specs.declared.types.Value.TheVariants.{Text}
 use Rattle.sqlite_rules.specs.Edit.{with_rowid}
-use Rattle.app_definitions.specs.ByName.{overlaid}
-use Rattle.app_definitions.proofs.ByNameLemmas.{get-overlaid}
+use Rattle.definition_records.specs.ByName.{overlaid}
+use Rattle.definition_records.proofs.ByNameLemmas.{get-overlaid}
 use Rattle.keyed_lists.proofs.KeyLemmas.{contains_cases, contains_first, contains_later, nothing, one_is}
 use Rattle.table_schema.specs.Rows.{Tables, shown, stored, with_cells}
 use Rattle.table_schema.specs.declared.tables.Table.{Table}

@@ -5,7 +5,7 @@ use Rattle.work_calendars.specs.Calendar.{CalendarEntries}
 use Rattle.plan_periods.specs.declared.periods.Period.{Period}
 use Rattle.plan_periods.specs.declared.periods.Period.TheVariants as period
 use Rattle.run_cycles.specs.declared.cycles.RunCycle.{RunCycle}
-use Rattle.app_definitions.specs.declared.applications.Application.{Application}
+use Rattle.definition_records.specs.declared.applications.Application.{Application}
 use Rattle.table_schema.specs.declared.tables.Table.{Table}
 use Rattle.table_schema.specs.declared.tables.Table.TheVariants as table
 use Rattle.table_facts.specs.Content.{IsApplicationRow}

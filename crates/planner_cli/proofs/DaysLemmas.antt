@@ -1,8 +1,8 @@
 -- Lemmas on what `days` is answered.
 use Rattle.std.proofs.Common.{◌≡◌, ◌≤◌, ℕ, List, refl, sym, subst, lit≤}
-use Rattle.app_definitions.specs.Active.{IsActive, LacksCalendar, LacksPeriod, cycles_of}
-use Rattle.app_definitions.specs.NamedOccurrences.{ListsNamed, work_of}
-use Rattle.app_definitions.specs.declared.applications.Application.{Application}
+use Rattle.app_occurrences.specs.Active.{IsActive, LacksCalendar, LacksPeriod, cycles_of}
+use Rattle.app_occurrences.specs.NamedOccurrences.{ListsNamed, work_of}
+use Rattle.definition_records.specs.declared.applications.Application.{Application}
 use Rattle.app_definitions.specs.declared.definitions.Definitions.{Definitions}
 use Rattle.occurrences.specs.Refusal.{refusal_number}
 use Rattle.occurrences.specs.declared.refusal.Refusal.{Refusal}

@@ -1,7 +1,7 @@
 //! `days`: the days that an application's run cycles name.
 ghost use Rattle.std.specs.Prelude.{◌≡◌, ◌↔◌, ◌≤◌, ℕ, IsTrue, IfErr, IfNone, IfOk, IfSome, OnOk};
 ghost use Rattle.work_calendars.specs.Day.{last_planning_day};
-ghost use Rattle.app_definitions.specs.Active.{IsActive, LacksCalendar, LacksPeriod};
+ghost use Rattle.app_occurrences.specs.Active.{IsActive, LacksCalendar, LacksPeriod};
 ghost use Rattle.occurrences.specs.declared.refusal.Refusal.{Refusal as RefusalValue};
 ghost use Rattle.planner_machine.specs.Content.{Content};
 ghost use Rattle.planner_machine.specs.Days.{AreBadDays, DaysRefused, ListsDays};
@@ -13,7 +13,8 @@ ghost use Rattle.planner_cli.specs.Stores.{AnswersBy};
 
 use crate::answers::{Printed, print_answer};
 use crate::rows::days_rows;
-use app_definitions::{Application, Definitions, WorkIndexes};
+use app_definitions::{Application, Definitions};
+use app_occurrences::{WorkIndexes, active, lacks_calendar, lacks_period, named_occurrences};
 use occurrences::{Refusal, Reply};
 use plan_store::{Need, PlanStore, StoreFault, View};
 use planner_machine::LONGEST_WINDOW;
@@ -79,7 +80,7 @@ fn named_days(
         Err(refusal) => return Ok(Err(refusal)),
     };
     let mut indexes = WorkIndexes::new(alloc);
-    let list = all.named_occurrences(alloc, &mut indexes, app, &application, from, to)?;
+    let list = named_occurrences(alloc, all, &mut indexes, app, &application, from, to)?;
     Ok(Ok(list))
 }
 
@@ -93,7 +94,7 @@ fn application_for(all: &Definitions, app: &App, from: Day, to: Day) -> Result<A
     ensures refused { IfErr result (λ r. (c : Content) → c.definitions ≡ all.now
         → IsLeastRefusal (DaysRefused app.now from to c) r) }
 {
-    match all.active(app) {
+    match active(all, app) {
         Some(application) => {
             if let Some(refusal) = missing_definition(all, app, &application) {
                 return Err(refusal);
@@ -126,10 +127,10 @@ fn missing_definition(all: &Definitions, app: &App, application: &Application) -
         → IsLeastRefusal (DaysRefused app.now from to c) r) }
     ensures none { IfNone result ((¬ (LacksCalendar all.now application.now)) × ¬ (LacksPeriod all.now app.now)) }
 {
-    if all.lacks_calendar(application) {
+    if lacks_calendar(all, application) {
         return Some(Refusal::CalendarUndefined { app: *app });
     }
-    if all.lacks_period(app) {
+    if lacks_period(all, app) {
         return Some(Refusal::PeriodUndefined { app: *app });
     }
     None

@@ -5,7 +5,7 @@ use Rattle.std.specs.Prelude.{Contains, nat_eq, if◌then◌else◌}
 use Rattle.std.specs.FinMap as map
 use Rattle.std.proofs.lemmas.Bool.{eqb-true}
 use Rattle.work_calendars.specs.Name.{IsName}
-use Rattle.app_definitions.specs.Applications.{FitsApplication, IsApplicationOf}
+use Rattle.definition_records.specs.Applications.{FitsApplication, IsApplicationOf}
 use Rattle.occurrences.specs.Serial.{IsSerial}
 use Rattle.external_dependencies.specs.declared.links.Link.{Link}
 use Rattle.external_dependencies.specs.declared.live.Arrival.{Arrival}
@@ -16,13 +16,13 @@ use Rattle.planner_machine.specs.InForce.{PutsLists}
 use Rattle.planner_machine.specs.Jobs.{with_job}
 use Rattle.planner_machine.specs.Moves.{bit, size}
 use Rattle.planner_machine.specs.Pairs.{pair_of}
-use Rattle.app_definitions.specs.Active.{HasNoCalendar, HasNoPeriod}
+use Rattle.app_occurrences.specs.Active.{HasNoCalendar, HasNoPeriod}
 use Rattle.planner_machine.specs.Plans.{WouldLoop}
 use Rattle.planner_machine.specs.Sound.{IsJob, IsShown, IsSound}
 use Rattle.planner_machine.proofs.LoopLemmas.{on_loop_listed}
 use Rattle.planner_machine.proofs.RangeLemmas.{defined_name}
 use Rattle.planner_machine.proofs.SeatLemmas.{cases_issued, not_empty}
-use Rattle.app_definitions.specs.declared.columns.TheConstants.{APPLICATION_FIELDS}
+use Rattle.definition_records.specs.declared.columns.TheConstants.{APPLICATION_FIELDS}
 
 -- a set has no more of the first n serials than n
 bit_small : {X : Type 0} (o : Option X) → bit o ≤ 1

@@ -25,7 +25,7 @@ use Rattle.planner_machine.specs.Laws.{AnswersOnce}
 use Rattle.planner_machine.specs.ModifyAll.{IsAnyApp, ModifiesAll, ModifyAllRefused, is_any_app}
 use Rattle.planner_machine.specs.ModifyOne.{IsThatApp, ModifiesOne, ModifyOneRefused, is_that_app}
 use Rattle.planner_machine.specs.Pairs.{ArePairs}
-use Rattle.app_definitions.specs.Active.{HasNoCalendar, HasNoPeriod}
+use Rattle.app_occurrences.specs.Active.{HasNoCalendar, HasNoPeriod}
 use Rattle.planner_machine.specs.Plans.{ChangesPlans, MakesOfRows}
 use Rattle.planner_machine.specs.Replan.{ReplanRefused, Replans}
 use Rattle.planner_machine.specs.Sound.{IsSound}

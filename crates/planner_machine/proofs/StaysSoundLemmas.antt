@@ -5,8 +5,8 @@ use Rattle.std.specs.Prelude.{Bool, Contains, if◌then◌else◌, nat_lt}
 use Rattle.std.specs.FinMap as map
 use Rattle.work_calendars.specs.Day.{last_planning_day, first_day}
 use Rattle.work_calendars.specs.Name.{IsName}
-use Rattle.app_definitions.specs.Applications.{FitsApplication, IsApplicationOf}
-use Rattle.app_definitions.specs.declared.applications.Application.{Application}
+use Rattle.definition_records.specs.Applications.{FitsApplication, IsApplicationOf}
+use Rattle.definition_records.specs.declared.applications.Application.{Application}
 use Rattle.app_definitions.specs.declared.definitions.Definitions.{Definitions}
 use Rattle.occurrences.specs.Key.{key_eq}
 use Rattle.occurrences.specs.Place.{IsLive, IsOpen}
@@ -35,7 +35,7 @@ use Rattle.planner_machine.proofs.LoopLemmas.{no_loop_from}
 use Rattle.planner_machine.proofs.PlannedLemmas.{within_sizes}
 use Rattle.planner_machine.proofs.RangeLemmas.{DraftRanges, defined_name, is_moment, link_names, named_ranges}
 use Rattle.planner_machine.proofs.SeatLemmas.{not_empty}
-use Rattle.app_definitions.specs.declared.columns.TheConstants.{APPLICATION_FIELDS}
+use Rattle.definition_records.specs.declared.columns.TheConstants.{APPLICATION_FIELDS}
 
 -- what the statements on the plans share
 

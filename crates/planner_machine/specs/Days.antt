@@ -12,7 +12,7 @@ use Rattle.planner_machine.specs.declared.limits.TheConstants.{LONGEST_WINDOW}
 use Rattle.planner_machine.specs.Content.{Content}
 use Rattle.planner_machine.specs.Decision.{Decision}
 use Rattle.planner_machine.specs.Drafts.{IsNamed}
-use Rattle.app_definitions.specs.Active.{HasNoCalendar, HasNoPeriod}
+use Rattle.app_occurrences.specs.Active.{HasNoCalendar, HasNoPeriod}
 use Rattle.planner_machine.specs.Plans.{IsPlannedApp}
 
 -- the days are out of order, past the last planning day, or too many, both ends counted

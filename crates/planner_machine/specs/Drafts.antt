@@ -6,9 +6,9 @@ use Rattle.work_calendars.specs.Minute.{minutes_per_day}
 use Rattle.work_calendars.specs.Moment.{moment_of}
 use Rattle.run_cycles.specs.declared.named.Named.{Named}
 use Rattle.run_cycles.specs.Occurrence.{IsOccurrence}
-use Rattle.app_definitions.specs.Active.{IsActive, cycles_of}
-use Rattle.app_definitions.specs.NamedOccurrences.{work_of}
-use Rattle.app_definitions.specs.declared.applications.Application.{Application}
+use Rattle.app_occurrences.specs.Active.{IsActive, cycles_of}
+use Rattle.app_occurrences.specs.NamedOccurrences.{work_of}
+use Rattle.definition_records.specs.declared.applications.Application.{Application}
 use Rattle.app_definitions.specs.declared.definitions.Definitions.{Definitions}
 use Rattle.occurrences.specs.Key.{KeyBefore}
 use Rattle.occurrences.specs.declared.key.Key.{Key}

@@ -17,7 +17,7 @@ use Rattle.planner_machine.specs.Decision.{Decision}
 use Rattle.planner_machine.specs.Drafts.{AreDrafts, IsMade, NamesWithin}
 use Rattle.planner_machine.specs.InForce.{PutsAll}
 use Rattle.planner_machine.specs.Moves.{with_bounds, with_made}
-use Rattle.app_definitions.specs.Active.{HasNoCalendar, HasNoPeriod}
+use Rattle.app_occurrences.specs.Active.{HasNoCalendar, HasNoPeriod}
 use Rattle.planner_machine.specs.Plans.{ChangesPlans, IsLeastApp, WouldHoldTooMany, WouldLoop}
 
 -- the new last day is not after the old one, past the last planning day, or too far from the day of the plan end

@@ -7,7 +7,7 @@ use Rattle.planner_machine.specs.Content.{Content}
 use Rattle.planner_machine.specs.Decision.{Decision}
 use Rattle.planner_machine.specs.InForce.{PutsAll}
 use Rattle.planner_machine.specs.Modify.{Modifies}
-use Rattle.app_definitions.specs.Active.{HasNoCalendar, HasNoPeriod}
+use Rattle.app_occurrences.specs.Active.{HasNoCalendar, HasNoPeriod}
 use Rattle.planner_machine.specs.Plans.{ChangesPlans, IsLeastApp, MakesOfRows, WouldHoldTooMany, WouldLoop}
 
 -- any application

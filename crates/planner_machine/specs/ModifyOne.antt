@@ -9,7 +9,7 @@ use Rattle.planner_machine.specs.Content.{Content}
 use Rattle.planner_machine.specs.Decision.{Decision}
 use Rattle.planner_machine.specs.InForce.{PutsOne}
 use Rattle.planner_machine.specs.Modify.{Modifies}
-use Rattle.app_definitions.specs.Active.{HasNoCalendar, HasNoPeriod}
+use Rattle.app_occurrences.specs.Active.{HasNoCalendar, HasNoPeriod}
 use Rattle.planner_machine.specs.Plans.{ChangesPlans, IsPlannedApp, MakesOfRows, WouldHoldTooMany, WouldLoop}
 
 -- that application alone

@@ -1,6 +1,6 @@
 -- What the statements on the plans have in common.
 use Rattle.std.specs.Prelude.{◌≡◌, ◌⊎◌, ℕ, ◌+◌, ◌<◌, List, Some}
-use Rattle.app_definitions.specs.declared.applications.Application.{Application}
+use Rattle.definition_records.specs.declared.applications.Application.{Application}
 use Rattle.app_definitions.specs.declared.definitions.Definitions.{Definitions}
 use Rattle.occurrences.specs.declared.reply.Reply.{Reply}
 use Rattle.occurrences.specs.declared.serial.TheConstants.{GREATEST_SERIAL}
@@ -10,7 +10,7 @@ use Rattle.planner_machine.specs.declared.limits.TheConstants.{MOST_PLANNED_ROWS
 use Rattle.planner_machine.specs.Content.{Content, Sets}
 use Rattle.planner_machine.specs.InForce.{PutsLists}
 use Rattle.planner_machine.specs.Moves.{size}
-use Rattle.app_definitions.specs.Active.{IsActive, IsLeastName}
+use Rattle.app_occurrences.specs.Active.{IsActive, IsLeastName}
 use Rattle.planner_machine.specs.Pairs.{ArePairs}
 
 -- what a statement answers and makes of the rows, by the definitions

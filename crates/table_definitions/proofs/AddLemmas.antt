@@ -8,7 +8,7 @@ use Rattle.std.proofs.lemmas.Option.{get_or_from_slice_get, slice_get-get_or}
 use Rattle.std.specs.Prelude.{IsSome}
 use Rattle.std.specs.FinMap as map
 use Rattle.sqlite.specs.Order.{Row as Values}
-use Rattle.app_definitions.specs.ByName.{AreNamesOf}
+use Rattle.definition_records.specs.ByName.{AreNamesOf}
 use Rattle.table_facts.specs.Content.{ByName, IsOfSome}
 use Rattle.table_definitions.specs.Adding.{Adds, IsOfName, IsOfPlace, IsUpTo}
 

@@ -5,13 +5,13 @@ use Rattle.std.specs.Prelude.{slice_get, IsSome}
 use Rattle.std.specs.FinMap as map
 use Rattle.sqlite.specs.Order.{Row as Values, column}
 use Rattle.sqlite.specs.declared.types.Value.TheVariants.{Text}
-use Rattle.app_definitions.specs.declared.applications.Application.{Application}
+use Rattle.definition_records.specs.declared.applications.Application.{Application}
 use Rattle.table_facts.specs.Facts.{application_values}
 use Rattle.table_facts.proofs.Decoded.{nat_in, one_application}
 use Rattle.table_facts.specs.Facts.{IsCalendarRow, IsPredecessorRow, is_work}
 use Rattle.table_facts.specs.Content.{ByName}
-use Rattle.app_definitions.specs.ByName.{AreNamesOf}
-use Rattle.app_definitions.proofs.ByNameLemmas.{get-inserted, name_itself, same_name}
+use Rattle.definition_records.specs.ByName.{AreNamesOf}
+use Rattle.definition_records.proofs.ByNameLemmas.{get-inserted, name_itself, same_name}
 use Rattle.std.specs.Cmp.Lexicographic.{pointwise, slice_cmp}
 use Rattle.table_facts.specs.Facts.IsCalendarRow.{Weekday, Date}
 use Rattle.std.specs.Cmp.{nat_cmp_total, unsigned_ties}

@@ -13,9 +13,9 @@ use Rattle.std.proofs.lemmas.List.Elements.{Contains-append_left, Contains-push,
 use Rattle.sqlite.specs.Order.{Row as Values, column}
 use Rattle.sqlite.specs.declared.types.Value.TheVariants.{Text}
 use Rattle.work_calendars.specs.Name.{IsName}
-use Rattle.app_definitions.specs.ByName.{AreEntriesOf, HaveOwnNames}
-use Rattle.app_definitions.proofs.ByNameLemmas.{get-inserted, get-removed, get-view_of, name_itself, name_sym}
-use Rattle.app_definitions.proofs.ByNameLemmas.{same_name}
+use Rattle.definition_records.specs.ByName.{AreEntriesOf, HaveOwnNames}
+use Rattle.definition_records.proofs.ByNameLemmas.{get-inserted, get-removed, get-view_of, name_itself, name_sym}
+use Rattle.definition_records.proofs.ByNameLemmas.{same_name}
 use Rattle.table_facts.specs.Content.{AreEach, ByName, IsOfSome}
 use Rattle.table_facts.proofs.Decoded.{text_in}
 use Rattle.table_definitions.specs.Adding.{IsOfName}

@@ -15,7 +15,7 @@ use Rattle.plan_periods.specs.declared.periods.Period.TheVariants as period
 use Rattle.run_cycles.specs.declared.cycles.CycleType.{CycleType}
 use Rattle.run_cycles.specs.declared.cycles.CycleType.TheVariants.{Normal, Negative}
 use Rattle.run_cycles.specs.declared.cycles.RunCycle.{RunCycle}
-use Rattle.app_definitions.specs.declared.applications.Application.{Application}
+use Rattle.definition_records.specs.declared.applications.Application.{Application}
 use Rattle.table_schema.specs.declared.tables.Table.TheVariants as table
 use Rattle.table_facts.specs.Content.{ByName, IsApplicationRow, IsOfSome}
 use Rattle.table_facts.specs.Facts.{IsCalendarRow, IsCycleRow, IsOffsetRow, IsPeriodRow, IsPredecessorRow}

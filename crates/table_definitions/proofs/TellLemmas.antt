@@ -8,8 +8,8 @@ use Rattle.sqlite.specs.Order.{Row as Values}
 use Rattle.work_calendars.specs.Calendar.{CalendarEntries}
 use Rattle.plan_periods.specs.declared.periods.Period.{Period}
 use Rattle.plan_periods.specs.declared.periods.Period.TheVariants as period
-use Rattle.app_definitions.specs.ByName.{AreNamesOf}
-use Rattle.app_definitions.specs.Rising.{AreRising}
+use Rattle.definition_records.specs.ByName.{AreNamesOf}
+use Rattle.definition_records.specs.Rising.{AreRising}
 use Rattle.table_facts.specs.Content.{AreEach, ByName, HasEntry, IsTold}
 use Rattle.table_facts.specs.Facts.{IsCalendarRow, IsPeriodRow, IsPredecessorRow}
 use Rattle.table_facts.specs.Facts.IsCalendarRow.{Weekday, Date}

@@ -12,10 +12,10 @@ use Rattle.sqlite.specs.Order.{Row as Values, column}
 use Rattle.sqlite.specs.declared.types.Value.TheVariants.{Text}
 use Rattle.work_calendars.specs.Name.{IsName, IsShort}
 use Rattle.run_cycles.specs.declared.cycles.RunCycle.{RunCycle}
-use Rattle.app_definitions.specs.ByName.{AreEntriesOf}
-use Rattle.app_definitions.specs.Rising.{AreRising, IsBelow}
-use Rattle.app_definitions.proofs.ByNameLemmas.{get-view_of, name_itself, same_name}
-use Rattle.app_definitions.proofs.RisingLemmas.{Contains-map, Contains-map_back, behind, not_itself}
+use Rattle.definition_records.specs.ByName.{AreEntriesOf}
+use Rattle.definition_records.specs.Rising.{AreRising, IsBelow}
+use Rattle.definition_records.proofs.ByNameLemmas.{get-view_of, name_itself, same_name}
+use Rattle.definition_records.proofs.RisingLemmas.{Contains-map, Contains-map_back, behind, not_itself}
 use Rattle.table_facts.specs.Content.{ByName}
 use Rattle.table_facts.specs.Facts.{IsCycleRow, IsOffsetRow}
 use Rattle.table_facts.proofs.Decoded.{text_in}

@@ -9,7 +9,7 @@ use Rattle.work_calendars.specs.Calendar.{CalendarEntries}
 use Rattle.work_calendars.specs.Day.{IsDay}
 use Rattle.work_calendars.specs.Name.{IsName}
 use Rattle.work_calendars.specs.declared.statuses.DayStatus.{DayStatus}
-use Rattle.app_definitions.specs.declared.applications.Application.{Application}
+use Rattle.definition_records.specs.declared.applications.Application.{Application}
 use Rattle.table_facts.specs.Content.{ByName}
 use Rattle.table_facts.specs.Facts.{IsCalendarRow, IsPredecessorRow, application_values, is_work, natural}
 use Rattle.table_facts.specs.Facts.IsCalendarRow.{Weekday, Date}

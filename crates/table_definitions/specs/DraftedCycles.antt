@@ -7,7 +7,7 @@ use Rattle.work_calendars.specs.Minute.{IsMinute}
 use Rattle.work_calendars.specs.Name.{IsShort}
 use Rattle.run_cycles.specs.declared.cycles.CycleType.{CycleType}
 use Rattle.run_cycles.specs.declared.cycles.Deadline.{Deadline}
-use Rattle.app_definitions.specs.CycleRecords.{rule_text}
+use Rattle.definition_records.specs.CycleRecords.{rule_text}
 use Rattle.table_facts.specs.Facts.{deadline_of, natural, or_null, type_letter}
 use Rattle.table_definitions.specs.declared.told_cycles.ToldCycle.{ToldCycle}
 

@@ -6,7 +6,7 @@ use Rattle.sqlite.specs.declared.types.Value.TheVariants.{Text}
 use Rattle.work_calendars.specs.Name.{IsShort}
 use Rattle.run_cycles.specs.Offset.{IsOffsets}
 use Rattle.run_cycles.specs.declared.cycles.RunCycle.{RunCycle}
-use Rattle.app_definitions.specs.Rising.{AreRising}
+use Rattle.definition_records.specs.Rising.{AreRising}
 use Rattle.table_facts.specs.Content.{ByName, IsOfSome}
 use Rattle.table_facts.specs.Facts.{IsCycleRow, IsOffsetRow}
 use Rattle.table_definitions.specs.CycleParts.{IsPartRow}

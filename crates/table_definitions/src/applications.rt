@@ -7,7 +7,7 @@ ghost use Rattle.std.proofs.Common.{ap};
 ghost use Rattle.sqlite.specs.Order.{Row as Values, column};
 ghost use Rattle.sqlite.specs.declared.types.Value.TheVariants.{Text};
 ghost use Rattle.work_calendars.specs.Name.{IsName};
-ghost use Rattle.app_definitions.specs.declared.applications.Application.{Application as ApplicationValue};
+ghost use Rattle.definition_records.specs.declared.applications.Application.{Application as ApplicationValue};
 ghost use Rattle.table_facts.specs.Content.{ByName as Defined};
 ghost use Rattle.table_definitions.specs.Drafted.{IsSoundApplication, application_named};
 ghost use Rattle.table_definitions.specs.Gathering.{AreSound};

@@ -3,7 +3,7 @@
 ghost use Rattle.std.specs.Prelude.{◌≡◌, length, option_map, IfOk, OnOk};
 ghost use Rattle.sqlite.specs.Value.{owned};
 ghost use Rattle.run_cycles.specs.declared.cycles.Deadline.{Deadline as DeadlineValue};
-ghost use Rattle.app_definitions.specs.CycleRecords.{rule_text};
+ghost use Rattle.definition_records.specs.CycleRecords.{rule_text};
 ghost use Rattle.table_facts.specs.Facts.{IsCycleRow, deadline_of, natural, or_null, type_letter};
 ghost use Rattle.table_definitions.specs.Adding.{Adds, IsOfPlace};
 ghost use Rattle.table_definitions.specs.Parts.{IsRowOfCycle};

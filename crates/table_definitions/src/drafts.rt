@@ -2,7 +2,7 @@
 
 ghost use Rattle.std.specs.Prelude.{◌≡◌, OnOk, IfOk};
 ghost use Rattle.std.specs.FinMap as map;
-ghost use Rattle.app_definitions.specs.ByName.{AreEntriesOf};
+ghost use Rattle.definition_records.specs.ByName.{AreEntriesOf};
 
 use indexmap::IndexMap;
 use std::alloc::{AllocError, Global};

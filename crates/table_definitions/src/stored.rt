@@ -2,7 +2,7 @@
 
 ghost use Rattle.std.specs.Prelude.{◌≡◌, ℕ, List, IfOk, IfSome, IsSome};
 ghost use Rattle.work_calendars.specs.Calendar.{CalendarEntries};
-ghost use Rattle.app_definitions.specs.declared.applications.Application.{Application as ApplicationValue};
+ghost use Rattle.definition_records.specs.declared.applications.Application.{Application as ApplicationValue};
 ghost use Rattle.app_definitions.specs.declared.definitions.Definitions.{Definitions as DefinitionsValue};
 ghost use Rattle.run_cycles.specs.declared.cycles.RunCycle.{RunCycle as RunCycleValue};
 ghost use Rattle.table_definitions.specs.Storing.{AreRowsOf, HaveRows};

@@ -6,7 +6,7 @@ ghost use Rattle.sqlite.specs.declared.types.Value.TheVariants.{Text};
 ghost use Rattle.run_cycles.specs.declared.cycles.CycleType.{CycleType as TypeValue};
 ghost use Rattle.run_cycles.specs.declared.cycles.Deadline.{Deadline as DeadlineValue};
 ghost use Rattle.run_cycles.specs.declared.rules.Rule.{Rule as RuleValue};
-ghost use Rattle.app_definitions.specs.CycleRecords.{rule_text};
+ghost use Rattle.definition_records.specs.CycleRecords.{rule_text};
 ghost use Rattle.table_facts.specs.Facts.{deadline_of, natural};
 ghost use Rattle.table_definitions.specs.DraftedCycles.{HasDeadline, HasType, IsDeadline, IsReadableCycle, told_values};
 ghost use Rattle.table_definitions.specs.declared.told_cycles.ToldCycle.{ToldCycle as ToldValue};

@@ -5,7 +5,7 @@ ghost use Rattle.std.specs.FinMap as maps;
 ghost use Rattle.sqlite.specs.Order.{Row as Values};
 ghost use Rattle.work_calendars.specs.Name.{IsShort};
 ghost use Rattle.run_cycles.specs.declared.cycles.RunCycle.{RunCycle as RunCycleValue};
-ghost use Rattle.app_definitions.specs.Rising.{AreRising};
+ghost use Rattle.definition_records.specs.Rising.{AreRising};
 ghost use Rattle.table_facts.specs.Content.{AreEach, ByName as Defined};
 ghost use Rattle.table_facts.specs.Facts.{IsCycleRow, IsOffsetRow};
 ghost use Rattle.table_definitions.specs.Gathering.{AreSound};

@@ -13,7 +13,7 @@ use Rattle.occurrences.specs.declared.row.Origin.TheVariants.{Added, Generated}
 use Rattle.occurrences.specs.declared.row.Row.{Row}
 use Rattle.occurrences.specs.declared.status.Status.{Status}
 use Rattle.occurrences.specs.declared.status.Status.TheVariants.{W, S, E, C, D}
-use Rattle.app_definitions.specs.declared.applications.Application.{Application}
+use Rattle.definition_records.specs.declared.applications.Application.{Application}
 use Rattle.external_dependencies.specs.declared.links.Link.{Link}
 use Rattle.external_dependencies.specs.declared.pairs.Pair.{Pair}
 use Rattle.table_facts.specs.Facts.{application_values, current_values, deletion_values, link_values, pair_values}

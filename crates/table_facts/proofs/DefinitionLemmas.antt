@@ -22,8 +22,8 @@ use Rattle.run_cycles.specs.declared.cycles.Deadline.{Deadline}
 use Rattle.run_cycles.specs.declared.cycles.RunCycle.{RunCycle}
 use Rattle.run_cycles.specs.declared.rules.Rule.{Rule}
 use Rattle.run_cycles.specs.declared.rules.Rule.TheVariants as rule
-use Rattle.app_definitions.specs.CycleRecords.{rule_text}
-use Rattle.app_definitions.proofs.RisingLemmas.{first_of_list, own_names, same_rising}
+use Rattle.definition_records.specs.CycleRecords.{rule_text}
+use Rattle.definition_records.proofs.RisingLemmas.{first_of_list, own_names, same_rising}
 use Rattle.table_facts.specs.Facts.{IsCalendarRow, IsCycleRow, IsOffsetRow, IsPeriodRow, IsPredecessorRow}
 use Rattle.table_facts.specs.Facts.IsCalendarRow.{Weekday, Date}
 use Rattle.table_facts.specs.Facts.{cycle_values, entry_values, is_work, natural, offset_values}

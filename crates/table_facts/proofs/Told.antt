@@ -3,7 +3,7 @@ use Rattle.std.proofs.Common.{◌≡◌, ℕ, List, Option, Some, None, refl, sy
 use Rattle.std.specs.Prelude.{Contains}
 use Rattle.std.specs.FinMap as maps
 use Rattle.sqlite.specs.Order.{Row as Values}
-use Rattle.app_definitions.proofs.ByNameLemmas.{same_by_name}
+use Rattle.definition_records.proofs.ByNameLemmas.{same_by_name}
 use Rattle.table_facts.specs.Content.{AreEach, ByName, IsOfSet, IsUnderOwn, IsOfList}
 
 pub is_some : {X : Type 0} (a b : X) → Some a ≡ Some b → a ≡ b

@@ -20,8 +20,8 @@ use Rattle.run_cycles.specs.declared.cycles.CycleType.{CycleType}
 use Rattle.run_cycles.specs.declared.cycles.CycleType.TheVariants.{Normal, Negative}
 use Rattle.run_cycles.specs.declared.cycles.Deadline.{Deadline}
 use Rattle.run_cycles.specs.declared.cycles.RunCycle.{RunCycle}
-use Rattle.app_definitions.specs.CycleRecords.{rule_text}
-use Rattle.app_definitions.specs.declared.applications.Application.{Application}
+use Rattle.definition_records.specs.CycleRecords.{rule_text}
+use Rattle.definition_records.specs.declared.applications.Application.{Application}
 use Rattle.external_dependencies.specs.declared.links.Link.{Link}
 use Rattle.external_dependencies.specs.declared.pairs.Pair.{Pair}
 

@@ -3,7 +3,7 @@ use Rattle.std.proofs.Common.{◌≡◌, ◌↔◌, ◌∙◌, ℕ, List, map, r
 use Rattle.std.specs.List.{Contains}
 use Rattle.sqlite.specs.Order.{Row as Values}
 use Rattle.run_cycles.specs.declared.cycles.RunCycle.{RunCycle}
-use Rattle.app_definitions.proofs.RisingLemmas.{Contains-map, Contains-map_back}
+use Rattle.definition_records.proofs.RisingLemmas.{Contains-map, Contains-map_back}
 use Rattle.app_definitions.specs.declared.definitions.Definitions.{Definitions}
 use Rattle.external_dependencies.specs.Rising.{HaveSame}
 use Rattle.planner_machine.specs.Content.{Content}

@@ -15,7 +15,7 @@ use Rattle.sqlite.specs.Order.{Row as Values, column}
 use Rattle.sqlite.specs.Tree.{rowid}
 use Rattle.sqlite_value.specs.Order.{value_cmp}
 use Rattle.sqlite_value.proofs.OrderLemmas.{value_cmp_total}
-use Rattle.app_definitions.proofs.RisingLemmas.{Contains-map, Contains-map_back}
+use Rattle.definition_records.proofs.RisingLemmas.{Contains-map, Contains-map_back}
 use Rattle.keyed_lists.proofs.KeyLemmas.{contains_first, contains_later}
 use Rattle.table_facts.proofs.Decoded.{nat_in}
 use Rattle.table_facts.specs.Facts.{natural}

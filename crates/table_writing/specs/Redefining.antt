@@ -2,7 +2,7 @@
 use Rattle.std.specs.Prelude.{◌≡◌, ◌↔◌, ℕ, List, [], ◌∷◌, Contains, Option, Some, None, ⊤}
 use Rattle.sqlite.specs.Order.{Row as Values}
 use Rattle.sqlite.specs.declared.types.Value.TheVariants.{Text}
-use Rattle.app_definitions.specs.ByName.{AreNamesOf}
+use Rattle.definition_records.specs.ByName.{AreNamesOf}
 use Rattle.app_definitions.specs.declared.kinds.Block.{Block}
 use Rattle.app_definitions.specs.declared.kinds.Block.TheVariants as block
 use Rattle.app_definitions.specs.declared.kinds.Kind.{Kind}

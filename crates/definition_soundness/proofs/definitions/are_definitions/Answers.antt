@@ -1,12 +1,12 @@
 use Rattle.std.proofs.Common.{◌∙◌, sym}
 use Rattle.std.proofs.lemmas.Bool.{false≢true}
-use Rattle.app_definitions.specs.Applications.{FitsApplication, IsApplicationOf}
-use Rattle.app_definitions.specs.Calendars.{FitsCalendar, IsCalendarOf}
-use Rattle.app_definitions.specs.CycleRecords.{AreRunCyclesOf, FitsRunCycle}
-use Rattle.app_definitions.specs.Periods.{FitsPeriod, IsPeriodOf}
-use Rattle.app_definitions.specs.Predecessors.{ArePredecessorsOf, FitsPredecessors}
-use Rattle.app_definitions.specs.declared.columns.TheConstants.{APPLICATION_FIELDS, CALENDAR_FIELDS, CYCLE_FIELDS}
-use Rattle.app_definitions.specs.declared.columns.TheConstants.{PERIOD_FIELDS, PREDECESSOR_FIELDS}
+use Rattle.definition_records.specs.Applications.{FitsApplication, IsApplicationOf}
+use Rattle.definition_records.specs.Calendars.{FitsCalendar, IsCalendarOf}
+use Rattle.definition_records.specs.CycleRecords.{AreRunCyclesOf, FitsRunCycle}
+use Rattle.definition_records.specs.Periods.{FitsPeriod, IsPeriodOf}
+use Rattle.definition_records.specs.Predecessors.{ArePredecessorsOf, FitsPredecessors}
+use Rattle.definition_records.specs.declared.columns.TheConstants.{APPLICATION_FIELDS, CALENDAR_FIELDS, CYCLE_FIELDS}
+use Rattle.definition_records.specs.declared.columns.TheConstants.{PERIOD_FIELDS, PREDECESSOR_FIELDS}
 use Rattle.definition_soundness.proofs.GivenLemmas.{definable_from, definable_to}
 use Rattle.definition_soundness.proofs.definitions.are_definitions.Goals as goal
 

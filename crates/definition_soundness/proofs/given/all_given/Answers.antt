@@ -2,7 +2,7 @@ use Rattle.std.proofs.Common.{◌↔◌, subst, sym}
 use Rattle.std.specs.Prelude.{IsTrue}
 use Rattle.std.specs.List.{All}
 use Rattle.std.proofs.lemmas.Result.{IfOk-weaker}
-use Rattle.app_definitions.specs.ByName.{AreNamesOf}
+use Rattle.definition_records.specs.ByName.{AreNamesOf}
 use Rattle.definition_soundness.proofs.GivenLemmas.{IsTested, all_from, all_to}
 use Rattle.definition_soundness.proofs.given.all_given.Goals as goal
 

@@ -1,7 +1,7 @@
 use Rattle.std.proofs.Common.{◌++◌, ◌∙◌, [], ℕ, ap, subst, sym, Result, Ok, Err}
 use Rattle.std.specs.Prelude.{OnOk}
 use Rattle.std.proofs.lemmas.List.{append-nil}
-use Rattle.app_definitions.specs.NamedOccurrences.{ListsNamed}
+use Rattle.app_occurrences.specs.NamedOccurrences.{ListsNamed}
 use Rattle.long_term_plan.specs.Drafting.{drafts_from}
 use Rattle.long_term_plan.proofs.DraftingLemmas.{drafts_are, no_drafts}
 use Rattle.long_term_plan.proofs.drafts.add_drafts.Goals as goal

@@ -1,5 +1,5 @@
 use Rattle.std.proofs.Common.{take}
-use Rattle.app_definitions.specs.NamedOccurrences.{AreIndexesOf}
+use Rattle.app_occurrences.specs.NamedOccurrences.{AreIndexesOf}
 use Rattle.long_term_plan.specs.Drafting.{AreCollected}
 use Rattle.long_term_plan.proofs.drafts.named_drafts.Given as goal
 

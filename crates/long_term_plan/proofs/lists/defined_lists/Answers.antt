@@ -1,6 +1,6 @@
 use Rattle.std.proofs.Common.{◌≡◌, ◌∙◌, ℕ, List, ap, map, subst, sym}
 use Rattle.std.specs.List.{Contains}
-use Rattle.app_definitions.proofs.RisingLemmas.{Contains-map, Contains-map_back}
+use Rattle.definition_records.proofs.RisingLemmas.{Contains-map, Contains-map_back}
 use Rattle.external_dependencies.specs.declared.links.Link.{Link}
 use Rattle.planner_machine.specs.InForce.{IsDefinedLink}
 use Rattle.long_term_plan.specs.Lists.{link_of}

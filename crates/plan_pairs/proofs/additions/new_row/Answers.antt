@@ -2,7 +2,7 @@ use Rattle.std.proofs.Common.{◌≡◌, ◌+◌, ◌∙◌, true, false, refl, 
 use Rattle.std.specs.Prelude.{IfSome, Ok, is_some}
 use Rattle.std.proofs.lemmas.Bool.{false≢true}
 use Rattle.work_calendars.specs.Minute.{minutes_per_day}
-use Rattle.app_definitions.specs.Active.{IsActive}
+use Rattle.app_occurrences.specs.Active.{IsActive}
 use Rattle.app_definitions.specs.declared.definitions.Definitions.{Definitions}
 use Rattle.occurrences.specs.declared.row.Origin.TheVariants.{Added}
 use Rattle.occurrences.specs.declared.row.Row.{Row}

@@ -1,4 +1,4 @@
-use Rattle.app_definitions.proofs.ByNameLemmas.{IfOk-map}
+use Rattle.definition_records.proofs.ByNameLemmas.{IfOk-map}
 use Rattle.std.proofs.Common.{List, subst}
 use Rattle.plan_listings.specs.Report.{IsReport}
 use Rattle.plan_listings.specs.declared.report.Signed.{Signed}

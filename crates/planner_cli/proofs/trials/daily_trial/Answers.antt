@@ -1,5 +1,5 @@
 use Rattle.std.proofs.Common.{subst}
-use Rattle.app_definitions.proofs.ByNameLemmas.{IfOk-map}
+use Rattle.definition_records.proofs.ByNameLemmas.{IfOk-map}
 use Rattle.planner_machine.specs.Content.{Content}
 use Rattle.keyed_lists.specs.Rows.{of_current}
 use Rattle.plan_store.specs.Views.{IsAny, ListsSet}

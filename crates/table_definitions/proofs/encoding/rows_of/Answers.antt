@@ -1,5 +1,5 @@
 use Rattle.std.proofs.Common.{sym, subst}
-use Rattle.app_definitions.specs.ByName.{AreNamesOf}
+use Rattle.definition_records.specs.ByName.{AreNamesOf}
 use Rattle.table_definitions.proofs.AddLemmas.{adds_all}
 use Rattle.table_definitions.proofs.encoding.rows_of.Goals as goal
 

@@ -2,7 +2,7 @@ use Rattle.std.proofs.Common.{◌↔◌, subst, sym}
 use Rattle.std.specs.Prelude.{IfSome, IsSome}
 use Rattle.std.proofs.lemmas.Option.{IfSome_then}
 use Rattle.std.proofs.lemmas.Result.{IfOk-weaker}
-use Rattle.app_definitions.specs.ByName.{AreEntriesOf, HaveOwnNames}
+use Rattle.definition_records.specs.ByName.{AreEntriesOf, HaveOwnNames}
 use Rattle.table_definitions.specs.Gathering.{IsMade, Paired}
 use Rattle.table_definitions.proofs.GatherLemmas.{can_finish, made_alike, made_told, own_names}
 use Rattle.table_definitions.proofs.gathering.finish_all.Goals as goal

@@ -1,6 +1,6 @@
 use Rattle.std.proofs.Common.{subst, ◌∙◌}
 use Rattle.std.specs.Prelude.{IfOk, IfSome, IsSome}
-use Rattle.app_definitions.specs.declared.applications.Application.{Application as ApplicationValue}
+use Rattle.definition_records.specs.declared.applications.Application.{Application as ApplicationValue}
 use Rattle.table_facts.specs.Content.{IsApplicationRow}
 use Rattle.table_facts.specs.Content.{ByName}
 use Rattle.table_definitions.specs.Drafted.{IsSoundApplication}

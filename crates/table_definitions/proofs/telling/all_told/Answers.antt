@@ -2,7 +2,7 @@ use Rattle.std.proofs.Common.{◌↔◌, subst, sym}
 use Rattle.std.specs.Prelude.{IsTrue}
 use Rattle.std.specs.List.{All}
 use Rattle.std.proofs.lemmas.Result.{IfOk-weaker}
-use Rattle.app_definitions.specs.ByName.{AreNamesOf}
+use Rattle.definition_records.specs.ByName.{AreNamesOf}
 use Rattle.table_definitions.specs.Telling.{IsToldAt}
 use Rattle.table_definitions.proofs.TellLemmas.{each_from, each_to}
 use Rattle.table_definitions.proofs.telling.all_told.Goals as goal

@@ -1,8 +1,8 @@
 use Rattle.std.proofs.Common.{◌≡◌, ℕ, List, map, refl, subst, sym, ◌∙◌}
 use Rattle.std.specs.Prelude.{IfSome, IsSome}
 use Rattle.std.proofs.lemmas.Option.{IfSome_then}
-use Rattle.app_definitions.specs.ByName.{AreEntriesOf}
-use Rattle.app_definitions.specs.Rising.{AreRising}
+use Rattle.definition_records.specs.ByName.{AreEntriesOf}
+use Rattle.definition_records.specs.Rising.{AreRising}
 use Rattle.run_cycles.specs.declared.cycles.RunCycle.{RunCycle}
 use Rattle.table_definitions.specs.WholeCycles.{cycle_of}
 use Rattle.table_definitions.specs.declared.cycle_parts.CyclePart.{CyclePart}

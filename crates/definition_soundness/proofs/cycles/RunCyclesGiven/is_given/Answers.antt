@@ -1,6 +1,6 @@
 use Rattle.std.proofs.Common.{List, subst, sym}
 use Rattle.run_cycles.specs.declared.cycles.RunCycle.{RunCycle}
-use Rattle.app_definitions.specs.Rising.{AreRising}
+use Rattle.definition_records.specs.Rising.{AreRising}
 use Rattle.definition_soundness.specs.Values.{AreCycleValues}
 use Rattle.definition_soundness.proofs.CycleRecords.{cycles_given, cycles_value}
 use Rattle.definition_soundness.proofs.cycles.RunCyclesGiven.is_given.Goals as goal

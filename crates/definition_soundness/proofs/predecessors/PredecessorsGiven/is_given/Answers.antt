@@ -1,5 +1,5 @@
 use Rattle.std.proofs.Common.{List, ℕ, subst, sym}
-use Rattle.app_definitions.specs.Rising.{AreRising}
+use Rattle.definition_records.specs.Rising.{AreRising}
 use Rattle.definition_soundness.specs.Values.{ArePredecessorValues}
 use Rattle.definition_soundness.proofs.SimpleLemmas.{predecessors_given, predecessors_value}
 use Rattle.definition_soundness.proofs.predecessors.PredecessorsGiven.is_given.Goals as goal

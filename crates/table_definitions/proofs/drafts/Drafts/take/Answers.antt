@@ -1,7 +1,7 @@
 use Rattle.std.proofs.Common.{◌∙◌, sym, ap, cond, None, nat_eq}
 use Rattle.std.specs.FinMap as map
 use Rattle.std.specs.Cmp.Lexicographic.{pointwise}
-use Rattle.app_definitions.proofs.ByNameLemmas.{get-view_of, get-removed, same_by_name}
+use Rattle.definition_records.proofs.ByNameLemmas.{get-view_of, get-removed, same_by_name}
 use Rattle.table_definitions.proofs.drafts.Drafts.take.Goals as goal
 
 pub returns-clause-taken : goal.returns-clause-taken

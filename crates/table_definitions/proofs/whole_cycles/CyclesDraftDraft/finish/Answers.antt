@@ -4,8 +4,8 @@ use Rattle.std.specs.Prelude.{IfSome, IsSome}
 use Rattle.std.proofs.lemmas.Option.{IfSome_then}
 use Rattle.std.proofs.lemmas.Result.{IfOk-weaker}
 use Rattle.work_calendars.specs.Name.{IsShort}
-use Rattle.app_definitions.specs.Rising.{AreRising}
-use Rattle.app_definitions.proofs.ByNameLemmas.{IfOk-both}
+use Rattle.definition_records.specs.Rising.{AreRising}
+use Rattle.definition_records.proofs.ByNameLemmas.{IfOk-both}
 use Rattle.run_cycles.specs.declared.cycles.RunCycle.{RunCycle}
 use Rattle.sqlite.specs.Order.{Row as Values}
 use Rattle.table_facts.specs.Content.{ByName}

@@ -1,9 +1,0 @@
--- the least name of the entries so far, before those that are left
-use Rattle.std.specs.Prelude.{IsTrue}
-use Rattle.app_definitions.specs.Active.{LacksPeriod}
-use Rattle.app_definitions.proofs.LeastLemmas.{IsLeastBefore}
-use Rattle.app_definitions.proofs.definitions.Definitions.least_without_period.Given as goal
-
-abbrev pub invariant-loop-app : goal.invariant-loop-app
-invariant-loop-app l = IsLeastBefore (λ app a. IsTrue a.active
-    × LacksPeriod l.self app) l.self.applications l.app-iterator l.least

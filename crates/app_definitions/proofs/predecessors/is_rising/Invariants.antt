@@ -1,7 +1,0 @@
--- up to the place before this one, each name is below the next
-use Rattle.std.proofs.Common.{ℕ, List}
-use Rattle.app_definitions.proofs.RisingLemmas.{RisesTo}
-use Rattle.app_definitions.proofs.predecessors.is_rising.Given as goal
-
-abbrev pub invariant-loop-i : goal.invariant-loop-i
-invariant-loop-i l = RisesTo (λ (name : List ℕ). name) l.names l.i

@@ -1,0 +1,3 @@
+pub mod LinkLemmas
+pub mod NamedLemmas
+pub mod LeastLemmas

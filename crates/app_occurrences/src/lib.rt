@@ -1,0 +1,24 @@
+//! What the applications of definitions are, lack and are named on: which are active, their calendars, run cycles and
+//! predecessors, the least that lacks a definition, and the occurrences that run cycles name.
+//!
+//! Each call asks something of the definitions, and changes nothing:
+//!
+//! ```text
+//! let mut all = Definitions::new(alloc);
+//! all.merge(read_block(alloc, Kind::Applications, b"Z,A,HERE\nY,A,\nD,A,DEFAULT\n")?)?;
+//! // Z names a calendar that isn't defined; Y and D use the default one
+//! assert_eq!(rt; least_without_calendar(&all), Some(z));
+//! ```
+#![tactic(auto)]
+
+mod applications;
+mod least_names;
+mod links;
+mod named;
+mod work_indexes;
+
+pub use applications::{active, calendar_name, cycles_of, lacks_calendar, lacks_period};
+pub use least_names::{least_without_calendar, least_without_period};
+pub use links::defined_links;
+pub use named::named_occurrences;
+pub use work_indexes::WorkIndexes;

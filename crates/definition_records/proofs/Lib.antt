@@ -1,0 +1,10 @@
+pub mod RecordLemmas
+pub mod RisingLemmas
+pub mod ByNameLemmas
+pub mod EntryLemmas
+pub mod FieldLemmas
+pub mod CalendarLemmas
+pub mod CycleLemmas
+pub mod PeriodLemmas
+pub mod PredecessorLemmas
+pub mod NameLemmas

@@ -1,0 +1,11 @@
+pub mod Applications
+pub mod ByName
+pub mod Calendars
+pub mod Columns
+pub mod CycleRecords
+pub mod Fields
+pub mod Limits
+pub mod Periods
+pub mod Predecessors
+pub mod Records
+pub mod Rising
