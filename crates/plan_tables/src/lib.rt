@@ -9,4 +9,5 @@ mod opening;
 mod prepared;
 mod table_store;
 
+pub use table_opening::{OpenFault, open_connection};
 pub use table_store::TableStore;
