@@ -1,5 +1,8 @@
+pub mod ExactLemmas
 mod FallingLemmas
+mod GatherLemmas
 mod GraphLemmas
+pub mod HoldsLemmas
 mod LawLemmas
 pub mod LexLemmas
 mod LoopLemmas
@@ -8,8 +11,13 @@ pub mod OrderLemmas
 pub mod PairLemmas
 mod PartLemmas
 mod PlaceLemmas
+mod ReachLemmas
 pub mod RingLemmas
 pub mod RisingLemmas
 mod SearchLemmas
+mod StayLemmas
+mod ToldLemmas
+pub mod TouchLemmas
+mod UnreachedLemmas
 mod VisitLemmas
 mod WalkLemmas

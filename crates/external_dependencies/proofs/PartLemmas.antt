@@ -27,22 +27,14 @@ part_rising cmp xs start count rising fits i j d lt in_range =
     rising (start + i) (start + j) d (omega arith) (omega (arith, length-drop start xs)) in
     rw (at_i, at_j, from_i, from_j) is
 
+-- where keys do not fall along the list
 module _ {T K : Type 0} (key : T → K) {R : K → K → Ordering} (keys : IsTotalOrder R) (ties : IsAntisymmetric R)
-    (rest : T → T → Ordering) (whole : IsTotalOrder (λ (x y : T). ordering_then (R (key x) (key y)) (rest x y)))
-    (xs : List T) (rising : IsRising (λ (x y : T). ordering_then (R (key x) (key y)) (rest x y)) xs) (k : K) where
-  -- the order of the elements begins with that of the keys
-  keys_at_most : (x y : T) → AtMost whole x y → AtMost keys (key x) (key y)
-  keys_at_most x y (inl less) = elim (then_less (R (key x) (key y))
-      (rest x y) less) [ inl below ↦ inl below | inr tied ↦ inr tied.0 ]
-  keys_at_most x y (inr same) = inr (then_equal (R (key x) (key y)) (rest x y) same).0
-
-  -- keys do not fall along the list
-  keys_rise : (i j : ℕ) (d : T) → i ≤ j → j < length xs → AtMost keys (key (get_or xs i d)) (key (get_or xs j d))
-  keys_rise i j d le lt = keys_at_most (get_or xs i d) (get_or xs j d) (rising_at_most whole xs rising i j d le lt)
-
-  pub parted_below : IsPartitionedBy (λ (x : T). is_lt (R (key x) k)) xs
-  parted_below i j d le lt is = ap is_lt (less_after keys (key (get_or xs i d)) (key (get_or xs j d)) k
-      (keys_rise i j d le lt) (less_from (key (get_or xs j d)) is))
+    (xs : List T)
+    (rise : (i j : ℕ) (d : T) → i ≤ j → j < length xs → AtMost keys (key (get_or xs i d)) (key (get_or xs j d)))
+    (k : K) where
+  pub keyed_below : IsPartitionedBy (λ (x : T). is_lt (R (key x) k)) xs
+  keyed_below i j d le lt is = ap is_lt (less_after keys (key (get_or xs i d)) (key (get_or xs j d)) k
+      (rise i j d le lt) (less_from (key (get_or xs j d)) is))
     where
       less_from : (x : K) → is_lt (R x k) ≡ true → R x k ≡ Less
       less_from x is = elim (R x k) as (λ r. is_lt r ≡ true → r ≡ Less) [
@@ -51,8 +43,8 @@ module _ {T K : Type 0} (key : T → K) {R : K → K → Ordering} (keys : IsTot
         | Greater ↦ λ is. cc
       ] is
 
-  pub parted_upto : (start : ℕ) → IsPartitionedBy (λ (x : T). is_le (R (key x) k)) (drop start xs)
-  parted_upto start i j d le lt is =
+  pub keyed_upto : (start : ℕ) → IsPartitionedBy (λ (x : T). is_le (R (key x) k)) (drop start xs)
+  keyed_upto start i j d le lt is =
       let at_j : get_or (drop start xs) j d ≡ get_or xs (start + j) d = get_or-drop start xs j d in
       let at_i : get_or (drop start xs) i d ≡ get_or xs (start + i) d = get_or-drop start xs i d in
       let long : start + j < length xs = omega (arith, length-drop start xs) in
@@ -61,7 +53,7 @@ module _ {T K : Type 0} (key : T → K) {R : K → K → Ordering} (keys : IsTot
       subst (λ (x : T). is_le (R (key x) k) ≡ true) (sym at_i)
       (is_le_from (key (get_or xs (start + i) d))
       (at_most_after keys (key (get_or xs (start + i) d)) (key (get_or xs (start + j) d)) k
-      (keys_rise (start + i) (start + j) d (omega arith) long)
+      (rise (start + i) (start + j) d (omega arith) long)
       (at_most_from keys (key (get_or xs (start + j) d)) k upto_j)))
     where
       is_le_from : (x : K) → AtMost keys x k → is_le (R x k) ≡ true
@@ -69,12 +61,12 @@ module _ {T K : Type 0} (key : T → K) {R : K → K → Ordering} (keys : IsTot
       is_le_from x (inr same) = ap is_le same
 
   -- the elements from the first of the key to the last
-  pub part_is : (start count : ℕ) → start ≤ length xs
+  pub keyed_part : (start count : ℕ) → start ≤ length xs
       → IsPartitionPoint (λ (x : T). is_lt (R (key x) k) ≡ true) (λ (x : T). is_lt (R (key x) k) ≡ false) xs start
       → count ≤ length (drop start xs) → IsPartitionPoint (λ (x : T). is_le (R (key x) k) ≡ true)
       (λ (x : T). is_le (R (key x) k) ≡ false) (drop start xs) count
       → (x : T) → Contains (take count (drop start xs)) x ↔ (Contains xs x × (key x ≡ k))
-  part_is start count in_range point in_rest point' x =
+  keyed_part start count in_range point in_rest point' x =
       let both = between_is xs (λ (y : T). is_lt (R (key y) k))
       (λ (y : T). is_le (R (key y) k)) start count in_range point in_rest point' x in (
         (λ here. let facts = both.0 here in (facts.0, ties (key x) k (not_less_then keys (key x) k facts.1 facts.2))),
@@ -82,3 +74,28 @@ module _ {T K : Type 0} (key : T → K) {R : K → K → Ordering} (keys : IsTot
             let tied : R (key x) k ≡ Equal = subst (λ y. R (key x) y ≡ Equal) here.1 (tied_itself keys (key x)) in
             both.1 (here.0, ap is_lt tied, ap is_le tied),
       )
+
+-- where the list rises by an order that begins with that of the keys
+module _ {T K : Type 0} (key : T → K) {R : K → K → Ordering} (keys : IsTotalOrder R) (ties : IsAntisymmetric R)
+    (rest : T → T → Ordering) (whole : IsTotalOrder (λ (x y : T). ordering_then (R (key x) (key y)) (rest x y)))
+    (xs : List T) (rising : IsRising (λ (x y : T). ordering_then (R (key x) (key y)) (rest x y)) xs) (k : K) where
+  keys_at_most : (x y : T) → AtMost whole x y → AtMost keys (key x) (key y)
+  keys_at_most x y (inl less) = elim (then_less (R (key x) (key y))
+      (rest x y) less) [ inl below ↦ inl below | inr tied ↦ inr tied.0 ]
+  keys_at_most x y (inr same) = inr (then_equal (R (key x) (key y)) (rest x y) same).0
+
+  keys_rise : (i j : ℕ) (d : T) → i ≤ j → j < length xs → AtMost keys (key (get_or xs i d)) (key (get_or xs j d))
+  keys_rise i j d le lt = keys_at_most (get_or xs i d) (get_or xs j d) (rising_at_most whole xs rising i j d le lt)
+
+  pub parted_below : IsPartitionedBy (λ (x : T). is_lt (R (key x) k)) xs
+  parted_below = keyed_below key keys ties xs keys_rise k
+
+  pub parted_upto : (start : ℕ) → IsPartitionedBy (λ (x : T). is_le (R (key x) k)) (drop start xs)
+  parted_upto = keyed_upto key keys ties xs keys_rise k
+
+  pub part_is : (start count : ℕ) → start ≤ length xs
+      → IsPartitionPoint (λ (x : T). is_lt (R (key x) k) ≡ true) (λ (x : T). is_lt (R (key x) k) ≡ false) xs start
+      → count ≤ length (drop start xs) → IsPartitionPoint (λ (x : T). is_le (R (key x) k) ≡ true)
+      (λ (x : T). is_le (R (key x) k) ≡ false) (drop start xs) count
+      → (x : T) → Contains (take count (drop start xs)) x ↔ (Contains xs x × (key x ≡ k))
+  part_is = keyed_part key keys ties xs keys_rise k

@@ -1,5 +1,5 @@
 -- Changes of pairs.
-use Rattle.std.specs.Prelude.{◌↔◌, List, Contains}
+use Rattle.std.specs.Prelude.{◌⊎◌, ◌↔◌, List, Contains}
 use Rattle.external_dependencies.specs.declared.change.PairChange.{PairChange}
 use Rattle.external_dependencies.specs.declared.pairs.Pair.{Pair}
 
@@ -8,3 +8,11 @@ use Rattle.external_dependencies.specs.declared.pairs.Pair.{Pair}
 pub record Leads (old new : List Pair) (change : PairChange) : Type 0 where
   pub removed : (pair : Pair) → Contains change.removed pair ↔ (Contains old pair × (Contains new pair → ⊥))
   pub added : (pair : Pair) → Contains change.added pair ↔ (Contains new pair × (Contains old pair → ⊥))
+
+-- the change is exactly the difference between the old pairs and the new: it removes what stood and is a pair no more,
+-- and adds what is a pair and did not stand; and of each pair it can be told whether it is one of these
+pub record LeadsExactly (old : List Pair) (IsNew : Pair → Type 0) (change : PairChange) : Type 0 where
+  pub removed : (pair : Pair) → Contains change.removed pair ↔ (Contains old pair × (IsNew pair → ⊥))
+  pub added : (pair : Pair) → Contains change.added pair ↔ (IsNew pair × (Contains old pair → ⊥))
+  pub stays : (pair : Pair) → Contains old pair → Contains change.removed pair ⊎ IsNew pair
+  pub comes : (pair : Pair) → IsNew pair → Contains old pair ⊎ Contains change.added pair

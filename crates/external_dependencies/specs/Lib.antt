@@ -7,6 +7,10 @@ pub mod Loop
 pub mod Nearest
 pub mod Pair
 pub mod Places
+pub mod Reach
+pub mod Reached
 pub mod Rising
 pub mod Search
+pub mod Settled
+pub mod Touch
 pub mod Walk

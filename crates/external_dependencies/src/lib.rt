@@ -9,6 +9,9 @@
 //! let pairs = resolve_all(alloc, &rows, &links)?;
 //! assert_eq!(rt; pairs.of_successor(fourth), [Pair { successor: fourth, predecessor: third }].as_slice());
 //! ```
+//!
+//! After a change that a [`Touch`] names, [`resolve_touched`] finds anew only the pairs that it may reach, and gives the
+//! [`PairChange`] that leads from the pairs before it to those after it.
 #![tactic(auto)]
 
 mod change;
@@ -21,8 +24,11 @@ mod links;
 mod live;
 mod loops;
 mod pairs;
+mod reach;
+mod repair;
 mod rising;
 mod rows;
+mod touch;
 
 pub use change::PairChange;
 pub use followers::{Follower, Followers};
@@ -33,5 +39,7 @@ pub use laws::{
 pub use links::{Link, Links};
 pub use live::{Arrival, Live, nearest};
 pub use loops::find_loop;
-pub use pairs::{Pair, Pairs, resolve_all};
+pub use pairs::{Pair, Pairs, resolve_all, resolve_some};
+pub use repair::resolve_touched;
 pub use rows::{PlacedRow, Rows};
+pub use touch::{Stretch, Touch};

@@ -1,12 +1,12 @@
 ghost use Rattle.std.specs.Prelude.{◌≡◌, [], ◌↔◌, Contains, IfOk, OnOk, IsTrue};
 ghost use Rattle.external_dependencies.specs.Rising.{IsRising};
-ghost use Rattle.external_dependencies.specs.Pair.{pair_cmp, AddsPairsOf, ArePairsOf};
+ghost use Rattle.external_dependencies.specs.Pair.{pair_cmp, AddsPairsOf, ArePairsOf, IsPairAmong};
 ghost use Rattle.external_dependencies.specs.declared.pairs.Pair.{Pair};
 
 use crate::links::{Link, Links};
 use crate::live::{Live, nearest};
 use crate::rising::into_rising;
-use crate::rows::Rows;
+use crate::rows::{PlacedRow, Rows};
 use occurrences::{Row, Serial};
 use std::alloc::{AllocError, Global};
 use std::marker::Model;
@@ -136,9 +136,23 @@ impl Pairs {
 pub fn resolve_all(alloc: Global, rows: &Rows, links: &Links) -> Result<Pairs, AllocError>
     ensures { IfOk result (ArePairsOf rows.now links.now) }
 {
+    resolve_some(alloc, rows, rows.as_slice(), links)
+}
+
+/// The pairs from scratch of some of the occurrences: each open one of these with its nearest predecessor among all
+/// rows in each application of its list, where there is one.
+pub fn resolve_some(
+    alloc: Global,
+    rows: &Rows,
+    asked: &[PlacedRow],
+    links: &Links,
+) -> Result<Pairs, AllocError>
+    ensures { IfOk result (λ pairs. (pair : Pair) →
+        Contains pairs pair ↔ IsPairAmong rows.now asked.now links.now pair) }
+{
     let live = Live::build(alloc, rows)?;
     let mut pairs = Vec::new(alloc);
-    for placed in rows.as_slice() {
+    for placed in asked {
         if placed.place.is_open() {
             let list = links.list(&placed.row.key.app);
             push_pairs(&live, &placed.row, list, &mut pairs)?;

@@ -1,0 +1,124 @@
+-- The pairs of an open occurrence that a change doesn't reach are those that it had.
+use Rattle.std.proofs.Common.{◌≡◌, ◌↔◌, ◌⊎◌, ℕ, List, Option, Some, None, refl, sym, ap, subst, ◌∙◌, inl, inr, arith}
+use Rattle.std.specs.List.{Contains}
+use Rattle.occurrences.specs.Place.{IsLive, IsOpen}
+use Rattle.occurrences.specs.declared.key.Key.{Key}
+use Rattle.external_dependencies.specs.declared.links.Link.{Link}
+use Rattle.external_dependencies.specs.declared.live.Arrival.{Arrival}
+use Rattle.external_dependencies.specs.declared.pairs.Pair.{Pair}
+use Rattle.external_dependencies.specs.declared.rows.PlacedRow.{PlacedRow}
+use Rattle.external_dependencies.specs.Link.{Lists}
+use Rattle.external_dependencies.specs.Nearest.{IsLiveIn, IsNearest}
+use Rattle.external_dependencies.specs.Pair.{IsPairOf}
+use Rattle.external_dependencies.specs.declared.touch.Stretch.{Stretch}
+use Rattle.external_dependencies.specs.declared.touch.Touch.{Touch}
+use Rattle.external_dependencies.specs.Settled.{AreSettled, IsKeptIn, IsSettledPair}
+use Rattle.external_dependencies.specs.Touch.{Covers, IsBorder, IsMarked, IsOpenIn, MayReach, Touches}
+use Rattle.external_dependencies.proofs.StayLemmas.{nearest_stays}
+
+-- a border is one in both directions
+border_back : (was now : List PlacedRow) (a : Arrival) (last : Option ℕ) → IsBorder was now a last
+    → IsBorder now was a last
+border_back was now a None is = tt
+border_back was now a (Some last) (n, before, after, of_app, at, later) = (n, after, before, of_app, at, later)
+
+pub marked_back : (stretches : List Stretch) (was now : List PlacedRow) (a : Arrival) → IsMarked stretches was now a
+    → IsMarked stretches now was a
+marked_back stretches was now a is = record {
+  stretch = is.stretch;
+  listed = is.listed;
+  of_app = is.of_app;
+  begun = is.begun;
+  border = border_back was now a is.stretch.last is.border;
+}
+
+turned : (stretches : List Stretch) (was now : List PlacedRow) {P : Type 0} (a : Arrival)
+    → P ⊎ IsMarked stretches was now a → P ⊎ IsMarked stretches now was a
+turned stretches was now a (inl here) = inl here
+turned stretches was now a (inr marked) = inr (marked_back stretches was now a marked)
+
+module _ (touch : Touch) (was now : List PlacedRow) (was_links links : List Link)
+    (turn : Touches touch was now was_links links) (old : List Pair) (settled : AreSettled was was_links old)
+    (q : PlacedRow) (stands : Contains now q) (is_open : IsOpen q.place)
+    (unreached : MayReach touch links q.row → ⊥) where
+  -- it was open before, under its serial and key
+  before : IsOpenIn was q.row
+  before = elim (turn.opened q stands is_open) [
+    | inl waited ↦ waited
+    | inr anew ↦ absurd (unreached (inl anew))
+  ]
+
+  same_lists : (app : List ℕ) → Lists was_links q.row.key.app app ↔ Lists links q.row.key.app app
+  same_lists = elim (turn.lists q.row.key.app) [
+    | inl same ↦ same
+    | inr changed ↦ absurd (unreached (inr (inl changed)))
+  ]
+
+  clear : (app : List ℕ) → Lists links q.row.key.app app → Covers touch.stretches.items app q.row.key.ia → ⊥
+  clear app listed covers =
+      unreached (inr (inr (record { app = q.row.key.app; predecessor = app }, listed, (refl, covers))))
+
+  -- its nearest predecessors are those before
+  pub nearest_on : (app : List ℕ) → Lists links q.row.key.app app → (near : Arrival)
+      → IsNearest (IsLiveIn was) q.row.key app near ↔ IsNearest (IsLiveIn now) q.row.key app near
+  nearest_on app listed near = (
+    nearest_stays touch.stretches.items was now q.row.key app (clear app listed) turn.went turn.came near,
+    nearest_stays touch.stretches.items now was q.row.key app (clear app listed)
+        (λ a here. turned touch.stretches.items was now a (turn.came a here))
+        (λ a here. turned touch.stretches.items was now a (turn.went a here)) near,
+  )
+
+  -- what stood before under its serial had its key
+  the_one : (p : PlacedRow) → Contains was p → p.row.serial ≡ q.row.serial → before.0 ≡ p
+  the_one p there same = turn.once_before before.0 p before.1 there (before.3 ∙ sym same)
+
+  key_before : (p : PlacedRow) → Contains was p → p.row.serial ≡ q.row.serial → p.row.key ≡ q.row.key
+  key_before p there same = ap (λ (r : PlacedRow). r.row.key) (sym (the_one p there same)) ∙ before.4
+
+  pub pairs_stay : (pair : Pair) → q.row.serial ≡ pair.successor
+      → Contains old pair ↔ IsSettledPair old now links pair
+  pairs_stay pair same = (forward, backward)
+    where
+      forward : Contains old pair → IsSettledPair old now links pair
+      forward there = elim ((settled pair).0 there) [
+        | inl is ↦
+            let keys : is.placed.row.key ≡ q.row.key = key_before is.placed is.stands (is.successor ∙ sym same) in
+            let listed : Lists links q.row.key.app is.app =
+            (same_lists is.app).0 (subst (λ (k : Key). Lists was_links k.app is.app) keys is.listed) in
+            inl (record {
+              placed = q;
+              stands = stands;
+              waits = is_open;
+              successor = same;
+              app = is.app;
+              listed = listed;
+              near = is.near;
+              nearest = (nearest_on is.app listed is.near).0
+                  (subst (λ (k : Key). IsNearest (IsLiveIn was) k is.app is.near) keys is.nearest);
+              predecessor = is.predecessor;
+            })
+        | inr kept ↦ absurd (kept.closed (subst (λ (p : PlacedRow). IsOpen p.place)
+            (the_one kept.placed kept.stands (kept.successor ∙ sym same)) before.2))
+      ]
+
+      backward : IsSettledPair old now links pair → Contains old pair
+      backward (inr kept) = kept.had
+      backward (inl is) =
+          let one : is.placed ≡ q = turn.once_after is.placed q is.stands stands (is.successor ∙ sym same) in
+          let listed : Lists links q.row.key.app is.app =
+          subst (λ (p : PlacedRow). Lists links p.row.key.app is.app) one is.listed in
+          let nearest : IsNearest (IsLiveIn now) q.row.key is.app is.near =
+          subst (λ (p : PlacedRow). IsNearest (IsLiveIn now) p.row.key is.app is.near) one is.nearest in
+          let keys : q.row.key ≡ before.0.row.key = sym before.4 in
+          (settled pair).1 (inl (record {
+            placed = before.0;
+            stands = before.1;
+            waits = before.2;
+            successor = before.3 ∙ same;
+            app = is.app;
+            listed = subst (λ (k : Key). Lists was_links k.app is.app) keys ((same_lists is.app).1 listed);
+            near = is.near;
+            nearest = subst (λ (k : Key). IsNearest (IsLiveIn was) k is.app is.near) keys
+                ((nearest_on is.app listed is.near).1 nearest);
+            predecessor = is.predecessor;
+          }))
