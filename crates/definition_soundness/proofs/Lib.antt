@@ -1,6 +1,7 @@
 pub mod CalendarRecords
 pub mod CycleRecords
 pub mod DateLemmas
+pub mod DefinedLemmas
 pub mod GivenLemmas
 pub mod NumberLemmas
 pub mod PeriodRecords
