@@ -17,17 +17,17 @@ use Rattle.plan_periods.specs.Period.{EndsFromOrigin, Entry, IsSoundPeriod}
 use Rattle.plan_periods.specs.declared.periods.Period.{Period}
 use Rattle.plan_periods.specs.declared.periods.Period.TheVariants.{All as AllDays, Work, Listed}
 use Rattle.run_cycles.specs.declared.cycles.RunCycle.{RunCycle}
-use Rattle.app_definitions.specs.ByName.{FitsKind, IsDefinedBy, records_of}
-use Rattle.app_definitions.specs.Calendars.{FitsCalendar, IsCalendarOf, IsListedBy}
-use Rattle.app_definitions.specs.CycleRecords.{AreRunCyclesOf, FitsRunCycle}
-use Rattle.app_definitions.specs.Fields.{field}
-use Rattle.app_definitions.specs.Periods.{BeginsPeriod, FitsPeriod, GivesEntry, GoesOnPeriod, HasInterval, IsPeriodOf}
-use Rattle.app_definitions.specs.Periods.{GiveEntries}
-use Rattle.app_definitions.specs.Records.{AllGood, Record, Records}
-use Rattle.app_definitions.specs.Rising.{AreRising}
-use Rattle.app_definitions.specs.declared.columns.TheConstants.{CALENDAR_FIELDS, CYCLE_FIELDS, NAME, PERIOD_FIELDS}
-use Rattle.app_definitions.specs.declared.columns.TheConstants.{PERIOD_LENGTH, PERIOD_ORIGIN, PERIOD_TYPE}
-use Rattle.app_definitions.proofs.ByNameLemmas.{same_name}
+use Rattle.definition_records.specs.ByName.{FitsKind, IsDefinedBy, records_of}
+use Rattle.definition_records.specs.Calendars.{FitsCalendar, IsCalendarOf, IsListedBy}
+use Rattle.definition_records.specs.CycleRecords.{AreRunCyclesOf, FitsRunCycle}
+use Rattle.definition_records.specs.Fields.{field}
+use Rattle.definition_records.specs.Periods.{BeginsPeriod, FitsPeriod, GivesEntry, GoesOnPeriod, HasInterval, IsPeriodOf}
+use Rattle.definition_records.specs.Periods.{GiveEntries}
+use Rattle.definition_records.specs.Records.{AllGood, Record, Records}
+use Rattle.definition_records.specs.Rising.{AreRising}
+use Rattle.definition_records.specs.declared.columns.TheConstants.{CALENDAR_FIELDS, CYCLE_FIELDS, NAME, PERIOD_FIELDS}
+use Rattle.definition_records.specs.declared.columns.TheConstants.{PERIOD_LENGTH, PERIOD_ORIGIN, PERIOD_TYPE}
+use Rattle.definition_records.proofs.ByNameLemmas.{same_name}
 use Rattle.definition_soundness.specs.Given.{IsGiven}
 
 -- where a record that passes a test stands in the whole list, with those before it that pass
