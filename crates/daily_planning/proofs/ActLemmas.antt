@@ -272,7 +272,7 @@ module _ (c : Content) (sound : IsSound c) (action : Action) (changed : CurrentR
     -- nothing is refused, and the action is done
     pub action_done : c.sets.bounds ≢ None → WaitsFor c action changed.row.serial None
         → VerdictIs (cp_action key action) c (Done change (Changed changed.row.serial changed.status))
-    action_done some waits = (action_does.0, (none_holds, action_does.1))
+    action_done some waits = (action_does.0, (none_holds, action_does.1), d.leads)
       where
         none_holds : (q : Refusal) → ActionRefused key action c q → ⊥
         none_holds NoPlan q = some q

@@ -27,6 +27,7 @@ use Rattle.plan_store.specs.Changes.{Fits, moved_set, sets_after}
 use Rattle.plan_store.specs.Views.{IsAny, ListsSet}
 use Rattle.plan_store.specs.declared.changes.Change.{Change}
 use Rattle.plan_store.specs.declared.changes.DefinitionChange.TheVariants.{AsBefore}
+use Rattle.plan_store.proofs.PairLemmas.{leads_nowhere}
 use Rattle.plan_store.proofs.ViewLemmas.{once_from_rows}
 use Rattle.daily_planning.specs.DailyPlans.{DoesDaily, is_finished}
 use Rattle.daily_planning.proofs.ChangeLemmas.{after_moves, current_alone, current_issued, current_numbered, fits_moves}
@@ -246,6 +247,7 @@ module _ (t : ℕ) (b : Bounds) (c : Content) (sound : IsSound c) (is : c.sets.b
             definitions = refl;
             jobs = refl;
           }),
+      leads_nowhere change.pairs c.pairs d.removed d.added,
     )
 
     pub daily_replied : (m k n l : ℕ) → m ≡ size (λ serial. moved t (c.sets.ltp serial)) c.sets.issued

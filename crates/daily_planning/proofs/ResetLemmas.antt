@@ -31,15 +31,24 @@ use Rattle.planner_machine.proofs.ActionLemmas.{action_is_move, action_live, sta
 use Rattle.planner_machine.specs.RowsSound.{RowsSound}
 use Rattle.planner_machine.proofs.SeatLemmas.{going, one_place, stands_after, stood_before}
 use Rattle.planner_machine.proofs.SoundLemmas.{rows_sound}
-use Rattle.plan_store.specs.Changes.{pairs_after}
+use Rattle.plan_store.specs.Changes.{LeadsOn, pairs_after}
 use Rattle.plan_pairs.specs.LiveRows.{HasPairsAfter}
 use Rattle.plan_pairs.specs.RowPairs.{IsRowPair}
-use Rattle.plan_store.proofs.PairLemmas.{pairs_after_rising}
+use Rattle.plan_store.proofs.PairLemmas.{leads_on, pairs_after_rising}
 use Rattle.plan_pairs.proofs.ChangeLemmas.{pairs_after_are, pairs_same}
 use Rattle.plan_pairs.proofs.ListLemmas.{filter_has, filter_keeps}
 use Rattle.plan_pairs.proofs.ScratchLemmas.{same_nearest}
 use Rattle.daily_planning.specs.Actions.{IsActedOn, LeadsToRowPairs}
 use Rattle.daily_planning.proofs.ActLemmas.{own_status, place_stays}
+
+-- only pairs of the row go that it had, and only such come that it had not
+pub reset_leads : (c : Content) (row : Row) (change : PairChange) → LeadsToRowPairs c row change
+    → LeadsOn c.pairs change
+reset_leads c row change is =
+    leads_on change c.pairs (λ p gone. ((is.had_are p).0 ((is.leads.removed p).0 gone).0).0)
+    (λ p new there.
+    let both = (is.leads.added p).0 new in
+    both.1 ((is.had_are p).1 (there, sym ((is.now_are p).0 both.0).successor)))
 
 -- only an error is reset, and waits then
 pub was_in_error : (was now : Status) → changed_status was Reset ≡ Some now → now ≡ W

@@ -14,7 +14,7 @@ use Rattle.planner_machine.specs.Act.{IsLeastUncompleted, IsUncompleted, action_
 use Rattle.planner_machine.specs.Content.{Content}
 use Rattle.planner_machine.specs.Moves.{each}
 use Rattle.planner_machine.specs.Pairs.{ArePairs}
-use Rattle.plan_store.specs.Changes.{MovesNothing, pairs_after}
+use Rattle.plan_store.specs.Changes.{LeadsOn, MovesNothing, pairs_after}
 use Rattle.plan_pairs.specs.RowPairs.{IsRowPair}
 use Rattle.plan_store.specs.declared.changes.Change.{Change}
 use Rattle.plan_store.specs.declared.changes.DefinitionChange.TheVariants.{AsBefore}
@@ -63,3 +63,4 @@ pub record ChangesStatus (c : Content) (action : Action) (changed : CurrentRow) 
   pub deletions : MovesNothing change.deletions
   pub job : change.job ≡ None
   pub pairs : ArePairsActed c action changed (pairs_after change.pairs c.pairs)
+  pub leads : LeadsOn c.pairs change.pairs

@@ -7,13 +7,15 @@ use Rattle.planner_machine.specs.DailyExtend.{ExtendsDaily}
 use Rattle.planner_machine.specs.DailyPlan.{is_uncompleted}
 use Rattle.planner_machine.specs.InForce.{PutsNone}
 use Rattle.planner_machine.specs.Plans.{ChangesPlans}
-use Rattle.plan_store.specs.Changes.{Fits, after}
+use Rattle.plan_store.specs.Changes.{Fits, LeadsOn, after}
 use Rattle.plan_store.specs.declared.changes.Change.{Change}
 
 -- a row of the current plan that a daily plan takes from it
 abbrev pub is_finished : CurrentRow → Bool
 is_finished current = not (is_uncompleted current.status)
 
--- the content admits the change, and the change makes a daily plan to t of it, with its reply
+-- the content admits the change, the change makes a daily plan to t of it, with its reply, and of the pairs it changes
+-- only those that are others then
 abbrev pub DoesDaily : ℕ → Content → Change → Reply → Type 0
-DoesDaily t c change reply = Fits change c × ChangesPlans (ExtendsDaily t) PutsNone c reply (after change c)
+DoesDaily t c change reply =
+    Fits change c × ChangesPlans (ExtendsDaily t) PutsNone c reply (after change c) × LeadsOn c.pairs change.pairs

@@ -4,7 +4,7 @@ ghost use Rattle.planner_machine.specs.Act.{cp_action as decided};
 ghost use Rattle.planner_machine.specs.Content.{Content};
 ghost use Rattle.planner_machine.specs.Pairs.{IsCompleteAt};
 ghost use Rattle.planner_machine.specs.Sound.{AreNumbered, IsSound};
-ghost use Rattle.plan_store.specs.Changes.{pairs_after};
+ghost use Rattle.plan_store.specs.Changes.{LeadsOn, pairs_after};
 ghost use Rattle.plan_store.specs.Verdicts.{VerdictIs};
 ghost use Rattle.plan_store.specs.Views.{IsCurrentRow, Shows, shown};
 ghost use Rattle.daily_planning.specs.Actions.{ArePairsActed, ChangesStatus, IsActedOn, LeadsToRowPairs, WaitsFor};
@@ -120,8 +120,9 @@ fn acted_pairs(
     action: Action,
     changed: &CurrentRow,
 ) -> Result<PairChange, AllocError>
-    ensures { IfOk result (λ change. IsSound (shown view.now) → IsActedOn (shown view.now) action changed.now
+    ensures pairs { IfOk result (λ change. IsSound (shown view.now) → IsActedOn (shown view.now) action changed.now
         → ArePairsActed (shown view.now) action changed.now (pairs_after change (shown view.now).pairs)) }
+    ensures leads { IfOk result (λ change. IsSound (shown view.now) → LeadsOn (shown view.now).pairs change) }
 {
     match action {
         Action::Start | Action::Complete | Action::Fail => Ok(PairChange {
@@ -152,9 +153,10 @@ fn settled_change(
     view: &View<'_>,
     changed: &CurrentRow,
 ) -> Result<PairChange, AllocError>
-    ensures { IfOk result (λ change. IsSound (shown view.now) → (action : ActionValue)
+    ensures pairs { IfOk result (λ change. IsSound (shown view.now) → (action : ActionValue)
         → IsActedOn (shown view.now) action changed.now
         → ArePairsActed (shown view.now) action changed.now (pairs_after change (shown view.now).pairs)) }
+    ensures leads { IfOk result (LeadsOn (shown view.now).pairs) }
 {
     let current = with_changed(alloc, view.cp(), *changed)?;
     let rows = live_rows(alloc, view.ltp(), current.as_slice(), view.history())?;

@@ -23,7 +23,7 @@ use Rattle.planner_machine.proofs.ModifyLemmas.{between, between_sound, any_test
 use Rattle.planner_machine.specs.RowsSound.{RowsSound}
 use Rattle.planner_machine.proofs.SoundLemmas.{rows_sound}
 use Rattle.keyed_lists.specs.Rows.{HasEachOnce, look_up, of_current, of_deletion, of_row}
-use Rattle.plan_store.specs.Changes.{Fits, MovesNothing, pairs_after, sets_after}
+use Rattle.plan_store.specs.Changes.{Fits, LeadsOn, MovesNothing, pairs_after, sets_after}
 use Rattle.plan_store.specs.Views.{IsAny, ListsSet}
 use Rattle.plan_store.specs.declared.changes.Change.{Change}
 use Rattle.plan_store.specs.declared.changes.DefinitionChange.TheVariants.{AsBefore}
@@ -60,6 +60,7 @@ pub record IsModifying (c : Content) (links : List Link) (only : Option (List �
   pub definitions : change.definitions ≡ AsBefore
   pub job : change.job ≡ None
   pub pairs : ArePairs c.pairs links (modified_sets only named new c.sets) (pairs_after change.pairs c.pairs)
+  pub leads : LeadsOn c.pairs change.pairs
 
 module _ (all : Definitions) (c : Sets) (sound : RowsSound c) (only : Option (List ℕ)) (named : List Draft) where
   abbrev pub middle : Sets
@@ -239,6 +240,7 @@ module _ (c : Content) (sound : IsSound c) (links : List Link) (rows : List Row)
     sets = sets_are;
     in_force = m.in_force;
     pairs = m.pairs;
+    leads = m.leads;
     definitions = m.definitions;
     job = m.job;
   }

@@ -132,6 +132,7 @@ module _ (from to : ℕ) (c : Content) where
                   reply made.0 (subst (λ r. Creates from to c.definitions c.sets r
                   (planned_sets (first_bounds from to) new c.sets)) (sym made.1) (creates new are)) puts,
             ),
+            made.0.leads,
           )
 
           pub verdict_is : (verdict : Verdict) → AddsDays c (first_bounds from to) (midnight from) links verdict

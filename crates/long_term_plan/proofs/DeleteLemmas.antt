@@ -224,5 +224,5 @@ verdict_is c sound key row some stands keyed (Done change reply) (is, replies) =
     let does = subst (λ r. ChangesPlans (Deletes row.key) PutsNone c r (after change c)) (sym replies)
     (deletion_does c sound row stands change is) in
     let P : Key → Type 0 = λ k. VerdictIs (ltp_delete k) c (Done change reply) in
-    subst P keyed (deletion_fits c sound row stands change is, (none_holds row.key c some row.serial planned, does))
+    subst P keyed (deletion_fits c sound row stands change is, (none_holds row.key c some row.serial planned, does), is.leads)
 verdict_is c sound key row some stands keyed (Refused refusal) is = absurd is

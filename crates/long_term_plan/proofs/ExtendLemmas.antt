@@ -144,6 +144,7 @@ module _ (to : ℕ) (c : Content) where
                   reply made.0 (subst (λ r. Extends to c.definitions c.sets r
                   (planned_sets (later_bounds b to) new c.sets)) (sym made.1) (extends new are)) puts,
             ),
+            made.0.leads,
           )
 
           pub verdict_is : (verdict : Verdict)

@@ -23,7 +23,8 @@ use Rattle.planner_machine.specs.Sound.{AreDefinitions, IsSound}
 use Rattle.planner_machine.specs.RowsSound.{RowsSound}
 use Rattle.planner_machine.proofs.SoundLemmas.{rows_sound}
 use Rattle.keyed_lists.specs.Rows.{HasEachOnce, look_up, of_current, of_deletion, of_row}
-use Rattle.plan_store.specs.Changes.{Fits, MovesNothing, after, jobs_after, pairs_after, redefined, sets_after}
+use Rattle.plan_store.specs.Changes.{Fits, LeadsOn, MovesNothing, after, jobs_after, pairs_after, redefined}
+use Rattle.plan_store.specs.Changes.{sets_after}
 use Rattle.plan_store.specs.Views.{IsAny, ListsSet}
 use Rattle.plan_store.specs.declared.changes.Change.{Change}
 use Rattle.plan_store.specs.declared.changes.DefinitionChange.TheVariants.{AsBefore}
@@ -52,6 +53,7 @@ pub record IsMaking (c : Content) (b : Bounds) (links : List Link) (new : List D
   pub definitions : change.definitions ≡ AsBefore
   pub job : change.job ≡ None
   pub pairs : ArePairs c.pairs links (planned_sets b new c.sets) (pairs_after change.pairs c.pairs)
+  pub leads : LeadsOn c.pairs change.pairs
 
 module _ (c : Sets) (sound : RowsSound c) (new : List Draft) where
   pub unissued : (serial : ℕ) → c.issued < serial → seat c serial ≡ empty_seat
@@ -186,6 +188,7 @@ module _ (c : Content) (sound : IsSound c) (b : Bounds) (links : List Link) (new
     sets = sets_are;
     in_force = is.in_force;
     pairs = is.pairs;
+    leads = is.leads;
     definitions = is.definitions;
     job = is.job;
   }

@@ -120,6 +120,7 @@ module _ (c : Content) where
               changes_plans ModifiesAll PutsAll c target links change reply made.0
                   (subst (λ r. ModifiesAll c.definitions c.sets r target) (sym made.1) does) puts,
             ),
+            made.0.leads,
           )
 
       pub verdict_is : IsSound c → IsLeastOnLoop links None → (verdict : Verdict) → ModifiesPlan c None links verdict

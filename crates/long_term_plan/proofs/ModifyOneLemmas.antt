@@ -131,6 +131,7 @@ module _ (app : List ℕ) (c : Content) where
             changes_plans (ModifiesOne app) (PutsOne app) c target links change reply made.0
                 (subst (λ r. ModifiesOne app c.definitions c.sets r target) (sym made.1) does) puts,
           ),
+          made.0.leads,
         )
 
       pub verdict_is : IsSound c → IsLeastOnLoop links None → IsPlannedApp c.definitions app → (verdict : Verdict)

@@ -8,7 +8,7 @@ use Rattle.planner_machine.specs.Delete.{deleted_by_hand, delete_move}
 use Rattle.planner_machine.specs.Moves.{each}
 use Rattle.planner_machine.specs.Pairs.{ArePairs}
 use Rattle.plan_pairs.specs.LiveRows.{HasPairsAfter}
-use Rattle.plan_store.specs.Changes.{MovesNothing, pairs_after}
+use Rattle.plan_store.specs.Changes.{LeadsOn, MovesNothing, pairs_after}
 use Rattle.plan_store.specs.declared.changes.Change.{Change}
 use Rattle.plan_store.specs.declared.changes.Verdict.{Verdict}
 use Rattle.plan_store.specs.declared.changes.Verdict.TheVariants.{Done, Refused}
@@ -34,6 +34,7 @@ pub record IsDeletionOf (c : Content) (row : Row) (change : Change) : Type 0 whe
   pub in_force : change.in_force ≡ None
   pub job : change.job ≡ None
   pub pairs : ArePairs c.pairs c.in_force (each (delete_move row.key) c.sets) (pairs_after change.pairs c.pairs)
+  pub leads : LeadsOn c.pairs change.pairs
 
 -- the statement is done so, and answers the serial
 abbrev pub DeletesRow : Content → Row → Verdict → Type 0

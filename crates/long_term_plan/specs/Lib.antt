@@ -1,3 +1,4 @@
+-- Inner words: clauses inside the crate cite them, and no public one does.
 pub mod Deletes
 pub mod Drafting
 pub mod Lists

@@ -16,7 +16,7 @@ use Rattle.planner_machine.specs.Moves.{numbered_row, with_bounds, with_made}
 use Rattle.planner_machine.specs.Pairs.{ArePairs}
 use Rattle.planner_machine.specs.Plans.{HoldTooMany}
 use Rattle.planner_machine.specs.RowsSound.{RowsSound}
-use Rattle.plan_store.specs.Changes.{Fits, pairs_after, sets_after}
+use Rattle.plan_store.specs.Changes.{Fits, LeadsOn, pairs_after, sets_after}
 use Rattle.plan_store.specs.declared.changes.Change.{Change}
 use Rattle.plan_store.specs.declared.changes.DefinitionChange.TheVariants.{AsBefore}
 use Rattle.plan_store.specs.declared.changes.Verdict.{Verdict}
@@ -54,6 +54,7 @@ pub record MakesSets (c : Content) (s : Sets) (links : List Link) (change : Chan
   pub sets : sets_after change c.sets ≡ s
   pub in_force : change.in_force ≡ Some links
   pub pairs : ArePairs c.pairs links s (pairs_after change.pairs c.pairs)
+  pub leads : LeadsOn c.pairs change.pairs
   pub definitions : change.definitions ≡ AsBefore
   pub job : change.job ≡ None
 

@@ -12,6 +12,7 @@ use Rattle.occurrences.specs.declared.reply.Reply.TheVariants.{Made}
 use Rattle.occurrences.specs.declared.row.Row.{Row}
 use Rattle.occurrences.specs.declared.serial.TheConstants.{GREATEST_SERIAL}
 use Rattle.external_dependencies.specs.declared.links.Link.{Link}
+use Rattle.external_dependencies.specs.declared.rows.PlacedRow.{PlacedRow}
 use Rattle.planner_machine.specs.declared.content.Draft.{Draft}
 use Rattle.planner_machine.specs.declared.limits.TheConstants.{MOST_PLANNED_ROWS}
 use Rattle.planner_machine.specs.Content.{Content, Sets}
@@ -22,11 +23,11 @@ use Rattle.planner_machine.specs.ModifyOne.{IsThatApp, is_that_app}
 use Rattle.planner_machine.specs.Moves.{each, size, with_made}
 use Rattle.planner_machine.specs.Plans.{HoldTooMany}
 use Rattle.keyed_lists.specs.Rows.{HasEachOnce, of_current, of_row}
-use Rattle.plan_pairs.specs.LiveRows.{HasLists}
+use Rattle.plan_pairs.specs.LiveRows.{AreLiveRows, HasLists}
 use Rattle.plan_store.specs.Views.{IsAny, ListsSet}
 use Rattle.plan_store.specs.declared.changes.Verdict.{Verdict}
 use Rattle.plan_store.specs.declared.changes.Verdict.TheVariants.{Done, Refused}
-use Rattle.long_term_plan.specs.Making.{MakesSets}
+use Rattle.long_term_plan.specs.Making.{MakesSets, numbered}
 
 -- the applications that a statement looks at: all, or one
 abbrev pub looks : Option (List ℕ) → List ℕ → Bool
@@ -84,6 +85,15 @@ AreTooMany s kept new = (MOST_PLANNED_ROWS < kept + size s.cp s.issued + new) �
 -- the sets where the rows are modified by the drafts that are named, and the new ones are made
 abbrev pub modified_sets : Option (List ℕ) → List Draft → List Draft → Sets → Sets
 modified_sets only named new s = with_made LongTerm new (each (modify_move (looks_at (looks only)) named) s)
+
+-- the parts of a modification: rows that go and rows that change of the long-term plan, the new drafts as the rows that
+-- come, and the occurrences that are live then
+pub record AreModifying (s : Sets) (only : Option (List ℕ)) (named new : List Draft) (gone changed put : List Row)
+    (live : List PlacedRow) : Type 0 where
+  pub planned : List Row
+  pub parts : PartsPlan s only named planned gone changed
+  pub come : put ≡ numbered s.issued new
+  pub live_then : AreLiveRows (modified_sets only named new s) live
 
 -- the answer counts those that are made, and those that are withdrawn
 abbrev pub modified_reply : Option (List ℕ) → List Draft → List Draft → Sets → Reply

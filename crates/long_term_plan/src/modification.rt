@@ -2,7 +2,6 @@ ghost use Rattle.std.specs.Prelude.{◌≡◌, ◌↔◌, ◌+◌, ◌++◌, ◌
 ghost use Rattle.std.specs.Prelude.{Option, Some, false};
 ghost use Rattle.std.specs.List.{filter_map};
 ghost use Rattle.work_calendars.specs.Day.{last_planning_day};
-ghost use Rattle.occurrences.specs.declared.row.Row.{Row as RowValue};
 ghost use Rattle.occurrences.specs.declared.serial.TheConstants.{GREATEST_SERIAL};
 ghost use Rattle.planner_machine.specs.declared.content.Draft.{Draft as DraftValue};
 ghost use Rattle.planner_machine.specs.Content.{Content, Sets};
@@ -15,9 +14,8 @@ ghost use Rattle.plan_store.specs.Verdicts.{VerdictIs};
 ghost use Rattle.plan_store.specs.Views.{Shows, shown};
 ghost use Rattle.plan_pairs.specs.LiveRows.{AreLiveRows};
 ghost use Rattle.long_term_plan.specs.Drafting.{AreInOrder};
-ghost use Rattle.long_term_plan.specs.Making.{numbered};
-ghost use Rattle.long_term_plan.specs.Modifying.{AreAsked, AreTooMany, HavePlanned, ModifiesPlan, ModifiesRows};
-ghost use Rattle.long_term_plan.specs.Modifying.{PartsPlan, modified_sets, outcome};
+ghost use Rattle.long_term_plan.specs.Modifying.{AreAsked, AreModifying, AreTooMany, HavePlanned, ModifiesPlan};
+ghost use Rattle.long_term_plan.specs.Modifying.{ModifiesRows, outcome};
 
 use crate::drafts::{named_drafts, new_drafts};
 use crate::lists::{defined_lists, lists_of_one};
@@ -187,10 +185,8 @@ fn change_rows(
 ) -> Result<Verdict, AllocError>
     requires { (shown view.now).sets.issued + length put.items ≤ GREATEST_SERIAL }
     ensures { IfOk result (λ verdict. IsSound (shown view.now)
-        → (only : Option (List ℕ)) (named new : List DraftValue) (planned : List RowValue)
-        → PartsPlan (shown view.now).sets only named planned gone.items changed.items
-        → put.items ≡ numbered (shown view.now).sets.issued new
-        → AreLiveRows (modified_sets only named new (shown view.now).sets) live.now
+        → (only : Option (List ℕ)) (named new : List DraftValue)
+        → AreModifying (shown view.now).sets only named new gone.items changed.items put.items live.now
         → ModifiesRows (shown view.now) links only named new verdict) }
 {
     let made = put.len();

@@ -396,6 +396,7 @@ done_is c sound plan key none (Done change reply) (is, replies) =
     let does = addition_does c sound key b bounded free change plan is inside in (
       addition_fits c sound key b bounded free change plan is inside,
       (none, subst (λ r. ChangesPlans (Adds (place_in plan) key) PutsNone c r (after change c)) (sym replies) does),
+      is.leads,
     )
 done_is c sound plan key none (Refused refusal) is = absurd is
 

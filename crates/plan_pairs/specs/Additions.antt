@@ -19,7 +19,7 @@ use Rattle.planner_machine.specs.Moves.{numbered_row, with_made}
 use Rattle.planner_machine.specs.Pairs.{ArePairs}
 use Rattle.planner_machine.specs.Plans.{planned}
 use Rattle.planner_machine.specs.declared.limits.TheConstants.{MOST_PLANNED_ROWS}
-use Rattle.plan_store.specs.Changes.{MovesNothing, pairs_after}
+use Rattle.plan_store.specs.Changes.{LeadsOn, MovesNothing, pairs_after}
 use Rattle.plan_store.specs.declared.changes.Change.{Change}
 use Rattle.plan_store.specs.declared.changes.DefinitionChange.TheVariants.{AsBefore}
 use Rattle.plan_store.specs.declared.changes.Verdict.{Verdict}
@@ -76,6 +76,7 @@ pub record IsAdditionOf (c : Content) (plan : Plan) (row : Row) (change : Change
   pub deletions : MovesNothing change.deletions
   pub job : change.job ≡ None
   pub pairs : ArePairsWith c plan row (pairs_after change.pairs c.pairs)
+  pub leads : LeadsOn c.pairs change.pairs
 
 -- the statement is done so, and answers the serial
 abbrev pub AddsRow : Content → Plan → Row → Verdict → Type 0

@@ -2,7 +2,7 @@ ghost use Rattle.std.specs.Prelude.{◌≡◌, ◌↔◌, IfOk, IsTrue};
 ghost use Rattle.planner_machine.specs.Add.{IsOutside, add as decided};
 ghost use Rattle.planner_machine.specs.Content.{Content};
 ghost use Rattle.planner_machine.specs.Sound.{AreNumbered, IsSound};
-ghost use Rattle.plan_store.specs.Changes.{pairs_after};
+ghost use Rattle.plan_store.specs.Changes.{LeadsOn, pairs_after};
 ghost use Rattle.plan_store.specs.Verdicts.{VerdictIs};
 ghost use Rattle.plan_store.specs.Views.{Shows, shown};
 ghost use Rattle.plan_pairs.specs.Additions.{AddsRow, ArePairsWith, IsAddable, IsNewRow, IsNewSerial, IsPutIn};
@@ -142,8 +142,9 @@ fn pairs_with(
     plan: Plan,
     row: &Row,
 ) -> Result<PairChange, AllocError>
-    ensures { IfOk result (λ change. IsSound (shown view.now) → IsAddable (shown view.now) plan row.now
+    ensures pairs { IfOk result (λ change. IsSound (shown view.now) → IsAddable (shown view.now) plan row.now
         → ArePairsWith (shown view.now) plan row.now (pairs_after change (shown view.now).pairs)) }
+    ensures leads { IfOk result (LeadsOn (shown view.now).pairs) }
 {
     let mut placed = live_rows_in(alloc, 1, view.ltp(), &[], view.cp(), view.history())?.into_vec();
     let place = plan.place();

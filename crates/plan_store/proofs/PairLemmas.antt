@@ -1,5 +1,5 @@
 -- Pairs after a change.
-use Rattle.std.proofs.Common.{◌≡◌, ◌↔◌, zero, suc, ◌⊎◌, Bool, true, not, List, [], ◌∷◌, get_or, refl, sym, ap, ap₂}
+use Rattle.std.proofs.Common.{◌≡◌, ◌↔◌, zero, suc, ◌⊎◌, Bool, true, false, not, List, [], ◌∷◌, get_or, refl, sym, ap, ap₂}
 use Rattle.std.proofs.Common.{subst, ◌∙◌, inl, inr, arith, Ordering}
 use Rattle.std.specs.Prelude.{filter}
 use Rattle.std.specs.declared.cmp.Ordering.TheVariants.{Less, Equal, Greater}
@@ -19,7 +19,7 @@ use Rattle.keyed_lists.proofs.KeyLemmas.{contains_cases, contains_first, contain
 use Rattle.keyed_lists.proofs.KeyLemmas.{filter_contains, holds_lacks, holds_none, nothing}
 use Rattle.keyed_lists.specs.Keyed.{holds_key}
 use Rattle.external_dependencies.proofs.PairLemmas.{pair_ties}
-use Rattle.plan_store.specs.Changes.{is_among, pairs_after, placed_before, with_pair, with_pairs}
+use Rattle.plan_store.specs.Changes.{LeadsOn, is_among, pairs_after, placed_before, with_pair, with_pairs}
 
 pub pair_total : IsTotalOrder pair_cmp
 pair_total = then_total (on_total (λ (p : Pair). p.successor) nat_cmp_total)
@@ -176,6 +176,40 @@ pairs_after_contains change pairs z =
             (λ y there same. old.1 (subst (Contains change.removed) same there)))))
       ]),
     )
+
+-- a change that removes pairs that stood, and adds such as did not stand
+pub leads_on : (change : PairChange) (pairs : List Pair) → ((p : Pair) → Contains change.removed p → Contains pairs p)
+    → ((p : Pair) → Contains change.added p → Contains pairs p → ⊥) → LeadsOn pairs change
+leads_on change pairs stood lacked = record {
+  removed = λ p. (
+    (λ gone. (
+      stood p gone,
+      λ there. elim ((pairs_after_contains change pairs p).0 there) [
+        | inl new ↦ lacked p new (stood p gone)
+        | inr old ↦ old.1 gone
+      ],
+    )),
+    λ is. elim (is_among change.removed p) as (λ b. is_among change.removed p ≡ b → Contains change.removed p) [
+      | true ↦ λ held. held_pair change.removed p held
+      | false ↦ λ held. absurd (is.1 ((pairs_after_contains change pairs p).1
+          (inr (is.0, λ gone. holds_lacks pair_total pair_ties itself change.removed p held p gone refl))))
+    ] refl,
+  );
+  added = λ p. (
+    (λ new. ((pairs_after_contains change pairs p).1 (inl new), lacked p new)),
+    λ is. elim ((pairs_after_contains change pairs p).0 is.0) [
+      | inl new ↦ new
+      | inr old ↦ absurd (is.1 old.0)
+    ],
+  );
+}
+
+-- no pair goes or comes
+pub leads_nowhere : (change : PairChange) (pairs : List Pair) → change.removed ≡ [] → change.added ≡ []
+    → LeadsOn pairs change
+leads_nowhere change pairs none_gone none_new =
+    leads_on change pairs (λ p gone. absurd (nothing p (subst (λ (l : List Pair). Contains l p) none_gone gone)))
+    (λ p new there. nothing p (subst (λ (l : List Pair). Contains l p) none_new new))
 
 -- pairs in rising order are told by what they contain
 not_both : (x y : Pair) → pair_cmp x y ≡ Less → pair_cmp y x ≡ Less → ⊥

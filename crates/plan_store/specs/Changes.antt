@@ -8,6 +8,7 @@ use Rattle.std.specs.declared.cmp.Ordering.TheVariants.{Less, Equal, Greater}
 use Rattle.app_definitions.specs.Definitions.{merged, without}
 use Rattle.app_definitions.specs.declared.definitions.Definitions.{Definitions}
 use Rattle.occurrences.specs.declared.row.Row.{Row}
+use Rattle.external_dependencies.specs.Change.{Leads}
 use Rattle.external_dependencies.specs.Nearest.{arrival_of}
 use Rattle.external_dependencies.specs.Pair.{pair_cmp}
 use Rattle.external_dependencies.specs.declared.pairs.Pair.{Pair}
@@ -64,6 +65,11 @@ is_among pairs pair = list_any (λ p. is_eq (pair_cmp p pair)) pairs
 -- without those that are removed, and with those that are added
 abbrev pub pairs_after : PairChange → List Pair → List Pair
 pairs_after change pairs = with_pairs change.added (filter (λ pair. not (is_among change.removed pair)) pairs)
+
+-- the change is what leads from the pairs to those after it: it removes only pairs that stood and are there no more, and
+-- adds only such as did not stand and now are there
+abbrev pub LeadsOn : List Pair → PairChange → Type 0
+LeadsOn pairs change = Leads pairs (pairs_after change pairs) change
 
 -- the kept jobs, by number
 abbrev pub jobs_after : Option Job → (ℕ → Option Job) → ℕ → Option Job

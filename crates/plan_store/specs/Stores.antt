@@ -1,5 +1,7 @@
 -- What a reading call of a store does.
 use Rattle.std.specs.Prelude.{◌≡◌, ◌⊎◌, ℕ, ◌<◌, ◌≤◌, IfOk, IfErr, Result}
+use Rattle.std.specs.Borrow.{Fml, MutBor, RattleType}
+use Rattle.std.specs.Io.BufRead.{Rests}
 use Rattle.planner_machine.specs.Content.{Content}
 use Rattle.plan_store.specs.Faults.{MoreFailures}
 use Rattle.plan_store.specs.declared.stores.StoreFault.{StoreFault}
@@ -19,3 +21,10 @@ pub record Reads {S T : Type 0} (is_honest : S → Type 0) (content : S → Cont
         ⊎ (0 < failures before))
     pub counts : failures before ≤ failures now
     pub honest : is_honest now → is_honest before
+
+-- a reading call that lends what it answers: so stands the store behind `lender` once the loan is given back
+abbrev pub LendsRead : {T : Type 0} (R : RattleType) (is_honest : R.Denot → Type 0) (content : R.Denot → Content)
+    (failures : R.Denot → ℕ) (may_leave : R.Denot → Content → Type 0) (before : R.Denot) (lender : MutBor R.Denot)
+    → Result T StoreFault → (T → Type 0) → Fml
+LendsRead R is_honest content failures may_leave before lender result IsRight =
+    Rests R lender (λ now. Reads is_honest content failures may_leave before now result IsRight)

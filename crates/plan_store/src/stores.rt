@@ -1,12 +1,11 @@
-ghost use Rattle.std.specs.Prelude.{◌≡◌, ◌⊎◌, ℕ, ◌<◌, ◌≤◌, OnOk, OnErr, IfOk, IfErr, ⊤, option_copied};
-ghost use Rattle.std.specs.Borrow.{sem, follows_so};
-ghost use mathlib.Core.Option.{none};
+ghost use Rattle.std.specs.Prelude.{◌≡◌, ◌⊎◌, ℕ, ◌<◌, ◌≤◌, OnOk, OnErr, IfOk, IfErr, option_copied};
+ghost use Rattle.std.specs.Borrow.{sem};
 ghost use Rattle.planner_machine.specs.Content.{Content as ContentValue};
 ghost use Rattle.plan_store.specs.Changes.{Fits, after};
 ghost use Rattle.planner_machine.specs.Sound.{AreNumbered};
 ghost use Rattle.plan_store.specs.Faults.{MoreFailures};
 ghost use Rattle.plan_store.specs.Listings.{HandsAll, HandsPart, IsListing};
-ghost use Rattle.plan_store.specs.Stores.{Reads};
+ghost use Rattle.plan_store.specs.Stores.{LendsRead, Reads};
 ghost use Rattle.plan_store.specs.Views.{Shows};
 
 use crate::changes::Change;
@@ -73,15 +72,13 @@ pub trait PlanStore {
 
     /// Lends a window that shows what the need names.
     fn read_window<'a>(&'a mut self, need: Need) -> Result<View<'a>, StoreFault>
-        ensures* { sem 𝓛 (follows_so Self.row Self.row self.entry.ghost_name none (λ _ _. ⊤)
-            (λ now. Reads is_honest content failures may_leave self.old now result
-            (λ view. Shows need view (content self.old)))) };
+        ensures* { sem 𝓛 (LendsRead Self.row is_honest content failures may_leave self.old self.entry result
+            (λ view. Shows need view (content self.old))) };
 
     /// Lends the job that is kept under the number, if there is one.
     fn job<'a>(&'a mut self, number: u64) -> Result<Option<&'a Job>, StoreFault>
-        ensures* { sem 𝓛 (follows_so Self.row Self.row self.entry.ghost_name none (λ _ _. ⊤)
-            (λ now. Reads is_honest content failures may_leave self.old now result (λ job. option_copied job
-            ≡ (content self.old).jobs number))) };
+        ensures* { sem 𝓛 (LendsRead Self.row is_honest content failures may_leave self.old self.entry result
+            (λ job. option_copied job ≡ (content self.old).jobs number)) };
 
     /// Hands the sink what a listing shows, in its order, of one application or of all, and answers how many items it
     /// took. A fault leaves the sink with those before it.

@@ -14,8 +14,9 @@ use Rattle.planner_machine.specs.Statement.{Act, Add, AddCurrent, Change as Mach
 use Rattle.planner_machine.specs.Statement.{Delete, Extend, ModifyAll, ModifyOne, Replan, Undefine, decision_of}
 use Rattle.planner_machine.specs.declared.job.Job.{Job}
 use Rattle.keyed_lists.specs.Rows.{HasEachOnce, of_current, of_deletion, of_row}
-use Rattle.plan_store.specs.Changes.{ChangesNothing, Fits, FitsSet, MovesNothing, after, jobs_after, moved_set}
-use Rattle.plan_store.specs.Changes.{pairs_after, redefined}
+use Rattle.plan_store.specs.Changes.{ChangesNothing, Fits, FitsSet, LeadsOn, MovesNothing, after, jobs_after}
+use Rattle.plan_store.specs.Changes.{moved_set, pairs_after, redefined}
+use Rattle.plan_store.proofs.PairLemmas.{leads_nowhere}
 use Rattle.plan_store.specs.declared.changes.Change.{Change}
 use Rattle.plan_store.specs.declared.changes.DefinitionChange.{DefinitionChange}
 use Rattle.plan_store.specs.declared.changes.DefinitionChange.TheVariants.{AsBefore}
@@ -81,6 +82,10 @@ redefines none d nothing_changes = record {
   added = nothing_changes.added;
   job = nothing_changes.job;
 }
+
+pub leads_redefined : (change : Change) (d : DefinitionChange) → Redefines change d → (c : Content)
+    → LeadsOn c.pairs change.pairs
+leads_redefined change d r c = leads_nowhere change.pairs c.pairs r.removed r.added
 
 pub redefined_so : (change : Change) (d : DefinitionChange) → Redefines change d → (c : Content)
     → after change c ≡ record c { definitions = redefined d c.definitions }

@@ -9,10 +9,11 @@ use Rattle.planner_machine.specs.Sound.{IsSound}
 use Rattle.planner_machine.proofs.SoundLemmas.{rows_sound}
 use Rattle.plan_store.specs.Changes.{pairs_after}
 use Rattle.plan_store.specs.Views.{shown}
+use Rattle.plan_store.proofs.PairLemmas.{leads_nowhere}
 use Rattle.daily_planning.specs.Actions.{ArePairsActed, IsActedOn, LeadsToRowPairs}
 use Rattle.daily_planning.specs.Statuses.{LeavesPairs}
 use Rattle.daily_planning.proofs.ChangeLemmas.{no_pairs_move}
-use Rattle.daily_planning.proofs.ResetLemmas.{reset_are}
+use Rattle.daily_planning.proofs.ResetLemmas.{reset_are, reset_leads}
 use Rattle.daily_planning.proofs.StatusLemmas.{action_pairs}
 use Rattle.daily_planning.proofs.actions.acted_pairs.Goals as goal
 
@@ -20,8 +21,8 @@ weaker : {A E : Type 0} (r : Result A E) (P Q : A → Type 0) → ((a : A) → P
 weaker (Ok a) P Q f is = f a is
 weaker (Err e) P Q f is = tt
 
-pub returns-in-Start : goal.returns-in-Start
-returns-in-Start c sound acted =
+pub returns-in-Start-clause-pairs : goal.returns-in-Start-clause-pairs
+returns-in-Start-clause-pairs c sound acted =
     let content = shown c.args.view.now in
     let action = c.args.action in
     let key = c.args.changed.now.row.key in
@@ -38,8 +39,13 @@ returns-in-Start c sound acted =
     subst (ArePairs content.pairs content.in_force (each (action_move key action) content.sets))
     (sym (no_pairs_move change c.new.ensures c.new-in-Start.ensures content.pairs)) stay
 
-pub returns-in-Reset : goal.returns-in-Reset
-returns-in-Reset c = weaker c.reset_pairs.result
+pub returns-in-Start-clause-leads : goal.returns-in-Start-clause-leads
+returns-in-Start-clause-leads c sound =
+    let change : PairChange = record { removed = c.new.result; added = c.new-in-Start.result } in
+    leads_nowhere change (shown c.args.view.now).pairs c.new.ensures c.new-in-Start.ensures
+
+pub returns-in-Reset-clause-pairs : goal.returns-in-Reset-clause-pairs
+returns-in-Reset-clause-pairs c = weaker c.reset_pairs.result
     (λ (change : PairChange). IsSound (shown c.args.view.now)
     → LeadsToRowPairs (shown c.args.view.now) c.args.changed.now.row change) _ (λ change leads sound acted.
     let content = shown c.args.view.now in
@@ -47,3 +53,9 @@ returns-in-Reset c = weaker c.reset_pairs.result
     let reset = subst (λ (a : Action). IsActedOn content a changed) c.in-Reset.is acted in
     subst (λ (a : Action). ArePairsActed content a changed (pairs_after change content.pairs)) (sym c.in-Reset.is)
     (reset_are content sound changed reset change (leads sound))) c.reset_pairs.ensures
+
+pub returns-in-Reset-clause-leads : goal.returns-in-Reset-clause-leads
+returns-in-Reset-clause-leads c = weaker c.reset_pairs.result
+    (λ (change : PairChange). IsSound (shown c.args.view.now)
+    → LeadsToRowPairs (shown c.args.view.now) c.args.changed.now.row change) _ (λ change leads sound.
+    reset_leads (shown c.args.view.now) c.args.changed.now.row change (leads sound)) c.reset_pairs.ensures

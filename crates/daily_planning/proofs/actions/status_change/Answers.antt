@@ -15,5 +15,6 @@ returns c sound acted =
       history = nothing.history;
       deletions = nothing.deletions;
       job = nothing.job;
-      pairs = c.in_ok-pairs.ensures sound acted;
+      pairs = c.in_ok-pairs.ensures.pairs sound acted;
+      leads = c.in_ok-pairs.ensures.leads sound;
     }

@@ -5,7 +5,7 @@ use Rattle.external_dependencies.specs.declared.change.PairChange.{PairChange}
 use Rattle.planner_machine.specs.Delete.{delete_move}
 use Rattle.planner_machine.specs.Moves.{each}
 use Rattle.plan_store.proofs.PairLemmas.{pairs_after_rising}
-use Rattle.plan_pairs.proofs.ChangeLemmas.{pairs_after_are, pairs_same}
+use Rattle.plan_pairs.proofs.ChangeLemmas.{leads_after, pairs_after_are, pairs_same}
 use Rattle.plan_store.specs.Changes.{pairs_after}
 use Rattle.plan_store.specs.Views.{shown}
 use Rattle.long_term_plan.proofs.deletion.delete_row.Goals as goal
@@ -44,6 +44,7 @@ returns c sound stands =
         pairs = pairs_same content.pairs content.in_force s now (pairs_after change content.pairs)
             (c.in_ok-now.ensures sound stands) (pairs_after_rising change content.pairs rising)
             (pairs_after_are change content.pairs now leads);
+        leads = leads_after change content.pairs now leads;
       },
       refl,
     )

@@ -6,7 +6,7 @@ use Rattle.occurrences.specs.declared.reply.Reply.TheVariants.{Made}
 use Rattle.occurrences.specs.declared.row.Row.{Row}
 use Rattle.planner_machine.specs.Pairs.{ArePairs}
 use Rattle.planner_machine.proofs.SoundLemmas.{rows_sound}
-use Rattle.plan_store.specs.Changes.{pairs_after}
+use Rattle.plan_store.specs.Changes.{LeadsOn, pairs_after}
 use Rattle.plan_store.specs.Views.{shown}
 use Rattle.plan_pairs.specs.LiveRows.{HasLists}
 use Rattle.long_term_plan.specs.Making.{numbered, planned_sets}
@@ -31,7 +31,7 @@ returns c sound keeps =
     let live = c.in_ok-live.ensures s
     (subst (λ (list : List Row). HasLists s list c.cp.result.now c.history.result.now) (sym planned) lists) in
     let made : c.len-made.result ≡ length new = c.len-made.ensures ∙ c.args.new.ok.0 in
-    let pairs = c.in_ok-pairs.ensures s live
+    let pairs = c.in_ok-pairs.ensures.pairs s live
     (subst (λ (ps : List Pair). IsRising pair_cmp ps) (sym c.pairs.ensures) sound.pairs.settled.rising) in (
       making_is content sound b links new _ (record {
         gone = c.new.ensures.items;
@@ -56,6 +56,7 @@ returns c sound keeps =
         job = refl;
         pairs = subst (λ before. ArePairs before links s (pairs_after c.in_ok-pairs.pairs before)) c.pairs.ensures
             pairs;
+        leads = subst (λ (ps : List Pair). LeadsOn ps c.in_ok-pairs.pairs) c.pairs.ensures c.in_ok-pairs.ensures.leads;
       }),
       ap (λ n. Made n 0) made,
     )

@@ -6,7 +6,7 @@ use Rattle.occurrences.specs.declared.reply.Reply.TheVariants.{Made}
 use Rattle.planner_machine.specs.Modify.{withdrawn}
 use Rattle.planner_machine.specs.Pairs.{ArePairs}
 use Rattle.planner_machine.proofs.SoundLemmas.{rows_sound}
-use Rattle.plan_store.specs.Changes.{pairs_after}
+use Rattle.plan_store.specs.Changes.{LeadsOn, pairs_after}
 use Rattle.plan_store.specs.Views.{shown}
 use Rattle.long_term_plan.specs.Modifying.{modified_sets}
 use Rattle.long_term_plan.proofs.ChangedLemmas.{modifying_is}
@@ -15,7 +15,11 @@ use Rattle.long_term_plan.proofs.NumberLemmas.{numbered_length}
 use Rattle.long_term_plan.proofs.modification.change_rows.Goals as goal
 
 pub returns : goal.returns
-returns c sound only named new planned parts put live =
+returns c sound only named new modifying =
+    let planned = modifying.planned in
+    let parts = modifying.parts in
+    let put = modifying.come in
+    let live = modifying.live_then in
     let content = shown c.args.view.now in
     let links = c.args.links in
     let gone = c.args.gone.items in
@@ -24,7 +28,7 @@ returns c sound only named new planned parts put live =
     let rows = rows_sound content sound in
     let made : c.len-made.result ≡ length new =
     c.len-made.ensures ∙ c.args.put.ok.0 ∙ ap length put ∙ numbered_length content.sets.issued new in
-    let pairs = c.in_ok-pairs.ensures s live
+    let pairs = c.in_ok-pairs.ensures.pairs s live
     (subst (λ (ps : List Pair). IsRising pair_cmp ps) (sym c.pairs.ensures) sound.pairs.settled.rising) in (
       modifying_is content sound links parts.rows parts.lists only named new planned gone changed parts.parts _
           (record {
@@ -48,6 +52,7 @@ returns c sound only named new planned parts put live =
             job = refl;
             pairs = subst (λ before. ArePairs before links s (pairs_after c.in_ok-pairs.pairs before)) c.pairs.ensures
                 pairs;
+            leads = subst (λ (ps : List Pair). LeadsOn ps c.in_ok-pairs.pairs) c.pairs.ensures c.in_ok-pairs.ensures.leads;
           }),
       ap (λ n. Made n c.len.result) made
           ∙ ap (λ n. Made (length new) n)

@@ -139,5 +139,6 @@ returns c = weaker c.change_rows.result _ _ (λ verdict made sound planned.
       are_new = are_new;
       outcome = done content c.args.links only named new verdict
           (λ over. false≢true (sym c.if-are_too_many.false ∙ tested.1 (many.1 over)))
-          (made sound only named new kept parts put live);
+          (made sound only named new
+          (record { planned = kept; parts = parts; come = put; live_then = live }));
     }) c.change_rows.ensures

@@ -13,7 +13,7 @@ use Rattle.planner_machine.specs.Moves.{with_made}
 use Rattle.planner_machine.specs.Pairs.{ArePairs}
 use Rattle.planner_machine.proofs.SoundLemmas.{rows_sound}
 use Rattle.keyed_lists.specs.Rows.{of_current, of_row}
-use Rattle.plan_store.specs.Changes.{pairs_after}
+use Rattle.plan_store.specs.Changes.{LeadsOn, pairs_after}
 use Rattle.plan_store.specs.Views.{shown}
 use Rattle.plan_pairs.specs.Additions.{place_in}
 use Rattle.plan_pairs.specs.LiveRows.{AreLiveRows, HasLists}
@@ -25,8 +25,8 @@ weaker : {A E : Type 0} (r : Result A E) (P Q : A → Type 0) → ((a : A) → P
 weaker (Ok a) P Q f is = f a is
 weaker (Err e) P Q f is = tt
 
-pub returns : goal.returns
-returns c = weaker c.pair_change.result _ _ (λ change are sound able.
+pub returns-clause-pairs : goal.returns-clause-pairs
+returns-clause-pairs c = weaker c.pair_change.result _ _ (λ change are sound able.
     let content = shown c.args.view.now in
     let row = c.args.row.now in
     let s = with_made (place_in c.args.plan) (added row.key ∷ []) content.sets in
@@ -51,4 +51,8 @@ returns c = weaker c.pair_change.result _ _ (λ change are sound able.
     let turned = subst (λ (ps : List Pair). ArePairs ps c.in_force.result.now s (pairs_after change ps)) c.pairs.ensures
     from in
     subst (λ (ls : List Link). ArePairs content.pairs ls s (pairs_after change content.pairs)) c.in_force.ensures
-    turned) c.pair_change.ensures
+    turned) c.pair_change.ensures.pairs
+
+pub returns-clause-leads : goal.returns-clause-leads
+returns-clause-leads c = subst (λ (ps : List Pair). IfOk c.pair_change.result (LeadsOn ps)) c.pairs.ensures
+    c.pair_change.ensures.leads

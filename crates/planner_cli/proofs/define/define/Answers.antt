@@ -1,11 +1,11 @@
 use Rattle.std.proofs.Common.{ap}
 use Rattle.occurrences.specs.declared.reply.Reply.TheVariants.{Defined}
 use Rattle.plan_store.specs.declared.changes.DefinitionChange.TheVariants.{Merged}
-use Rattle.planner_cli.proofs.ChangeLemmas.{fits_redefined, redefined_so, redefines}
+use Rattle.planner_cli.proofs.ChangeLemmas.{fits_redefined, leads_redefined, redefined_so, redefines}
 use Rattle.planner_cli.proofs.define.define.Goals as goal
 
 pub returns : goal.returns
 returns c c' =
     let d = Merged c.args.block in
     let only = redefines c.none-change.result d c.none-change.ensures in
-    (fits_redefined _ d only c', ((λ q h. h), (ap Defined c.len-names.ensures, redefined_so _ d only c')))
+    (fits_redefined _ d only c', ((λ q h. h), (ap Defined c.len-names.ensures, redefined_so _ d only c')), leads_redefined _ d only c')

@@ -2,7 +2,7 @@ use Rattle.std.proofs.Common.{refl, subst}
 use Rattle.app_definitions.specs.Definitions.{IsDefined}
 use Rattle.planner_machine.specs.Content.{Content}
 use Rattle.plan_store.specs.declared.changes.DefinitionChange.TheVariants.{Removed}
-use Rattle.planner_cli.proofs.ChangeLemmas.{fits_redefined, redefined_so, redefines}
+use Rattle.planner_cli.proofs.ChangeLemmas.{fits_redefined, leads_redefined, redefined_so, redefines}
 use Rattle.planner_cli.proofs.ServeLemmas.{not_refused}
 use Rattle.planner_cli.proofs.define.undefine.Goals as goal
 
@@ -13,5 +13,8 @@ returns c c' shows =
     let defined : IsDefined c'.definitions c.args.kind c.args.name.now =
     subst (λ (x : Content). IsDefined x.definitions c.args.kind c.args.name.now) shows
     (subst (λ d. IsDefined d c.args.kind c.args.name.now) c.definitions.ensures
-    (c.is_defined.ensures.0 c.if-not-is_defined.false)) in
-    (fits_redefined _ d only c', (not_refused c.args.kind c.args.name.now c' defined, (refl, redefined_so _ d only c')))
+    (c.is_defined.ensures.0 c.if-not-is_defined.false)) in (
+      fits_redefined _ d only c',
+      (not_refused c.args.kind c.args.name.now c' defined, (refl, redefined_so _ d only c')),
+      leads_redefined _ d only c',
+    )
