@@ -21,9 +21,11 @@ impl<S: Alter + Drop> TableStore<S> {
     /// Lets the tables go, as a program does at its end. Where no failure was counted, each database that they may be
     /// after a crash tells what the store kept.
     pub fn into_store(self) -> S
-        ensures numbered { IsClean (S.Store.view result) → IsTrue (S.Store.view result).is_numbered }
+        ensures numbered { IsClean (S.Store.view result)
+            → IsTrue (S.Store.view result).is_numbered }
         ensures sound { IsClean (S.Store.view result) → AreDatabases (S.Store.recovers result) }
-        ensures left { (db : Trees) → S.Store.recovers result db → (state S.Store self.conn).may_leave db }
+        ensures left { (db : Trees) → S.Store.recovers result db
+            → (state S.Store self.conn).may_leave db }
         ensures tells { self.failures ≡ 0 → IsClean (S.Store.view result)
             → (db : Trees) → S.Store.recovers result db → ∥ Tells db (content_of self.lists) ∥₁ }
     {
@@ -39,8 +41,10 @@ impl<D: Disk + Drop> TableStore<FileStore<D>> {
     /// was counted, what the store kept and nothing else.
     pub fn into_files(self) -> FileStore<D>
         ensures sound { IsClean (view result) → AreDatabases (recovers result) }
-        ensures goes_on { IsClean (view result) → (left : Image) → (files_state result).may_leave left
-            → (c : ContentValue) → IsFoundIn left c → ∥ MayLeave (file_state self.conn) c ⊎ (c ≡ nothing_known) ∥₁ }
+        ensures goes_on { IsClean (view result) → (left : Image)
+            → (files_state result).may_leave left
+            → (c : ContentValue) → IsFoundIn left c → ∥ MayLeave (file_state self.conn) c
+            ⊎ (c ≡ nothing_known) ∥₁ }
         ensures found_again { self.failures ≡ 0 → IsClean (view result)
             → (left : Image) → (files_state result).may_leave left
             → (c : ContentValue) → IsFoundIn left c → c ≡ content_of self.lists }

@@ -92,7 +92,8 @@ fn rows_of_block(alloc: Global, block: &Block) -> Result<DefinitionMoves, AllocE
 // What a block moves; none where tables can't tell its definitions.
 fn moves_of_block(alloc: Global, block: &Block) -> Result<Option<DefinitionMoves>, AllocError>
     ensures told { IfOk result (λ moves. IfSome moves (λ _. IsTellableBlock block.now)) }
-    ensures kind { IfOk result (λ moves. IfSome moves (λ moves. moves.kind ≡ Some (kind_of block.now))) }
+    ensures kind { IfOk result (λ moves. IfSome moves (λ moves.
+        moves.kind ≡ Some (kind_of block.now))) }
     ensures rows { IfOk result (λ moves. IfSome moves (λ moves. BringsRows block.now moves)) }
 {
     if !block_is_told(alloc, block)? {

@@ -85,7 +85,8 @@ fn redefine(
     change: DefinitionChange,
 ) -> Result<Option<Definitions>, AllocError>
     ensures ok { OnOk result (content_of lists.new
-        ≡ with_definitions (redefined change (content_of lists.old).definitions) (content_of lists.old)) }
+        ≡ with_definitions (redefined change (content_of lists.old).definitions)
+        (content_of lists.old)) }
     ensures was { IfOk result (λ was. unwrap_or was (content_of lists.new).definitions
         ≡ (content_of lists.old).definitions) }
     ensures err { OnErr result (content_of lists.new ≡ content_of lists.old) }
@@ -107,7 +108,8 @@ fn redefine(
 // Puts definitions back into the lists, if there are any.
 fn restore(lists: &mut Content, was: Option<Definitions>)
     ensures { content_of lists.new
-        ≡ with_definitions (unwrap_or was (content_of lists.old).definitions) (content_of lists.old) }
+        ≡ with_definitions (unwrap_or was (content_of lists.old).definitions)
+        (content_of lists.old) }
 {
     if let Some(was) = was {
         lists.definitions = was;
@@ -144,10 +146,13 @@ fn begin(
 // Begins a change in the lists; or where memory is refused, changes nothing.
 fn start(lists: &mut Content, alloc: Global, change: Change) -> Result<Underway, AllocError>
     requires { Fits change (content_of lists.old) }
-    ensures rest { IfOk result (λ underway. underway.rest ≡ record change { definitions = AsBefore }) }
-    ensures pairs { IfOk result (λ underway. underway.begun.room.pairs.items ≡ (content_of lists.old).pairs) }
+    ensures rest { IfOk result (λ underway.
+        underway.rest ≡ record change { definitions = AsBefore }) }
+    ensures pairs { IfOk result (λ underway. underway.begun.room.pairs.items ≡
+        (content_of lists.old).pairs) }
     ensures room { IfOk result (λ underway. HasRoom underway.rest lists.new underway.begun.room) }
-    ensures was { IfOk result (λ underway. unwrap_or underway.begun.was (content_of lists.new).definitions
+    ensures was { IfOk result (λ underway. unwrap_or underway.begun.was
+        (content_of lists.new).definitions
         ≡ (content_of lists.old).definitions) }
     ensures ok { OnOk result (content_of lists.new
         ≡ with_definitions (redefined change.definitions (content_of lists.old).definitions)
@@ -163,7 +168,8 @@ fn start(lists: &mut Content, alloc: Global, change: Change) -> Result<Underway,
 // Takes back what was begun.
 fn undo(lists: &mut Content, underway: Underway)
     ensures { content_of lists.new ≡ with_pairs_of underway.begun.room.pairs.items
-        (with_definitions (unwrap_or underway.begun.was (content_of lists.old).definitions) (content_of lists.old)) }
+        (with_definitions (unwrap_or underway.begun.was (content_of lists.old).definitions)
+        (content_of lists.old)) }
 {
     let Begun { room, was } = underway.begun;
     restore(lists, was);
@@ -176,7 +182,8 @@ fn complete(lists: &mut Content, underway: Underway)
     requires room { HasRoom underway.rest lists.old underway.begun.room }
     requires defined { underway.rest.definitions ≡ AsBefore }
     ensures { content_of lists.new
-        ≡ after underway.rest (with_pairs_of underway.begun.room.pairs.items (content_of lists.old)) }
+        ≡ after underway.rest (with_pairs_of underway.begun.room.pairs.items
+        (content_of lists.old)) }
 {
     let Underway { begun, rest } = underway;
     let Begun { room, was: _ } = begun;
@@ -201,10 +208,13 @@ pub(crate) fn change_both<S: Alter>(
     requires line { IfSome change.job (λ (job : JobValue). line.now ≡ answer_text job.reply) }
     ensures lists { OnOk result (content_of lists.new ≡ after change (content_of lists.old)) }
     ensures same { OnErr result (content_of lists.new ≡ content_of lists.old) }
-    ensures done { HasCleanDisk (state S.Store conn.new) → IsStored (state S.Store conn.old) (content_of lists.old)
+    ensures done { HasCleanDisk (state S.Store conn.new)
+        → IsStored (state S.Store conn.old) (content_of lists.old)
         → OnOk result (IsStored (state S.Store conn.new) (after change (content_of lists.old))) }
-    ensures memory { HasCleanDisk (state S.Store conn.new) → IsStored (state S.Store conn.old) (content_of lists.old)
-        → IfErr result (λ fault. fault ≡ Memory → IsStored (state S.Store conn.new) (content_of lists.old)) }
+    ensures memory { HasCleanDisk (state S.Store conn.new)
+        → IsStored (state S.Store conn.old) (content_of lists.old)
+        → IfErr result (λ fault. fault ≡ Memory
+        → IsStored (state S.Store conn.new) (content_of lists.old)) }
     ensures ended { conn.new.in_transaction ≡ false }
     ensures crash { Survives (state S.Store conn.old) (state S.Store conn.new)
         (λ db. IsStored (state S.Store conn.old) (content_of lists.old)

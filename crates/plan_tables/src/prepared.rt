@@ -20,7 +20,8 @@ pub(crate) struct Prepared {
 
 /// What is made of a change before it is written; none where tables can't tell it.
 pub(crate) fn prepare(alloc: Global, change: &Change) -> Result<Option<Prepared>, AllocError>
-    ensures moves { IfOk result (λ made. IfSome made (λ made. AreMovesOf change.now.definitions made.moves)) }
+    ensures moves { IfOk result (λ made. IfSome made (λ made.
+        AreMovesOf change.now.definitions made.moves)) }
     ensures number { IfOk result (λ made. IfSome made (λ _. IfSome change.now.job
         (λ (job : JobValue). job.number < 2 ^ 63))) }
     ensures line { IfOk result (λ made. IfSome made (λ made. IfSome change.now.job

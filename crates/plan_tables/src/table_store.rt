@@ -95,7 +95,8 @@ impl<S: Alter + Drop> TableStore<S> {
         ensures whole { OnOk result (self.old.is_broken ≡ false) }
         ensures same { OnOk result (self.new ≡ self.old) }
         ensures moves { IfOk result (λ made. AreMovesOf change.now.definitions made.moves) }
-        ensures number { IfOk result (λ _. IfSome change.now.job (λ (job : JobValue). job.number < 2 ^ 63)) }
+        ensures number { IfOk result (λ _.
+            IfSome change.now.job (λ (job : JobValue). job.number < 2 ^ 63)) }
         ensures line { IfOk result (λ made. IfSome change.now.job
             (λ (job : JobValue). made.line.items ≡ answer_text job.reply)) }
         ensures lists { self.new.lists ≡ self.old.lists }
@@ -125,18 +126,23 @@ impl<S: Alter + Drop> TableStore<S> {
         requires fits { Fits change (content_of self.old.lists) }
         requires moves { AreMovesOf change.definitions prepared.now.moves }
         requires number { IfSome change.job (λ (job : JobValue). job.number < 2 ^ 63) }
-        requires line { IfSome change.job (λ (job : JobValue). prepared.now.line.items ≡ answer_text job.reply) }
-        ensures done { OnOk result (content_of self.new.lists ≡ after change (content_of self.old.lists)) }
+        requires line { IfSome change.job (λ (job : JobValue). prepared.now.line.items
+            ≡ answer_text job.reply) }
+        ensures done { OnOk result (content_of self.new.lists ≡ after change
+            (content_of self.old.lists)) }
         ensures same { OnErr result (content_of self.new.lists ≡ content_of self.old.lists) }
         ensures settled { HasCleanDisk (state S.Store self.new.conn)
             → OnOk result ((c : ContentValue) → MayLeave (state S.Store self.new.conn) c
             → c ≡ content_of self.new.lists) }
         ensures crash { HasCleanDisk (state S.Store self.new.conn)
             → (c : ContentValue) → MayLeave (state S.Store self.new.conn) c
-            → MayLeave (state S.Store self.old.conn) c ⊎ (c ≡ after change (content_of self.old.lists)) }
-        ensures blames { IfErr result (λ fault. fault ≡ Device → MoreFailures self.old.failures self.new.failures) }
+            → MayLeave (state S.Store self.old.conn) c
+            ⊎ (c ≡ after change (content_of self.old.lists)) }
+        ensures blames { IfErr result (λ fault. fault ≡ Device
+            → MoreFailures self.old.failures self.new.failures) }
         ensures counts { self.old.failures ≤ self.new.failures }
-        ensures honest { HasCleanDisk (state S.Store self.new.conn) → HasCleanDisk (state S.Store self.old.conn) }
+        ensures honest { HasCleanDisk (state S.Store self.new.conn)
+            → HasCleanDisk (state S.Store self.old.conn) }
     {
         tables_have_one_content();
         change_is_tellable(&change);

@@ -70,7 +70,8 @@ pub fn application_rows(
 fn application_at(row: &Row, name: &Name) -> Option<Application>
     requires { column row.now 0 ≡ Text name.now }
     ensures value { IfSome result (λ a. row.now ≡ application_values name.now a) }
-    ensures found { (a : ApplicationValue) → IfSome a.calendar IsName → row.now ≡ application_values name.now a
+    ensures found { (a : ApplicationValue) → IfSome a.calendar IsName
+        → row.now ≡ application_values name.now a
         → result ≡ Some a }
 {
     if row.len() != 3 {
@@ -148,7 +149,8 @@ pub(crate) fn read_applications(
     rows: &[Row],
 ) -> Result<Option<ByName<Application>>, AllocError>
     ensures made { IfOk result (λ found. IfSome found (AreRowsOf IsApplicationRow rows.now)) }
-    ensures found { IfOk result (λ found. (all : Defined ApplicationValue) → AreSound IsSoundApplication all
+    ensures found { IfOk result (λ found. (all : Defined ApplicationValue)
+        → AreSound IsSoundApplication all
         → AreRowsOf IsApplicationRow rows.now all → IsSome found) }
 {
     gathered::<ApplicationDraft>(alloc, rows)

@@ -50,7 +50,8 @@ fn entry_row(
     day: u32,
     status: DayStatus,
 ) -> Result<Row, AllocError>
-    ensures { IfOk result (λ row. row ≡ Text name.now ∷ natural kind ∷ natural day ∷ is_work status ∷ []) }
+    ensures { IfOk result (λ row.
+        row ≡ Text name.now ∷ natural kind ∷ natural day ∷ is_work status ∷ []) }
 {
     row_of(
         alloc,
@@ -72,7 +73,8 @@ fn push_weekday(
     place: u32,
 ) -> Result<(), AllocError>
     requires { place < 7 }
-    ensures { OnOk result (Adds (IsWeekdayRow name.now calendar.now place) rows.old.items rows.new.items) }
+    ensures { OnOk result
+        (Adds (IsWeekdayRow name.now calendar.now place) rows.old.items rows.new.items) }
 {
     match calendar.weekday_status(weekday_at(place)) {
         Some(status) => {
@@ -91,7 +93,8 @@ fn push_weekdays(
     name: &Name,
     calendar: &Calendar,
 ) -> Result<(), AllocError>
-    ensures { OnOk result (Adds (IsUpTo (IsWeekdayRow name.now calendar.now) 7) rows.old.items rows.new.items) }
+    ensures { OnOk result
+        (Adds (IsUpTo (IsWeekdayRow name.now calendar.now) 7) rows.old.items rows.new.items) }
 {
     for place in 0..7 {
         push_weekday(alloc, rows, name, calendar, place)?;
@@ -107,7 +110,8 @@ fn push_date(
     calendar: &Calendar,
     day: Day,
 ) -> Result<(), AllocError>
-    ensures { OnOk result (Adds (IsDateRow name.now calendar.now day) rows.old.items rows.new.items) }
+    ensures { OnOk result
+        (Adds (IsDateRow name.now calendar.now day) rows.old.items rows.new.items) }
 {
     match calendar.date_status(day) {
         Some(status) => {
@@ -127,7 +131,8 @@ fn push_dates(
     calendar: &Calendar,
     dates: &[(Day, DayStatus)],
 ) -> Result<(), AllocError>
-    ensures { OnOk result (Adds (IsOfPlace (λ _ (e : ℕ × Status). IsDateRow name.now calendar.now e.0) dates.now
+    ensures { OnOk result (Adds (IsOfPlace
+        (λ _ (e : ℕ × Status). IsDateRow name.now calendar.now e.0) dates.now
         (length dates.now)) rows.old.items rows.new.items) }
 {
     for entry in dates {
@@ -143,7 +148,8 @@ fn push_entries(
     name: &Name,
     calendar: &Calendar,
 ) -> Result<(), AllocError>
-    ensures added { OnOk result (Adds (IsCalendarRow name.now calendar.now) rows.old.items rows.new.items) }
+    ensures added { OnOk result
+        (Adds (IsCalendarRow name.now calendar.now) rows.old.items rows.new.items) }
     ensures week { length calendar.now.weekdays ≡ 7 }
 {
     let dates = calendar.dates(alloc)?;
@@ -245,7 +251,8 @@ fn list_week_entry(calendar: &mut Calendar, place: u32, status: DayStatus) -> bo
     ensures taken { (name : List ℕ) → IsTrue result → Joins (IsCalendarRow name calendar.old)
         (calendar_values name 0 place status) (IsCalendarRow name calendar.new) }
     ensures refused { (d : CalendarEntries) (name : List ℕ) → IsSoundCalendar name d
-        → TellsEntry d 0 place status → Within (IsCalendarRow name calendar.old) (IsCalendarRow name d)
+        → TellsEntry d 0 place status
+        → Within (IsCalendarRow name calendar.old) (IsCalendarRow name d)
         → IsTrue result }
 {
     if place < 7 {
@@ -259,9 +266,11 @@ fn list_week_entry(calendar: &mut Calendar, place: u32, status: DayStatus) -> bo
 fn list_date(calendar: &mut Calendar, day: Day, status: DayStatus) -> Result<bool, AllocError>
     requires { length calendar.old.weekdays ≡ 7 }
     ensures kept { length calendar.new.weekdays ≡ 7 }
-    ensures taken { IfOk result (λ b. (name : List ℕ) → IsTrue b → Joins (IsCalendarRow name calendar.old)
+    ensures taken { IfOk result (λ b. (name : List ℕ) → IsTrue b
+        → Joins (IsCalendarRow name calendar.old)
         (calendar_values name 1 day status) (IsCalendarRow name calendar.new)) }
-    ensures refused { IfOk result (λ b. (d : CalendarEntries) (name : List ℕ) → TellsEntry d 1 day status
+    ensures refused { IfOk result (λ b. (d : CalendarEntries) (name : List ℕ)
+        → TellsEntry d 1 day status
         → Within (IsCalendarRow name calendar.old) (IsCalendarRow name d) → IsTrue b) }
 {
     match calendar.date_status(day) {
@@ -281,10 +290,13 @@ fn list_day_entry(
 ) -> Result<bool, AllocError>
     requires { length calendar.old.weekdays ≡ 7 }
     ensures kept { length calendar.new.weekdays ≡ 7 }
-    ensures taken { IfOk result (λ b. (name : List ℕ) → IsTrue b → Joins (IsCalendarRow name calendar.old)
+    ensures taken { IfOk result (λ b. (name : List ℕ) → IsTrue b
+        → Joins (IsCalendarRow name calendar.old)
         (calendar_values name 1 number status) (IsCalendarRow name calendar.new)) }
-    ensures refused { IfOk result (λ b. (d : CalendarEntries) (name : List ℕ) → IsSoundCalendar name d
-        → TellsEntry d 1 number status → Within (IsCalendarRow name calendar.old) (IsCalendarRow name d)
+    ensures refused { IfOk result (λ b. (d : CalendarEntries) (name : List ℕ)
+        → IsSoundCalendar name d
+        → TellsEntry d 1 number status
+        → Within (IsCalendarRow name calendar.old) (IsCalendarRow name d)
         → IsTrue b) }
 {
     match Day::from_number(number) {
@@ -302,10 +314,13 @@ fn list_entry(
 ) -> Result<bool, AllocError>
     requires { length calendar.old.weekdays ≡ 7 }
     ensures kept { length calendar.new.weekdays ≡ 7 }
-    ensures taken { IfOk result (λ b. (name : List ℕ) → IsTrue b → Joins (IsCalendarRow name calendar.old)
+    ensures taken { IfOk result (λ b. (name : List ℕ) → IsTrue b
+        → Joins (IsCalendarRow name calendar.old)
         (calendar_values name kind number status) (IsCalendarRow name calendar.new)) }
-    ensures refused { IfOk result (λ b. (d : CalendarEntries) (name : List ℕ) → IsSoundCalendar name d
-        → TellsEntry d kind number status → Within (IsCalendarRow name calendar.old) (IsCalendarRow name d)
+    ensures refused { IfOk result (λ b. (d : CalendarEntries) (name : List ℕ)
+        → IsSoundCalendar name d
+        → TellsEntry d kind number status
+        → Within (IsCalendarRow name calendar.old) (IsCalendarRow name d)
         → IsTrue b) }
 {
     if kind == 0 {
@@ -370,7 +385,8 @@ pub(crate) fn read_calendars(
 ) -> Result<Option<ByName<Calendar>>, AllocError>
     ensures made { IfOk result (λ found. IfSome found (AreRowsOf IsCalendarRow rows.now)) }
     ensures told { IfOk result (λ found. IfSome found (AreEach IsTold)) }
-    ensures found { IfOk result (λ found. (all : Defined CalendarEntries) → AreSound IsSoundCalendar all
+    ensures found { IfOk result (λ found. (all : Defined CalendarEntries)
+        → AreSound IsSoundCalendar all
         → AreRowsOf IsCalendarRow rows.now all → IsSome found) }
 {
     gathered::<CalendarDraft>(alloc, rows)

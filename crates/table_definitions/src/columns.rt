@@ -78,7 +78,8 @@ pub(crate) fn day_at(row: &Row, at: usize) -> Option<Day>
 /// The minute of the day in the column.
 pub(crate) fn minute_at(row: &Row, at: usize) -> Option<Minute>
     ensures value { IfSome result (λ minute. column row.now at ≡ natural minute) }
-    ensures found { (minute : ℕ) → IsMinute minute → column row.now at ≡ natural minute → result ≡ Some minute }
+    ensures found { (minute : ℕ) → IsMinute minute → column row.now at ≡ natural minute
+        → result ≡ Some minute }
 {
     Minute::from_number(number_at(row, at)?)
 }
@@ -117,7 +118,8 @@ pub(crate) fn is_null_at(row: &Row, at: usize) -> bool
 /// The name in the column, or none where it has NULL.
 pub(crate) fn optional_name_at(row: &Row, at: usize) -> Option<Option<Name>>
     ensures value { IfSome result (λ name. column row.now at ≡ or_null (option_map Text name)) }
-    ensures found { (name : Option (List ℕ)) → IfSome name IsName → column row.now at ≡ or_null (option_map Text name)
+    ensures found { (name : Option (List ℕ)) → IfSome name IsName
+        → column row.now at ≡ or_null (option_map Text name)
         → result ≡ Some name }
 {
     if is_null_at(row, at) {
@@ -132,7 +134,8 @@ pub(crate) fn optional_name_at(row: &Row, at: usize) -> Option<Option<Name>>
 /// The day in the column, or none where it has NULL.
 pub(crate) fn optional_day_at(row: &Row, at: usize) -> Option<Option<Day>>
     ensures value { IfSome result (λ day. column row.now at ≡ or_null (option_map natural day)) }
-    ensures found { (day : Option ℕ) → IfSome day IsDay → column row.now at ≡ or_null (option_map natural day)
+    ensures found { (day : Option ℕ) → IfSome day IsDay
+        → column row.now at ≡ or_null (option_map natural day)
         → result ≡ Some day }
 {
     if is_null_at(row, at) {
@@ -147,7 +150,8 @@ pub(crate) fn optional_day_at(row: &Row, at: usize) -> Option<Option<Day>>
 /// The number in the column, from 0 on, or none where it has NULL.
 pub(crate) fn optional_number_at(row: &Row, at: usize) -> Option<Option<u32>>
     ensures value { IfSome result (λ n. column row.now at ≡ or_null (option_map natural n)) }
-    ensures found { (n : Option ℕ) → IfSome n (λ k. k < 2 ^ 32) → column row.now at ≡ or_null (option_map natural n)
+    ensures found { (n : Option ℕ) → IfSome n (λ k. k < 2 ^ 32)
+        → column row.now at ≡ or_null (option_map natural n)
         → result ≡ Some n }
 {
     if is_null_at(row, at) {

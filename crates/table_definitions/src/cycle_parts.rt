@@ -35,7 +35,8 @@ pub(crate) struct CyclePart {
 fn offset_at(row: &Row, name: &Name) -> Option<(u32, i16)>
     requires { column row.now 0 ≡ Text name.now }
     ensures value { IfSome result (λ e. row.now ≡ offset_tail name.now e.0 e.1) }
-    ensures found { (place : ℕ) (k : ℤ) → place < 2 ^ 32 → IsOffset k → row.now ≡ offset_tail name.now place k
+    ensures found { (place : ℕ) (k : ℤ) → place < 2 ^ 32 → IsOffset k
+        → row.now ≡ offset_tail name.now place k
         → result ≡ Some (place, k) }
 {
     if row.len() != 3 {
@@ -49,11 +50,13 @@ fn offset_at(row: &Row, name: &Name) -> Option<(u32, i16)>
 // Puts the offset at its place, or answers whether it stands there.
 fn list_offset(offsets: &mut Places<i16>, place: usize, k: i16) -> Result<bool, AllocError>
     requires { place < 2 ^ 32 }
-    ensures taken { IfOk result (λ b. (name : List ℕ) → IsTrue b → Joins (IsPlaced (offset_tail name) offsets.old)
+    ensures taken { IfOk result (λ b. (name : List ℕ) → IsTrue b
+        → Joins (IsPlaced (offset_tail name) offsets.old)
         (offset_tail name place k) (IsPlaced (offset_tail name) offsets.new)) }
     ensures refused { IfOk result (λ b. (d : List ℤ) (name : List ℕ)
         → IsListed (offset_tail name) d (offset_tail name place k)
-        → Within (IsPlaced (offset_tail name) offsets.old) (IsListed (offset_tail name) d) → IsTrue b) }
+        → Within (IsPlaced (offset_tail name) offsets.old) (IsListed (offset_tail name) d)
+        → IsTrue b) }
 {
     match offsets.get(place) {
         Some(other) => Ok(other == k),
@@ -80,7 +83,8 @@ fn keep_row(kept: &mut Row, name: &Name, row: &Row) -> Result<bool, AllocError>
     requires named { column row.now 0 ≡ Text name.now }
     ensures taken { IfOk result (λ b. IsTrue b
         → Joins (IsReadRow name.now kept.old) row.now (IsReadRow name.now kept.new)) }
-    ensures refused { IfOk result (λ b. Within (IsReadRow name.now kept.old) (λ v. v ≡ row.now) → IsTrue b) }
+    ensures refused { IfOk result (λ b. Within (IsReadRow name.now kept.old) (λ v. v ≡ row.now)
+        → IsTrue b) }
 {
     if kept.len() == 9 && is_of(kept, name) {
         return Ok(kept.is_same(row));
@@ -92,7 +96,8 @@ fn keep_row(kept: &mut Row, name: &Name, row: &Row) -> Result<bool, AllocError>
 // What the row that was kept tells.
 fn told_of(row: &Row, name: &Name) -> Option<ToldCycle>
     ensures value { IfSome result (λ t. row.now ≡ told_values name.now t) }
-    ensures found { (t : ToldValue) → IsReadableCycle t → row.now ≡ told_values name.now t → result ≡ Some t }
+    ensures found { (t : ToldValue) → IsReadableCycle t → row.now ≡ told_values name.now t
+        → result ≡ Some t }
 {
     if is_of(row, name) {
         told_at(row, name)

@@ -50,7 +50,8 @@ fn deadline_of(kind: &CycleType) -> Option<Deadline>
 
 // The days of the deadline, or NULL.
 fn days_of(deadline: &Option<Deadline>) -> ValueRef<'static>
-    ensures { owned result ≡ or_null (option_map (λ (d : DeadlineValue). natural d.days) deadline.now) }
+    ensures { owned result
+        ≡ or_null (option_map (λ (d : DeadlineValue). natural d.days) deadline.now) }
 {
     match deadline {
         Some(deadline) => number(u32::from(deadline.days)),
@@ -60,7 +61,8 @@ fn days_of(deadline: &Option<Deadline>) -> ValueRef<'static>
 
 // The time of the deadline, or NULL.
 fn time_of(deadline: &Option<Deadline>) -> ValueRef<'static>
-    ensures { owned result ≡ or_null (option_map (λ (d : DeadlineValue). natural d.time) deadline.now) }
+    ensures { owned result
+        ≡ or_null (option_map (λ (d : DeadlineValue). natural d.time) deadline.now) }
 {
     match deadline {
         Some(deadline) => number(deadline.time.number()),
@@ -97,7 +99,8 @@ fn push_cycles(
     app: &Name,
     cycles: &[RunCycle],
 ) -> Result<(), AllocError>
-    ensures { OnOk result (Adds (IsOfPlace (λ _. IsRowOfCycle app.now) cycles.now (length cycles.now))
+    ensures { OnOk result (Adds
+        (IsOfPlace (λ _. IsRowOfCycle app.now) cycles.now (length cycles.now))
         rows.old.items rows.new.items) }
 {
     for cycle in cycles {

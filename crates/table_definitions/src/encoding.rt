@@ -25,7 +25,8 @@ pub(crate) trait Encoding {
         name: &Name,
         definition: &Self::Of,
     ) -> Result<(), AllocError>
-        ensures { OnOk result (Adds (IsRow name.now definition.now) rows.old.items rows.new.items) };
+        ensures { OnOk result
+            (Adds (IsRow name.now definition.now) rows.old.items rows.new.items) };
 }
 
 // Puts the rows of what is defined by the name behind the others.
@@ -35,7 +36,8 @@ fn push_named<E: Encoding>(
     definitions: &ByName<E::Of>,
     name: &Name,
 ) -> Result<(), AllocError>
-    ensures { OnOk result (Adds (IsOfName E.IsRow definitions.now name.now) rows.old.items rows.new.items) }
+    ensures { OnOk result
+        (Adds (IsOfName E.IsRow definitions.now name.now) rows.old.items rows.new.items) }
 {
     match definitions.get(name) {
         Some(definition) => E::push(alloc, rows, name, definition),
@@ -50,7 +52,8 @@ fn push_each<E: Encoding>(
     definitions: &ByName<E::Of>,
     names: &[Name],
 ) -> Result<(), AllocError>
-    ensures { OnOk result (Adds (IsOfPlace (λ _. IsOfName E.IsRow definitions.now) names.now (length names.now))
+    ensures { OnOk result (Adds
+        (IsOfPlace (λ _. IsOfName E.IsRow definitions.now) names.now (length names.now))
         rows.old.items rows.new.items) }
 {
     for name in names {

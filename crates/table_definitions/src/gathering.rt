@@ -43,22 +43,26 @@ pub(crate) trait Draft: Drop {
         requires { column row.now 0 ≡ Text name.now }
         ensures taken { IfOk result (λ b. IsTrue b
             → Joins (IsRead name.now self.old) row.now (IsRead name.now self.new)) }
-        ensures refused { IfOk result (λ b. (d : Self.Of) → IsSound name.now d → IsRow name.now d row.now
+        ensures refused { IfOk result (λ b. (d : Self.Of) → IsSound name.now d
+            → IsRow name.now d row.now
             → Within (IsRead name.now self.old) (IsRow name.now d) → IsTrue b) };
 
     /// The definition that has the rows that were read, if there is one.
     fn finish(&self, alloc: Global, name: &Name) -> Result<Option<Self::Of>, AllocError>
-        ensures made { IfOk result (λ found. IfSome found (IsFinish IsRow IsRead name.now self.now)) }
+        ensures made { IfOk result (λ found.
+            IfSome found (IsFinish IsRow IsRead name.now self.now)) }
         ensures told { IfOk result (λ found. IfSome found
             (λ d. (v : Values) → IsRead name.now self.now v → IsTold d)) }
         ensures found { IfOk result (λ found. (d : Self.Of) → IsSound name.now d
             → IsFinish IsRow IsRead name.now self.now d → IsSome found) };
 
     /// A row begins with its name.
-    ghost named: { (name : List ℕ) (d : Self.Of) (v : Values) → IsRow name d v → column v 0 ≡ Text name };
+    ghost named: { (name : List ℕ) (d : Self.Of) (v : Values) → IsRow name d v
+        → column v 0 ≡ Text name };
 
     /// So does a row that was read.
-    ghost read_named: { (name : List ℕ) (x : Self) (v : Values) → IsRead name x v → column v 0 ≡ Text name };
+    ghost read_named: { (name : List ℕ) (x : Self) (v : Values) → IsRead name x v
+        → column v 0 ≡ Text name };
 }
 
 // What was read of the name, which is taken out, or nothing.
@@ -80,10 +84,12 @@ fn read_row<D: Draft>(
     row: &Row,
 ) -> Result<bool, AllocError>
     requires { column row.now 0 ≡ Text name.now }
-    ensures taken { IfOk result (λ b. (before : List Values) → IsTrue b → AreRead D.IsRead before drafts.old
+    ensures taken { IfOk result (λ b. (before : List Values) → IsTrue b
+        → AreRead D.IsRead before drafts.old
         → AreRead D.IsRead (before ++ row.now ∷ []) drafts.new) }
     ensures refused { IfOk result (λ b. (all : Defined D.Of) → AreSound D.IsSound all
-        → IsOfSome D.IsRow all row.now → Within (IsOfSome D.IsRead drafts.old) (IsOfSome D.IsRow all) → IsTrue b) }
+        → IsOfSome D.IsRow all row.now
+        → Within (IsOfSome D.IsRead drafts.old) (IsOfSome D.IsRow all) → IsTrue b) }
 {
     let mut draft = draft_of(alloc, drafts, name);
     if !draft.join(name, row)? {
@@ -117,8 +123,10 @@ fn finish_each<D: Draft>(
     drafts: &[(Name, D)],
 ) -> Result<Option<Vec<(Name, D::Of)>>, AllocError>
     ensures made { IfOk result (λ found. IfSome found
-        (λ entries. Paired (λ name x d. IsMade D.IsRow D.IsRead D.IsTold name x d) drafts.now entries.items)) }
-    ensures found { IfOk result (λ found. All (CanFinish D.IsRow D.IsRead D.IsSound) drafts.now → IsSome found) }
+        (λ entries. Paired (λ name x d. IsMade D.IsRow D.IsRead D.IsTold name x d)
+        drafts.now entries.items)) }
+    ensures found { IfOk result (λ found. All (CanFinish D.IsRow D.IsRead D.IsSound) drafts.now
+        → IsSome found) }
 {
     let mut entries = Vec::new(alloc);
     for draft in drafts {
@@ -139,7 +147,8 @@ fn finish_all<D: Draft>(
         (λ all. Alike (IsOfSome D.IsRow all) (IsOfSome D.IsRead drafts))) }
     ensures told { IfOk result (λ found. IfSome found
         (λ all. (read : List Values) → AreRead D.IsRead read drafts → AreEach D.IsTold all)) }
-    ensures found { IfOk result (λ found. (all : Defined D.Of) (read : List Values) → AreSound D.IsSound all
+    ensures found { IfOk result (λ found. (all : Defined D.Of) (read : List Values)
+        → AreSound D.IsSound all
         → AreRead D.IsRead read drafts → AreRowsOf D.IsRow read all → IsSome found) }
 {
     let drafts = drafts.into_vec(alloc)?;

@@ -45,7 +45,8 @@ fn push_offsets(
     name: &Short,
     offsets: &[i16],
 ) -> Result<(), AllocError>
-    ensures { OnOk result (Adds (IsOfPlace (IsOffsetAt app.now name.now) offsets.now (length offsets.now))
+    ensures { OnOk result (Adds
+        (IsOfPlace (IsOffsetAt app.now name.now) offsets.now (length offsets.now))
         rows.old.items rows.new.items) }
 {
     for place in 0..offsets.len() {

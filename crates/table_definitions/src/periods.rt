@@ -177,11 +177,13 @@ fn list_entry(
     entry: Lettered,
 ) -> Result<bool, AllocError>
     requires { place < 2 ^ 32 }
-    ensures taken { IfOk result (λ b. (name : List ℕ) → IsTrue b → Joins (IsPlaced (lettered_values name) entries.old)
+    ensures taken { IfOk result (λ b. (name : List ℕ) → IsTrue b
+        → Joins (IsPlaced (lettered_values name) entries.old)
         (lettered_values name place entry) (IsPlaced (lettered_values name) entries.new)) }
     ensures refused { IfOk result (λ b. (d : PeriodValue) (name : List ℕ)
         → IsListed (lettered_values name) (entries_of d) (lettered_values name place entry)
-        → Within (IsPlaced (lettered_values name) entries.old) (IsListed (lettered_values name) (entries_of d))
+        → Within (IsPlaced (lettered_values name) entries.old)
+        (IsListed (lettered_values name) (entries_of d))
         → IsTrue b) }
 {
     match entries.get(place) {
@@ -228,7 +230,8 @@ fn origins_of(
     alloc: Global,
     entries: &[Lettered],
 ) -> Result<Option<Vec<(Day, Option<Day>)>>, AllocError>
-    ensures made { IfOk result (λ found. IfSome found (λ es. map listed_entry es.items ≡ entries.now)) }
+    ensures made { IfOk result (λ found. IfSome found (λ es.
+        map listed_entry es.items ≡ entries.now)) }
     ensures found { IfOk result (λ found. (es : List Entry) → AreOfDays es
         → map listed_entry es ≡ entries.now → IsSome found) }
 {
@@ -321,7 +324,8 @@ pub(crate) fn read_periods(
 ) -> Result<Option<ByName<DefinedPeriod>>, AllocError>
     ensures made { IfOk result (λ found. IfSome found (AreRowsOf IsPeriodRow rows.now)) }
     ensures told { IfOk result (λ found. IfSome found (AreEach HasEntry)) }
-    ensures found { IfOk result (λ found. (all : Defined PeriodValue) → AreSound IsSoundPeriodOfDays all
+    ensures found { IfOk result (λ found. (all : Defined PeriodValue)
+        → AreSound IsSoundPeriodOfDays all
         → AreRowsOf IsPeriodRow rows.now all → IsSome found) }
 {
     gathered::<PeriodDraft>(alloc, rows)

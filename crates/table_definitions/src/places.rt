@@ -75,7 +75,8 @@ impl<X> Places<X> {
     where
         X: Copy,
         ensures made { IfOk result (λ found. IfSome found (λ xs. AreInOrder xs.items self.now)) }
-        ensures found { IfOk result (λ found. (xs : List X) → AreInOrder xs self.now → IsSome found) }
+        ensures found { IfOk result (λ found. (xs : List X) → AreInOrder xs self.now
+            → IsSome found) }
     {
         let mut xs = Vec::new(alloc);
         for place in 0..self.end {

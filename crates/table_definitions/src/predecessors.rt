@@ -142,7 +142,8 @@ pub(crate) fn read_predecessors(
 ) -> Result<Option<ByName<Predecessors>>, AllocError>
     ensures made { IfOk result (λ found. IfSome found (AreRowsOf IsPredecessorRow rows.now)) }
     ensures told { IfOk result (λ found. IfSome found (AreEach ArePredecessors)) }
-    ensures found { IfOk result (λ found. (all : Defined (List (List ℕ))) → AreSound ArePredecessorNames all
+    ensures found { IfOk result (λ found. (all : Defined (List (List ℕ)))
+        → AreSound ArePredecessorNames all
         → AreRowsOf IsPredecessorRow rows.now all → IsSome found) }
 {
     gathered::<PredecessorDraft>(alloc, rows)

@@ -53,7 +53,8 @@ pub fn calendars_of_rows(
 ) -> Result<Option<ByName<Calendar>>, AllocError>
     ensures made { IfOk result (λ found. IfSome found (AreRowsOf IsCalendarRow shown.now)) }
     ensures told { IfOk result (λ found. IfSome found (AreEach IsTold)) }
-    ensures found { IfOk result (λ found. (all : Defined CalendarEntries) → AreSound IsSoundCalendar all
+    ensures found { IfOk result (λ found. (all : Defined CalendarEntries)
+        → AreSound IsSoundCalendar all
         → AreRowsOf IsCalendarRow shown.now all → IsSome found) }
 {
     let rows = copied_rows(alloc, shown)?;
@@ -67,7 +68,8 @@ pub fn periods_of_rows(
 ) -> Result<Option<ByName<DefinedPeriod>>, AllocError>
     ensures made { IfOk result (λ found. IfSome found (AreRowsOf IsPeriodRow shown.now)) }
     ensures told { IfOk result (λ found. IfSome found (AreEach HasEntry)) }
-    ensures found { IfOk result (λ found. (all : Defined PeriodValue) → AreSound IsSoundPeriodOfDays all
+    ensures found { IfOk result (λ found. (all : Defined PeriodValue)
+        → AreSound IsSoundPeriodOfDays all
         → AreRowsOf IsPeriodRow shown.now all → IsSome found) }
 {
     let rows = copied_rows(alloc, shown)?;
@@ -80,7 +82,8 @@ pub fn applications_of_rows(
     shown: &[Row],
 ) -> Result<Option<ByName<Application>>, AllocError>
     ensures made { IfOk result (λ found. IfSome found (AreRowsOf IsApplicationRow shown.now)) }
-    ensures found { IfOk result (λ found. (all : Defined ApplicationValue) → AreSound IsSoundApplication all
+    ensures found { IfOk result (λ found. (all : Defined ApplicationValue)
+        → AreSound IsSoundApplication all
         → AreRowsOf IsApplicationRow shown.now all → IsSome found) }
 {
     let rows = copied_rows(alloc, shown)?;
@@ -94,7 +97,8 @@ pub fn predecessors_of_rows(
 ) -> Result<Option<ByName<Predecessors>>, AllocError>
     ensures made { IfOk result (λ found. IfSome found (AreRowsOf IsPredecessorRow shown.now)) }
     ensures told { IfOk result (λ found. IfSome found (AreEach ArePredecessors)) }
-    ensures found { IfOk result (λ found. (all : Defined (List (List ℕ))) → AreSound ArePredecessorNames all
+    ensures found { IfOk result (λ found. (all : Defined (List (List ℕ)))
+        → AreSound ArePredecessorNames all
         → AreRowsOf IsPredecessorRow shown.now all → IsSome found) }
 {
     let rows = copied_rows(alloc, shown)?;
@@ -110,8 +114,10 @@ pub fn run_cycles_of_rows(
     ensures cycles { IfOk result (λ found. IfSome found (AreRowsOf IsCycleRow shown.now)) }
     ensures offsets { IfOk result (λ found. IfSome found (AreRowsOf IsOffsetRow offsets.now)) }
     ensures told { IfOk result (λ found. IfSome found (AreEach AreCycles)) }
-    ensures found { IfOk result (λ found. (all : Defined (List RunCycleValue)) → AreSound AreSoundCycles all
-        → AreRowsOf IsCycleRow shown.now all → AreRowsOf IsOffsetRow offsets.now all → IsSome found) }
+    ensures found { IfOk result (λ found. (all : Defined (List RunCycleValue))
+        → AreSound AreSoundCycles all
+        → AreRowsOf IsCycleRow shown.now all → AreRowsOf IsOffsetRow offsets.now all
+        → IsSome found) }
 {
     let rows = copied_rows(alloc, shown)?;
     let offset_rows = copied_rows(alloc, offsets)?;
@@ -140,7 +146,8 @@ fn days_of_rows(alloc: Global, stored: &StoredRows) -> Result<Option<Days>, Allo
         (λ days. AreRowsOf IsPeriodRow stored.now.periods.items days.periods)) }
     ensures told { IfOk result (λ found. IfSome found (λ days. AreEach IsTold days.calendars)) }
     ensures entries { IfOk result (λ found. IfSome found (λ days. AreEach HasEntry days.periods)) }
-    ensures found { IfOk result (λ found. (calendars : Defined CalendarEntries) (periods : Defined PeriodValue)
+    ensures found { IfOk result (λ found. (calendars : Defined CalendarEntries)
+        (periods : Defined PeriodValue)
         → AreSound IsSoundCalendar calendars → AreSound IsSoundPeriodOfDays periods
         → AreRowsOf IsCalendarRow stored.now.calendars.items calendars
         → AreRowsOf IsPeriodRow stored.now.periods.items periods → IsSome found) }
@@ -160,7 +167,8 @@ fn listed_of_rows(alloc: Global, stored: &StoredRows) -> Result<Option<Listed>, 
         (λ listed. AreRowsOf IsApplicationRow stored.now.applications.items listed.applications)) }
     ensures predecessors { IfOk result (λ found. IfSome found
         (λ listed. AreRowsOf IsPredecessorRow stored.now.predecessors.items listed.predecessors)) }
-    ensures told { IfOk result (λ found. IfSome found (λ listed. AreEach ArePredecessors listed.predecessors)) }
+    ensures told { IfOk result (λ found. IfSome found (λ listed.
+        AreEach ArePredecessors listed.predecessors)) }
     ensures found { IfOk result (λ found. (applications : Defined ApplicationValue)
         (predecessors : Defined (List (List ℕ)))
         → AreSound IsSoundApplication applications → AreSound ArePredecessorNames predecessors
@@ -184,10 +192,13 @@ fn cycles_of_stored(
     alloc: Global,
     stored: &StoredRows,
 ) -> Result<Option<ByName<RunCycles>>, AllocError>
-    ensures cycles { IfOk result (λ found. IfSome found (AreRowsOf IsCycleRow stored.now.run_cycles.items)) }
-    ensures offsets { IfOk result (λ found. IfSome found (AreRowsOf IsOffsetRow stored.now.offsets.items)) }
+    ensures cycles { IfOk result (λ found.
+        IfSome found (AreRowsOf IsCycleRow stored.now.run_cycles.items)) }
+    ensures offsets { IfOk result (λ found.
+        IfSome found (AreRowsOf IsOffsetRow stored.now.offsets.items)) }
     ensures told { IfOk result (λ found. IfSome found (AreEach AreCycles)) }
-    ensures found { IfOk result (λ found. (all : Defined (List RunCycleValue)) → AreSound AreSoundCycles all
+    ensures found { IfOk result (λ found. (all : Defined (List RunCycleValue))
+        → AreSound AreSoundCycles all
         → AreRowsOf IsCycleRow stored.now.run_cycles.items all
         → AreRowsOf IsOffsetRow stored.now.offsets.items all → IsSome found) }
 {

@@ -38,7 +38,8 @@ pub(crate) struct ToldCycle {
 // The rule that a letter names.
 fn rule_at(row: &Row) -> Option<Rule>
     ensures value { IfSome result (λ rule. column row.now 3 ≡ Text (rule_text rule)) }
-    ensures found { (rule : RuleValue) → column row.now 3 ≡ Text (rule_text rule) → result ≡ Some rule }
+    ensures found { (rule : RuleValue) → column row.now 3 ≡ Text (rule_text rule)
+        → result ≡ Some rule }
 {
     match letter_at(row, 3)? {
         b'E' => Some(Rule::WorkDaysOnly),
@@ -53,13 +54,15 @@ fn rule_at(row: &Row) -> Option<Rule>
 // The days of the deadline.
 fn days_at(row: &Row) -> Option<u8>
     ensures value { IfSome result (λ days. column row.now 7 ≡ natural days) }
-    ensures found { (days : ℕ) → days < 2 ^ 8 → column row.now 7 ≡ natural days → result ≡ Some days }
+    ensures found { (days : ℕ) → days < 2 ^ 8 → column row.now 7 ≡ natural days
+        → result ≡ Some days }
 {
     u8::try_from(number_at(row, 7)?).ok()
 }
 
 fn deadline_at(row: &Row) -> Option<Deadline>
-    ensures value { IfSome result (λ d. (column row.now 7 ≡ natural d.days) × (column row.now 8 ≡ natural d.time)) }
+    ensures value { IfSome result (λ d. (column row.now 7 ≡ natural d.days)
+        × (column row.now 8 ≡ natural d.time)) }
     ensures found { (d : DeadlineValue) → IsDeadline d → column row.now 7 ≡ natural d.days
         → column row.now 8 ≡ natural d.time → result ≡ Some d }
 {
@@ -71,7 +74,8 @@ fn deadline_at(row: &Row) -> Option<Deadline>
 // The deadline of type X, or none where both columns have NULL.
 fn optional_deadline_at(row: &Row) -> Option<Option<Deadline>>
     ensures value { IfSome result (λ d. HasDeadline row.now d) }
-    ensures found { (d : Option DeadlineValue) → IfSome d IsDeadline → HasDeadline row.now d → result ≡ Some d }
+    ensures found { (d : Option DeadlineValue) → IfSome d IsDeadline → HasDeadline row.now d
+        → result ≡ Some d }
 {
     if is_null_at(row, 7) && is_null_at(row, 8) {
         return Some(None);
@@ -105,7 +109,8 @@ fn type_at(row: &Row) -> Option<CycleType>
 pub(crate) fn told_at(row: &Row, name: &Name) -> Option<ToldCycle>
     requires { column row.now 0 ≡ Text name.now }
     ensures value { IfSome result (λ t. row.now ≡ told_values name.now t) }
-    ensures found { (t : ToldValue) → IsReadableCycle t → row.now ≡ told_values name.now t → result ≡ Some t }
+    ensures found { (t : ToldValue) → IsReadableCycle t → row.now ≡ told_values name.now t
+        → result ≡ Some t }
 {
     if row.len() != 9 {
         return None;

@@ -26,7 +26,8 @@ use work_calendars::{Name, Short};
 
 // The run cycle of this name, or none if the name is too long.
 fn cycle_with(name: &Name, part: &CyclePart) -> Result<Option<RunCycle>, AllocError>
-    ensures made { IfOk result (λ found. IfSome found (λ cycle. cycle ≡ cycle_of (name.now, part.now))) }
+    ensures made { IfOk result (λ found. IfSome found (λ cycle.
+        cycle ≡ cycle_of (name.now, part.now))) }
     ensures found { IfOk result (λ found. IsSome found ↔ IsShort name.now) }
 {
     let Some(name) = Short::from_text(name.as_str()) else {
@@ -49,7 +50,8 @@ fn cycles_with(
     alloc: Global,
     parts: &[(Name, CyclePart)],
 ) -> Result<Option<Vec<RunCycle>>, AllocError>
-    ensures made { IfOk result (λ found. IfSome found (λ cycles. cycles.items ≡ map cycle_of parts.now)) }
+    ensures made { IfOk result (λ found. IfSome found (λ cycles.
+        cycles.items ≡ map cycle_of parts.now)) }
     ensures found { IfOk result (λ found. HaveShortNames parts.now → IsSome found) }
 {
     let mut cycles = Vec::new(alloc);
@@ -66,7 +68,8 @@ fn cycles_with(
 fn cycles_of(alloc: Global, parts: ByName<CyclePart>) -> Result<Option<RunCycles>, AllocError>
     ensures made { IfOk result (λ found. IfSome found (ArePartsOf parts)) }
     ensures rising { IfOk result (λ found. IfSome found (AreRising (λ cycle. cycle.name))) }
-    ensures found { IfOk result (λ found. ((name : List ℕ) (part : PartValue) → maps.get parts name ≡ Some part
+    ensures found { IfOk result (λ found. ((name : List ℕ) (part : PartValue)
+        → maps.get parts name ≡ Some part
         → IsShort name) → IsSome found) }
 {
     let parts = parts.into_vec(alloc)?;
@@ -133,8 +136,10 @@ pub(crate) fn read_cycles(
     ensures cycles { IfOk result (λ found. IfSome found (AreRowsOf IsCycleRow rows.items)) }
     ensures offsets { IfOk result (λ found. IfSome found (AreRowsOf IsOffsetRow offsets.items)) }
     ensures told { IfOk result (λ found. IfSome found (AreEach AreCycles)) }
-    ensures found { IfOk result (λ found. (all : Defined (List RunCycleValue)) → AreSound AreSoundCycles all
-        → AreRowsOf IsCycleRow rows.items all → AreRowsOf IsOffsetRow offsets.items all → IsSome found) }
+    ensures found { IfOk result (λ found. (all : Defined (List RunCycleValue))
+        → AreSound AreSoundCycles all
+        → AreRowsOf IsCycleRow rows.items all → AreRowsOf IsOffsetRow offsets.items all
+        → IsSome found) }
 {
     if !are_wide(&rows, 10) {
         return Ok(None);

@@ -28,6 +28,7 @@ use Rattle.planner_machine.specs.declared.content.Bounds.{Bounds}
 use Rattle.planner_machine.specs.declared.job.Job.{Job}
 use Rattle.plan_listings.specs.Reply.{refusal_text, reply_text}
 use Rattle.table_schema.specs.Rows.{Tables, shown}
+use Rattle.table_schema.specs.declared.tables.TheConstants.{SCHEMA_VERSION}
 use Rattle.table_schema.specs.declared.tables.Table.{Table}
 use Rattle.table_schema.specs.declared.tables.Table.TheVariants as table
 use Rattle.table_facts.specs.Facts.{application_values, current_values, deletion_values, flag, link_values}
@@ -69,7 +70,7 @@ bounds_values None rest = flag false ∷ natural 0 ∷ natural 0 ∷ natural 0 �
 bounds_values (Some b) rest = flag true ∷ natural b.first_day ∷ natural b.last_day ∷ natural b.plan_end ∷ rest
 
 abbrev pub meta_values : Option Bounds → ℕ → Options → Values
-meta_values bounds issued options = natural 1 ∷ natural 1
+meta_values bounds issued options = natural 1 ∷ natural SCHEMA_VERSION
     ∷ bounds_values bounds (natural issued ∷ Text options.default_calendar ∷ natural options.max_extension_hours ∷ [])
 
 -- a fact of the content that belongs to the table

@@ -1,17 +1,21 @@
 -- A database that was opened.
-use Rattle.std.proofs.Common.{◌≡◌, ◌⊎◌, ◌∙◌, ◌≤◌, true, inl, inr, sym, subst, refl, arith, true≢false, IsSome, IsTrue}
+use Rattle.std.proofs.Common.{◌≡◌, ◌⊎◌, ◌∙◌, ◌≤◌, true, inl, inr, sym, subst, refl, ap, arith, true≢false, IsSome, IsTrue}
+use Rattle.std.proofs.Common.{Result, Ok, Err, None}
+use Rattle.std.specs.Prelude.{OnOk}
 use Rattle.sqlite.specs.Effect.{Database}
 use Rattle.sqlite.specs.State.{HasCleanDisk, IsUnchanged, State, Survives}
 use Rattle.sqlite.specs.declared.error.Error.{Error}
 use Rattle.sqlite_trees.specs.declared.error.StoreError.TheVariants as store
 use Rattle.sqlite.proofs.StateLemmas.{survives_weaker}
+use Rattle.app_definitions.specs.Options.{default_options}
 use Rattle.planner_machine.specs.Content.{Content, nothing_known}
-use Rattle.table_schema.specs.Rows.{HaveRowids, MayFail, Tables, tables_of}
+use Rattle.table_schema.specs.Rows.{HaveRowids, IsMadeWhole, MayFail, Stands, Tables, tables_of, with_cells}
 use Rattle.table_schema.specs.Schema.{no_schema}
-use Rattle.table_facts.specs.Content.{IsContentOf}
+use Rattle.table_schema.specs.declared.tables.Table.TheVariants as table
+use Rattle.table_facts.specs.Content.{IsContentOf, meta_values}
 use Rattle.table_reading.specs.Reading.{HasPlan, Looks}
 use Rattle.table_reading.proofs.LookLemmas.{plan_still}
-use Rattle.table_opening.specs.First.{first_rows}
+use Rattle.table_opening.specs.First.{IsMadeFirst, first_rows}
 use Rattle.table_opening.specs.Opened.{IsUnmade, IsCaused, IsStored, MakesFirst}
 use Rattle.table_opening.specs.Faults.{fault_for}
 use Rattle.table_opening.specs.Stored.{AllHaveRowids}
@@ -47,6 +51,18 @@ makes_first old new blank = survives_weaker old new _ _ (λ clean db made. (
   blank,
   blank_content (tables_of db) nothing_known (made blank) refl,
 ))
+
+-- the first row makes the tables of which nothing is known
+pub made_first : {A E : Type 0} (r : Result A E) (old new : State) → IsMadeWhole old
+    → OnOk r (Stands old new (with_cells table.Meta (meta_values None 0 default_options) (tables_of old.now.trees)))
+    → OnOk r (IsMadeFirst new)
+made_first (Ok a) old new begun stands = record {
+  plan = stands.plan;
+  rows_are = stands.rows_are
+      ∙ ap (with_cells table.Meta (meta_values None 0 default_options)) begun.rows_are;
+  mode = stands.mode;
+}
+made_first (Err e) old new begun stands = tt
 
 -- ---- why it is not opened
 

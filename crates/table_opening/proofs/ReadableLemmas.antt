@@ -26,6 +26,7 @@ use Rattle.occurrences.specs.declared.row.Row.{Row}
 use Rattle.planner_machine.specs.Content.{Content, StandsAt, Seat, alone, empty_seat, seat}
 use Rattle.planner_machine.specs.declared.content.Bounds.{Bounds}
 use Rattle.planner_machine.proofs.SeatLemmas.{cases_issued, not_empty}
+use Rattle.table_schema.specs.declared.tables.TheConstants.{SCHEMA_VERSION}
 use Rattle.table_facts.specs.Content.{meta_values}
 use Rattle.table_facts.specs.Facts.{natural}
 use Rattle.table_schema.specs.Rows.{HaveRowids, Tables, shown}
@@ -103,7 +104,7 @@ one_row (a ∷ b ∷ rs) w exactly id have =
     absurd (cc)
 
 meta_version : (bounds : Option Bounds) (issued : ℕ) (options : Options)
-    → (column (meta_values bounds issued options) 0 ≡ natural 1) × (column (meta_values bounds issued options) 1 ≡ natural 1)
+    → (column (meta_values bounds issued options) 0 ≡ natural 1) × (column (meta_values bounds issued options) 1 ≡ natural SCHEMA_VERSION)
 meta_version bounds issued options = (refl, refl)
 
 module _ (all : Tables) (hold : HoldSound all) where

@@ -5,6 +5,7 @@ use Rattle.table_facts.specs.Facts.{natural}
 use Rattle.planner_machine.specs.Content.{Content}
 use Rattle.planner_machine.specs.Sound.{IsSound}
 use Rattle.table_schema.specs.Rows.{Tables, shown, tables_of}
+use Rattle.table_schema.specs.declared.tables.TheConstants.{SCHEMA_VERSION}
 use Rattle.table_schema.specs.declared.tables.Table.TheVariants.{Meta}
 use Rattle.table_facts.specs.Content.{IsContentOf}
 use Rattle.sqlite.specs.State.{State}
@@ -14,7 +15,7 @@ use Rattle.table_opening.specs.Stored.{AllHaveRowids}
 
 -- the one row that `plan_meta` shows has a known version
 abbrev pub AreKnown : List Values → Type 0
-AreKnown rows = (cells : Values) × (rows ≡ cells ∷ []) × (column cells 1 ≡ natural 1)
+AreKnown rows = (cells : Values) × (rows ≡ cells ∷ []) × (column cells 1 ≡ natural SCHEMA_VERSION)
 
 -- the tables have a sound content, and no table has two rows with one rowid
 pub record HoldSound (all : Tables) : Type 0 where

@@ -40,10 +40,14 @@ pub fn open_connection_from<S: Start>(
     ensures found { IfOk result (λ conn. HasCleanDisk (file_state conn)
         → FindsIn (image_at S.Start) (file_state conn)) }
     ensures fresh { IfOk result IsNew }
-    ensures cases { IfErr result (λ left. (left.0 ≡ Memory) ⊎ (left.0 ≡ Device) ⊎ (left.0 ≡ Unopened)) }
-    ensures unopened { IfErr result (λ left. left.1 ≡ None → (left.0 ≡ Memory) ⊎ (left.0 ≡ Unopened)) }
-    ensures caused { IfErr result (λ left. IfSome left.1 (λ rest. (files : _) × IsFresh true files.log
-        × IsFresh false files.db × (IsCleanLeft rest → IsRefused files rest left.0 × LeavesFiles files rest))) }
+    ensures cases { IfErr result (λ left. (left.0 ≡ Memory) ⊎ (left.0 ≡ Device)
+        ⊎ (left.0 ≡ Unopened)) }
+    ensures unopened { IfErr result (λ left. left.1 ≡ None → (left.0 ≡ Memory)
+        ⊎ (left.0 ≡ Unopened)) }
+    ensures caused { IfErr result (λ left. IfSome left.1 (λ rest. (files : _)
+        × IsFresh true files.log
+        × IsFresh false files.db × (IsCleanLeft rest → IsRefused files rest left.0
+        × LeavesFiles files rest))) }
 {
     match Connection::open_from(rt, path, false, start) {
         Ok(conn) => Ok(conn),
@@ -58,7 +62,8 @@ pub fn open_connection(
 ) -> Result<Connection<FileStore<File>>, OpenFault>
     ensures opened { IfOk result (λ conn. HasCleanDisk (file_state conn) → IsOpened conn) }
     ensures fresh { IfOk result IsNew }
-    ensures cases { IfErr result (λ fault. (fault ≡ Memory) ⊎ (fault ≡ Device) ⊎ (fault ≡ Unopened)) }
+    ensures cases { IfErr result (λ fault. (fault ≡ Memory) ⊎ (fault ≡ Device)
+        ⊎ (fault ≡ Unopened)) }
 {
     match open_connection_from(rt, path, Unknown) {
         Ok(conn) => Ok(conn),

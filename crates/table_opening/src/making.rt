@@ -1,10 +1,11 @@
 // A database without tables gets them.
 
-ghost use Rattle.std.specs.Prelude.{◌≡◌, false, IfErr, OnOk, OnErr, IsTrue};
-ghost use Rattle.sqlite.specs.State.{HasCleanDisk, KeepsCommit, Survives};
+ghost use Rattle.std.specs.Prelude.{◌≡◌, false, IfErr, OnOk, IsTrue};
+ghost use Rattle.sqlite.specs.State.{HasCleanDisk, Survives};
 ghost use Rattle.sqlite.specs.Held.{state};
-ghost use Rattle.table_schema.specs.Rows.{IsPlan, MayFail, Stands, no_rows, tables_of};
-ghost use Rattle.table_schema.specs.Schema.{no_schema, plan_schema};
+ghost use Rattle.table_schema.specs.Rows.{IsEmptyInside, IsMadeWhole, IsPlan, MayFail, tables_of};
+ghost use Rattle.table_schema.specs.Schema.{no_schema};
+ghost use Rattle.table_schema.specs.Writes.{Makes};
 ghost use Rattle.table_opening.specs.First.{IsMadeFirst, first_rows};
 
 use sqlite::types::ValueRef;
@@ -13,22 +14,7 @@ use table_schema::{Table, insert, make_all};
 
 // Puts in that there is no plan, and the options that hold where none are given.
 fn put_first<S: Alter>(tx: &mut Transaction<'_, S>) -> Result<(), Error>
-    ensures same_reference { tx.new.conn.ghost_name ≡ tx.old.conn.ghost_name }
-    ensures ok { HasCleanDisk (state S.Store tx.new.conn.now) → IsPlan (state S.Store tx.old.conn.now)
-        → tables_of (state S.Store tx.old.conn.now).now.trees ≡ no_rows
-        → IsTrue (state S.Store tx.old.conn.now).in_transaction
-        → OnOk result (Stands (state S.Store tx.old.conn.now) (state S.Store tx.new.conn.now) first_rows) }
-    ensures fails { HasCleanDisk (state S.Store tx.new.conn.now)
-        → (state S.Store tx.old.conn.now).now.schema ≡ plan_schema
-        → tables_of (state S.Store tx.old.conn.now).now.trees ≡ no_rows
-        → IsTrue (state S.Store tx.old.conn.now).in_transaction
-        → IfErr result (MayFail (state S.Store tx.old.conn.now) (state S.Store tx.new.conn.now)) }
-    ensures stays_open { HasCleanDisk (state S.Store tx.new.conn.now)
-        → IsTrue (state S.Store tx.old.conn.now).in_transaction
-        → OnOk result (IsTrue (state S.Store tx.new.conn.now).is_open) }
-    ensures kept { HasCleanDisk (state S.Store tx.new.conn.now)
-        → KeepsCommit (state S.Store tx.old.conn.now) (state S.Store tx.new.conn.now) }
-    ensures survives { Survives (state S.Store tx.old.conn.now) (state S.Store tx.new.conn.now) (λ _. ⊥) }
+    ensures { Makes S.Store tx.old tx.new result IsMadeWhole IsMadeFirst }
 {
     insert(
         tx,
@@ -49,22 +35,7 @@ fn put_first<S: Alter>(tx: &mut Transaction<'_, S>) -> Result<(), Error>
 
 // Makes the tables and their first row, in a transaction that is open.
 fn make_inside<S: Alter>(tx: &mut Transaction<'_, S>) -> Result<(), Error>
-    ensures same_reference { tx.new.conn.ghost_name ≡ tx.old.conn.ghost_name }
-    ensures ok { HasCleanDisk (state S.Store tx.new.conn.now)
-        → (state S.Store tx.old.conn.now).now.schema ≡ no_schema
-        → IsTrue (state S.Store tx.old.conn.now).in_transaction
-        → OnOk result (IsMadeFirst (state S.Store tx.new.conn.now)) }
-    ensures fails { HasCleanDisk (state S.Store tx.new.conn.now)
-        → (state S.Store tx.old.conn.now).now.schema ≡ no_schema
-        → IsTrue (state S.Store tx.old.conn.now).in_transaction
-        → IfErr result (MayFail (state S.Store tx.old.conn.now) (state S.Store tx.new.conn.now)) }
-    ensures stays_open { HasCleanDisk (state S.Store tx.new.conn.now)
-        → (state S.Store tx.old.conn.now).now.schema ≡ no_schema
-        → IsTrue (state S.Store tx.old.conn.now).in_transaction
-        → OnOk result (IsTrue (state S.Store tx.new.conn.now).is_open) }
-    ensures kept { HasCleanDisk (state S.Store tx.new.conn.now)
-        → KeepsCommit (state S.Store tx.old.conn.now) (state S.Store tx.new.conn.now) }
-    ensures survives { Survives (state S.Store tx.old.conn.now) (state S.Store tx.new.conn.now) (λ _. ⊥) }
+    ensures { Makes S.Store tx.old tx.new result IsEmptyInside IsMadeFirst }
 {
     make_all(tx)?;
     put_first(tx)
@@ -74,14 +45,18 @@ fn make_inside<S: Alter>(tx: &mut Transaction<'_, S>) -> Result<(), Error>
 /// memory, for a failure of the device, for a connection that was shut, or for a limit on steps.
 pub(crate) fn make_first<S: Alter>(conn: &mut Connection<S>) -> Result<(), Error>
     requires { conn.old.in_transaction ≡ false }
-    ensures done { HasCleanDisk (state S.Store conn.new) → (state S.Store conn.old).now.schema ≡ no_schema
-        → OnOk result (IsPlan (state S.Store conn.new) × (tables_of (state S.Store conn.new).now.trees ≡ first_rows)) }
-    ensures fails { HasCleanDisk (state S.Store conn.new) → (state S.Store conn.old).now.schema ≡ no_schema
+    ensures done { HasCleanDisk (state S.Store conn.new)
+        → (state S.Store conn.old).now.schema ≡ no_schema
+        → OnOk result (IsPlan (state S.Store conn.new)
+        × (tables_of (state S.Store conn.new).now.trees ≡ first_rows)) }
+    ensures fails { HasCleanDisk (state S.Store conn.new)
+        → (state S.Store conn.old).now.schema ≡ no_schema
         → IfErr result (MayFail (state S.Store conn.old) (state S.Store conn.new)) }
     ensures committed { HasCleanDisk (state S.Store conn.new)
         → OnOk result ((state S.Store conn.new).committed ≡ (state S.Store conn.new).now) }
     ensures ended { conn.new.in_transaction ≡ false }
-    ensures stays_open { HasCleanDisk (state S.Store conn.new) → OnOk result (IsTrue (state S.Store conn.new).is_open) }
+    ensures stays_open { HasCleanDisk (state S.Store conn.new)
+        → OnOk result (IsTrue (state S.Store conn.new).is_open) }
     ensures crash { Survives (state S.Store conn.old) (state S.Store conn.new)
         (λ db. (state S.Store conn.old).now.schema ≡ no_schema → tables_of db ≡ first_rows) }
 {

@@ -51,9 +51,11 @@ fn if_sound(alloc: Global, content: Content) -> Result<Content, OpenFault>
 // The sound content that has these lists and rows.
 fn sound_content(alloc: Global, lists: PlanLists, stored: &StoredRows) -> Result<Content, OpenFault>
     ensures sound { IfOk result (λ content. IsSound (content_of content)) }
-    ensures content { IfOk result (λ content. (all : Tables) → TellPlans all lists → TellStored all stored.now
+    ensures content { IfOk result (λ content. (all : Tables) → TellPlans all lists
+        → TellStored all stored.now
         → IsContentOf all (content_of content)) }
-    ensures refused { result ≡ Err Rows → (all : Tables) → TellPlans all lists → TellStored all stored.now
+    ensures refused { result ≡ Err Rows → (all : Tables) → TellPlans all lists
+        → TellStored all stored.now
         → HoldSound all → ⊥ }
     ensures version { result ≡ Err Unopened → ⊥ }
     ensures caused { IfErr result (λ fault. (fault ≡ Memory) ⊎ (fault ≡ Rows)) }
@@ -79,8 +81,10 @@ fn is_known(rows: &[Cells]) -> bool
 // Whether the tables of the plan are of a known version.
 #[tactic(auto, unfolding(table_reading::specs::Reading::HasPlan))]
 fn has_version<S: Alter>(conn: &mut Connection<S>) -> Result<bool, Error>
-    ensures told { HasCleanDisk (state S.Store conn.new) → HasPlan (state S.Store conn.old) → IfOk result (λ b.
-        IsTrue b ↔ AreKnown (map (shown Meta) (tables_of (state S.Store conn.old).now.trees Meta))) }
+    ensures told { HasCleanDisk (state S.Store conn.new) → HasPlan (state S.Store conn.old)
+        → IfOk result (λ b.
+        IsTrue b ↔ AreKnown (map (shown Meta)
+        (tables_of (state S.Store conn.old).now.trees Meta))) }
     ensures looks { Looks (state S.Store conn.old) (state S.Store conn.new) (is_ok result) }
     ensures fails { HasCleanDisk (state S.Store conn.new) → HasPlan (state S.Store conn.old)
         → IfErr result (MayFail (state S.Store conn.old) (state S.Store conn.new)) }
@@ -96,9 +100,11 @@ fn read_whole<S: Alter>(alloc: Global, conn: &mut Connection<S>) -> Result<Conte
     ensures opened { HasCleanDisk (state S.Store conn.new) → HasPlan (state S.Store conn.old)
         → IfOk result (λ content. IsStored (state S.Store conn.new) (content_of content)) }
     ensures told { HasCleanDisk (state S.Store conn.new) → HasPlan (state S.Store conn.old)
-        → IfOk result (λ content. IsContentOf (tables_of (state S.Store conn.old).now.trees) (content_of content)) }
+        → IfOk result (λ content. IsContentOf (tables_of (state S.Store conn.old).now.trees)
+        (content_of content)) }
     ensures sound { IfOk result (λ content. IsSound (content_of content)) }
-    ensures rows { HasCleanDisk (state S.Store conn.new) → HoldsPlan (state S.Store conn.old) → result ≡ Err Rows → ⊥ }
+    ensures rows { HasCleanDisk (state S.Store conn.new) → HoldsPlan (state S.Store conn.old)
+        → result ≡ Err Rows → ⊥ }
     ensures version { result ≡ Err Unopened → ⊥ }
     ensures caused { HasCleanDisk (state S.Store conn.new) → HasPlan (state S.Store conn.old)
         → IfErr result (IsCaused (state S.Store conn.old) (state S.Store conn.new)) }
@@ -124,13 +130,16 @@ fn open_plan<S: Alter>(alloc: Global, conn: &mut Connection<S>) -> Result<Conten
     ensures opened { HasCleanDisk (state S.Store conn.new)
         → IfOk result (λ content. IsStored (state S.Store conn.new) (content_of content)) }
     ensures told { HasCleanDisk (state S.Store conn.new)
-        → IfOk result (λ content. IsContentOf (tables_of (state S.Store conn.old).now.trees) (content_of content)) }
+        → IfOk result (λ content. IsContentOf (tables_of (state S.Store conn.old).now.trees)
+        (content_of content)) }
     ensures sound { IfOk result (λ content. IsSound (content_of content)) }
-    ensures rows { HasCleanDisk (state S.Store conn.new) → HoldsPlan (state S.Store conn.old) → result ≡ Err Rows → ⊥ }
+    ensures rows { HasCleanDisk (state S.Store conn.new) → HoldsPlan (state S.Store conn.old)
+        → result ≡ Err Rows → ⊥ }
     ensures known { HasCleanDisk (state S.Store conn.new) → result ≡ Err Rows
         → AreKnown (map (shown Meta) (tables_of (state S.Store conn.old).now.trees Meta)) }
     ensures version { HasCleanDisk (state S.Store conn.new)
-        → AreKnown (map (shown Meta) (tables_of (state S.Store conn.old).now.trees Meta)) → result ≡ Err Unopened → ⊥ }
+        → AreKnown (map (shown Meta) (tables_of (state S.Store conn.old).now.trees Meta))
+        → result ≡ Err Unopened → ⊥ }
     ensures caused { HasCleanDisk (state S.Store conn.new)
         → IfErr result (IsCaused (state S.Store conn.old) (state S.Store conn.new)) }
     ensures mode { conn.new.in_transaction ≡ false }

@@ -86,8 +86,10 @@ fn are_rising(rows: &[Cells]) -> bool
 
 // The rowids of the table, in some order.
 fn select_rowids<S: Alter>(conn: &mut Connection<S>, table: Table) -> Result<Vec<Cells>, Error>
-    ensures rows { HasCleanDisk (state S.Store conn.new) → HasPlan (state S.Store conn.old) → IfOk result (λ rows.
-        IsPermutation (map rowid_shown (tables_of (state S.Store conn.old).now.trees table)) rows.items) }
+    ensures rows { HasCleanDisk (state S.Store conn.new) → HasPlan (state S.Store conn.old)
+        → IfOk result (λ rows.
+        IsPermutation (map rowid_shown (tables_of
+        (state S.Store conn.old).now.trees table)) rows.items) }
     ensures looks { Looks (state S.Store conn.old) (state S.Store conn.new) (is_ok result) }
     ensures fails { HasCleanDisk (state S.Store conn.new) → HasPlan (state S.Store conn.old)
         → IfErr result (MayFail (state S.Store conn.old) (state S.Store conn.new)) }
@@ -107,7 +109,8 @@ fn sort_rowids(rows: &mut Vec<Cells>)
 
 /// Whether each row of the table has an integer as its rowid, and no two the same.
 pub(crate) fn has_rowids<S: Alter>(conn: &mut Connection<S>, table: Table) -> Result<bool, Error>
-    ensures told { HasCleanDisk (state S.Store conn.new) → HasPlan (state S.Store conn.old) → IfOk result (λ b.
+    ensures told { HasCleanDisk (state S.Store conn.new) → HasPlan (state S.Store conn.old)
+        → IfOk result (λ b.
         IsTrue b ↔ HaveRowids (tables_of (state S.Store conn.old).now.trees table)) }
     ensures looks { Looks (state S.Store conn.old) (state S.Store conn.new) (is_ok result) }
     ensures fails { HasCleanDisk (state S.Store conn.new) → HasPlan (state S.Store conn.old)

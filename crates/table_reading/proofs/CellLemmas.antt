@@ -13,6 +13,7 @@ use Rattle.external_dependencies.specs.declared.pairs.Pair.{Pair}
 use Rattle.planner_machine.specs.declared.job.Job.{Job}
 use Rattle.app_definitions.specs.declared.options.Options.{Options}
 use Rattle.planner_machine.specs.declared.content.Bounds.{Bounds}
+use Rattle.table_schema.specs.declared.tables.TheConstants.{SCHEMA_VERSION}
 use Rattle.table_facts.specs.Content.{answer_text, job_values, meta_values}
 use Rattle.table_facts.specs.Facts.{current_values, deletion_values, link_values, natural, pair_values, row_values}
 use Rattle.table_reading.specs.Cells.{HasBounds, HasOptions, Leads}
@@ -120,7 +121,7 @@ nine (a ∷ b ∷ []) len = absurd (omega arith)
 nine (a ∷ b ∷ c ∷ rest) len = ap (λ l. a ∷ b ∷ c ∷ l) (six rest (omega arith))
 
 pub meta_from : (bounds : Option Bounds) (issued : ℕ) (options : Options) (cells : Values) → length cells ≡ 9
-    → column cells 0 ≡ natural 1 → column cells 1 ≡ natural 1 → HasBounds bounds cells
+    → column cells 0 ≡ natural 1 → column cells 1 ≡ natural SCHEMA_VERSION → HasBounds bounds cells
     → column cells 6 ≡ natural issued → column cells 7 ≡ Text options.default_calendar
     → column cells 8 ≡ natural options.max_extension_hours → meta_values bounds issued options ≡ cells
 meta_from None issued options cells len id version (a, b, c, d) number name hours =
@@ -136,7 +137,7 @@ meta_from (Some bounds) issued options cells len id version (a, b, c, d) number 
 pub record AreMetaCells (bounds : Option Bounds) (issued : ℕ) (options : Options) (cells : Values) : Type 0 where
   pub size : length cells ≡ 9
   pub id : column cells 0 ≡ natural 1
-  pub version : column cells 1 ≡ natural 1
+  pub version : column cells 1 ≡ natural SCHEMA_VERSION
   pub reach : HasBounds bounds cells
   pub serials : column cells 6 ≡ natural issued
   pub chosen : HasOptions options cells

@@ -13,13 +13,13 @@ ghost use Rattle.occurrences.specs.declared.reply.Reply.TheVariants.{Made, Moved
 ghost use Rattle.occurrences.specs.declared.status.Status.{Status as StatusValue};
 ghost use Rattle.plan_listings.specs.Reply.{refusal_text, reply_text};
 ghost use Rattle.planner_machine.specs.Sound.{IsKeptReply};
-ghost use Rattle.table_facts.specs.Content.{answer_text, IsSmall};
+ghost use Rattle.table_facts.specs.Content.{answer_text};
 ghost use Rattle.table_reading.specs.Lines.{IsDetailed, back, bare_refusals, changed_text, front, made_text, moved_text};
 
 use occurrences::{Refusal, Reply, Serial, Status};
-use plan_listings::{refusal_line, reply_line};
 use planner_machine::Answer;
 use std::alloc::{AllocError, Global};
+use table_facts::answer_line;
 use work_calendars::App;
 
 // Up to the first blank, and behind it: all of it and nothing, where it has none.
@@ -80,7 +80,8 @@ fn made_in(text: &str) -> Reply
 
 // So many moved, carried, completed and deleted.
 fn moved_in(text: &str) -> Reply
-    ensures { (m a k d : ℕ) → m < 2 ^ 64 → a < 2 ^ 64 → k < 2 ^ 64 → d < 2 ^ 64 → text.now ≡ moved_text m a k d
+    ensures { (m a k d : ℕ) → m < 2 ^ 64 → a < 2 ^ 64 → k < 2 ^ 64 → d < 2 ^ 64
+        → text.now ≡ moved_text m a k d
         → result ≡ Moved m a k d }
 {
     let carried = behind_two(text);
@@ -107,16 +108,6 @@ fn occurrence_in(text: &str) -> Option<Reply>
     }
 }
 
-// The line of an answer.
-fn answer_line(alloc: Global, answer: &Answer) -> Result<Vec<u8>, AllocError>
-    ensures { IfOk result (λ line. line.items ≡ answer_text answer.now) }
-{
-    match answer {
-        Ok(reply) => reply_line(alloc, reply),
-        Err(refusal) => refusal_line(alloc, refusal),
-    }
-}
-
 // Whether this is the line of the answer.
 fn is_line(alloc: Global, answer: &Answer, line: &[u8]) -> Result<bool, AllocError>
     ensures { IfOk result (λ b. IsTrue b ↔ (answer_text answer.now ≡ line.now)) }
@@ -140,7 +131,8 @@ fn if_line(alloc: Global, answer: Answer, line: &str) -> Result<Option<Answer>, 
 // The reply whose line this is.
 fn told_reply(alloc: Global, line: &str) -> Result<Option<Answer>, AllocError>
     ensures value { IfOk result (λ found. IfSome found (λ answer. answer_text answer ≡ line.now)) }
-    ensures none { IfOk result (λ found. found ≡ None → (reply : ReplyValue) → IsKeptReply (Ok reply)
+    ensures none { IfOk result (λ found. found ≡ None → (reply : ReplyValue)
+        → IsKeptReply (Ok reply)
         → reply_text reply ≡ line.now → ⊥) }
 {
     let text = behind_two(line);
@@ -166,8 +158,10 @@ fn told_reply(alloc: Global, line: &str) -> Result<Option<Answer>, AllocError>
 // The refusal of an application whose line this is.
 fn told_app(alloc: Global, app: App, line: &str) -> Result<Option<Answer>, AllocError>
     ensures value { IfOk result (λ found. IfSome found (λ answer. answer_text answer ≡ line.now)) }
-    ensures calendar { IfOk result (λ found. found ≡ None → refusal_text (CalendarUndefined app) ≡ line.now → ⊥) }
-    ensures period { IfOk result (λ found. found ≡ None → refusal_text (PeriodUndefined app) ≡ line.now → ⊥) }
+    ensures calendar { IfOk result (λ found. found ≡ None
+        → refusal_text (CalendarUndefined app) ≡ line.now → ⊥) }
+    ensures period { IfOk result (λ found. found ≡ None
+        → refusal_text (PeriodUndefined app) ≡ line.now → ⊥) }
     ensures loops { IfOk result (λ found. found ≡ None → refusal_text (Loop app) ≡ line.now → ⊥) }
 {
     if let Some(found) = if_line(alloc, Err(Refusal::CalendarUndefined { app }), line)? {
@@ -182,7 +176,8 @@ fn told_app(alloc: Global, app: App, line: &str) -> Result<Option<Answer>, Alloc
 // The refusal without a detail whose line this is.
 fn told_bare(alloc: Global, line: &str) -> Result<Option<Answer>, AllocError>
     ensures value { IfOk result (λ found. IfSome found (λ answer. answer_text answer ≡ line.now)) }
-    ensures none { IfOk result (λ found. found ≡ None → All (λ (refusal : RefusalValue). refusal_text refusal ≡ line.now
+    ensures none { IfOk result (λ found. found ≡ None
+        → All (λ (refusal : RefusalValue). refusal_text refusal ≡ line.now
         → ⊥) bare_refusals) }
 {
     let bare = [
@@ -220,7 +215,8 @@ fn told_serial(alloc: Global, line: &str) -> Result<Option<Answer>, AllocError>
 // The refusal with a detail whose line this is.
 fn told_detailed(alloc: Global, line: &str) -> Result<Option<Answer>, AllocError>
     ensures value { IfOk result (λ found. IfSome found (λ answer. answer_text answer ≡ line.now)) }
-    ensures none { IfOk result (λ found. found ≡ None → (refusal : RefusalValue) → IsKeptReply (Err refusal)
+    ensures none { IfOk result (λ found. found ≡ None → (refusal : RefusalValue)
+        → IsKeptReply (Err refusal)
         → IsDetailed refusal → refusal_text refusal ≡ line.now → ⊥) }
 {
     if let Some(found) = told_serial(alloc, line)? {
@@ -235,7 +231,8 @@ fn told_detailed(alloc: Global, line: &str) -> Result<Option<Answer>, AllocError
 /// The answer whose line this is, if one that is kept has it.
 pub(crate) fn told_answer(alloc: Global, line: &str) -> Result<Option<Answer>, AllocError>
     ensures value { IfOk result (λ found. IfSome found (λ answer. answer_text answer ≡ line.now)) }
-    ensures none { IfOk result (λ found. found ≡ None → (answer : Result ReplyValue RefusalValue) → IsKeptReply answer
+    ensures none { IfOk result (λ found. found ≡ None → (answer : Result ReplyValue RefusalValue)
+        → IsKeptReply answer
         → answer_text answer ≡ line.now → ⊥) }
 {
     if let Some(found) = told_reply(alloc, line)? {
@@ -245,65 +242,4 @@ pub(crate) fn told_answer(alloc: Global, line: &str) -> Result<Option<Answer>, A
         return Ok(Some(found));
     }
     told_detailed(alloc, line)
-}
-
-// The numbers of a reply are below 2 ^ 64.
-fn reply_is_small(reply: &Reply)
-    ensures { IsSmall (Ok reply.now) }
-{
-    match reply {
-        Reply::Defined { names } => {
-            let _names = *names;
-        }
-        Reply::Undefined => {}
-        Reply::Made { made, withdrawn } => {
-            let _made = *made;
-            let _withdrawn = *withdrawn;
-        }
-        Reply::Numbered { serial } => {
-            let _serial = serial.get();
-        }
-        Reply::Changed { serial, status: _ } => {
-            let _serial = serial.get();
-        }
-        Reply::Moved {
-            moved,
-            carried,
-            completed,
-            deleted,
-        } => {
-            let _moved = *moved;
-            let _carried = *carried;
-            let _completed = *completed;
-            let _deleted = *deleted;
-        }
-        Reply::Rows { rows } => {
-            let _rows = *rows;
-        }
-    }
-}
-
-// The numbers of a refusal are below 2 ^ 64.
-fn refusal_is_small(refusal: &Refusal)
-    ensures { IsSmall (Err refusal.now) }
-{
-    match refusal {
-        Refusal::FaultyData { record } => {
-            let _record = *record;
-        }
-        Refusal::PredecessorUncompleted { serial } => {
-            let _serial = serial.get();
-        }
-        _ => {}
-    }
-}
-
-/// The numbers of an answer are below 2 ^ 64.
-pub(crate) fn answer_is_small(answer: &Answer)
-    ensures { IsSmall answer.now }
-{
-    match answer {
-        Ok(reply) => reply_is_small(reply),
-        Err(refusal) => refusal_is_small(refusal),
-    }
 }

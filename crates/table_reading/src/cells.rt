@@ -59,7 +59,8 @@ pub(crate) fn day_at(cells: &Cells, at: usize) -> Option<Day>
 /// The text in the cell, if it holds one that is valid.
 pub(crate) fn text_at(cells: &Cells, at: usize) -> Option<&str>
     ensures value { IfSome result (λ text. column cells.now at ≡ Text text.now) }
-    ensures none { result ≡ None → (text : List ℕ) → IsUtf8 text → column cells.now at ≡ Text text → ⊥ }
+    ensures none { result ≡ None → (text : List ℕ) → IsUtf8 text → column cells.now at ≡ Text text
+        → ⊥ }
 {
     match cells.get_ref(at) {
         Ok(ValueRef::Text(bytes)) => std::str::from_utf8(bytes).ok(),
@@ -70,7 +71,8 @@ pub(crate) fn text_at(cells: &Cells, at: usize) -> Option<&str>
 /// The name in the cell, if it holds one.
 pub(crate) fn name_at<const LONGEST: usize>(cells: &Cells, at: usize) -> Option<NameWithin<LONGEST>>
     ensures value { IfSome result (λ name. column cells.now at ≡ Text name) }
-    ensures none { result ≡ None → (name : List ℕ) → IsNameWithin LONGEST name → column cells.now at ≡ Text name → ⊥ }
+    ensures none { result ≡ None → (name : List ℕ) → IsNameWithin LONGEST name
+        → column cells.now at ≡ Text name → ⊥ }
 {
     match text_at(cells, at) {
         Some(text) => NameWithin::from_text(text),
@@ -104,7 +106,8 @@ pub(crate) fn is_null(cells: &Cells, at: usize) -> bool
 
 /// The origin in the cell: the name of a run cycle, or none.
 pub(crate) fn origin_at(cells: &Cells, at: usize) -> Option<Origin>
-    ensures value { IfSome result (λ origin. column cells.now at ≡ or_null (option_map Text (run_cycle_of origin))) }
+    ensures value { IfSome result (λ origin. column cells.now at ≡ or_null (option_map Text
+        (run_cycle_of origin))) }
     ensures none { result ≡ None → (origin : OriginValue) → IsOrigin origin
         → column cells.now at ≡ or_null (option_map Text (run_cycle_of origin)) → ⊥ }
 {

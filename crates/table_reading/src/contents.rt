@@ -74,7 +74,8 @@ fn replace_links(old: &mut Links, new: Links)
 }
 
 fn put_links(content: &mut Content, links: Vec<Link>)
-    ensures kept { content_of content.new ≡ with_links content.new.in_force (content_of content.old) }
+    ensures kept { content_of content.new ≡ with_links content.new.in_force
+        (content_of content.old) }
     ensures same { HaveSame content.new.in_force links.items }
     ensures rising { IsRising link_cmp content.new.in_force }
 {
@@ -89,7 +90,8 @@ fn replace_pairs(old: &mut Pairs, new: Pairs)
 }
 
 fn put_pairs(content: &mut Content, pairs: Vec<Pair>)
-    ensures kept { content_of content.new ≡ with_pairs_of content.new.pairs (content_of content.old) }
+    ensures kept { content_of content.new ≡ with_pairs_of content.new.pairs
+        (content_of content.old) }
     ensures same { HaveSame content.new.pairs pairs.items }
     ensures rising { IsRising pair_cmp content.new.pairs }
 {

@@ -12,13 +12,14 @@ ghost use Rattle.occurrences.specs.declared.reply.Reply.{Reply as ReplyValue};
 ghost use Rattle.planner_machine.specs.Sound.{IsKeptReply};
 ghost use Rattle.table_reading.specs.Cells.{IsReadJob};
 
-use crate::answers::{answer_is_small, told_answer};
+use crate::answers::told_answer;
 use crate::cells::text_at;
 use crate::told::Told;
 use planner_machine::{Answer, Job, JobText};
 use sqlite::Row as Cells;
 use sqlite::types::ValueRef;
 use std::alloc::{AllocError, Global};
+use table_facts::answer_is_small;
 
 // The job's number in the cell, if it holds one.
 fn number_in(cells: &Cells, at: usize) -> Option<u64>
@@ -33,8 +34,10 @@ fn number_in(cells: &Cells, at: usize) -> Option<u64>
 
 // The bytes in the cell, if it holds bytes.
 fn bytes_in(alloc: Global, cells: &Cells, at: usize) -> Result<Option<Vec<u8>>, AllocError>
-    ensures value { IfOk result (λ found. IfSome found (λ bytes. column cells.now at ≡ Blob bytes.items)) }
-    ensures none { IfOk result (λ found. found ≡ None → (bytes : List ℕ) → column cells.now at ≡ Blob bytes → ⊥) }
+    ensures value { IfOk result (λ found. IfSome found (λ bytes.
+        column cells.now at ≡ Blob bytes.items)) }
+    ensures none { IfOk result (λ found. found ≡ None → (bytes : List ℕ)
+        → column cells.now at ≡ Blob bytes → ⊥) }
 {
     match cells.get_ref(at) {
         Ok(ValueRef::Blob(bytes)) => Ok(Some(bytes.to_vec(alloc)?)),
@@ -44,8 +47,10 @@ fn bytes_in(alloc: Global, cells: &Cells, at: usize) -> Result<Option<Vec<u8>>, 
 
 // The answer in the cell, if it holds one's line.
 fn answer_at(alloc: Global, cells: &Cells, at: usize) -> Result<Option<Answer>, AllocError>
-    ensures value { IfOk result (λ found. IfSome found (λ answer. column cells.now at ≡ Text (answer_text answer))) }
-    ensures none { IfOk result (λ found. found ≡ None → (answer : Result ReplyValue RefusalValue) → IsKeptReply answer
+    ensures value { IfOk result (λ found. IfSome found (λ answer. column cells.now at ≡ Text
+        (answer_text answer))) }
+    ensures none { IfOk result (λ found. found ≡ None → (answer : Result ReplyValue RefusalValue)
+        → IsKeptReply answer
         → column cells.now at ≡ Text (answer_text answer) → ⊥) }
 {
     match text_at(cells, at) {
@@ -57,7 +62,8 @@ fn answer_at(alloc: Global, cells: &Cells, at: usize) -> Result<Option<Answer>, 
 #[tactic(auto, using(crate::proofs::CellLemmas::of_job))]
 fn told_job(alloc: Global, cells: &Cells) -> Result<Option<Job>, AllocError>
     ensures value { IfOk result (λ found. IfSome found (λ job. job_values job ≡ cells.now)) }
-    ensures none { IfOk result (λ found. found ≡ None → (job : JobValue) → IsReadJob job → job_values job ≡ cells.now
+    ensures none { IfOk result (λ found. found ≡ None → (job : JobValue) → IsReadJob job
+        → job_values job ≡ cells.now
         → ⊥) }
 {
     if cells.column_count() != 3 {

@@ -17,6 +17,7 @@ use app_definitions::{MAX_EXTENSION_HOURS, Options};
 use planner_machine::Bounds;
 use sqlite::Row as Cells;
 use std::alloc::{AllocError, Global};
+use table_schema::SCHEMA_VERSION;
 
 /// How far the plans reach, how many serials are issued, and the options.
 #[derive(Drop)]
@@ -52,7 +53,8 @@ fn is_unplanned(cells: &Cells) -> bool
 // How far a plan reaches.
 fn told_plan(cells: &Cells) -> Option<Bounds>
     ensures value { IfSome result (λ bounds. HasBounds (Some bounds) cells.now) }
-    ensures none { result ≡ None → (bounds : BoundsValue) → AreDays bounds → HasBounds (Some bounds) cells.now → ⊥ }
+    ensures none { result ≡ None → (bounds : BoundsValue) → AreDays bounds
+        → HasBounds (Some bounds) cells.now → ⊥ }
 {
     if !is_number(cells, 2, 1) {
         return None;
@@ -70,7 +72,8 @@ fn told_plan(cells: &Cells) -> Option<Bounds>
 // How far the plans reach.
 fn told_bounds(cells: &Cells) -> Option<Option<Bounds>>
     ensures value { IfSome result (λ bounds. HasBounds bounds cells.now) }
-    ensures none { result ≡ None → (bounds : Option BoundsValue) → IfSome bounds AreDays → HasBounds bounds cells.now
+    ensures none { result ≡ None → (bounds : Option BoundsValue) → IfSome bounds AreDays
+        → HasBounds bounds cells.now
         → ⊥ }
 {
     if is_unplanned(cells) {
@@ -102,7 +105,8 @@ fn told_options(cells: &Cells) -> Option<Options>
 
 #[tactic(auto, using(crate::proofs::CellLemmas::of_meta))]
 fn told_meta(cells: &Cells) -> Option<Meta>
-    ensures value { IfSome result (λ meta. meta_values meta.bounds meta.issued meta.options ≡ cells.now) }
+    ensures value { IfSome result (λ meta. meta_values meta.bounds meta.issued meta.options
+        ≡ cells.now) }
     ensures none { result ≡ None → (meta : MetaValue) → IsMeta meta
         → meta_values meta.bounds meta.issued meta.options ≡ cells.now → ⊥ }
 {
@@ -112,7 +116,7 @@ fn told_meta(cells: &Cells) -> Option<Meta>
     if !is_number(cells, 0, 1) {
         return None;
     }
-    if !is_number(cells, 1, 1) {
+    if !is_number(cells, 1, SCHEMA_VERSION) {
         return None;
     }
     let bounds = told_bounds(cells)?;

@@ -37,10 +37,12 @@ pub trait Part: Sized + Drop {
     /// Reads it.
     fn read<S: Alter>(alloc: Global, conn: &mut Connection<S>) -> Result<Option<Self>, Error>
         ensures told { HasCleanDisk (state S.Store conn.new) → HasPlan (state S.Store conn.old)
-            → IfOk result (λ found. IfSome found (tells (tables_of (state S.Store conn.old).now.trees))) }
+            → IfOk result (λ found. IfSome found
+            (tells (tables_of (state S.Store conn.old).now.trees))) }
         ensures order { IfOk result (λ found. IfSome found in_order) }
         ensures refused { HasCleanDisk (state S.Store conn.new) → HasPlan (state S.Store conn.old)
-            → IfOk result (λ found. found ≡ None → readable (tables_of (state S.Store conn.old).now.trees) → ⊥) }
+            → IfOk result (λ found. found ≡ None
+            → readable (tables_of (state S.Store conn.old).now.trees) → ⊥) }
         ensures looks { Looks (state S.Store conn.old) (state S.Store conn.new) (is_ok result) }
         ensures fails { HasCleanDisk (state S.Store conn.new) → HasPlan (state S.Store conn.old)
             → IfErr result (MayFail (state S.Store conn.old) (state S.Store conn.new)) }
@@ -105,7 +107,8 @@ impl Part for CurrentRows {
 
     ghost in_order = { λ part. AreInOrder current_number part.rows.items };
 
-    ghost readable = { λ all. ShowsEachOnce all Current current_values (λ current. IsNumberedRow current.row) };
+    ghost readable = { λ all. ShowsEachOnce all Current current_values (λ current.
+        IsNumberedRow current.row) };
 
     fn read<S: Alter>(
         alloc: Global,
@@ -157,7 +160,8 @@ impl Part for DeletionRows {
 
     ghost in_order = { λ part. AreInOrder deletion_number part.rows.items };
 
-    ghost readable = { λ all. ShowsEachOnce all Gone deletion_values (λ gone. IsNumberedRow gone.row) };
+    ghost readable = { λ all. ShowsEachOnce all Gone deletion_values (λ gone.
+        IsNumberedRow gone.row) };
 
     fn read<S: Alter>(
         alloc: Global,

@@ -56,7 +56,8 @@ pub fn read_lists<S: Alter>(
     conn: &mut Connection<S>,
 ) -> Result<Option<PlanLists>, Error>
     ensures told { HasCleanDisk (state S.Store conn.new) → HasPlan (state S.Store conn.old)
-        → IfOk result (λ found. IfSome found (TellPlans (tables_of (state S.Store conn.old).now.trees))) }
+        → IfOk result (λ found. IfSome found
+        (TellPlans (tables_of (state S.Store conn.old).now.trees))) }
     ensures refused { HasCleanDisk (state S.Store conn.new) → HasPlan (state S.Store conn.old)
         → IfOk result (λ found. found ≡ None
         → ArePlansReadable (tables_of (state S.Store conn.old).now.trees) → ⊥) }

@@ -25,11 +25,13 @@ pub(crate) fn read_table<X: Told + Drop, S: Alter>(
     table: Table,
 ) -> Result<Option<Vec<X>>, Error>
     ensures told { HasCleanDisk (state S.Store conn.new) → HasPlan (state S.Store conn.old)
-        → IfOk result (λ found. IfSome found (λ xs. ShowsOnly (tables_of (state S.Store conn.old).now.trees) table
+        → IfOk result (λ found. IfSome found (λ xs.
+        ShowsOnly (tables_of (state S.Store conn.old).now.trees) table
         (IsOneOf X.values xs.items))) }
     ensures listed { HasCleanDisk (state S.Store conn.new) → HasPlan (state S.Store conn.old)
         → IfOk result (λ found. IfSome found (λ xs. IsPermutation
-        (map (shown table) (tables_of (state S.Store conn.old).now.trees table)) (map X.values xs.items))) }
+        (map (shown table) (tables_of (state S.Store conn.old).now.trees table))
+        (map X.values xs.items))) }
     ensures refused { HasCleanDisk (state S.Store conn.new) → HasPlan (state S.Store conn.old)
         → IfOk result (λ found. found ≡ None
         → ShowsEach (tables_of (state S.Store conn.old).now.trees) table X.values X.has_form → ⊥) }
@@ -49,12 +51,14 @@ pub(crate) fn read_in_order<X: Told + Numbered + Drop, S: Alter>(
     table: Table,
 ) -> Result<Option<Vec<X>>, Error>
     ensures told { HasCleanDisk (state S.Store conn.new) → HasPlan (state S.Store conn.old)
-        → IfOk result (λ found. IfSome found (λ xs. ShowsOnly (tables_of (state S.Store conn.old).now.trees) table
+        → IfOk result (λ found. IfSome found (λ xs.
+        ShowsOnly (tables_of (state S.Store conn.old).now.trees) table
         (IsOneOf X.values xs.items))) }
     ensures order { IfOk result (λ found. IfSome found (λ xs. AreInOrder X.number_of xs.items)) }
     ensures refused { HasCleanDisk (state S.Store conn.new) → HasPlan (state S.Store conn.old)
         → IfOk result (λ found. found ≡ None → ShowsNumbers table X.values X.number_of
-        → ShowsEachOnce (tables_of (state S.Store conn.old).now.trees) table X.values X.has_form → ⊥) }
+        → ShowsEachOnce (tables_of (state S.Store conn.old).now.trees) table X.values X.has_form
+        → ⊥) }
     ensures looks { Looks (state S.Store conn.old) (state S.Store conn.new) (is_ok result) }
     ensures fails { HasCleanDisk (state S.Store conn.new) → HasPlan (state S.Store conn.old)
         → IfErr result (MayFail (state S.Store conn.old) (state S.Store conn.new)) }

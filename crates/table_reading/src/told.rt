@@ -29,13 +29,15 @@ pub(crate) trait Told: Sized {
     /// What the row tells; `None` where nothing has these values.
     fn tell(alloc: Global, cells: &Cells) -> Result<Option<Self>, AllocError>
         ensures told { IfOk result (λ found. IfSome found (λ x. values x ≡ cells.now)) }
-        ensures none { IfOk result (λ found. found ≡ None → (x : Self) → has_form x → values x ≡ cells.now → ⊥) };
+        ensures none { IfOk result (λ found. found ≡ None → (x : Self) → has_form x
+            → values x ≡ cells.now → ⊥) };
 }
 
 // The occurrence that the first five cells tell.
 fn leading_row(cells: &Cells) -> Option<Row>
     ensures value { IfSome result (λ row. Leads row cells.now) }
-    ensures none { result ≡ None → (row : RowValue) → IsRow row → IsSerial row.serial → Leads row cells.now → ⊥ }
+    ensures none { result ≡ None → (row : RowValue) → IsRow row → IsSerial row.serial
+        → Leads row cells.now → ⊥ }
 {
     let serial = serial_at(cells, 0)?;
     let app = name_at(cells, 1)?;
@@ -53,7 +55,8 @@ fn leading_row(cells: &Cells) -> Option<Row>
 #[tactic(auto, using(crate::proofs::CellLemmas::of_row))]
 fn told_row(cells: &Cells) -> Option<Row>
     ensures value { IfSome result (λ row. row_values row ≡ cells.now) }
-    ensures none { result ≡ None → (row : RowValue) → IsNumberedRow row → row_values row ≡ cells.now → ⊥ }
+    ensures none { result ≡ None → (row : RowValue) → IsNumberedRow row → row_values row ≡ cells.now
+        → ⊥ }
 {
     if cells.column_count() != 5 {
         return None;
@@ -94,7 +97,8 @@ fn told_deletion(cells: &Cells) -> Option<Deletion>
 #[tactic(auto, using(crate::proofs::CellLemmas::pair_from, crate::proofs::CellLemmas::pair_is))]
 fn told_pair(cells: &Cells) -> Option<Pair>
     ensures value { IfSome result (λ pair. pair_values pair ≡ cells.now) }
-    ensures none { result ≡ None → (pair : PairValue) → IsPair pair → pair_values pair ≡ cells.now → ⊥ }
+    ensures none { result ≡ None → (pair : PairValue) → IsPair pair → pair_values pair ≡ cells.now
+        → ⊥ }
 {
     if cells.column_count() != 2 {
         return None;
@@ -110,7 +114,8 @@ fn told_pair(cells: &Cells) -> Option<Pair>
 #[tactic(auto, using(crate::proofs::CellLemmas::link_from, crate::proofs::CellLemmas::link_is))]
 fn told_link(cells: &Cells) -> Option<Link>
     ensures value { IfSome result (λ link. link_values link ≡ cells.now) }
-    ensures none { result ≡ None → (link : LinkValue) → IsLink link → link_values link ≡ cells.now → ⊥ }
+    ensures none { result ≡ None → (link : LinkValue) → IsLink link → link_values link ≡ cells.now
+        → ⊥ }
 {
     if cells.column_count() != 2 {
         return None;

@@ -2,3 +2,4 @@ pub mod Texts
 pub mod Schema
 pub mod Cells
 pub mod Rows
+pub mod Writes

@@ -17,7 +17,7 @@ use Rattle.sqlite_rules.specs.Edit.{with_rowid}
 use Rattle.sqlite.specs.Rowids.TheVariants.{Chosen}
 use Rattle.sqlite_value.specs.Order.{value_cmp}
 use Rattle.table_schema.specs.Cells.{delete_tests, insert_terms, select_terms}
-use Rattle.table_schema.specs.Schema.{HasTables, plan_schema, table, tree}
+use Rattle.table_schema.specs.Schema.{HasTables, no_schema, plan_schema, table, tree}
 use Rattle.table_schema.specs.declared.tables.Table.{Table}
 use Rattle.table_schema.specs.declared.tables.Table.TheVariants.{Offset, RunCycle}
 
@@ -96,6 +96,10 @@ MayFail old new e = ((cause : StoreError) × (e ≡ store_error cause) × HasCau
 -- no table has a row
 abbrev pub no_rows : Tables
 no_rows t = []
+
+-- in a transaction the database has no tables
+abbrev pub IsEmptyInside : State → Type 0
+IsEmptyInside s = (s.now.schema ≡ no_schema) × IsTrue s.in_transaction
 
 -- in a transaction the database has the tables of this schema, and no rows in them
 pub record IsMade (s : State) (made : Schema) : Type 0 where

@@ -8,4 +8,4 @@ mod texts;
 
 pub use making::{make_all, make_tables};
 pub use statements::{delete, insert, select};
-pub use tables::Table;
+pub use tables::{SCHEMA_VERSION, Table};

@@ -1,10 +1,11 @@
 // The tables are made.
 
 ghost use Rattle.std.specs.Prelude.{◌≡◌, false, IfErr, OnOk, IsTrue};
-ghost use Rattle.sqlite.specs.State.{HasCleanDisk, KeepsCommit, Survives};
+ghost use Rattle.sqlite.specs.State.{HasCleanDisk, Survives};
 ghost use Rattle.sqlite.specs.Held.{state};
-ghost use Rattle.table_schema.specs.Rows.{IsMade, IsMadeWhole, IsPlan, MayFail, no_rows, tables_of};
+ghost use Rattle.table_schema.specs.Rows.{IsEmptyInside, IsMade, IsMadeWhole, IsPlan, MayFail, no_rows, tables_of};
 ghost use Rattle.table_schema.specs.Schema.{after, before, no_schema, plan_schema};
+ghost use Rattle.table_schema.specs.Writes.{Makes};
 ghost use Rattle.table_schema.specs.declared.tables.Table.TheVariants as table;
 
 use crate::tables::Table;
@@ -13,38 +14,16 @@ use sqlite::{Alter, Connection, Error, Transaction};
 
 // Makes the table, which is the next.
 fn make<S: Alter>(tx: &mut Transaction<'_, S>, table: Table) -> Result<(), Error>
-    ensures same_reference { tx.new.conn.ghost_name ≡ tx.old.conn.ghost_name }
-    ensures ok { HasCleanDisk (state S.Store tx.new.conn.now)
-        → IsMade (state S.Store tx.old.conn.now) (before table)
-        → OnOk result (IsMade (state S.Store tx.new.conn.now) (after table)) }
-    ensures fails { HasCleanDisk (state S.Store tx.new.conn.now)
-        → IsMade (state S.Store tx.old.conn.now) (before table)
-        → IfErr result (MayFail (state S.Store tx.old.conn.now) (state S.Store tx.new.conn.now)) }
-    ensures stays_open { HasCleanDisk (state S.Store tx.new.conn.now)
-        → IsMade (state S.Store tx.old.conn.now) (before table)
-        → OnOk result (IsTrue (state S.Store tx.new.conn.now).is_open) }
-    ensures kept { HasCleanDisk (state S.Store tx.new.conn.now)
-        → KeepsCommit (state S.Store tx.old.conn.now) (state S.Store tx.new.conn.now) }
-    ensures survives { Survives (state S.Store tx.old.conn.now) (state S.Store tx.new.conn.now) (λ _. ⊥) }
+    ensures { Makes S.Store tx.old tx.new result (λ s. IsMade s (before table))
+        (λ s. IsMade s (after table)) }
 {
     tx.execute(create_text(table), &[])?;
     Ok(())
 }
 
 fn make_definitions<S: Alter>(tx: &mut Transaction<'_, S>) -> Result<(), Error>
-    ensures same_reference { tx.new.conn.ghost_name ≡ tx.old.conn.ghost_name }
-    ensures ok { HasCleanDisk (state S.Store tx.new.conn.now)
-        → IsMade (state S.Store tx.old.conn.now) (before table.Meta)
-        → OnOk result (IsMade (state S.Store tx.new.conn.now) (after table.Application)) }
-    ensures fails { HasCleanDisk (state S.Store tx.new.conn.now)
-        → IsMade (state S.Store tx.old.conn.now) (before table.Meta)
-        → IfErr result (MayFail (state S.Store tx.old.conn.now) (state S.Store tx.new.conn.now)) }
-    ensures stays_open { HasCleanDisk (state S.Store tx.new.conn.now)
-        → IsMade (state S.Store tx.old.conn.now) (before table.Meta)
-        → OnOk result (IsTrue (state S.Store tx.new.conn.now).is_open) }
-    ensures kept { HasCleanDisk (state S.Store tx.new.conn.now)
-        → KeepsCommit (state S.Store tx.old.conn.now) (state S.Store tx.new.conn.now) }
-    ensures survives { Survives (state S.Store tx.old.conn.now) (state S.Store tx.new.conn.now) (λ _. ⊥) }
+    ensures { Makes S.Store tx.old tx.new result (λ s. IsMade s (before table.Meta))
+        (λ s. IsMade s (after table.Application)) }
 {
     make(tx, Table::Meta)?;
     make(tx, Table::CalendarEntry)?;
@@ -53,19 +32,8 @@ fn make_definitions<S: Alter>(tx: &mut Transaction<'_, S>) -> Result<(), Error>
 }
 
 fn make_cycles<S: Alter>(tx: &mut Transaction<'_, S>) -> Result<(), Error>
-    ensures same_reference { tx.new.conn.ghost_name ≡ tx.old.conn.ghost_name }
-    ensures ok { HasCleanDisk (state S.Store tx.new.conn.now)
-        → IsMade (state S.Store tx.old.conn.now) (before table.RunCycle)
-        → OnOk result (IsMade (state S.Store tx.new.conn.now) (after table.LinkInForce)) }
-    ensures fails { HasCleanDisk (state S.Store tx.new.conn.now)
-        → IsMade (state S.Store tx.old.conn.now) (before table.RunCycle)
-        → IfErr result (MayFail (state S.Store tx.old.conn.now) (state S.Store tx.new.conn.now)) }
-    ensures stays_open { HasCleanDisk (state S.Store tx.new.conn.now)
-        → IsMade (state S.Store tx.old.conn.now) (before table.RunCycle)
-        → OnOk result (IsTrue (state S.Store tx.new.conn.now).is_open) }
-    ensures kept { HasCleanDisk (state S.Store tx.new.conn.now)
-        → KeepsCommit (state S.Store tx.old.conn.now) (state S.Store tx.new.conn.now) }
-    ensures survives { Survives (state S.Store tx.old.conn.now) (state S.Store tx.new.conn.now) (λ _. ⊥) }
+    ensures { Makes S.Store tx.old tx.new result (λ s. IsMade s (before table.RunCycle))
+        (λ s. IsMade s (after table.LinkInForce)) }
 {
     make(tx, Table::RunCycle)?;
     make(tx, Table::Offset)?;
@@ -74,19 +42,8 @@ fn make_cycles<S: Alter>(tx: &mut Transaction<'_, S>) -> Result<(), Error>
 }
 
 fn make_rows<S: Alter>(tx: &mut Transaction<'_, S>) -> Result<(), Error>
-    ensures same_reference { tx.new.conn.ghost_name ≡ tx.old.conn.ghost_name }
-    ensures ok { HasCleanDisk (state S.Store tx.new.conn.now)
-        → IsMade (state S.Store tx.old.conn.now) (before table.LongTerm)
-        → OnOk result (IsMade (state S.Store tx.new.conn.now) (after table.Deletion)) }
-    ensures fails { HasCleanDisk (state S.Store tx.new.conn.now)
-        → IsMade (state S.Store tx.old.conn.now) (before table.LongTerm)
-        → IfErr result (MayFail (state S.Store tx.old.conn.now) (state S.Store tx.new.conn.now)) }
-    ensures stays_open { HasCleanDisk (state S.Store tx.new.conn.now)
-        → IsMade (state S.Store tx.old.conn.now) (before table.LongTerm)
-        → OnOk result (IsTrue (state S.Store tx.new.conn.now).is_open) }
-    ensures kept { HasCleanDisk (state S.Store tx.new.conn.now)
-        → KeepsCommit (state S.Store tx.old.conn.now) (state S.Store tx.new.conn.now) }
-    ensures survives { Survives (state S.Store tx.old.conn.now) (state S.Store tx.new.conn.now) (λ _. ⊥) }
+    ensures { Makes S.Store tx.old tx.new result (λ s. IsMade s (before table.LongTerm))
+        (λ s. IsMade s (after table.Deletion)) }
 {
     make(tx, Table::LongTerm)?;
     make(tx, Table::Current)?;
@@ -95,19 +52,8 @@ fn make_rows<S: Alter>(tx: &mut Transaction<'_, S>) -> Result<(), Error>
 }
 
 fn make_rest<S: Alter>(tx: &mut Transaction<'_, S>) -> Result<(), Error>
-    ensures same_reference { tx.new.conn.ghost_name ≡ tx.old.conn.ghost_name }
-    ensures ok { HasCleanDisk (state S.Store tx.new.conn.now)
-        → IsMade (state S.Store tx.old.conn.now) (before table.Dependency)
-        → OnOk result (IsMade (state S.Store tx.new.conn.now) (after table.Job)) }
-    ensures fails { HasCleanDisk (state S.Store tx.new.conn.now)
-        → IsMade (state S.Store tx.old.conn.now) (before table.Dependency)
-        → IfErr result (MayFail (state S.Store tx.old.conn.now) (state S.Store tx.new.conn.now)) }
-    ensures stays_open { HasCleanDisk (state S.Store tx.new.conn.now)
-        → IsMade (state S.Store tx.old.conn.now) (before table.Dependency)
-        → OnOk result (IsTrue (state S.Store tx.new.conn.now).is_open) }
-    ensures kept { HasCleanDisk (state S.Store tx.new.conn.now)
-        → KeepsCommit (state S.Store tx.old.conn.now) (state S.Store tx.new.conn.now) }
-    ensures survives { Survives (state S.Store tx.old.conn.now) (state S.Store tx.new.conn.now) (λ _. ⊥) }
+    ensures { Makes S.Store tx.old tx.new result (λ s. IsMade s (before table.Dependency))
+        (λ s. IsMade s (after table.Job)) }
 {
     make(tx, Table::Dependency)?;
     make(tx, Table::Job)
@@ -116,22 +62,7 @@ fn make_rest<S: Alter>(tx: &mut Transaction<'_, S>) -> Result<(), Error>
 /// Makes the tables in an empty database, inside a transaction. It fails for want of memory, for a failure of the device,
 /// for a connection that was shut, or for a limit on steps.
 pub fn make_all<S: Alter>(tx: &mut Transaction<'_, S>) -> Result<(), Error>
-    ensures same_reference { tx.new.conn.ghost_name ≡ tx.old.conn.ghost_name }
-    ensures ok { HasCleanDisk (state S.Store tx.new.conn.now)
-        → (state S.Store tx.old.conn.now).now.schema ≡ no_schema
-        → IsTrue (state S.Store tx.old.conn.now).in_transaction
-        → OnOk result (IsMadeWhole (state S.Store tx.new.conn.now)) }
-    ensures fails { HasCleanDisk (state S.Store tx.new.conn.now)
-        → (state S.Store tx.old.conn.now).now.schema ≡ no_schema
-        → IsTrue (state S.Store tx.old.conn.now).in_transaction
-        → IfErr result (MayFail (state S.Store tx.old.conn.now) (state S.Store tx.new.conn.now)) }
-    ensures stays_open { HasCleanDisk (state S.Store tx.new.conn.now)
-        → (state S.Store tx.old.conn.now).now.schema ≡ no_schema
-        → IsTrue (state S.Store tx.old.conn.now).in_transaction
-        → OnOk result (IsTrue (state S.Store tx.new.conn.now).is_open) }
-    ensures kept { HasCleanDisk (state S.Store tx.new.conn.now)
-        → KeepsCommit (state S.Store tx.old.conn.now) (state S.Store tx.new.conn.now) }
-    ensures survives { Survives (state S.Store tx.old.conn.now) (state S.Store tx.new.conn.now) (λ _. ⊥) }
+    ensures { Makes S.Store tx.old tx.new result IsEmptyInside IsMadeWhole }
 {
     make_definitions(tx)?;
     make_cycles(tx)?;
@@ -143,16 +74,21 @@ pub fn make_all<S: Alter>(tx: &mut Transaction<'_, S>) -> Result<(), Error>
 /// Makes the tables in an empty database, in one transaction. It fails as `make_all` does.
 pub fn make_tables<S: Alter>(conn: &mut Connection<S>) -> Result<(), Error>
     requires { conn.old.in_transaction ≡ false }
-    ensures done { HasCleanDisk (state S.Store conn.new) → (state S.Store conn.old).now.schema ≡ no_schema
-        → OnOk result (IsPlan (state S.Store conn.new) × (tables_of (state S.Store conn.new).now.trees ≡ no_rows)) }
-    ensures alone { HasCleanDisk (state S.Store conn.new) → (state S.Store conn.old).now.schema ≡ no_schema
+    ensures done { HasCleanDisk (state S.Store conn.new)
+        → (state S.Store conn.old).now.schema ≡ no_schema
+        → OnOk result (IsPlan (state S.Store conn.new)
+        × (tables_of (state S.Store conn.new).now.trees ≡ no_rows)) }
+    ensures alone { HasCleanDisk (state S.Store conn.new)
+        → (state S.Store conn.old).now.schema ≡ no_schema
         → OnOk result ((state S.Store conn.new).now.schema ≡ plan_schema) }
     ensures committed { HasCleanDisk (state S.Store conn.new)
         → OnOk result ((state S.Store conn.new).committed ≡ (state S.Store conn.new).now) }
-    ensures fails { HasCleanDisk (state S.Store conn.new) → (state S.Store conn.old).now.schema ≡ no_schema
+    ensures fails { HasCleanDisk (state S.Store conn.new)
+        → (state S.Store conn.old).now.schema ≡ no_schema
         → IfErr result (MayFail (state S.Store conn.old) (state S.Store conn.new)) }
     ensures ended { conn.new.in_transaction ≡ false }
-    ensures stays_open { HasCleanDisk (state S.Store conn.new) → OnOk result (IsTrue (state S.Store conn.new).is_open) }
+    ensures stays_open { HasCleanDisk (state S.Store conn.new)
+        → OnOk result (IsTrue (state S.Store conn.new).is_open) }
     ensures crash { Survives (state S.Store conn.old) (state S.Store conn.new)
         (λ db. (state S.Store conn.old).now.schema ≡ no_schema → tables_of db ≡ no_rows) }
 {

@@ -2,13 +2,14 @@
 
 ghost use Rattle.std.specs.Prelude.{◌≡◌, map, false, Err, IfErr, IfOk, OnOk, IsTrue};
 ghost use Rattle.std.specs.List.Sorted.{IsPermutation};
-ghost use Rattle.sqlite.specs.State.{ExecutesInside, HasCleanDisk, IsUnchanged, KeepsCommit, Survives};
+ghost use Rattle.sqlite.specs.State.{ExecutesInside, HasCleanDisk, IsUnchanged, Survives};
 ghost use Rattle.sqlite.specs.Held.{state};
 ghost use Rattle.sqlite.specs.Values.{bound};
-ghost use Rattle.table_schema.specs.Rows.{AreOfKinds, IsPlan, IsAlone, MayFail, Stands, shown, tables_of};
+ghost use Rattle.table_schema.specs.Rows.{AreOfKinds, IsAlone, MayFail, shown, tables_of};
 ghost use Rattle.table_schema.specs.Rows.{with_cells, without_key};
 ghost use Rattle.table_schema.specs.Schema.{HasTables};
 ghost use Rattle.table_schema.specs.Texts.{insert_sql};
+ghost use Rattle.table_schema.specs.Writes.{WritesWhere};
 
 use crate::tables::Table;
 use crate::texts::{delete_text, insert_text, select_text};
@@ -21,11 +22,8 @@ pub fn insert<S: Alter>(
     table: Table,
     values: &[ValueRef<'_>],
 ) -> Result<(), Error>
-    ensures same_reference { tx.new.conn.ghost_name ≡ tx.old.conn.ghost_name }
-    ensures ok { HasCleanDisk (state S.Store tx.new.conn.now) → IsPlan (state S.Store tx.old.conn.now)
-        → IsTrue (state S.Store tx.old.conn.now).in_transaction → AreOfKinds table (bound values.now)
-        → OnOk result (Stands (state S.Store tx.old.conn.now) (state S.Store tx.new.conn.now)
-        (with_cells table (bound values.now) (tables_of (state S.Store tx.old.conn.now).now.trees))) }
+    ensures writes { WritesWhere (λ _. AreOfKinds table (bound values.now))
+        S.Store tx.old tx.new result (with_cells table (bound values.now)) }
     ensures fails { HasCleanDisk (state S.Store tx.new.conn.now)
         → IsTrue (state S.Store tx.old.conn.now).in_transaction
         → IfErr result (λ e. ExecutesInside 0 (insert_sql table) (bound values.now)
@@ -33,9 +31,6 @@ pub fn insert<S: Alter>(
     ensures stays_open { HasCleanDisk (state S.Store tx.new.conn.now)
         → IsTrue (state S.Store tx.old.conn.now).in_transaction
         → OnOk result (IsTrue (state S.Store tx.new.conn.now).is_open) }
-    ensures kept { HasCleanDisk (state S.Store tx.new.conn.now)
-        → KeepsCommit (state S.Store tx.old.conn.now) (state S.Store tx.new.conn.now) }
-    ensures survives { Survives (state S.Store tx.old.conn.now) (state S.Store tx.new.conn.now) (λ _. ⊥) }
 {
     tx.execute(insert_text(table), values)?;
     Ok(())
@@ -48,15 +43,8 @@ pub fn delete<S: Alter>(
     table: Table,
     key: &[ValueRef<'_>],
 ) -> Result<(), Error>
-    ensures same_reference { tx.new.conn.ghost_name ≡ tx.old.conn.ghost_name }
-    ensures ok { HasCleanDisk (state S.Store tx.new.conn.now) → IsPlan (state S.Store tx.old.conn.now)
-        → IsTrue (state S.Store tx.old.conn.now).in_transaction
-        → IsAlone table (bound key.now) (tables_of (state S.Store tx.old.conn.now).now.trees)
-        → OnOk result (Stands (state S.Store tx.old.conn.now) (state S.Store tx.new.conn.now)
-        (without_key table (bound key.now) (tables_of (state S.Store tx.old.conn.now).now.trees))) }
-    ensures kept { HasCleanDisk (state S.Store tx.new.conn.now)
-        → KeepsCommit (state S.Store tx.old.conn.now) (state S.Store tx.new.conn.now) }
-    ensures survives { Survives (state S.Store tx.old.conn.now) (state S.Store tx.new.conn.now) (λ _. ⊥) }
+    ensures { WritesWhere (IsAlone table (bound key.now)) S.Store tx.old tx.new result
+        (without_key table (bound key.now)) }
 {
     tx.execute(delete_text(table), key)?;
     Ok(())
@@ -65,12 +53,15 @@ pub fn delete<S: Alter>(
 /// All rows of the table as they are shown, in some order. Over a plan it fails for want of memory, for a failure of
 /// the device, for a connection that was shut, or for a limit on steps.
 pub fn select<S: Alter>(conn: &mut Connection<S>, table: Table) -> Result<Vec<Row>, Error>
-    ensures rows { HasCleanDisk (state S.Store conn.new) → HasTables (state S.Store conn.old).now.schema
-        → IfOk result (λ rows.
-        IsPermutation (map (shown table) (tables_of (state S.Store conn.old).now.trees table)) rows.items) }
-    ensures same { HasCleanDisk (state S.Store conn.new) → HasTables (state S.Store conn.old).now.schema
+    ensures rows { HasCleanDisk (state S.Store conn.new)
+        → HasTables (state S.Store conn.old).now.schema
+        → IfOk result (λ rows. IsPermutation
+        (map (shown table) (tables_of (state S.Store conn.old).now.trees table)) rows.items) }
+    ensures same { HasCleanDisk (state S.Store conn.new)
+        → HasTables (state S.Store conn.old).now.schema
         → OnOk result (IsUnchanged (state S.Store conn.old) (state S.Store conn.new)) }
-    ensures fails { HasCleanDisk (state S.Store conn.new) → HasTables (state S.Store conn.old).now.schema
+    ensures fails { HasCleanDisk (state S.Store conn.new)
+        → HasTables (state S.Store conn.old).now.schema
         → IfErr result (MayFail (state S.Store conn.old) (state S.Store conn.new)) }
     ensures mode { conn.old.in_transaction ≡ false → conn.new.in_transaction ≡ false }
     ensures survives { Survives (state S.Store conn.old) (state S.Store conn.new)

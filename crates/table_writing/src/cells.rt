@@ -1,6 +1,6 @@
 // Values of rows.
 
-ghost use Rattle.std.specs.Prelude.{◌≡◌, ℕ, option_map};
+ghost use Rattle.std.specs.Prelude.{◌≡◌, option_map};
 ghost use Rattle.sqlite.specs.Values.{bound_value};
 ghost use Rattle.sqlite.specs.Value.{owned};
 ghost use Rattle.sqlite.specs.declared.types.Value.TheVariants.{Text};

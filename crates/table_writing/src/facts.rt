@@ -1,10 +1,8 @@
 // Facts, each a row of a table.
 
-ghost use Rattle.std.specs.Prelude.{◌≡◌, OnOk, IsTrue};
-ghost use Rattle.sqlite.specs.State.{HasCleanDisk, KeepsCommit, Survives};
-ghost use Rattle.sqlite.specs.Held.{state};
 ghost use Rattle.sqlite.specs.Order.{Row as Values};
-ghost use Rattle.table_schema.specs.Rows.{AreOfKinds, IsAlone, IsPlan, Stands, tables_of, with_cells, without_key};
+ghost use Rattle.table_schema.specs.Rows.{AreOfKinds, IsAlone, with_cells, without_key};
+ghost use Rattle.table_schema.specs.Writes.{WritesWhere};
 ghost use Rattle.table_facts.specs.Facts.{row_values, current_values, deletion_values, pair_values, link_values};
 ghost use Rattle.table_facts.specs.Facts.{row_key, current_key, deletion_key};
 
@@ -25,26 +23,13 @@ pub(crate) trait Fact {
 
     /// Puts its row into the table.
     fn put<S: Alter>(&self, tx: &mut Transaction<'_, S>, table: Table) -> Result<(), Error>
-        ensures same_reference { tx.new.conn.ghost_name ≡ tx.old.conn.ghost_name }
-        ensures ok { HasCleanDisk (state S.Store tx.new.conn.now) → IsPlan (state S.Store tx.old.conn.now)
-            → IsTrue (state S.Store tx.old.conn.now).in_transaction → AreOfKinds table (values self.now)
-            → OnOk result (Stands (state S.Store tx.old.conn.now) (state S.Store tx.new.conn.now)
-            (with_cells table (values self.now) (tables_of (state S.Store tx.old.conn.now).now.trees))) }
-        ensures kept { HasCleanDisk (state S.Store tx.new.conn.now)
-            → KeepsCommit (state S.Store tx.old.conn.now) (state S.Store tx.new.conn.now) }
-        ensures survives { Survives (state S.Store tx.old.conn.now) (state S.Store tx.new.conn.now) (λ _. ⊥) };
+        ensures { WritesWhere (λ _. AreOfKinds table (values self.now)) S.Store tx.old tx.new result
+            (with_cells table (values self.now)) };
 
     /// Takes its row out of the table.
     fn take<S: Alter>(&self, tx: &mut Transaction<'_, S>, table: Table) -> Result<(), Error>
-        ensures same_reference { tx.new.conn.ghost_name ≡ tx.old.conn.ghost_name }
-        ensures ok { HasCleanDisk (state S.Store tx.new.conn.now) → IsPlan (state S.Store tx.old.conn.now)
-            → IsTrue (state S.Store tx.old.conn.now).in_transaction
-            → IsAlone table (key self.now) (tables_of (state S.Store tx.old.conn.now).now.trees)
-            → OnOk result (Stands (state S.Store tx.old.conn.now) (state S.Store tx.new.conn.now)
-            (without_key table (key self.now) (tables_of (state S.Store tx.old.conn.now).now.trees))) }
-        ensures kept { HasCleanDisk (state S.Store tx.new.conn.now)
-            → KeepsCommit (state S.Store tx.old.conn.now) (state S.Store tx.new.conn.now) }
-        ensures survives { Survives (state S.Store tx.old.conn.now) (state S.Store tx.new.conn.now) (λ _. ⊥) };
+        ensures { WritesWhere (IsAlone table (key self.now)) S.Store tx.old tx.new result
+            (without_key table (key self.now)) };
 }
 
 impl Fact for Row {

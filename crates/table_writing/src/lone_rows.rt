@@ -1,13 +1,11 @@
 // A job, and how far the plans reach.
 
 ghost use Rattle.std.specs.Prelude.{◌<◌, ◌^◌, ◌∷◌, [], Some, None};
-ghost use Rattle.std.specs.Prelude.{◌≡◌, OnOk, IsTrue};
-ghost use Rattle.sqlite.specs.State.{HasCleanDisk, KeepsCommit, Survives};
-ghost use Rattle.sqlite.specs.Held.{state};
-ghost use Rattle.table_schema.specs.Rows.{IsPlan, Stands, tables_of};
+ghost use Rattle.std.specs.Prelude.{◌≡◌};
 ghost use Rattle.table_facts.specs.Content.{answer_text, meta_values};
 ghost use Rattle.table_facts.specs.Facts.{natural};
 ghost use Rattle.table_schema.specs.Rows.{AreOfKinds, with_cells, without_key};
+ghost use Rattle.table_schema.specs.Writes.{Writes, WritesWhere};
 ghost use Rattle.table_schema.specs.declared.tables.Table.TheVariants.{Meta};
 ghost use Rattle.table_writing.specs.Writing.{job_put, meta_told, with_meta};
 
@@ -16,7 +14,7 @@ use app_definitions::Options;
 use planner_machine::{Bounds, Job};
 use sqlite::types::ValueRef;
 use sqlite::{Alter, Error, Transaction};
-use table_schema::{Table, delete, insert};
+use table_schema::{SCHEMA_VERSION, Table, delete, insert};
 
 /// Puts a job into its table. The line is that of its answer.
 #[tactic(auto, using(crate::proofs::KindLemmas::kinds))]
@@ -27,15 +25,7 @@ pub(crate) fn put_job<'x, S: Alter>(
 ) -> Result<(), Error>
     requires number { job.now.number < 2 ^ 63 }
     requires line { line.now ≡ answer_text job.now.reply }
-    ensures same_reference { tx.new.conn.ghost_name ≡ tx.old.conn.ghost_name }
-    ensures ok { HasCleanDisk (state S.Store tx.new.conn.now) → IsPlan (state S.Store tx.old.conn.now)
-        → IsTrue (state S.Store tx.old.conn.now).in_transaction
-        → OnOk result (Stands (state S.Store tx.old.conn.now) (state S.Store tx.new.conn.now)
-        (job_put job.now
-        (tables_of (state S.Store tx.old.conn.now).now.trees))) }
-    ensures kept { HasCleanDisk (state S.Store tx.new.conn.now)
-        → KeepsCommit (state S.Store tx.old.conn.now) (state S.Store tx.new.conn.now) }
-    ensures survives { Survives (state S.Store tx.old.conn.now) (state S.Store tx.new.conn.now) (λ _. ⊥) }
+    ensures { Writes S.Store tx.old tx.new result (job_put job.now) }
 {
     insert(
         tx,
@@ -55,23 +45,16 @@ fn put_no_bounds<S: Alter>(
     issued: u32,
     options: &Options,
 ) -> Result<(), Error>
-    ensures same_reference { tx.new.conn.ghost_name ≡ tx.old.conn.ghost_name }
-    ensures ok { HasCleanDisk (state S.Store tx.new.conn.now) → IsPlan (state S.Store tx.old.conn.now)
-        → IsTrue (state S.Store tx.old.conn.now).in_transaction
-        → AreOfKinds table (meta_values None issued options.now)
-        → OnOk result (Stands (state S.Store tx.old.conn.now) (state S.Store tx.new.conn.now)
-        (with_cells table (meta_values None issued options.now)
-        (tables_of (state S.Store tx.old.conn.now).now.trees))) }
-    ensures kept { HasCleanDisk (state S.Store tx.new.conn.now)
-        → KeepsCommit (state S.Store tx.old.conn.now) (state S.Store tx.new.conn.now) }
-    ensures survives { Survives (state S.Store tx.old.conn.now) (state S.Store tx.new.conn.now) (λ _. ⊥) }
+    ensures { WritesWhere (λ _. AreOfKinds table (meta_values None issued options.now))
+        S.Store tx.old tx.new result
+        (with_cells table (meta_values None issued options.now)) }
 {
     insert(
         tx,
         table,
         &[
             number(1),
-            number(1),
+            number(SCHEMA_VERSION),
             number(0),
             number(0),
             number(0),
@@ -91,23 +74,16 @@ fn put_bounds<S: Alter>(
     issued: u32,
     options: &Options,
 ) -> Result<(), Error>
-    ensures same_reference { tx.new.conn.ghost_name ≡ tx.old.conn.ghost_name }
-    ensures ok { HasCleanDisk (state S.Store tx.new.conn.now) → IsPlan (state S.Store tx.old.conn.now)
-        → IsTrue (state S.Store tx.old.conn.now).in_transaction
-        → AreOfKinds table (meta_values (Some bounds.now) issued options.now)
-        → OnOk result (Stands (state S.Store tx.old.conn.now) (state S.Store tx.new.conn.now)
-        (with_cells table (meta_values (Some bounds.now) issued options.now)
-        (tables_of (state S.Store tx.old.conn.now).now.trees))) }
-    ensures kept { HasCleanDisk (state S.Store tx.new.conn.now)
-        → KeepsCommit (state S.Store tx.old.conn.now) (state S.Store tx.new.conn.now) }
-    ensures survives { Survives (state S.Store tx.old.conn.now) (state S.Store tx.new.conn.now) (λ _. ⊥) }
+    ensures { WritesWhere (λ _. AreOfKinds table (meta_values (Some bounds.now) issued options.now))
+        S.Store tx.old tx.new result
+        (with_cells table (meta_values (Some bounds.now) issued options.now)) }
 {
     insert(
         tx,
         table,
         &[
             number(1),
-            number(1),
+            number(SCHEMA_VERSION),
             number(1),
             number(bounds.first_day.number()),
             number(bounds.last_day.number()),
@@ -125,16 +101,9 @@ fn put_meta<S: Alter>(
     issued: u32,
     options: &Options,
 ) -> Result<(), Error>
-    ensures same_reference { tx.new.conn.ghost_name ≡ tx.old.conn.ghost_name }
-    ensures ok { HasCleanDisk (state S.Store tx.new.conn.now) → IsPlan (state S.Store tx.old.conn.now)
-        → IsTrue (state S.Store tx.old.conn.now).in_transaction
-        → AreOfKinds Meta (meta_values bounds.now issued options.now)
-        → OnOk result (Stands (state S.Store tx.old.conn.now) (state S.Store tx.new.conn.now)
-        (with_meta bounds.now issued options.now
-        (tables_of (state S.Store tx.old.conn.now).now.trees))) }
-    ensures kept { HasCleanDisk (state S.Store tx.new.conn.now)
-        → KeepsCommit (state S.Store tx.old.conn.now) (state S.Store tx.new.conn.now) }
-    ensures survives { Survives (state S.Store tx.old.conn.now) (state S.Store tx.new.conn.now) (λ _. ⊥) }
+    ensures { WritesWhere (λ _. AreOfKinds Meta (meta_values bounds.now issued options.now))
+        S.Store tx.old tx.new result
+        (with_meta bounds.now issued options.now) }
 {
     match bounds {
         None => put_no_bounds(tx, Table::Meta, issued, options),
@@ -143,15 +112,7 @@ fn put_meta<S: Alter>(
 }
 
 fn take_meta<S: Alter>(tx: &mut Transaction<'_, S>) -> Result<(), Error>
-    ensures same_reference { tx.new.conn.ghost_name ≡ tx.old.conn.ghost_name }
-    ensures ok { HasCleanDisk (state S.Store tx.new.conn.now) → IsPlan (state S.Store tx.old.conn.now)
-        → IsTrue (state S.Store tx.old.conn.now).in_transaction
-        → OnOk result (Stands (state S.Store tx.old.conn.now) (state S.Store tx.new.conn.now)
-        (without_key Meta (natural 1 ∷ [])
-        (tables_of (state S.Store tx.old.conn.now).now.trees))) }
-    ensures kept { HasCleanDisk (state S.Store tx.new.conn.now)
-        → KeepsCommit (state S.Store tx.old.conn.now) (state S.Store tx.new.conn.now) }
-    ensures survives { Survives (state S.Store tx.old.conn.now) (state S.Store tx.new.conn.now) (λ _. ⊥) }
+    ensures { Writes S.Store tx.old tx.new result (without_key Meta (natural 1 ∷ [])) }
 {
     delete(tx, Table::Meta, &[number(1)])
 }
@@ -163,15 +124,7 @@ pub(crate) fn write_meta<S: Alter>(
     issued: u32,
     options: &Options,
 ) -> Result<(), Error>
-    ensures same_reference { tx.new.conn.ghost_name ≡ tx.old.conn.ghost_name }
-    ensures ok { HasCleanDisk (state S.Store tx.new.conn.now) → IsPlan (state S.Store tx.old.conn.now)
-        → IsTrue (state S.Store tx.old.conn.now).in_transaction
-        → OnOk result (Stands (state S.Store tx.old.conn.now) (state S.Store tx.new.conn.now)
-        (meta_told bounds.now issued options.now
-        (tables_of (state S.Store tx.old.conn.now).now.trees))) }
-    ensures kept { HasCleanDisk (state S.Store tx.new.conn.now)
-        → KeepsCommit (state S.Store tx.old.conn.now) (state S.Store tx.new.conn.now) }
-    ensures survives { Survives (state S.Store tx.old.conn.now) (state S.Store tx.new.conn.now) (λ _. ⊥) }
+    ensures { Writes S.Store tx.old tx.new result (meta_told bounds.now issued options.now) }
 {
     take_meta(tx)?;
     put_meta(tx, bounds, issued, options)

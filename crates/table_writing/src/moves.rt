@@ -1,13 +1,11 @@
 // What moves in the tables of occurrences, pairs and links.
 
-ghost use Rattle.std.specs.Prelude.{◌≡◌, OnOk, IfOk, IsTrue};
+ghost use Rattle.std.specs.Prelude.{◌≡◌, IfOk};
 ghost use Rattle.external_dependencies.specs.Link.{link_cmp};
 ghost use Rattle.external_dependencies.specs.Rising.{IsRising};
 ghost use Rattle.external_dependencies.specs.declared.links.Link.{Link as LinkValue};
 ghost use Rattle.keyed_lists.specs.Keyed.{holds_key};
-ghost use Rattle.sqlite.specs.State.{HasCleanDisk, KeepsCommit, Survives};
-ghost use Rattle.sqlite.specs.Held.{state};
-ghost use Rattle.table_schema.specs.Rows.{IsPlan, Stands, tables_of};
+ghost use Rattle.table_schema.specs.Writes.{Writes, WritesWhere};
 ghost use Rattle.table_writing.specs.Writing.{AreStorable, StandAlone, moved_in, rows_moved, pairs_moved};
 ghost use Rattle.table_writing.specs.Writing.{beside, links_moved, links_replaced};
 
@@ -25,15 +23,9 @@ fn write_moves<R: Fact, S: Alter>(
     table: Table,
     moves: &Moves<R>,
 ) -> Result<(), Error>
-    ensures same_reference { tx.new.conn.ghost_name ≡ tx.old.conn.ghost_name }
-    ensures ok { HasCleanDisk (state S.Store tx.new.conn.now) → IsPlan (state S.Store tx.old.conn.now)
-        → IsTrue (state S.Store tx.old.conn.now).in_transaction
-        → AreStorable table R.values → StandAlone table
-        → OnOk result (Stands (state S.Store tx.old.conn.now) (state S.Store tx.new.conn.now)
-        (moved_in table R.values R.key moves.now (tables_of (state S.Store tx.old.conn.now).now.trees))) }
-    ensures kept { HasCleanDisk (state S.Store tx.new.conn.now)
-        → KeepsCommit (state S.Store tx.old.conn.now) (state S.Store tx.new.conn.now) }
-    ensures survives { Survives (state S.Store tx.old.conn.now) (state S.Store tx.new.conn.now) (λ _. ⊥) }
+    ensures { WritesWhere (λ _. AreStorable table R.values × StandAlone table)
+        S.Store tx.old tx.new result
+        (moved_in table R.values R.key moves.now) }
 {
     take_each(tx, table, &moves.gone)?;
     take_each(tx, table, &moves.changed)?;
@@ -47,14 +39,7 @@ pub(crate) fn write_rows<S: Alter>(
     tx: &mut Transaction<'_, S>,
     change: &Change,
 ) -> Result<(), Error>
-    ensures same_reference { tx.new.conn.ghost_name ≡ tx.old.conn.ghost_name }
-    ensures ok { HasCleanDisk (state S.Store tx.new.conn.now) → IsPlan (state S.Store tx.old.conn.now)
-        → IsTrue (state S.Store tx.old.conn.now).in_transaction
-        → OnOk result (Stands (state S.Store tx.old.conn.now) (state S.Store tx.new.conn.now)
-        (rows_moved change.now (tables_of (state S.Store tx.old.conn.now).now.trees))) }
-    ensures kept { HasCleanDisk (state S.Store tx.new.conn.now)
-        → KeepsCommit (state S.Store tx.old.conn.now) (state S.Store tx.new.conn.now) }
-    ensures survives { Survives (state S.Store tx.old.conn.now) (state S.Store tx.new.conn.now) (λ _. ⊥) }
+    ensures { Writes S.Store tx.old tx.new result (rows_moved change.now) }
 {
     write_moves(tx, Table::LongTerm, &change.ltp)?;
     write_moves(tx, Table::Current, &change.cp)?;
@@ -68,14 +53,7 @@ pub(crate) fn write_pairs<S: Alter>(
     tx: &mut Transaction<'_, S>,
     change: &PairChange,
 ) -> Result<(), Error>
-    ensures same_reference { tx.new.conn.ghost_name ≡ tx.old.conn.ghost_name }
-    ensures ok { HasCleanDisk (state S.Store tx.new.conn.now) → IsPlan (state S.Store tx.old.conn.now)
-        → IsTrue (state S.Store tx.old.conn.now).in_transaction
-        → OnOk result (Stands (state S.Store tx.old.conn.now) (state S.Store tx.new.conn.now)
-        (pairs_moved change.now (tables_of (state S.Store tx.old.conn.now).now.trees))) }
-    ensures kept { HasCleanDisk (state S.Store tx.new.conn.now)
-        → KeepsCommit (state S.Store tx.old.conn.now) (state S.Store tx.new.conn.now) }
-    ensures survives { Survives (state S.Store tx.old.conn.now) (state S.Store tx.new.conn.now) (λ _. ⊥) }
+    ensures { Writes S.Store tx.old tx.new result (pairs_moved change.now) }
 {
     take_each(tx, Table::Dependency, change.removed.as_slice())?;
     take_each(tx, Table::Dependency, change.added.as_slice())?;
@@ -110,14 +88,7 @@ fn replace_links<S: Alter>(
     old: &Links,
     new: &Links,
 ) -> Result<(), Error>
-    ensures same_reference { tx.new.conn.ghost_name ≡ tx.old.conn.ghost_name }
-    ensures ok { HasCleanDisk (state S.Store tx.new.conn.now) → IsPlan (state S.Store tx.old.conn.now)
-        → IsTrue (state S.Store tx.old.conn.now).in_transaction
-        → OnOk result (Stands (state S.Store tx.old.conn.now) (state S.Store tx.new.conn.now)
-        (links_replaced old.now new.now (tables_of (state S.Store tx.old.conn.now).now.trees))) }
-    ensures kept { HasCleanDisk (state S.Store tx.new.conn.now)
-        → KeepsCommit (state S.Store tx.old.conn.now) (state S.Store tx.new.conn.now) }
-    ensures survives { Survives (state S.Store tx.old.conn.now) (state S.Store tx.new.conn.now) (λ _. ⊥) }
+    ensures { Writes S.Store tx.old tx.new result (links_replaced old.now new.now) }
 {
     let gone = links_beside(alloc, new, old)?;
     let come = links_beside(alloc, old, new)?;
@@ -132,14 +103,7 @@ pub(crate) fn write_links<S: Alter>(
     old: &Links,
     new: &Option<Links>,
 ) -> Result<(), Error>
-    ensures same_reference { tx.new.conn.ghost_name ≡ tx.old.conn.ghost_name }
-    ensures ok { HasCleanDisk (state S.Store tx.new.conn.now) → IsPlan (state S.Store tx.old.conn.now)
-        → IsTrue (state S.Store tx.old.conn.now).in_transaction
-        → OnOk result (Stands (state S.Store tx.old.conn.now) (state S.Store tx.new.conn.now)
-        (links_moved old.now new.now (tables_of (state S.Store tx.old.conn.now).now.trees))) }
-    ensures kept { HasCleanDisk (state S.Store tx.new.conn.now)
-        → KeepsCommit (state S.Store tx.old.conn.now) (state S.Store tx.new.conn.now) }
-    ensures survives { Survives (state S.Store tx.old.conn.now) (state S.Store tx.new.conn.now) (λ _. ⊥) }
+    ensures { Writes S.Store tx.old tx.new result (links_moved old.now new.now) }
 {
     match new {
         None => Ok(()),

@@ -1,9 +1,7 @@
 // Definitions in their tables.
 
-ghost use Rattle.std.specs.Prelude.{◌≡◌, OnOk, IsTrue};
-ghost use Rattle.sqlite.specs.State.{HasCleanDisk, KeepsCommit, Survives};
-ghost use Rattle.sqlite.specs.Held.{state};
-ghost use Rattle.table_schema.specs.Rows.{IsAlone, IsPlan, Stands, tables_of, with_cells, without_key};
+ghost use Rattle.table_schema.specs.Rows.{IsAlone, with_cells, without_key};
+ghost use Rattle.table_schema.specs.Writes.{Writes, WritesWhere};
 ghost use Rattle.table_definitions.specs.Storing.{IsStorable};
 ghost use Rattle.table_writing.specs.Redefining.{AreAlone, AreRowsFor, AreStorableMoves};
 ghost use Rattle.table_schema.specs.declared.tables.Table.TheVariants.{Offset, RunCycle};
@@ -42,14 +40,8 @@ fn put_row<S: Alter>(
     table: Table,
     row: &Row,
 ) -> Result<(), Error>
-    ensures same_reference { tx.new.conn.ghost_name ≡ tx.old.conn.ghost_name }
-    ensures ok { HasCleanDisk (state S.Store tx.new.conn.now) → IsPlan (state S.Store tx.old.conn.now)
-        → IsTrue (state S.Store tx.old.conn.now).in_transaction → IsStorable table row.now
-        → OnOk result (Stands (state S.Store tx.old.conn.now) (state S.Store tx.new.conn.now)
-        (with_cells table row.now (tables_of (state S.Store tx.old.conn.now).now.trees))) }
-    ensures kept { HasCleanDisk (state S.Store tx.new.conn.now)
-        → KeepsCommit (state S.Store tx.old.conn.now) (state S.Store tx.new.conn.now) }
-    ensures survives { Survives (state S.Store tx.old.conn.now) (state S.Store tx.new.conn.now) (λ _. ⊥) }
+    ensures { WritesWhere (λ _. IsStorable table row.now) S.Store tx.old tx.new result
+        (with_cells table row.now) }
 {
     let values = lend(alloc, row)?;
     insert(tx, table, &values)
@@ -62,14 +54,8 @@ fn put_rows<S: Alter>(
     table: Table,
     rows: &[Row],
 ) -> Result<(), Error>
-    ensures same_reference { tx.new.conn.ghost_name ≡ tx.old.conn.ghost_name }
-    ensures ok { HasCleanDisk (state S.Store tx.new.conn.now) → IsPlan (state S.Store tx.old.conn.now)
-        → IsTrue (state S.Store tx.old.conn.now).in_transaction → AreRowsFor table rows.now
-        → OnOk result (Stands (state S.Store tx.old.conn.now) (state S.Store tx.new.conn.now)
-        (with_each table rows_of rows.now (tables_of (state S.Store tx.old.conn.now).now.trees))) }
-    ensures kept { HasCleanDisk (state S.Store tx.new.conn.now)
-        → KeepsCommit (state S.Store tx.old.conn.now) (state S.Store tx.new.conn.now) }
-    ensures survives { Survives (state S.Store tx.old.conn.now) (state S.Store tx.new.conn.now) (λ _. ⊥) }
+    ensures { WritesWhere (λ _. AreRowsFor table rows.now) S.Store tx.old tx.new result
+        (with_each table rows_of rows.now) }
 {
     for row in rows {
         put_row(tx, alloc, table, row)?;
@@ -79,15 +65,8 @@ fn put_rows<S: Alter>(
 
 // Takes the rows of a name out of the table.
 fn take_name<S: Alter>(tx: &mut Transaction<'_, S>, table: Table, name: &Name) -> Result<(), Error>
-    ensures same_reference { tx.new.conn.ghost_name ≡ tx.old.conn.ghost_name }
-    ensures ok { HasCleanDisk (state S.Store tx.new.conn.now) → IsPlan (state S.Store tx.old.conn.now)
-        → IsTrue (state S.Store tx.old.conn.now).in_transaction
-        → IsAlone table (name_key name.now) (tables_of (state S.Store tx.old.conn.now).now.trees)
-        → OnOk result (Stands (state S.Store tx.old.conn.now) (state S.Store tx.new.conn.now)
-        (without_key table (name_key name.now) (tables_of (state S.Store tx.old.conn.now).now.trees))) }
-    ensures kept { HasCleanDisk (state S.Store tx.new.conn.now)
-        → KeepsCommit (state S.Store tx.old.conn.now) (state S.Store tx.new.conn.now) }
-    ensures survives { Survives (state S.Store tx.old.conn.now) (state S.Store tx.new.conn.now) (λ _. ⊥) }
+    ensures { WritesWhere (IsAlone table (name_key name.now)) S.Store tx.old tx.new result
+        (without_key table (name_key name.now)) }
 {
     delete(tx, table, &[ValueRef::Text(name.as_bytes())])
 }
@@ -98,15 +77,8 @@ fn take_names<S: Alter>(
     table: Table,
     names: &[Name],
 ) -> Result<(), Error>
-    ensures same_reference { tx.new.conn.ghost_name ≡ tx.old.conn.ghost_name }
-    ensures ok { HasCleanDisk (state S.Store tx.new.conn.now) → IsPlan (state S.Store tx.old.conn.now)
-        → IsTrue (state S.Store tx.old.conn.now).in_transaction
-        → AreAlone table names.now (tables_of (state S.Store tx.old.conn.now).now.trees)
-        → OnOk result (Stands (state S.Store tx.old.conn.now) (state S.Store tx.new.conn.now)
-        (without_each table name_key names.now (tables_of (state S.Store tx.old.conn.now).now.trees))) }
-    ensures kept { HasCleanDisk (state S.Store tx.new.conn.now)
-        → KeepsCommit (state S.Store tx.old.conn.now) (state S.Store tx.new.conn.now) }
-    ensures survives { Survives (state S.Store tx.old.conn.now) (state S.Store tx.new.conn.now) (λ _. ⊥) }
+    ensures { WritesWhere (AreAlone table names.now) S.Store tx.old tx.new result
+        (without_each table name_key names.now) }
 {
     for name in names {
         take_name(tx, table, name)?;
@@ -121,16 +93,9 @@ fn renew<S: Alter>(
     table: Table,
     moves: &DefinitionMoves,
 ) -> Result<(), Error>
-    ensures same_reference { tx.new.conn.ghost_name ≡ tx.old.conn.ghost_name }
-    ensures ok { HasCleanDisk (state S.Store tx.new.conn.now) → IsPlan (state S.Store tx.old.conn.now)
-        → IsTrue (state S.Store tx.old.conn.now).in_transaction
-        → StandAlone table → AreRowsFor table moves.now.rows.items
-        → OnOk result (Stands (state S.Store tx.old.conn.now) (state S.Store tx.new.conn.now)
-        (renewed table moves.now.names.items moves.now.rows.items
-        (tables_of (state S.Store tx.old.conn.now).now.trees))) }
-    ensures kept { HasCleanDisk (state S.Store tx.new.conn.now)
-        → KeepsCommit (state S.Store tx.old.conn.now) (state S.Store tx.new.conn.now) }
-    ensures survives { Survives (state S.Store tx.old.conn.now) (state S.Store tx.new.conn.now) (λ _. ⊥) }
+    ensures { WritesWhere (λ _. StandAlone table × AreRowsFor table moves.now.rows.items)
+        S.Store tx.old tx.new result
+        (renewed table moves.now.names.items moves.now.rows.items) }
 {
     take_names(tx, table, &moves.names)?;
     put_rows(tx, alloc, table, &moves.rows)
@@ -138,14 +103,7 @@ fn renew<S: Alter>(
 
 // Takes the run cycles of these applications out of their table, after their offsets.
 fn take_cycles<S: Alter>(tx: &mut Transaction<'_, S>, apps: &[Name]) -> Result<(), Error>
-    ensures same_reference { tx.new.conn.ghost_name ≡ tx.old.conn.ghost_name }
-    ensures ok { HasCleanDisk (state S.Store tx.new.conn.now) → IsPlan (state S.Store tx.old.conn.now)
-        → IsTrue (state S.Store tx.old.conn.now).in_transaction
-        → OnOk result (Stands (state S.Store tx.old.conn.now) (state S.Store tx.new.conn.now)
-        (cycles_gone apps.now (tables_of (state S.Store tx.old.conn.now).now.trees))) }
-    ensures kept { HasCleanDisk (state S.Store tx.new.conn.now)
-        → KeepsCommit (state S.Store tx.old.conn.now) (state S.Store tx.new.conn.now) }
-    ensures survives { Survives (state S.Store tx.old.conn.now) (state S.Store tx.new.conn.now) (λ _. ⊥) }
+    ensures { Writes S.Store tx.old tx.new result (cycles_gone apps.now) }
 {
     take_names(tx, Table::Offset, apps)?;
     take_names(tx, Table::RunCycle, apps)
@@ -158,15 +116,9 @@ fn put_cycles<S: Alter>(
     cycles: &[Row],
     offsets: &[Row],
 ) -> Result<(), Error>
-    ensures same_reference { tx.new.conn.ghost_name ≡ tx.old.conn.ghost_name }
-    ensures ok { HasCleanDisk (state S.Store tx.new.conn.now) → IsPlan (state S.Store tx.old.conn.now)
-        → IsTrue (state S.Store tx.old.conn.now).in_transaction
-        → AreRowsFor RunCycle cycles.now → AreRowsFor Offset offsets.now
-        → OnOk result (Stands (state S.Store tx.old.conn.now) (state S.Store tx.new.conn.now)
-        (cycles_put cycles.now offsets.now (tables_of (state S.Store tx.old.conn.now).now.trees))) }
-    ensures kept { HasCleanDisk (state S.Store tx.new.conn.now)
-        → KeepsCommit (state S.Store tx.old.conn.now) (state S.Store tx.new.conn.now) }
-    ensures survives { Survives (state S.Store tx.old.conn.now) (state S.Store tx.new.conn.now) (λ _. ⊥) }
+    ensures { WritesWhere (λ _. AreRowsFor RunCycle cycles.now × AreRowsFor Offset offsets.now)
+        S.Store tx.old tx.new result
+        (cycles_put cycles.now offsets.now) }
 {
     put_rows(tx, alloc, Table::RunCycle, cycles)?;
     put_rows(tx, alloc, Table::Offset, offsets)
@@ -178,16 +130,10 @@ fn renew_cycles<S: Alter>(
     alloc: Global,
     moves: &DefinitionMoves,
 ) -> Result<(), Error>
-    ensures same_reference { tx.new.conn.ghost_name ≡ tx.old.conn.ghost_name }
-    ensures ok { HasCleanDisk (state S.Store tx.new.conn.now) → IsPlan (state S.Store tx.old.conn.now)
-        → IsTrue (state S.Store tx.old.conn.now).in_transaction
-        → AreRowsFor RunCycle moves.now.rows.items → AreRowsFor Offset moves.now.offsets.items
-        → OnOk result (Stands (state S.Store tx.old.conn.now) (state S.Store tx.new.conn.now)
-        (cycles_renewed moves.now.names.items moves.now.rows.items moves.now.offsets.items
-        (tables_of (state S.Store tx.old.conn.now).now.trees))) }
-    ensures kept { HasCleanDisk (state S.Store tx.new.conn.now)
-        → KeepsCommit (state S.Store tx.old.conn.now) (state S.Store tx.new.conn.now) }
-    ensures survives { Survives (state S.Store tx.old.conn.now) (state S.Store tx.new.conn.now) (λ _. ⊥) }
+    ensures { WritesWhere
+        (λ _. AreRowsFor RunCycle moves.now.rows.items × AreRowsFor Offset moves.now.offsets.items)
+        S.Store tx.old tx.new result
+        (cycles_renewed moves.now.names.items moves.now.rows.items moves.now.offsets.items) }
 {
     take_cycles(tx, &moves.names)?;
     put_cycles(tx, alloc, &moves.rows, &moves.offsets)
@@ -201,16 +147,9 @@ pub(crate) fn write_definitions<S: Alter>(
     content: &Content,
     moves: &DefinitionMoves,
 ) -> Result<(), Error>
-    ensures same_reference { tx.new.conn.ghost_name ≡ tx.old.conn.ghost_name }
-    ensures ok { HasCleanDisk (state S.Store tx.new.conn.now) → IsPlan (state S.Store tx.old.conn.now)
-        → IsTrue (state S.Store tx.old.conn.now).in_transaction
-        → AreStorableMoves moves.now
-        → OnOk result (Stands (state S.Store tx.old.conn.now) (state S.Store tx.new.conn.now)
-        (definitions_moved content.now.bounds content.now.issued content.now.definitions.options moves.now
-        (tables_of (state S.Store tx.old.conn.now).now.trees))) }
-    ensures kept { HasCleanDisk (state S.Store tx.new.conn.now)
-        → KeepsCommit (state S.Store tx.old.conn.now) (state S.Store tx.new.conn.now) }
-    ensures survives { Survives (state S.Store tx.old.conn.now) (state S.Store tx.new.conn.now) (λ _. ⊥) }
+    ensures { WritesWhere (λ _. AreStorableMoves moves.now) S.Store tx.old tx.new result
+        (definitions_moved content.now.bounds content.now.issued content.now.definitions.options
+        moves.now) }
 {
     match moves.kind {
         None => Ok(()),

@@ -1,9 +1,10 @@
 // A change is written.
 
 ghost use Rattle.std.specs.Prelude.{◌≡◌, ◌<◌, ◌^◌, false, OnOk, OnErr, IsTrue, IfSome};
-ghost use Rattle.sqlite.specs.State.{HasCleanDisk, KeepsCommit, Survives};
+ghost use Rattle.sqlite.specs.State.{HasCleanDisk, Survives};
 ghost use Rattle.sqlite.specs.Held.{state};
-ghost use Rattle.table_schema.specs.Rows.{IsPlan, Stands, tables_of};
+ghost use Rattle.table_schema.specs.Rows.{IsPlan, tables_of};
+ghost use Rattle.table_schema.specs.Writes.{Writes, WritesWhere};
 ghost use Rattle.planner_machine.specs.Moves.{or_else};
 ghost use Rattle.planner_machine.specs.declared.job.Job.{Job as JobValue};
 ghost use Rattle.plan_store.specs.Contents.{content_of};
@@ -35,15 +36,8 @@ fn write_new_meta<S: Alter>(
     old: &Content,
     change: &Change,
 ) -> Result<(), Error>
-    ensures same_reference { tx.new.conn.ghost_name ≡ tx.old.conn.ghost_name }
-    ensures ok { HasCleanDisk (state S.Store tx.new.conn.now) → IsPlan (state S.Store tx.old.conn.now)
-        → IsTrue (state S.Store tx.old.conn.now).in_transaction
-        → OnOk result (Stands (state S.Store tx.old.conn.now) (state S.Store tx.new.conn.now)
-        (meta_moved change.now old.now.bounds old.now.issued old.now.definitions.options
-        (tables_of (state S.Store tx.old.conn.now).now.trees))) }
-    ensures kept { HasCleanDisk (state S.Store tx.new.conn.now)
-        → KeepsCommit (state S.Store tx.old.conn.now) (state S.Store tx.new.conn.now) }
-    ensures survives { Survives (state S.Store tx.old.conn.now) (state S.Store tx.new.conn.now) (λ _. ⊥) }
+    ensures { Writes S.Store tx.old tx.new result
+        (meta_moved change.now old.now.bounds old.now.issued old.now.definitions.options) }
 {
     if change.bounds.is_some() || change.issued.is_some() {
         let bounds = new_or_old(change.bounds, old.bounds);
@@ -62,14 +56,7 @@ fn write_job<S: Alter>(
 ) -> Result<(), Error>
     requires number { IfSome job.now (λ (job : JobValue). job.number < 2 ^ 63) }
     requires line { IfSome job.now (λ (job : JobValue). line.now ≡ answer_text job.reply) }
-    ensures same_reference { tx.new.conn.ghost_name ≡ tx.old.conn.ghost_name }
-    ensures ok { HasCleanDisk (state S.Store tx.new.conn.now) → IsPlan (state S.Store tx.old.conn.now)
-        → IsTrue (state S.Store tx.old.conn.now).in_transaction
-        → OnOk result (Stands (state S.Store tx.old.conn.now) (state S.Store tx.new.conn.now)
-        (job_kept job.now (tables_of (state S.Store tx.old.conn.now).now.trees))) }
-    ensures kept { HasCleanDisk (state S.Store tx.new.conn.now)
-        → KeepsCommit (state S.Store tx.old.conn.now) (state S.Store tx.new.conn.now) }
-    ensures survives { Survives (state S.Store tx.old.conn.now) (state S.Store tx.new.conn.now) (λ _. ⊥) }
+    ensures { Writes S.Store tx.old tx.new result (job_kept job.now) }
 {
     match job {
         None => Ok(()),
@@ -87,14 +74,7 @@ fn write_plans<S: Alter>(
 ) -> Result<(), Error>
     requires number { IfSome change.now.job (λ (job : JobValue). job.number < 2 ^ 63) }
     requires line { IfSome change.now.job (λ (job : JobValue). line.now ≡ answer_text job.reply) }
-    ensures same_reference { tx.new.conn.ghost_name ≡ tx.old.conn.ghost_name }
-    ensures ok { HasCleanDisk (state S.Store tx.new.conn.now) → IsPlan (state S.Store tx.old.conn.now)
-        → IsTrue (state S.Store tx.old.conn.now).in_transaction
-        → OnOk result (Stands (state S.Store tx.old.conn.now) (state S.Store tx.new.conn.now)
-        (plans_written (content_of old.now) change.now (tables_of (state S.Store tx.old.conn.now).now.trees))) }
-    ensures kept { HasCleanDisk (state S.Store tx.new.conn.now)
-        → KeepsCommit (state S.Store tx.old.conn.now) (state S.Store tx.new.conn.now) }
-    ensures survives { Survives (state S.Store tx.old.conn.now) (state S.Store tx.new.conn.now) (λ _. ⊥) }
+    ensures { Writes S.Store tx.old tx.new result (plans_written (content_of old.now) change.now) }
 {
     write_rows(tx, change)?;
     write_pairs(tx, &change.pairs)?;
@@ -115,15 +95,8 @@ pub(crate) fn write_change<S: Alter>(
 ) -> Result<(), Error>
     requires number { IfSome change.now.job (λ (job : JobValue). job.number < 2 ^ 63) }
     requires line { IfSome change.now.job (λ (job : JobValue). line.now ≡ answer_text job.reply) }
-    ensures same_reference { tx.new.conn.ghost_name ≡ tx.old.conn.ghost_name }
-    ensures ok { HasCleanDisk (state S.Store tx.new.conn.now) → IsPlan (state S.Store tx.old.conn.now)
-        → IsTrue (state S.Store tx.old.conn.now).in_transaction → AreStorableMoves moves.now
-        → OnOk result (Stands (state S.Store tx.old.conn.now) (state S.Store tx.new.conn.now)
-        (written (content_of content.now) moves.now change.now
-        (tables_of (state S.Store tx.old.conn.now).now.trees))) }
-    ensures kept { HasCleanDisk (state S.Store tx.new.conn.now)
-        → KeepsCommit (state S.Store tx.old.conn.now) (state S.Store tx.new.conn.now) }
-    ensures survives { Survives (state S.Store tx.old.conn.now) (state S.Store tx.new.conn.now) (λ _. ⊥) }
+    ensures { WritesWhere (λ _. AreStorableMoves moves.now) S.Store tx.old tx.new result
+        (written (content_of content.now) moves.now change.now) }
 {
     write_definitions(tx, alloc, content, moves)?;
     write_plans(tx, alloc, content, change, line)
@@ -144,7 +117,8 @@ pub fn commit_change<S: Alter>(
     requires number { IfSome change.now.job (λ (job : JobValue). job.number < 2 ^ 63) }
     requires line { IfSome change.now.job (λ (job : JobValue). line.now ≡ answer_text job.reply) }
     ensures done { HasCleanDisk (state S.Store conn.new) → IsPlan (state S.Store conn.old)
-        → OnOk result (IsPlan (state S.Store conn.new) × (tables_of (state S.Store conn.new).now.trees
+        → OnOk result (IsPlan (state S.Store conn.new)
+        × (tables_of (state S.Store conn.new).now.trees
         ≡ written (content_of content.now) moves.now change.now
         (tables_of (state S.Store conn.old).now.trees))) }
     ensures committed { HasCleanDisk (state S.Store conn.new)

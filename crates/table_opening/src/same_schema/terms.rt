@@ -36,7 +36,8 @@ fn is_same_term(
     other_depth: usize,
     other_place: usize,
 ) -> bool
-    ensures { IsTrue result ↔ (term_to nodes.now depth place ≡ term_to others.now other_depth other_place) }
+    ensures { IsTrue result ↔ (term_to nodes.now depth place
+        ≡ term_to others.now other_depth other_place) }
 {
     match (
         node_at(nodes, depth, place),
@@ -88,7 +89,8 @@ fn is_same_node(
 // Whether the terms at these places are the same, one by one.
 #[tactic(auto, using(crate::proofs::TermLemmas::same_at))]
 fn are_same_terms(nodes: &[Op], places: &[usize], others: &[Op], other_places: &[usize]) -> bool
-    ensures { IsTrue result ↔ (terms_in nodes.now places.now ≡ terms_in others.now other_places.now) }
+    ensures { IsTrue result ↔ (terms_in nodes.now places.now
+        ≡ terms_in others.now other_places.now) }
 {
     if places.len() != other_places.len() {
         return false;

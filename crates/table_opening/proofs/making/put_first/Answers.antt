@@ -1,23 +1,22 @@
-use Rattle.std.proofs.Common.{None, subst}
-use Rattle.std.specs.Prelude.{OnOk}
+use Rattle.std.proofs.Common.{rules}
 use Rattle.sqlite.specs.Held.{state}
-use Rattle.app_definitions.specs.Options.{default_options}
-use Rattle.table_schema.specs.Rows.{Stands, Tables, with_cells}
-use Rattle.table_schema.specs.declared.tables.Table.TheVariants.{Meta}
-use Rattle.table_facts.specs.Content.{meta_values}
 use Rattle.table_schema.proofs.BlankLemmas.{first_row_fails}
 use Rattle.table_schema.proofs.ResultLemmas.{if_err}
 use Rattle.table_opening.proofs.FirstRows.{first_kinds}
+use Rattle.table_opening.proofs.OpenedLemmas.{made_first}
 use Rattle.table_opening.proofs.making.put_first.Goals as goal
 
-pub returns-clause-ok : goal.returns-clause-ok
-returns-clause-ok g c clean plan empty mode =
+pub returns : goal.returns
+returns g c =
     let old = state g.S.Store c.args.tx.now.conn.now in
     let new = state g.S.Store c.insert.new.tx.conn.now in
-    subst (λ (all : Tables). OnOk c.insert.result (Stands old new (with_cells Meta (meta_values None 0 default_options)
-    all))) empty (c.insert.ensures.ok clean plan mode first_kinds)
-
-pub returns-clause-fails : goal.returns-clause-fails
-returns-clause-fails g c clean has none mode =
-    if_err c.insert.result _ _ (λ e h. first_row_fails (state g.S.Store c.args.tx.now.conn.now) (state g.S.Store
-    c.insert.new.tx.conn.now) e has none h) (c.insert.ensures.fails clean mode)
+    record {
+      same_reference = search rules;
+      ok = λ clean begun. made_first c.insert.result old new begun
+          (c.insert.ensures.writes.ok clean begun.plan begun.mode first_kinds);
+      fails = λ clean begun. if_err c.insert.result _ _
+          (λ e h. first_row_fails old new e begun.alone begun.rows_are h) (c.insert.ensures.fails clean begun.mode);
+      stays_open = λ clean begun. c.insert.ensures.stays_open clean begun.mode;
+      kept = search rules;
+      survives = search rules;
+    }

@@ -1,4 +1,4 @@
-use Rattle.std.proofs.Common.{subst, sym}
+use Rattle.std.proofs.Common.{rules, subst, sym}
 use Rattle.sqlite.specs.Held.{state}
 use Rattle.table_schema.proofs.RefusalLemmas.{make_fails}
 use Rattle.table_schema.proofs.StepLemmas.{makes}
@@ -6,16 +6,30 @@ use Rattle.table_schema.proofs.ResultLemmas.{if_from}
 use Rattle.table_schema.specs.Rows.{MayFail}
 use Rattle.table_schema.proofs.making.make.Goals as goal
 
-pub returns-clause-ok : goal.returns-clause-ok
-returns-clause-ok g c clean has =
-    makes c.args.table (state g.S.Store c.args.tx.now.conn.now) (state g.S.Store c.execute.new.self.conn.now)
-    c.in_ok-execute.field-0 has
-    (rw c.create_text.ensures at (c.in_ok-execute.ensures.runs clean has.mode))
+pub returns : goal.returns
+returns g c = record {
+  same_reference = search rules;
+  ok = λ clean has.
+      makes c.args.table (state g.S.Store c.args.tx.now.conn.now) (state g.S.Store c.execute.new.self.conn.now)
+      c.in_ok-execute.field-0 has
+      (rw c.create_text.ensures at (c.in_ok-execute.ensures.runs clean has.mode));
+  fails = search rules;
+  stays_open = search rules;
+  kept = search rules;
+  survives = search rules;
+}
 
-pub returns-in_err-execute-clause-fails : goal.returns-in_err-execute-clause-fails
-returns-in_err-execute-clause-fails g c clean has =
-    let fails = make_fails c.args.table (state g.S.Store c.args.tx.now.conn.now) (state g.S.Store
-    c.execute.new.self.conn.now) c.in_err-execute.field-0.0 has.schema
-    (rw c.create_text.ensures at (c.in_err-execute.ensures.runs clean has.mode)) in
-    if_from c.from_residual.result _ _ (λ e same. subst (MayFail (state g.S.Store c.args.tx.now.conn.now) (state
-    g.S.Store c.execute.new.self.conn.now)) (sym same) fails) c.from_residual.ensures.1
+pub returns-in_err-execute : goal.returns-in_err-execute
+returns-in_err-execute g c = record {
+  same_reference = search rules;
+  ok = search rules;
+  fails = λ clean has.
+      let fails = make_fails c.args.table (state g.S.Store c.args.tx.now.conn.now) (state g.S.Store
+      c.execute.new.self.conn.now) c.in_err-execute.field-0.0 has.schema
+      (rw c.create_text.ensures at (c.in_err-execute.ensures.runs clean has.mode)) in
+      if_from c.from_residual.result _ _ (λ e same. subst (MayFail (state g.S.Store c.args.tx.now.conn.now) (state
+      g.S.Store c.execute.new.self.conn.now)) (sym same) fails) c.from_residual.ensures.1;
+  stays_open = search rules;
+  kept = search rules;
+  survives = search rules;
+}

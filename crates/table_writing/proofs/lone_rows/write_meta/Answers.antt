@@ -1,15 +1,20 @@
-use Rattle.std.proofs.Common.{arith}
+use Rattle.std.proofs.Common.{arith, rules}
 use Rattle.sqlite.specs.Held.{state}
 use Rattle.table_writing.specs.Writing.{with_meta}
 use Rattle.table_writing.proofs.KindLemmas.{meta_storable}
 use Rattle.table_writing.proofs.Turns.{then_ok}
 use Rattle.table_writing.proofs.lone_rows.write_meta.Goals as goal
 
-pub returns-clause-ok : goal.returns-clause-ok
-returns-clause-ok g c clean plan mode =
-    let old = state g.S.Store c.args.tx.now.conn.now in
-    let mid = state g.S.Store c.take_meta.new.tx.conn.now in
-    let new = state g.S.Store c.put_meta.new.tx.conn.now in
-    let one = c.in_ok-take_meta.ensures.ok (omega (arith, c.put_meta.ensures.survives.clean)) plan mode in
-    then_ok c.put_meta.result old mid new _ (with_meta c.args.bounds.now c.args.issued c.args.options.now) one
-    (c.put_meta.ensures.ok clean one.plan one.mode (meta_storable c.args.bounds.now c.args.issued c.args.options.now))
+pub returns : goal.returns
+returns g c = record {
+  same_reference = search rules;
+  ok = λ clean plan mode _.
+      let old = state g.S.Store c.args.tx.now.conn.now in
+      let mid = state g.S.Store c.take_meta.new.tx.conn.now in
+      let new = state g.S.Store c.put_meta.new.tx.conn.now in
+      let one = c.in_ok-take_meta.ensures.ok (omega (arith, c.put_meta.ensures.survives.clean)) plan mode tt in
+      then_ok c.put_meta.result old mid new _ (with_meta c.args.bounds.now c.args.issued c.args.options.now) one
+      (c.put_meta.ensures.ok clean one.plan one.mode (meta_storable c.args.bounds.now c.args.issued c.args.options.now));
+  kept = search rules;
+  survives = search rules;
+}

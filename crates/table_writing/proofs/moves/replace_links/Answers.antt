@@ -1,4 +1,4 @@
-use Rattle.std.proofs.Common.{arith}
+use Rattle.std.proofs.Common.{arith, rules}
 use Rattle.sqlite.specs.Held.{state}
 use Rattle.table_schema.specs.declared.tables.Table.TheVariants as table
 use Rattle.table_facts.specs.Facts.{link_values}
@@ -7,14 +7,19 @@ use Rattle.table_writing.proofs.KindLemmas.{links_alone, links_storable}
 use Rattle.table_writing.proofs.Turns.{then_ok}
 use Rattle.table_writing.proofs.moves.replace_links.Goals as goal
 
-pub returns-clause-ok : goal.returns-clause-ok
-returns-clause-ok g c clean plan mode =
-    let old = state g.S.Store c.args.tx.now.conn.now in
-    let mid = state g.S.Store c.take_each.new.tx.conn.now in
-    let new = state g.S.Store c.put_each.new.tx.conn.now in
-    let one = c.in_ok-take_each.ensures.ok (omega (arith, c.put_each.ensures.survives.clean)) plan mode links_alone in
-    then_ok c.put_each.result old mid new _
-    (with_each table.LinkInForce link_values (beside c.args.old.now c.args.new.now))
-    (rw (c.deref.ensures.value, c.in_ok-gone.ensures) at one)
-    (rw (c.deref-2.ensures.value, c.in_ok-come.ensures) at (c.put_each.ensures.ok clean one.plan one.mode
-    links_storable))
+pub returns : goal.returns
+returns g c = record {
+  same_reference = search rules;
+  ok = λ clean plan mode _.
+      let old = state g.S.Store c.args.tx.now.conn.now in
+      let mid = state g.S.Store c.take_each.new.tx.conn.now in
+      let new = state g.S.Store c.put_each.new.tx.conn.now in
+      let one = c.in_ok-take_each.ensures.ok (omega (arith, c.put_each.ensures.survives.clean)) plan mode links_alone in
+      then_ok c.put_each.result old mid new _
+      (with_each table.LinkInForce link_values (beside c.args.old.now c.args.new.now))
+      (rw (c.deref.ensures.value, c.in_ok-gone.ensures) at one)
+      (rw (c.deref-2.ensures.value, c.in_ok-come.ensures) at (c.put_each.ensures.ok clean one.plan one.mode
+      links_storable));
+  kept = search rules;
+  survives = search rules;
+}

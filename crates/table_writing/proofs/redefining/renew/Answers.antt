@@ -1,4 +1,4 @@
-use Rattle.std.proofs.Common.{arith}
+use Rattle.std.proofs.Common.{arith, rules}
 use Rattle.sqlite.specs.Held.{state}
 use Rattle.table_schema.specs.Rows.{tables_of}
 use Rattle.table_writing.specs.Redefining.{AreRowsFor, rows_of}
@@ -7,16 +7,21 @@ use Rattle.table_writing.proofs.AloneLemmas.{names_alone}
 use Rattle.table_writing.proofs.Turns.{then_ok}
 use Rattle.table_writing.proofs.redefining.renew.Goals as goal
 
-pub returns-clause-ok : goal.returns-clause-ok
-returns-clause-ok g c clean plan mode alone rows =
-    let old = state g.S.Store c.args.tx.now.conn.now in
-    let mid = state g.S.Store c.take_names.new.tx.conn.now in
-    let new = state g.S.Store c.put_rows.new.tx.conn.now in
-    let moves = c.args.moves.now in
-    let one = c.in_ok-take_names.ensures.ok (omega (arith, c.put_rows.ensures.survives.clean)) plan mode
-    (names_alone c.args.table c.deref.result.now (tables_of old.now.trees) alone) in
-    let are : AreRowsFor c.args.table c.deref-2.result.now = rw c.deref-2.ensures.value rows in
-    let two = c.put_rows.ensures.ok clean one.plan one.mode are in
-    then_ok c.put_rows.result old mid new _ (with_each c.args.table rows_of moves.rows.items)
-    (rw c.deref.ensures.value at one)
-    (rw c.deref-2.ensures.value at two)
+pub returns : goal.returns
+returns g c = record {
+  same_reference = search rules;
+  ok = λ clean plan mode fits.
+      let old = state g.S.Store c.args.tx.now.conn.now in
+      let mid = state g.S.Store c.take_names.new.tx.conn.now in
+      let new = state g.S.Store c.put_rows.new.tx.conn.now in
+      let moves = c.args.moves.now in
+      let one = c.in_ok-take_names.ensures.ok (omega (arith, c.put_rows.ensures.survives.clean)) plan mode
+      (names_alone c.args.table c.deref.result.now (tables_of old.now.trees) fits.0) in
+      let are : AreRowsFor c.args.table c.deref-2.result.now = rw c.deref-2.ensures.value fits.1 in
+      let two = c.put_rows.ensures.ok clean one.plan one.mode are in
+      then_ok c.put_rows.result old mid new _ (with_each c.args.table rows_of moves.rows.items)
+      (rw c.deref.ensures.value at one)
+      (rw c.deref-2.ensures.value at two);
+  kept = search rules;
+  survives = search rules;
+}

@@ -1,20 +1,25 @@
-use Rattle.std.proofs.Common.{arith}
+use Rattle.std.proofs.Common.{arith, rules}
 use Rattle.sqlite.specs.Held.{state}
 use Rattle.table_schema.specs.declared.tables.Table.TheVariants as table
 use Rattle.table_writing.specs.Redefining.{AreRowsFor, cycles_put}
 use Rattle.table_writing.proofs.Turns.{then_ok}
 use Rattle.table_writing.proofs.redefining.renew_cycles.Goals as goal
 
-pub returns-clause-ok : goal.returns-clause-ok
-returns-clause-ok g c clean plan mode cycles offsets =
-    let old = state g.S.Store c.args.tx.now.conn.now in
-    let mid = state g.S.Store c.take_cycles.new.tx.conn.now in
-    let new = state g.S.Store c.put_cycles.new.tx.conn.now in
-    let moves = c.args.moves.now in
-    let one = c.in_ok-take_cycles.ensures.ok (omega (arith, c.put_cycles.ensures.survives.clean)) plan mode in
-    let rows : AreRowsFor table.RunCycle c.deref-2.result.now = rw c.deref-2.ensures.value cycles in
-    let more : AreRowsFor table.Offset c.deref-3.result.now = rw c.deref-3.ensures.value offsets in
-    let two = c.put_cycles.ensures.ok clean one.plan one.mode rows more in
-    then_ok c.put_cycles.result old mid new _ (cycles_put moves.rows.items moves.offsets.items)
-    (rw c.deref.ensures.value at one)
-    (rw (c.deref-2.ensures.value, c.deref-3.ensures.value) at two)
+pub returns : goal.returns
+returns g c = record {
+  same_reference = search rules;
+  ok = λ clean plan mode fits.
+      let old = state g.S.Store c.args.tx.now.conn.now in
+      let mid = state g.S.Store c.take_cycles.new.tx.conn.now in
+      let new = state g.S.Store c.put_cycles.new.tx.conn.now in
+      let moves = c.args.moves.now in
+      let one = c.in_ok-take_cycles.ensures.ok (omega (arith, c.put_cycles.ensures.survives.clean)) plan mode tt in
+      let rows : AreRowsFor table.RunCycle c.deref-2.result.now = rw c.deref-2.ensures.value fits.0 in
+      let more : AreRowsFor table.Offset c.deref-3.result.now = rw c.deref-3.ensures.value fits.1 in
+      let two = c.put_cycles.ensures.ok clean one.plan one.mode (rows, more) in
+      then_ok c.put_cycles.result old mid new _ (cycles_put moves.rows.items moves.offsets.items)
+      (rw c.deref.ensures.value at one)
+      (rw (c.deref-2.ensures.value, c.deref-3.ensures.value) at two);
+  kept = search rules;
+  survives = search rules;
+}

@@ -1,30 +1,35 @@
-use Rattle.std.proofs.Common.{arith}
+use Rattle.std.proofs.Common.{arith, rules}
 use Rattle.sqlite.specs.Held.{state}
 use Rattle.sqlite.specs.State.{HasCleanDisk}
 use Rattle.table_writing.specs.Writing.{job_kept, links_moved, meta_moved, pairs_moved}
 use Rattle.table_writing.proofs.Turns.{stands_then, then_ok}
 use Rattle.table_writing.proofs.writing.write_plans.Goals as goal
 
-pub returns-clause-ok : goal.returns-clause-ok
-returns-clause-ok g c clean plan mode =
-    let old = state g.S.Store c.args.tx.now.conn.now in
-    let s1 = state g.S.Store c.write_rows.new.tx.conn.now in
-    let s2 = state g.S.Store c.write_pairs.new.tx.conn.now in
-    let s3 = state g.S.Store c.write_links.new.tx.conn.now in
-    let s4 = state g.S.Store c.write_new_meta.new.tx.conn.now in
-    let new = state g.S.Store c.write_job.new.tx.conn.now in
-    let kept = c.args.old.now in
-    let change = c.args.change.now in
-    let c4 : HasCleanDisk s4 = omega (arith, c.write_job.ensures.survives.clean) in
-    let c3 : HasCleanDisk s3 = omega (arith, c.write_new_meta.ensures.survives.clean) in
-    let c2 : HasCleanDisk s2 = omega (arith, c.write_links.ensures.survives.clean) in
-    let c1 : HasCleanDisk s1 = omega (arith, c.write_pairs.ensures.survives.clean) in
-    let one = c.in_ok-write_rows.ensures.ok c1 plan mode in
-    let two = stands_then old s1 s2 _ (pairs_moved change.pairs) one
-    (c.in_ok-write_pairs.ensures.ok c2 one.plan one.mode) in
-    let three = stands_then old s2 s3 _ (links_moved kept.in_force change.in_force) two
-    (c.in_ok-write_links.ensures.ok c3 two.plan two.mode) in
-    let four = stands_then old s3 s4 _ (meta_moved change kept.bounds kept.issued kept.definitions.options) three
-    (c.in_ok-write_new_meta.ensures.ok c4 three.plan three.mode) in
-    then_ok c.write_job.result old s4 new _ (job_kept change.job) four
-    (c.write_job.ensures.ok clean four.plan four.mode)
+pub returns : goal.returns
+returns g c = record {
+  same_reference = search rules;
+  ok = λ clean plan mode _.
+      let old = state g.S.Store c.args.tx.now.conn.now in
+      let s1 = state g.S.Store c.write_rows.new.tx.conn.now in
+      let s2 = state g.S.Store c.write_pairs.new.tx.conn.now in
+      let s3 = state g.S.Store c.write_links.new.tx.conn.now in
+      let s4 = state g.S.Store c.write_new_meta.new.tx.conn.now in
+      let new = state g.S.Store c.write_job.new.tx.conn.now in
+      let kept = c.args.old.now in
+      let change = c.args.change.now in
+      let c4 : HasCleanDisk s4 = omega (arith, c.write_job.ensures.survives.clean) in
+      let c3 : HasCleanDisk s3 = omega (arith, c.write_new_meta.ensures.survives.clean) in
+      let c2 : HasCleanDisk s2 = omega (arith, c.write_links.ensures.survives.clean) in
+      let c1 : HasCleanDisk s1 = omega (arith, c.write_pairs.ensures.survives.clean) in
+      let one = c.in_ok-write_rows.ensures.ok c1 plan mode tt in
+      let two = stands_then old s1 s2 _ (pairs_moved change.pairs) one
+      (c.in_ok-write_pairs.ensures.ok c2 one.plan one.mode tt) in
+      let three = stands_then old s2 s3 _ (links_moved kept.in_force change.in_force) two
+      (c.in_ok-write_links.ensures.ok c3 two.plan two.mode tt) in
+      let four = stands_then old s3 s4 _ (meta_moved change kept.bounds kept.issued kept.definitions.options) three
+      (c.in_ok-write_new_meta.ensures.ok c4 three.plan three.mode tt) in
+      then_ok c.write_job.result old s4 new _ (job_kept change.job) four
+      (c.write_job.ensures.ok clean four.plan four.mode tt);
+  kept = search rules;
+  survives = search rules;
+}

@@ -1,0 +1,39 @@
+-- What statements on a transaction do to the tables of a plan.
+use Rattle.std.specs.Prelude.{◌≡◌, Result, IfErr, OnOk, IsTrue, ⊤}
+use Rattle.sqlite.specs.Held.{state}
+use Rattle.sqlite.specs.State.{HasCleanDisk, KeepsCommit, State, Survives}
+use Rattle.sqlite.specs.Store.{Ghosts}
+use Rattle.sqlite.specs.declared.error.Error.{Error}
+use Rattle.sqlite.specs.declared.transaction.Transaction.{Transaction}
+use Rattle.table_schema.specs.Rows.{IsPlan, MayFail, Stands, Tables, tables_of}
+
+-- the state of its connection
+abbrev pub seen : {S : Type 0} → Ghosts S → Transaction S → State
+seen g tx = state g tx.conn.now
+
+-- where the tables of a plan fit, an Ok leaves these in their place; nothing is committed
+pub record WritesWhere {S T : Type 0} (Fit : Tables → Type 0) (g : Ghosts S) (old new : Transaction S)
+    (result : Result T Error) (after : Tables → Tables) : Type 0 where
+  pub same_reference : new.conn.ghost_name ≡ old.conn.ghost_name
+  pub ok : HasCleanDisk (seen g new) → IsPlan (seen g old) → IsTrue (seen g old).in_transaction
+      → Fit (tables_of (seen g old).now.trees)
+      → OnOk result (Stands (seen g old) (seen g new) (after (tables_of (seen g old).now.trees)))
+  pub kept : HasCleanDisk (seen g new) → KeepsCommit (seen g old) (seen g new)
+  pub survives : Survives (seen g old) (seen g new) (λ _. ⊥)
+
+-- the same of whatever tables
+abbrev pub Writes : {S T : Type 0} → Ghosts S → (old new : Transaction S) → Result T Error
+    → (Tables → Tables) → Type 0
+Writes g old new result after = WritesWhere (λ _. ⊤) g old new result after
+
+-- of such a state an Ok makes one of those; it fails for nothing that stands in the tables, and nothing is committed
+pub record Makes {S T : Type 0} (g : Ghosts S) (old new : Transaction S) (result : Result T Error)
+    (Before After : State → Type 0) : Type 0 where
+  pub same_reference : new.conn.ghost_name ≡ old.conn.ghost_name
+  pub ok : HasCleanDisk (seen g new) → Before (seen g old) → OnOk result (After (seen g new))
+  pub fails : HasCleanDisk (seen g new) → Before (seen g old)
+      → IfErr result (MayFail (seen g old) (seen g new))
+  pub stays_open : HasCleanDisk (seen g new) → Before (seen g old)
+      → OnOk result (IsTrue (seen g new).is_open)
+  pub kept : HasCleanDisk (seen g new) → KeepsCommit (seen g old) (seen g new)
+  pub survives : Survives (seen g old) (seen g new) (λ _. ⊥)
