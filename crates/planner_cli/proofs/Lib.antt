@@ -15,3 +15,4 @@ pub mod TrialLemmas
 pub mod RerunLemmas
 pub mod TrialServes
 pub mod NothingLemmas
+pub mod StatementLemmas

@@ -349,9 +349,9 @@ module _ {S : Type 0} (is_honest : S → Type 0) (content : S → Content) (fail
       honest = honest';
     }
 
-    list_untold : (fault : StoreFault) (cause : Cause) → fault ≡ Stores.Memory → IsUnwritten (Err fault) mid new cause
+    list_unwritten : (fault : StoreFault) (cause : Cause) → fault ≡ Stores.Memory → IsUnwritten (Err fault) mid new cause
         → AnswersItem is_honest content failures may_leave before now old new item (Err cause)
-    list_untold fault cause memory (is, kept) =
+    list_unwritten fault cause memory (is, kept) =
         subst (λ x. AnswersItem is_honest content failures may_leave before now old new item (Err x))
         (sym (is ∙ ap store_cause memory)) (record {
           ok = λ honest. tt;
@@ -371,12 +371,12 @@ module _ {S : Type 0} (is_honest : S → Type 0) (content : S → Content) (fail
         })
 
     -- all rows are written, and the last line is on its way
-    pub list_told : (answered : Result Printed StoreFault) (result : Result Bool Cause)
+    pub list_written : (answered : Result Printed StoreFault) (result : Result Bool Cause)
         → IfOk answered (λ printed. Prints (answering (Ok (Rows count))) printed.text.items printed.is_accepted)
         → IfErr answered (λ fault. fault ≡ Stores.Memory)
         → IfOk result (IsWritten answered mid new) → IfErr result (IsUnwritten answered mid new)
         → AnswersItem is_honest content failures may_leave before now old new item result
-    list_told (Ok printed) (Ok accepted) tells memory ok err = list_ok printed accepted tells ok
-    list_told (Ok printed) (Err cause) tells memory ok err = list_part printed cause tells err
-    list_told (Err fault) (Ok accepted) tells memory ok err = absurd ok
-    list_told (Err fault) (Err cause) tells memory ok err = list_untold fault cause memory err
+    list_written (Ok printed) (Ok accepted) tells memory ok err = list_ok printed accepted tells ok
+    list_written (Ok printed) (Err cause) tells memory ok err = list_part printed cause tells err
+    list_written (Err fault) (Ok accepted) tells memory ok err = absurd ok
+    list_written (Err fault) (Err cause) tells memory ok err = list_unwritten fault cause memory err

@@ -14,7 +14,7 @@ use Rattle.planner_cli.specs.Meaning.{Answers}
 use Rattle.planner_cli.specs.Outcomes.{answering}
 use Rattle.planner_cli.specs.Plans.{AreAnswered, CrashedPlan, LeadsTo, RanPlan, StoppedPlan}
 use Rattle.planner_cli.specs.Replies.{Reply}
-use Rattle.planner_cli.specs.Runs.{Crashed, EndsBy, LeavesInHand, Ran, Stopped}
+use Rattle.planner_cli.specs.Runs.{Crashed, EndsBy, LeavesInHand, Ran, Stopped, ends_of}
 use Rattle.planner_cli.specs.Steps.{AnswersAsked, Serves, Step}
 use Rattle.planner_cli.specs.declared.faults.Cause.{Cause}
 use Rattle.planner_cli.specs.declared.faults.Cause.TheVariants.{Device, Memory}
@@ -126,8 +126,8 @@ leads law fates items replies c c' sound h =
     }
 
 pub ran_leads : RunsSound → RunsByFate → (c c' : Content) (w w' read : Option (List ℕ)) (tally : Tally) → IsSound c
-    → Ran Step c c' w w' read tally
-    → RanPlan c c' w w' read tally
+    → Ran Step (ends_of c c' w w' read) tally
+    → RanPlan (ends_of c c' w w' read) tally
 ran_leads law fates c c' w w' read tally sound h =
     record { ran = h; leads = leads law fates h.items h.replies c c' sound h.answers }
 
@@ -165,7 +165,7 @@ ended (Device Writer) line between c' hand tail (inl (item, is, (reply, step, fr
 ended (Device Writer) line between c' hand tail (inr (same, lists)) = inl same
 
 pub reached : (line : Cause → List ℕ) (c c' : Content) (w w' read : Option (List ℕ)) (fault : RunFault)
-    (h : Stopped Step line c c' w w' read fault)
+    (h : Stopped Step line (ends_of c c' w w' read) fault)
     → Reached h.done h.replies c c' h.hand
 reached line c c' w w' read fault h =
     since h.done h.replies c h.between c' h.hand h.answers
@@ -173,7 +173,7 @@ reached line c c' w w' read fault h =
 
 pub crashed_leads : RunsSound → RunsByFate → (c c' : Content) (w w' read : Option (List ℕ)) (fault : RunFault)
     (left : Content) → IsSound c
-    → Crashed Step fault_line c c' w w' read fault left → CrashedPlan c c' w w' read fault left
+    → Crashed Step fault_line (ends_of c c' w w' read) fault left → CrashedPlan (ends_of c c' w w' read) fault left
 crashed_leads law fates c c' w w' read fault left sound h =
     let stopped = h.stopped in
     let at = since stopped.done stopped.replies c stopped.between left stopped.hand stopped.answers h.leaves in
@@ -186,7 +186,7 @@ crashed_leads law fates c c' w w' read fault left sound h =
 
 pub stopped_leads : RunsSound → RunsByFate → (c c' : Content) (w w' read : Option (List ℕ)) (fault : RunFault)
     → IsSound c
-    → Stopped Step fault_line c c' w w' read fault → StoppedPlan c c' w w' read fault
+    → Stopped Step fault_line (ends_of c c' w w' read) fault → StoppedPlan (ends_of c c' w w' read) fault
 stopped_leads law fates c c' w w' read fault sound h =
     let at = reached fault_line c c' w w' read fault h in
     record {

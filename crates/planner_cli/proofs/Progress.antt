@@ -15,8 +15,8 @@ use Rattle.plan_store.specs.declared.stores.StoreFault.{StoreFault}
 use Rattle.plan_store.specs.declared.stores.StoreFault.TheVariants as Stores
 use Rattle.planner_cli.specs.Faults.{cause_of, read_cause, store_cause, tally_in, fault_line}
 use Rattle.planner_cli.specs.Lists.{BeginsInHand}
-use Rattle.planner_cli.specs.Runs.{Crashed, EndsBy, IsFrontOf, ItemBreaks, LeavesInHand, Ran, Stopped, TellsAfterRows}
-use Rattle.planner_cli.specs.Runs.{with_hand}
+use Rattle.planner_cli.specs.Runs.{Crashed, EndsBy, IsFrontOf, ItemBreaks, LeavesInHand, Ran, Stopped, WritesFault}
+use Rattle.planner_cli.specs.Runs.{ends_of, with_hand}
 use Rattle.planner_cli.specs.declared.tally.Tally.{Tally}
 use Rattle.stream_items.specs.declared.lines.ReadFault.{ReadFault}
 use Rattle.stream_items.specs.declared.lines.ReadFault.TheVariants as Reads
@@ -94,32 +94,32 @@ tally_of-more rs r met m n e accepted refused more_accepted more_refused =
     (count_by-more is_refused rs r ∙ ap (λ b. count_by is_refused rs + (if b then 1 else 0)) (sym refused)
     ∙ ap (λ k. count_by is_refused rs + k) (sym (other_way met))))
 
--- what the reader has left, where it tells its bytes: the items in `done` come before
+-- what the reader has left, where its bytes are known: the items in `done` come before
 abbrev pub IsLeft : List Item → Option (List ℕ) → List ℕ → Type 0
 IsLeft done now text = (left : List ℕ) × (now ≡ Some left) × (items_of text ≡ done ++ items_of left)
 
 -- how far a run has come: the items in `done` are answered
-pub record Progress {S : Type 0} (Step : StepOf S) (s0 s : S) (w0 w told now : Option (List ℕ)) (tally : Tally) : Type 0
+pub record Progress {S : Type 0} (Step : StepOf S) (s0 s : S) (w0 w remaining now : Option (List ℕ)) (tally : Tally) : Type 0
   where
     pub done : List Item
     pub replies : List Reply
-    pub read : IfSome told (IsLeft done now)
+    pub read : IfSome remaining (IsLeft done now)
     pub answers : Answers Step s0 done replies s
     pub written : Appends w0 w (prints replies)
     pub tally_is : tally ≡ tally_of replies
 
-nothing_read : (told : Option (List ℕ)) → IfSome told (IsLeft [] told)
+nothing_read : (remaining : Option (List ℕ)) → IfSome remaining (IsLeft [] remaining)
 nothing_read None = tt
 nothing_read (Some text) = (text, refl, refl)
 
-pub progress_starts : {S : Type 0} (Step : StepOf S) (s : S) (w told : Option (List ℕ)) (tally : Tally)
+pub progress_starts : {S : Type 0} (Step : StepOf S) (s : S) (w remaining : Option (List ℕ)) (tally : Tally)
     → tally.accepted ≡ 0 → tally.refused ≡ 0
-    → Progress Step s s w w told told tally
-progress_starts Step s w told tally e f =
+    → Progress Step s s w w remaining remaining tally
+progress_starts Step s w remaining tally e f =
     record {
       done = [];
       replies = [];
-      read = nothing_read told;
+      read = nothing_read remaining;
       answers = (refl, refl);
       written = subst (Appends w w) (sym nothing_printed) (Appends-nil w);
       tally_is = ap (λ n. record { accepted = n; refused = tally.refused }) e
@@ -127,10 +127,10 @@ progress_starts Step s w told tally e f =
     }
 
 -- an item is read, and the next one is in hand
-one_read : (told b c : Option (List ℕ)) (done : List Item) (one : Option Item) (item : Item)
-    → IfSome told (IsLeft done b)
+one_read : (remaining b c : Option (List ℕ)) (done : List Item) (one : Option Item) (item : Item)
+    → IfSome remaining (IsLeft done b)
     → IfSome b (λ zs. ItemRead zs one c) → one ≡ Some item
-    → IfSome told (λ text. (left : List ℕ) × (c ≡ Some left) × (items_of text ≡ done ++ item ∷ items_of left))
+    → IfSome remaining (λ text. (left : List ℕ) × (c ≡ Some left) × (items_of text ≡ done ++ item ∷ items_of left))
 one_read None b c done one item so_far read met_it = tt
 one_read (Some text) b c done one item so_far read met_it =
     let (left, now, items) = so_far in
@@ -138,28 +138,28 @@ one_read (Some text) b c done one item so_far read met_it =
     (subst (λ o. IfSome o (λ zs. ItemRead zs one c)) now read) in
     (ys, now', items ∙ ap (λ l. done ++ l) items')
 
-left_more : (told c : Option (List ℕ)) (done : List Item) (item : Item)
-    → IfSome told (λ text. (left : List ℕ) × (c ≡ Some left) × (items_of text ≡ done ++ item ∷ items_of left))
-    → IfSome told (IsLeft (done ++ item ∷ []) c)
+left_more : (remaining c : Option (List ℕ)) (done : List Item) (item : Item)
+    → IfSome remaining (λ text. (left : List ℕ) × (c ≡ Some left) × (items_of text ≡ done ++ item ∷ items_of left))
+    → IfSome remaining (IsLeft (done ++ item ∷ []) c)
 left_more None c done item h = tt
 left_more (Some text) c done item h =
     let (left, now, items) = h in
     (left, now, items ∙ sym (append_assoc done (item ∷ []) (items_of left)))
 
 -- one more item is answered
-pub progress_answers : {S : Type 0} (Step : StepOf S) (s0 s s' : S) (w0 w w' told b c : Option (List ℕ)) (m n : Tally)
+pub progress_answers : {S : Type 0} (Step : StepOf S) (s0 s s' : S) (w0 w w' remaining b c : Option (List ℕ)) (m n : Tally)
     (one : Option Item) (item : Item) (met : Bool)
-    → Progress Step s0 s w0 w told b m → IfSome b (λ zs. ItemRead zs one c) → one ≡ Some item
+    → Progress Step s0 s w0 w remaining b m → IfSome b (λ zs. ItemRead zs one c) → one ≡ Some item
     → ((out : List ℕ) × Answered (Step s item) s' out met × Appends w w' out)
     → n.accepted ≡ u64_saturate (m.accepted + (if met then 1 else 0))
     → n.refused ≡ u64_saturate (m.refused + (if met then 0 else 1))
-    → Progress Step s0 s' w0 w' told c n
-progress_answers Step s0 s s' w0 w w' told b c m n one item met p read met_it answered more_accepted more_refused =
+    → Progress Step s0 s' w0 w' remaining c n
+progress_answers Step s0 s s' w0 w w' remaining b c m n one item met p read met_it answered more_accepted more_refused =
     let (out, r, wrote) = answered in
     record {
       done = p.done ++ item ∷ [];
       replies = p.replies ++ r.reply ∷ [];
-      read = left_more told c p.done item (one_read told b c p.done one item p.read read met_it);
+      read = left_more remaining c p.done item (one_read remaining b c p.done one item p.read read met_it);
       answers = answers_more Step s0 s s' p.done p.replies item r.reply p.answers r.gives;
       written = subst (Appends w0 w')
           (sym (prints-append _ _ ∙ ap (λ l. prints p.replies ++ l) (prints-one _ ∙ sym r.prints.text_is)))
@@ -168,8 +168,8 @@ progress_answers Step s0 s s' w0 w w' told b c m n one item met p read met_it an
           more_accepted more_refused;
     }
 
-all_read : (told b c : Option (List ℕ)) (done : List Item) (one : Option Item) → IfSome told (IsLeft done b)
-    → IfSome b (λ zs. ItemRead zs one c) → one ≡ None → IfSome told (λ text. items_of text ≡ done)
+all_read : (remaining b c : Option (List ℕ)) (done : List Item) (one : Option Item) → IfSome remaining (IsLeft done b)
+    → IfSome b (λ zs. ItemRead zs one c) → one ≡ None → IfSome remaining (λ text. items_of text ≡ done)
 all_read None b c done one so_far read none = tt
 all_read (Some text) b c done one so_far read none =
     let (left, now, items) = so_far in
@@ -177,14 +177,14 @@ all_read (Some text) b c done one so_far read none =
     items ∙ ap (λ l. done ++ l) last.0 ∙ append-nil done
 
 -- the stream has ended
-pub all_done : {S : Type 0} (Step : StepOf S) (s0 s : S) (w0 w told b c : Option (List ℕ)) (tally : Tally)
-    (one : Option Item) → Progress Step s0 s w0 w told b tally → IfSome b (λ zs. ItemRead zs one c) → one ≡ None
-    → Ran Step s0 s w0 w told tally
-all_done Step s0 s w0 w told b c tally one p read none =
+pub all_done : (Step : StepOf Content) (s0 s : Content) (w0 w remaining b c : Option (List ℕ)) (tally : Tally)
+    (one : Option Item) → Progress Step s0 s w0 w remaining b tally → IfSome b (λ zs. ItemRead zs one c) → one ≡ None
+    → Ran Step (ends_of s0 s w0 w remaining) tally
+all_done Step s0 s w0 w remaining b c tally one p read none =
     record {
       items = p.done;
       replies = p.replies;
-      read = all_read told b c p.done one p.read read none;
+      read = all_read remaining b c p.done one p.read read none;
       answers = p.answers;
       written = p.written;
       tally_is = p.tally_is;
@@ -196,63 +196,63 @@ kept_appends w w' kept = Appends-kept w w w' [] (Appends-nil w) kept
 nothing_front : (ys : List ℕ) → IsFrontOf [] ys
 nothing_front ys = (0, omega arith, refl)
 
--- a fault of reading tells no more than its line, and changes nothing
+-- a fault of reading writes no more than its line, and changes nothing
 pub read_ends : (Step : StepOf Content) (f : ReadFault) (s : Content) → EndsBy Step (read_cause f) [] s s None []
 read_ends Step Reads.Memory s = (refl, ([], [], refl, inl refl, nothing_front []))
 read_ends Step Reads.Reader s = (refl, nothing_front [])
 
-none_in_hand : (told b : Option (List ℕ)) (done : List Item) → IfSome told (IsLeft done b)
-    → IfSome told (λ text. (rest : List Item) × (items_of text ≡ done ++ with_hand None rest))
+none_in_hand : (remaining b : Option (List ℕ)) (done : List Item) → IfSome remaining (IsLeft done b)
+    → IfSome remaining (λ text. (rest : List Item) × (items_of text ≡ done ++ with_hand None rest))
 none_in_hand None b done h = tt
 none_in_hand (Some text) b done h = (items_of h.0, h.2)
 
 -- a fault between two items
-pub halts_between : (Step : StepOf Content) (s0 s : Content) (w0 w told b : Option (List ℕ)) (tally : Tally)
-    (f : ReadFault) (fault : RunFault) → Progress Step s0 s w0 w told b tally
-    → cause_of fault ≡ read_cause f → tally_in fault ≡ tally → Stopped Step (λ _. []) s0 s w0 w told fault
-halts_between Step s0 s w0 w told b tally f fault p e tallied =
+pub halts_between : (Step : StepOf Content) (s0 s : Content) (w0 w remaining b : Option (List ℕ)) (tally : Tally)
+    (f : ReadFault) (fault : RunFault) → Progress Step s0 s w0 w remaining b tally
+    → cause_of fault ≡ read_cause f → tally_in fault ≡ tally → Stopped Step (λ _. []) (ends_of s0 s w0 w remaining) fault
+halts_between Step s0 s w0 w remaining b tally f fault p e tallied =
     record {
       done = p.done;
       hand = None;
       replies = p.replies;
       between = s;
       tail = [];
-      read = none_in_hand told b p.done p.read;
+      read = none_in_hand remaining b p.done p.read;
       answers = p.answers;
       written = subst (Appends w0 w) (sym (append-nil _)) p.written;
       ending = subst (λ c. EndsBy Step c [] s s None []) (sym e) (read_ends Step f s);
       tally_is = tallied ∙ p.tally_is;
     }
 
-one_in_hand : (told c : Option (List ℕ)) (done : List Item) (item : Item)
-    → IfSome told (λ text. (left : List ℕ) × (c ≡ Some left) × (items_of text ≡ done ++ item ∷ items_of left))
-    → IfSome told (λ text. (rest : List Item) × (items_of text ≡ done ++ with_hand (Some item) rest))
+one_in_hand : (remaining c : Option (List ℕ)) (done : List Item) (item : Item)
+    → IfSome remaining (λ text. (left : List ℕ) × (c ≡ Some left) × (items_of text ≡ done ++ item ∷ items_of left))
+    → IfSome remaining (λ text. (rest : List Item) × (items_of text ≡ done ++ with_hand (Some item) rest))
 one_in_hand None c done item h = tt
 one_in_hand (Some text) c done item h = (items_of h.0, h.2)
 
 -- the first rows of a listing, and no line of a fault
-rows_told : (s : Content) (item : Item) (front : List ℕ) → BeginsInHand s (Some item) front
-    → TellsAfterRows s (Some item) [] front
-rows_told s item front begins = (front, [], sym (append-nil front), begins, nothing_front [])
+rows_begun : (s : Content) (item : Item) (front : List ℕ) → BeginsInHand s (Some item) front
+    → WritesFault s (Some item) [] front
+rows_begun s item front begins = (front, [], sym (append-nil front), begins, nothing_front [])
 
 -- how it ends where one item was not answered
 breaks_end : (Step : StepOf Content) (cause : Cause) (s s' : Content) (w w' : Option (List ℕ)) (item : Item)
     → ItemBreaks Step cause s s' w w' item
     → (tail : List ℕ) × EndsBy Step cause [] s s' (Some item) tail × Appends w w' tail
 breaks_end Step Memory s s' w w' item (same, (front, begins, appended)) =
-    (front, (same, rows_told s item front begins), appended)
+    (front, (same, rows_begun s item front begins), appended)
 breaks_end Step (Device Store) s s' w w' item (whole, (front, begins, appended)) =
-    (front, (whole, rows_told s item front begins), appended)
+    (front, (whole, rows_begun s item front begins), appended)
 breaks_end Step (Device Reader) s s' w w' item h = absurd h
 breaks_end Step (Device Writer) s s' w w' item h = h
 
 -- a fault in the answer to an item
-pub halts_within : (Step : StepOf Content) (s0 s s' : Content) (w0 w w' told b c : Option (List ℕ)) (tally : Tally)
+pub halts_within : (Step : StepOf Content) (s0 s s' : Content) (w0 w w' remaining b c : Option (List ℕ)) (tally : Tally)
     (one : Option Item) (item : Item) (cause : Cause) (fault : RunFault)
-    → Progress Step s0 s w0 w told b tally → IfSome b (λ zs. ItemRead zs one c) → one ≡ Some item
+    → Progress Step s0 s w0 w remaining b tally → IfSome b (λ zs. ItemRead zs one c) → one ≡ Some item
     → cause_of fault ≡ cause → tally_in fault ≡ tally
-    → ItemBreaks Step cause s s' w w' item → Stopped Step (λ _. []) s0 s' w0 w' told fault
-halts_within Step s0 s s' w0 w w' told b c tally one item cause fault p read met_it e tallied breaks =
+    → ItemBreaks Step cause s s' w w' item → Stopped Step (λ _. []) (ends_of s0 s' w0 w' remaining) fault
+halts_within Step s0 s s' w0 w w' remaining b c tally one item cause fault p read met_it e tallied breaks =
     let (tail, ending, appended) = breaks_end Step cause s s' w w' item breaks in
     record {
       done = p.done;
@@ -260,7 +260,7 @@ halts_within Step s0 s s' w0 w w' told b c tally one item cause fault p read met
       replies = p.replies;
       between = s;
       tail = tail;
-      read = one_in_hand told c p.done item (one_read told b c p.done one item p.read read met_it);
+      read = one_in_hand remaining c p.done item (one_read remaining b c p.done one item p.read read met_it);
       answers = p.answers;
       written = Appends-trans w0 w w' _ _ p.written appended;
       ending = subst (λ c'. EndsBy Step c' [] s s' (Some item) tail) (sym e) ending;
@@ -268,13 +268,13 @@ halts_within Step s0 s s' w0 w w' told b c tally one item cause fault p read met
     }
 
 -- and what a crash may leave then
-pub crashes_between : (Step : StepOf Content) (s0 s : Content) (w0 w told b : Option (List ℕ)) (tally : Tally)
-    (f : ReadFault) (fault : RunFault) → Progress Step s0 s w0 w told b tally
+pub crashes_between : (Step : StepOf Content) (s0 s : Content) (w0 w remaining b : Option (List ℕ)) (tally : Tally)
+    (f : ReadFault) (fault : RunFault) → Progress Step s0 s w0 w remaining b tally
     → cause_of fault ≡ read_cause f → tally_in fault ≡ tally → (c : Content) → c ≡ s
-    → Crashed Step (λ _. []) s0 s w0 w told fault c
+    → Crashed Step (λ _. []) (ends_of s0 s w0 w remaining) fault c
 unfolding halts_between
-crashes_between Step s0 s w0 w told b tally f fault p e tallied c same =
-    record { stopped = halts_between Step s0 s w0 w told b tally f fault p e tallied; leaves = inl same }
+crashes_between Step s0 s w0 w remaining b tally f fault p e tallied c same =
+    record { stopped = halts_between Step s0 s w0 w remaining b tally f fault p e tallied; leaves = inl same }
 
 -- what stays, or that after the item in hand
 in_hand : (Step : StepOf Content) (s t : Content) (item : Item) → (t ≡ s) ⊎ ((reply : Reply) × Step s item reply t)
@@ -282,17 +282,17 @@ in_hand : (Step : StepOf Content) (s t : Content) (item : Item) → (t ≡ s) �
 in_hand Step s t item (inl same) = inl same
 in_hand Step s t item (inr did) = inr (item, refl, did)
 
-pub crashes_within : (Step : StepOf Content) (s0 s s' : Content) (w0 w w' told b c : Option (List ℕ)) (tally : Tally)
+pub crashes_within : (Step : StepOf Content) (s0 s s' : Content) (w0 w w' remaining b c : Option (List ℕ)) (tally : Tally)
     (one : Option Item) (item : Item) (cause : Cause) (fault : RunFault)
-    → Progress Step s0 s w0 w told b tally → IfSome b (λ zs. ItemRead zs one c) → one ≡ Some item
+    → Progress Step s0 s w0 w remaining b tally → IfSome b (λ zs. ItemRead zs one c) → one ≡ Some item
     → cause_of fault ≡ cause → tally_in fault ≡ tally
     → ItemBreaks Step cause s s' w w' item → (left : Content) → (left ≡ s) ⊎ ((reply : Reply) × Step s item reply left)
-    → Crashed Step (λ _. []) s0 s' w0 w' told fault left
+    → Crashed Step (λ _. []) (ends_of s0 s' w0 w' remaining) fault left
 unfolding halts_within
-crashes_within Step s0 s s' w0 w w' told b c tally one item cause fault p read met_it e tallied breaks left leaves =
+crashes_within Step s0 s s' w0 w w' remaining b c tally one item cause fault p read met_it e tallied breaks left leaves =
     record {
       stopped =
-          halts_within Step s0 s s' w0 w w' told b c tally one item cause fault p read met_it e tallied breaks;
+          halts_within Step s0 s s' w0 w w' remaining b c tally one item cause fault p read met_it e tallied breaks;
       leaves = in_hand Step s left item leaves;
     }
 
@@ -301,10 +301,10 @@ front_of_nothing : (xs : List ℕ) → IsFrontOf xs [] → xs ≡ []
 front_of_nothing xs front = front.2 ∙ take_short front.0 [] (omega arith)
 
 -- and once a front of the fault's line is written
-told_rows : (s : Content) (hand : Option Item) (line tail : List ℕ) (n : ℕ) → n ≤ length line
-    → TellsAfterRows s hand [] tail
-    → TellsAfterRows s hand line (tail ++ take n line)
-told_rows s hand line tail n fits (front, last, is, begins, ends) = (
+rows_written : (s : Content) (hand : Option Item) (line tail : List ℕ) (n : ℕ) → n ≤ length line
+    → WritesFault s hand [] tail
+    → WritesFault s hand line (tail ++ take n line)
+rows_written s hand line tail n fits (front, last, is, begins, ends) = (
   front,
   take n line,
   ap (λ l. l ++ take n line) (is ∙ ap (λ l. front ++ l) (front_of_nothing last ends) ∙ append-nil front),
@@ -313,26 +313,26 @@ told_rows s hand line tail n fits (front, last, is, begins, ends) = (
 )
 
 -- how a run ended, once a front of the fault's line is written
-told_ending : (Step : StepOf Content) (cause : Cause) (between t : Content) (hand : Option Item) (tail : List ℕ) (n : ℕ)
+ending_written : (Step : StepOf Content) (cause : Cause) (between t : Content) (hand : Option Item) (tail : List ℕ) (n : ℕ)
     → n ≤ length (fault_line cause)
     → EndsBy Step cause [] between t hand tail
     → EndsBy Step cause (fault_line cause) between t hand (tail ++ take n (fault_line cause))
 unfolding fault_line
-told_ending Step Memory between t hand tail n fits h = (h.0, told_rows between hand (fault_line Memory) tail n fits h.1)
-told_ending Step (Device Store) between t hand tail n fits h =
-    (h.0, told_rows between hand (fault_line (Device Store)) tail n fits h.1)
-told_ending Step (Device Reader) between t hand tail n fits h =
+ending_written Step Memory between t hand tail n fits h = (h.0, rows_written between hand (fault_line Memory) tail n fits h.1)
+ending_written Step (Device Store) between t hand tail n fits h =
+    (h.0, rows_written between hand (fault_line (Device Store)) tail n fits h.1)
+ending_written Step (Device Reader) between t hand tail n fits h =
     (h.0, (n, fits, ap (λ l. l ++ take n (fault_line (Device Reader))) (front_of_nothing tail h.1)))
-told_ending Step (Device Writer) between t hand tail n fits h =
+ending_written Step (Device Writer) between t hand tail n fits h =
     subst (EndsBy Step (Device Writer) [] between t hand)
     (sym (ap (λ l. tail ++ l) (take_short n [] (omega arith)) ∙ append-nil tail)) h
 
--- a fault is told
-pub told : (Step : StepOf Content) (s t : Content) (w0 w w' read : Option (List ℕ)) (fault : RunFault) (cause : Cause)
-    → Stopped Step (λ _. []) s t w0 w read fault → cause ≡ cause_of fault
+-- the line of a fault is written
+pub fault_written : (Step : StepOf Content) (s t : Content) (w0 w w' read : Option (List ℕ)) (fault : RunFault) (cause : Cause)
+    → Stopped Step (λ _. []) (ends_of s t w0 w read) fault → cause ≡ cause_of fault
     → ((n : ℕ) × (n ≤ length (fault_line cause)) × Appends w w' (take n (fault_line cause)))
-    → Stopped Step fault_line s t w0 w' read fault
-told Step s t w0 w w' read fault cause p e appended =
+    → Stopped Step fault_line (ends_of s t w0 w' read) fault
+fault_written Step s t w0 w w' read fault cause p e appended =
     let (n, fits, more) = subst (λ c. (n : ℕ) × (n ≤ length (fault_line c)) × Appends w w' (take n (fault_line c))) e
     appended in
     let line = fault_line (cause_of fault) in
@@ -346,18 +346,18 @@ told Step s t w0 w w' read fault cause p e appended =
       answers = p.answers;
       written = subst (Appends w0 w') (append_assoc (prints p.replies) p.tail (take n line))
           (Appends-trans w0 w w' _ _ p.written more);
-      ending = told_ending Step (cause_of fault) p.between t p.hand p.tail n fits p.ending;
+      ending = ending_written Step (cause_of fault) p.between t p.hand p.tail n fits p.ending;
       tally_is = p.tally_is;
     }
 
-pub crash_told : (Step : StepOf Content) (s t : Content) (w0 w w' read : Option (List ℕ)) (fault : RunFault)
+pub crash_written : (Step : StepOf Content) (s t : Content) (w0 w w' read : Option (List ℕ)) (fault : RunFault)
     (cause : Cause) (c : Content)
-    → Crashed Step (λ _. []) s t w0 w read fault c → cause ≡ cause_of fault
+    → Crashed Step (λ _. []) (ends_of s t w0 w read) fault c → cause ≡ cause_of fault
     → ((n : ℕ) × (n ≤ length (fault_line cause)) × Appends w w' (take n (fault_line cause)))
-    → Crashed Step fault_line s t w0 w' read fault c
-unfolding told
-crash_told Step s t w0 w w' read fault cause c h e appended =
-    record { stopped = told Step s t w0 w w' read fault cause h.stopped e appended; leaves = h.leaves }
+    → Crashed Step fault_line (ends_of s t w0 w' read) fault c
+unfolding fault_written
+crash_written Step s t w0 w w' read fault cause c h e appended =
+    record { stopped = fault_written Step s t w0 w w' read fault cause h.stopped e appended; leaves = h.leaves }
 
 -- nothing is written of the item in hand
 nothing_begun : (s : Content) (w w' : Option (List ℕ)) (item : Item) → Keeps w w'

@@ -1,7 +1,7 @@
 -- Streams that are run again: their items ask the same statements.
 use Rattle.std.proofs.Common.{◌≡◌, ◌∙◌, ℕ, zero, suc, List, [], ◌∷◌, ◌++◌, refl, sym, ap, subst, inl, inr, append_assoc}
 use Rattle.std.proofs.Common.{None, Option, Some}
-use Rattle.std.specs.Prelude.{All, slice_get}
+use Rattle.std.specs.Prelude.{All, option_and_then, option_map, slice_get}
 use Rattle.planner_machine.specs.Rerun.{AnswersAgree, RerunEndsAsEachRun, job_number}
 use Rattle.planner_machine.specs.Statement.{Answer, Statement}
 use Rattle.planner_machine.specs.Stream.{IsStatement, Runs}
@@ -14,7 +14,6 @@ use Rattle.planner_cli.specs.Meaning.{Answers}
 use Rattle.planner_cli.specs.Outcomes.{answering}
 use Rattle.planner_cli.specs.Plans.{AreAnswered}
 use Rattle.planner_cli.specs.Replies.{Reply}
-use Rattle.planner_cli.specs.Requests.{request_of}
 use Rattle.planner_cli.specs.Reruns.{IsJobItem, RepliesAgree, RerunAfterFault, RerunEndsAsOneRun}
 use Rattle.planner_cli.specs.Runs.{with_hand}
 use Rattle.planner_cli.specs.Steps.{Step}
@@ -34,9 +33,9 @@ module _ (law : OneStatement) where
   asks_one : (item : Item) (a b : Option Statement) → Asks item a → Asks item b → a ≡ b
   asks_one NoStatement a b x y = x ∙ sym y
   asks_one (Alone line) a b (read, reads, is) (read', reads', is') =
-      is ∙ ap (λ o. asked_alone line (request_of o)) (reads_one line read read' reads reads') ∙ sym is'
+      is ∙ ap (option_map (asked_alone line)) (reads_one line read read' reads reads') ∙ sym is'
   asks_one (WithBlock line block) a b (read, reads, is) (read', reads', is') =
-      is ∙ ap (λ o. asked_with line block (request_of o)) (reads_one line read read' reads reads') ∙ sym is'
+      is ∙ ap (option_and_then (asked_with line block)) (reads_one line read read' reads reads') ∙ sym is'
 
   are_asked_one : (items : List Item) (x y : List Statement) → AreAsked items x → AreAsked items y → x ≡ y
   are_asked_one [] x y h k = h ∙ sym k

@@ -165,11 +165,11 @@ module _ {S : Type 0} (is_honest : S → Type 0) (content : S → Content) (fail
   module _ {T : Type 0} (before now : S) (read : Result T StoreFault) (IsRight : T → Type 0)
       (reads : Reads is_honest content failures may_leave before now read IsRight) where
     -- the store was read, and that is all
-    pub read_told : (printed : Printed) (Does : Reply → Content → Type 0)
+    pub read_printed : (printed : Printed) (Does : Reply → Content → Type 0)
         → (is_honest now → (reply : Reply) × Does reply (content before)
         × Prints reply printed.text.items printed.is_accepted)
         → AnswersBy is_honest content failures may_leave before now (Ok printed) Does
-    read_told printed Does told = record {
+    read_printed printed Does told = record {
       answers = λ honest. let (reply, does, prints) = told honest in
           record { reply = reply; gives = subst (Does reply) (sym (reads.same honest)) does; prints = prints };
       unchanged = λ honest. tt;
@@ -200,7 +200,7 @@ module _ {S : Type 0} (is_honest : S → Type 0) (content : S → Content) (fail
         → IfErr result (λ fault. fault ≡ Memory)
         → AnswersBy is_honest content failures may_leave before now result Does
     read_answers (Ok printed) reply Does does prints memory =
-        read_told printed Does (λ honest. (reply, does honest, prints))
+        read_printed printed Does (λ honest. (reply, does honest, prints))
     read_answers (Err fault) reply Does does prints memory =
         subst (λ f. AnswersBy is_honest content failures may_leave before now (Err f) Does) (sym memory)
         (read_refused Does)

@@ -36,17 +36,17 @@ use Rattle.plan_store.proofs.PlaceLemmas.{stands_cp}
 use Rattle.plan_store.proofs.ViewLemmas.{once_from_rows}
 use Rattle.planner_cli.specs.Outcomes.{answer_text, answering}
 use Rattle.planner_cli.specs.Replies.{Prints, Reply, ended}
-use Rattle.planner_cli.specs.Requests.{daily_change, plan_change}
+use Rattle.planner_cli.specs.Changes.{daily_change, plan_change}
 use Rattle.planner_cli.specs.Rows.{ShowsDailyTrial, ShowsPlanTrial, ShowsTrial, daily_signed, plan_signed}
 use Rattle.planner_cli.specs.Steps.{Serves}
 use Rattle.planner_cli.specs.Trials.{carried_part, completed, daily_changes, deleted, deleted_part, history_part}
 use Rattle.planner_cli.specs.Trials.{plan_changes}
 use Rattle.planner_cli.specs.Trials.{uncompleted, would_be_carried, would_be_deleted, would_be_history, would_be_made}
 use Rattle.planner_cli.specs.Trials.{would_be_moved, would_be_withdrawn}
-use Rattle.planner_cli.specs.declared.requests.DailyRequest.{DailyRequest}
-use Rattle.planner_cli.specs.declared.requests.DailyRequest.TheVariants as daily
-use Rattle.planner_cli.specs.declared.requests.PlanRequest.{PlanRequest}
-use Rattle.planner_cli.specs.declared.requests.PlanRequest.TheVariants as plan
+use Rattle.statements.specs.declared.statements.DailyFunction.{DailyFunction}
+use Rattle.statements.specs.declared.statements.DailyFunction.TheVariants as daily
+use Rattle.statements.specs.declared.statements.PlanFunction.{PlanFunction}
+use Rattle.statements.specs.declared.statements.PlanFunction.TheVariants as plan
 use Rattle.planner_cli.proofs.MovedLemmas.{gone_is, gone_was, is_gone, is_put, put_is, put_was}
 use Rattle.planner_cli.proofs.ShownLists.{shown_by}
 use Rattle.planner_cli.proofs.TrialLemmas.{AreCurrent, AreRowsOf, ComesIn, GoesOut, IsPlanFate, daily_apart}
@@ -61,12 +61,12 @@ pub record TrialShown (change : MachineChange) (c : Content) (reply : Outcome) (
   pub serves : Serves (Trial change) c (record { rows = lines; line = answer_text (Ok reply) }) c
 
 -- an answer that is printed behind the lines of its report
-pub trial_told : (change : MachineChange) (c : Content) (reply : Outcome) (text : List ℕ) (printed : Printed)
+pub trial_printed : (change : MachineChange) (c : Content) (reply : Outcome) (text : List ℕ) (printed : Printed)
     → TrialShown change c reply text
     → ((lines : List (List ℕ)) → text ≡ flat_map ended lines
     → Prints (record { rows = lines; line = answer_text (Ok reply) }) printed.text.items printed.is_accepted)
     → (told : Reply) × Serves (Trial change) c told c × Prints told printed.text.items printed.is_accepted
-trial_told change c reply text printed shown tells = (
+trial_printed change c reply text printed shown tells = (
   record { rows = shown.lines; line = answer_text (Ok reply) },
   shown.serves,
   tells shown.lines shown.text_is,
@@ -93,16 +93,16 @@ map_map g f (x ∷ xs) = ap (λ l. g (f x) ∷ l) (map_map g f xs)
 
 -- ---- changes of the long-term plan
 
-plan_fate : (asked : PlanRequest) (all : Definitions) (bounds : Option Bounds)
-    → IsPlanFate (fate_of (plan_change asked) all bounds)
+plan_fate : (function : PlanFunction) (all : Definitions) (bounds : Option Bounds)
+    → IsPlanFate (fate_of (plan_change function) all bounds)
 plan_fate (plan.Create from to) all bounds = stays_fate
 plan_fate (plan.Extend to) all bounds = stays_fate
 plan_fate plan.ModifyAll all bounds = modify_fate IsAnyApp all
 plan_fate (plan.ModifyOne app) all bounds = modify_fate (IsThatApp app) all
 
-plan_trial_shows : (asked : PlanRequest) (c : Content) (reply : Outcome) (rows : List (List ℕ))
-    → ShowsPlanTrial (plan_change asked) c reply rows
-    → ShowsTrial (plan_change asked) c reply rows
+plan_trial_shows : (function : PlanFunction) (c : Content) (reply : Outcome) (rows : List (List ℕ))
+    → ShowsPlanTrial (plan_change function) c reply rows
+    → ShowsTrial (plan_change function) c reply rows
 plan_trial_shows (plan.Create from to) c reply rows h = h
 plan_trial_shows (plan.Extend to) c reply rows h = h
 plan_trial_shows plan.ModifyAll c reply rows h = h
@@ -114,11 +114,11 @@ plan_signs_are made gone = sym
     ∙ ap (λ l. l ++ map plan_signed (map would_be_withdrawn gone)) (map_map plan_signed would_be_made made)
     ∙ ap (λ l. map (λ x. plan_signed (would_be_made x)) made ++ l) (map_map plan_signed would_be_withdrawn gone))
 
-pub plan_shown : (asked : PlanRequest) → FollowsFate (plan_change asked) → StaysSound (plan_change asked)
+pub plan_shown : (function : PlanFunction) → FollowsFate (plan_change function) → StaysSound (plan_change function)
     → (made : Change) (reply : Outcome)
-    (c : Content) → IsSound c → VerdictIs (decision_of (plan_change asked)) c (Done made reply) → (text : List ℕ)
-    → IsReport (plan_signs made.ltp.put.items made.ltp.gone.items) text → TrialShown (plan_change asked) c reply text
-plan_shown asked law stays made reply c sound verdict text report =
+    (c : Content) → IsSound c → VerdictIs (decision_of (plan_change function)) c (Done made reply) → (text : List ℕ)
+    → IsReport (plan_signs made.ltp.put.items made.ltp.gone.items) text → TrialShown (plan_change function) c reply text
+plan_shown function law stays made reply c sound verdict text report =
     let left = after made c in
     let (drafts, makes, follows) = law c reply left sound verdict.1 in
     let left_sound = stays c (Ok reply) left sound verdict.1 in
@@ -134,8 +134,8 @@ plan_shown asked law stays made reply c sound verdict text report =
       is = λ row there. (gone_was of_row made.ltp set fits row there, gone_is of_row made.ltp set fits row there);
       all = λ serial row h. is_gone of_row made.ltp set fits serial row h.0 h.1;
     } in
-    let fate = fate_of (plan_change asked) c.definitions c.sets.bounds in
-    let fair = plan_fate asked c.definitions c.sets.bounds in
+    let fate = fate_of (plan_change function) c.definitions c.sets.bounds in
+    let fair = plan_fate function c.definitions c.sets.bounds in
     let items = plan_changes made.ltp.put.items made.ltp.gone.items in
     let apart = plan_apart c.sets left.sets sound.serials left_sound.serials fate fair follows.old made.ltp.put.items
     made.ltp.gone.items put gone in
@@ -149,7 +149,7 @@ plan_shown asked law stays made reply c sound verdict text report =
       serves = record {
         answer = Ok reply;
         steps = (verdict.1.0, (refl, (left, verdict.1.1)));
-        rows = plan_trial_shows asked c reply shown.lines (
+        rows = plan_trial_shows function c reply shown.lines (
           shown.shown,
           (
             left,
@@ -175,15 +175,15 @@ some_end : (o : Option Bounds) → (o ≡ None → ⊥) → (t : ℕ) × (replan
 some_end None there = absurd (there refl)
 some_end (Some b) there = (b.plan_end, refl)
 
-daily_end : (asked : DailyRequest) (c : Content) → ((q : Refusal) → (decision_of (daily_change asked)).Refuses c q → ⊥)
-    → (t : ℕ) × (fate_of (daily_change asked) c.definitions c.sets.bounds ≡ DailyFate t)
-daily_end (daily.ExtendTo to) c allowed = (to, refl)
+daily_end : (function : DailyFunction) (c : Content) → ((q : Refusal) → (decision_of (daily_change function)).Refuses c q → ⊥)
+    → (t : ℕ) × (fate_of (daily_change function) c.definitions c.sets.bounds ≡ DailyFate t)
+daily_end (daily.Extend to) c allowed = (to, refl)
 daily_end daily.Replan c allowed = some_end c.sets.bounds (λ e. allowed NoPlan e)
 
-daily_trial_shows : (asked : DailyRequest) (c : Content) (reply : Outcome) (rows : List (List ℕ))
-    → ShowsDailyTrial (daily_change asked) c reply rows
-    → ShowsTrial (daily_change asked) c reply rows
-daily_trial_shows (daily.ExtendTo to) c reply rows h = h
+daily_trial_shows : (function : DailyFunction) (c : Content) (reply : Outcome) (rows : List (List ℕ))
+    → ShowsDailyTrial (daily_change function) c reply rows
+    → ShowsTrial (daily_change function) c reply rows
+daily_trial_shows (daily.Extend to) c reply rows h = h
 daily_trial_shows daily.Replan c reply rows h = h
 
 abbrev carried_pair : CurrentRow → Row × Status
@@ -203,14 +203,14 @@ current_rows c numbered rows lists = record {
       (lists.exactly current).1 (subst (λ n. c.sets.cp n ≡ Some current) (sym same) is, tt);
 }
 
-pub daily_shown : (asked : DailyRequest) → FollowsFate (daily_change asked) → StaysSound (daily_change asked)
+pub daily_shown : (function : DailyFunction) → FollowsFate (daily_change function) → StaysSound (daily_change function)
     → (made : Change) (reply : Outcome)
-    (c : Content) → IsSound c → VerdictIs (decision_of (daily_change asked)) c (Done made reply)
+    (c : Content) → IsSound c → VerdictIs (decision_of (daily_change function)) c (Done made reply)
     → (rows : List CurrentRow)
     → ListsSet of_current c.sets.cp IsAny rows → (text : List ℕ)
     → IsReport (map daily_signed (daily_changes made.ltp.gone.items rows)) text
-    → TrialShown (daily_change asked) c reply text
-daily_shown asked law stays made reply c sound verdict rows lists text report =
+    → TrialShown (daily_change function) c reply text
+daily_shown function law stays made reply c sound verdict rows lists text report =
     let left = after made c in
     let (drafts, makes, follows) = law c reply left sound verdict.1 in
     let left_sound = stays c (Ok reply) left sound verdict.1 in
@@ -222,7 +222,7 @@ daily_shown asked law stays made reply c sound verdict rows lists text report =
       all = λ serial row h. is_gone of_row made.ltp set fits serial row h.0 h.1;
     } in
     let current = current_rows c sound.serials rows lists in
-    let (t, fate_is) = daily_end asked c verdict.1.0 in
+    let (t, fate_is) = daily_end function c verdict.1.0 in
     let old = subst (λ (fate : Fate). (serial : ℕ) (p : PlacedRow) → StandsAt c.sets serial p → (q : PlacedRow)
     × fate p q × StandsAt left.sets serial q) fate_is follows.old in
     let items = daily_changes made.ltp.gone.items rows in
@@ -237,7 +237,7 @@ daily_shown asked law stays made reply c sound verdict rows lists text report =
       serves = record {
         answer = Ok reply;
         steps = (verdict.1.0, (refl, (left, verdict.1.1)));
-        rows = daily_trial_shows asked c reply shown.lines (
+        rows = daily_trial_shows function c reply shown.lines (
           shown.shown,
           (
             left,
@@ -290,6 +290,6 @@ daily_signs_are moved rows =
     left ∙ sym right
 
 -- its values are such as a line gives
-pub well_formed : (asked : DailyRequest) → IsWellFormed (daily_change asked)
-well_formed (daily.ExtendTo to) = tt
+pub well_formed : (function : DailyFunction) → IsWellFormed (daily_change function)
+well_formed (daily.Extend to) = tt
 well_formed daily.Replan = tt

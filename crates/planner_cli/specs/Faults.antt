@@ -1,4 +1,4 @@
--- Faults: their numbers, and the line that tells one.
+-- Faults: their numbers, and their lines.
 use Rattle.std.specs.Prelude.{ℕ, List, [], Result, Ok, Err, ◌==◌, if◌then◌else◌, codes}
 use Rattle.planner_cli.specs.Replies.{ended}
 use Rattle.planner_cli.specs.declared.tally.Tally.{Tally}
@@ -34,7 +34,7 @@ abbrev pub store_cause : StoreFault → Cause
 store_cause Stores.Memory = Causes.Memory
 store_cause Stores.Device = Causes.Device Store
 
--- the line that tells a fault; none where the writer failed
+-- the line of a fault; none where the writer failed
 unfoldable pub fault_line : Cause → List ℕ
 fault_line Causes.Memory = ended (codes "fault 40")
 fault_line (Causes.Device Store) = ended (codes "fault 41")

@@ -1,8 +1,8 @@
 -- The kind of definitions, and the listing, that a statement names.
 use Rattle.statements.specs.declared.words.KindWord.{KindWord}
 use Rattle.statements.specs.declared.words.KindWord.TheVariants as word
-use Rattle.statements.specs.declared.words.Listed.{Listed}
-use Rattle.statements.specs.declared.words.Listed.TheVariants as listed
+use Rattle.statements.specs.declared.words.WhatWord.{WhatWord}
+use Rattle.statements.specs.declared.words.WhatWord.TheVariants as words
 use Rattle.plan_store.specs.declared.listings.What.{What}
 use Rattle.plan_store.specs.declared.listings.What.TheVariants as what
 use Rattle.app_definitions.specs.declared.kinds.Kind.{Kind}
@@ -16,9 +16,9 @@ definitions_kind word.RunCycles = kind.RunCycles
 definitions_kind word.Predecessors = kind.Predecessors
 definitions_kind word.Options = kind.Options
 
-abbrev pub what_of : Listed → What
-what_of listed.Ltp = what.Ltp
-what_of listed.Cp = what.Cp
-what_of listed.History = what.History
-what_of listed.Deletions = what.Deletions
-what_of listed.Dependencies = what.Dependencies
+abbrev pub what_of : WhatWord → What
+what_of words.Ltp = what.Ltp
+what_of words.Cp = what.Cp
+what_of words.History = what.History
+what_of words.Deletions = what.Deletions
+what_of words.Dependencies = what.Dependencies

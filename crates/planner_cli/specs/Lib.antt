@@ -2,7 +2,7 @@ pub mod Replies
 pub mod Outcomes
 pub mod Rows
 pub mod Kinds
-pub mod Requests
+pub mod Changes
 pub mod Texts
 pub mod Trials
 pub mod Asked

@@ -1,5 +1,5 @@
 -- What a stream makes of the plans.
-use Rattle.std.specs.Prelude.{◌≡◌, ◌⊎◌, ℕ, ◌≤◌, All, List, [], ◌∷◌, ◌++◌, Option, Some}
+use Rattle.std.specs.Prelude.{◌≡◌, ◌⊎◌, ℕ, ◌≤◌, All, List, [], ◌∷◌, ◌++◌, IfErr, IfOk, OnOk, Option, Result, Some}
 use Rattle.external_dependencies.specs.declared.rows.PlacedRow.{PlacedRow}
 use Rattle.planner_machine.specs.Content.{Content, StandsAt}
 use Rattle.planner_machine.specs.Sound.{IsSound}
@@ -7,9 +7,12 @@ use Rattle.planner_machine.specs.Statement.{Answer, Statement}
 use Rattle.planner_machine.specs.Stream.{Goes, IsStatement, Lives, Runs}
 use Rattle.stream_items.specs.Items.{Item}
 use Rattle.planner_cli.specs.Asked.{AreAsked}
-use Rattle.planner_cli.specs.Faults.{fault_line}
-use Rattle.planner_cli.specs.Runs.{Crashed, Ran, Stopped}
+use Rattle.planner_cli.specs.Faults.{cause_of, fault_line}
+use Rattle.planner_cli.specs.Runs.{Crashed, Ends, Ran, Stopped}
 use Rattle.planner_cli.specs.Steps.{Step}
+use Rattle.planner_cli.specs.Stores.{IsBlamed, LeavesOnly}
+use Rattle.planner_cli.specs.declared.faults.Cause.TheVariants.{Device}
+use Rattle.planner_cli.specs.declared.faults.Part.TheVariants.{Store}
 use Rattle.planner_cli.specs.declared.faults.RunFault.{RunFault}
 use Rattle.planner_cli.specs.declared.tally.Tally.{Tally}
 
@@ -30,26 +33,44 @@ pub record LeadsTo (items : List Item) (c c' : Content) : Type 0 where
       ⊎ Lives stream answers c c' run serial q)
 
 -- a run of the planner to the end of a stream: the statements that its items are lead to what is left
-pub record RanPlan (c c' : Content) (old new told : Option (List ℕ)) (tally : Tally) : Type 0 where
-  pub ran : Ran Step c c' old new told tally
-  pub leads : LeadsTo ran.items c c'
+pub record RanPlan (ends : Ends) (tally : Tally) : Type 0 where
+  pub ran : Ran Step ends tally
+  pub leads : LeadsTo ran.items ends.before ends.after
 
 -- the items that were answered: those that are done, or these and the one in hand
 abbrev pub AreAnswered : List Item → Option Item → List Item → Type 0
 AreAnswered done hand items = (items ≡ done) ⊎ ((item : Item) × (hand ≡ Some item) × (items ≡ done ++ item ∷ []))
 
--- a run of the planner that a fault ended, and what a crash may leave then: the statements of items no fewer than those
--- that were answered lead to it
-pub record CrashedPlan (c c' : Content) (old new told : Option (List ℕ)) (fault : RunFault) (left : Content) : Type 0
-  where
-    pub crashed : Crashed Step fault_line c c' old new told fault left
-    pub items : List Item
-    pub are_answered : AreAnswered crashed.stopped.done crashed.stopped.hand items
-    pub leads : LeadsTo items c left
-
--- a run of the planner that a fault ended: so do those that were answered
-pub record StoppedPlan (c c' : Content) (old new told : Option (List ℕ)) (fault : RunFault) : Type 0 where
-  pub stopped : Stopped Step fault_line c c' old new told fault
+-- a run of the planner that a fault ended: the statements of the items that were answered lead to what is left
+pub record StoppedPlan (ends : Ends) (fault : RunFault) : Type 0 where
+  pub stopped : Stopped Step fault_line ends fault
   pub items : List Item
   pub are_answered : AreAnswered stopped.done stopped.hand items
-  pub leads : LeadsTo items c c'
+  pub leads : LeadsTo items ends.before ends.after
+
+-- a run of the planner that a fault ended, and what a crash may leave then: the statements of items no fewer than those
+-- that were answered lead to it
+pub record CrashedPlan (ends : Ends) (fault : RunFault) (left : Content) : Type 0 where
+  pub crashed : Crashed Step fault_line ends fault left
+  pub items : List Item
+  pub are_answered : AreAnswered crashed.stopped.done crashed.stopped.hand items
+  pub leads : LeadsTo items ends.before left
+
+-- the headline: what a run does between its two ends, over a store as it was before and as it is now
+pub record RunsPlan {S : Type 0} (is_honest : S → Type 0) (failures : S → ℕ) (may_leave : S → Content → Type 0)
+    (before now : S) (ends : Ends) (result : Result Tally RunFault) : Type 0 where
+  -- what the replies print is what was written, and nothing else; and the statements of the items lead to what the
+  -- store keeps, which is sound, with each occurrence where its fates put it
+  pub ran : is_honest now → IfOk result (RanPlan ends)
+  -- after a fault the replies to the items before it stand in the writer, and the same holds of those answered
+  pub fault : is_honest now → IfErr result (StoppedPlan ends)
+  -- where a crash before the run would have left the content alone, it leaves the new content alone after `Ok`
+  pub settled : is_honest now → LeavesOnly (may_leave before) ends.before
+      → OnOk result (LeavesOnly (may_leave now) ends.after)
+  -- and after a fault that after the statements answered, or after the one in hand too
+  pub crash : is_honest now → LeavesOnly (may_leave before) ends.before
+      → IfErr result (λ fault. (left : Content) → may_leave now left → CrashedPlan ends fault left)
+  -- the store is blamed only where its device failed, in this run or before
+  pub blames : IfErr result (λ fault. cause_of fault ≡ Device Store → IsBlamed (failures before) (failures now))
+  pub counts : failures before ≤ failures now
+  pub honest : is_honest now → is_honest before

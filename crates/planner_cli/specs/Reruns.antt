@@ -9,7 +9,7 @@ use Rattle.planner_cli.specs.Asked.{Asks}
 use Rattle.planner_cli.specs.Faults.{fault_line}
 use Rattle.planner_cli.specs.Meaning.{Answers}
 use Rattle.planner_cli.specs.Replies.{Reply}
-use Rattle.planner_cli.specs.Runs.{Ran, Stopped}
+use Rattle.planner_cli.specs.Runs.{Ran, Stopped, ends_of}
 use Rattle.planner_cli.specs.Steps.{Step}
 use Rattle.planner_cli.specs.declared.faults.RunFault.{RunFault}
 use Rattle.planner_cli.specs.declared.tally.Tally.{Tally}
@@ -39,6 +39,7 @@ abbrev pub RerunAfterFault : Type 0
 RerunAfterFault =
     (text : List ℕ) (c c1 c' c'' : Content) (w0 w1 w2 w3 w4 w5 : Option (List ℕ)) (fault : RunFault)
     (tally tally' : Tally)
-    → IsSound c → Stopped Step fault_line c c1 w0 w1 (Some text) fault
-    → (whole : Ran Step c c' w2 w3 (Some text) tally) → (again : Ran Step c1 c'' w4 w5 (Some text) tally')
+    → IsSound c → Stopped Step fault_line (ends_of c c1 w0 w1 (Some text)) fault
+    → (whole : Ran Step (ends_of c c' w2 w3 (Some text)) tally)
+    → (again : Ran Step (ends_of c1 c'' w4 w5 (Some text)) tally')
     → (c'' ≡ c') × RepliesAgree whole.items whole.replies again.replies

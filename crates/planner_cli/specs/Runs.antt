@@ -13,14 +13,32 @@ use Rattle.planner_cli.specs.declared.faults.Cause.{Cause}
 use Rattle.planner_cli.specs.declared.faults.Cause.TheVariants.{Memory, Device}
 use Rattle.planner_cli.specs.declared.faults.RunFault.{RunFault}
 
+-- the two ends of a run: the content before and after it, all that was written before and after it, and what was left
+-- to read before it. Of a writer and of a reader whose bytes are not known there is none
+pub record Ends : Type 0 where
+  pub before : Content
+  pub after : Content
+  pub written_before : Option (List ℕ)
+  pub written_after : Option (List ℕ)
+  pub remaining : Option (List ℕ)
+
+abbrev pub ends_of : (before after : Content) (written_before written_after remaining : Option (List ℕ)) → Ends
+ends_of before after written_before written_after remaining = record {
+  before = before;
+  after = after;
+  written_before = written_before;
+  written_after = written_after;
+  remaining = remaining;
+}
+
 -- a run to the end of a stream: all its items are answered and counted, and what their replies print is written. Where
--- the reader tells its bytes, the items are those that they read as
-pub record Ran {S : Type 0} (Step : StepOf S) (s t : S) (old new told : Option (List ℕ)) (tally : Tally) : Type 0 where
+-- the bytes to read are known, the items are those that they read as
+pub record Ran (Step : StepOf Content) (ends : Ends) (tally : Tally) : Type 0 where
   pub items : List Item
   pub replies : List Reply
-  pub read : IfSome told (λ text. items_of text ≡ items)
-  pub answers : Answers Step s items replies t
-  pub written : Appends old new (prints replies)
+  pub read : IfSome ends.remaining (λ text. items_of text ≡ items)
+  pub answers : Answers Step ends.before items replies ends.after
+  pub written : Appends ends.written_before ends.written_after (prints replies)
   pub tally_is : tally ≡ tally_of replies
 
 -- xs is a front of ys
@@ -46,44 +64,43 @@ abbrev pub IsListCutOff : Content → Option Item → Content → List ℕ → T
 IsListCutOff s hand t tail =
     (t ≡ s) × ((lines : List (List ℕ)) × ListsInHand s hand lines × IsFrontOf tail (flat_map ended lines))
 
--- the first lines of a listing, if the item in hand is one, and then a front of the line that tells the fault
-abbrev pub TellsAfterRows : Content → Option Item → (line tail : List ℕ) → Type 0
-TellsAfterRows s hand line tail =
+-- the first lines of a listing, if the item in hand is one, and then a front of the line of the fault
+abbrev pub WritesFault : Content → Option Item → (line tail : List ℕ) → Type 0
+WritesFault s hand line tail =
     (front : List ℕ) × (last : List ℕ) × (tail ≡ front ++ last) × BeginsInHand s hand front × IsFrontOf last line
 
 -- how a run ended after the answers, where `between` was known and this item was in hand, if one was: with a front of
--- the line that tells the fault, and nothing changed. Where the item in hand is `list`, its first lines may stand
+-- the line of the fault, and nothing changed. Where the item in hand is `list`, its first lines may stand
 -- before. Where the store failed, the item's change may be made; where the writer failed, it is, and a front of its
 -- answer is written
 abbrev pub EndsBy : (Step : StepOf Content)
     → Cause → (line : List ℕ) → (between t : Content) → (hand : Option Item) → (tail : List ℕ) → Type 0
-EndsBy Step Memory line between t hand tail = (t ≡ between) × TellsAfterRows between hand line tail
+EndsBy Step Memory line between t hand tail = (t ≡ between) × WritesFault between hand line tail
 EndsBy Step (Device Store) line between t hand tail =
-    ((t ≡ between) ⊎ LeavesInHand Step between hand t) × TellsAfterRows between hand line tail
+    ((t ≡ between) ⊎ LeavesInHand Step between hand t) × WritesFault between hand line tail
 EndsBy Step (Device Reader) line between t hand tail = (t ≡ between) × IsFrontOf tail line
 EndsBy Step (Device Writer) line between t hand tail =
     IsCutOff Step between hand t tail ⊎ IsListCutOff between hand t tail
 
--- a run that a fault ended: the items in `done` are answered, and counted. Where the reader tells its bytes, they read
+-- a run that a fault ended: the items in `done` are answered, and counted. Where the bytes to read are known, they read
 -- as these items, the one in hand, and others
-pub record Stopped (Step : StepOf Content) (line : Cause → List ℕ) (s t : Content) (old new told : Option (List ℕ))
-    (fault : RunFault) : Type 0 where
+pub record Stopped (Step : StepOf Content) (line : Cause → List ℕ) (ends : Ends) (fault : RunFault) : Type 0 where
   pub done : List Item
   pub hand : Option Item
   pub replies : List Reply
   pub between : Content
   pub tail : List ℕ
-  pub read : IfSome told (λ text. (rest : List Item) × (items_of text ≡ done ++ with_hand hand rest))
-  pub answers : Answers Step s done replies between
-  pub written : Appends old new (prints replies ++ tail)
-  pub ending : EndsBy Step (cause_of fault) (line (cause_of fault)) between t hand tail
+  pub read : IfSome ends.remaining (λ text. (rest : List Item) × (items_of text ≡ done ++ with_hand hand rest))
+  pub answers : Answers Step ends.before done replies between
+  pub written : Appends ends.written_before ends.written_after (prints replies ++ tail)
+  pub ending : EndsBy Step (cause_of fault) (line (cause_of fault)) between ends.after hand tail
   pub tally_is : tally_in fault ≡ tally_of replies
 
 -- a run that a fault ended, and what a crash may leave then: what the items in `done` left, or that after the item in
 -- hand
-pub record Crashed (Step : StepOf Content) (line : Cause → List ℕ) (s t : Content) (old new told : Option (List ℕ))
-    (fault : RunFault) (c : Content) : Type 0 where
-  pub stopped : Stopped Step line s t old new told fault
+pub record Crashed (Step : StepOf Content) (line : Cause → List ℕ) (ends : Ends) (fault : RunFault) (c : Content)
+    : Type 0 where
+  pub stopped : Stopped Step line ends fault
   pub leaves : (c ≡ stopped.between) ⊎ LeavesInHand Step stopped.between stopped.hand c
 
 -- one item was not answered: want of memory changes nothing; a store that fails may have made its change; a writer that

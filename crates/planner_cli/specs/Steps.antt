@@ -36,8 +36,8 @@ pub record Serves (statement : Statement) (c : Content) (reply : Reply) (c' : Co
   pub well_formed : IsStatement statement
 
 -- what is printed answers a trial of the change, and the content stays as it is
-abbrev pub TellsTrial : Change → Content → Printed → Type 0
-TellsTrial change c printed =
+abbrev pub PrintsTrial : Change → Content → Printed → Type 0
+PrintsTrial change c printed =
     (reply : Reply) × Serves (Trial change) c reply c × Prints reply printed.text.items printed.is_accepted
 
 -- what is no statement is refused, and nothing changes

@@ -11,9 +11,13 @@ use Rattle.plan_store.specs.declared.stores.StoreFault.TheVariants.{Device, Memo
 abbrev pub IsBlamed : ℕ → ℕ → Type 0
 IsBlamed before now = MoreFailures before now ⊎ (0 < before)
 
+-- a crash that may leave these contents leaves this one, and no other
+abbrev pub LeavesOnly : (Content → Type 0) → Content → Type 0
+LeavesOnly may_leave c = (left : Content) → may_leave left → left ≡ c
+
 -- a crash now leaves the content, and nothing else
 abbrev pub LeavesOwn : {S : Type 0} → (S → Content) → (S → Content → Type 0) → S → Type 0
-LeavesOwn content may_leave s = (c : Content) → may_leave s c → c ≡ content s
+LeavesOwn content may_leave s = LeavesOnly (may_leave s) (content s)
 
 -- a store before and after a call, and what the call answers; of a change that it makes, what that would leave
 pub record Answering {S T : Type 0} (is_honest : S → Type 0) (content : S → Content) (failures : S → ℕ)

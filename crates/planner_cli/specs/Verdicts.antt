@@ -10,13 +10,13 @@ use Rattle.plan_store.specs.declared.changes.Verdict.{Verdict}
 use Rattle.plan_store.specs.declared.changes.Verdict.TheVariants.{Done, Refused}
 use Rattle.plan_store.specs.declared.stores.Need.{Need}
 use Rattle.plan_store.specs.declared.stores.Need.TheVariants as need
-use Rattle.planner_cli.specs.Requests.{change_of}
-use Rattle.planner_cli.specs.declared.requests.ChangeRequest.{ChangeRequest}
-use Rattle.planner_cli.specs.declared.requests.ChangeRequest.TheVariants as request
-use Rattle.planner_cli.specs.declared.requests.DailyRequest.{DailyRequest}
-use Rattle.planner_cli.specs.declared.requests.DailyRequest.TheVariants as daily
-use Rattle.planner_cli.specs.declared.decisions.Asked.{Asked}
-use Rattle.planner_cli.specs.declared.decisions.Asked.TheVariants as asked
+use Rattle.statements.specs.declared.statements.ChangeStatement.{ChangeStatement}
+use Rattle.statements.specs.declared.statements.ChangeStatement.TheVariants as statement
+use Rattle.statements.specs.declared.statements.DailyFunction.{DailyFunction}
+use Rattle.statements.specs.declared.statements.DailyFunction.TheVariants as daily
+use Rattle.planner_cli.specs.Changes.{change_of}
+use Rattle.planner_cli.specs.declared.decisions.JobChange.{JobChange}
+use Rattle.planner_cli.specs.declared.decisions.JobChange.TheVariants as by_job
 
 -- the answer that a verdict gives
 abbrev pub answer_in : Verdict → Answer
@@ -44,26 +44,26 @@ IsKeptAnswer None text found = found ≡ None
 IsKeptAnswer (Some job) text found = (answer : Answer) × (found ≡ Some answer)
     × (((job.text ≡ text) × (answer ≡ job.reply)) ⊎ ((job.text ≢ text) × (answer ≡ Err JobWithAnotherText)))
 
--- the change of the machine that is asked for
-abbrev pub change_asked : Asked → Change
-change_asked (asked.Define block) = Define block
-change_asked (asked.Change change) = change_of change
+-- the change of the machine that a job asks for
+abbrev pub job_change : JobChange → Change
+job_change (by_job.Define block) = Define block
+job_change (by_job.Statement change) = change_of change
 
 -- what the decision on a daily plan has to see
-abbrev pub need_of_daily : DailyRequest → Need
-need_of_daily (daily.ExtendTo to) = need.Daily to
+abbrev pub need_of_daily : DailyFunction → Need
+need_of_daily (daily.Extend to) = need.Daily to
 need_of_daily daily.Replan = need.LongTerm
 
 -- what the decision on a change has to see
-abbrev pub need_of_change : ChangeRequest → Need
-need_of_change (request.Undefine kind name) = need.LongTerm
-need_of_change (request.Plan plan) = need.LongTerm
-need_of_change (request.Add key) = need.Key key
-need_of_change (request.Delete key) = need.Key key
-need_of_change (request.Daily plan) = need_of_daily plan
-need_of_change (request.AddCurrent key) = need.Key key
-need_of_change (request.Act action key) = need.Key key
+abbrev pub need_of_change : ChangeStatement → Need
+need_of_change (statement.Undefine kind name) = need.LongTerm
+need_of_change (statement.Plan function) = need.LongTerm
+need_of_change (statement.Add key) = need.Key key
+need_of_change (statement.Delete key) = need.Key key
+need_of_change (statement.Daily function) = need_of_daily function
+need_of_change (statement.AddCurrent key) = need.Key key
+need_of_change (statement.Act action key) = need.Key key
 
-abbrev pub need_of : Asked → Need
-need_of (asked.Define block) = need.LongTerm
-need_of (asked.Change change) = need_of_change change
+abbrev pub need_of : JobChange → Need
+need_of (by_job.Define block) = need.LongTerm
+need_of (by_job.Statement change) = need_of_change change

@@ -1,7 +1,8 @@
 //! Answers on their way to print: the bytes of rows and reply lines.
 ghost use Rattle.std.specs.Prelude.{◌≡◌, ℕ, List, flat_map, IfErr, IfOk};
-ghost use Rattle.planner_cli.specs.Outcomes.{answer_text, answering};
+ghost use Rattle.planner_cli.specs.Outcomes.{answer_text, answering, refusing};
 ghost use Rattle.planner_cli.specs.Replies.{ended, Prints};
+ghost use Rattle.occurrences.specs.declared.refusal.Refusal.TheVariants.{NotAStatement};
 ghost use Rattle.plan_store.specs.declared.stores.StoreFault.TheVariants.{Memory};
 
 use crate::rows::append_line;
@@ -68,12 +69,20 @@ pub(crate) fn accepted(alloc: Global, rows: Vec<u8>, reply: &Reply) -> Result<Pr
 }
 
 /// What an answer without rows prints.
-pub(crate) fn told(alloc: Global, answer: &Answer) -> Result<Printed, StoreFault>
-    ensures told { IfOk result (λ printed. Prints (answering answer.now) printed.text.items printed.is_accepted) }
+pub(crate) fn print_alone(alloc: Global, answer: &Answer) -> Result<Printed, StoreFault>
+    ensures prints { IfOk result (λ printed. Prints (answering answer.now) printed.text.items printed.is_accepted) }
     ensures err { IfErr result (λ fault. fault ≡ Memory) }
 {
     match print_answer(alloc, Vec::new(alloc), answer) {
         Ok(printed) => Ok(printed),
         Err(_) => Err(StoreFault::Memory),
     }
+}
+
+/// What a line that is no statement prints.
+pub(crate) fn no_statement(alloc: Global) -> Result<Printed, StoreFault>
+    ensures prints { IfOk result (λ printed. Prints (refusing NotAStatement) printed.text.items printed.is_accepted) }
+    ensures err { IfErr result (λ fault. fault ≡ Memory) }
+{
+    print_alone(alloc, &Err(Refusal::NotAStatement))
 }

@@ -6,66 +6,67 @@ ghost use Rattle.planner_machine.specs.Statement.{decision_of};
 ghost use Rattle.plan_store.specs.Verdicts.{VerdictIs};
 ghost use Rattle.plan_store.specs.Views.{Shows};
 ghost use Rattle.plan_store.specs.declared.stores.Need.TheVariants.{LongTerm};
-ghost use Rattle.planner_cli.specs.Requests.{change_of, daily_change, plan_change};
-ghost use Rattle.planner_cli.specs.Verdicts.{change_asked, need_of, need_of_change, need_of_daily};
+ghost use Rattle.planner_cli.specs.Changes.{change_of, daily_change, plan_change};
+ghost use Rattle.planner_cli.specs.Verdicts.{job_change, need_of, need_of_change, need_of_daily};
 
 use crate::define::{define, undefine};
-use crate::requests::{ChangeRequest, DailyRequest, PlanRequest};
+use crate::kinds::definitions_kind;
 use app_definitions::Block;
 use plan_store::{Need, Verdict, View};
+use statements::{ChangeStatement, DailyFunction, PlanFunction};
 use std::alloc::{AllocError, Global};
 
-/// A change that is asked for.
+/// A change that a job asks for.
 #[derive(Drop)]
-pub enum Asked {
+pub enum JobChange {
     /// To take in what a block defines.
     Define(Block),
-    /// A change without data.
-    Change(ChangeRequest),
+    /// What a statement without data changes.
+    Statement(ChangeStatement),
 }
 
 /// What the decision on a change has to see.
-pub(crate) fn need_of(asked: &Asked) -> Need
-    ensures { result ≡ need_of asked.now }
+pub(crate) fn need_of(job: &JobChange) -> Need
+    ensures { result ≡ need_of job.now }
 {
-    match asked {
-        Asked::Define(_) => Need::LongTerm,
-        Asked::Change(change) => need_of_change(change),
+    match job {
+        JobChange::Define(_) => Need::LongTerm,
+        JobChange::Statement(change) => need_of_change(change),
     }
 }
 
 // The same of a change without data.
-fn need_of_change(change: &ChangeRequest) -> Need
+fn need_of_change(change: &ChangeStatement) -> Need
     ensures { result ≡ need_of_change change.now }
 {
     match change {
-        ChangeRequest::Undefine { .. } | ChangeRequest::Plan(_) => Need::LongTerm,
-        ChangeRequest::Add { key }
-        | ChangeRequest::Delete { key }
-        | ChangeRequest::AddCurrent { key }
-        | ChangeRequest::Act { key, .. } => Need::Key(*key),
-        ChangeRequest::Daily(daily) => need_of_daily(daily),
+        ChangeStatement::Undefine { .. } | ChangeStatement::Plan(_) => Need::LongTerm,
+        ChangeStatement::Add { key }
+        | ChangeStatement::Delete { key }
+        | ChangeStatement::AddCurrent { key }
+        | ChangeStatement::Act { key, .. } => Need::Key(*key),
+        ChangeStatement::Daily(function) => need_of_daily(function),
     }
 }
 
 /// The same of a daily plan.
-pub(crate) fn need_of_daily(daily: &DailyRequest) -> Need
-    ensures { result ≡ need_of_daily daily.now }
+pub(crate) fn need_of_daily(function: &DailyFunction) -> Need
+    ensures { result ≡ need_of_daily function.now }
 {
-    match daily {
-        DailyRequest::ExtendTo { to } => Need::Daily(*to),
-        DailyRequest::Replan => Need::LongTerm,
+    match function {
+        DailyFunction::Extend { to } => Need::Daily(*to),
+        DailyFunction::Replan => Need::LongTerm,
     }
 }
 
 /// The verdict on a change.
-pub(crate) fn decide(alloc: Global, view: &View<'_>, asked: Asked) -> Result<Verdict, AllocError>
-    ensures { IfOk result (λ verdict. (c : Content) → Shows (need_of asked) view.now c → IsSound c
-        → VerdictIs (decision_of (change_asked asked)) c verdict) }
+pub(crate) fn decide(alloc: Global, view: &View<'_>, job: JobChange) -> Result<Verdict, AllocError>
+    ensures { IfOk result (λ verdict. (c : Content) → Shows (need_of job) view.now c → IsSound c
+        → VerdictIs (decision_of (job_change job)) c verdict) }
 {
-    match asked {
-        Asked::Define(block) => Ok(define(alloc, block)),
-        Asked::Change(change) => decide_change(alloc, view, &change),
+    match job {
+        JobChange::Define(block) => Ok(define(alloc, block)),
+        JobChange::Statement(change) => decide_change(alloc, view, &change),
     }
 }
 
@@ -73,19 +74,21 @@ pub(crate) fn decide(alloc: Global, view: &View<'_>, asked: Asked) -> Result<Ver
 fn decide_change(
     alloc: Global,
     view: &View<'_>,
-    change: &ChangeRequest,
+    change: &ChangeStatement,
 ) -> Result<Verdict, AllocError>
     ensures { IfOk result (λ verdict. (c : Content) → Shows (need_of_change change.now) view.now c → IsSound c
         → VerdictIs (decision_of (change_of change.now)) c verdict) }
 {
     match change {
-        ChangeRequest::Undefine { kind, name } => Ok(undefine(alloc, view, *kind, name)),
-        ChangeRequest::Plan(plan) => decide_plan(alloc, view, plan),
-        ChangeRequest::Add { key } => long_term_plan::add(alloc, view, key),
-        ChangeRequest::Delete { key } => long_term_plan::delete(alloc, view, key),
-        ChangeRequest::Daily(daily) => decide_daily(alloc, view, daily),
-        ChangeRequest::AddCurrent { key } => daily_planning::cp_add(alloc, view, key),
-        ChangeRequest::Act { action, key } => {
+        ChangeStatement::Undefine { kind, name } => {
+            Ok(undefine(alloc, view, definitions_kind(*kind), name))
+        }
+        ChangeStatement::Plan(function) => decide_plan(alloc, view, function),
+        ChangeStatement::Add { key } => long_term_plan::add(alloc, view, key),
+        ChangeStatement::Delete { key } => long_term_plan::delete(alloc, view, key),
+        ChangeStatement::Daily(function) => decide_daily(alloc, view, function),
+        ChangeStatement::AddCurrent { key } => daily_planning::cp_add(alloc, view, key),
+        ChangeStatement::Act { action, key } => {
             daily_planning::cp_action(alloc, view, key, *action)
         }
     }
@@ -95,16 +98,16 @@ fn decide_change(
 pub(crate) fn decide_plan(
     alloc: Global,
     view: &View<'_>,
-    plan: &PlanRequest,
+    function: &PlanFunction,
 ) -> Result<Verdict, AllocError>
     ensures { IfOk result (λ verdict. (c : Content) → Shows LongTerm view.now c → IsSound c
-        → VerdictIs (decision_of (plan_change plan.now)) c verdict) }
+        → VerdictIs (decision_of (plan_change function.now)) c verdict) }
 {
-    match plan {
-        PlanRequest::Create { from, to } => long_term_plan::create(alloc, view, *from, *to),
-        PlanRequest::Extend { to } => long_term_plan::extend(alloc, view, *to),
-        PlanRequest::ModifyAll => long_term_plan::modify_all(alloc, view),
-        PlanRequest::ModifyOne { app } => long_term_plan::modify_one(alloc, view, app),
+    match function {
+        PlanFunction::Create { from, to } => long_term_plan::create(alloc, view, *from, *to),
+        PlanFunction::Extend { to } => long_term_plan::extend(alloc, view, *to),
+        PlanFunction::ModifyAll => long_term_plan::modify_all(alloc, view),
+        PlanFunction::ModifyOne { app } => long_term_plan::modify_one(alloc, view, app),
     }
 }
 
@@ -112,13 +115,13 @@ pub(crate) fn decide_plan(
 pub(crate) fn decide_daily(
     alloc: Global,
     view: &View<'_>,
-    daily: &DailyRequest,
+    function: &DailyFunction,
 ) -> Result<Verdict, AllocError>
-    ensures { IfOk result (λ verdict. (c : Content) → Shows (need_of_daily daily.now) view.now c → IsSound c
-        → VerdictIs (decision_of (daily_change daily.now)) c verdict) }
+    ensures { IfOk result (λ verdict. (c : Content) → Shows (need_of_daily function.now) view.now c → IsSound c
+        → VerdictIs (decision_of (daily_change function.now)) c verdict) }
 {
-    match daily {
-        DailyRequest::ExtendTo { to } => daily_planning::extend(alloc, view, *to),
-        DailyRequest::Replan => daily_planning::replan(alloc, view),
+    match function {
+        DailyFunction::Extend { to } => daily_planning::extend(alloc, view, *to),
+        DailyFunction::Replan => daily_planning::replan(alloc, view),
     }
 }

@@ -9,10 +9,10 @@ ghost use Rattle.plan_store.specs.Changes.{Fits, after};
 ghost use Rattle.plan_store.specs.Stores.{Reads};
 ghost use Rattle.planner_cli.specs.Outcomes.{answering};
 ghost use Rattle.planner_cli.specs.Stores.{AnswersBy};
-ghost use Rattle.planner_cli.specs.Verdicts.{FitsVerdict, IsKeptAnswer, answer_in, change_asked, job_left, left_by};
+ghost use Rattle.planner_cli.specs.Verdicts.{FitsVerdict, IsKeptAnswer, answer_in, job_change, job_left, left_by};
 
-use crate::answers::{Printed, told};
-use crate::decisions::{Asked, decide, need_of};
+use crate::answers::{Printed, print_alone};
+use crate::decisions::{JobChange, decide, need_of};
 use occurrences::{Refusal, Reply};
 use plan_store::{Change, PlanStore, StoreFault, Verdict};
 use planner_machine::{Answer, Job, JobText};
@@ -25,17 +25,17 @@ pub(crate) fn answer_job<S: PlanStore>(
     store: &mut S,
     number: u64,
     text: JobText,
-    asked: Asked,
+    change: JobChange,
 ) -> Result<Printed, StoreFault>
     requires { S.is_honest store.old → IsSound (S.content store.old) }
     ensures { AnswersBy S.is_honest S.content S.failures S.may_leave store.old store.new result (λ reply c.
         (answer : AnswerValue)
-        × AnswersJob number text (decision_of (change_asked asked)) (S.content store.old) answer c
+        × AnswersJob number text (decision_of (job_change change)) (S.content store.old) answer c
         × (reply ≡ answering answer)) }
 {
     match kept_answer(store, number, &text)? {
-        Some(answer) => told(alloc, &answer),
-        None => perform(alloc, store, number, text, asked),
+        Some(answer) => print_alone(alloc, &answer),
+        None => perform(alloc, store, number, text, change),
     }
 }
 
@@ -71,18 +71,18 @@ fn perform<S: PlanStore>(
     store: &mut S,
     number: u64,
     text: JobText,
-    asked: Asked,
+    change: JobChange,
 ) -> Result<Printed, StoreFault>
     requires sound { S.is_honest store.old → IsSound (S.content store.old) }
     requires new { S.is_honest store.old → (S.content store.old).jobs number ≡ None }
     ensures { AnswersBy S.is_honest S.content S.failures S.may_leave store.old store.new result (λ reply c.
         (answer : AnswerValue)
-        × AnswersJob number text (decision_of (change_asked asked)) (S.content store.old) answer c
+        × AnswersJob number text (decision_of (job_change change)) (S.content store.old) answer c
         × (reply ≡ answering answer)) }
 {
-    let need = need_of(&asked);
+    let need = need_of(&change);
     let view = store.read_window(need)?;
-    let Ok(verdict) = decide(alloc, &view, asked) else {
+    let Ok(verdict) = decide(alloc, &view, change) else {
         return Err(StoreFault::Memory);
     };
     settle(alloc, store, number, text, verdict)
@@ -102,7 +102,7 @@ fn settle<S: PlanStore>(
         (c ≡ job_left number text verdict (S.content store.old)) × (reply ≡ answering (answer_in verdict))) }
 {
     let (mut change, answer) = parts_of(alloc, verdict);
-    let printed = told(alloc, &answer)?;
+    let printed = print_alone(alloc, &answer)?;
     change.job = Some(Job {
         number,
         text,

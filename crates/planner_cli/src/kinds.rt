@@ -4,7 +4,7 @@ ghost use Rattle.planner_cli.specs.Kinds.{definitions_kind, what_of};
 
 use app_definitions::Kind;
 use plan_store::What;
-use statements::{KindWord, Listed};
+use statements::{KindWord, WhatWord};
 
 /// The kind of definitions that a statement's word names.
 pub fn definitions_kind(word: KindWord) -> Kind
@@ -21,14 +21,14 @@ pub fn definitions_kind(word: KindWord) -> Kind
 }
 
 /// The listing that a statement's word names.
-pub fn what_of(listed: Listed) -> What
-    ensures { result ≡ what_of listed }
+pub fn what_of(word: WhatWord) -> What
+    ensures { result ≡ what_of word }
 {
-    match listed {
-        Listed::Ltp => What::Ltp,
-        Listed::Cp => What::Cp,
-        Listed::History => What::History,
-        Listed::Deletions => What::Deletions,
-        Listed::Dependencies => What::Dependencies,
+    match word {
+        WhatWord::Ltp => What::Ltp,
+        WhatWord::Cp => What::Cp,
+        WhatWord::History => What::History,
+        WhatWord::Deletions => What::Deletions,
+        WhatWord::Dependencies => What::Dependencies,
     }
 }

@@ -19,13 +19,13 @@ mod kinds;
 mod laws;
 mod lists;
 mod over_lists;
-mod requests;
 mod rows;
 mod steps;
 mod stream;
 mod tally;
 mod texts;
 mod trials;
+mod well_formed;
 mod writing;
 
 pub use faults::{Part, RunFault};

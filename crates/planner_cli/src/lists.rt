@@ -13,7 +13,7 @@ ghost use Rattle.planner_cli.specs.Sinks.{TakesFront, TakesLine, WritesAll, Writ
 ghost use Rattle.planner_cli.specs.Stores.{IsBlamed};
 ghost use Rattle.planner_cli.specs.Writes.{AnswersItem};
 
-use crate::answers::told;
+use crate::answers::print_alone;
 use crate::faults::{Cause, Part};
 use crate::writing::{write_answer, write_bytes};
 use occurrences::Reply;
@@ -110,7 +110,7 @@ pub(crate) fn answer_list<S: PlanStore, W: Write>(
 {
     match write_lines(alloc, store, what, app, writer) {
         Ok(rows) => {
-            let answered = told(alloc, &Ok(Reply::Rows { rows }));
+            let answered = print_alone(alloc, &Ok(Reply::Rows { rows }));
             write_answer(writer, answered)
         }
         Err(ListFault::Memory) => Err(Cause::Memory),

@@ -5,6 +5,7 @@ ghost use Rattle.planner_machine.specs.Content.{Content, nothing_known};
 ghost use Rattle.planner_machine.specs.Sound.{IsSound};
 ghost use Rattle.planner_cli.specs.Faults.{cause_of};
 ghost use Rattle.planner_cli.specs.Plans.{RanPlan, StoppedPlan};
+ghost use Rattle.planner_cli.specs.Runs.{ends_of};
 ghost use Rattle.planner_cli.specs.declared.faults.Cause.TheVariants.{Device};
 ghost use Rattle.planner_cli.specs.declared.faults.Part.TheVariants.{Store};
 
@@ -22,11 +23,11 @@ pub fn run_lists<R: BufRead, W: Write>(
     writer: &mut W,
 ) -> Result<Tally, RunFault>
     // The replies are what was written, and their statements lead from nothing to a sound content.
-    ensures ran { IfOk result (λ tally. (c : Content) × RanPlan nothing_known c
-        (W.contents writer.old) (W.contents writer.new) (R.remaining reader.old) tally) }
+    ensures ran { IfOk result (λ tally. (c : Content) × RanPlan (ends_of nothing_known c
+        (W.contents writer.old) (W.contents writer.new) (R.remaining reader.old)) tally) }
     // After a fault the same holds of those that were answered.
-    ensures fault { IfErr result (λ fault. (c : Content) × StoppedPlan nothing_known c
-        (W.contents writer.old) (W.contents writer.new) (R.remaining reader.old) fault) }
+    ensures fault { IfErr result (λ fault. (c : Content) × StoppedPlan (ends_of nothing_known c
+        (W.contents writer.old) (W.contents writer.new) (R.remaining reader.old)) fault) }
     // Its store never fails.
     ensures served { IfErr result (λ fault. cause_of fault ≢ Device Store) }
 {
@@ -34,7 +35,7 @@ pub fn run_lists<R: BufRead, W: Write>(
     run_from_nothing(alloc, &mut store, reader, writer)
 }
 
-// Runs a stream over a store of lists that was told nothing.
+// Runs a stream over a store of lists that keeps nothing yet.
 fn run_from_nothing<R: BufRead, W: Write>(
     alloc: Global,
     store: &mut ListStore,
@@ -43,10 +44,10 @@ fn run_from_nothing<R: BufRead, W: Write>(
 ) -> Result<Tally, RunFault>
     requires empty { listed store.old ≡ nothing_known }
     requires sound { IsSound (listed store.old) }
-    ensures ran { IfOk result (λ tally. (c : Content) × RanPlan nothing_known c
-        (W.contents writer.old) (W.contents writer.new) (R.remaining reader.old) tally) }
-    ensures fault { IfErr result (λ fault. (c : Content) × StoppedPlan nothing_known c
-        (W.contents writer.old) (W.contents writer.new) (R.remaining reader.old) fault) }
+    ensures ran { IfOk result (λ tally. (c : Content) × RanPlan (ends_of nothing_known c
+        (W.contents writer.old) (W.contents writer.new) (R.remaining reader.old)) tally) }
+    ensures fault { IfErr result (λ fault. (c : Content) × StoppedPlan (ends_of nothing_known c
+        (W.contents writer.old) (W.contents writer.new) (R.remaining reader.old)) fault) }
     ensures served { IfErr result (λ fault. cause_of fault ≢ Device Store) }
 {
     run(alloc, store, reader, writer)

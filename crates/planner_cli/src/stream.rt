@@ -1,38 +1,40 @@
 //! A run over a whole stream.
-ghost use Rattle.std.specs.Prelude.{◌≡◌, ◌≤◌, ℕ, List, [], length, take, IfOk, IfErr, OnOk};
+ghost use Rattle.std.specs.Prelude.{◌≡◌, ◌≤◌, ℕ, [], length, take, IfOk, IfErr, OnOk, Some};
 ghost use Rattle.std.specs.Io.KnownBytes.{Appends};
 ghost use Rattle.planner_machine.specs.Content.{Content};
 ghost use Rattle.planner_machine.specs.Sound.{IsSound};
+ghost use Rattle.statements.specs.Statement.{Reads};
 ghost use Rattle.stream_items.specs.Items.{Alone};
 ghost use Rattle.stream_items.specs.Pages.{item_of, FitsBlock};
-ghost use Rattle.planner_cli.specs.Asked.{Asks, asked_alone};
 ghost use Rattle.planner_cli.specs.Faults.{cause_of, fault_line, status_of};
-ghost use Rattle.planner_cli.specs.Plans.{CrashedPlan, RanPlan, StoppedPlan};
-ghost use Rattle.planner_cli.specs.Runs.{Crashed, Ran, Stopped};
+ghost use Rattle.planner_cli.specs.Plans.{RunsPlan};
+ghost use Rattle.planner_cli.specs.Runs.{Crashed, Ran, Stopped, ends_of};
 ghost use Rattle.planner_cli.specs.Steps.{Step};
 ghost use Rattle.planner_cli.specs.Stores.{IsBlamed, LeavesOwn};
 ghost use Rattle.planner_cli.specs.Writes.{AnswersItem};
 ghost use Rattle.planner_cli.specs.declared.faults.Cause.TheVariants.{Device};
 ghost use Rattle.planner_cli.specs.declared.faults.Part.TheVariants.{Store};
 
-use crate::answers::told;
+use crate::answers::no_statement;
+use crate::days::answer_days;
 use crate::faults::{Cause, Part, RunFault, cause_of_read};
+use crate::kinds::{definitions_kind, what_of};
 use crate::lists::answer_list;
-use crate::requests::{Request, request_in};
-use crate::steps::{answer_request, answer_with_data};
+use crate::steps::{answer_change, answer_define, answer_with_data};
 use crate::tally::Tally;
+use crate::trials::{answer_daily_trial, answer_plan_trial};
 use crate::writing::{write_answer, write_out};
-use occurrences::Refusal;
 use plan_store::PlanStore;
 use planner_machine::streams;
+use statements::{Statement, read_statement};
 use std::alloc::Global;
 use std::io::{BufRead, Write};
-use stream_items::{Item, Page};
+use stream_items::{Block, Item, Page};
 
 /// Answers the items of a stream in order, each by a step of the planner on what the store keeps,
 /// and by the bytes that its reply prints. It ends with the stream or at the first fault. A fault
-/// of memory, of the store or of the reader is told by a last line, `fault 40` or `fault 41`, for
-/// which no memory is taken; one of the writer is not. However long a line or a block is, no more
+/// of memory, of the store or of the reader writes a last line, `fault 40` or `fault 41`, for
+/// which no memory is taken; one of the writer writes none. However long a line or a block is, no more
 /// than the first 1,026 bytes of one line and the first 262,145 bytes of one block are held.
 pub fn run<S: PlanStore, R: BufRead, W: Write>(
     alloc: Global,
@@ -42,37 +44,26 @@ pub fn run<S: PlanStore, R: BufRead, W: Write>(
 ) -> Result<Tally, RunFault>
     // What an honest store keeps is sound.
     requires { S.is_honest store.old → IsSound (S.content store.old) }
-    // What the replies print is what was written, and nothing else; and the statements of the items lead to what the
-    // store keeps, which is sound, with each occurrence where its fates put it.
-    ensures ran { S.is_honest store.new → IfOk result (λ tally. RanPlan (S.content store.old) (S.content store.new)
-        (W.contents writer.old) (W.contents writer.new) (R.remaining reader.old) tally) }
-    // After a fault the replies to the items before it stand in the writer, and the same holds of those answered.
-    ensures fault { S.is_honest store.new → IfErr result (λ fault. StoppedPlan (S.content store.old)
-        (S.content store.new) (W.contents writer.old) (W.contents writer.new) (R.remaining reader.old) fault) }
-    // Where a crash before the run would have left the content alone, it leaves the new content alone after `Ok`, and
-    // after a fault that after the statements answered, or after the one in hand too.
-    ensures settled { S.is_honest store.new → LeavesOwn S.content S.may_leave store.old
-        → OnOk result (LeavesOwn S.content S.may_leave store.new) }
-    ensures crash { S.is_honest store.new → LeavesOwn S.content S.may_leave store.old → IfErr result (λ fault.
-        (c : Content) → S.may_leave store.new c → CrashedPlan (S.content store.old) (S.content store.new)
-        (W.contents writer.old) (W.contents writer.new) (R.remaining reader.old) fault c) }
-    // The store is blamed only where its device failed, in this run or before.
-    ensures blames { IfErr result (λ fault. cause_of fault ≡ Device Store
-        → IsBlamed (S.failures store.old) (S.failures store.new)) }
-    ensures counts { S.failures store.old ≤ S.failures store.new }
-    ensures honest { S.is_honest store.new → S.is_honest store.old }
+    // The headline, in `specs/Plans.antt`.
+    ensures { RunsPlan S.is_honest S.failures S.may_leave store.old store.new (record {
+      before = S.content store.old;
+      after = S.content store.new;
+      written_before = W.contents writer.old;
+      written_after = W.contents writer.new;
+      remaining = R.remaining reader.old;
+    }) result }
 {
     streams();
     match answer_all(alloc, store, reader, writer) {
         Ok(tally) => Ok(tally),
         Err(fault) => {
-            tell_fault(writer, fault.cause());
+            write_fault(writer, fault.cause());
             Err(fault)
         }
     }
 }
 
-/// Answers the items of a stream up to its end or the first fault, which is not told yet.
+/// Answers the items of a stream up to its end or the first fault, whose line is not written yet.
 fn answer_all<S: PlanStore, R: BufRead, W: Write>(
     alloc: Global,
     store: &mut S,
@@ -80,16 +71,15 @@ fn answer_all<S: PlanStore, R: BufRead, W: Write>(
     writer: &mut W,
 ) -> Result<Tally, RunFault>
     requires { S.is_honest store.old → IsSound (S.content store.old) }
-    ensures ran { S.is_honest store.new → IfOk result (λ tally. Ran Step (S.content store.old) (S.content store.new)
-        (W.contents writer.old) (W.contents writer.new) (R.remaining reader.old) tally) }
-    ensures fault { S.is_honest store.new → IfErr result (λ fault.
-        Stopped Step (λ _. []) (S.content store.old) (S.content store.new)
-        (W.contents writer.old) (W.contents writer.new) (R.remaining reader.old) fault) }
+    ensures ran { S.is_honest store.new → IfOk result (Ran Step (ends_of (S.content store.old)
+        (S.content store.new) (W.contents writer.old) (W.contents writer.new) (R.remaining reader.old))) }
+    ensures fault { S.is_honest store.new → IfErr result (Stopped Step (λ _. []) (ends_of (S.content store.old)
+        (S.content store.new) (W.contents writer.old) (W.contents writer.new) (R.remaining reader.old))) }
     ensures settled { S.is_honest store.new → LeavesOwn S.content S.may_leave store.old
         → OnOk result (LeavesOwn S.content S.may_leave store.new) }
     ensures crash { S.is_honest store.new → LeavesOwn S.content S.may_leave store.old → IfErr result (λ fault.
-        (c : Content) → S.may_leave store.new c → Crashed Step (λ _. []) (S.content store.old) (S.content store.new)
-        (W.contents writer.old) (W.contents writer.new) (R.remaining reader.old) fault c) }
+        (c : Content) → S.may_leave store.new c → Crashed Step (λ _. []) (ends_of (S.content store.old)
+        (S.content store.new) (W.contents writer.old) (W.contents writer.new) (R.remaining reader.old)) fault c) }
     ensures blames { IfErr result (λ fault. cause_of fault ≡ Device Store
         → IsBlamed (S.failures store.old) (S.failures store.new)) }
     ensures counts { S.failures store.old ≤ S.failures store.new }
@@ -114,7 +104,7 @@ fn answer_all<S: PlanStore, R: BufRead, W: Write>(
 }
 
 /// Answers one item: the reply is made, then the store changes, then the reply is written and flushed. The rows of a
-/// listing are written as the store hands them out. Tells whether the item was accepted.
+/// listing are written as the store hands them out. Answers whether the item was accepted.
 fn answer_one<S: PlanStore, W: Write>(
     alloc: Global,
     store: &mut S,
@@ -128,7 +118,7 @@ fn answer_one<S: PlanStore, W: Write>(
 {
     match item {
         Item::NoStatement => {
-            let answered = told(alloc, &Err(Refusal::NotAStatement));
+            let answered = no_statement(alloc);
             write_answer(writer, answered)
         }
         Item::Alone(line) => answer_alone(alloc, store, line, writer),
@@ -150,49 +140,71 @@ fn answer_alone<S: PlanStore, W: Write>(
     ensures { AnswersItem S.is_honest S.content S.failures S.may_leave store.old store.new
         (W.contents writer.old) (W.contents writer.new) (Alone line.now) result }
 {
-    match request_in(alloc, line) {
-        Ok(request) => answer_asked(alloc, store, line, &request, writer),
+    match read_statement(alloc, line) {
+        Ok(Some(statement)) => answer_statement(alloc, store, line, &statement, writer),
+        Ok(None) => {
+            let answered = no_statement(alloc);
+            write_answer(writer, answered)
+        }
         Err(_) => Err(Cause::Memory),
     }
 }
 
-/// Answers what a line without data asks.
-fn answer_asked<S: PlanStore, W: Write>(
+/// Answers a statement without data.
+fn answer_statement<S: PlanStore, W: Write>(
     alloc: Global,
     store: &mut S,
     line: &[u8],
-    request: &Request,
+    statement: &Statement,
     writer: &mut W,
 ) -> Result<bool, Cause>
-    requires asks { Asks (Alone line.now) (asked_alone line.now request.now) }
+    requires reads { Reads line.now (Some statement.now) }
     requires sound { S.is_honest store.old → IsSound (S.content store.old) }
     ensures { AnswersItem S.is_honest S.content S.failures S.may_leave store.old store.new
         (W.contents writer.old) (W.contents writer.new) (Alone line.now) result }
 {
-    match request {
-        Request::List { what } => answer_list(alloc, store, line, *what, None, writer),
-        Request::ListApp { what, app } => answer_list(alloc, store, line, *what, Some(app), writer),
-        Request::NoStatement
-        | Request::Define { .. }
-        | Request::Days { .. }
-        | Request::Change { .. }
-        | Request::PlanTrial(_)
-        | Request::DailyTrial(_) => {
-            let answered = answer_request(alloc, store, line, request);
+    match statement {
+        Statement::Define { kind, job } => {
+            let number = u64::from(job.number());
+            let kind = definitions_kind(*kind);
+            let answered = answer_define(alloc, store, line, number, kind, Block::Unended);
             write_answer(writer, answered)
+        }
+        Statement::Change { change, job } => {
+            let number = u64::from(job.number());
+            let answered = answer_change(alloc, store, line, number, change);
+            write_answer(writer, answered)
+        }
+        Statement::Days { app, from, to } => {
+            let answered = answer_days(alloc, store, app, *from, *to);
+            write_answer(writer, answered)
+        }
+        Statement::PlanTrial(function) => {
+            let answered = answer_plan_trial(alloc, store, function);
+            write_answer(writer, answered)
+        }
+        Statement::DailyTrial(function) => {
+            let answered = answer_daily_trial(alloc, store, function);
+            write_answer(writer, answered)
+        }
+        Statement::List { what } => {
+            answer_list(alloc, store, line, what_of(*what), None, writer)
+        }
+        Statement::ListApp { what, app } => {
+            answer_list(alloc, store, line, what_of(*what), Some(app), writer)
         }
     }
 }
 
-/// Writes the line that tells a fault, as far as the writer takes it.
-fn tell_fault<W: Write>(writer: &mut W, cause: Cause)
+/// Writes the line of a fault, as far as the writer takes it.
+fn write_fault<W: Write>(writer: &mut W, cause: Cause)
     ensures { (n : ℕ) × (n ≤ length (fault_line cause))
         × Appends (W.contents writer.old) (W.contents writer.new) (take n (fault_line cause)) }
 {
     let _ = write_out(writer, line_of_fault(cause));
 }
 
-/// The line that tells a fault; empty where the writer failed.
+/// The line of a fault; empty where the writer failed.
 #[tactic(auto, unfolding(crate::specs::Faults::fault_line, crate::specs::Replies::ended))]
 fn line_of_fault(cause: Cause) -> &'static [u8]
     ensures { result.now ≡ fault_line cause }

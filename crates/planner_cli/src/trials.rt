@@ -9,10 +9,10 @@ ghost use Rattle.plan_listings.specs.Report.{IsReport};
 ghost use Rattle.keyed_lists.specs.Rows.{of_current};
 ghost use Rattle.plan_store.specs.Verdicts.{VerdictIs};
 ghost use Rattle.plan_store.specs.Views.{IsAny, ListsSet, shown};
-ghost use Rattle.planner_cli.specs.declared.requests.DailyRequest.{DailyRequest as DailyValue};
-ghost use Rattle.planner_cli.specs.declared.requests.PlanRequest.{PlanRequest as PlanValue};
-ghost use Rattle.planner_cli.specs.Requests.{daily_change, plan_change};
-ghost use Rattle.planner_cli.specs.Steps.{Serves, TellsTrial};
+ghost use Rattle.statements.specs.declared.statements.DailyFunction.{DailyFunction as DailyValue};
+ghost use Rattle.statements.specs.declared.statements.PlanFunction.{PlanFunction as PlanValue};
+ghost use Rattle.planner_cli.specs.Changes.{daily_change, plan_change};
+ghost use Rattle.planner_cli.specs.Steps.{Serves, PrintsTrial};
 ghost use Rattle.planner_cli.specs.Stores.{AnswersBy};
 ghost use Rattle.occurrences.specs.declared.place.CurrentRow.{CurrentRow as CurrentRowValue};
 ghost use Rattle.planner_cli.specs.Rows.{daily_signed};
@@ -20,44 +20,49 @@ ghost use Rattle.planner_cli.specs.Trials.{daily_changes};
 
 use crate::answers::{Printed, accepted, refused};
 use crate::decisions::{decide_daily, decide_plan, need_of_daily};
-use crate::requests::{DailyRequest, PlanRequest, tell_days};
+use crate::well_formed::plan_is_well_formed;
 use occurrences::{CurrentRow, Row, Status};
 use plan_listings::{dp_report, ltp_report};
 use plan_store::{Need, PlanStore, StoreFault, Verdict, View};
 use planner_machine::{fate_is_followed, sound_content_stays_sound};
+use statements::{DailyFunction, PlanFunction};
 use std::alloc::{AllocError, Global};
 
 /// Shows what a change of the long-term plan would do.
 pub(crate) fn answer_plan_trial<S: PlanStore>(
     alloc: Global,
     store: &mut S,
-    plan: &PlanRequest,
+    function: &PlanFunction,
 ) -> Result<Printed, StoreFault>
     requires { S.is_honest store.old → IsSound (S.content store.old) }
     ensures { AnswersBy S.is_honest S.content S.failures S.may_leave store.old store.new result
-        (Serves (Trial (plan_change plan.now)) (S.content store.old)) }
+        (Serves (Trial (plan_change function.now)) (S.content store.old)) }
 {
     let view = store.read_window(Need::LongTerm)?;
-    match plan_trial(alloc, &view, plan) {
+    match plan_trial(alloc, &view, function) {
         Ok(printed) => Ok(printed),
         Err(_) => Err(StoreFault::Memory),
     }
 }
 
 // What a trial of the long-term plan prints.
-fn plan_trial(alloc: Global, view: &View<'_>, plan: &PlanRequest) -> Result<Printed, AllocError>
+fn plan_trial(
+    alloc: Global,
+    view: &View<'_>,
+    function: &PlanFunction,
+) -> Result<Printed, AllocError>
     ensures { IfOk result (λ printed. (c : Content) → shown view.now ≡ c → IsSound c
-        → TellsTrial (plan_change plan.now) c printed) }
+        → PrintsTrial (plan_change function.now) c printed) }
 {
-    tell_days(plan);
-    let verdict = decide_plan(alloc, view, plan)?;
+    plan_is_well_formed(function);
+    let verdict = decide_plan(alloc, view, function)?;
     print_plan(alloc, &verdict)
 }
 
 // What a trial prints of the verdict on a change of the long-term plan.
 fn print_plan(alloc: Global, verdict: &Verdict) -> Result<Printed, AllocError>
-    ensures { IfOk result (λ printed. (plan : PlanValue) (c : Content) → IsWellFormed (plan_change plan) → IsSound c
-        → VerdictIs (decision_of (plan_change plan)) c verdict.now → TellsTrial (plan_change plan) c printed) }
+    ensures { IfOk result (λ printed. (function : PlanValue) (c : Content) → IsWellFormed (plan_change function) → IsSound c
+        → VerdictIs (decision_of (plan_change function)) c verdict.now → PrintsTrial (plan_change function) c printed) }
 {
     fate_is_followed();
     sound_content_stays_sound();
@@ -74,25 +79,29 @@ fn print_plan(alloc: Global, verdict: &Verdict) -> Result<Printed, AllocError>
 pub(crate) fn answer_daily_trial<S: PlanStore>(
     alloc: Global,
     store: &mut S,
-    daily: &DailyRequest,
+    function: &DailyFunction,
 ) -> Result<Printed, StoreFault>
     requires { S.is_honest store.old → IsSound (S.content store.old) }
     ensures { AnswersBy S.is_honest S.content S.failures S.may_leave store.old store.new result
-        (Serves (Trial (daily_change daily.now)) (S.content store.old)) }
+        (Serves (Trial (daily_change function.now)) (S.content store.old)) }
 {
-    let view = store.read_window(need_of_daily(daily))?;
-    match daily_trial(alloc, &view, daily) {
+    let view = store.read_window(need_of_daily(function))?;
+    match daily_trial(alloc, &view, function) {
         Ok(printed) => Ok(printed),
         Err(_) => Err(StoreFault::Memory),
     }
 }
 
 // What a trial of a daily plan prints.
-fn daily_trial(alloc: Global, view: &View<'_>, daily: &DailyRequest) -> Result<Printed, AllocError>
+fn daily_trial(
+    alloc: Global,
+    view: &View<'_>,
+    function: &DailyFunction,
+) -> Result<Printed, AllocError>
     ensures { IfOk result (λ printed. (c : Content) → shown view.now ≡ c → IsSound c
-        → TellsTrial (daily_change daily.now) c printed) }
+        → PrintsTrial (daily_change function.now) c printed) }
 {
-    let verdict = decide_daily(alloc, view, daily)?;
+    let verdict = decide_daily(alloc, view, function)?;
     print_daily(alloc, view.cp(), &verdict)
 }
 
@@ -102,9 +111,9 @@ fn print_daily(
     current: &[CurrentRow],
     verdict: &Verdict,
 ) -> Result<Printed, AllocError>
-    ensures { IfOk result (λ printed. (daily : DailyValue) (c : Content) → IsSound c
+    ensures { IfOk result (λ printed. (function : DailyValue) (c : Content) → IsSound c
         → ListsSet of_current c.sets.cp IsAny current.now
-        → VerdictIs (decision_of (daily_change daily)) c verdict.now → TellsTrial (daily_change daily) c printed) }
+        → VerdictIs (decision_of (daily_change function)) c verdict.now → PrintsTrial (daily_change function) c printed) }
 {
     fate_is_followed();
     sound_content_stays_sound();

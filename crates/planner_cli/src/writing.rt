@@ -42,7 +42,7 @@ pub fn write_out<W: Write>(writer: &mut W, bytes: &[u8]) -> Result<(), Cause>
     }
 }
 
-/// Writes what an answer prints, where one was made. Tells whether it is accepted.
+/// Writes what an answer prints, where one was made. Answers whether it is accepted.
 pub(crate) fn write_answer<W: Write>(
     writer: &mut W,
     answered: Result<Printed, StoreFault>,

@@ -10,9 +10,9 @@ use Rattle.statement_words.specs.Line.{is_line_byte, words_of}
 use Rattle.work_calendars.proofs.SpellingFacts.{SpellsDay-one_day, SpellsMoment-one_moment}
 use Rattle.work_calendars.specs.Spelling.{SpellsDay, SpellsMoment}
 use Rattle.statements.specs.Arguments.{HasArguments}
-use Rattle.statements.specs.Words.{function_text, kind_text, listed_text}
+use Rattle.statements.specs.Words.{function_text, kind_text, what_text}
 use Rattle.statements.specs.Statement.{IsLineOf, IsWrittenIn, Reads, statement_of}
-use Rattle.statements.specs.Values.{HasApp, HasDay, HasFunction, HasJob, HasKind, HasListed, HasMoment, HasName}
+use Rattle.statements.specs.Values.{HasApp, HasDay, HasFunction, HasJob, HasKind, HasWhat, HasMoment, HasName}
 use Rattle.statements.specs.Values.{HasText, Reading}
 use Rattle.statements.specs.Verb.{layout_for, verb_text}
 use Rattle.statements.specs.declared.arguments.Arguments.{Arguments}
@@ -23,8 +23,8 @@ use Rattle.statements.specs.declared.words.FunctionWord.{FunctionWord}
 use Rattle.statements.specs.declared.words.FunctionWord.TheVariants as function
 use Rattle.statements.specs.declared.words.KindWord.{KindWord}
 use Rattle.statements.specs.declared.words.KindWord.TheVariants as kind
-use Rattle.statements.specs.declared.words.Listed.{Listed}
-use Rattle.statements.specs.declared.words.Listed.TheVariants as listed
+use Rattle.statements.specs.declared.words.WhatWord.{WhatWord}
+use Rattle.statements.specs.declared.words.WhatWord.TheVariants as what
 
 -- ---- names and words by their texts
 
@@ -115,22 +115,22 @@ same_function : (x y : FunctionWord) → function_text x ≡ function_text y →
 same_function x y e =
     let same : Some x ≡ Some y = sym (function_by-text x) ∙ ap function_by e ∙ function_by-text y in cc
 
-abbrev listed_by : Text → Option Listed
-listed_by t = or_else (bytes_eq t (codes "ltp")) listed.Ltp
-    (or_else (bytes_eq t (codes "cp")) listed.Cp
-    (or_else (bytes_eq t (codes "history")) listed.History
-    (or_else (bytes_eq t (codes "deletions")) listed.Deletions
-    (or_else (bytes_eq t (codes "dependencies")) listed.Dependencies None))))
+abbrev what_by : Text → Option WhatWord
+what_by t = or_else (bytes_eq t (codes "ltp")) what.Ltp
+    (or_else (bytes_eq t (codes "cp")) what.Cp
+    (or_else (bytes_eq t (codes "history")) what.History
+    (or_else (bytes_eq t (codes "deletions")) what.Deletions
+    (or_else (bytes_eq t (codes "dependencies")) what.Dependencies None))))
 
-listed_by-text : (x : Listed) → listed_by (listed_text x) ≡ Some x
-listed_by-text listed.Ltp = refl
-listed_by-text listed.Cp = refl
-listed_by-text listed.History = refl
-listed_by-text listed.Deletions = refl
-listed_by-text listed.Dependencies = refl
+what_by-text : (x : WhatWord) → what_by (what_text x) ≡ Some x
+what_by-text what.Ltp = refl
+what_by-text what.Cp = refl
+what_by-text what.History = refl
+what_by-text what.Deletions = refl
+what_by-text what.Dependencies = refl
 
-same_listed : (x y : Listed) → listed_text x ≡ listed_text y → x ≡ y
-same_listed x y e = let same : Some x ≡ Some y = sym (listed_by-text x) ∙ ap listed_by e ∙ listed_by-text y in cc
+same_what : (x y : WhatWord) → what_text x ≡ what_text y → x ≡ y
+same_what x y e = let same : Some x ≡ Some y = sym (what_by-text x) ∙ ap what_by e ∙ what_by-text y in cc
 
 -- ---- values
 
@@ -143,8 +143,8 @@ one_kind us x y p q = same_kind x y (one_text us (codes "KIND") (kind_text x) (k
 one_function : (us : List Use) (x y : FunctionWord) → HasFunction us x → HasFunction us y → x ≡ y
 one_function us x y p q = same_function x y (one_text us (codes "FUNCTION") (function_text x) (function_text y) p q)
 
-one_listed : (us : List Use) (x y : Listed) → HasListed us x → HasListed us y → x ≡ y
-one_listed us x y p q = same_listed x y (one_text us (codes "WHAT") (listed_text x) (listed_text y) p q)
+one_what : (us : List Use) (x y : WhatWord) → HasWhat us x → HasWhat us y → x ≡ y
+one_what us x y p q = same_what x y (one_text us (codes "WHAT") (what_text x) (what_text y) p q)
 
 one_job : (us : List Use) (m n : ℕ) → HasJob us m → HasJob us n → m ≡ n
 one_job us m n p q =
@@ -188,7 +188,7 @@ one_arguments us a b p q i =
       name = one_reading (HasName us) (one_name us) a.name b.name p.name q.name i;
       kind = one_reading (HasKind us) (one_kind us) a.kind b.kind p.kind q.kind i;
       function = one_reading (HasFunction us) (one_function us) a.function b.function p.function q.function i;
-      listed = one_reading (HasListed us) (one_listed us) a.listed b.listed p.listed q.listed i;
+      what = one_reading (HasWhat us) (one_what us) a.what b.what p.what q.what i;
       has_app = (p.has_app ∙ sym q.has_app) i;
       has_from = (p.has_from ∙ sym q.has_from) i;
       has_to = (p.has_to ∙ sym q.has_to) i;

@@ -1,7 +1,7 @@
 -- The values of a line's options, and of its word without one.
 use Rattle.std.specs.Prelude.{◌≡◌, List, is_some, codes}
 use Rattle.statement_words.specs.Grammar.{Use, value_in}
-use Rattle.statements.specs.Values.{HasApp, HasDay, HasFunction, HasJob, HasKind, HasListed, HasMoment, HasName}
+use Rattle.statements.specs.Values.{HasApp, HasDay, HasFunction, HasJob, HasKind, HasWhat, HasMoment, HasName}
 use Rattle.statements.specs.Values.{Reading}
 use Rattle.statements.specs.declared.arguments.Arguments.{Arguments}
 
@@ -16,7 +16,7 @@ pub record HasArguments (us : List Use) (a : Arguments) : Type 0 where
   pub name : Reading (HasName us) a.name
   pub kind : Reading (HasKind us) a.kind
   pub function : Reading (HasFunction us) a.function
-  pub listed : Reading (HasListed us) a.listed
+  pub what : Reading (HasWhat us) a.what
   pub has_app : a.has_app ≡ is_some (value_in us (codes "app"))
   pub has_from : a.has_from ≡ is_some (value_in us (codes "from"))
   pub has_to : a.has_to ≡ is_some (value_in us (codes "to"))

@@ -5,11 +5,18 @@ use Rattle.std.specs.List.{list_all}
 use Rattle.statement_words.specs.Grammar.{Text, Use, reading_of}
 use Rattle.statement_words.specs.Line.{is_line_byte, words_of}
 use Rattle.work_calendars.specs.declared.names.TheConstants.{LONGEST_SHORT_NAME}
+use Rattle.occurrences.specs.declared.key.Key.{Key}
 use Rattle.occurrences.specs.declared.status.Action.{Action}
 use Rattle.occurrences.specs.declared.status.Action.TheVariants as action
 use Rattle.statements.specs.Arguments.{HasArguments}
 use Rattle.statements.specs.Verb.{layout_for, verb_text}
 use Rattle.statements.specs.declared.arguments.Arguments.{Arguments}
+use Rattle.statements.specs.declared.statements.ChangeStatement.{ChangeStatement}
+use Rattle.statements.specs.declared.statements.ChangeStatement.TheVariants as change
+use Rattle.statements.specs.declared.statements.DailyFunction.{DailyFunction}
+use Rattle.statements.specs.declared.statements.DailyFunction.TheVariants as daily
+use Rattle.statements.specs.declared.statements.PlanFunction.{PlanFunction}
+use Rattle.statements.specs.declared.statements.PlanFunction.TheVariants as plan
 use Rattle.statements.specs.declared.statements.Statement.{Statement}
 use Rattle.statements.specs.declared.statements.Statement.TheVariants as statement
 use Rattle.statements.specs.declared.verbs.Verb.{Verb}
@@ -39,53 +46,79 @@ fits_kind kind.Options name = false
 fits_kind kind.Periods name = nat_le (length name) LONGEST_SHORT_NAME
 fits_kind _ name = true
 
-abbrev pub undefine_of : KindWord → Text → ℕ → Option Statement
-undefine_of kind name job = only_if (fits_kind kind name) (Some (statement.Undefine kind name job))
+abbrev pub undefined : KindWord → Text → Option ChangeStatement
+undefined kind name = only_if (fits_kind kind name) (Some (change.Undefine kind name))
+
+abbrev pub undefine_of : Arguments → Option ChangeStatement
+undefine_of a = option_and_then (λ kind. option_and_then (undefined kind) a.name) a.kind
+
+-- what planning does to the long-term plan
+abbrev pub create_of : Arguments → Option PlanFunction
+create_of a = of_two plan.Create a.from a.to
+
+abbrev pub extend_of : Arguments → Option PlanFunction
+extend_of a = of_one plan.Extend a.to
+
+abbrev pub modify_one_of : Arguments → Option PlanFunction
+modify_one_of a = of_one plan.ModifyOne a.app
+
+-- what a daily plan does
+abbrev pub daily_extend_of : Arguments → Option DailyFunction
+daily_extend_of a = of_one daily.Extend a.to_moment
+
+-- the occurrence that the values name
+abbrev pub key_of : (ia : ℕ) (app : Text) → Key
+key_of ia app = record { ia = ia; app = app }
+
+abbrev pub key_in : Arguments → Option Key
+key_in a = of_two key_of a.ia a.app
+
+abbrev pub act_of : Action → Arguments → Option ChangeStatement
+act_of action a = of_one (change.Act action) (key_in a)
+
+-- the change of that name; none where the name is of no change
+abbrev pub change_of : Verb → Arguments → Option ChangeStatement
+change_of verb.Undefine a = undefine_of a
+change_of verb.LtpCreate a = of_one change.Plan (create_of a)
+change_of verb.LtpExtend a = of_one change.Plan (extend_of a)
+change_of verb.LtpModifyAll a = Some (change.Plan plan.ModifyAll)
+change_of verb.LtpModifyOne a = of_one change.Plan (modify_one_of a)
+change_of verb.LtpAdd a = of_one change.Add (key_in a)
+change_of verb.LtpDelete a = of_one change.Delete (key_in a)
+change_of verb.DpExtend a = of_one change.Daily (daily_extend_of a)
+change_of verb.DpReplan a = Some (change.Daily daily.Replan)
+change_of verb.CpAdd a = of_one change.AddCurrent (key_in a)
+change_of verb.CpStart a = act_of action.Start a
+change_of verb.CpComplete a = act_of action.Complete a
+change_of verb.CpFail a = act_of action.Fail a
+change_of verb.CpReset a = act_of action.Reset a
+change_of verb.CpDelete a = act_of action.Delete a
+change_of _ a = None
 
 -- a trial of each function, with the options that it takes and no others
-abbrev pub ltp_trial_of : Arguments → FunctionWord → Option Statement
-ltp_trial_of a function.Create = if a.has_app then None else of_two statement.LtpTrialCreate a.from a.to
-ltp_trial_of a function.Extend = if a.has_from || a.has_app then None else of_one statement.LtpTrialExtend a.to
-ltp_trial_of a function.ModifyAll =
-    if a.has_from || a.has_to || a.has_app then None else Some statement.LtpTrialModifyAll
-ltp_trial_of a function.ModifyOne = if a.has_from || a.has_to then None else of_one statement.LtpTrialModifyOne a.app
-ltp_trial_of a function.Replan = None
+abbrev pub plan_trial_of : Arguments → FunctionWord → Option PlanFunction
+plan_trial_of a function.Create = if a.has_app then None else create_of a
+plan_trial_of a function.Extend = if a.has_from || a.has_app then None else extend_of a
+plan_trial_of a function.ModifyAll = if a.has_from || a.has_to || a.has_app then None else Some plan.ModifyAll
+plan_trial_of a function.ModifyOne = if a.has_from || a.has_to then None else modify_one_of a
+plan_trial_of a function.Replan = None
 
-abbrev pub dp_trial_of : Arguments → FunctionWord → Option Statement
-dp_trial_of a function.Extend = of_one statement.DpTrialExtend a.to_moment
-dp_trial_of a function.Replan = if a.has_to then None else Some statement.DpTrialReplan
-dp_trial_of a _ = None
+abbrev pub daily_trial_of : Arguments → FunctionWord → Option DailyFunction
+daily_trial_of a function.Extend = daily_extend_of a
+daily_trial_of a function.Replan = if a.has_to then None else Some daily.Replan
+daily_trial_of a _ = None
 
 abbrev pub list_of : Arguments → Option Statement
-list_of a =
-    if a.has_app then of_two statement.ListApp a.listed a.app else of_one statement.List a.listed
-
-abbrev pub change_of : Action → Arguments → Option Statement
-change_of change a = of_three (statement.CpChange change) a.app a.ia a.job
+list_of a = if a.has_app then of_two statement.ListApp a.what a.app else of_one statement.List a.what
 
 -- the statement of that name which these values make, if they make one
 abbrev pub statement_of : Verb → Arguments → Option Statement
 statement_of verb.Define a = of_two statement.Define a.kind a.job
-statement_of verb.Undefine a =
-    option_and_then (λ kind. option_and_then (λ name. option_and_then (undefine_of kind name) a.job) a.name) a.kind
 statement_of verb.Days a = of_three statement.Days a.app a.from a.to
-statement_of verb.LtpCreate a = of_three statement.LtpCreate a.from a.to a.job
-statement_of verb.LtpExtend a = of_two statement.LtpExtend a.to a.job
-statement_of verb.LtpModifyAll a = of_one statement.LtpModifyAll a.job
-statement_of verb.LtpModifyOne a = of_two statement.LtpModifyOne a.app a.job
-statement_of verb.LtpTrial a = option_and_then (ltp_trial_of a) a.function
-statement_of verb.LtpAdd a = of_three statement.LtpAdd a.app a.ia a.job
-statement_of verb.LtpDelete a = of_three statement.LtpDelete a.app a.ia a.job
-statement_of verb.DpExtend a = of_two statement.DpExtend a.to_moment a.job
-statement_of verb.DpReplan a = of_one statement.DpReplan a.job
-statement_of verb.DpTrial a = option_and_then (dp_trial_of a) a.function
-statement_of verb.CpAdd a = of_three statement.CpAdd a.app a.ia a.job
-statement_of verb.CpStart a = change_of action.Start a
-statement_of verb.CpComplete a = change_of action.Complete a
-statement_of verb.CpFail a = change_of action.Fail a
-statement_of verb.CpReset a = change_of action.Reset a
-statement_of verb.CpDelete a = change_of action.Delete a
+statement_of verb.LtpTrial a = of_one statement.PlanTrial (option_and_then (plan_trial_of a) a.function)
+statement_of verb.DpTrial a = of_one statement.DailyTrial (option_and_then (daily_trial_of a) a.function)
 statement_of verb.List a = list_of a
+statement_of verb a = of_two statement.Change (change_of verb a) a.job
 
 -- the words are a statement's name and then words whose values make the statement
 pub record IsWrittenIn (words : List Text) (s : Statement) : Type 0 where

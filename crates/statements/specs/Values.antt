@@ -5,10 +5,10 @@ use Rattle.statement_words.specs.Grammar.{Text, Use, value_in}
 use Rattle.work_calendars.specs.Name.{IsName}
 use Rattle.work_calendars.specs.Spelling.{SpellsDay, SpellsMoment}
 use Rattle.statements.specs.JobNumber.{IsJobNumber}
-use Rattle.statements.specs.Words.{function_text, kind_text, listed_text}
+use Rattle.statements.specs.Words.{function_text, kind_text, what_text}
 use Rattle.statements.specs.declared.words.FunctionWord.{FunctionWord}
 use Rattle.statements.specs.declared.words.KindWord.{KindWord}
-use Rattle.statements.specs.declared.words.Listed.{Listed}
+use Rattle.statements.specs.declared.words.WhatWord.{WhatWord}
 
 -- the value is this text
 abbrev pub HasText : List Use → Text → Text → Type 0
@@ -41,8 +41,8 @@ HasKind us kind = HasText us (codes "KIND") (kind_text kind)
 abbrev pub HasFunction : List Use → FunctionWord → Type 0
 HasFunction us function = HasText us (codes "FUNCTION") (function_text function)
 
-abbrev pub HasListed : List Use → Listed → Type 0
-HasListed us listed = HasText us (codes "WHAT") (listed_text listed)
+abbrev pub HasWhat : List Use → WhatWord → Type 0
+HasWhat us what = HasText us (codes "WHAT") (what_text what)
 
 -- the value of that form, or none where there is none of it
 abbrev pub Reading : {A : Type 0} → (A → Type 0) → Option A → Type 0

@@ -4,8 +4,8 @@ use Rattle.statements.specs.declared.words.KindWord.{KindWord}
 use Rattle.statements.specs.declared.words.KindWord.TheVariants as kind
 use Rattle.statements.specs.declared.words.FunctionWord.{FunctionWord}
 use Rattle.statements.specs.declared.words.FunctionWord.TheVariants as function
-use Rattle.statements.specs.declared.words.Listed.{Listed}
-use Rattle.statements.specs.declared.words.Listed.TheVariants as listed
+use Rattle.statements.specs.declared.words.WhatWord.{WhatWord}
+use Rattle.statements.specs.declared.words.WhatWord.TheVariants as what
 
 abbrev pub kind_text : KindWord → List ℕ
 kind_text kind.Calendars = codes "calendars"
@@ -22,9 +22,9 @@ function_text function.ModifyAll = codes "modify-all"
 function_text function.ModifyOne = codes "modify-one"
 function_text function.Replan = codes "replan"
 
-abbrev pub listed_text : Listed → List ℕ
-listed_text listed.Ltp = codes "ltp"
-listed_text listed.Cp = codes "cp"
-listed_text listed.History = codes "history"
-listed_text listed.Deletions = codes "deletions"
-listed_text listed.Dependencies = codes "dependencies"
+abbrev pub what_text : WhatWord → List ℕ
+what_text what.Ltp = codes "ltp"
+what_text what.Cp = codes "cp"
+what_text what.History = codes "history"
+what_text what.Deletions = codes "deletions"
+what_text what.Dependencies = codes "dependencies"

@@ -1,5 +1,5 @@
 //! The values of a line's options, and of its word without one.
-use crate::{FunctionWord, JobNumber, KindWord, Listed};
+use crate::{FunctionWord, JobNumber, KindWord, WhatWord};
 use work_calendars::{App, Day, Moment, Name};
 
 /// Each option that a statement may have, with its value where that has the option's form, and whether those options
@@ -15,7 +15,7 @@ pub(crate) struct Arguments {
     pub(crate) name: Option<Name>,
     pub(crate) kind: Option<KindWord>,
     pub(crate) function: Option<FunctionWord>,
-    pub(crate) listed: Option<Listed>,
+    pub(crate) what: Option<WhatWord>,
     pub(crate) has_app: bool,
     pub(crate) has_from: bool,
     pub(crate) has_to: bool,

@@ -21,6 +21,6 @@ mod words;
 pub use job_numbers::JobNumber;
 pub use law::one_statement_per_line;
 pub use read::read_statement;
-pub use statements::Statement;
+pub use statements::{ChangeStatement, DailyFunction, PlanFunction, Statement};
 pub use verbs::Verb;
-pub use words::{FunctionWord, KindWord, Listed};
+pub use words::{FunctionWord, KindWord, WhatWord};

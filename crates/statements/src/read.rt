@@ -1,12 +1,15 @@
 //! Lines are read as statements.
 ghost use Rattle.std.specs.Prelude.{◌≡◌, IfOk};
-ghost use Rattle.statements.specs.Statement.{Reads, change_of, dp_trial_of, fits_kind, list_of};
-ghost use Rattle.statements.specs.Statement.{ltp_trial_of, statement_of};
+ghost use Rattle.statements.specs.Statement.{Reads, act_of, change_of, create_of, daily_trial_of, extend_of};
+ghost use Rattle.statements.specs.Statement.{daily_extend_of, fits_kind, key_in, list_of, modify_one_of};
+ghost use Rattle.statements.specs.Statement.{plan_trial_of, statement_of, undefine_of};
 
 use crate::arguments::Arguments;
 use crate::values::arguments_in;
-use crate::{FunctionWord, KindWord, Statement, Verb};
-use occurrences::Action;
+use crate::{
+    ChangeStatement, DailyFunction, FunctionWord, KindWord, PlanFunction, Statement, Verb,
+};
+use occurrences::{Action, Key};
 use statement_words::{is_line_text, words_in};
 use std::alloc::{AllocError, Global};
 use work_calendars::{LONGEST_SHORT_NAME, Name};
@@ -42,61 +45,68 @@ fn statement_of(verb: Verb, a: &Arguments) -> Option<Statement>
             kind: a.kind?,
             job: a.job?,
         }),
-        Verb::Undefine => {
-            let (kind, name, job) = (a.kind?, a.name?, a.job?);
-            if fits_kind(kind, &name) {
-                Some(Statement::Undefine { kind, name, job })
-            } else {
-                None
-            }
-        }
         Verb::Days => Some(Statement::Days {
             app: a.app?,
             from: a.from?,
             to: a.to?,
         }),
-        Verb::LtpCreate => Some(Statement::LtpCreate {
-            from: a.from?,
-            to: a.to?,
-            job: a.job?,
-        }),
-        Verb::LtpExtend => Some(Statement::LtpExtend {
-            to: a.to?,
-            job: a.job?,
-        }),
-        Verb::LtpModifyAll => Some(Statement::LtpModifyAll { job: a.job? }),
-        Verb::LtpModifyOne => Some(Statement::LtpModifyOne {
-            app: a.app?,
-            job: a.job?,
-        }),
-        Verb::LtpTrial => ltp_trial_of(a, a.function?),
-        Verb::LtpAdd => Some(Statement::LtpAdd {
-            app: a.app?,
-            ia: a.ia?,
-            job: a.job?,
-        }),
-        Verb::LtpDelete => Some(Statement::LtpDelete {
-            app: a.app?,
-            ia: a.ia?,
-            job: a.job?,
-        }),
-        Verb::DpExtend => Some(Statement::DpExtend {
-            to: a.to_moment?,
-            job: a.job?,
-        }),
-        Verb::DpReplan => Some(Statement::DpReplan { job: a.job? }),
-        Verb::DpTrial => dp_trial_of(a, a.function?),
-        Verb::CpAdd => Some(Statement::CpAdd {
-            app: a.app?,
-            ia: a.ia?,
-            job: a.job?,
-        }),
-        Verb::CpStart => change_of(Action::Start, a),
-        Verb::CpComplete => change_of(Action::Complete, a),
-        Verb::CpFail => change_of(Action::Fail, a),
-        Verb::CpReset => change_of(Action::Reset, a),
-        Verb::CpDelete => change_of(Action::Delete, a),
+        Verb::LtpTrial => Some(Statement::PlanTrial(plan_trial_of(a, a.function?)?)),
+        Verb::DpTrial => Some(Statement::DailyTrial(daily_trial_of(a, a.function?)?)),
         Verb::List => list_of(a),
+        Verb::Undefine
+        | Verb::LtpCreate
+        | Verb::LtpExtend
+        | Verb::LtpModifyAll
+        | Verb::LtpModifyOne
+        | Verb::LtpAdd
+        | Verb::LtpDelete
+        | Verb::DpExtend
+        | Verb::DpReplan
+        | Verb::CpAdd
+        | Verb::CpStart
+        | Verb::CpComplete
+        | Verb::CpFail
+        | Verb::CpReset
+        | Verb::CpDelete => Some(Statement::Change {
+            change: change_of(verb, a)?,
+            job: a.job?,
+        }),
+    }
+}
+
+/// The change of that name which the values make; none where the name is of no change.
+fn change_of(verb: Verb, a: &Arguments) -> Option<ChangeStatement>
+    ensures { result ≡ change_of verb a.now }
+{
+    match verb {
+        Verb::Undefine => undefine_of(a),
+        Verb::LtpCreate => Some(ChangeStatement::Plan(create_of(a)?)),
+        Verb::LtpExtend => Some(ChangeStatement::Plan(extend_of(a)?)),
+        Verb::LtpModifyAll => Some(ChangeStatement::Plan(PlanFunction::ModifyAll)),
+        Verb::LtpModifyOne => Some(ChangeStatement::Plan(modify_one_of(a)?)),
+        Verb::LtpAdd => Some(ChangeStatement::Add { key: key_in(a)? }),
+        Verb::LtpDelete => Some(ChangeStatement::Delete { key: key_in(a)? }),
+        Verb::DpExtend => Some(ChangeStatement::Daily(daily_extend_of(a)?)),
+        Verb::DpReplan => Some(ChangeStatement::Daily(DailyFunction::Replan)),
+        Verb::CpAdd => Some(ChangeStatement::AddCurrent { key: key_in(a)? }),
+        Verb::CpStart => act_of(Action::Start, a),
+        Verb::CpComplete => act_of(Action::Complete, a),
+        Verb::CpFail => act_of(Action::Fail, a),
+        Verb::CpReset => act_of(Action::Reset, a),
+        Verb::CpDelete => act_of(Action::Delete, a),
+        Verb::Define | Verb::Days | Verb::LtpTrial | Verb::DpTrial | Verb::List => None,
+    }
+}
+
+/// `undefine`, with a name that fits its kind.
+fn undefine_of(a: &Arguments) -> Option<ChangeStatement>
+    ensures { result ≡ undefine_of a.now }
+{
+    let (kind, name) = (a.kind?, a.name?);
+    if fits_kind(kind, &name) {
+        Some(ChangeStatement::Undefine { kind, name })
+    } else {
+        None
     }
 }
 
@@ -114,24 +124,68 @@ fn fits_kind(kind: KindWord, name: &Name) -> bool
     }
 }
 
+/// `create`, from one day to another.
+fn create_of(a: &Arguments) -> Option<PlanFunction>
+    ensures { result ≡ create_of a.now }
+{
+    Some(PlanFunction::Create {
+        from: a.from?,
+        to: a.to?,
+    })
+}
+
+/// `extend`, to a day.
+fn extend_of(a: &Arguments) -> Option<PlanFunction>
+    ensures { result ≡ extend_of a.now }
+{
+    Some(PlanFunction::Extend { to: a.to? })
+}
+
+/// `modify-one`, for an application.
+fn modify_one_of(a: &Arguments) -> Option<PlanFunction>
+    ensures { result ≡ modify_one_of a.now }
+{
+    Some(PlanFunction::ModifyOne { app: a.app? })
+}
+
+/// `extend` of a daily plan, to a moment.
+fn daily_extend_of(a: &Arguments) -> Option<DailyFunction>
+    ensures { result ≡ daily_extend_of a.now }
+{
+    Some(DailyFunction::Extend { to: a.to_moment? })
+}
+
+/// The occurrence that the values name.
+fn key_in(a: &Arguments) -> Option<Key>
+    ensures { result ≡ key_in a.now }
+{
+    Some(Key {
+        ia: a.ia?,
+        app: a.app?,
+    })
+}
+
+/// A report on an occurrence of the current plan.
+fn act_of(action: Action, a: &Arguments) -> Option<ChangeStatement>
+    ensures { result ≡ act_of action a.now }
+{
+    Some(ChangeStatement::Act {
+        action,
+        key: key_in(a)?,
+    })
+}
+
 /// The function of `ltp-trial`, with the options that it takes and no others.
-fn ltp_trial_of(a: &Arguments, function: FunctionWord) -> Option<Statement>
-    ensures { result ≡ ltp_trial_of a.now function }
+fn plan_trial_of(a: &Arguments, function: FunctionWord) -> Option<PlanFunction>
+    ensures { result ≡ plan_trial_of a.now function }
 {
     match function {
-        FunctionWord::Create if !a.has_app => Some(Statement::LtpTrialCreate {
-            from: a.from?,
-            to: a.to?,
-        }),
-        FunctionWord::Extend if !(a.has_from || a.has_app) => {
-            Some(Statement::LtpTrialExtend { to: a.to? })
-        }
+        FunctionWord::Create if !a.has_app => create_of(a),
+        FunctionWord::Extend if !(a.has_from || a.has_app) => extend_of(a),
         FunctionWord::ModifyAll if !(a.has_from || a.has_to || a.has_app) => {
-            Some(Statement::LtpTrialModifyAll)
+            Some(PlanFunction::ModifyAll)
         }
-        FunctionWord::ModifyOne if !(a.has_from || a.has_to) => {
-            Some(Statement::LtpTrialModifyOne { app: a.app? })
-        }
+        FunctionWord::ModifyOne if !(a.has_from || a.has_to) => modify_one_of(a),
         FunctionWord::Create
         | FunctionWord::Extend
         | FunctionWord::ModifyAll
@@ -141,12 +195,12 @@ fn ltp_trial_of(a: &Arguments, function: FunctionWord) -> Option<Statement>
 }
 
 /// The function of `dp-trial`, with the option that it takes.
-fn dp_trial_of(a: &Arguments, function: FunctionWord) -> Option<Statement>
-    ensures { result ≡ dp_trial_of a.now function }
+fn daily_trial_of(a: &Arguments, function: FunctionWord) -> Option<DailyFunction>
+    ensures { result ≡ daily_trial_of a.now function }
 {
     match function {
-        FunctionWord::Extend => Some(Statement::DpTrialExtend { to: a.to_moment? }),
-        FunctionWord::Replan if !a.has_to => Some(Statement::DpTrialReplan),
+        FunctionWord::Extend => daily_extend_of(a),
+        FunctionWord::Replan if !a.has_to => Some(DailyFunction::Replan),
         FunctionWord::Create
         | FunctionWord::ModifyAll
         | FunctionWord::ModifyOne
@@ -158,22 +212,10 @@ fn dp_trial_of(a: &Arguments, function: FunctionWord) -> Option<Statement>
 fn list_of(a: &Arguments) -> Option<Statement>
     ensures { result ≡ list_of a.now }
 {
-    let what = a.listed?;
+    let what = a.what?;
     if a.has_app {
         Some(Statement::ListApp { what, app: a.app? })
     } else {
         Some(Statement::List { what })
     }
-}
-
-/// A report on an occurrence of the current plan.
-fn change_of(action: Action, a: &Arguments) -> Option<Statement>
-    ensures { result ≡ change_of action a.now }
-{
-    Some(Statement::CpChange {
-        action,
-        app: a.app?,
-        ia: a.ia?,
-        job: a.job?,
-    })
 }

@@ -1,116 +1,80 @@
-//! What a line can say.
-use crate::{JobNumber, KindWord, Listed};
-use occurrences::Action;
+//! What a line can say, in the shape of what is asked: a change under its job number, a trial, or something to show.
+use crate::{JobNumber, KindWord, WhatWord};
+use occurrences::{Action, Key};
 use work_calendars::{App, Day, Moment, Name};
 
-/// A statement of a job stream. `job` is its number; `app` and `ia` are an occurrence's application and input arrival.
+/// What planning does to the long-term plan by what the definitions name. It can be tried.
+#[derive(Clone, Copy, Debug, PartialEq, Eq)]
+pub enum PlanFunction {
+    /// `create`: to make the plan from one day to another.
+    Create { from: Day, to: Day },
+    /// `extend`: to extend the plan to a day.
+    Extend { to: Day },
+    /// `modify-all`: to make the rest of the plan what the definitions name now.
+    ModifyAll,
+    /// `modify-one`: to do so for one application.
+    ModifyOne { app: App },
+}
+
+/// What a daily plan does to the current plan. It can be tried.
+#[derive(Clone, Copy, Debug, PartialEq, Eq)]
+pub enum DailyFunction {
+    /// `extend`: to extend the current plan to a moment.
+    Extend { to: Moment },
+    /// `replan`: to make the current plan anew.
+    Replan,
+}
+
+/// A statement that changes something, without its job number, and without data.
+#[derive(Clone, Copy, Debug, PartialEq, Eq)]
+pub enum ChangeStatement {
+    /// `undefine`: to take one name's definition away. That of a period has at most 8 characters, and of run cycles and
+    /// predecessors the name is the application's.
+    Undefine { kind: KindWord, name: Name },
+    /// `ltp-create` to `ltp-modify-one`: to plan.
+    Plan(PlanFunction),
+    /// `ltp-add`: to add an occurrence to the long-term plan.
+    Add { key: Key },
+    /// `ltp-delete`: to take an occurrence out of the long-term plan.
+    Delete { key: Key },
+    /// `dp-extend`, `dp-replan`: to make a daily plan.
+    Daily(DailyFunction),
+    /// `cp-add`: to add an occurrence to the current plan.
+    AddCurrent { key: Key },
+    /// `cp-start` to `cp-delete`: to report on an occurrence of the current plan.
+    Act { action: Action, key: Key },
+}
+
+/// A statement of a job stream.
 #[derive(Clone, Copy, Debug, PartialEq, Eq)]
 pub enum Statement {
-    /// Takes the definitions of the data block that follows.
+    /// `define`: to take the definitions of the data block that follows, under a job number.
     Define {
         kind: KindWord,
         job: JobNumber,
     },
-    /// Takes one name's definition away: that of a period has at most 8 characters, and of run
-    /// cycles and predecessors the name is the application's.
-    Undefine {
-        kind: KindWord,
-        name: Name,
+    /// A change under a job number.
+    Change {
+        change: ChangeStatement,
         job: JobNumber,
     },
-    /// Asks for the days that the application's run cycles name, from `from` to `to`.
+    /// `days`: to show the days that the application's run cycles name, from `from` to `to`.
     Days {
         app: App,
         from: Day,
         to: Day,
     },
-    /// Makes the long-term plan from one day to another.
-    LtpCreate {
-        from: Day,
-        to: Day,
-        job: JobNumber,
-    },
-    /// Extends the long-term plan to a day.
-    LtpExtend {
-        to: Day,
-        job: JobNumber,
-    },
-    /// Brings the long-term plan up to date with the definitions.
-    LtpModifyAll {
-        job: JobNumber,
-    },
-    /// The same for one application.
-    LtpModifyOne {
-        app: App,
-        job: JobNumber,
-    },
-    /// Shows what `ltp-create` would do.
-    LtpTrialCreate {
-        /// The first day.
-        from: Day,
-        /// The last day.
-        to: Day,
-    },
-    /// Shows what `ltp-extend` would do.
-    LtpTrialExtend {
-        /// The new last day.
-        to: Day,
-    },
-    /// Shows what `ltp-modify-all` would do.
-    LtpTrialModifyAll,
-    /// Shows what `ltp-modify-one` would do.
-    LtpTrialModifyOne {
-        /// The application.
-        app: App,
-    },
-    /// Adds an occurrence to the long-term plan.
-    LtpAdd {
-        app: App,
-        ia: Moment,
-        job: JobNumber,
-    },
-    /// Takes an occurrence out of the long-term plan.
-    LtpDelete {
-        app: App,
-        ia: Moment,
-        job: JobNumber,
-    },
-    /// Extends the current plan to a moment.
-    DpExtend {
-        to: Moment,
-        job: JobNumber,
-    },
-    /// Makes the current plan anew.
-    DpReplan {
-        job: JobNumber,
-    },
-    /// Shows what `dp-extend` would do.
-    DpTrialExtend {
-        /// The new end.
-        to: Moment,
-    },
-    /// Shows what `dp-replan` would do.
-    DpTrialReplan,
-    /// Adds an occurrence to the current plan.
-    CpAdd {
-        app: App,
-        ia: Moment,
-        job: JobNumber,
-    },
-    /// Reports on an occurrence of the current plan.
-    CpChange {
-        action: Action,
-        app: App,
-        ia: Moment,
-        job: JobNumber,
-    },
-    /// Lists a set of rows.
+    /// `ltp-trial`: to show what planning would do.
+    PlanTrial(PlanFunction),
+    /// `dp-trial`: to show what a daily plan would do.
+    DailyTrial(DailyFunction),
+    /// `list`: to show a set of rows.
     List {
-        what: Listed,
+        what: WhatWord,
     },
-    /// Lists the rows of one application in a set.
+    /// `list` with `--app`: to show the rows of one application in a set.
     ListApp {
-        what: Listed,
+        what: WhatWord,
         app: App,
     },
 }

@@ -1,12 +1,12 @@
 //! Values in words.
 ghost use Rattle.std.specs.Prelude.{◌≡◌, is_some};
 ghost use Rattle.statement_words.specs.Grammar.{value_in};
-ghost use Rattle.statements.specs.Values.{HasApp, HasDay, HasFunction, HasJob, HasKind, HasListed};
+ghost use Rattle.statements.specs.Values.{HasApp, HasDay, HasFunction, HasJob, HasKind, HasWhat};
 ghost use Rattle.statements.specs.Values.{HasMoment, HasName, Reading};
 ghost use Rattle.statements.specs.Arguments.{HasArguments};
 
 use crate::arguments::Arguments;
-use crate::{FunctionWord, JobNumber, KindWord, Listed};
+use crate::{FunctionWord, JobNumber, KindWord, WhatWord};
 use statement_words::Values;
 use work_calendars::{App, Day, Moment, Name};
 
@@ -24,7 +24,7 @@ pub(crate) fn arguments_in(values: &Values<'_>) -> Arguments
         name: name_in(values),
         kind: kind_in(values),
         function: function_in(values),
-        listed: listed_in(values),
+        what: what_in(values),
         has_app: is_given(values, "app"),
         has_from: is_given(values, "from"),
         has_to: is_given(values, "to"),
@@ -88,8 +88,8 @@ fn function_in(values: &Values<'_>) -> Option<FunctionWord>
 }
 
 /// The word `WHAT`.
-fn listed_in(values: &Values<'_>) -> Option<Listed>
-    ensures { Reading (HasListed values.now) result }
+fn what_in(values: &Values<'_>) -> Option<WhatWord>
+    ensures { Reading (HasWhat values.now) result }
 {
-    Listed::from_text(values.get("WHAT")?)
+    WhatWord::from_text(values.get("WHAT")?)
 }

@@ -75,7 +75,7 @@ impl FunctionWord {
 
 /// What `list` lists.
 #[derive(Clone, Copy, Debug, PartialEq, Eq)]
-pub enum Listed {
+pub enum WhatWord {
     /// `ltp`: the long-term plan.
     Ltp,
     /// `cp`: the current plan.
@@ -88,21 +88,21 @@ pub enum Listed {
     Dependencies,
 }
 
-impl Listed {
+impl WhatWord {
     ghost use Rattle.std.specs.Prelude.{◌≡◌, ◌≢◌, IfSome, IfNone};
-    ghost use Rattle.statements.specs.Words.{listed_text};
+    ghost use Rattle.statements.specs.Words.{what_text};
 
     /// What the word names.
-    pub fn from_text(text: &str) -> Option<Listed>
-        ensures some { IfSome result (λ listed. text.now ≡ listed_text listed) }
-        ensures none { IfNone result ((listed : Listed) → text.now ≢ listed_text listed) }
+    pub fn from_text(text: &str) -> Option<WhatWord>
+        ensures some { IfSome result (λ what. text.now ≡ what_text what) }
+        ensures none { IfNone result ((what : WhatWord) → text.now ≢ what_text what) }
     {
         match text {
-            "ltp" => Some(Listed::Ltp),
-            "cp" => Some(Listed::Cp),
-            "history" => Some(Listed::History),
-            "deletions" => Some(Listed::Deletions),
-            "dependencies" => Some(Listed::Dependencies),
+            "ltp" => Some(WhatWord::Ltp),
+            "cp" => Some(WhatWord::Cp),
+            "history" => Some(WhatWord::History),
+            "deletions" => Some(WhatWord::Deletions),
+            "dependencies" => Some(WhatWord::Dependencies),
             _ => None,
         }
     }

@@ -2,7 +2,7 @@ use Rattle.std.proofs.Common.{sym, subst}
 use Rattle.definition_records.proofs.ByNameLemmas.{IfOk-map}
 use Rattle.planner_machine.specs.Statement.{decision_of}
 use Rattle.plan_store.specs.Verdicts.{VerdictIs}
-use Rattle.planner_cli.specs.Requests.{daily_change}
+use Rattle.planner_cli.specs.Changes.{daily_change}
 use Rattle.planner_cli.proofs.decisions.decide_daily.Goals as goal
 
 pub returns-in-Replan : goal.returns-in-Replan

@@ -1,4 +1,4 @@
-use Rattle.planner_cli.specs.Verdicts.{change_asked}
+use Rattle.planner_cli.specs.Verdicts.{job_change}
 use Rattle.planner_cli.proofs.ServeLemmas.{AnswersBoth}
 use Rattle.planner_cli.proofs.StoreLemmas.{after_read}
 use Rattle.planner_cli.proofs.jobs.answer_job.Goals as goal
@@ -6,4 +6,4 @@ use Rattle.planner_cli.proofs.jobs.answer_job.Goals as goal
 pub returns-in-None : goal.returns-in-None
 returns-in-None g c =
     after_read _ _ _ _ _ _ _ _ c.kept_answer.ensures c.perform.new.store c.perform.result
-    (AnswersBoth c.args.number c.args.text (change_asked c.args.asked)) c.perform.ensures
+    (AnswersBoth c.args.number c.args.text (job_change c.args.change)) c.perform.ensures

@@ -1,7 +1,7 @@
 use Rattle.std.proofs.Common.{◌∙◌, ap, sym, subst}
 use Rattle.planner_machine.specs.Statement.{decision_of}
 use Rattle.plan_store.specs.Verdicts.{VerdictIs}
-use Rattle.planner_cli.specs.Verdicts.{change_asked}
+use Rattle.planner_cli.specs.Verdicts.{job_change}
 use Rattle.planner_cli.proofs.ServeLemmas.{AnswersBoth, verdict_answers, verdict_fits}
 use Rattle.planner_cli.proofs.StoreLemmas.{after_read, answers_so}
 use Rattle.planner_cli.proofs.jobs.perform.Goals as goal
@@ -10,7 +10,7 @@ pub settle-requires-clause-fits : goal.settle-requires-clause-fits
 settle-requires-clause-fits g c honest =
     let reads = c.read_window.follows.holds-at-none in
     let shows = rw c.in_ok-view.was at reads.right honest in
-    let change = change_asked c.args.asked in
+    let change = job_change c.args.change in
     let decided = c.in-Ok.ensures (g.S.PlanStore.content c.args.store.now) shows
     (c.requires.sound (reads.honest honest)) in
     subst (λ x. Rattle.planner_cli.specs.Verdicts.FitsVerdict c.in-Ok.verdict x) (sym (reads.same honest))
@@ -19,7 +19,7 @@ settle-requires-clause-fits g c honest =
 pub returns : goal.returns
 returns g c =
     let reads = c.read_window.follows.holds-at-none in
-    let change = change_asked c.args.asked in
+    let change = job_change c.args.change in
     after_read _ _ _ _ _ _ _ _ reads c.settle.new.store c.settle.result (AnswersBoth c.args.number c.args.text change)
     (answers_so _ _ _ _ _ _ _ _ _ (λ honest reply c'.
     let honest' = c.settle.ensures.honest honest in

@@ -18,7 +18,7 @@ returns-in-Ok g c =
           parts.answer (parts.leaves before fits) (c.in-Ok.ensures.done honest),
       refl,
     ))
-    (subst (λ a. Prints (answering a) printed.text.items printed.is_accepted) parts.answer c.in_ok-printed.ensures.told)
+    (subst (λ a. Prints (answering a) printed.text.items printed.is_accepted) parts.answer c.in_ok-printed.ensures.prints)
     c.in-Ok.ensures.settled c.apply.ensures.counts c.apply.ensures.honest
 
 pub returns-in-Err : goal.returns-in-Err

@@ -12,6 +12,6 @@ returns-in-Ok-read_block g c = answers_so _ _ _ _ _ _ _ _ _ (λ honest reply c' 
     reply c') (c.from_vec-text.ensures ∙ c.in-Ok.ensures) h)) c.answer_job.ensures
 
 pub returns-in-Err-Faulty : goal.returns-in-Err-Faulty
-returns-in-Err-Faulty g c = untouched _ _ _ _ c.args.store.now c.told.result _ _
+returns-in-Err-Faulty g c = untouched _ _ _ _ c.args.store.now c.print_alone.result _ _
     (serves_faulty c.args.number _ c.args.kind c.args.bytes.now _ _ c.requires.numbered c.requires.short
-    (rw c.in-Err-Faulty.field-0-is at c.in-Err-Faulty.ensures.faulty)) c.told.ensures.told c.told.ensures.err
+    (rw c.in-Err-Faulty.field-0-is at c.in-Err-Faulty.ensures.faulty)) c.print_alone.ensures.prints c.print_alone.ensures.err

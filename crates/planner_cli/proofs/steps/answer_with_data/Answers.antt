@@ -1,11 +1,12 @@
-use Rattle.std.proofs.Common.{ap}
+use Rattle.std.proofs.Common.{refl, rules, None}
+use Rattle.statements.specs.Statement.{Reads}
+use Rattle.stream_items.specs.Items.{WithBlock}
 use Rattle.stream_items.specs.Pages.{block_shown}
-use Rattle.planner_cli.specs.Asked.{asked_with}
-use Rattle.planner_cli.proofs.StoreLemmas.{answers_so}
+use Rattle.planner_cli.proofs.StatementLemmas.{item_refused}
 use Rattle.planner_cli.proofs.steps.answer_with_data.Goals as goal
 
-pub returns-in-Ok : goal.returns-in-Ok
-returns-in-Ok g c = answers_so _ _ _ _ _ _ _ _ _ (λ honest reply c' h.
-    let (read, reads, asked) = c.in-Ok.ensures in
-    let with_data = asked_with c.args.line.now (block_shown c.args.block) in
-    (with_data c.in-Ok.request, (read, reads, ap with_data asked), h)) c.answer_data_request.ensures
+pub returns-in-Ok-None : goal.returns-in-Ok-None
+returns-in-Ok-None g c =
+    let reads : Reads c.args.line.now None = search rules in
+    item_refused _ _ _ _ _ c.no_statement.result (WithBlock c.args.line.now (block_shown c.args.block))
+    (None, reads, refl) c.no_statement.ensures.prints c.no_statement.ensures.err

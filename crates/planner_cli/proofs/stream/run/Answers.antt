@@ -1,21 +1,32 @@
-use Rattle.planner_cli.proofs.Progress.{crash_told, told}
+use Rattle.planner_cli.proofs.Progress.{crash_written, fault_written}
 use Rattle.planner_cli.proofs.PlanLemmas.{crashed_leads, ran_leads, stopped_leads}
 use Rattle.planner_cli.proofs.stream.run.Goals as goal
 
-pub returns-in-Ok-clause-ran : goal.returns-in-Ok-clause-ran
-returns-in-Ok-clause-ran g c honest =
-    ran_leads c.streams.ensures.sound c.streams.ensures.by_fate _ _ _ _ _ _
-    (c.requires (c.answer_all.ensures.honest honest)) (c.in-Ok.ensures.ran honest)
+pub returns-in-Ok : goal.returns-in-Ok
+returns-in-Ok g c = record {
+  ran = λ honest. ran_leads c.streams.ensures.sound c.streams.ensures.by_fate _ _ _ _ _ _
+      (c.requires (c.answer_all.ensures.honest honest)) (c.in-Ok.ensures.ran honest);
+  fault = λ honest. tt;
+  settled = c.in-Ok.ensures.settled;
+  crash = λ honest own. tt;
+  blames = tt;
+  counts = c.answer_all.ensures.counts;
+  honest = c.answer_all.ensures.honest;
+}
 
-pub returns-in-Err-clause-crash : goal.returns-in-Err-clause-crash
-returns-in-Err-clause-crash g c honest own left leaves =
-    crashed_leads c.streams.ensures.sound c.streams.ensures.by_fate _ _ _ _ _ _ left
-    (c.requires (c.answer_all.ensures.honest honest))
-    (crash_told _ _ _ _ _ _ _ _ _ left (c.in-Err.ensures.crash honest own left leaves) c.cause.ensures
-    c.tell_fault.ensures)
-
-pub returns-in-Err-clause-fault : goal.returns-in-Err-clause-fault
-returns-in-Err-clause-fault g c honest =
-    stopped_leads c.streams.ensures.sound c.streams.ensures.by_fate _ _ _ _ _ _
-    (c.requires (c.answer_all.ensures.honest honest))
-    (told _ _ _ _ _ _ _ _ _ (c.in-Err.ensures.fault honest) c.cause.ensures c.tell_fault.ensures)
+pub returns-in-Err : goal.returns-in-Err
+returns-in-Err g c = record {
+  ran = λ honest. tt;
+  fault = λ honest. stopped_leads c.streams.ensures.sound c.streams.ensures.by_fate _ _ _ _ _ _
+      (c.requires (c.answer_all.ensures.honest honest))
+      (fault_written _ _ _ _ _ _ _ _ _ (c.in-Err.ensures.fault honest) c.cause.ensures c.write_fault.ensures);
+  settled = λ honest own. tt;
+  crash = λ honest own left leaves.
+      crashed_leads c.streams.ensures.sound c.streams.ensures.by_fate _ _ _ _ _ _ left
+      (c.requires (c.answer_all.ensures.honest honest))
+      (crash_written _ _ _ _ _ _ _ _ _ left (c.in-Err.ensures.crash honest own left leaves) c.cause.ensures
+      c.write_fault.ensures);
+  blames = c.in-Err.ensures.blames;
+  counts = c.answer_all.ensures.counts;
+  honest = c.answer_all.ensures.honest;
+}

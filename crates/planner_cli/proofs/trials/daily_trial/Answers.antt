@@ -10,5 +10,5 @@ returns c =
     IfOk-map c.print_daily.result _ _ (λ printed told c' shows sound.
     let lists = subst (λ (x : Content). ListsSet of_current x.sets.cp IsAny c.cp.result.now) shows
     c.cp.ensures.rows in
-    told c.args.daily.now c' sound lists (c.in_ok-verdict.ensures c' shows sound))
+    told c.args.function.now c' sound lists (c.in_ok-verdict.ensures c' shows sound))
     c.print_daily.ensures

@@ -1,0 +1,29 @@
+-- The change of the planner's machine that a statement asks for.
+use Rattle.planner_machine.specs.Statement.{Act, Add, AddCurrent, Change, Create, DailyExtend, Delete, Extend}
+use Rattle.planner_machine.specs.Statement.{ModifyAll, ModifyOne, Replan, Undefine}
+use Rattle.statements.specs.declared.statements.ChangeStatement.{ChangeStatement}
+use Rattle.statements.specs.declared.statements.ChangeStatement.TheVariants as change
+use Rattle.statements.specs.declared.statements.DailyFunction.{DailyFunction}
+use Rattle.statements.specs.declared.statements.DailyFunction.TheVariants as daily
+use Rattle.statements.specs.declared.statements.PlanFunction.{PlanFunction}
+use Rattle.statements.specs.declared.statements.PlanFunction.TheVariants as plan
+use Rattle.planner_cli.specs.Kinds.{definitions_kind}
+
+abbrev pub plan_change : PlanFunction → Change
+plan_change (plan.Create from to) = Create from to
+plan_change (plan.Extend to) = Extend to
+plan_change plan.ModifyAll = ModifyAll
+plan_change (plan.ModifyOne app) = ModifyOne app
+
+abbrev pub daily_change : DailyFunction → Change
+daily_change (daily.Extend to) = DailyExtend to
+daily_change daily.Replan = Replan
+
+abbrev pub change_of : ChangeStatement → Change
+change_of (change.Undefine kind name) = Undefine (definitions_kind kind) name
+change_of (change.Plan function) = plan_change function
+change_of (change.Add key) = Add key
+change_of (change.Delete key) = Delete key
+change_of (change.Daily function) = daily_change function
+change_of (change.AddCurrent key) = AddCurrent key
+change_of (change.Act action key) = Act action key
