@@ -1,5 +1,5 @@
 -- What an action on an occurrence of the current plan changes.
-use Rattle.std.specs.Prelude.{◌≡◌, ◌≢◌, ◌↔◌, ℕ, [], ◌∷◌, List, Contains, Option, Some, None, nat_eq, if◌then◌else◌}
+use Rattle.std.specs.Prelude.{◌≡◌, ◌≢◌, ◌↔◌, ℕ, [], ◌∷◌, List, Contains, Option, Some, None}
 use Rattle.occurrences.specs.Status.{changed_status}
 use Rattle.occurrences.specs.declared.place.CurrentRow.{CurrentRow}
 use Rattle.occurrences.specs.declared.row.Row.{Row}
@@ -31,10 +31,6 @@ pub record IsActedOn (c : Content) (action : Action) (changed : CurrentRow) : Ty
   pub stands : c.sets.cp changed.row.serial ≡ Some (record { row = changed.row; status = was })
   pub live : was ≢ D
   pub allowed : changed_status was action ≡ Some changed.status
-
--- the row as it is then, and any other as it was
-abbrev pub replaced : CurrentRow → CurrentRow → CurrentRow
-replaced changed x = if nat_eq x.row.serial changed.row.serial then changed else x
 
 -- the pairs after the action
 abbrev pub ArePairsActed : Content → Action → CurrentRow → List Pair → Type 0

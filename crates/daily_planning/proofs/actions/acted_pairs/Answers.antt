@@ -12,6 +12,7 @@ use Rattle.plan_store.specs.Views.{shown}
 use Rattle.plan_store.proofs.PairLemmas.{leads_nowhere}
 use Rattle.daily_planning.specs.Actions.{ArePairsActed, IsActedOn, LeadsToRowPairs}
 use Rattle.daily_planning.specs.Statuses.{LeavesPairs}
+use Rattle.daily_planning.proofs.ActLemmas.{deletion_loses}
 use Rattle.daily_planning.proofs.ChangeLemmas.{no_pairs_move}
 use Rattle.daily_planning.proofs.ResetLemmas.{reset_are, reset_leads}
 use Rattle.daily_planning.proofs.StatusLemmas.{action_pairs}
@@ -40,7 +41,7 @@ returns-in-Start-clause-pairs c sound acted =
     (sym (no_pairs_move change c.new.ensures c.new-in-Start.ensures content.pairs)) stay
 
 pub returns-in-Start-clause-leads : goal.returns-in-Start-clause-leads
-returns-in-Start-clause-leads c sound =
+returns-in-Start-clause-leads c sound acted =
     let change : PairChange = record { removed = c.new.result; added = c.new-in-Start.result } in
     leads_nowhere change (shown c.args.view.now).pairs c.new.ensures c.new-in-Start.ensures
 
@@ -57,5 +58,21 @@ returns-in-Reset-clause-pairs c = weaker c.reset_pairs.result
 pub returns-in-Reset-clause-leads : goal.returns-in-Reset-clause-leads
 returns-in-Reset-clause-leads c = weaker c.reset_pairs.result
     (λ (change : PairChange). IsSound (shown c.args.view.now)
-    → LeadsToRowPairs (shown c.args.view.now) c.args.changed.now.row change) _ (λ change leads sound.
+    → LeadsToRowPairs (shown c.args.view.now) c.args.changed.now.row change) _ (λ change leads sound acted.
     reset_leads (shown c.args.view.now) c.args.changed.now.row change (leads sound)) c.reset_pairs.ensures
+
+pub returns-in-Delete-clause-pairs : goal.returns-in-Delete-clause-pairs
+returns-in-Delete-clause-pairs c = weaker c.pairs_without.result _ _ (λ (change : PairChange) without sound acted.
+    let content = shown c.args.view.now in
+    let changed = c.args.changed.now in
+    let action = c.args.action in
+    (without sound (each (action_move changed.row.key action) content.sets)
+    (deletion_loses content sound action changed acted c.in-Delete.is)).0) c.pairs_without.ensures
+
+pub returns-in-Delete-clause-leads : goal.returns-in-Delete-clause-leads
+returns-in-Delete-clause-leads c = weaker c.pairs_without.result _ _ (λ (change : PairChange) without sound acted.
+    let content = shown c.args.view.now in
+    let changed = c.args.changed.now in
+    let action = c.args.action in
+    (without sound (each (action_move changed.row.key action) content.sets)
+    (deletion_loses content sound action changed acted c.in-Delete.is)).1) c.pairs_without.ensures

@@ -16,5 +16,5 @@ returns c sound acted =
       deletions = nothing.deletions;
       job = nothing.job;
       pairs = c.in_ok-pairs.ensures.pairs sound acted;
-      leads = c.in_ok-pairs.ensures.leads sound;
+      leads = c.in_ok-pairs.ensures.leads sound acted;
     }
