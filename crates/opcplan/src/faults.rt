@@ -1,4 +1,6 @@
-//! Faults before a run.
+//! Faults: the line before a run on standard output, and what each means on standard error.
+
+use planner_cli::{Part, RunFault, Tally};
 
 /// The exit status after a fault, and after words that are wrong.
 pub const FAILED: u8 = 8;
@@ -7,7 +9,49 @@ pub const FAILED: u8 = 8;
 pub const MEMORY: u8 = 40;
 
 /// Tells a fault before the run, for which no memory is taken, and gives the exit status.
-pub fn tell(rt: &impl Print, number: u8) -> u8 {
+pub fn tell<R: Print + Eprint>(rt: &R, number: u8) -> u8 {
     let _ = println!(rt; "fault {number}");
+    let _ = rt.eprintln(meaning_before_run(number));
     FAILED
+}
+
+/// Says on standard error what ended a run, if a fault did. No memory is taken.
+pub fn explain(rt: &impl Eprint, outcome: &Result<Tally, RunFault>) {
+    if let Err(fault) = outcome {
+        let _ = rt.eprintln(meaning(fault));
+    }
+}
+
+/// What a fault before the run means.
+fn meaning_before_run(number: u8) -> &'static str {
+    match number {
+        MEMORY =>
+            "opcplan: fault 40: memory was refused before the first statement; nothing is changed",
+        41 => "opcplan: fault 41: the disk failed while FILE was opened; nothing is changed",
+        50 => {
+            "opcplan: fault 50: FILE can't be opened or made, another program holds it, or it is no plan of this version"
+        }
+        51 => "opcplan: fault 51: the tables in FILE are not those of a plan; FILE is as it was",
+        _ => "opcplan: fault 52: the rows in FILE are no sound plan; FILE is as it was",
+    }
+}
+
+/// What a fault that ended a run means.
+fn meaning(fault: &RunFault) -> &'static str {
+    match fault {
+        RunFault::Memory { .. } => {
+            "opcplan: fault 40: memory was refused; what was answered stands. Run the whole stream again"
+        }
+        RunFault::Device { part, .. } => match part {
+            Part::Store => {
+                "opcplan: fault 41: the plan's disk failed; what was answered stands. Run the whole stream again"
+            }
+            Part::Reader => {
+                "opcplan: fault 41: standard input failed; what was answered stands. Run the whole stream again"
+            }
+            Part::Writer => {
+                "opcplan: fault 41: standard output failed; what was answered stands. Run the whole stream again"
+            }
+        },
+    }
 }

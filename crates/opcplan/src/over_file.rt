@@ -1,6 +1,6 @@
 //! The stream over the plans that a file keeps.
 
-use crate::faults::{MEMORY, tell};
+use crate::faults::{MEMORY, explain, tell};
 use plan_tables::TableStore;
 use planner_cli::{exit_status, run};
 use std::io::{self, BufRead, BufReader, BufWriter, Write};
@@ -29,9 +29,10 @@ fn run_over_file<R: BufRead, W: Write>(
     let alloc = rt.alloc();
     match TableStore::open_path(rt, alloc, path) {
         Ok(mut store) => {
-            let status = exit_status(&run(alloc, &mut store, reader, writer));
+            let outcome = run(alloc, &mut store, reader, writer);
             drop(store.into_files());
-            status
+            explain(rt, &outcome);
+            exit_status(&outcome)
         }
         Err(fault) => tell(rt, open_fault_number(&fault)),
     }

@@ -1,12 +1,12 @@
 //! The stream over plans in memory. With `faults.rt` it is all that `./first` compiles of this program.
 
-use crate::faults::{MEMORY, tell};
+use crate::faults::{MEMORY, explain, tell};
 use planner_cli::{exit_status, run_lists};
 use std::io::{self, BufReader, BufWriter};
 
 /// Runs the stream on standard input, over plans that last as long as it does, and gives the exit status. A reply is
 /// handed to standard output with its last byte, and a listing some thousand bytes at a time.
-pub fn answer_over_lists<R: AllocGlobal + Input + Print>(rt: &R) -> u8 {
+pub fn answer_over_lists<R: AllocGlobal + Input + Print + Eprint>(rt: &R) -> u8 {
     let alloc = rt.alloc();
     let Ok(mut reader) = BufReader::new(alloc, rt.reader()) else {
         return tell(rt, MEMORY);
@@ -14,5 +14,7 @@ pub fn answer_over_lists<R: AllocGlobal + Input + Print>(rt: &R) -> u8 {
     let Ok(mut writer) = BufWriter::new(alloc, io::writer(rt)) else {
         return tell(rt, MEMORY);
     };
-    exit_status(&run_lists(alloc, &mut reader, &mut writer))
+    let outcome = run_lists(alloc, &mut reader, &mut writer);
+    explain(rt, &outcome);
+    exit_status(&outcome)
 }

@@ -18,12 +18,32 @@ pub enum Asked {
     Memory,
 }
 
+/// What stands below the options in the help.
+const STATEMENTS: &str = "\
+Statements, one a line:
+  define KIND --job N (a data block, then /*)   undefine KIND --name NAME --job N
+  days --app A --from D --to D                  list WHAT [--app A]
+  ltp-create --from D --to D --job N            ltp-extend --to D --job N
+  ltp-modify-all --job N                        ltp-modify-one --app A --job N
+  ltp-add, ltp-delete --app A --ia M --job N    ltp-trial FUNCTION [--from D] [--to D] [--app A]
+  dp-extend --to M --job N                      dp-replan --job N
+  dp-trial FUNCTION [--to M]                    cp-add --app A --ia M --job N
+  cp-start, cp-complete, cp-fail, cp-reset, cp-delete --app A --ia M --job N
+
+KIND: calendars, periods, applications, run-cycles, predecessors, options
+WHAT: ltp, cp, history, deletions, dependencies
+D: 2024-01-31   M: 2024-01-31/08.00   N: 1 to 999999999, a new one for each job
+
+Exit status: 0 all accepted, 4 some refused, 8 a fault or wrong words.
+The statements stand in docs/STATEMENTS.md, an operator's week in docs/GUIDE.md.";
+
 /// The words that may be given: `--db FILE` and `--help`.
 fn command<'a>(alloc: Global) -> Result<Command<'a>, AllocError> {
     Command::new(alloc, "opcplan")
         .about(
             "Answers the job stream of statements and data blocks on standard input, a reply for each statement",
         )
+        .after_help(STATEMENTS)
         .arg(
             Arg::new(alloc, "db")
                 .long("db")
