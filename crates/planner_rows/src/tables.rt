@@ -32,7 +32,7 @@ fn are_same_jobs(kept: &Content, wanted: &Content) -> bool {
 
 /// The first part of the content that is otherwise than it should be. Definitions are not compared: that they were kept
 /// is shown by what later statements are answered.
-fn unlike(kept: &Content, wanted: &Content) -> Option<&'static str> {
+pub fn unlike(kept: &Content, wanted: &Content) -> Option<&'static str> {
     let parts = [
         ("bounds", kept.bounds == wanted.bounds),
         ("serials issued", kept.issued == wanted.issued),
