@@ -1,9 +1,10 @@
 //! Tries worked job streams: each is run over lists in memory, and over tables in memory which are let go and taken up
-//! again in its midst. All that it prints, and the exit status, is compared with what its files say; the plans and jobs
-//! that the tables hold at its end are compared with those of the lists. Some are run over files that stop at each call
-//! in turn, and then again over what a crash left. A line tells of each stream whether it holds.
+//! again in its midst. All that it prints, and the exit status, is compared with what its files say; the definitions,
+//! plans and jobs that the tables hold at its end are compared with those of the lists. Some are run over files that stop
+//! at each call in turn, and then again over what a crash left. A line tells of each stream whether it holds.
 #![tactic(auto)]
 
+mod definitions;
 mod differences;
 mod items;
 mod listed;

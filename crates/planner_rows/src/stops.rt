@@ -157,42 +157,33 @@ fn wanted_of(alloc: Global, text: &[u8]) -> Result<Wanted, AllocError> {
 
 /// What the store has otherwise than after so many statements, and otherwise than after one more.
 fn unlike_after(
+    alloc: Global,
     store: &TableStore<FileStore<Fuse<Memory>>>,
     wanted: &Wanted,
     answered: u64,
-) -> Option<&'static str> {
+) -> Result<Option<&'static str>, AllocError> {
     let Ok(at) = usize::try_from(answered) else {
-        return Some("count");
+        return Ok(Some("count"));
     };
     let Some(now) = wanted.after.get(at) else {
-        return Some("count");
+        return Ok(Some("count"));
     };
-    let wrong = unlike(store.content(), now.content())?;
+    let wrong = unlike(alloc, store.content(), now.content())?;
     match wanted.after.get(at.saturating_add(1)) {
-        Some(next) => unlike(store.content(), next.content()),
-        None => Some(wrong),
+        Some(next) if wrong.is_some() => unlike(alloc, store.content(), next.content()),
+        Some(_) | None => Ok(wrong),
     }
 }
 
-/// What the store has otherwise than one of which nothing is known.
-fn unlike_none(
+/// What the store has otherwise than these lists, if there are some.
+fn unlike_lists(
+    alloc: Global,
     store: &TableStore<FileStore<Fuse<Memory>>>,
-    wanted: &Wanted,
-) -> Option<&'static str> {
-    match wanted.after.first() {
-        Some(none) => unlike(store.content(), none.content()),
-        None => Some("count"),
-    }
-}
-
-/// What the store has otherwise than one whole run leaves.
-fn unlike_whole(
-    store: &TableStore<FileStore<Fuse<Memory>>>,
-    wanted: &Wanted,
-) -> Option<&'static str> {
-    match wanted.after.last() {
-        Some(whole) => unlike(store.content(), whole.content()),
-        None => Some("count"),
+    lists: Option<&ListStore>,
+) -> Result<Option<&'static str>, AllocError> {
+    match lists {
+        Some(lists) => unlike(alloc, store.content(), lists.content()),
+        None => Ok(Some("count")),
     }
 }
 
@@ -207,9 +198,9 @@ fn wrong_after(
 ) -> Result<Option<&'static str>, AllocError> {
     let left = match how_far {
         Reached::Wrong => Some("end"),
-        Reached::Nothing => unlike_none(store, wanted),
-        Reached::Answered(count) => unlike_after(store, wanted, count),
-        Reached::End => unlike_whole(store, wanted),
+        Reached::Nothing => unlike_lists(alloc, store, wanted.after.first())?,
+        Reached::Answered(count) => unlike_after(alloc, store, wanted, count)?,
+        Reached::End => unlike_lists(alloc, store, wanted.after.last())?,
     };
     if left.is_some() {
         return Ok(left);
@@ -218,7 +209,7 @@ fn wrong_after(
     if answers.as_slice() != wanted.answers.as_slice() {
         return Ok(Some("second run"));
     }
-    Ok(unlike_whole(store, wanted))
+    unlike_lists(alloc, store, wanted.after.last())
 }
 
 /// Opens what a crash left of the files, and looks at it.

@@ -1,13 +1,14 @@
 //! A stream over a store on tables in memory, beside one of lists.
 ghost use Rattle.std.specs.Prelude.{◌≡◌, false, IfOk};
 
+use crate::definitions::unlike_definitions;
 use crate::items::middle_of;
 use crate::trials::Answered;
 use plan_store::{Content, ListStore};
 use plan_tables::TableStore;
 use planner_cli::{exit_status, run};
 use sqlite::{Connection, MemStore};
-use std::alloc::Global;
+use std::alloc::{AllocError, Global};
 use table_opening::OpenFault;
 
 /// The exit status after a fault.
@@ -30,9 +31,8 @@ fn are_same_jobs(kept: &Content, wanted: &Content) -> bool {
         })
 }
 
-/// The first part of the content that is otherwise than it should be. Definitions are not compared: that they were kept
-/// is shown by what later statements are answered.
-pub fn unlike(kept: &Content, wanted: &Content) -> Option<&'static str> {
+/// The first part of the content beside the definitions that is otherwise than it should be.
+fn unlike_plans(kept: &Content, wanted: &Content) -> Option<&'static str> {
     let parts = [
         ("bounds", kept.bounds == wanted.bounds),
         ("serials issued", kept.issued == wanted.issued),
@@ -57,6 +57,18 @@ pub fn unlike(kept: &Content, wanted: &Content) -> Option<&'static str> {
         ("jobs", are_same_jobs(kept, wanted)),
     ];
     parts.iter().find(|part| !part.1).map(|part| part.0)
+}
+
+/// The first part of the content that is otherwise than it should be.
+pub fn unlike(
+    alloc: Global,
+    kept: &Content,
+    wanted: &Content,
+) -> Result<Option<&'static str>, AllocError> {
+    match unlike_plans(kept, wanted) {
+        Some(part) => Ok(Some(part)),
+        None => unlike_definitions(alloc, &kept.definitions, &wanted.definitions),
+    }
 }
 
 /// The lists that a run of the whole stream leaves.
@@ -128,13 +140,16 @@ fn unlike_lists(
     requires { conn.in_transaction ≡ false }
 {
     match TableStore::adopt(alloc, conn) {
-        Ok(store) => Ok(unlike(store.content(), lists.content())),
+        Ok(store) => match unlike(alloc, store.content(), lists.content()) {
+            Ok(part) => Ok(part),
+            Err(_) => Err(OpenFault::Memory),
+        },
         Err((fault, _conn)) => Err(fault),
     }
 }
 
 /// Runs a stream over tables in memory, which are let go and taken up again in its midst and behind it, and holds the
-/// plans and jobs in them then against the lists of a whole run.
+/// definitions, plans and jobs in them then against the lists of a whole run.
 pub fn run_over_tables(alloc: Global, text: &[u8]) -> Result<Tabled, OpenFault> {
     let (first, second) = text.split_at(middle_of(text).min(text.len()));
     let mut replies = Vec::new(alloc);
