@@ -1,0 +1,62 @@
+"""Days and moments as they are written, and as a plan keeps them: days and minutes since 1970-01-01, without a zone."""
+
+import datetime
+import re
+
+EPOCH = datetime.datetime(1970, 1, 1)
+DAY = 1440
+FIRST_YEAR, LAST_YEAR = 1972, 2071
+
+
+def day_of(text):
+    """The day of `YYYY-MM-DD`, or None where the text spells none that a plan can have."""
+    if not re.fullmatch(r"[0-9]{4}-[0-9]{2}-[0-9]{2}", text):
+        return None
+    try:
+        date = datetime.date.fromisoformat(text)
+    except ValueError:
+        return None
+    return (date - EPOCH.date()).days if FIRST_YEAR <= date.year <= LAST_YEAR else None
+
+
+def day_text(day):
+    """`YYYY-MM-DD`."""
+    return (EPOCH.date() + datetime.timedelta(days=day)).isoformat()
+
+
+def minute_of(text):
+    """The minute of `HH.MM`, or None."""
+    if not re.fullmatch(r"[0-9]{2}\.[0-9]{2}", text):
+        return None
+    hour, minute = int(text[:2]), int(text[3:])
+    return hour * 60 + minute if hour < 24 and minute < 60 else None
+
+
+def minute_text(minute):
+    """`HH.MM` of a minute of the day."""
+    return f"{minute // 60:02}.{minute % 60:02}"
+
+
+def moment_of(text):
+    """The moment of `YYYY-MM-DD/HH.MM`, or None."""
+    if len(text) != 16 or text[10] != "/":
+        return None
+    day, minute = day_of(text[:10]), minute_of(text[11:])
+    return None if day is None or minute is None else day * DAY + minute
+
+
+def moment_text(moment):
+    """`YYYY-MM-DD HH.MM`."""
+    return f"{day_text(moment // DAY)} {minute_text(moment % DAY)}"
+
+
+def key_text(app, ia):
+    """`APP YYYY-MM-DD/HH.MM`: an occurrence as statements name it."""
+    return f"{app} {day_text(ia // DAY)}/{minute_text(ia % DAY)}"
+
+
+def now(text=None):
+    """The moment that the text spells; where there is no text, the clock's, in local time."""
+    if text is not None:
+        return moment_of(text)
+    return int((datetime.datetime.now() - EPOCH).total_seconds()) // 60

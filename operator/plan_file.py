@@ -1,0 +1,128 @@
+"""A plan's file, read without touching it: the file and its log are copied, and the copy is read.
+
+A reader that has the file open makes `opcplan` end with fault 50, SQLite leaves files beside a file that it only reads,
+and a file without its log is an older plan. So each subcommand reads by `opened` alone."""
+
+import contextlib
+import os
+import shutil
+import sqlite3
+import tempfile
+import time
+
+VERSIONS = (1,)  # of the tables, those that are read
+TRIES = 5
+TAILS = ("", "-wal", "-journal")
+# a change that comes this soon after another one may leave the file's time as it was
+COARSE = 0.02
+TABLES = """plan_meta calendar_entry plan_period application run_cycle run_cycle_offset predecessor link_in_force ltp_row
+    cp_row history_row deletion_row dependency job""".split()
+
+
+class Unreadable(Exception):
+    """What can't be read, and why."""
+
+
+class Plan:
+    """A private copy of a plan."""
+
+    def __init__(self, path, db):
+        self.path = path
+        self.db = db
+        self.meta = meta_of(db)
+        self.is_created = bool(self.meta["created"])
+        self.version = self.meta["version"]
+
+
+@contextlib.contextmanager
+def opened(path):
+    """A Plan of the file; the copy is gone when the context ends. Raises Unreadable, also for what is found out later."""
+    path = os.fspath(path)
+    if not os.path.exists(path):
+        raise Unreadable(f"{path}: there is no such file")
+    if not os.path.isfile(path):
+        raise Unreadable(f"{path}: it is no file")
+    with tempfile.TemporaryDirectory(prefix="plan-") as folder:
+        copy = os.path.join(folder, "plan.db")
+        try:
+            copied(os.path.realpath(path), copy)
+        except OSError as error:
+            raise Unreadable(f"{path}: it can't be read: {error.strerror}") from None
+        except Unreadable as error:
+            raise Unreadable(f"{path}: {error}") from None
+        if os.path.getsize(copy) == 0:
+            raise Unreadable(f"{path}: it is empty, and no plan")
+        with contextlib.closing(sqlite3.connect(copy, isolation_level=None)) as db:
+            db.row_factory = sqlite3.Row
+            try:
+                yield Plan(path, db)
+            except NotAPlan as error:
+                raise Unreadable(f"{path}: {error}") from None
+            except sqlite3.Error as error:
+                raise Unreadable(f"{path}: it can't be read as a plan: {error}") from error
+
+
+class NotAPlan(Exception):
+    """Why a database is no plan that is read here."""
+
+
+def meta_of(db):
+    """The one row of plan_meta, of a database that has a plan's tables in a version that is read here."""
+    found = {row["name"] for row in db.execute("SELECT name FROM sqlite_schema WHERE type = 'table'")}
+    if "plan_meta" not in found:
+        raise NotAPlan("it is a database, but no plan: it has no table plan_meta")
+    rows = db.execute("SELECT * FROM plan_meta").fetchall()
+    if len(rows) != 1 or "version" not in rows[0].keys():
+        raise NotAPlan("it is no plan: its table plan_meta isn't one of a plan")
+    if rows[0]["version"] not in VERSIONS:
+        read = " and ".join(map(str, VERSIONS))
+        raise NotAPlan(f"its tables are of version {rows[0]['version']}, and version {read} is read here")
+    lacked = [table for table in TABLES if table not in found]
+    if lacked:
+        raise NotAPlan(f"it is no plan: it has no table {lacked[0]}")
+    return rows[0]
+
+
+def copied(path, copy):
+    """Copies the file and its log where neither changes meanwhile."""
+    for tried in range(TRIES):
+        time.sleep(COARSE * (2**tried - 1))
+        before = stamps(path)
+        if is_fresh(before):
+            time.sleep(COARSE)
+            before = stamps(path)
+        try:
+            for tail in TAILS:
+                take(path + tail, copy + tail)
+        except FileNotFoundError:  # the log went while it was copied
+            if not os.path.exists(path):
+                raise
+            continue
+        if before == stamps(path):
+            return
+    raise Unreadable("it was written to all the while; try again")
+
+
+def take(source, target):
+    """Copies a file that may be missing."""
+    with contextlib.suppress(FileNotFoundError):
+        os.remove(target)
+    if os.path.exists(source):
+        shutil.copyfile(source, target)
+
+
+def stamps(path):
+    """Size, time and place of the file and of what stands beside it."""
+    found = []
+    for tail in TAILS:
+        try:
+            stat = os.stat(path + tail)
+            found.append((tail, stat.st_size, stat.st_mtime_ns, stat.st_ino))
+        except FileNotFoundError:
+            pass
+    return found
+
+
+def is_fresh(found):
+    """Whether the newest change is so young that another one might not show."""
+    return any(0 <= time.time_ns() - changed < COARSE * 1e9 for _, _, changed, _ in found)
