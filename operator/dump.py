@@ -1,0 +1,133 @@
+"""./plan dump: the definitions of a plan, as a job stream that gives them again."""
+
+import argparse
+import re
+import sys
+
+import definitions
+import moments
+import plan_file
+import words
+
+SUMMARY = "the definitions of a plan, as a job stream that gives them again"
+MOST_BYTES = 262_144
+GREATEST_JOB = 999_999_999
+
+
+class NoRoom(Exception):
+    """Its text says what can't be written as statements."""
+
+
+def add_words(parser):
+    parser.description = (
+        "Prints the definitions of PLAN.db as a job stream that gives equal definitions, run over an empty plan. Each "
+        "statement has a job number of its own, counted on from the greatest that the plan has used."
+    )
+    words.add_plan(parser)
+    parser.add_argument("--job", metavar="N", type=job_number, help="the job number of the first statement")
+
+
+def job_number(text):
+    """A job number, for `type=`."""
+    if not re.fullmatch(r"[1-9][0-9]{0,8}", text):
+        raise argparse.ArgumentTypeError(f"{text!r} is no job number, 1 to {GREATEST_JOB}")
+    return int(text)
+
+
+def run(given):
+    with plan_file.opened(given.plan) as plan:
+        try:
+            text = stream_of(plan, given.job)
+        except NoRoom as lacks:
+            words.tell(f"{given.plan}: {lacks}")
+            return 1
+    sys.stdout.write(text)
+    return 0
+
+
+def stream_of(plan, first_job=None):
+    """The stream whose statements give the definitions of the plan."""
+    if first_job is None:
+        (used,) = plan.db.execute("SELECT coalesce(max(number), 0) FROM job").fetchone()
+        first_job = used + 1
+    text, number = ["* The definitions of a plan: run over an empty plan, this stream gives them again.\n"], first_job
+    for kind, title, blocks in kinds_of(plan):
+        text.append(f"\n* {title}\n")
+        for block in blocks:
+            if number > GREATEST_JOB:
+                raise NoRoom(f"no job numbers are left after {GREATEST_JOB}; name a smaller one by --job")
+            text.append(f"define {kind} --job {number}\n{block}/*\n")
+            number += 1
+    return "".join(text)
+
+
+def kinds_of(plan):
+    """Each kind that the plan defines something of: its name, how many names it has in words, and its blocks."""
+    found = definitions.of_plan(plan)
+    for kind, names, records_of in (
+        ("calendars", found.calendars, calendar_records),
+        ("periods", found.periods, period_records),
+        ("applications", found.applications, application_records),
+        ("run-cycles", found.run_cycles, run_cycle_records),
+        ("predecessors", found.predecessors, predecessor_records),
+    ):
+        records = {name: records_of(name, defined) for name, defined in names.items()}
+        if records:
+            yield kind, f"{kind}, of {len(records)} name{'s' if len(records) > 1 else ''}", blocks_of(kind, records)
+    options = f'default_calendar = "{found.default_calendar}"\nmax_extension_hours = {found.max_hours}\n'
+    yield "options", "options", [options]
+
+
+def blocks_of(kind, records):
+    """The records by blocks, so that the records of one name stand in one and none has too many bytes."""
+    blocks, size = [[]], 0
+    for name, lines in records.items():
+        text = "".join(line + "\n" for line in lines)
+        if len(text) > MOST_BYTES:
+            raise NoRoom(f"the {kind} of {name} take {len(text)} bytes, and a block holds at most {MOST_BYTES}")
+        if size + len(text) > MOST_BYTES:
+            blocks.append([])
+            size = 0
+        blocks[-1].append(text)
+        size += len(text)
+    return ["".join(texts) for texts in blocks]
+
+
+# The records of each kind, by name, in the order in which they are printed.
+
+
+def date_text(day):
+    """A day, or nothing where there is none."""
+    return "" if day is None else moments.day_text(day)
+
+
+def calendar_records(name, calendar):
+    entries = [(definitions.WEEKDAYS[day], is_work) for day, is_work in calendar.weekdays.items()]
+    entries += [(moments.day_text(day), is_work) for day, is_work in calendar.dates.items()]
+    return [f"{name},{entry},{'WORK' if is_work else 'FREE'}" for entry, is_work in entries]
+
+
+def period_records(name, period):
+    if period.kind == "N":
+        return [f"{name},N,{moments.day_text(first)},{date_text(end)}" for first, end in period.entries]
+    return [f"{name},{period.kind},{moments.day_text(period.origin)},{period.interval}"]
+
+
+def application_records(name, application):
+    return [f"{name},{'A' if application.is_active else 'P'},{application.calendar or ''}"]
+
+
+def run_cycle_records(app, cycles):
+    return [run_cycle_record(app, cycle) for cycle in cycles.values()]
+
+
+def run_cycle_record(app, cycle):
+    days = [moments.day_text(cycle.in_effect), date_text(cycle.out_effect)]
+    due = ["", ""] if cycle.due is None else [str(cycle.due[0]), moments.minute_text(cycle.due[1])]
+    offsets = " ".join(map(str, cycle.offsets))
+    fields = [app, cycle.name, cycle.kind, cycle.period, cycle.rule, offsets, *days, moments.minute_text(cycle.time), *due]
+    return ",".join(fields)
+
+
+def predecessor_records(app, listed):
+    return [f"{app},{predecessor}" for predecessor in listed]
