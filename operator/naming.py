@@ -164,7 +164,7 @@ def by_raw_days(cycle, period, work, day):
 
 
 def by_offsets(cycle, intervals, count, day):
-    """The offsets that give a day in one of its intervals, or why none does; `count` counts days from one to another."""
+    """The offsets that give a day in one of its intervals, or why none does; `count` counts days between two."""
     hits, reasons = [], []
     for first, last in intervals:
         place = count(first, day)

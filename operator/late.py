@@ -1,0 +1,82 @@
+"""./plan late: what is past its deadline at a moment, and what it waits for."""
+
+import moments
+import page_model
+import plan_file
+import waits
+import words
+
+SUMMARY = "what is past its deadline, and what holds it up"
+
+
+def add_words(parser):
+    parser.description = (
+        "Lists the occurrences of the current plan that are neither complete nor deleted and whose deadline is before "
+        "the moment, the earliest deadline first; of one that waits, the worst of those at which its waiting begins. "
+        "The exit status is 0 where something is late, and 1 where nothing is."
+    )
+    words.add_plan(parser)
+    words.add_now(parser)
+
+
+def run(given):
+    now = moments.now() if given.now is None else given.now
+    with plan_file.opened(given.plan) as plan:
+        rows, pairs = unfinished(plan)
+        notes = notes_on(plan, now)
+    model = page_model.of_rows(rows, pairs, now)
+    late = sorted(model.late(), key=lambda place: (rows[place].deadline, rows[place].ia, rows[place].app))
+    moment = moments.moment_text(now)
+    print("\n".join(late_lines(rows, model, late, moment, now) if late else [f"Nothing is late at {moment}."]))
+    for note in notes:
+        words.tell(note)
+    return 0 if late else 1
+
+
+def unfinished(plan):
+    """The rows of the current plan that are neither complete nor deleted, by input arrival, and their pairs."""
+    rows = waits.rows_of_current(plan, waits.UNFINISHED)
+    cursor = plan.db.cursor()
+    cursor.row_factory = None
+    asked = "SELECT successor, predecessor FROM dependency JOIN cp_row ON serial = successor WHERE instr(?, status)"
+    return rows, cursor.execute(asked, (waits.UNFINISHED,)).fetchall()
+
+
+def notes_on(plan, now):
+    """What is to be said of the moment."""
+    if not plan.is_created:
+        return ["there is no long-term plan yet, and so nothing that could be late"]
+    meta = plan.meta
+    if meta["first_day"] * waits.DAY <= now < (meta["last_day"] + 1) * waits.DAY:
+        return []
+    first, last = moments.day_text(meta["first_day"]), moments.day_text(meta["last_day"])
+    return [f"this is as of {moments.moment_text(now)}, but the plan goes from {first} to {last}; --now names a moment"]
+
+
+def late_lines(rows, model, late, moment, now):
+    """A line for each late row, in columns, and below it what else is to be said."""
+    keys = [rows[place].key for place in late]
+    states = [waits.STATES[model.states[place]] for place in late]
+    lengths = [waits.length_text(now - rows[place].deadline) for place in late]
+    wide, far, long = (max(map(len, texts)) for texts in (keys, states, lengths))
+    lines = [f"{len(late)} {'is' if len(late) == 1 else 'are'} late at {moment}:", ""]
+    for place, key, state, length in zip(late, keys, states, lengths):
+        row = rows[place]
+        due = moments.moment_text(row.deadline)
+        lines.append(f"{key:{wide}}  {state:{far}}  due {due}  late by {length:{long}}  serial {row.serial}")
+        lines += [f"    {text}" for text in (by_hand(row), root_text(rows, model, place)) if text]
+    return lines
+
+
+def by_hand(row):
+    """That a deadline is made up: one added by hand is due a day after it arrives."""
+    return "added by hand, and so due a day after it arrives" if row.cycle is None else ""
+
+
+def root_text(rows, model, place):
+    """The worst of those at which its waiting begins."""
+    root = model.roots.get(place)
+    if root is None:
+        return ""
+    late = " and late" if model.is_late[root] else ""
+    return f"waits for {rows[root].key}, which is {waits.STATES[model.states[root]]}{late}"

@@ -1,0 +1,155 @@
+"""Occurrences of a plan, where they stand, and what they wait for. why, why-day and late stand on it."""
+
+from typing import NamedTuple
+
+import moments
+
+DAY = moments.DAY
+UNFINISHED = "WSE"  # statuses of the current plan that are neither complete nor deleted
+COMPLETE = "CH"
+STATES = {
+    "E": "in error",
+    "S": "started",
+    "R": "ready",
+    "B": "blocked",
+    "F": "its time is to come",
+    "L": "planned",
+    "C": "complete",
+    "H": "complete",
+    "D": "deleted",
+    "o": "deleted",
+    "w": "withdrawn",
+    "p": "deleted",
+}
+
+WHERE = {
+    "L": "stands in the long-term plan",
+    "W": "waits in the current plan",
+    "S": "is started, in the current plan",
+    "E": "ended in error, in the current plan",
+    "C": "is complete, in the current plan",
+    "D": "is deleted, in the current plan",
+    "H": "is complete, in history",
+    "o": "was deleted from the long-term plan by an operator",
+    "w": "was withdrawn from the long-term plan",
+    "p": "was deleted in the current plan by an operator",
+}
+
+
+class Row(NamedTuple):
+    """An occurrence and where it stands: its status in the current plan (W S E C D), L in the long-term plan, H in
+    history, and of the deletions o (by an operator), w (withdrawn) or p (in the current plan)."""
+
+    serial: int
+    app: str
+    ia: int
+    deadline: int
+    cycle: str | None
+    place: str
+
+    @property
+    def key(self):
+        """`APP 2024-01-01 08.00`."""
+        return f"{self.app} {moments.moment_text(self.ia)}"
+
+
+COLUMNS = "serial, app, ia, deadline, run_cycle"
+SETS = (
+    f"SELECT {COLUMNS}, status AS place FROM cp_row",
+    f"SELECT {COLUMNS}, 'L' AS place FROM ltp_row",
+    f"SELECT {COLUMNS}, 'H' AS place FROM history_row",
+    f"SELECT {COLUMNS}, lower(reason) AS place FROM deletion_row",
+)
+
+
+def rows_where(plan, condition, *values):
+    """The rows of all four sets that meet a condition, by input arrival, application and serial."""
+    asked = " UNION ALL ".join(f"{text} WHERE {condition}" for text in SETS)
+    names = {f"v{number}": value for number, value in enumerate(values)}
+    found = plan.db.execute(f"SELECT * FROM ({asked}) ORDER BY ia, app, serial", names).fetchall()
+    return [Row(*row) for row in found]
+
+
+def rows_of_current(plan, statuses):
+    """The rows of the current plan that have one of the statuses, by input arrival, application and serial."""
+    asked = f"{SETS[0]} WHERE instr(?, status) ORDER BY ia, app, serial"
+    return [Row(*row) for row in plan.db.execute(asked, (statuses,))]
+
+
+def rows_of_key(plan, app, ia):
+    """The rows of a key: the live one first, then the others, the latest serial first."""
+    rows = rows_where(plan, "app = :v0 AND ia = :v1", app, ia)
+    return sorted(rows, key=lambda row: (row.place in "Dowp", -row.serial))
+
+
+def rows_of_day(plan, app, day):
+    """The rows of an application that arrive on a day."""
+    return rows_where(plan, "app = :v0 AND ia >= :v1 AND ia < :v2", app, day * DAY, (day + 1) * DAY)
+
+
+def predecessors(plan, serial):
+    """The rows that an occurrence has pairs with, by input arrival and application."""
+    return rows_where(plan, "serial IN (SELECT predecessor FROM dependency WHERE successor = :v0)", serial)
+
+
+def open_predecessors(plan, serial):
+    """Those of its predecessors that aren't complete."""
+    return [row for row in predecessors(plan, serial) if row.place not in COMPLETE]
+
+
+def chain(plan, row):
+    """All that a row waits for: by serial the predecessors that aren't complete, down to rows that wait for none."""
+    waits, left = {}, [row]
+    while left:
+        here = left.pop()
+        if here.serial not in waits:
+            waits[here.serial] = open_predecessors(plan, here.serial) if here.place in "WL" else []
+            left += waits[here.serial]
+    return waits
+
+
+def roots(waits, row):
+    """The rows at the end of a chain: they wait for nothing that isn't complete, and the others wait for them."""
+    found = {other.serial: other for others in waits.values() for other in others if not waits[other.serial]}
+    found.pop(row.serial, None)
+    return sorted(found.values(), key=lambda other: (other.ia, other.app, other.serial))
+
+
+def is_late(row, now):
+    """Late: in the current plan, neither complete nor deleted, and past its deadline."""
+    return row.place in UNFINISHED and row.deadline < now
+
+
+def state(row, is_blocked, now):
+    """How far a row is, as a word of STATES; one that waits is ready, blocked, or its time is to come."""
+    if row.place != "W":
+        return STATES[row.place]
+    return STATES["F" if row.ia > now else "B" if is_blocked else "R"]
+
+
+def length_text(minutes):
+    """`45 min`, `2 h`, `2 h 05 min`, `3 days 4 h`."""
+    days, hours, rest = minutes // DAY, minutes % DAY // 60, minutes % 60
+    if days:
+        return f"{days} day{'s' if days > 1 else ''}" + (f" {hours} h" if hours else "")
+    if hours:
+        return f"{hours} h" + (f" {rest:02} min" if rest else "")
+    return f"{rest} min"
+
+
+def late_text(row, now):
+    """`late by 2 h`, or nothing."""
+    return f"late by {length_text(now - row.deadline)}" if is_late(row, now) else ""
+
+
+def jobs_of_key(plan, app, ia):
+    """The jobs that asked something of one key, by number, refused ones too: (number, statement's name, reply)."""
+    arrival = moments.moment_text(ia).replace(" ", "/")
+    asked = "SELECT number, body, reply FROM job WHERE instr(body, ?1) AND instr(body, ?2) ORDER BY number"
+    found = []
+    for number, body, reply in plan.db.execute(asked, (app.encode(), arrival.encode())):
+        name, *rest = bytes(body).decode("latin-1").replace("=", " ").split(" ")
+        options = {option: value for option, value in zip(rest, rest[1:]) if option.startswith("--")}
+        if name != "define" and (options.get("--app"), options.get("--ia")) == (app, arrival):
+            found.append((number, name, reply))
+    return found

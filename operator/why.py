@@ -1,0 +1,154 @@
+"""./plan why: why an occurrence isn't started, or why it stands where it stands."""
+
+import definitions
+import moments
+import naming
+import plan_file
+import waits
+import why_day
+import words
+
+SUMMARY = "why an occurrence isn't started, or why it stands where it stands"
+MOST_LINES, DEEPEST = 60, 24
+SENTENCES = {
+    "S": "It is started, and not complete yet.",
+    "E": "It ended in error. `cp-reset` lets it wait again, `cp-complete` takes it as done, `cp-delete` gives it up.",
+    "C": "The next daily plan takes it to history.",
+    "D": "An operator deleted it. The next daily plan takes it to the deletions.",
+    "H": "It was complete, and a daily plan took it to history.",
+    "o": "No planning statement makes it again; `ltp-add` or `cp-add` can.",
+    "w": "When the long-term plan was modified, its run cycles named it no more.",
+    "p": "An operator deleted it in the current plan, and a daily plan took it to the deletions.",
+}
+
+
+def add_words(parser):
+    parser.description = (
+        "Tells where an occurrence stands and why. Of one that waits, all that isn't complete of what it waits for is "
+        "shown as a tree, down to those that wait for nothing. The exit status is 1 where it stands nowhere."
+    )
+    words.add_plan(parser)
+    parser.add_argument("app", metavar="APP", type=words.name, help="the application")
+    parser.add_argument("ia", metavar="D/HH.MM", type=words.moment, help="its input arrival, as 2026-11-25/06.00")
+    words.add_now(parser)
+    parser.add_argument("--all", action="store_true", help=f"all lines of the tree, also past {MOST_LINES}")
+
+
+def run(given):
+    now = moments.now() if given.now is None else given.now
+    with plan_file.opened(given.plan) as plan:
+        rows = waits.rows_of_key(plan, given.app, given.ia)
+        lines = row_lines(plan, rows[0], now, given.all) if rows else nowhere_lines(plan, given.app, given.ia)
+        lines += earlier_lines(rows[1:]) + job_lines(plan, given.app, given.ia)
+    print("\n".join(lines))
+    return 0 if rows else 1
+
+
+def row_lines(plan, row, now, all_lines):
+    """Where a row stands, and why."""
+    by = "added by hand" if row.cycle is None else f"by {row.cycle}"
+    due = f"due {moments.moment_text(row.deadline)}" + (", a day after it arrives" if row.cycle is None else "")
+    lines = [f"{row.key} {waits.WHERE[row.place]} (serial {row.serial}, {by}, {due})."]
+    if row.place in "WL":
+        return lines + waiting_lines(plan, row, now, all_lines)
+    lines.append(SENTENCES[row.place])
+    if waits.is_late(row, now):
+        lines.append(f"At {moments.moment_text(now)} it is {waits.late_text(row, now)}.")
+    if row.place == "w":
+        lines += ["", *named_lines(plan, row.app, row.ia)]
+    return lines
+
+
+def waiting_lines(plan, row, now, all_lines):
+    """What an occurrence that isn't started waits for."""
+    waiting = waits.chain(plan, row)
+    count = len(waiting) - 1
+    if row.place == "L":
+        end = moments.moment_text(plan.meta["plan_end"])
+        lines = [f"The current plan ends at {end}; a daily plan that reaches past its arrival takes it."]
+    else:
+        how = STATE_WORDS[waits.state(row, count, now)]
+        late = f", and {waits.late_text(row, now)}" if waits.is_late(row, now) else ""
+        lines = [f"At {moments.moment_text(now)} it {how}{late}."]
+    if not count:
+        done = "all that it waits for is complete" if waits.predecessors(plan, row.serial) else "it waits for no other"
+        return [*lines, f"Nothing is in its way: {done}."]
+    lines.append(f"It waits for {count} that {'is' if count == 1 else 'are'} not complete:")
+    lines += ["", *tree_lines(waiting, row, now, all_lines)]
+    last = waits.roots(waiting, row)
+    if any(other not in waiting[row.serial] for other in last):
+        shown = last if all_lines else last[: MOST_LINES // 3]
+        lines += ["", "Of these, which wait for nothing that isn't complete:", *aligned(shown, waiting, now)]
+        if len(shown) < len(last):
+            lines.append(f"  and {len(last) - len(shown)} more; --all shows them")
+    return lines
+
+
+STATE_WORDS = {
+    "ready": "is ready",
+    "blocked": "is blocked",
+    "its time is to come": "has not arrived yet",
+}
+
+
+def tree_lines(waiting, row, now, all_lines):
+    """What a row waits for, each below what waits for it; what came before is not followed again."""
+    shown, rows, left = set(), [], [(other, 1) for other in reversed(waiting[row.serial])]
+    while left and (all_lines or len(rows) < MOST_LINES):
+        here, depth = left.pop()
+        again = here.serial in shown and bool(waiting[here.serial])
+        rows.append((here, depth, again))
+        if here.serial not in shown:
+            left += [(other, depth + 1) for other in reversed(waiting[here.serial])]
+        shown.add(here.serial)
+    lines = aligned([here for here, _, _ in rows], waiting, now, rows)
+    return lines + (["  and more; --all shows them"] if left else [])
+
+
+def aligned(rows, waiting, now, places=None):
+    """A line for each row, in columns: its key (indented by its depth), how far it is, when it is due, its serial."""
+    places = places or [(row, 1, False) for row in rows]
+    keys = ["  " * min(depth, DEEPEST) + row.key for row, depth, _ in places]
+    states = [waits.state(row, waiting[row.serial], now) for row, _, _ in places]
+    wide, far = max(map(len, keys)), max(map(len, states))
+    lines = []
+    for (row, _, again), key, state in zip(places, keys, states):
+        tail = [f"due {moments.moment_text(row.deadline)}", f"serial {row.serial}", waits.late_text(row, now)]
+        tail.append("as above" if again else "")
+        lines.append(f"{key:{wide}}  {state:{far}}  " + ", ".join(filter(None, tail)))
+    return lines
+
+
+def nowhere_lines(plan, app, ia):
+    """Why an occurrence is in no plan, not in history, and not in the deletions."""
+    lines = [f"{app} {moments.moment_text(ia)} stands nowhere, and never did."]
+    if not plan.is_created:
+        lines.append("There is no long-term plan yet; `ltp-create` makes one.")
+    return lines + named_lines(plan, app, ia)
+
+
+def named_lines(plan, app, ia):
+    """Whether the definitions name an occurrence now, and why it isn't there, or how they don't name it."""
+    defined, (day, time) = definitions.of_plan(plan), divmod(ia, waits.DAY)
+    said = naming.names(defined, app, day)
+    named = [one for one in said.times if one.time == time and not one.excluded_by]
+    if named and said.obstacle is None:
+        reason = why_day.why_missing(plan, app, ia, waits.rows_of_key(plan, app, ia))
+        return [f"By the definitions as they stand now {named[0].cycle.name} names it.", reason]
+    lines = [f"By the definitions as they stand now nothing names it at {moments.minute_text(time)}."]
+    first, last = plan.meta["first_day"], plan.meta["last_day"]
+    if plan.is_created and not first <= day <= last:
+        lines.append(f"The long-term plan goes from {moments.day_text(first)} to {moments.day_text(last)}.")
+    return [*lines, "", *why_day.day_lines(defined, app, day, said)]
+
+
+def earlier_lines(rows):
+    """The other rows of the same key."""
+    told = [f"  serial {row.serial} {waits.WHERE[row.place]}" for row in rows]
+    return ["", "Others of this application and arrival:", *told] if told else []
+
+
+def job_lines(plan, app, ia):
+    """What was asked of the key by its jobs."""
+    told = [f"  job {number}  {name}: {reply}" for number, name, reply in waits.jobs_of_key(plan, app, ia)]
+    return ["", "Jobs that asked something of it:", *told] if told else []
