@@ -1,0 +1,186 @@
+"""./plan what-if: what a stream would change of a plan, tried on a private copy."""
+
+import collections
+import contextlib
+import os
+import re
+import sqlite3
+import subprocess
+import sys
+import tempfile
+
+import definitions
+import moments
+import plan_file
+import waits
+import words
+
+SUMMARY = "what a stream would change of a plan, tried on a private copy"
+TOP = os.path.dirname(os.path.dirname(os.path.abspath(__file__)))
+PROGRAMS = [os.path.join(TOP, "crates", "opcplan", "out", "opcplan"), os.path.join(TOP, "release", "opcplan")]
+KINDS = ["calendars", "periods", "applications", "run_cycles", "predecessors"]
+PLACES = {
+    "L": "long-term plan",
+    "W": "current plan, waiting",
+    "S": "current plan, started",
+    "E": "current plan, in error",
+    "C": "current plan, complete",
+    "D": "current plan, deleted",
+    "H": "history",
+    "o": "deleted by an operator",
+    "w": "withdrawn",
+    "p": "deleted in the current plan",
+}
+FAULTED = 8
+
+
+def add_words(parser):
+    parser.description = (
+        "Runs STREAM over a private copy of PLAN.db, and shows the statements that are refused and what is different "
+        "then: definitions, how far the plans reach, and each occurrence that is new, stands elsewhere or is due "
+        "otherwise. The plan stays as it is. The exit status is 1 where a statement is refused."
+    )
+    words.add_plan(parser)
+    parser.add_argument("stream", metavar="STREAM", help="a file with a job stream, or - for standard input")
+    parser.add_argument("--program", metavar="FILE", help="the planner to try it with (else the one that is built here)")
+
+
+def run(given):
+    program = given.program or next(filter(os.path.exists, PROGRAMS), PROGRAMS[0])
+    try:
+        text = text_of(given.stream)
+        with plan_file.opened(given.plan) as plan, tempfile.TemporaryDirectory(prefix="what-if-") as folder:
+            copy = os.path.join(folder, "plan.db")
+            with contextlib.closing(sqlite3.connect(copy)) as other:
+                plan.db.backup(other)
+            ran = subprocess.run([os.path.abspath(program), "--db", copy], input=text, capture_output=True, check=False)
+            with plan_file.opened(copy) as after:
+                changes = difference(plan, after)
+    except OSError as error:
+        words.tell(f"{error.filename}: {error.strerror}")
+        return 1
+    print("\n".join([*reply_lines(text, ran.stdout.decode("latin-1")), *changes]))
+    sys.stderr.write(ran.stderr.decode(errors="replace"))
+    if ran.returncode >= FAULTED:
+        words.tell(f"the planner ended with status {ran.returncode}; what is shown is what it did before")
+    return 0 if ran.returncode == 0 else 1
+
+
+def text_of(name):
+    if name == "-":
+        return sys.stdin.buffer.read()
+    with open(name, "rb") as file:
+        return file.read()
+
+
+# What was answered.
+
+
+def statements_of(text):
+    """The number and the text of each line that gets an answer: the data behind a `define` belong to it."""
+    found, in_data = [], False
+    for number, line in enumerate(text.split(b"\n"), 1):
+        line = line.removesuffix(b"\r")
+        if in_data:
+            in_data = line != b"/*"
+            continue
+        in_data = re.match(rb"[ \t]*define([ \t]|$)", line[:1024]) is not None
+        is_skipped = len(line) <= 1024 and (not line.strip(b" \t") or line.startswith(b"*"))
+        if in_data or not is_skipped:
+            found.append((number, line.decode("latin-1")))
+    return found
+
+
+def reply_lines(text, output):
+    """How many statements were accepted and refused, and each that was refused."""
+    replies = [line for line in output.splitlines() if line.startswith(("ok ", "refused "))]
+    faults = [line for line in output.splitlines() if line.startswith("fault ")]
+    refused = [(*item, reply) for item, reply in zip(statements_of(text), replies) if reply.startswith("refused ")]
+    lines = [f"{len(replies) - len(refused)} accepted, {len(refused)} refused" + "".join(f", {fault}" for fault in faults)]
+    for number, line, reply in refused:
+        lines.append(f"  line {number}: {reply}: {line[:120]}")
+    return lines
+
+
+# What is different.
+
+
+def difference(before, after):
+    """Definitions, bounds and occurrences that differ between two plans, in lines."""
+    lines = definition_lines(definitions.of_plan(before), definitions.of_plan(after)) + bound_lines(before.meta, after.meta)
+    rows_before, rows_after = ({row.serial: row for row in waits.rows_where(plan, "1")} for plan in (before, after))
+    lines += occurrence_lines(rows_before, rows_after)
+    return lines or ["", "Nothing would be different but the jobs that are kept."]
+
+
+def definition_lines(before, after):
+    """The names whose definitions differ, by kind, and the options."""
+    lines = []
+    for kind in KINDS:
+        held, now = getattr(before, kind), getattr(after, kind)
+        for said, names in (
+            ("new", now.keys() - held.keys()),
+            ("changed", {name for name in held.keys() & now.keys() if held[name] != now[name]}),
+            ("gone", held.keys() - now.keys()),
+        ):
+            if names:
+                lines.append(f"  {kind.replace('_', ' ')} {said}: {', '.join(sorted(names))}")
+    if before.default_calendar != after.default_calendar:
+        lines.append(f"  the default calendar: {before.default_calendar}, then {after.default_calendar}")
+    if before.max_hours != after.max_hours:
+        lines.append(f"  the most hours of one daily plan: {before.max_hours}, then {after.max_hours}")
+    return ["", "Definitions:", *lines] if lines else []
+
+
+def bound_lines(before, after):
+    """How far the plans reach, where that differs."""
+    if not after["created"]:
+        return []
+    lines = []
+    for name, said, text in (
+        ("first_day", "the long-term plan begins on", moments.day_text),
+        ("last_day", "the long-term plan goes to", moments.day_text),
+        ("plan_end", "the current plan ends at", moments.moment_text),
+    ):
+        if not before["created"]:
+            lines.append(f"  {said} {text(after[name])}")
+        elif before[name] != after[name]:
+            lines.append(f"  {said} {text(before[name])}, then {text(after[name])}")
+    return ["", "Plans:", *lines] if lines else []
+
+
+def occurrence_lines(before, after):
+    """How many occurrences come to stand elsewhere, from where to where, and then each of them."""
+    changed = [row for serial, row in after.items() if is_other(before.get(serial), row)]
+    changed.sort(key=lambda row: (row.ia, row.app, row.serial))
+    if not changed:
+        return []
+    counts = collections.Counter((place_of(before.get(row.serial)), place_of(row)) for row in changed)
+    wide = len(f"{len(changed)}")
+    lines = ["", f"Occurrences: {len(changed)}"]
+    for (old, new), count in sorted(counts.items()):
+        lines.append(f"  {count:{wide}}  {f'{old}, due or named otherwise' if old == new else f'{old} -> {new}'}")
+    table = [("serial", "application", "arrives", "before", "then", "due")]
+    table += [occurrence_cells(before.get(row.serial), row) for row in changed]
+    widths = [max(map(len, column)) for column in zip(*table)]
+    for serial, *cells in table:
+        padded = "  ".join(f"{cell:{width}}" for cell, width in zip(cells, widths[1:]))
+        lines.append(f"  {serial:>{widths[0]}}  {padded}".rstrip())
+    return lines[: -len(table)] + [""] + lines[-len(table) :]
+
+
+def is_other(old, new):
+    return old is None or (old.place, old.deadline, old.cycle) != (new.place, new.deadline, new.cycle)
+
+
+def place_of(row):
+    return "new" if row is None else PLACES[row.place]
+
+
+def occurrence_cells(old, new):
+    due = moments.moment_text(new.deadline)
+    if old is not None and old.deadline != new.deadline:
+        due = f"{moments.moment_text(old.deadline)}, then {due}"
+    if old is not None and old.cycle != new.cycle:
+        due += f" (by {old.cycle}, then by {new.cycle})"
+    return str(new.serial), new.app, moments.moment_text(new.ia), place_of(old), place_of(new), due
