@@ -15,8 +15,8 @@ TRIES = 5
 TAILS = ("", "-wal", "-journal")
 # a change that comes this soon after another one may leave the file's time as it was
 COARSE = 0.02
-TABLES = """plan_meta calendar_entry plan_period application run_cycle run_cycle_offset predecessor link_in_force ltp_row
-    cp_row history_row deletion_row dependency job""".split()
+TABLES = """plan_meta calendar_entry plan_period application run_cycle run_cycle_offset predecessor link_in_force
+    ltp_row cp_row history_row deletion_row dependency job""".split()
 
 
 class Unreadable(Exception):
@@ -24,11 +24,12 @@ class Unreadable(Exception):
 
 
 class Plan:
-    """A private copy of a plan."""
+    """A private copy of a plan; `written` is when its file or log was written last, in seconds."""
 
-    def __init__(self, path, db):
+    def __init__(self, path, db, written):
         self.path = path
         self.db = db
+        self.written = written
         self.meta = meta_of(db)
         self.is_created = bool(self.meta["created"])
         self.version = self.meta["version"]
@@ -36,7 +37,7 @@ class Plan:
 
 @contextlib.contextmanager
 def opened(path):
-    """A Plan of the file; the copy is gone when the context ends. Raises Unreadable, also for what is found out later."""
+    """A Plan of the file; its copy goes when the context ends. Raises Unreadable, also for what is found later."""
     path = os.fspath(path)
     if not os.path.exists(path):
         raise Unreadable(f"{path}: there is no such file")
@@ -45,7 +46,7 @@ def opened(path):
     with tempfile.TemporaryDirectory(prefix="plan-") as folder:
         copy = os.path.join(folder, "plan.db")
         try:
-            copied(os.path.realpath(path), copy)
+            written = copied(os.path.realpath(path), copy)
         except OSError as error:
             raise Unreadable(f"{path}: it can't be read: {error.strerror}") from None
         except Unreadable as error:
@@ -55,7 +56,7 @@ def opened(path):
         with contextlib.closing(sqlite3.connect(copy, isolation_level=None)) as db:
             db.row_factory = sqlite3.Row
             try:
-                yield Plan(path, db)
+                yield Plan(path, db, written)
             except NotAPlan as error:
                 raise Unreadable(f"{path}: {error}") from None
             except sqlite3.Error as error:
@@ -84,7 +85,7 @@ def meta_of(db):
 
 
 def copied(path, copy):
-    """Copies the file and its log where neither changes meanwhile."""
+    """Copies the file and its log where neither changes meanwhile, and answers when they were written last."""
     for tried in range(TRIES):
         time.sleep(COARSE * (2**tried - 1))
         before = stamps(path)
@@ -99,7 +100,7 @@ def copied(path, copy):
                 raise
             continue
         if before == stamps(path):
-            return
+            return max(changed for _, _, changed, _ in before) / 1e9
     raise Unreadable("it was written to all the while; try again")
 
 

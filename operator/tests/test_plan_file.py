@@ -120,7 +120,8 @@ class PlanFile(unittest.TestCase):
                 plan.db.execute(f"SELECT * FROM {table}").fetchall()
 
     def test_names_that_mean_something_in_an_address(self):
-        for name in ("a?b.db", "a#b.db", "100%25.db", "two words.db", "?mode=memory", "file:x.db", "-wal", "ümläut.db"):
+        names = "a?b.db", "a#b.db", "100%25.db", "two words.db", "?mode=memory", "file:x.db", "-wal", "ümläut.db"
+        for name in names:
             with self.subTest(name), plan_file.opened(self.plan(name)) as plan:
                 self.assertEqual(plan.path, os.path.join(self.folder, name))
                 self.assertGreater(plan.db.execute("SELECT count(*) FROM ltp_row").fetchone()[0], 0)

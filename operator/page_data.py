@@ -1,0 +1,94 @@
+"""What the page is given: the plan as one value of JSON, in columns of small numbers."""
+
+import os
+import time
+from collections import defaultdict
+
+import moments
+import page_queries
+
+MOST_CHANGES = 5000
+
+
+def packed(rows, pairs, model, apps, cycles):
+    """Columns: input arrivals by what each is past the one before, deadlines from there on, and the pairs as a run of
+    (how far on, how many, how far back each)."""
+    arrivals, before, waits, index = [], 0, defaultdict(list), model.index
+    for row in rows:
+        arrivals.append(row.ia - before)
+        before = row.ia
+    for successor, predecessor in pairs:
+        if predecessor in index:
+            waits[index[successor]].append(index[predecessor])
+    flat, at = [], 0
+    for place in sorted(waits):
+        others = waits[place]
+        flat += [place - at, len(others), *[place - other for other in others]]
+        at = place
+    return {
+        "serial": [row.serial for row in rows],
+        "app": [apps[row.app] for row in rows],
+        "arrival": arrivals,
+        "due": [row.deadline - row.ia for row in rows],
+        "cycle": [-1 if row.cycle is None else cycles[row.cycle] for row in rows],
+        "pairs": flat,
+    }
+
+
+def cycle_words(cycle):
+    """A run cycle, as the page shows it."""
+    days, due = cycle.due or (None, None)
+    return [cycle.name, cycle.kind, cycle.period, cycle.rule, cycle.offsets, cycle.time, days, due,
+            cycle.in_effect, cycle.out_effect]
+
+
+def definition_columns(defined, lists, names, first, last):
+    """Applications with calendar and run cycles, their lists, and each calendar's work days from first to last."""
+    number = {name: place for place, name in enumerate(names)}
+
+    def calendar_of(name):
+        app = defined.applications.get(name)
+        return app.calendar if app and app.calendar else defined.default_calendar
+
+    calendars = sorted({calendar_of(name) for name in names} | {defined.default_calendar})
+    apps, shown = [], []
+    for name in names:
+        app = defined.applications.get(name)
+        cycles = [cycle_words(cycle) for cycle in defined.run_cycles.get(name, {}).values()]
+        apps.append([name, -1 if app is None else int(app.is_active), calendars.index(calendar_of(name)), cycles])
+    for name in calendars:
+        calendar = defined.calendars.get(name)
+        work = (calendar is None or calendar.is_work(day) for day in range(first, last + 1))
+        shown.append([name, calendar is not None, "".join("01"[is_work] for is_work in work)])
+    followed = [[number.get(other, other) for other in lists.get(name, [])] for name in names]
+    return {"apps": apps, "calendars": shown, "lists": followed}
+
+
+def of_model(plan, rows, pairs, model, defined, lists, now, first, last):
+    """All but what is asked of an older copy."""
+    names = sorted(set(defined.applications) | {row.app for row in rows})
+    cycles = sorted({row.cycle for row in rows if row.cycle is not None})
+    meta = plan.meta
+    return {
+        "file": os.path.basename(plan.path), "now": now, "first": first, "last": last,
+        "plan": {"created": plan.is_created, "first": meta["first_day"], "last": meta["last_day"],
+                 "end": meta["plan_end"], "calendar": defined.default_calendar, **page_queries.totals(plan)},
+        **definition_columns(defined, lists, names, first, last),
+        "cycles": cycles,
+        "rows": packed(rows, pairs, model, {name: place for place, name in enumerate(names)},
+                       {name: place for place, name in enumerate(cycles)}),
+        "state": "".join(model.states), "late": model.late(), "risk": model.at_risk,
+        "roots": [place for pair in model.roots.items() for place in pair], "holds": model.holds,
+        "jobs": page_queries.journal(plan), "since": None,
+    }
+
+
+def since(plan, defined, old, old_defined):
+    """What changed since an older copy of the plan."""
+    changes = page_queries.difference(plan, old)
+    changed = time.localtime(old.written)
+    return {
+        "file": os.path.basename(old.path), "kept": time.strftime("%Y-%m-%d %H.%M", changed),
+        "rows": changes[:MOST_CHANGES], "count": len(changes),
+        "definitions": page_queries.redefined(defined, old_defined),
+    }

@@ -1,0 +1,107 @@
+"""What the rows of a plan mean at a moment: states, lateness, roots, what is held up. It knows no SQL and no HTML."""
+
+from collections import defaultdict
+from dataclasses import dataclass, field
+
+OPEN = "WSE"  # places in the current plan that are neither complete nor deleted
+COMPLETE = "CH"
+# what a root is, the worst first
+RANK = {"E": 0, "S": 1, "R": 2, "B": 3, "F": 4}
+MOST_HELD, MOST_HEADS = 5000, 300
+
+
+@dataclass
+class Model:
+    """By place in the list of rows. A state is E in error, S started, R ready, B blocked, F its time is to come,
+    C complete, D deleted, and L, H, o, w, p as a Row's place."""
+
+    index: dict
+    states: list
+    is_late: list
+    waits: dict = field(default_factory=dict)  # what isn't complete of what it waits for
+    behind: dict = field(default_factory=dict)  # what of the current plan waits for it
+    roots: dict = field(default_factory=dict)  # the worst of the rows at whose completion the waiting begins
+    at_risk: list = field(default_factory=list)
+    holds: list = field(default_factory=list)  # a row, how many it holds, how many of these late, the first due
+
+    def late(self):
+        return [place for place, is_late in enumerate(self.is_late) if is_late]
+
+
+def is_late(row, now):
+    """Late: not complete, and past its deadline."""
+    return row.place in OPEN and row.deadline < now
+
+
+def of_rows(rows, pairs, now):
+    """The model of rows, sorted by input arrival, and of their pairs of serials."""
+    index = {row.serial: place for place, row in enumerate(rows)}
+    model = Model(index, [row.place for row in rows], [is_late(row, now) for row in rows])
+    find_waits(model, rows, pairs)
+    for place, row in enumerate(rows):
+        if row.place == "W":
+            model.states[place] = "F" if row.ia > now else "B" if place in model.waits else "R"
+    find_roots(model, rows)
+    model.at_risk = sorted(
+        place for place, root in model.roots.items()
+        if not model.is_late[place] and (model.states[root] == "E" or model.is_late[root])
+    )
+    find_holds(model, rows)
+    return model
+
+
+def find_waits(model, rows, pairs):
+    """What each row of the current plan waits for that isn't complete, and the other way round."""
+    waits, behind, index = defaultdict(list), defaultdict(list), model.index
+    waiting = {row.serial for row in rows if row.place == "W"}
+    not_complete = {row.serial for row in rows if row.place in OPEN}
+    for successor, predecessor in pairs:
+        if successor in waiting and predecessor in not_complete:
+            later, earlier = index[successor], index[predecessor]
+            waits[later].append(earlier)
+            behind[earlier].append(later)
+    model.waits, model.behind = dict(waits), dict(behind)
+
+
+def find_roots(model, rows):
+    """Gives each row that waits the worst of its roots: first those in error, then those late, then by deadline."""
+
+    def rank(place):
+        return RANK[model.states[place]], not model.is_late[place], rows[place].deadline, place
+
+    roots = model.roots
+    left = {place: len(waits) for place, waits in model.waits.items()}
+    done = [place for place in model.behind if place not in model.waits]
+    while done:
+        for later in model.behind.get(done.pop(), ()):
+            left[later] -= 1
+            if not left[later]:
+                found = {roots.get(place, place) for place in model.waits[later]}
+                roots[later] = min(found, key=rank) if len(found) > 1 else found.pop()
+                done.append(later)
+
+
+def reached(start, steps, most):
+    """What is reached from a place by steps, without itself; a little more than the most where there is more."""
+    seen, left = {start}, [start]
+    while left and len(seen) <= most:
+        for place in steps.get(left.pop(), ()):
+            if place not in seen:
+                seen.add(place)
+                left.append(place)
+    seen.discard(start)
+    return seen
+
+
+def find_holds(model, rows):
+    """The rows that wait for nothing and hold others up, or are in error or late: what is to be mended first."""
+    states = model.states
+    heads = [place for place in range(len(rows)) if place not in model.waits and (
+        states[place] == "E" or states[place] in "SR" and (model.is_late[place] or place in model.behind))]
+    heads.sort(key=lambda place: (states[place] != "E", not model.is_late[place], rows[place].deadline, place))
+    for place in heads[:MOST_HEADS]:
+        held = reached(place, model.behind, MOST_HELD)
+        late = sum(model.is_late[other] for other in held)
+        first = min(held, key=lambda other: (rows[other].deadline, other)) if held else -1
+        model.holds.append((place, len(held), late, first))
+    model.holds.sort(key=lambda one: (states[one[0]] != "E", -one[2], -one[1], rows[one[0]].deadline))

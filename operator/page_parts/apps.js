@@ -1,0 +1,47 @@
+// The card of an application.
+
+function cycleLine([title, kind, period, rule, offsets, time, days, minute, inEffect, outEffect]) {
+  const numbers = offsets.slice(0, 12).join(' ') + (offsets.length > 12 ? ' …' : '');
+  const later = days ? ' ' + many(days, 'day') + ' later' : '';
+  const deadline = minute === null ? '' : ', due ' + clock(minute) + later;
+  const effect = (inEffect * DAY > D.now ? ', from ' + dayName(inEffect * DAY) : '') +
+    (outEffect === null ? '' : ', until before ' + dayName(outEffect * DAY));
+  const which = (kind === 'X' ? ' takes away ' : ' ') + period + ' ' + numbers;
+  const text = which + ' at ' + clock(time) + deadline + effect;
+  return h('p', { class: 'cycle' }, h('b', {}, title), text, h('span', { class: 'quiet' }, '; ' + RULES[rule]));
+}
+
+/** An application in a list: a button where it is defined or has rows. */
+function appLink(other) {
+  if (typeof other === 'string') return h('span', {}, other + ' (not defined) ');
+  return h('button', { class: 'in', on: () => showApp(other) }, D.apps[other][0]);
+}
+
+function part(title, rows) {
+  if (!rows.length) return '';
+  const more = rows.length > 20 ? h('li', { class: 'quiet' }, 'and ' + (rows.length - 20) + ' more') : '';
+  return [h('h3', {}, title),
+    h('ul', { class: 'tree' }, rows.slice(0, 20).map(i => h('li', {}, link(i, ', due ' + at(due[i])))), more)];
+}
+
+function showApp(k) {
+  const [title, active, calendar, cycles] = D.apps[k], rows = perApp.get(k) || [];
+  const status = active === 1 ? 'active' : active === 0 ? 'pending' : 'no longer defined';
+  const followers = D.apps.map((_, other) => other).filter(other => D.lists[other].includes(k));
+  const isDefined = D.calendars[calendar][1] ? '' : ' (not defined)';
+  document.body.classList.add('chosen');
+  $('#card').classList.remove('idle');
+  $('#card').scrollTop = 0;
+  const isInCard = $('#card').contains(document.activeElement);
+  fill('#card', close(), h('h2', {}, title),
+    h('p', { class: 'quiet' }, status + ', calendar ' + D.calendars[calendar][0] + isDefined),
+    part('Not complete', rows.filter(isOpen)),
+    part('Next', rows.filter(i => state(i) === 'L' && ia[i] >= D.now).slice(0, 8)),
+    part('Last', rows.filter(i => 'CH'.includes(state(i))).slice(-5).reverse()),
+    part('Deleted or withdrawn', rows.filter(isGone)),
+    h('h3', {}, 'Run cycles'), cycles.length ? cycles.map(cycleLine) : h('p', { class: 'quiet' }, 'none'),
+    D.lists[k].length ? [h('h3', {}, 'Waits for'), h('p', { class: 'apps' }, D.lists[k].map(appLink))] : '',
+    followers.length ? [h('h3', {}, 'Waits for it'), h('p', { class: 'apps' }, followers.map(appLink))] : '');
+  if (isInCard) $('#card').focus({ preventScroll: true });
+  say(title + ', ' + status);
+}

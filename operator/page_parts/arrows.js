@@ -1,0 +1,66 @@
+// The arrows of the day, in one picture over its rows: all faintly, those of a row that is looked at strongly.
+const MOST_ARROWS = 400;
+const laid = { box: null, lineOf: new Map(), buttons: new Map(), picked: null };
+
+/** Lays the picture over the rows, with the line of now. */
+function layArrows(box, drawn) {
+  Object.assign(laid, { box, lineOf: new Map(), buttons: new Map(), picked: s('g', { class: 'pairs' }) });
+  drawn.forEach((line, n) => { if (typeof line === 'number') laid.lineOf.set(line, n); });
+  box.querySelectorAll('.row[data-i]').forEach(button => laid.buttons.set(+button.dataset.i, button));
+  const isNow = D.now >= view.from && D.now < view.from + DAY, x = share(D.now) + '%';
+  box.append(h('li', { class: 'overlay', 'aria-hidden': 'true' }, s('svg', {},
+    s('g', { class: 'pairs all' }, allArrows()), laid.picked,
+    isNow ? s('line', { class: 'now', x1: x, x2: x, y1: '0', y2: '100%' }) : '')));
+}
+
+function allArrows() {
+  const pairs = [];
+  if (!view.arrows) return pairs;
+  for (const successor of laid.lineOf.keys()) {
+    for (const row of before.get(successor) || []) if (laid.lineOf.has(row)) pairs.push([row, successor]);
+  }
+  return pairs.length <= MOST_ARROWS ? pairs.map(([row, successor]) => arrow(row, successor)) : [];
+}
+
+/** An elbow from the left edge of one box to that of another; lines are counted in heights of a row. */
+function arrow(row, successor, look) {
+  const down = laid.lineOf.get(successor) > laid.lineOf.get(row) ? 1 : -1;
+  const from = Math.max(share(ia[row]), 0) + '%', to = Math.max(share(ia[successor]), share(ia[row]) + .9, .9) + '%';
+  const top = laid.lineOf.get(row) + .5 + .3 * down + 'em', foot = laid.lineOf.get(successor) + .5 + 'em';
+  return s('g', { class: look },
+    s('line', { x1: from, x2: from, y1: top, y2: foot }),
+    s('line', { x1: from, x2: to, y1: foot, y2: foot }),
+    s('svg', { x: to, y: foot, class: 'head' }, s('path', { d: 'M0 0l-6 -3.5v7z' })));
+}
+
+/** Shows the arrows of a row, and marks the rows of its chain. */
+function showArrows(i) {
+  for (const button of laid.buttons.values()) button.classList.remove('on', 'up', 'down');
+  laid.picked.replaceChildren();
+  if (i < 0 || !laid.buttons.has(i)) return;
+  const up = walk(i, before), down = walk(i, after), chain = new Set([i, ...up, ...down]);
+  laid.buttons.get(i).classList.add('on');
+  for (const row of up) laid.buttons.get(row)?.classList.add('up');
+  for (const row of down) laid.buttons.get(row)?.classList.add('down');
+  const drawn = [];
+  for (const successor of chain) {
+    for (const row of before.get(successor) || []) {
+      if (!chain.has(row) || !laid.lineOf.has(row) || !laid.lineOf.has(successor)) continue;
+      if (drawn.length < MOST_ARROWS) drawn.push([row, successor, row === i || successor === i ? 'own' : 'far']);
+    }
+  }
+  drawn.sort((a, b) => (a[2] === 'own') - (b[2] === 'own'));
+  laid.picked.replaceChildren(...drawn.map(one => arrow(...one)));
+}
+
+/** The chosen row's chain stands out, and the other rows are dimmed. */
+function markChosen() {
+  const isThere = view.pick >= 0 && laid.buttons.has(view.pick);
+  laid.box.classList.toggle('dim', isThere);
+  if (isThere) {
+    laid.box.querySelector('.row[tabindex="0"]')?.setAttribute('tabindex', '-1');
+    laid.buttons.get(view.pick).setAttribute('tabindex', '0');
+  }
+  laid.buttons.forEach((button, i) => button.setAttribute('aria-pressed', String(i === view.pick)));
+  showArrows(view.pick);
+}

@@ -1,0 +1,104 @@
+// The card: one occurrence or one application.
+const RULES = { E: 'work days are counted alone', 1: 'a free day goes to the work day before',
+  2: 'a free day goes to the work day after', 3: 'free days too', 4: 'not on free days' };
+const MOST_IN_TREE = 80;
+
+/** A row as a button that chooses it. */
+function link(i, more, isDue) {
+  const text = isDue ? late.has(i) ? lateness(i) : 'due ' + at(due[i]) : at(ia[i]);
+  return h('button', { 'data-i': i, title: times(i), on: () => choose(i) }, badge(i), h('span', {}, name(i)),
+    h('small', { class: isDue ? tone(i) : '' }, text + (more || '')));
+}
+
+/** What is reached from a row and isn't complete, as a tree; what stood above isn't opened again. */
+function tree(i, steps, seen, left) {
+  const rows = (steps.get(i) || []).filter(isOpen);
+  if (!rows.length) return null;
+  return h('ul', { class: 'tree' }, rows.map(k => {
+    if (left.rows-- <= 0) return left.rows === -1 ? h('li', { class: 'quiet' }, 'and further ones') : null;
+    const isAbove = seen.has(k), day = Math.abs(ia[k] - ia[i]) <= DAY / 2 ? '' : ', of ' + dayName(ia[k]);
+    seen.add(k);
+    return h('li', {}, link(k, day + (isAbove ? ', above' : ''), true), isAbove ? '' : tree(k, steps, seen, left));
+  }));
+}
+
+const links = (title, rows, most, text) => rows.length
+  ? h('details', {}, h('summary', { class: 'quiet' }, rows.length + ' ' + title),
+    h('ul', { class: 'tree' }, rows.slice(0, most).map(i => h('li', {}, link(i, text ? text(i) : '')))))
+  : '';
+
+/** Where a predecessor of the same day arrives later than the row: it goes by the one before, and that may surprise. */
+function goesByEarlier(i) {
+  return (before.get(i) || []).map(k => {
+    const next = perApp.get(app(k)).find(j => ia[j] > ia[i] && !isGone(j));
+    const isSurprise = dayOf(ia[k]) < dayOf(ia[i]) && next !== undefined && dayOf(ia[next]) === dayOf(ia[i]);
+    if (!isSurprise || app(k) === app(i)) return '';
+    return h('p', { class: 'quiet' }, 'It goes by ' + name(k) + ' of ' + dayName(ia[k]) + ': that of ' +
+      dayName(ia[next]) + ' arrives later than this, at ' + clock(ia[next]) + '.');
+  }).filter(Boolean).slice(0, 4);
+}
+
+const pair = (term, ...text) => [h('dt', {}, term), h('dd', {}, text)];
+const close = () => tool('close', 'Close', () => choose(-1), { class: 'shut', 'aria-label': 'Close (Escape)' });
+
+function dueNote(i) {
+  if (due[i] < ia[i]) return ' (before it arrives)';
+  return byHand(i) ? ' (a day after it arrives, as for all that are added by hand)' : '';
+}
+
+function drawCard(i) {
+  const done = (before.get(i) || []).filter(k => !isOpen(k)), next = (after.get(i) || []).filter(k => !isOpen(k));
+  const more = late.has(i) ? ', ' + lateness(i) : risk.has(i) ? ', at risk' : '';
+  const [first, ...others] = why(i), reason = asNodes([capital(first), ...others]);
+  fill('#card', close(), h('h2', {}, badge(i), h('span', {}, name(i))),
+    h('p', { class: tone(i) }, capital(WORD[state(i)]) + more),
+    'BFR'.includes(state(i)) ? h('p', {}, reason, '.') : '',
+    h('dl', {}, pair('Arrives', dayName(ia[i]) + ' ' + clock(ia[i])),
+      pair('Due', dayName(due[i]) + ' ' + clock(due[i]), dueNote(i)),
+      pair('Run cycle', byHand(i) ? 'added by hand' : D.cycles[D.rows.cycle[i]]),
+      pair('Serial', String(D.rows.serial[i])),
+      pair('In a stream', h('code', {}, '--app ' + name(i)), ' ',
+        h('code', {}, '--ia ' + isoDay(dayOf(ia[i])) + '/' + clock(ia[i])))),
+    h('h3', {}, 'Waits for'), tree(i, before, new Set([i]), { rows: MOST_IN_TREE }) ||
+      h('p', { class: 'quiet' }, done.length ? 'nothing that isn’t complete' : 'nothing'),
+    links('complete', done, 100), goesByEarlier(i),
+    h('h3', {}, 'Waits for it'), tree(i, after, new Set([i]), { rows: MOST_IN_TREE }) ||
+      h('p', { class: 'quiet' }, 'nothing in the current plan'),
+    links('planned or complete', next, 100),
+    h('p', { class: 'foot' }, h('button', { class: 'in', on: () => showApp(app(i)) }, 'All of ' + name(i))));
+}
+
+const SIGNS = [['E', 'in error'], ['S', 'started'], ['R', 'ready: arrived, nothing in its way'],
+  ['B', 'blocked by what it waits for'], ['F', 'its time is to come'], ['C', 'complete'],
+  ['L', 'planned, not yet in the current plan'], ['D', 'deleted or withdrawn']];
+const KEYS = [['/', 'find an application'], ['↑ ↓', 'rows of the day, cells of the month'],
+  ['← →', 'twelve hours back or on'], ['n', 'now'], ['t', 'next in trouble'],
+  ['Enter', 'choose; once more: its card'], ['Esc', 'close']];
+
+function drawLegend() {
+  fill('#card', h('h2', {}, 'Choose a row'),
+    h('p', { class: 'quiet' }, 'It then shows what it waits for, down to the root, and what waits for it.'),
+    h('h3', {}, 'Signs'), h('ul', { class: 'signs' }, SIGNS.map(([key, text]) =>
+      h('li', {}, h('span', { class: 'b ' + key, 'aria-hidden': 'true' }, LETTER[key] || key), text))),
+    h('p', { class: 'quiet' }, 'A box goes from input arrival to deadline; a line after it tells how long it is late.'),
+    h('h3', {}, 'Keys'), h('ul', { class: 'signs' }, KEYS.map(([key, text]) => h('li', {}, h('kbd', {}, key), text))));
+}
+
+/** Chooses a row, or none. */
+function choose(i, isQuiet) {
+  const old = view.pick;
+  view.pick = i;
+  if (i < 0 && view.kind === 'chain') view.kind = 'open';
+  if (i >= 0 && (ia[i] >= view.from + DAY || lastShown(i) <= view.from)) view.from = dayOf(ia[i]) * DAY;
+  if (!isQuiet) history.replaceState(null, '', i >= 0 ? '#o' + D.rows.serial[i] : '#');
+  document.body.classList.toggle('chosen', i >= 0);
+  $('#card').classList.toggle('idle', i < 0);
+  $('#card').scrollTop = 0;
+  const isInCard = $('#card').contains(document.activeElement);
+  if (i < 0) drawLegend(); else drawCard(i);
+  keepFocus(drawDay);
+  if (isInCard && i >= 0) $('#card').focus({ preventScroll: true });
+  if (isInCard && i < 0) (laid.buttons.get(old) || $('.row'))?.focus();
+  document.querySelectorAll('.go').forEach(x => x.setAttribute('aria-current', String(+x.dataset.i === i)));
+  if (i >= 0) say(name(i) + ': ' + asText(why(i)));
+}

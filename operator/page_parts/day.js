@@ -1,0 +1,161 @@
+// The day: a row an occurrence in the order of arrival, a box from input arrival to deadline.
+const TILE_NAMES = { error: 'In error', late: 'Late', risk: 'At risk', hour: 'Due in the hour', started: 'Started',
+  ready: 'Ready' };
+
+/** Where a moment stands in the window, in hundredths; a little outside where it is outside. */
+const share = minute => Math.min(Math.max(100 * (minute - view.from) / DAY, -1), 101);
+
+/** The rows that the filter takes, and how many each filter of the window would. */
+function rowsOfDay() {
+  const to = view.from + DAY, chain = view.pick >= 0 ? chainOf(view.pick) : new Set();
+  const counts = { all: 0, open: 0, trouble: 0, chain: 0 }, rows = [], ofTile = OF_TILES.includes(view.kind);
+  for (let i = 0; i < rowCount; i++) {
+    if (!matches(name(i))) continue;
+    if (ofTile && KINDS[view.kind](i)) rows.push(i);
+    if (ia[i] >= to || lastShown(i) <= view.from) continue;
+    for (const kind in counts) {
+      if (kind === 'chain' ? !chain.has(i) : !KINDS[kind](i)) continue;
+      counts[kind]++;
+      if (kind === view.kind) rows.push(i);
+    }
+  }
+  if (ofTile) counts[view.kind] = rows.length;
+  return { rows, counts };
+}
+
+/** Runs what draws anew, and gives the focus back to what it was on. */
+function keepFocus(draw) {
+  const old = document.activeElement, { key, i } = old?.dataset || {};
+  draw();
+  if (!old || old.isConnected) return;
+  const same = key ? '[data-key="' + CSS.escape(key) + '"]' : i ? '.row[data-i="' + i + '"]' : '';
+  if (same) $(same)?.focus({ preventScroll: true });
+}
+
+function tool(key, text, on, more) {
+  return h('button', { 'data-key': key, on, ...more }, text);
+}
+
+/** A button that does nothing while it is off, and keeps the focus. */
+function step(key, text, label, on, isOff) {
+  return tool(key, text, isOff ? undefined : on, { 'aria-label': label, 'aria-disabled': isOff ? 'true' : undefined });
+}
+
+function drawDayTools(counts) {
+  const from = view.from, to = from + DAY, isNow = D.now >= from && D.now < to;
+  const kind = (key, text) =>
+    tool('kind ' + key, text + ' ' + counts[key], () => showKind(key), { 'aria-pressed': String(view.kind === key) });
+  const middle = isoDay(dayOf(from + DAY / 2));
+  const goTo = h('input', { type: 'date', 'aria-label': 'Go to a day', 'data-key': 'go to', value: middle });
+  goTo.addEventListener('change', () => {
+    if (goTo.value) showFrom(Date.parse(goTo.value + 'T00:00Z') / 60000);
+  });
+  const isFirst = from <= D.plan.first * DAY, isLast = to >= (D.plan.last + 1) * DAY;
+  fill('#daytools',
+    h('span', { class: 'set' },
+      step('back', '◂ 12 h', 'Twelve hours back', () => showFrom(view.from - DAY / 2), isFirst),
+      tool('now', 'Now', showNow, { 'aria-pressed': String(isNow) }),
+      step('on', '12 h ▸', 'Twelve hours on', () => showFrom(view.from + DAY / 2), isLast)),
+    h('b', {}, dayName(from) + ' ' + clock(from) + ' to ' + dayName(to) + ' ' + clock(to)), goTo,
+    h('span', { class: 'break' }),
+    h('span', { class: 'set' }, kind('open', 'Not complete'), kind('trouble', 'Trouble'), kind('all', 'All'),
+      view.pick >= 0 ? kind('chain', 'Its chain') : '',
+      view.kind in TILE_NAMES ? kind(view.kind, TILE_NAMES[view.kind]) : ''),
+    h('span', { class: 'set' }, tool('arrows', 'Arrows', () => {
+      view.arrows = !view.arrows;
+      keepFocus(drawDay);
+    }, { 'aria-pressed': String(view.arrows) })));
+}
+
+const isoDay = day => dateOf(day * DAY).toISOString().slice(0, 10);
+
+function axis() {
+  const from = view.from, to = from + DAY, isNow = D.now >= from && D.now < to, isNarrow = innerWidth < 700;
+  const stretch = isNarrow ? 240 : 120, marks = [];
+  for (let m = Math.ceil((from + 1) / stretch) * stretch; m < to - 30; m += stretch) {
+    const isNear = isNow && Math.abs(m - D.now) < (isNarrow ? 190 : m % DAY ? 50 : 70);
+    if (!isNear && m > from + 30) {
+      const [look, text] = m % DAY ? ['', clock(m)] : ['day', dayName(m)];
+      marks.push(h('span', { css: 'left:' + share(m) + '%', class: look }, text));
+    }
+  }
+  if (isNow) marks.push(h('span', { class: 'at', css: 'left:' + share(D.now) + '%' }, clock(D.now)));
+  return h('div', { class: 'axis', 'aria-hidden': 'true' }, h('div', {}, marks));
+}
+
+/** What stands beside a row's box. */
+function remark(i) {
+  const early = due[i] < ia[i] ? 'due before it arrives' : '';
+  if (late.has(i)) return lateness(i) + (early && ', ' + early);
+  if (state(i) === 'E') return 'in error';
+  if (risk.has(i)) return 'at risk';
+  if (early) return early;
+  if (ia[i] >= view.from + DAY || due[i] < view.from) return times(i);
+  return due[i] > view.from + DAY ? 'due ' + at(due[i]) : '';
+}
+
+/** A row's picture: its box, a line from the deadline to now where it is late, and a remark. */
+function track(i) {
+  const left = share(ia[i]), right = Math.max(share(due[i]), left + .35), isThin = 'CH'.includes(state(i));
+  const tail = late.has(i) ? Math.max(share(D.now), right) : right, text = remark(i);
+  const where = tail < 84 ? { x: Math.max(tail, 0) + '%', dx: 5 }
+    : left > 16 ? { x: Math.min(left, 100) + '%', dx: -5, 'text-anchor': 'end' }
+      : { x: '100%', dx: -5, 'text-anchor': 'end' };
+  return s('svg', { class: 'track', 'aria-hidden': 'true' },
+    s('rect', { class: 'k ' + state(i), x: left + '%', width: right - left + '%', rx: 3, y: isThin ? '34%' : '20%',
+      height: isThin ? '32%' : '60%' }, s('title', {}, times(i))),
+    tail > right
+      ? s('line', { class: 'over', x1: Math.max(right, 0) + '%', x2: tail + '%', y1: '50%', y2: '50%' }) : '',
+    text ? s('text', { class: 'remark ' + (tone(i) || (risk.has(i) ? 'is-late' : '')), y: '50%',
+      'dominant-baseline': 'central', ...where }, text) : '');
+}
+
+function dayRow(i, n) {
+  const more = late.has(i) ? ', ' + lateness(i) : risk.has(i) ? ', at risk' : '';
+  const since = ia[i] < view.from ? '◂ ' + dateOf(ia[i]).getUTCDate() + '.' : '';
+  return h('li', {}, h('button', { class: 'row', 'data-i': i, tabindex: n ? -1 : 0,
+    'aria-label': name(i) + ', ' + asText(why(i)) + ', due ' + at(due[i]) + more },
+  h('span', { class: 'lab' }, badge(i), h('span', { class: 'name ' + tone(i) }, name(i)),
+    since && h('em', { title: 'arrived ' + at(ia[i]) }, since)),
+  track(i)));
+}
+
+function nothing(counts) {
+  if (view.find) return 'No application with “' + view.find + '” here.';
+  if (view.kind === 'all') return 'Nothing arrives or is due in these hours.';
+  return 'Nothing of this kind in these hours; “All” shows ' + counts.all + '.';
+}
+
+function drawDay() {
+  const { rows, counts } = rowsOfDay(), lines = linesOf(rows), drawn = lines.slice(0, view.most);
+  drawDayTools(counts);
+  const box = h('ol', { class: 'rows' },
+    drawn.map((line, n) => typeof line === 'number' ? dayRow(line, n) : groupRow(line, n)));
+  const pane = h('div', { class: 'pane' }, axis(), box);
+  if (!rows.length) pane.append(h('p', { class: 'empty' }, nothing(counts)));
+  if (lines.length > drawn.length) {
+    const text = 'Show 400 more of ' + lines.length;
+    pane.append(tool('more', text, () => { view.most += 400; keepFocus(drawDay); }, { class: 'more' }));
+  }
+  fill('#lines', pane);
+  layArrows(box, drawn);
+  markChosen();
+}
+
+function showFrom(minute) {
+  view.from = minute;
+  view.most = 400;
+  keepFocus(drawDay);
+}
+
+function showKind(kind) {
+  view.kind = kind;
+  view.most = 400;
+  if (OF_TILES.includes(kind)) view.from = nowWindow();
+  keepFocus(drawDay);
+}
+
+function showNow() {
+  if (view.kind === 'chain' || OF_TILES.includes(view.kind)) view.kind = 'open';
+  showFrom(nowWindow());
+}

@@ -1,0 +1,134 @@
+// The top of the page, the search, the keys, and the start.
+
+function drawTop() {
+  const { first, last, created } = D.plan, date = day => dayName(day * DAY).slice(4);
+  $('#file').textContent = D.file;
+  fill('#asof', 'as of ', h('b', {}, dayName(D.now) + ' ' + year(D.now) + ' ' + clock(D.now)),
+    created ? ' · planned ' + date(first) + ' to ' + date(last) : '');
+  const isPast = created && !D.note && D.plan.end <= D.now;
+  const notes = [D.note, isPast ? 'The current plan ended ' + at(D.plan.end) +
+    ': what arrives since then isn’t in it until dp-extend.' : ''].filter(Boolean);
+  $('#note').hidden = !notes.length;
+  $('#note').textContent = notes.join(' ');
+  if (D.apps.length <= 2000) $('#names').append(...D.apps.map(one => h('option', { value: one[0] })));
+  if (!created) for (const part of ['#due', '#holds', '#next', '#day']) $(part).hidden = true;
+}
+
+/** Says how old the page is, by the viewer's clock; it stands at its moment and doesn't go on. */
+function tellAge() {
+  const t = new Date();
+  const here = Date.UTC(t.getFullYear(), t.getMonth(), t.getDate(), t.getHours(), t.getMinutes()) / 60000;
+  const age = Math.round(here - D.made);
+  $('#stale').hidden = D.sample || age < 5;
+  $('#stale').textContent = 'This page is ' + length(Math.max(age, 0)) + ' old: make it anew.';
+}
+
+let waiting_ = 0;
+function find() {
+  clearTimeout(waiting_);
+  waiting_ = setTimeout(() => {
+    const was = view.find;
+    view.find = $('#find').value.trim().toUpperCase();
+    if (view.find && !was) Object.assign(view, { kept: view.kind, kind: 'all' });
+    else if (!view.find && was) view.kind = view.kept;
+    view.most = 400;
+    drawNow();
+    drawDay();
+    drawMonth();
+    say(many(D.apps.filter(one => matches(one[0])).length, 'application'));
+  }, 120);
+}
+
+/** Opens the application that the search names or begins. */
+function openFound() {
+  const text = $('#find').value.trim().toUpperCase();
+  const of = test => text ? D.apps.findIndex(test) : -1;
+  const found = [of(one => one[0] === text), of(one => one[0].startsWith(text)), of(one => one[0].includes(text))]
+    .find(k => k >= 0);
+  if (found === undefined) return;
+  showApp(found);
+  $('#card').focus();
+}
+
+function nextTrouble() {
+  const rows = Array.from({ length: rowCount }, (_, i) => i).filter(isTrouble);
+  if (!rows.length) return say('Nothing is in trouble.');
+  view.kind = 'trouble';
+  choose(rows[(rows.indexOf(view.pick) + 1) % rows.length]);
+  laid.buttons.get(view.pick)?.focus();
+}
+
+function inField(event) {
+  if (event.key === 'Enter' && event.target.id === 'find') openFound();
+  if (event.key === 'Escape' && event.target.value && event.target.id === 'find') {
+    event.target.value = '';
+    find();
+  } else if (event.key === 'Escape') event.target.blur();
+}
+
+const STEPS = { ArrowDown: [0, 1], ArrowUp: [0, -1], ArrowRight: [1, 0], ArrowLeft: [-1, 0], Home: [-99, 0],
+  End: [99, 0] };
+
+/** Moves the one tab stop of a list or a table. */
+function moveStop(from, to) {
+  if (!to?.matches('.row, td[data-d]')) return;
+  from.tabIndex = -1;
+  to.tabIndex = 0;
+  to.focus();
+}
+
+function onKey(event) {
+  if (event.ctrlKey || event.metaKey || event.altKey) return;
+  if (event.target.matches('input, select')) return inField(event);
+  const cell = event.target.closest?.('td[data-d]'), row = event.target.closest?.('.row'), step = STEPS[event.key];
+  const done = act => { event.preventDefault(); act(); };
+  if (event.key === 'Escape') return choose(-1);
+  if (cell && step) return done(() => moveStop(cell, nextCell(cell, step)));
+  if (cell && (event.key === 'Enter' || event.key === ' ')) return done(() => chooseCell(cell));
+  if (row && step?.[1]) {
+    const rows = [...document.querySelectorAll('.row')];
+    return done(() => moveStop(row, rows[rows.indexOf(row) + step[1]]));
+  }
+  if (row && event.key === 'Enter' && +row.dataset.i === view.pick) return done(() => $('#card').focus());
+  if (Math.abs(step?.[0]) === 1) return done(() => showFrom(view.from + step[0] * DAY / 2));
+  if (event.key === '/') return done(() => { $('#find').focus(); $('#find').select(); });
+  if (event.key === 'n') showNow();
+  if (event.key === 't') nextTrouble();
+}
+
+/** The pointer and the focus show a row's arrows, a click chooses it. */
+function listen() {
+  const rowOf = event => event.target.closest?.('.row[data-i]');
+  const look = event => { const row = rowOf(event); showArrows(row ? +row.dataset.i : view.pick); };
+  $('#lines').addEventListener('click', event => { const row = rowOf(event); if (row) choose(+row.dataset.i); });
+  $('#lines').addEventListener('mouseover', look);
+  $('#lines').addEventListener('mouseleave', () => showArrows(view.pick));
+  $('#lines').addEventListener('focusin', event => { if (rowOf(event)?.matches(':focus-visible')) look(event); });
+  $('#grid').addEventListener('click', event => {
+    const cell = event.target.closest('td[data-d]');
+    if (cell) chooseCell(cell);
+  });
+  $('#find').addEventListener('input', find);
+  addEventListener('keydown', onKey);
+  addEventListener('resize', fit);
+  addEventListener('beforeprint', () => {
+    document.querySelectorAll('#due .more, #holds .more').forEach(button => button.click());
+    document.querySelectorAll('#due details').forEach(one => { one.open = true; });
+  });
+}
+
+function fit() {
+  const height = innerWidth > 760 ? $('header').offsetHeight : 0;
+  document.documentElement.style.setProperty('--top', height + 'px');
+}
+
+drawTop();
+tellAge();
+setInterval(tellAge, 30000);
+drawNow();
+drawDay();
+drawMonth();
+drawChanges();
+listen();
+fit();
+choose(bySerial.get(+(location.hash.match(/^#o(\d+)$/) || [])[1]) ?? -1, true);

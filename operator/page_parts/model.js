@@ -1,0 +1,88 @@
+'use strict';
+// The plan as columns of rows, which are named by their place, and what waits for what.
+const D = JSON.parse(document.getElementById('data').textContent);
+const DAY = 1440;
+const rowCount = D.rows.serial.length;
+const ia = new Int32Array(rowCount), due = new Int32Array(rowCount);
+const late = new Set(D.late), risk = new Set(D.risk), rootOf = new Map(), bySerial = new Map();
+const before = new Map(), after = new Map();
+const perApp = new Map();
+
+function put(map, key, value) {
+  const list = map.get(key);
+  if (list) list.push(value); else map.set(key, [value]);
+}
+
+function unpack() {
+  for (let i = 0, at = 0; i < rowCount; i++) {
+    ia[i] = at += D.rows.arrival[i];
+    due[i] = at + D.rows.due[i];
+    bySerial.set(D.rows.serial[i], i);
+    put(perApp, D.rows.app[i], i);
+  }
+  const flat = D.rows.pairs;
+  for (let k = 0, row = 0; k < flat.length;) {
+    row += flat[k++];
+    for (let left = flat[k++]; left--;) {
+      const other = row - flat[k++];
+      put(before, row, other);
+      put(after, other, row);
+    }
+  }
+  for (let k = 0; k < D.roots.length; k += 2) rootOf.set(D.roots[k], D.roots[k + 1]);
+}
+unpack();
+
+const app = i => D.rows.app[i];
+const name = i => D.apps[app(i)][0];
+const state = i => D.state[i];
+const isOpen = i => 'ESRBF'.includes(state(i));
+const isGone = i => 'Dowp'.includes(state(i));
+const isTrouble = i => state(i) === 'E' || late.has(i) || risk.has(i);
+const byHand = i => D.rows.cycle[i] < 0;
+const openBefore = i => (before.get(i) || []).filter(isOpen);
+const dayOf = minute => Math.floor(minute / DAY);
+const lastShown = i => late.has(i) ? Math.max(D.now, ia[i] + 1) : Math.max(due[i], ia[i] + 1);
+
+/** All rows that are reached by steps: of those beyond the first step, the ones that aren't complete. */
+function walk(i, steps, most = 3000) {
+  const seen = new Set(), left = [i];
+  while (left.length && seen.size < most) {
+    const here = left.pop();
+    for (const other of steps.get(here) || []) {
+      if (seen.has(other) || here !== i && !isOpen(other)) continue;
+      seen.add(other);
+      left.push(other);
+    }
+  }
+  return seen;
+}
+
+const chainOf = i => new Set([i, ...walk(i, before), ...walk(i, after)]);
+const behind = i => [...walk(i, after)].filter(isOpen);
+
+/** The rows at whose completion a row's waiting begins, without the worst of them. */
+function otherRoots(i) {
+  return [...walk(i, before)].filter(k => isOpen(k) && k !== rootOf.get(i) && !openBefore(k).length);
+}
+
+/** What each filter of the day takes. Those of the tiles look at the whole current plan. */
+const KINDS = {
+  all: () => true,
+  open: i => isOpen(i) || state(i) === 'L',
+  trouble: isTrouble,
+  error: i => state(i) === 'E',
+  late: i => late.has(i),
+  risk: i => risk.has(i),
+  hour: i => isOpen(i) && due[i] >= D.now && due[i] <= D.now + 60,
+  started: i => state(i) === 'S',
+  ready: i => state(i) === 'R',
+};
+const OF_TILES = ['error', 'late', 'risk', 'hour', 'started', 'ready'];
+
+/** What is chosen: the day's window, its filter, what is searched, the row, how much is drawn. */
+const view = { from: 0, kind: 'open', find: '', kept: 'open', pick: -1, most: 400, month: null, apps: 120,
+  opened: new Set(), arrows: true };
+const matches = text => !view.find || view.find.split(/[\s,]+/).some(word => word && text.includes(word));
+const nowWindow = () => Math.floor((D.now - DAY / 2) / 60) * 60;
+view.from = nowWindow();

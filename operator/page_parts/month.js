@@ -1,0 +1,136 @@
+// The months: applications by days, with the work and free days of each calendar.
+const MOST_CALENDARS = 12;
+const isFree = (calendar, day) => D.calendars[calendar][2][day - D.first] === '0';
+const today = dayOf(D.now);
+
+/** The first day of each month that is shown, or of the part of it. */
+function firstDays() {
+  const days = [];
+  for (let day = D.first; day <= D.last; day++) {
+    if (!days.length || dateOf(day * DAY).getUTCDate() === 1) days.push(day);
+  }
+  return days;
+}
+const months = firstDays();
+
+/** Per application and day of a month: arrivals, and of these the complete, those in error, those late. */
+function countMonth(first, length) {
+  const counts = new Map(), sums = new Array(length).fill(0);
+  for (let i = 0; i < rowCount; i++) {
+    const day = dayOf(ia[i]) - first;
+    if (day < 0 || day >= length || isGone(i)) continue;
+    if (!counts.has(app(i))) counts.set(app(i), Array.from({ length }, () => ({ all: 0, done: 0, error: 0, late: 0 })));
+    const cell = counts.get(app(i))[day];
+    cell.all++;
+    if ('CH'.includes(state(i))) cell.done++;
+    if (state(i) === 'E') cell.error++;
+    if (late.has(i)) cell.late++;
+    if (matches(name(i))) sums[day]++;
+  }
+  return { counts, sums };
+}
+
+function cellClass(cell, calendar, day) {
+  const parts = [isFree(calendar, day) ? 'free' : '', day === today ? 'today' : ''];
+  if (cell.error) parts.push('bad');
+  else if (cell.late) parts.push('late');
+  else if (cell.all) parts.push(cell.done === cell.all ? 'done' : 'n' + Math.min(cell.all, 3));
+  return parts.filter(Boolean).join(' ');
+}
+
+function monthRow(k, cells, first, row) {
+  const calendar = D.apps[k][2];
+  const total = cells.reduce((sum, cell) => sum + cell.all, 0);
+  const title = h('button', { tabindex: -1, 'data-a': k, on: () => showApp(k) }, D.apps[k][0]);
+  return h('tr', {}, h('th', { scope: 'row' }, title),
+    cells.map((cell, n) => {
+      const mark = cell.error ? 'E' : cell.late ? '!' : '';
+      return h('td', { 'data-d': first + n, 'data-a': k, tabindex: row || n ? -1 : 0,
+        class: cellClass(cell, calendar, first + n) },
+      cell.all ? String(cell.all) : '', mark && h('span', { 'aria-hidden': 'true' }, mark),
+      mark && h('span', { class: 'hidden' }, cell.error ? ' in error' : ' late'));
+    }), h('td', {}, String(total)));
+}
+
+function headRow(days) {
+  const plain = D.calendars.findIndex(calendar => calendar[0] === D.plan.calendar);
+  return h('tr', {}, h('th', { scope: 'col' }, 'Application'), days.map(day =>
+    h('th', { scope: 'col', class: (isFree(plain, day) ? 'free ' : '') + (day === today ? 'today' : '') },
+      WEEKDAYS[dateOf(day * DAY).getUTCDay()].slice(0, 2), h('br'), String(dateOf(day * DAY).getUTCDate()))),
+  h('th', { scope: 'col' }, 'All'));
+}
+
+function calendarRow([title, isDefined], k, days) {
+  return h('tr', { class: 'calendar' }, h('th', { scope: 'row' }, title + (isDefined ? '' : ' (not defined)')),
+    days.map(day => h('td', { class: (isFree(k, day) ? 'free ' : '') + (day === today ? 'today' : '') },
+      isFree(k, day) ? 'free' : '')), h('td'));
+}
+
+function drawMonthTools(run, idle) {
+  const go = k => { view.month = k; keepFocus(drawMonth); };
+  const choice = h('select', { 'aria-label': 'Month', 'data-key': 'month' },
+    months.map((day, k) => h('option', { value: k }, monthName(day * DAY))));
+  choice.value = view.month;
+  choice.addEventListener('change', () => go(+choice.value));
+  fill('#monthtools',
+    h('span', { class: 'set' },
+      step('month back', '◂', 'Month before', () => go(view.month - 1), !view.month), choice,
+      step('month on', '▸', 'Month after', () => go(view.month + 1), view.month === months.length - 1)),
+    h('b', { class: 'printed' }, monthName(months[view.month] * DAY)),
+    h('span', { class: 'quiet' }, many(run, 'application runs', 'applications run') +
+      (idle ? ', ' + idle + (idle === 1 ? ' does not' : ' do not') : '') +
+      '. A number tells how many arrive; hatched is a free day of the application’s calendar.'));
+}
+
+function sumRow(sums, first) {
+  return h('tr', { class: 'sum' }, h('th', { scope: 'row' }, view.find ? 'All of these' : 'All applications'),
+    sums.map((sum, n) => h('td', { class: first + n === today ? 'today' : '' }, sum ? String(sum) : '')),
+    h('td', {}, String(sums.reduce((x, y) => x + y, 0))));
+}
+
+function drawMonth() {
+  if (!D.plan.created) {
+    fill('#grid', h('div', { class: 'pane' }, h('p', { class: 'empty' }, 'No days are planned yet.')));
+    return;
+  }
+  if (view.month === null) view.month = Math.max(0, months.findLastIndex(day => day <= today));
+  const first = months[view.month], length = (months[view.month + 1] ?? D.last + 1) - first;
+  const days = Array.from({ length }, (_, n) => first + n), { counts, sums } = countMonth(first, length);
+  const wanted = [...D.apps.keys()].filter(k => matches(D.apps[k][0])), run = wanted.filter(k => counts.has(k));
+  drawMonthTools(run.length, wanted.length - run.length);
+  const caption = 'Occurrences by application and day, ' + monthName(first * DAY);
+  const rows = run.slice(0, view.apps).map((k, row) => monthRow(k, counts.get(k), first, row));
+  const calendars = D.calendars.slice(0, MOST_CALENDARS).map((calendar, k) => calendarRow(calendar, k, days));
+  const table = h('table', { class: 'month', role: 'grid' }, h('caption', { class: 'hidden' }, caption),
+    h('thead', {}, headRow(days)), h('tbody', {}, calendars, sumRow(sums, first), rows));
+  const pane = h('div', { class: 'pane' }, table);
+  if (!run.length) {
+    const what = view.find ? 'No application with “' + view.find + '”' : 'Nothing';
+    pane.append(h('p', { class: 'empty' }, what + ' runs in this month.'));
+  }
+  const left = run.length - rows.length;
+  const more = 'Show ' + Math.min(400, left) + ' more of ' + run.length + ' applications';
+  fill('#grid', pane, left > 0 && h('button', { class: 'more', 'data-key': 'more applications', on: () => {
+    view.apps += 400;
+    keepFocus(drawMonth);
+  } }, more));
+}
+
+/** A day of an application is chosen: that day is shown, and its first occurrence. */
+function chooseCell(cell) {
+  const k = +cell.dataset.a, day = +cell.dataset.d;
+  const first = (perApp.get(k) || []).find(i => dayOf(ia[i]) === day && !isGone(i));
+  Object.assign(view, { from: day * DAY, kind: 'all', most: 400 });
+  if (first === undefined) {
+    drawDay();
+    showApp(k);
+  } else choose(first);
+}
+
+/** The cell that an arrow key leads to. */
+function nextCell(cell, [across, down]) {
+  const cells = [...cell.parentNode.children], column = cells.indexOf(cell);
+  const row = down > 0 ? cell.parentNode.nextElementSibling : cell.parentNode.previousElementSibling;
+  if (down) return row?.children[column];
+  return cells[Math.min(Math.max(column + across, 1), cells.length - 2)];
+}

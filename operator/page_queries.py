@@ -1,0 +1,111 @@
+"""What the page asks of a plan."""
+
+from typing import NamedTuple
+
+import definitions
+import moments
+
+MOST_JOBS = 3000
+
+
+class Row(NamedTuple):
+    """An occurrence and where it stands: its status in the current plan (W S E C D), L in the long-term plan, H in
+    history, and of the deletions o (by an operator), w (withdrawn) or p (in the current plan)."""
+
+    serial: int
+    app: str
+    ia: int
+    deadline: int
+    cycle: str | None
+    place: str
+
+
+COLUMNS = "serial, app, ia, deadline, run_cycle"
+CURRENT = f"SELECT {COLUMNS}, status FROM cp_row"
+OTHERS = f"""SELECT {COLUMNS}, 'L' FROM ltp_row WHERE {{0}} UNION ALL
+    SELECT {COLUMNS}, 'H' FROM history_row WHERE {{0}} UNION ALL
+    SELECT {COLUMNS}, lower(reason) FROM deletion_row WHERE {{0}}"""
+
+
+def plain_cursor(plan):
+    """A cursor whose rows are tuples."""
+    cursor = plan.db.cursor()
+    cursor.row_factory = None
+    return cursor
+
+
+def occurrences(plan, first, last):
+    """The whole current plan, of the other sets the days from first to last, and what all these wait for, by input
+    arrival and application; and the pairs of serials (successor, predecessor)."""
+    ask = plain_cursor(plan).execute
+    days = (first * moments.DAY, (last + 1) * moments.DAY)
+    found = ask(f"{CURRENT} UNION ALL {OTHERS.format('ia >= ?1 AND ia < ?2')}", days).fetchall()
+    shown = {row[0] for row in found}
+    pairs = [pair for pair in ask("SELECT successor, predecessor FROM dependency") if pair[0] in shown]
+    beyond = {predecessor for _, predecessor in pairs if predecessor not in shown}
+    ask("CREATE TEMP TABLE beyond (serial INTEGER PRIMARY KEY)")
+    plain_cursor(plan).executemany("INSERT INTO beyond VALUES (?)", ((serial,) for serial in beyond))
+    found += ask(OTHERS.format("serial IN (SELECT serial FROM beyond)")).fetchall()
+    rows = list(map(Row._make, found))
+    rows.sort(key=lambda row: (row.ia, row.app, row.serial))
+    return rows, pairs
+
+
+def totals(plan):
+    """How many occurrences stand in each set."""
+    return {table: plan.db.execute(f"SELECT count(*) FROM {table}_row").fetchone()[0]
+            for table in ("ltp", "cp", "history", "deletion")}
+
+
+def journal(plan):
+    """The jobs from the last daily plan on, by number: number, statement, answer. A plan keeps no times, so numbers
+    stand for the order in which jobs came."""
+    jobs = []
+    for number, text, reply in plain_cursor(plan).execute(
+        "SELECT number, substr(body, 1, 1024), reply FROM job ORDER BY number DESC"
+    ):
+        statement = bytes(text).split(b"\n")[0].decode("ascii", "replace")
+        jobs.append((number, statement, reply))
+        if len(jobs) == MOST_JOBS or statement.startswith("dp-extend") and reply.startswith("ok"):
+            break
+    return jobs[::-1]
+
+
+def places(plan):
+    """Each occurrence of a plan: by serial its place, deadline, application and input arrival."""
+    asked = f"{CURRENT} UNION ALL {OTHERS.format('TRUE')}"
+    return {serial: (place, due, app, ia) for serial, app, ia, due, _, place in plain_cursor(plan).execute(asked)}
+
+
+def difference(plan, old):
+    """Each occurrence that is new, stands elsewhere or is due otherwise than in an older copy of the plan: serial,
+    place before ('' where it is new), place, application, input arrival, deadline before, deadline."""
+    before = places(old)
+    found = []
+    for serial, (place, due, app, ia) in places(plan).items():
+        was, was_due = before.get(serial, ("", due))[:2]
+        if (was, was_due) != (place, due) and (was, place) != ("C", "H"):
+            found.append((serial, was, place, app, ia, was_due, due))
+    return sorted(found, key=lambda one: (one[4], one[3], one[0]))
+
+
+KINDS = [("calendar", "calendars"), ("period", "periods"), ("application", "applications"),
+         ("run cycles of", "run_cycles"), ("predecessors of", "predecessors")]
+
+
+def redefined(new, old):
+    """Each definition that is new, gone or other than in an older copy: what it is, its name, and which of these."""
+    found = []
+    for what, field in KINDS:
+        now, before = getattr(new, field), getattr(old, field)
+        for name in sorted(set(now) | set(before)):
+            if now.get(name) != before.get(name):
+                found.append((what, name, "new" if name not in before else "gone" if name not in now else "changed"))
+    if (new.default_calendar, new.max_hours) != (old.default_calendar, old.max_hours):
+        found.append(("options", "", "changed"))
+    return found
+
+
+def applications(plan):
+    """The definitions, and the lists of predecessors that the plans go by."""
+    return definitions.of_plan(plan), definitions.lists_of(plan, "link_in_force")
