@@ -52,7 +52,7 @@ FROM open_pair b JOIN readable s ON s.serial = b.successor JOIN readable p ON p.
 
 -- The chain of an occurrence is followed when its row is asked for, not before.
 CREATE TEMP VIEW IF NOT EXISTS why AS
-SELECT r.serial, r.application, r.arrives, r.due, r.state,
+SELECT r.serial, r.application, r.arrives, r.due, r.stands_in, r.state,
     (WITH RECURSIVE chain (serial) AS (
         SELECT predecessor FROM open_pair WHERE successor = r.serial
         UNION SELECT b.predecessor FROM chain JOIN open_pair b ON b.successor = chain.serial
