@@ -6,6 +6,9 @@ from pathlib import Path
 
 import plans
 
+import dump
+import plan_file
+
 plain = plans.plain
 MOST_BYTES = 262_144
 DEFINITIONS = "calendar_entry plan_period application run_cycle run_cycle_offset predecessor".split()
@@ -65,13 +68,11 @@ class Dump(unittest.TestCase):
             with self.subTest(name):
                 text = plans.stream(name)
                 planner, _ = after(text)
-                file = self.file_of(text, planner)
-                if max(planner.jobs, default=0) == plain.GREATEST_SERIAL:  # the greatest job number too
-                    ran = plans.plan("dump", file)
-                    self.assertEqual((ran.returncode, ran.stdout), (1, ""))
-                    stream = dumped(file, "--job", 1)
-                else:
-                    stream = dumped(file)
+                is_used_up = max(planner.jobs, default=0) == dump.GREATEST_JOB
+                with plan_file.opened(self.file_of(text, planner)) as plan:
+                    if is_used_up:
+                        self.assertRaises(dump.NoRoom, dump.stream_of, plan)
+                    stream = dump.stream_of(plan, 1 if is_used_up else None).encode()
                 again, answers = after(stream)
                 self.assertEqual(defined(again), defined(planner))
                 self.assertTrue(all(line.startswith("ok defined ") for line in answers), answers)
