@@ -8,7 +8,7 @@ import moments
 import plain_planner as plain
 
 NOW = "2026-11-25/06.00"
-FIRST, LAST, NIGHT = "2026-11-16", "2026-12-31", "2026-11-24"
+FIRST, LAST, NIGHT = "2026-11-19", "2026-12-31", "2026-11-24"
 HOLIDAYS = ["2026-12-25", "2026-12-26"]
 BANK_HOLIDAYS = HOLIDAYS + ["2026-12-24", "2026-12-31"]
 # name, calendar, period, rule, offset, arrival, days later, due, predecessors

@@ -1,5 +1,7 @@
 """Plans of as many rows as there may be, put into the tables directly: 1,000 applications on each of 200 days."""
 
+import functools
+import shutil
 import sqlite3
 from contextlib import closing
 
@@ -31,23 +33,35 @@ def pairs():
             yield from {(base + number, base + number - 1), (base + number, base + number // 2)}
 
 
-def plan(name_of_file, is_current):
-    """The file: all rows in the long-term plan, or all in the current plan as waiting."""
-    path = plans.folder() / name_of_file
+@functools.cache
+def planned():
+    """The file of a plan with all rows in the long-term plan."""
+    path = plans.folder() / "planned.db"
     first = moments.day_of(FIRST)
-    end = (first + DAYS) * 1440 if is_current else first * 1440
     with closing(sqlite3.connect(path)) as db:
         for text in plans.schema():
             db.execute(text)
         db.execute("INSERT INTO plan_meta VALUES (1, 1, 1, ?, ?, ?, ?, 'DEFAULT', 504)",
-                   (first, first + DAYS - 1, end, APPS * DAYS))
+                   (first, first + DAYS - 1, first * 1440, APPS * DAYS))
         apps = [(name(number), 1, None) for number in range(APPS)]
         db.executemany("INSERT INTO application VALUES (?, ?, ?)", apps)
         cycles = [(name(number), "DAILY", "N", "DAY", "3", first, None, number * 1439 // APPS, 0, 1439)
                   for number in range(APPS)]
         db.executemany("INSERT INTO run_cycle VALUES (?, ?, ?, ?, ?, ?, ?, ?, ?, ?)", cycles)
-        table, more = ("cp_row", ", 'W'") if is_current else ("ltp_row", "")
-        db.executemany(f"INSERT INTO {table} VALUES (?, ?, ?, ?, ?{more})", rows())
+        db.executemany("INSERT INTO ltp_row VALUES (?, ?, ?, ?, ?)", rows())
         db.executemany("INSERT INTO dependency VALUES (?, ?)", pairs())
+        db.commit()
+    return path
+
+
+@functools.cache
+def current():
+    """The file of a plan with all rows in the current plan, waiting."""
+    path = plans.folder() / "current.db"
+    shutil.copyfile(planned(), path)
+    with closing(sqlite3.connect(path)) as db:
+        db.execute("INSERT INTO cp_row SELECT *, 'W' FROM ltp_row")
+        db.execute("DELETE FROM ltp_row")
+        db.execute("UPDATE plan_meta SET plan_end = plan_end + ?", (DAYS * 1440,))
         db.commit()
     return path

@@ -1,0 +1,154 @@
+"""./plan page: what it says of a data centre's night is held against stock SQLite and the plain planner."""
+
+import base64
+import hashlib
+import re
+import unittest
+
+import plans
+
+import centre
+import moments
+import page_reader as read
+from page_reader import ask, parts_of
+
+NOW = moments.moment_of(centre.NOW)
+
+
+class Centre(unittest.TestCase):
+    """What the page says of a data centre's night."""
+
+    @classmethod
+    def setUpClass(cls):
+        cls.path = plans.of_stream(centre.whole())
+        cls.planner = plans.planner_of(centre.whole())
+        cls.page = read.page_of(cls.path, "--now", centre.NOW, "--since", plans.of_stream(centre.evening()))
+        cls.data = read.data_in(cls.page)
+        cls.shown = {row[0]: row for row in read.rows_in(cls.data)}
+
+    def test_rows_are_the_current_plan_and_the_days(self):
+        held = parts_of(self.planner)
+        first, last = self.data["first"] * 1440, (self.data["last"] + 1) * 1440
+        wanted = {serial for serial, (row, place) in held.items() if first <= row[2] < last or place in "WSECD"}
+        wanted |= {other for serial, other in self.planner.pairs if serial in wanted}
+        self.assertEqual(set(self.shown), wanted)
+        self.assertEqual(self.shown, {serial: held[serial][0] for serial in wanted})
+        self.assertEqual(len(self.shown), len(self.data["rows"]["serial"]))
+
+    def test_pairs(self):
+        self.assertEqual(read.pairs_in(self.data), {pair for pair in self.planner.pairs if pair[0] in self.shown})
+
+    def test_months_from_the_first_to_the_next(self):
+        days = moments.day_text(self.data["first"]), moments.day_text(self.data["last"])
+        self.assertEqual(days, (centre.FIRST, centre.LAST))
+
+    def test_states(self):
+        path, held = self.path, parts_of(self.planner)
+        blocked = """SELECT serial FROM cp_row WHERE status = 'W' AND ia <= ? AND serial IN (SELECT successor
+            FROM dependency JOIN cp_row p ON p.serial = predecessor WHERE p.status <> 'C')"""
+        self.assertEqual(read.with_state(self.data, "B"), {serial for serial, in ask(path, blocked, NOW)})
+        coming = {serial for serial, in ask(path, "SELECT serial FROM cp_row WHERE status = 'W' AND ia > ?", NOW)}
+        self.assertEqual(read.with_state(self.data, "F"), coming)
+        for state in "ESCDLHowp":
+            wanted = {serial for serial in self.shown if held[serial][1] == state}
+            self.assertEqual(read.with_state(self.data, state), wanted, state)
+        waiting = {serial for serial, (_, place) in held.items() if place == "W"}
+        self.assertEqual(read.with_state(self.data, "B", "F", "R"), waiting)
+
+    def test_late_and_in_error(self):
+        text = "SELECT serial FROM cp_row WHERE status IN ('W', 'S', 'E') AND deadline < ? ORDER BY 1"
+        late = [serial for serial, in ask(self.path, text, NOW)]
+        self.assertEqual(sorted(read.serials(self.data, self.data["late"])), late)
+        errors = ask(self.path, "SELECT count(*) FROM cp_row WHERE status = 'E'")[0][0]
+        self.assertTrue(late and errors)
+        self.assertIn(f"<title>{errors} in error, {len(late)} late: ", self.page)
+
+    def test_late_begins_behind_the_deadline(self):
+        serial, deadline = ask(self.path, "SELECT serial, deadline FROM cp_row WHERE status = 'E' LIMIT 1")[0]
+        for now, is_late in ((deadline, False), (deadline + 1, True)):
+            text = f"{moments.day_text(now // 1440)}/{moments.minute_text(now % 1440)}"
+            data = read.data_in(read.page_of(self.path, "--now", text))
+            self.assertEqual(serial in read.serials(data, data["late"]), is_late)
+
+    def test_roots(self):
+        """The root of each row that waits is one of those that it reaches and that wait for nothing."""
+        text = """WITH RECURSIVE open (s, p) AS (SELECT successor, predecessor FROM dependency
+            JOIN cp_row a ON a.serial = successor JOIN cp_row b ON b.serial = predecessor
+            WHERE a.status = 'W' AND b.status IN ('W', 'S', 'E')),
+            way (s, p) AS (SELECT s, p FROM open UNION SELECT way.s, open.p FROM way JOIN open ON open.s = way.p)
+            SELECT s, p FROM way WHERE p NOT IN (SELECT s FROM open)"""
+        wanted, status = {}, dict(ask(self.path, "SELECT serial, status FROM cp_row"))
+        for successor, root in ask(self.path, text):
+            wanted.setdefault(successor, set()).add(root)
+        roots = read.serials(self.data, self.data["roots"])
+        found = dict(zip(roots[::2], roots[1::2]))
+        self.assertEqual(set(found), set(wanted))
+        self.assertGreater(len(found), 10)
+        for successor, root in found.items():
+            self.assertIn(root, wanted[successor])
+            if any(status[other] == "E" for other in wanted[successor]):
+                self.assertEqual(status[root], "E")
+
+    def test_what_holds_others_up(self):
+        text = """WITH RECURSIVE held (s) AS (SELECT ? UNION SELECT successor FROM dependency
+            JOIN held ON predecessor = s JOIN cp_row ON serial = successor WHERE status = 'W')
+            SELECT count(*) - 1 FROM held"""
+        self.assertTrue(self.data["holds"])
+        for place, number, _, first in self.data["holds"]:
+            self.assertEqual(number, ask(self.path, text, self.data["rows"]["serial"][place])[0][0])
+            self.assertEqual(first >= 0, number > 0)
+
+    def test_free_days(self):
+        """A calendar's free days are those on which an application that runs on each of its work days doesn't."""
+        runs = {"BANK": "FEEDSWIFT", "DEFAULT": "FEEDBRANCH"}
+        found = {name: bits for name, is_defined, bits in self.data["calendars"] if is_defined}
+        self.assertEqual(set(found), {"ALLDAYS", "BANK", "DEFAULT"})
+        for name, app in runs.items():
+            first, last = self.data["first"], self.data["last"]
+            days = {moments.day_of(line[:10]) for line in self.planner.days(app, first, last)}
+            self.assertEqual(found[name], "".join("01"[day in days] for day in range(first, last + 1)))
+        self.assertNotIn("0", found["ALLDAYS"])
+
+    def test_applications(self):
+        defined = self.planner.defined["applications"]
+        self.assertEqual({name: active for name, active, *_ in self.data["apps"]},
+                         {name: int(active) for name, (active, _) in defined.items()})
+        names = [app[0] for app in self.data["apps"]]
+        lists = {name: {names[other] for other in listed} for name, listed in zip(names, self.data["lists"]) if listed}
+        self.assertEqual(lists, self.planner.in_force)
+
+    def test_jobs_since_the_last_daily_plan(self):
+        jobs = sorted(self.planner.jobs.items())
+        last = max(number for number, (text, reply) in jobs if text.startswith(b"dp-extend") and reply[:2] == "ok")
+        wanted = [[number, text.split(b"\n")[0].decode(), reply] for number, (text, reply) in jobs if number >= last]
+        self.assertEqual(self.data["jobs"], wanted)
+
+    def test_since(self):
+        old, new = parts_of(plans.planner_of(centre.evening())), parts_of(self.planner)
+        wanted = {serial: (old.get(serial, (None, ""))[1], place) for serial, (row, place) in new.items()
+                  if serial not in old or (old[serial][1], old[serial][0][3]) != (place, row[3])}
+        wanted = {serial: change for serial, change in wanted.items() if change != ("C", "H")}
+        self.assertEqual({one[0]: (one[1], one[2]) for one in self.data["since"]["rows"]}, wanted)
+        self.assertEqual(self.data["since"]["definitions"], [["calendar", "DEFAULT", "changed"]])
+
+    def test_without_a_script(self):
+        plain = re.search(r"<noscript>(.*?)</noscript>", self.page, re.S)[1]
+        for serial in read.serials(self.data, self.data["late"]):
+            _, app, arrival, deadline, _ = self.shown[serial]
+            times = f"<td>{moments.moment_text(arrival)}<td>{moments.moment_text(deadline)}"
+            self.assertIn(f"<td>{app}{times}<td>", plain)
+
+    def test_nothing_from_outside(self):
+        text = self.page.replace("http://www.w3.org/2000/svg", "")
+        for asked in ("http:", "https:", "//cdn", "@import", "<link rel=\"stylesheet", "src="):
+            self.assertNotIn(asked, text)
+        policy = re.search(r'Content-Security-Policy" content="([^"]*)"', self.page)[1]
+        for tag in ("style", "script"):
+            inside = re.search(rf"<{tag}>(.*?)</{tag}>", self.page, re.S)[1]
+            digest = base64.b64encode(hashlib.sha256(inside.encode()).digest()).decode()
+            self.assertIn(f"{tag}-src 'sha256-{digest}'", policy)
+        self.assertIn("default-src 'none'", policy)
+
+
+if __name__ == "__main__":
+    unittest.main()
