@@ -124,9 +124,8 @@ def run_cycle_records(app, cycles):
 def run_cycle_record(app, cycle):
     days = [moments.day_text(cycle.in_effect), date_text(cycle.out_effect)]
     due = ["", ""] if cycle.due is None else [str(cycle.due[0]), moments.minute_text(cycle.due[1])]
-    offsets = " ".join(map(str, cycle.offsets))
-    fields = [app, cycle.name, cycle.kind, cycle.period, cycle.rule, offsets, *days, moments.minute_text(cycle.time), *due]
-    return ",".join(fields)
+    offsets, time = " ".join(map(str, cycle.offsets)), moments.minute_text(cycle.time)
+    return ",".join([app, cycle.name, cycle.kind, cycle.period, cycle.rule, offsets, *days, time, *due])
 
 
 def predecessor_records(app, listed):

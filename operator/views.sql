@@ -1,4 +1,4 @@
--- Views of a plan for stock sqlite3, temporary ones, so that nothing of them stands in the file. Ask a copy of the plan:
+-- Temporary views of a plan for stock sqlite3: nothing of them stands in the file. Ask a copy of the plan:
 --   sqlite3 plan.db ".backup copy.db"      (while no stream runs)
 --   sqlite3 -header -column copy.db -init operator/views.sql
 -- readable    each occurrence: where it stands, and how far it is

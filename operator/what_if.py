@@ -42,7 +42,7 @@ def add_words(parser):
     )
     words.add_plan(parser)
     parser.add_argument("stream", metavar="STREAM", help="a file with a job stream, or - for standard input")
-    parser.add_argument("--program", metavar="FILE", help="the planner to try it with (else the one that is built here)")
+    parser.add_argument("--program", metavar="FILE", help="the planner that tries it (else the one that is built here)")
 
 
 def run(given):
@@ -96,7 +96,7 @@ def reply_lines(text, output):
     replies = [line for line in output.splitlines() if line.startswith(("ok ", "refused "))]
     faults = [line for line in output.splitlines() if line.startswith("fault ")]
     refused = [(*item, reply) for item, reply in zip(statements_of(text), replies) if reply.startswith("refused ")]
-    lines = [f"{len(replies) - len(refused)} accepted, {len(refused)} refused" + "".join(f", {fault}" for fault in faults)]
+    lines = [", ".join([f"{len(replies) - len(refused)} accepted", f"{len(refused)} refused", *faults])]
     for number, line, reply in refused:
         lines.append(f"  line {number}: {reply}: {line[:120]}")
     return lines
@@ -107,7 +107,8 @@ def reply_lines(text, output):
 
 def difference(before, after):
     """Definitions, bounds and occurrences that differ between two plans, in lines."""
-    lines = definition_lines(definitions.of_plan(before), definitions.of_plan(after)) + bound_lines(before.meta, after.meta)
+    lines = definition_lines(definitions.of_plan(before), definitions.of_plan(after))
+    lines += bound_lines(before.meta, after.meta)
     rows_before, rows_after = ({row.serial: row for row in waits.rows_where(plan, "1")} for plan in (before, after))
     lines += occurrence_lines(rows_before, rows_after)
     return lines or ["", "Nothing would be different but the jobs that are kept."]

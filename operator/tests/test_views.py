@@ -1,4 +1,4 @@
-"""operator/views.sql: the views over worked streams' plans, against tools/plain_planner.py and against ./plan's own words."""
+"""operator/views.sql: the views over worked streams' plans, against tools/plain_planner.py and ./plan's own words."""
 
 import shutil
 import subprocess
@@ -16,8 +16,9 @@ import waits
 
 plain = plans.plain
 VIEWS = plans.TOP / "operator" / "views.sql"
-STREAMS = ["each-list", "week-of-daily-plans", "statuses-listed", "each-status-under-each-action", "carried-over-five-days",
-           "two-hundred-statements", "pairs-listed"]
+STREAMS = ["each-list", "week-of-daily-plans", "statuses-listed", "each-status-under-each-action",
+           "carried-over-five-days", "two-hundred-statements", "pairs-listed"]
+WORDS = {"L": "planned", "S": "started", "E": "in error", "C": "complete", "H": "complete", "w": "withdrawn"}
 DEEP = b"""define periods --job 1
 DAY,A,2024-01-01,1
 /*
@@ -83,8 +84,7 @@ class Expected:
         row, _, place = self.rows[serial]
         if place == "W":
             return "its time is to come" if row[2] > self.now else "blocked" if serial in self.waits else "ready"
-        return {"L": "planned", "S": "started", "E": "in error", "C": "complete", "H": "complete", "w": "withdrawn"}.get(
-            place, "deleted")
+        return WORDS.get(place, "deleted")
 
     def readable(self):
         return {(serial, row[1], plain.moment_text(row[2]), plain.moment_text(row[3]), held, self.state(serial),
@@ -180,8 +180,10 @@ class Views(unittest.TestCase):
             db.execute("PRAGMA wal_checkpoint(TRUNCATE)")
         before = file.read_bytes()
         query = "UPDATE clock SET now = strftime('%s', '2024-01-01 09:00') / 60; SELECT application, arrives FROM late"
-        ran = subprocess.run(["sqlite3", file, "-init", VIEWS, query], capture_output=True, encoding="utf-8", check=False)
-        self.assertEqual((ran.returncode, ran.stdout), (0, "A|2024-01-01 06.00\nB|2024-01-01 07.00\nD|2024-01-01 09.00\n"))
+        words = ["sqlite3", file, "-init", VIEWS, query]
+        ran = subprocess.run(words, capture_output=True, encoding="utf-8", check=False)
+        self.assertEqual(ran.stdout, "A|2024-01-01 06.00\nB|2024-01-01 07.00\nD|2024-01-01 09.00\n")
+        self.assertEqual(ran.returncode, 0)
         self.assertEqual(file.read_bytes(), before)
 
     def test_clock_is_the_local_one(self):

@@ -12,9 +12,9 @@ plain = plans.plain
 STREAMS = ["week-of-daily-plans", "batch-through-all-sets", "each-list", "data-centre-year", "two-hundred-statements",
            "deadline-named-anew", "least-name-first", "plan-before-its-creation", "definitions-taken-away"]
 CUTS = 4
-PLACES = {"L": "long-term plan", "W": "current plan, waiting", "S": "current plan, started", "E": "current plan, in error",
-          "C": "current plan, complete", "D": "current plan, deleted", "H": "history", "o": "deleted by an operator",
-          "w": "withdrawn", "p": "deleted in the current plan"}
+PLACES = {"L": "long-term plan", "W": "current plan, waiting", "S": "current plan, started",
+          "E": "current plan, in error", "C": "current plan, complete", "D": "current plan, deleted", "H": "history",
+          "o": "deleted by an operator", "w": "withdrawn", "p": "deleted in the current plan"}
 
 
 def places_of(planner):
@@ -85,7 +85,7 @@ class WhatIf(unittest.TestCase):
                     self.assertEqual(ran.returncode, 1 if plain.status_of(answers) else 0, ran)
                     table = table_wanted(before, after)
                     self.assertEqual(table_shown(ran.stdout), table)
-                    names = [line for line in ran.stdout.splitlines() if re.match("  [a-z ]+ (new|changed|gone): ", line)]
+                    names = re.findall("^  [a-z ]+ (?:new|changed|gone): .*", ran.stdout, re.M)
                     self.assertEqual(sorted(names), names_wanted(before, after))
                     self.assertEqual(f"Occurrences: {len(table)}\n" in ran.stdout, bool(table))
                     shown += len(table)
@@ -133,8 +133,8 @@ class WhatIf(unittest.TestCase):
         stream = self.room / "stream.in"
         stream.write_bytes(text)
         before = plans.prints(file)
-        self.tried_at = plans.plan("what-if", file, stream, "--program", plans.PROGRAM)
-        self.assertIn("-> history", self.tried_at.stdout)
+        ran = plans.plan("what-if", file, stream, "--program", plans.PROGRAM)
+        self.assertIn("-> history", ran.stdout)
         self.assertEqual(plans.prints(file), before)
 
     def test_stream_may_come_from_standard_input(self):
