@@ -8,7 +8,6 @@ import os
 import shutil
 import subprocess
 import tempfile
-import time
 from pathlib import Path
 
 CODES = {"Enter": 13, "Escape": 27, "ArrowUp": 38, "ArrowDown": 40, "ArrowLeft": 37, "ArrowRight": 39, "Tab": 9,
@@ -43,7 +42,7 @@ class Browser:
         self.number, self.rest, self.events, self.session = 0, b"", [], None
         target = self.call("Target.createTarget", url="about:blank")["targetId"]
         self.session = self.call("Target.attachToTarget", targetId=target, flatten=True)["sessionId"]
-        for domain in ("Page", "Runtime", "Log", "Network", "Accessibility"):
+        for domain in ("Page", "Runtime", "Log", "Network", "Accessibility", "Performance"):
             self.call(domain + ".enable")
 
     def __enter__(self):
@@ -93,21 +92,34 @@ class Browser:
         feature = {"name": "prefers-color-scheme", "value": "dark" if dark else "light"}
         self.call("Emulation.setEmulatedMedia", media="print" if printed else "", features=[feature])
 
-    def open(self, path, width=1440, height=900, dark=False, scripts=True):
-        """Opens a file, and answers how many seconds it took until it was drawn."""
+    def size(self, width, height):
+        """The size of what is seen; one that is narrow is a telephone's."""
         self.call("Emulation.setDeviceMetricsOverride", width=width, height=height, deviceScaleFactor=1,
                   mobile=width < 500)
+
+    def open(self, path, width=1440, height=900, dark=False, scripts=True):
+        """Opens a file, and answers how many seconds of a processor it took until it was drawn."""
+        self.size(width, height)
         self.call("Emulation.setScriptExecutionDisabled", value=not scripts)
         self.media(dark)
-        self.call("Page.navigate", url="about:blank")
-        self.events = []
-        began = time.monotonic()
-        self.call("Page.navigate", url=Path(path).resolve().as_uri())
-        while not any(one.get("method") == "Page.loadEventFired" for one in self.events):
-            self.events.append(self.message())
+        self.go("about:blank")
+        began = self.seconds()
+        self.go(Path(path).resolve().as_uri())
         if scripts:
             self.js("new Promise(done => requestAnimationFrame(() => setTimeout(done)))")
-        return time.monotonic() - began
+        return self.seconds() - began
+
+    def seconds(self):
+        """What the page took of a processor; others may use the machine."""
+        found = self.call("Performance.getMetrics")["metrics"]
+        return next(one["value"] for one in found if one["name"] == "ThreadTime")
+
+    def go(self, url):
+        """Goes to an address and waits until it is loaded."""
+        self.events = []
+        self.call("Page.navigate", url=url)
+        while not any(one.get("method") == "Page.loadEventFired" for one in self.events):
+            self.events.append(self.message())
 
     def js(self, text):
         """The value of an expression in the page."""

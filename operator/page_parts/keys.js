@@ -71,7 +71,7 @@ const STEPS = { ArrowDown: [0, 1], ArrowUp: [0, -1], ArrowRight: [1, 0], ArrowLe
 
 /** Moves the one tab stop of a list or a table. */
 function moveStop(from, to) {
-  if (!to?.matches('.row, td[data-d]')) return;
+  if (!to?.matches('.row, ' + CELLS)) return;
   from.tabIndex = -1;
   to.tabIndex = 0;
   to.focus();
@@ -80,11 +80,11 @@ function moveStop(from, to) {
 function onKey(event) {
   if (event.ctrlKey || event.metaKey || event.altKey) return;
   if (event.target.matches('input, select')) return inField(event);
-  const cell = event.target.closest?.('td[data-d]'), row = event.target.closest?.('.row'), step = STEPS[event.key];
+  const cell = event.target.closest?.(CELLS), row = event.target.closest?.('.row'), step = STEPS[event.key];
   const done = act => { event.preventDefault(); act(); };
   if (event.key === 'Escape') return choose(-1);
   if (cell && step) return done(() => moveStop(cell, nextCell(cell, step)));
-  if (cell && (event.key === 'Enter' || event.key === ' ')) return done(() => chooseCell(cell));
+  if (cell?.matches('td') && (event.key === 'Enter' || event.key === ' ')) return done(() => chooseCell(cell));
   if (row && step?.[1]) {
     const rows = [...document.querySelectorAll('.row')];
     return done(() => moveStop(row, rows[rows.indexOf(row) + step[1]]));
@@ -113,7 +113,10 @@ function listen() {
   addEventListener('resize', fit);
   addEventListener('beforeprint', () => {
     document.querySelectorAll('#due .more, #holds .more').forEach(button => button.click());
-    document.querySelectorAll('#due details').forEach(one => { one.open = true; });
+    document.querySelectorAll('#due details').forEach(group => {
+      group.drawLines();
+      group.open = true;
+    });
   });
 }
 

@@ -43,13 +43,10 @@ function monthRow(k, cells, first, row) {
   const total = cells.reduce((sum, cell) => sum + cell.all, 0);
   const title = h('button', { tabindex: -1, 'data-a': k, on: () => showApp(k) }, D.apps[k][0]);
   return h('tr', {}, h('th', { scope: 'row' }, title),
-    cells.map((cell, n) => {
-      const mark = cell.error ? 'E' : cell.late ? '!' : '';
-      return h('td', { 'data-d': first + n, 'data-a': k, tabindex: row || n ? -1 : 0,
-        class: cellClass(cell, calendar, first + n) },
-      cell.all ? String(cell.all) : '', mark && h('span', { 'aria-hidden': 'true' }, mark),
-      mark && h('span', { class: 'hidden' }, cell.error ? ' in error' : ' late'));
-    }), h('td', {}, String(total)));
+    cells.map((cell, n) => h('td', { 'data-d': first + n, 'data-a': k, tabindex: row || n ? -1 : 0,
+      'aria-label': cell.error ? cell.all + ', in error' : cell.late ? cell.all + ', late' : undefined,
+      class: cellClass(cell, calendar, first + n) },
+    cell.all ? cell.all + (cell.error ? 'E' : cell.late ? '!' : '') : '')), h('td', {}, String(total)));
 }
 
 function headRow(days) {
@@ -114,6 +111,7 @@ function drawMonth() {
     view.apps += 400;
     keepFocus(drawMonth);
   } }, more));
+  requestAnimationFrame(scrollToToday);
 }
 
 /** A day of an application is chosen: that day is shown, and its first occurrence. */
@@ -127,10 +125,18 @@ function chooseCell(cell) {
   } else choose(first);
 }
 
-/** The cell that an arrow key leads to. */
+const CELLS = 'tbody button[data-a], td[data-d]';
+
+/** The cell, or the application's name before the cells, that an arrow key leads to. */
 function nextCell(cell, [across, down]) {
-  const cells = [...cell.parentNode.children], column = cells.indexOf(cell);
-  const row = down > 0 ? cell.parentNode.nextElementSibling : cell.parentNode.previousElementSibling;
-  if (down) return row?.children[column];
-  return cells[Math.min(Math.max(column + across, 1), cells.length - 2)];
+  const row = cell.closest('tr'), other = down > 0 ? row.nextElementSibling : row.previousElementSibling;
+  const cells = [...row.querySelectorAll(CELLS)], column = cells.indexOf(cell);
+  if (down) return other?.querySelectorAll(CELLS)[column];
+  return cells[Math.min(Math.max(column + across, 0), cells.length - 1)];
+}
+
+/** Where the month is wider than the screen, today is what is seen first. */
+function scrollToToday() {
+  const pane = $('#grid .pane'), head = $('.month thead .today');
+  if (head && pane.scrollWidth > pane.clientWidth) pane.scrollLeft = head.offsetLeft - pane.clientWidth / 2;
 }

@@ -48,11 +48,15 @@ function grouped(rows) {
 function groupLine({ root, rows }) {
   const number = rows.filter(i => late.has(i)).length;
   const reason = name(root) + ' is ' + ofRoot(root) + '; first due: ' + name(rows[0]) + ' ' + at(due[rows[0]]);
-  return h('li', { class: 'entry' }, h('details', { class: 'group' },
+  const lines = h('ul', { class: 'list' }), group = h('details', { class: 'group' },
     h('summary', {}, h('span', { class: 'name' }, rows.length + ' that wait for ' + name(root)),
       h('span', { class: 'when' + (number ? ' is-late' : '') }, number ? number + ' late' : ''),
-      h('span', { class: 'why' }, reason)),
-    h('ul', { class: 'list' }, rows.slice(0, 500).map(dueLine))));
+      h('span', { class: 'why' }, reason)), lines);
+  group.drawLines = () => {
+    if (!lines.children.length) lines.append(...rows.slice(0, 500).map(dueLine));
+  };
+  group.addEventListener('toggle', group.drawLines);
+  return h('li', { class: 'entry' }, group);
 }
 
 const dueEntry = item => typeof item === 'number' ? dueLine(item) : groupLine(item);
