@@ -20,8 +20,10 @@ function appLink(other) {
 function part(title, rows) {
   if (!rows.length) return '';
   const more = rows.length > 20 ? h('li', { class: 'quiet' }, 'and ' + (rows.length - 20) + ' more') : '';
-  return [h('h3', {}, title),
-    h('ul', { class: 'tree' }, rows.slice(0, 20).map(i => h('li', {}, link(i, ', due ' + at(due[i])))), more)];
+  const line = i => h('li', {}, h('button', { 'data-i': i, on: () => choose(i) }, badge(i),
+    h('span', {}, dayName(ia[i]) + ' ' + clock(ia[i])),
+    h('small', { class: tone(i) }, late.has(i) ? lateness(i) : 'due ' + at(due[i]))));
+  return [h('h3', {}, title), h('ul', { class: 'tree' }, rows.slice(0, 20).map(line), more)];
 }
 
 function showApp(k) {

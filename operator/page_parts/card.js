@@ -69,7 +69,7 @@ function drawCard(i) {
 }
 
 const SIGNS = [['E', 'in error'], ['S', 'started'], ['R', 'ready: arrived, nothing in its way'],
-  ['B', 'blocked by what it waits for'], ['F', 'its time is to come'], ['C', 'complete'],
+  ['B', 'blocked by what it waits for'], ['F', 'its time is to come'], ['C', 'complete'], ['H', 'complete, in history'],
   ['L', 'planned, not yet in the current plan'], ['D', 'deleted or withdrawn']];
 const KEYS = [['/', 'find an application'], ['↑ ↓', 'rows of the day, cells of the month'],
   ['← →', 'twelve hours back or on'], ['n', 'now'], ['t', 'next in trouble'],

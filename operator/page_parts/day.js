@@ -112,7 +112,7 @@ function track(i) {
 
 function dayRow(i, n) {
   const more = late.has(i) ? ', ' + lateness(i) : risk.has(i) ? ', at risk' : '';
-  const since = ia[i] < view.from ? '◂ ' + dateOf(ia[i]).getUTCDate() + '.' : '';
+  const since = ia[i] < view.from ? '◂ ' + dayName(ia[i]).slice(4) : '';
   return h('li', {}, h('button', { class: 'row', 'data-i': i, tabindex: n ? -1 : 0,
     'aria-label': name(i) + ', ' + asText(why(i)) + ', due ' + at(due[i]) + more },
   h('span', { class: 'lab' }, badge(i), h('span', { class: 'name ' + tone(i) }, name(i)),

@@ -39,11 +39,12 @@ function groupRow({ key, rows }, n) {
   hours(rows, told)));
 }
 
-/** How many rows arrive in each hour of the window, as columns. */
+/** How many rows arrive in each hour of the window, as columns; those that arrived before are counted alone. */
 function hours(rows, told) {
   const perHour = new Array(24).fill(0), worst = new Array(24).fill('');
   for (const i of rows) {
-    const hour = Math.min(Math.max(Math.floor((ia[i] - view.from) / 60), 0), 23);
+    const hour = Math.floor((ia[i] - view.from) / 60);
+    if (hour < 0 || hour > 23) continue;
     perHour[hour]++;
     if (tone(i) === 'is-error' || !worst[hour]) worst[hour] = tone(i);
   }
