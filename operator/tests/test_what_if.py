@@ -59,6 +59,40 @@ def names_wanted(before, after):
     return sorted(lines)
 
 
+def lines_with_answers(text):
+    """The number of each line that gets an answer, and what stands on it, by the plain planner's reading."""
+    lines, found = enumerate(plain.lines_of(text), 1), []
+    for number, (line, _) in lines:
+        has_data = plain.first_word(line[:1024]) == b"define"
+        if has_data or not plain.is_skipped(line):
+            found.append((number, line[:120].decode("latin-1").rstrip()))
+        if has_data:
+            next((data for _, (data, _) in lines if data == b"/*"), None)
+    return found
+
+
+# the same occurrence named by another run cycle, with the same deadline
+NAMED_OTHERWISE = [
+    b"""define periods --job 1
+DAY,A,2024-01-01,1
+/*
+define applications --job 2
+A,A,
+/*
+define run-cycles --job 3
+A,LATER,N,DAY,3,1,2024-01-01,,08.00,0,18.00
+/*
+ltp-create --from 2024-01-01 --to 2024-01-03 --job 4
+""",
+    b"""define run-cycles --job 5
+A,LATER,N,DAY,3,1,2024-01-01,,08.00,0,18.00
+A,EARLY,N,DAY,3,1,2024-01-02,,08.00,0,18.00
+/*
+ltp-modify-all --job 6
+""",
+]
+
+
 @unittest.skipUnless(plans.PROGRAM.exists(), "opcplan is not built")
 class WhatIf(unittest.TestCase):
     def setUp(self):
@@ -91,6 +125,14 @@ class WhatIf(unittest.TestCase):
                     shown += len(table)
         self.assertGreater(shown, 1000)
 
+    def test_occurrences_that_are_named_otherwise_are_shown(self):
+        before = plans.planner_of(NAMED_OTHERWISE[0])
+        after = before.copy()
+        plain.run(NAMED_OTHERWISE[1], after)
+        ran = self.tried(plans.of_stream(NAMED_OTHERWISE[0]), NAMED_OTHERWISE[1])
+        self.assertEqual(table_shown(ran.stdout), table_wanted(before, after))
+        self.assertEqual(ran.stdout.count("(by LATER, then by EARLY)"), 2)
+
     def test_refusals_stand_with_their_lines(self):
         for name in ("data-centre-year", "each-list", "lines-and-data", "data-after-no-statement", "long-lines",
                      "data-without-end", "values-by-their-texts"):
@@ -100,9 +142,8 @@ class WhatIf(unittest.TestCase):
             ran = self.tried(plans.of_worked("empty"), text)
             shown = re.findall(r"^  line ([0-9]+): (refused [0-9]+(?: [^:]+)?): (.*)$", ran.stdout, re.M)
             self.assertEqual([reply for _, reply, _ in shown], refused, name)
-            lines = [line.removesuffix(b"\r").decode("latin-1") for line in text.split(b"\n")]
-            for number, _, line in shown:
-                self.assertEqual(line.rstrip(), lines[int(number) - 1][:120].rstrip())
+            wanted = [line for line, reply in zip(lines_with_answers(text), answers) if reply.startswith("refused ")]
+            self.assertEqual([(int(number), line.rstrip()) for number, _, line in shown], wanted, name)
             self.assertTrue(ran.stdout.startswith(f"{len(answers) - len(refused)} accepted, {len(refused)} refused\n"))
 
     def test_bounds_and_options_are_shown(self):
