@@ -9,7 +9,9 @@ import plans
 
 import centre
 import moments
+import page_model
 import page_reader as read
+from page_queries import Row
 from page_reader import ask, parts_of
 
 NOW = moments.moment_of(centre.NOW)
@@ -148,6 +150,33 @@ class Centre(unittest.TestCase):
             digest = base64.b64encode(hashlib.sha256(inside.encode()).digest()).decode()
             self.assertIn(f"{tag}-src 'sha256-{digest}'", policy)
         self.assertIn("default-src 'none'", policy)
+
+
+class Roots(unittest.TestCase):
+    """Which of several roots is named, and what is at risk."""
+
+    # at moment 100 each waits for nothing, and LAST waits for them: the worse, the earlier here
+    WORST_FIRST = [Row(1, "BADLATE", 0, 90, None, "E"), Row(2, "BAD", 1, 300, None, "E"),
+                   Row(3, "SLOWLATER", 2, 80, None, "S"), Row(4, "SLOWLATE", 3, 90, None, "S"),
+                   Row(5, "RUNS", 4, 200, None, "S"), Row(6, "READY", 5, 150, None, "W"),
+                   Row(7, "TOCOME", 101, 400, None, "W")]
+    LAST = Row(9, "LAST", 110, 500, None, "W")
+
+    def test_the_worst_root_is_named(self):
+        for first in range(len(self.WORST_FIRST)):
+            for other in range(first, len(self.WORST_FIRST)):
+                rows = sorted({self.WORST_FIRST[first], self.WORST_FIRST[other], self.LAST}, key=lambda row: row.ia)
+                pairs = [(9, row.serial) for row in rows[:-1]]
+                for order in (pairs, pairs[::-1]):
+                    model = page_model.of_rows(rows, order, 100)
+                    last = len(rows) - 1
+                    self.assertEqual(rows[model.roots[last]], self.WORST_FIRST[first])
+                    self.assertEqual(model.at_risk, [last] if first < 4 else [])
+
+    def test_what_is_complete_is_no_root(self):
+        rows = [Row(1, "DONE", 0, 90, None, "C"), Row(2, "OLD", 1, 90, None, "H"), Row(9, "LAST", 2, 500, None, "W")]
+        model = page_model.of_rows(rows, [(9, 1), (9, 2)], 100)
+        self.assertEqual((model.states, model.roots, model.holds), (["C", "H", "R"], {}, []))
 
 
 if __name__ == "__main__":
