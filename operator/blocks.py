@@ -1,0 +1,135 @@
+"""The data of a `define`: its records, what they define, and the first faulty one (docs/DEFINITION_RECORDS.md)."""
+
+import dataclasses
+import re
+import tomllib
+
+import record_fields
+from record_fields import Wrong
+
+BYTE_ORDER_MARK = b"\xef\xbb\xbf"
+OPTIONS = {"default_calendar": "DEFAULT", "max_extension_hours": 504}
+
+
+@dataclasses.dataclass(frozen=True)
+class Fault:
+    """The first faulty record: its number, its line counted from the first line of the data as 0, and what is wrong."""
+
+    record: int
+    line: int
+    field: str  # its name, or nothing where the whole record is faulty
+    value: str
+    wrong: str
+
+
+@dataclasses.dataclass
+class Block:
+    """What a block of one kind defines, by name as in definitions.py, or its fault."""
+
+    kind: str
+    defined: dict = dataclasses.field(default_factory=dict)
+    fault: Fault | None = None
+    records: int = 0
+    lines: dict = dataclasses.field(default_factory=dict)  # by the names of a record its line, from 0
+
+
+def read(kind, data):
+    """The block that data are."""
+    if kind == "options":
+        return read_options(data.removeprefix(BYTE_ORDER_MARK))
+    block, names, take = Block(kind), *record_fields.KINDS[kind]
+    seen = {}
+    for begin, line, fields in records(data.removeprefix(BYTE_ORDER_MARK)):
+        block.records += 1
+        try:
+            take_record(block, names, take, seen, fields, line)
+        except Wrong as why:
+            value = fields[names.index(why.field)].decode("utf-8", "backslashreplace") if why.field else ""
+            block.fault = Fault(block.records, line, why.field, value, str(why))
+            return block
+    return block
+
+
+def take_record(block, names, take, seen, fields, line):
+    """Puts what one record defines into its block."""
+    if len(fields) != len(names):
+        more = "more" if len(fields) > len(names) else "fewer"
+        raise Wrong("", f"it has {len(fields)} field{'s' if len(fields) != 1 else ''}, {more} than the {len(names)} of "
+                        f"{block.kind}: {', '.join(names)}")
+    texts = record_fields.Texts(dict(zip(names, fields)))
+    key = take(block.defined, texts, seen)
+    seen.setdefault(key, block.records)
+    block.lines.setdefault(key, line)
+
+
+def records(data):
+    """The records of a block: place, line from 0, and fields; quotes, line ends and empty lines as `csv` takes them."""
+    place, line, counted = 0, 0, 0
+    while place < len(data):
+        if data[place] in b"\r\n":
+            place += 1
+            continue
+        begin, fields, is_over = place, [], False
+        line, counted = line + data.count(b"\n", counted, begin), begin
+        while not is_over:
+            field, place = field_at(data, place)
+            fields.append(field)
+            is_over = place >= len(data) or data[place] in b"\r\n"
+            place += 1
+        yield begin, line, fields
+
+
+def field_at(data, place):
+    """The field that begins at a place, and the place behind it."""
+    quoted = b""
+    if data[place : place + 1] == b'"':
+        place += 1
+        while True:
+            end = data.find(b'"', place)
+            if end < 0:
+                return quoted + data[place:], len(data)
+            quoted += data[place:end]
+            place = end + 1
+            if data[place : place + 1] != b'"':
+                break
+            quoted, place = quoted + b'"', place + 1
+    rest = re.compile(rb"[^,\r\n]*").match(data, place)
+    return quoted + rest.group(), rest.end()
+
+
+def read_options(data):
+    """The block of options."""
+    block = Block("options", records=1)
+    try:
+        given = tomllib.loads(data.decode("utf-8"))
+        for key, value in given.items():
+            check_option(key, value)
+        block.defined = {**OPTIONS, **given}
+    except Wrong as why:
+        block.fault = Fault(1, line_of(data, why.field), why.field, f"{given[why.field]}", str(why))
+    except UnicodeDecodeError as error:
+        line = data.count(b"\n", 0, error.start)
+        block.fault = Fault(1, line, "", "", f"byte {data[error.start]:02X} hexadecimal is no UTF-8 text")
+    except tomllib.TOMLDecodeError as error:
+        at = re.search(r"line ([0-9]+)", str(error))
+        line = int(at.group(1)) - 1 if at else max(0, data.count(b"\n") - 1)
+        block.fault = Fault(1, line, "", "", f"it is no TOML: {error}")
+    return block
+
+
+def check_option(key, value):
+    """Asks that an option is known and in its range."""
+    if key not in OPTIONS:
+        raise Wrong(key, "there is no such option, but default_calendar and max_extension_hours")
+    if key == "default_calendar":
+        if not isinstance(value, str):
+            raise Wrong(key, "it has to be the name of a calendar, as text in quotes")
+        record_fields.name(key, value, 16)
+    elif type(value) is not int or not 1 <= value <= 504:
+        raise Wrong(key, "it has to be a whole number from 1 to 504")
+
+
+def line_of(data, key):
+    """The line of a key in options, from 0."""
+    found = re.search(rb"(?m)^[ \t]*[\"']?" + re.escape(key.encode("utf-8")), data)
+    return data.count(b"\n", 0, found.start()) if found else 0

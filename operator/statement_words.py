@@ -1,0 +1,172 @@
+"""The words of a statement, and what is wrong with words that are none (docs/STATEMENTS.md)."""
+
+import dataclasses
+import difflib
+import re
+
+import moments
+
+KINDS = ("calendars", "periods", "applications", "run-cycles", "predecessors", "options")
+ALONE = {  # the words without an option that a statement takes, one of them
+    "define": KINDS,
+    "undefine": KINDS[:-1],
+    "ltp-trial": ("create", "extend", "modify-all", "modify-one"),
+    "dp-trial": ("extend", "replan"),
+    "list": ("ltp", "cp", "history", "deletions", "dependencies"),
+}
+NEEDED = {  # the options that have to be there; those of trials stand by the function
+    "define": ("job",),
+    "undefine": ("name", "job"),
+    "days": ("app", "from", "to"),
+    "ltp-create": ("from", "to", "job"),
+    "ltp-extend": ("to", "job"),
+    "ltp-modify-all": ("job",),
+    "ltp-modify-one": ("app", "job"),
+    "ltp-trial": (),
+    "ltp-trial create": ("from", "to"),
+    "ltp-trial extend": ("to",),
+    "ltp-trial modify-all": (),
+    "ltp-trial modify-one": ("app",),
+    "ltp-add": ("app", "ia", "job"),
+    "ltp-delete": ("app", "ia", "job"),
+    "dp-extend": ("to", "job"),
+    "dp-replan": ("job",),
+    "dp-trial": (),
+    "dp-trial extend": ("to",),
+    "dp-trial replan": (),
+    "list": (),
+    **{f"cp-{action}": ("app", "ia", "job") for action in ("add", "start", "complete", "fail", "reset", "delete")},
+}
+NAMES = [name for name in NEEDED if " " not in name]
+LIST_OPTIONS = ("app",)  # what `list` may have
+FORMS = {
+    "job": "a number from 1 to 999999999 without a leading zero",
+    "app": "a name of 1 to 16 of A to Z, 0 to 9, @, # and $, the first no digit",
+    "name": "a name of 1 to 16 of A to Z, 0 to 9, @, # and $, the first no digit",
+    "short": "a name of 1 to 8 of A to Z, 0 to 9, @, # and $, the first no digit",
+    "day": "a day YYYY-MM-DD from 1972-01-01 to 2071-12-31",
+    "moment": "a day, / and a minute, YYYY-MM-DD/HH.MM",
+}
+
+
+@dataclasses.dataclass(frozen=True)
+class Statement:
+    """A statement: its name, its word without an option or None, and the values of its options; and all its words."""
+
+    name: str
+    alone: str | None
+    values: dict
+    words: tuple
+
+    @property
+    def job(self):
+        """Its job number, or None."""
+        return self.values.get("job")
+
+
+class Wrong(Exception):
+    """Why words are no statement."""
+
+
+def read(words):
+    """The statement that words spell and nothing, or None and why they spell none."""
+    try:
+        return statement_of(words), ""
+    except Wrong as why:
+        return None, str(why)
+
+
+def statement_of(words):
+    name, *rest = words
+    if name not in NAMES:
+        raise Wrong(f"there is no statement `{cut(name)}`" + near(name, NAMES))
+    alone, given = parted(rest)
+    if name in ALONE:
+        check_alone(name, alone)
+    elif alone:
+        raise Wrong(f"`{name}` takes no word without an option, and `{cut(alone[0])}` is one")
+    word = alone[0] if alone else None
+    what = f"{name} {word}" if name.endswith("-trial") else name
+    allowed = LIST_OPTIONS if name == "list" else NEEDED[what]
+    for option in given:
+        if option not in allowed:
+            raise Wrong(f"`{what}` has no option `--{cut(option)}`" + near(option, allowed, "--"))
+    for option in NEEDED[what]:
+        if option not in given:
+            raise Wrong(f"`{what}` lacks its option `--{option}`")
+    values = {option: value_of(form_of(what, word, option), option, text) for option, text in given.items()}
+    return Statement(name, word, values, tuple(words))
+
+
+def parted(rest):
+    """The words without an option, and the texts of the options."""
+    alone, given, rest = [], {}, list(rest)
+    while rest:
+        word = rest.pop(0)
+        if not word.startswith("-"):
+            alone.append(word)
+            continue
+        if not word.startswith("--") or word == "--":
+            raise Wrong(f"`{cut(word)}` is neither an option `--name` nor a word")
+        option, equals, value = word[2:].partition("=")
+        if option in given:
+            raise Wrong(f"the option `--{cut(option)}` stands twice")
+        if not equals:
+            if not rest or rest[0].startswith("-"):
+                raise Wrong(f"the option `--{cut(option)}` has no value")
+            value = rest.pop(0)
+        given[option] = value
+    return alone, given
+
+
+def check_alone(name, alone):
+    """Asks that there is one word without an option, of those that the statement takes."""
+    known = ", ".join(f"`{word}`" for word in ALONE[name])
+    if not alone:
+        raise Wrong(f"`{name}` lacks its word: one of {known}")
+    if alone[0] not in ALONE[name]:
+        raise Wrong(f"`{name}` takes no `{cut(alone[0])}`, but one of {known}" + near(alone[0], ALONE[name]))
+    if len(alone) > 1:
+        raise Wrong(f"`{name}` takes one word without an option, and `{cut(alone[1])}` is one more")
+
+
+def form_of(what, word, option):
+    """The form of an option's value, a word of FORMS."""
+    if option in ("from", "to"):
+        return "moment" if what in ("dp-extend", "dp-trial extend") else "day"
+    return {"ia": "moment", "name": "short" if word == "periods" else "name"}.get(option, option)
+
+
+def value_of(form, option, text):
+    """The value that a text spells."""
+    found = spelled(form, text)
+    if found is None:
+        raise Wrong(f"`--{option}` takes {FORMS[form]}, and not `{cut(text)}`")
+    return found
+
+
+def spelled(form, text):
+    """The value of a text in a form, or None."""
+    if form == "job":
+        return int(text) if re.fullmatch(r"[1-9][0-9]{0,8}", text) else None
+    if form == "day":
+        return moments.day_of(text)
+    if form == "moment":
+        return moments.moment_of(text)
+    return text if is_name(text, 8 if form == "short" else 16) else None
+
+
+def is_name(text, longest):
+    """Whether a text is a name of at most so many characters."""
+    return re.fullmatch(r"[A-Z@#$][A-Z0-9@#$]{0,%d}" % (longest - 1), text) is not None
+
+
+def cut(text, most=40):
+    """A text that isn't too long to be shown."""
+    return text if len(text) <= most else text[: most - 3] + "..."
+
+
+def near(text, known, before=""):
+    """` (is NAME meant?)` where a known word is like the text, else nothing."""
+    found = difflib.get_close_matches(text.lower(), known, 1)
+    return f" (is `{before}{found[0]}` meant?)" if found else ""
