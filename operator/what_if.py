@@ -46,7 +46,10 @@ def add_words(parser):
 
 
 def run(given):
-    program = given.program or next(filter(os.path.exists, PROGRAMS), PROGRAMS[0])
+    program = given.program or next(filter(os.path.exists, PROGRAMS), None)
+    if program is None:
+        words.tell("there is no built planner to try it with; ./opcplan builds one, and --program names one")
+        return 1
     try:
         text = text_of(given.stream)
         with plan_file.opened(given.plan) as plan, tempfile.TemporaryDirectory(prefix="what-if-") as folder:
