@@ -64,10 +64,10 @@ def find_waits(model, rows, pairs):
 
 
 def find_roots(model, rows):
-    """Gives each row that waits the worst of its roots: first those in error, then those late, then by deadline."""
+    """Gives each row that waits the worst of its roots: first those in error, then those started, then by deadline."""
 
     def rank(place):
-        return RANK[model.states[place]], not model.is_late[place], rows[place].deadline, place
+        return RANK[model.states[place]], rows[place].deadline, place
 
     roots = model.roots
     left = {place: len(waits) for place, waits in model.waits.items()}
@@ -98,7 +98,7 @@ def find_holds(model, rows):
     states = model.states
     heads = [place for place in range(len(rows)) if place not in model.waits and (
         states[place] == "E" or states[place] in "SR" and (model.is_late[place] or place in model.behind))]
-    heads.sort(key=lambda place: (states[place] != "E", not model.is_late[place], rows[place].deadline, place))
+    heads.sort(key=lambda place: (states[place] != "E", rows[place].deadline, place))
     for place in heads[:MOST_HEADS]:
         held = reached(place, model.behind, MOST_HELD)
         late = sum(model.is_late[other] for other in held)

@@ -61,6 +61,6 @@ function markChosen() {
     laid.box.querySelector('.row[tabindex="0"]')?.setAttribute('tabindex', '-1');
     laid.buttons.get(view.pick).setAttribute('tabindex', '0');
   }
-  laid.buttons.forEach((button, i) => button.setAttribute('aria-pressed', String(i === view.pick)));
+  markCurrent('.row[data-i]', view.pick);
   showArrows(view.pick);
 }

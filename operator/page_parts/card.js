@@ -89,6 +89,8 @@ function choose(i, isQuiet) {
   const old = view.pick;
   view.pick = i;
   if (i < 0 && view.kind === 'chain') view.kind = 'open';
+  if (i >= 0 && view.kind !== 'chain' && !KINDS[view.kind](i)) view.kind = 'all';
+  view.reveal = true;
   if (i >= 0 && (ia[i] >= view.from + DAY || lastShown(i) <= view.from)) view.from = dayOf(ia[i]) * DAY;
   if (!isQuiet) history.replaceState(null, '', i >= 0 ? '#o' + D.rows.serial[i] : '#');
   document.body.classList.toggle('chosen', i >= 0);
@@ -99,6 +101,6 @@ function choose(i, isQuiet) {
   keepFocus(drawDay);
   if (isInCard && i >= 0) $('#card').focus({ preventScroll: true });
   if (isInCard && i < 0) (laid.buttons.get(old) || $('.row'))?.focus();
-  document.querySelectorAll('.go').forEach(x => x.setAttribute('aria-current', String(+x.dataset.i === i)));
+  markCurrent('.go', i);
   if (i >= 0) say(name(i) + ': ' + asText(why(i)));
 }

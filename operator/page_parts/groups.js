@@ -16,9 +16,11 @@ function linesOf(rows) {
   if (groups.size < 2) return rows;
   const lines = [];
   for (const [key, inside] of groups) {
+    if (view.reveal && inside.includes(view.pick)) view.opened.add(key);
     lines.push({ key, rows: inside });
     if (view.opened.has(key)) lines.push(...inside);
   }
+  view.reveal = false;
   return lines;
 }
 

@@ -96,6 +96,9 @@ function onKey(event) {
   if (event.key === 't') nextTrouble();
 }
 
+/** The row that the address names by its serial, as #o970. */
+const addressed = () => bySerial.get(+(location.hash.match(/^#o(\d+)$/) || [])[1]) ?? -1;
+
 /** The pointer and the focus show a row's arrows, a click chooses it. */
 function listen() {
   const rowOf = event => event.target.closest?.('.row[data-i]');
@@ -111,6 +114,7 @@ function listen() {
   $('#find').addEventListener('input', find);
   addEventListener('keydown', onKey);
   addEventListener('resize', fit);
+  addEventListener('hashchange', () => { if (addressed() >= 0) choose(addressed(), true); });
   addEventListener('beforeprint', () => {
     document.querySelectorAll('#due .more, #holds .more').forEach(button => button.click());
     document.querySelectorAll('#due details').forEach(group => {
@@ -134,4 +138,4 @@ drawMonth();
 drawChanges();
 listen();
 fit();
-choose(bySerial.get(+(location.hash.match(/^#o(\d+)$/) || [])[1]) ?? -1, true);
+choose(addressed(), true);

@@ -98,4 +98,13 @@ function made(element, attributes, inner) {
 const fill = (selector, ...inner) => $(selector).replaceChildren(...inner.flat(3).filter(Boolean));
 const badge = i => h('span', { class: 'b ' + state(i), 'aria-hidden': 'true' }, LETTER[state(i)] || state(i));
 const tone = i => state(i) === 'E' ? 'is-error' : late.has(i) ? 'is-late' : '';
+
+/** Marks the button of a row among those that a selector finds. */
+function markCurrent(selector, i) {
+  document.querySelectorAll(selector).forEach(button => {
+    if (+button.dataset.i === i) button.setAttribute('aria-current', 'true');
+    else button.removeAttribute('aria-current');
+  });
+}
+
 const say = text => { $('#say').textContent = text; };
