@@ -3,15 +3,16 @@
 import collections
 import contextlib
 import os
-import re
 import sqlite3
 import subprocess
 import sys
 import tempfile
 
 import definitions
+import explain
 import moments
 import plan_file
+import stream
 import waits
 import words
 
@@ -62,7 +63,11 @@ def run(given):
     except OSError as error:
         words.tell(f"{error.filename}: {error.strerror}")
         return 1
-    print("\n".join([*reply_lines(text, ran.stdout.decode("latin-1")), *changes]))
+    try:
+        print("\n".join([*reply_lines(text, ran.stdout), *changes]))
+    except explain.Unlike as why:
+        words.tell(f"{program} doesn't answer as opcplan does: {why}")
+        return 1
     sys.stderr.write(ran.stderr.decode(errors="replace"))
     if ran.returncode >= FAULTED:
         words.tell(f"the planner ended with status {ran.returncode}; what is shown is what it did before")
@@ -76,33 +81,10 @@ def text_of(name):
         return file.read()
 
 
-# What was answered.
-
-
-def statements_of(text):
-    """The number and the text of each line that gets an answer: the data behind a `define` belong to it."""
-    found, in_data = [], False
-    for number, line in enumerate(text.split(b"\n"), 1):
-        line = line.removesuffix(b"\r")
-        if in_data:
-            in_data = line != b"/*"
-            continue
-        in_data = re.match(rb"[ \t]*define([ \t]|$)", line[:1024]) is not None
-        is_skipped = len(line) <= 1024 and (not line.strip(b" \t") or line.startswith(b"*"))
-        if in_data or not is_skipped:
-            found.append((number, line.decode("latin-1")))
-    return found
-
-
 def reply_lines(text, output):
-    """How many statements were accepted and refused, and each that was refused."""
-    replies = [line for line in output.splitlines() if line.startswith(("ok ", "refused "))]
-    faults = [line for line in output.splitlines() if line.startswith("fault ")]
-    refused = [(*item, reply) for item, reply in zip(statements_of(text), replies) if reply.startswith("refused ")]
-    lines = [", ".join([f"{len(replies) - len(refused)} accepted", f"{len(refused)} refused", *faults])]
-    for number, line, reply in refused:
-        lines.append(f"  line {number}: {reply}: {line[:120]}")
-    return lines
+    """How many statements were accepted and refused, and each that was refused, in the words of explain."""
+    lines, refused, answered = explain.explained(list(stream.items(text)), explain.answers(output))
+    return [f"{answered - refused} accepted, {refused} refused", *(["", *lines[:-1]] if lines else [])]
 
 
 # What is different.

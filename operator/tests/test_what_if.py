@@ -60,12 +60,12 @@ def names_wanted(before, after):
 
 
 def lines_with_answers(text):
-    """The number of each line that gets an answer, and what stands on it, by the plain planner's reading."""
+    """The number of each line that gets an answer, by the plain planner's reading."""
     lines, found = enumerate(plain.lines_of(text), 1), []
     for number, (line, _) in lines:
         has_data = plain.first_word(line[:1024]) == b"define"
         if has_data or not plain.is_skipped(line):
-            found.append((number, line[:120].decode("latin-1").rstrip()))
+            found.append(number)
         if has_data:
             next((data for _, (data, _) in lines if data == b"/*"), None)
     return found
@@ -138,13 +138,13 @@ class WhatIf(unittest.TestCase):
                      "data-without-end", "values-by-their-texts"):
             text = plans.stream(name)
             answers = [line for line in plain.run(text, plain.Planner()) if line.startswith(("ok ", "refused "))]
-            refused = [reply for reply in answers if reply.startswith("refused ")]
+            refused = sum(reply.startswith("refused ") for reply in answers)
             ran = self.tried(plans.of_worked("empty"), text)
-            shown = re.findall(r"^  line ([0-9]+): (refused [0-9]+(?: [^:]+)?): (.*)$", ran.stdout, re.M)
-            self.assertEqual([reply for _, reply, _ in shown], refused, name)
-            wanted = [line for line, reply in zip(lines_with_answers(text), answers) if reply.startswith("refused ")]
-            self.assertEqual([(int(number), line.rstrip()) for number, _, line in shown], wanted, name)
-            self.assertTrue(ran.stdout.startswith(f"{len(answers) - len(refused)} accepted, {len(refused)} refused\n"))
+            shown = re.findall(r"^line ([0-9]+): .*\n    (refused .*)$", ran.stdout, re.M)
+            wanted = [(str(number), reply) for number, reply in zip(lines_with_answers(text), answers)
+                      if reply.startswith("refused ")]
+            self.assertEqual(shown, wanted, name)
+            self.assertTrue(ran.stdout.startswith(f"{len(answers) - refused} accepted, {refused} refused\n"))
 
     def test_bounds_and_options_are_shown(self):
         base = plans.of_worked("first-days")
@@ -203,7 +203,8 @@ class WhatIf(unittest.TestCase):
         stream.write_bytes(b"list cp\nlist ltp\n")
         ran = plans.plan("what-if", plans.of_worked("monday"), stream, "--program", program)
         self.assertEqual(ran.returncode, 1)
-        self.assertTrue(ran.stdout.startswith("1 accepted, 0 refused, fault 41\n"))
+        self.assertTrue(ran.stdout.startswith("1 accepted, 0 refused\n"))
+        self.assertIn("\nfault 41: ", ran.stdout)
         self.assertIn("status 8", ran.stderr)
 
 
