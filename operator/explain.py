@@ -119,10 +119,12 @@ def refusal_lines(item, reply, now):
     """The lines on one refusal."""
     _, number, *detail = reply.split()
     if now.is_repeated(item) and number not in ("10", "11", "12"):
-        told = [f"job {item.statement.job} was asked at line {now.jobs[item.statement.job][0]}, and is answered as then"]
+        first, _ = now.jobs[item.statement.job]
+        told = [f"job {item.statement.job} was asked at line {first}, and is answered as then"]
     else:
         told = refusals.sentences(item, int(number), detail[0] if detail else "", now)
     lines = [f"line {item.line}: {item.shown()}", f"    {reply}"]
     for sentence in told:
-        lines += textwrap.wrap(sentence, WIDTH, initial_indent=" " * 4, subsequent_indent=" " * 6, break_on_hyphens=False)
+        wrapped = textwrap.wrap(sentence, WIDTH - 6, break_on_hyphens=False)
+        lines += [" " * (4 if at == 0 else 6) + line for at, line in enumerate(wrapped)]
     return [*lines, ""]

@@ -46,7 +46,7 @@ class Texts:
         day = moments.day_of(text)
         if day is None:
             looks = re.fullmatch(r"[0-9]{4}-[0-9]{2}-[0-9]{2}", text)
-            wrong = f"there is no such day {FIRST_AND_LAST}" if looks else f"it has to be a day YYYY-MM-DD {FIRST_AND_LAST}"
+            wrong = f"{'there is no such day' if looks else 'it has to be a day YYYY-MM-DD'} {FIRST_AND_LAST}"
             raise Wrong(field, wrong + hint(text, lambda other: moments.day_of(other) is not None))
         return day
 

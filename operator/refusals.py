@@ -7,8 +7,8 @@ import stream
 DATES = {
     "days": "the last day is before the first one or after 2068-12-31, or there are more than 1,461 days",
     "ltp-create": "the last day is before the first one, after 2068-12-31, or more than 1,461 days after the first one",
-    "ltp-extend": "the new last day isn't later than the old one, is after 2068-12-31, or is more than 1,461 days after "
-                  "the day of the current plan's end",
+    "ltp-extend": "the new last day isn't later than the old one, is after 2068-12-31, or is more than 1,461 days "
+                  "after the day of the current plan's end",
     "ltp-add": "it arrives before the current plan's end or after the last day of the long-term plan",
     "cp-add": "it arrives before the first day of the long-term plan, or not before the current plan's end",
 }
