@@ -2,7 +2,6 @@
 
 import re
 import sqlite3
-import time
 from contextlib import closing
 
 import plans
@@ -119,70 +118,19 @@ def months(browser, page, ask):
     ask(sorted(map(tuple, cells)) == sorted(errors), "cells in error", cells)
 
 
-def focus(browser):
-    """What has the focus: its element, the row or the cell."""
-    return browser.js("(x => [x.tagName, x.id, x.className, x.dataset.i ?? x.dataset.d ?? ''])(document.activeElement)")
-
-
-def keys(browser, page, ask):
-    """The keys of the day and of the month."""
+def changes(browser, page, ask):
+    """The jobs since the last daily plan are counted, and what was refused is told; so is what changed since."""
     browser.open(page)
-    browser.key("t")
-    ask("row" in focus(browser)[2] and focus(browser)[3] == str(browser.js("view.pick")), "t", focus(browser))
-    first = browser.js("view.pick")
-    browser.key("ArrowDown")
-    browser.key("Enter")
-    second = browser.js("view.pick")
-    ask(second != first and focus(browser)[3] == str(second), "arrow and Enter", (first, second))
-    browser.key("Enter")
-    ask(focus(browser)[1] == "card", "Enter once more leads to the card", focus(browser))
-    browser.key("Escape")
-    ask(browser.js("view.pick") == -1 and "row" in focus(browser)[2], "Escape closes", focus(browser))
-    browser.js("document.activeElement.blur(); showNow()")
-    start = browser.js("view.from")
-    for key, wanted in (("ArrowRight", start + 720), ("ArrowLeft", start), ("ArrowLeft", start - 720), ("n", start)):
-        browser.key(key)
-        ask(browser.js("view.from") == wanted, f"key {key}", browser.js("view.from"))
-    months_by_keys(browser, ask)
-    ask(browser.js("document.querySelectorAll('[tabindex=\"0\"]').length") <= 3, "tab stops of rows and cells")
-    browser.js("document.querySelector('[data-key=\"month on\"]').focus()")
-    browser.key("Enter")
-    ask(browser.js("document.activeElement.dataset.key") == "month on", "a button that is drawn anew keeps the focus")
-
-
-def months_by_keys(browser, ask):
-    browser.js("document.querySelector('td[data-d][tabindex=\"0\"]').focus()")
-    browser.key("ArrowRight", 3)
-    browser.key("ArrowDown")
-    ask(focus(browser)[0] == "TD", "arrows go through the month", focus(browser))
-    browser.key("ArrowLeft", 9)
-    ask(focus(browser)[0] == "BUTTON", "arrows lead to the application's name", focus(browser))
-    browser.key("ArrowRight", 4)
-    day = int(focus(browser)[3])
-    browser.key("Enter")
-    ask(browser.js("[view.from, view.kind]") == [day * 1440, "all"], "Enter shows the day", browser.js("view.from"))
-
-
-def search(browser, page, ask):
-    """The search shows what has the letters alone, opens an application, and is emptied."""
-    browser.open(page)
-    browser.key("/")
-    ask(focus(browser)[1] == "find", "/ leads to the search", focus(browser))
-    browser.type("PAY")
-    time.sleep(0.4)
-    lists = ".row .name", ".month tbody button", "#now .go .name"
-    names = [name for where in lists for name in browser.js(texts(where))]
-    ask(names and all("PAY" in name for name in names), "what the search shows", names)
-    first, last = browser.js("[months[view.month], (months[view.month + 1] ?? D.last + 1) - 1]")
-    wanted = [app for app, _ in ask_plan(ARRIVALS, first, last) if "PAY" in app]
-    ask(wanted == browser.js(texts(".month tbody button")), "applications of the search", wanted)
-    browser.key("Enter")
-    title = browser.js("document.querySelector('#card h2').textContent")
-    ask(title.startswith("PAYROLL") and focus(browser)[1] == "card", "Enter opens the application", title)
-    browser.js("document.querySelector('#find').focus()")
-    browser.key("Escape")
-    time.sleep(0.4)
-    ask(browser.js("[view.find, view.kind]") == ["", "open"], "Escape empties the search", browser.js("view.kind"))
+    jobs = ask_plan("SELECT number, substr(CAST(body AS TEXT), 1, 9), reply FROM job ORDER BY number")
+    begun = max(place for place, (_, text, reply) in enumerate(jobs) if text == "dp-extend" and reply.startswith("ok"))
+    refused = [reply for _, _, reply in jobs[begun:] if reply.startswith("refused")]
+    text = browser.js("document.querySelector('#changed').innerText")
+    ask(f"Jobs since the last daily plan: {len(jobs) - begun}, {len(refused)} refused" in text, "jobs", text)
+    serial = refused[0].split()[2]
+    app = ask_plan("SELECT app FROM cp_row WHERE serial = ?", int(serial))[0][0]
+    ask(f"refused 30 {serial}: it waited for {app}" in text, "what was refused", text)
+    errors = ask_plan("SELECT count(*) FROM cp_row WHERE status = 'E'")[0][0]
+    ask(f"{errors} ended in error" in text and "1 of the definitions" in text, "what changed since", text)
 
 
 def paper(browser, page, ask):
@@ -200,4 +148,4 @@ def paper(browser, page, ask):
     browser.media()
 
 
-OF_CENTRE = [counts, rows_of_the_day, card, months, keys, search, paper]
+OF_CENTRE = [counts, rows_of_the_day, card, months, changes, paper]

@@ -12,6 +12,7 @@ import moments
 import page
 import page_html
 from browser_checks import SIZES
+from browser_keys import INTERACTIVE
 
 EMPTY = {
     "no plan yet": ("define applications --job 1\nAPP,A,\n/*\n", "There is no long-term plan yet"),
@@ -19,7 +20,6 @@ EMPTY = {
 }
 # the plain planner takes minutes over its 200,000 rows
 WITH_PROGRAM_ALONE = {"full-plan"}
-INTERACTIVE = "a[href], button, input, select, summary, td[data-d]"
 NAMELESS = f"""[...document.querySelectorAll('{INTERACTIVE}')].filter(x => !x.matches('td') && !(x.innerText ||
     x.getAttribute('aria-label') || x.labels?.[0]?.innerText || x.textContent || '').trim()).length"""
 # texts whose colour stands out too little from what is behind them
@@ -125,21 +125,6 @@ def long_names(browser, folder, ask):
         ask(browser.js("document.documentElement.scrollWidth") <= width, f"{width}: long names")
 
 
-def keyboard(browser, folder, ask):
-    """The Tab key, and arrows within the day and the month, lead to all that can be pressed."""
-    browser.open(os.path.join(folder, "centre.html"))
-    inner = ".row, .month tbody *, details:not([open]) > :not(summary) *"
-    browser.js(f"window.left = new Set([...document.querySelectorAll('{INTERACTIVE}')].filter(x => "
-               f"x.getClientRects().length && !x.matches('{inner}')));"
-               "addEventListener('focusin', event => left.delete(event.target)); 0")
-    for _ in range(400):
-        browser.key("Tab")
-        if not browser.js("left.size"):
-            break
-    missed = browser.js("[...left].map(x => x.outerHTML.slice(0, 80))")
-    ask(not missed, "what Tab doesn't reach", missed[:5])
-
-
 def empty(browser, folder, ask):
     """Where there is nothing, a sentence says so."""
     for title, (stream, said) in EMPTY.items():
@@ -190,4 +175,4 @@ def worked(browser, folder, ask):
         ask(not browser.complaints(), f"{file.stem}: the console", browser.complaints()[:2])
 
 
-OF_OTHERS = [widths, long_names, keyboard, empty, limit, worked]
+OF_OTHERS = [widths, long_names, empty, limit, worked]

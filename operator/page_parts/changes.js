@@ -2,6 +2,18 @@
 const ORDER = ['Ended in error', 'Deleted or withdrawn', 'New', 'Due at another time', 'Reset', 'Started',
   'Came into the current plan', 'Completed'];
 
+const REFUSED = { 13: 'no such definition', 20: 'there was no plan', 21: 'there was a plan already',
+  22: 'its calendar wasn’t defined', 23: 'its period wasn’t defined', 24: 'days out of range',
+  25: 'predecessors in a loop', 26: 'no active application', 27: 'it was there already', 28: 'there was no such row',
+  29: 'its status didn’t allow it', 30: 'it waited for ', 31: 'too many rows', 32: 'plan end out of range' };
+
+/** What a refusal means, in a few words. */
+function meaning(reply) {
+  const [, number, detail] = reply.split(' '), row = number === '30' ? bySerial.get(+detail) : undefined;
+  if (!(number in REFUSED)) return '';
+  return [': ' + REFUSED[number], row === undefined ? (number === '30' ? detail : '') : reference(row)];
+}
+
 function kindOfChange([, was, is]) {
   if (was === '') return 'New';
   if (was === is) return 'Due at another time';
@@ -47,7 +59,8 @@ function jobsBox() {
   const shown = rows.slice(-200);
   const head = ['Job', 'Statement', 'Answer'].map(text => h('th', { scope: 'col' }, text));
   const lines = shown.map(([number, statement, reply, isRefused]) => h('tr', {}, h('td', {}, String(number)),
-    h('td', {}, statement), h('td', { class: isRefused ? 'refused' : '' }, reply)));
+    h('td', {}, statement), h('td', {}, h('span', { class: isRefused ? 'refused' : '' }, reply),
+      isRefused ? meaning(reply) : '')));
   return h('div', { class: 'pane box' }, h('h3', {}, title),
     told ? h('p', { class: 'quiet' }, told + (rows.length ? ', and these' : '')) : '',
     shown.length < rows.length ? h('p', { class: 'quiet' }, 'the last 200 of ' + rows.length) : '',
