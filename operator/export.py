@@ -9,6 +9,7 @@ import sys
 
 import moments
 import plan_file
+import sound_rows
 import words
 
 SUMMARY = "occurrences as iCalendar, CSV or JSON, with ISO dates"
@@ -44,7 +45,7 @@ def add_words(parser):
 
 
 def run(given):
-    with plan_file.opened(given.plan) as plan:
+    with plan_file.opened(given.plan) as plan, sound_rows.asked_of(plan):
         found = occurrences(plan.db, given.sets or USUAL, given.app, given.first, given.last)
         text = given.form(plan, found) if found else None
     if text is None:

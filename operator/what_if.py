@@ -12,6 +12,7 @@ import definitions
 import explain
 import moments
 import plan_file
+import sound_rows
 import stream
 import waits
 import words
@@ -58,7 +59,7 @@ def run(given):
             with contextlib.closing(sqlite3.connect(copy)) as other:
                 plan.db.backup(other)
             ran = subprocess.run([os.path.abspath(program), "--db", copy], input=text, capture_output=True, check=False)
-            with plan_file.opened(copy) as after:
+            with plan_file.opened(copy) as after, sound_rows.asked_of(plan):
                 changes = difference(plan, after)
     except OSError as error:
         words.tell(f"{error.filename}: {error.strerror}")

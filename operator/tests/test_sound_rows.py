@@ -1,0 +1,67 @@
+"""Plans that somebody changed by hand: dump and export end with a message, and a mistake of ours isn't hidden."""
+
+import tempfile
+import unittest
+from pathlib import Path
+
+import plans
+
+import plan_file
+import sound_rows
+
+SOUND = ["two-hundred-statements", "data-centre-year", "each-list", "empty", "edges-of-the-plan", "longest-plan",
+         "run-cycles-record-by-record", "calendars-record-by-record", "periods-record-by-record"]
+# changes of tools/plan-files after which a value can't be read
+CHANGES = ["a day past the last", "a moment past the plan", "hours past their limit", "a number past 64 bits with sign",
+           "a weekday past Sunday", "a period without an interval", "a status that is none", "a reason that is none",
+           "a job without a number that it may have"]
+
+
+class SoundRows(unittest.TestCase):
+    def setUp(self):
+        room = tempfile.TemporaryDirectory(prefix="sound-rows-")
+        self.addCleanup(room.cleanup)
+        self.room = Path(room.name)
+
+    def changed_plans(self):
+        """Plans with a value that can't be, by a name for each."""
+        tool, plan = plans.plan_files(), plans.of_worked("two-hundred-statements")
+        for name, _, _, change in tool.UNFIT:
+            if name in CHANGES:
+                file = plans.copy_of(plan, self.room, f"{len(name)}-{name[-6:].replace(' ', '-')}.db")
+                tool.changed(change, file)
+                yield name, file
+        for table, column, value in tool.OTHER_TYPES:
+            file = plans.copy_of(plan, self.room, f"{table}.db")
+            tool.unfold_types(table, column, value, file)
+            yield f"{column} of {table} is {value}", file
+
+    def test_sound_plans_have_no_fault(self):
+        for name in SOUND:
+            with plan_file.opened(plans.of_worked(name)) as plan:
+                self.assertIsNone(sound_rows.first_fault(plan.db), name)
+
+    def test_each_change_is_found_and_told(self):
+        found = 0
+        for name, file in self.changed_plans():
+            with self.subTest(name), plan_file.opened(file) as plan:
+                self.assertIsNotNone(sound_rows.first_fault(plan.db))
+            for words in (["dump", file], ["export", file, "--json", "--set", "ltp", "--set", "deletions"]):
+                with self.subTest(name, words=words[0]):
+                    ran = plans.plan(*words)
+                    self.assertIn(ran.returncode, (0, 1))
+                    self.assertNotIn("Traceback", ran.stderr)
+                    if ran.returncode == 1:
+                        self.assertEqual(ran.stdout, "")
+                        self.assertTrue(ran.stderr.startswith(f"plan: {file}: "), ran.stderr)
+                        found += "no sound plan" in ran.stderr
+        self.assertGreater(found, 3)
+
+    def test_mistakes_over_a_sound_plan_are_not_hidden(self):
+        with plan_file.opened(plans.of_worked("each-list")) as plan:
+            with self.assertRaises(TypeError), sound_rows.asked_of(plan):
+                raise TypeError
+
+
+if __name__ == "__main__":
+    unittest.main()
