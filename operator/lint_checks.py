@@ -1,0 +1,187 @@
+"""The checks of ./plan lint, over what is known at a place of a stream."""
+
+import bisect
+import dataclasses
+
+import naming
+from definitions import FIRST_DAY, LAST_DAY
+from moments import DAY, day_text, minute_text, moment_text
+from naming_words import count_text
+
+KINDS = {
+    "past": "an offset that is past its interval",
+    "open": "an offset counted from the end of an interval that has none",
+    "exclusion": "an exclusion at a time that no run cycle has",
+    "effect": "a run cycle that is out of effect before it is in effect",
+    "due": "a deadline before the input arrival",
+    "unknown": "a predecessor that isn't defined",
+    "later": "a predecessor that arrives later in the same night, so that yesterday's counts",
+    "idle": "an active application without run cycles",
+    "calendar": "a default calendar that isn't defined",
+}
+WINDOW = 42  # days over which arrivals are compared
+NIGHT = 6 * 60  # minutes within which a later predecessor belongs to the same night
+
+
+@dataclasses.dataclass(frozen=True)
+class Finding:
+    """What is likely a slip: its kind, what it is about, the line of the record, and what is to be said."""
+
+    kind: str
+    about: tuple
+    line: int
+    text: str
+
+
+def all_of(now):
+    """All findings over what is known."""
+    found = []
+    for app in sorted(now.defined.run_cycles):
+        for name, cycle in sorted(now.defined.run_cycles[app].items()):
+            line = now.line_of("run-cycles", app, name)
+            for kind, about, text in run_cycle_checks(now, app, cycle):
+                found.append(Finding(kind, (app, name, *about), line, f"run cycle {name} of {app}: {text}"))
+    return found + idle_applications(now) + default_calendar(now) + predecessors(now)
+
+
+def run_cycle_checks(now, app, cycle):
+    """Kind, further names and text of what is found of one run cycle."""
+    if cycle.out_effect is not None and cycle.out_effect <= cycle.in_effect:
+        out, since = day_text(cycle.out_effect), day_text(cycle.in_effect)
+        yield "effect", (), f"it is out of effect from {out} on and in effect from {since} on, so it never names a day"
+    if cycle.due is not None and not cycle.excludes and cycle.due[0] * DAY + cycle.due[1] < cycle.time:
+        due, time = minute_text(cycle.due[1]), minute_text(cycle.time)
+        yield "due", (), f"it is due at {due} of the day on which it arrives at {time}, before it arrives"
+    times = sorted({other.time for other in now.defined.run_cycles[app].values() if not other.excludes})
+    if cycle.excludes and cycle.time not in times:
+        others = f"the others arrive at {', '.join(map(minute_text, times))}" if times else "there is none"
+        yield "exclusion", (), f"it excludes {minute_text(cycle.time)}, at which no other one arrives ({others})"
+    period = now.defined.periods.get(cycle.period)
+    if period is not None and (app not in now.defined.applications or not now.defined.lacks_calendar(app)):
+        yield from offset_checks(now, app, cycle, period)
+
+
+def offset_checks(now, app, cycle, period):
+    """What is found of a run cycle's offsets."""
+    offsets = list(dict.fromkeys(cycle.offsets))
+    if period.kind == "W":
+        for offset in offsets:
+            if abs(offset) > period.interval:
+                most = count_text(period.interval, "work day")
+                yield "past", (offset,), f"offset {offset} is past each interval of {cycle.period}, which has {most}"
+        return
+    spans, by_work = spans_of(cycle, period), cycle.rule == "E"
+    lengths = [length_of(now, app, by_work, span) for span in spans if span[1] is not None]
+    most = count_text(max(lengths, default=0), "work day" if by_work else "day")
+    for offset in offsets:
+        short = [span for span, length in zip(spans, lengths) if length < abs(offset)]
+        what = f"offset {offset} is past {'each interval' if len(short) == len(spans) else f'{len(short)} of the'}"
+        if spans and len(short) == len(spans):
+            yield "past", (offset,), f"{what} of {cycle.period}, the longest of which has {most}: it never names a day"
+        elif short and not by_work:
+            first = day_text(short[0][0])
+            yield "past", (offset,), f"{what} {len(spans)} intervals of {cycle.period}, such as the one from {first} on"
+        if offset < 0 and len(lengths) < len(spans) and not is_beyond(now, spans[-1]):
+            where = f"the last interval of {cycle.period}, from {day_text(spans[-1][0])} on, which has no end"
+            yield "open", (offset,), f"offset {offset} names nothing in {where}"
+
+
+def spans_of(cycle, period):
+    """The intervals in which a run cycle is in effect; of type A one stands for all where days alone are counted."""
+    until = LAST_DAY + 1 if cycle.out_effect is None else cycle.out_effect
+    if period.kind == "N":
+        return [span for span in period.listed() if span[0] < until and (span[1] is None or cycle.in_effect <= span[1])]
+    begin = period.origin + max(0, cycle.in_effect - period.origin) // period.interval * period.interval
+    end = min(until, LAST_DAY + 2 - period.interval)
+    if cycle.rule != "E":
+        end = min(end, begin + 1)
+    return [(first, first + period.interval - 1) for first in range(begin, end, period.interval)]
+
+
+def length_of(now, app, by_work, span):
+    """How many days of an interval are counted."""
+    if by_work and app in now.defined.applications:
+        return now.defined.work_days(app).count(*span)
+    return span[1] - span[0] + 1
+
+
+def is_beyond(now, span):
+    """Whether an interval begins after the plan that the stream makes."""
+    return now.bounds is not None and now.bounds[1] < span[0]
+
+
+def idle_applications(now):
+    """Active applications without run cycles."""
+    return [
+        Finding("idle", (app,), now.line_of("applications", app), f"{app} is active, and has no run cycles")
+        for app, application in sorted(now.defined.applications.items())
+        if application.is_active and not now.defined.run_cycles.get(app)
+    ]
+
+
+def default_calendar(now):
+    """A default calendar that isn't defined, where some active application goes by it."""
+    name = now.defined.default_calendar
+    users = [app for app, application in sorted(now.defined.applications.items())
+             if application.is_active and application.calendar in (None, name)]
+    if name in now.defined.calendars or not users:
+        return []
+    given = now.lines.get(("options", None), {}).get(())
+    line = given or min(now.line_of("applications", app) for app in users)
+    shown = ", ".join(users[:3]) + (f" and {len(users) - 3} more" if len(users) > 3 else "")
+    text = f"the default calendar {name} isn't defined, so each day is a work day for {shown}"
+    return [Finding("calendar", (name,), line, text)]
+
+
+def predecessors(now):
+    """Predecessors that aren't defined, and those that arrive later in the same night."""
+    found, arrivals = [], {}
+    for app, listed in sorted(now.defined.predecessors.items()):
+        for other in listed:
+            line = now.line_of("predecessors", app, other)
+            if other not in now.defined.applications:
+                text = f"{app} waits for {other}, which isn't defined, and so for nothing"
+                found.append(Finding("unknown", (app, other), line, text))
+            elif other != app:
+                text = later_text(app, other, arrivals_of(now, app, arrivals), arrivals_of(now, other, arrivals))
+                found += [Finding("later", (app, other), line, text)] if text else []
+    return found
+
+
+def arrivals_of(now, app, held):
+    """The arrivals of an application within the window, each with its deadline, in order."""
+    if app not in held:
+        held[app] = []
+        if naming.obstacle_of(now.defined, app) is None:
+            for day in window(now):
+                for named in naming.names(now.defined, app, day).times:
+                    if not named.excluded_by:
+                        held[app].append((day * DAY + named.time, named.deadline))
+    return held[app]
+
+
+def window(now):
+    """The days over which arrivals are compared: from the plan's first, or from where all run cycles are in effect."""
+    if now.bounds is not None:
+        return range(now.bounds[0], min(now.bounds[1] + 1, now.bounds[0] + WINDOW))
+    cycles = [cycle for app in now.defined.run_cycles.values() for cycle in app.values() if not cycle.excludes]
+    first = max((cycle.in_effect for cycle in cycles), default=FIRST_DAY)
+    return range(first, min(LAST_DAY, first + WINDOW))
+
+
+def later_text(app, other, arrivals, others):
+    """What is to be said where a predecessor arrives later in the same night, or nothing."""
+    slips, moments = [], [moment for moment, _ in others]
+    for arrival, deadline in arrivals:
+        place = bisect.bisect_right(moments, arrival)
+        if place == len(moments) or moments[place] >= deadline or moments[place] - arrival > NIGHT:
+            continue
+        before = moments[place - 1] if place else None
+        if before is None or moments[place] - arrival < arrival - before:
+            slips.append((before is None, arrival, before, moments[place]))
+    if not slips:
+        return ""
+    _, arrival, before, after = min(slips, key=lambda slip: slip[:2])
+    counts = "for nothing" if before is None else f"for the one of {moment_text(before)}"
+    when = f"{app} arrives at {moment_text(arrival)}, and {other}, which it waits for, later, at {moment_text(after)}"
+    return f"{when}: so it waits {counts} ({len(slips)} of the {len(arrivals)} times that were looked at)"
