@@ -93,7 +93,7 @@ def data_of(path, now=None, first=None, last=None, since=None):
         rows, pairs = page_queries.occurrences(plan, first, last) if plan.is_created else ([], [])
         model = page_model.of_rows(rows, pairs, now)
         defined, lists = page_queries.applications(plan)
-        data = page_data.of_model(plan, rows, pairs, model, defined, lists, now, first, last)
+        data = page_data.of_model(plan, rows, model, defined, lists, now, first, last)
         if old:
             data["since"] = page_data.since(plan, defined, old, page_queries.applications(old)[0])
         return {**data, "made": clock, "sample": now != clock, "note": note}

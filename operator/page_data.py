@@ -2,37 +2,47 @@
 
 import os
 import time
-from collections import defaultdict
 
-import moments
 import page_queries
 
 MOST_CHANGES = 5000
 
 
-def packed(rows, pairs, model, apps, cycles):
-    """Columns: input arrivals by what each is past the one before, deadlines from there on, and the pairs as a run of
-    (how far on, how many, how far back each)."""
-    arrivals, before, waits, index = [], 0, defaultdict(list), model.index
-    for row in rows:
-        arrivals.append(row.ia - before)
-        before = row.ia
-    for successor, predecessor in pairs:
-        if predecessor in index:
-            waits[index[successor]].append(index[predecessor])
-    flat, at = [], 0
-    for place in sorted(waits):
-        others = waits[place]
-        flat += [place - at, len(others), *[place - other for other in others]]
-        at = place
+def packed(rows, model, apps, cycles):
+    """Columns: serials and input arrivals by what each is past the one before, deadlines from the arrival on, pairs and
+    roots as runs."""
     return {
-        "serial": [row.serial for row in rows],
+        "serial": steps([row.serial for row in rows]),
         "app": [apps[row.app] for row in rows],
-        "arrival": arrivals,
+        "arrival": steps([row.ia for row in rows]),
         "due": [row.deadline - row.ia for row in rows],
         "cycle": [-1 if row.cycle is None else cycles[row.cycle] for row in rows],
-        "pairs": flat,
+        "pairs": run(model.before),
+        "roots": run({place: [root] for place, root in model.roots.items()}),
     }
+
+
+def steps(numbers):
+    """Numbers by what each is past the one before."""
+    return [after - before for before, after in zip([0, *numbers], numbers)]
+
+
+def run(lists):
+    """Lists of places by place, flat: how far on from the one before, how many, how far back each."""
+    flat, at = [], 0
+    for place in sorted(lists):
+        others = lists[place]
+        flat += [place - at, len(others), *[place - other for other in others]]
+        at = place
+    return flat
+
+
+def marks(model):
+    """A letter for each row: l for late, r for at risk, else a dot."""
+    found = ["l" if is_late else "." for is_late in model.is_late]
+    for place in model.at_risk:
+        found[place] = "r"
+    return "".join(found)
 
 
 def cycle_words(cycle):
@@ -64,7 +74,7 @@ def definition_columns(defined, lists, names, first, last):
     return {"apps": apps, "calendars": shown, "lists": followed}
 
 
-def of_model(plan, rows, pairs, model, defined, lists, now, first, last):
+def of_model(plan, rows, model, defined, lists, now, first, last):
     """All but what is asked of an older copy."""
     names = sorted(set(defined.applications) | {row.app for row in rows})
     cycles = sorted({row.cycle for row in rows if row.cycle is not None})
@@ -75,10 +85,9 @@ def of_model(plan, rows, pairs, model, defined, lists, now, first, last):
                  "end": meta["plan_end"], "calendar": defined.default_calendar, **page_queries.totals(plan)},
         **definition_columns(defined, lists, names, first, last),
         "cycles": cycles,
-        "rows": packed(rows, pairs, model, {name: place for place, name in enumerate(names)},
+        "rows": packed(rows, model, {name: place for place, name in enumerate(names)},
                        {name: place for place, name in enumerate(cycles)}),
-        "state": "".join(model.states), "late": model.late(), "risk": model.at_risk,
-        "roots": [place for pair in model.roots.items() for place in pair], "holds": model.holds,
+        "state": "".join(model.states), "marks": marks(model), "holds": model.holds,
         "jobs": page_queries.journal(plan), "since": None,
     }
 

@@ -15,7 +15,7 @@ STYLES = ["colours.css", "frame.css", "day.css", "month.css", "card.css", "small
 SCRIPTS = ["model.js", "words.js", "now.js", "groups.js", "day.js", "arrows.js", "month.js", "card.js", "apps.js",
            "changes.js", "keys.js"]
 MOST_WITHOUT_SCRIPT = 500
-STATES = {"E": "in error", "S": "started", "R": "ready", "B": "blocked", "F": "its time is to come"}
+STATES = {"E": "in error", "S": "started", "R": "ready", "B": "blocked", "F": "to come"}
 
 
 def joined(names):
@@ -45,7 +45,7 @@ def page_of(data):
 
 def title(data):
     """How bad it is."""
-    errors, late = data["state"].count("E"), len(data["late"])
+    errors, late = data["state"].count("E"), data["marks"].count("l")
     return f"{errors} in error, {late} late: {data['file']} {moments.moment_text(data['now'])}"
 
 
@@ -57,7 +57,8 @@ def row_of(data, arrivals, place):
 
 def without_script(data):
     """What a reader without scripts gets: how many rows stand in each status, and those in error or late."""
-    late, arrivals = set(data["late"]), list(itertools.accumulate(data["rows"]["arrival"]))
+    arrivals = list(itertools.accumulate(data["rows"]["arrival"]))
+    late = {place for place, mark in enumerate(data["marks"]) if mark == "l"}
     told = late | {place for place, state in enumerate(data["state"]) if state == "E"}
     told = sorted(((row_of(data, arrivals, place), data["state"][place], place in late) for place in told),
                   key=lambda one: (one[0][2], one[0]))

@@ -15,17 +15,14 @@ class Model:
     """By place in the list of rows. A state is E in error, S started, R ready, B blocked, F its time is to come,
     C complete, D deleted, and L, H, o, w, p as a Row's place."""
 
-    index: dict
     states: list
     is_late: list
-    waits: dict = field(default_factory=dict)  # what isn't complete of what it waits for
+    before: dict  # all that it waits for, complete or not
+    waits: dict = field(default_factory=dict)  # what of the current plan isn't complete of it
     behind: dict = field(default_factory=dict)  # what of the current plan waits for it
     roots: dict = field(default_factory=dict)  # the worst of the rows at whose completion the waiting begins
     at_risk: list = field(default_factory=list)
     holds: list = field(default_factory=list)  # a row, how many it holds, how many of these late, the first due
-
-    def late(self):
-        return [place for place, is_late in enumerate(self.is_late) if is_late]
 
 
 def is_late(row, now):
@@ -35,9 +32,11 @@ def is_late(row, now):
 
 def of_rows(rows, pairs, now):
     """The model of rows, sorted by input arrival, and of their pairs of serials."""
-    index = {row.serial: place for place, row in enumerate(rows)}
-    model = Model(index, [row.place for row in rows], [is_late(row, now) for row in rows])
-    find_waits(model, rows, pairs)
+    index, before = {row.serial: place for place, row in enumerate(rows)}, defaultdict(list)
+    for successor, predecessor in pairs:
+        before[index[successor]].append(index[predecessor])
+    model = Model([row.place for row in rows], [is_late(row, now) for row in rows], before)
+    find_waits(model)
     for place, row in enumerate(rows):
         if row.place == "W":
             model.states[place] = "F" if row.ia > now else "B" if place in model.waits else "R"
@@ -50,17 +49,16 @@ def of_rows(rows, pairs, now):
     return model
 
 
-def find_waits(model, rows, pairs):
+def find_waits(model):
     """What each row of the current plan waits for that isn't complete, and the other way round."""
-    waits, behind, index = defaultdict(list), defaultdict(list), model.index
-    waiting = {row.serial for row in rows if row.place == "W"}
-    not_complete = {row.serial for row in rows if row.place in OPEN}
-    for successor, predecessor in pairs:
-        if successor in waiting and predecessor in not_complete:
-            later, earlier = index[successor], index[predecessor]
-            waits[later].append(earlier)
-            behind[earlier].append(later)
-    model.waits, model.behind = dict(waits), dict(behind)
+    is_open, behind = [state in OPEN for state in model.states], defaultdict(list)
+    for later, others in model.before.items():
+        left = [earlier for earlier in others if is_open[earlier]] if model.states[later] == "W" else []
+        if left:
+            model.waits[later] = left
+            for earlier in left:
+                behind[earlier].append(later)
+    model.behind = dict(behind)
 
 
 def find_roots(model, rows):

@@ -1,5 +1,6 @@
 """What the page asks of a plan."""
 
+from operator import itemgetter
 from typing import NamedTuple
 
 import definitions
@@ -46,9 +47,11 @@ def occurrences(plan, first, last):
     ask("CREATE TEMP TABLE beyond (serial INTEGER PRIMARY KEY)")
     plain_cursor(plan).executemany("INSERT INTO beyond VALUES (?)", ((serial,) for serial in beyond))
     found += ask(OTHERS.format("serial IN (SELECT serial FROM beyond)")).fetchall()
-    rows = list(map(Row._make, found))
-    rows.sort(key=lambda row: (row.ia, row.app, row.serial))
-    return rows, pairs
+    if len(found) < len(shown) + len(beyond):  # somebody took rows away
+        shown = {row[0] for row in found}
+        pairs = [pair for pair in pairs if pair[1] in shown]
+    found.sort(key=itemgetter(2, 1, 0))
+    return list(map(Row._make, found)), pairs
 
 
 def totals(plan):

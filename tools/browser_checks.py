@@ -62,7 +62,7 @@ def counts(browser, page, ask):
 def rows_of_the_day(browser, page, ask):
     """A day has a row for each occurrence and no other, by SQLite and by the lists of the planner."""
     browser.js(f"view.kind = 'all'; showFrom({DAY})")
-    shown = browser.js(f"{SHOWN_ROWS}.filter(i => !isGone(i)).map(i => D.rows.serial[i])")
+    shown = browser.js(f"{SHOWN_ROWS}.filter(i => !isGone(i)).map(i => serial[i])")
     wanted = {serial for serial, in ask_plan(f"""SELECT serial FROM (SELECT serial, ia, deadline, status FROM cp_row
         WHERE status <> 'D' UNION ALL SELECT serial, ia, deadline, 'L' FROM ltp_row
         UNION ALL SELECT serial, ia, deadline, 'H' FROM history_row)
@@ -75,7 +75,7 @@ def rows_of_the_day(browser, page, ask):
             if line[38:48] == "2026-11-25" and not line.endswith(" D"):
                 listed[int(line[:9])] = line[10:26].strip()
     arriving = browser.js(f"{SHOWN_ROWS}.filter(i => !isGone(i) && dayOf(ia[i]) * DAY === {DAY})"
-                          ".map(i => [D.rows.serial[i], name(i)])")
+                          ".map(i => [serial[i], name(i)])")
     ask(dict(arriving) == listed, "what arrives on a day, by the lists", set(dict(arriving)) ^ set(listed))
     browser.js("view.kind = 'open'; showNow()")
 
@@ -83,13 +83,13 @@ def rows_of_the_day(browser, page, ask):
 def card(browser, page, ask):
     """A blocked row's card shows what it waits for and its root, as SQLite says, and its arrows are drawn."""
     browser.js(f"choose({row_of('ONLINEOPEN')})")
-    serial = browser.js("D.rows.serial[view.pick]")
+    serial = browser.js("serial[view.pick]")
     wanted = {one for one, in ask_plan(OPEN_PAIRS, serial)}
     first = ("[...[...document.querySelectorAll('#card h3')].find(x => x.textContent === 'Waits for')"
-             ".nextElementSibling.querySelectorAll(':scope > li > button')].map(x => D.rows.serial[+x.dataset.i])")
+             ".nextElementSibling.querySelectorAll(':scope > li > button')].map(x => serial[+x.dataset.i])")
     ask(set(browser.js(first)) == wanted, "what a row waits for", browser.js(first))
     roots = {one for one, in ask_plan(ROOTS, serial)}
-    ask(browser.js("D.rows.serial[rootOf.get(view.pick)]") in roots, "the root of a row", roots)
+    ask(browser.js("serial[rootOf.get(view.pick)]") in roots, "the root of a row", roots)
     text = browser.js("document.querySelector('#card').innerText")
     ask("root: POSTLOANS (in error" in text, "the card names the root", text)
     ask(browser.js("document.querySelectorAll('.pairs .own').length") == len(wanted), "arrows of the chosen row")
@@ -142,7 +142,7 @@ def paper(browser, page, ask):
     browser.js("dispatchEvent(new Event('beforeprint'))")
     ask(browser.js("getComputedStyle(document.body).backgroundColor") == "rgb(255, 255, 255)", "paper is white")
     seen = browser.js("[...document.querySelectorAll('#due .go')].filter(x => x.getClientRects().length)"
-                      ".map(x => D.rows.serial[+x.dataset.i])")
+                      ".map(x => serial[+x.dataset.i])")
     late = {serial for serial, in ask_plan(f"SELECT serial FROM cp_row WHERE {LATE}", NOW)}
     ask(late <= set(seen), "all that is late is on paper", late - set(seen))
     browser.media()

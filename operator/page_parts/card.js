@@ -56,7 +56,7 @@ function drawCard(i) {
     h('dl', {}, pair('Arrives', dayName(ia[i]) + ' ' + clock(ia[i])),
       pair('Due', dayName(due[i]) + ' ' + clock(due[i]), dueNote(i)),
       pair('Run cycle', byHand(i) ? 'added by hand' : D.cycles[D.rows.cycle[i]]),
-      pair('Serial', String(D.rows.serial[i])),
+      pair('Serial', String(serial[i])),
       pair('In a stream', h('code', {}, '--app ' + name(i)), ' ',
         h('code', {}, '--ia ' + isoDay(dayOf(ia[i])) + '/' + clock(ia[i])))),
     h('h3', {}, 'Waits for'), tree(i, before, new Set([i]), { rows: MOST_IN_TREE }) ||
@@ -92,7 +92,7 @@ function choose(i, isQuiet) {
   if (i >= 0 && view.kind !== 'chain' && !KINDS[view.kind](i)) view.kind = 'all';
   view.reveal = true;
   if (i >= 0 && (ia[i] >= view.from + DAY || lastShown(i) <= view.from)) view.from = dayOf(ia[i]) * DAY;
-  if (!isQuiet) history.replaceState(null, '', i >= 0 ? '#o' + D.rows.serial[i] : '#');
+  if (!isQuiet) history.replaceState(null, '', i >= 0 ? '#o' + serial[i] : '#');
   document.body.classList.toggle('chosen', i >= 0);
   $('#card').classList.toggle('idle', i < 0);
   $('#card').scrollTop = 0;

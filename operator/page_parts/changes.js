@@ -9,7 +9,7 @@ const REFUSED = { 13: 'no such definition', 20: 'there was no plan', 21: 'there 
 
 /** What a refusal means, in a few words. */
 function meaning(reply) {
-  const [, number, detail] = reply.split(' '), row = number === '30' ? bySerial.get(+detail) : undefined;
+  const [, number, detail] = reply.split(' '), row = number === '30' ? rowOfSerial(+detail) : undefined;
   if (!(number in REFUSED)) return '';
   return [': ' + REFUSED[number], row === undefined ? (number === '30' ? detail : '') : reference(row)];
 }
@@ -24,9 +24,9 @@ function kindOfChange([, was, is]) {
   return was === 'L' ? 'Came into the current plan' : 'Reset';
 }
 
-function changeLine([serial, was, is, title, arrival, wasDue, nowDue]) {
+function changeLine([number, , , title, arrival, wasDue, nowDue]) {
   const due = wasDue === nowDue ? '' : ', due ' + at(nowDue) + ' and no longer ' + at(wasDue);
-  const i = bySerial.get(serial);
+  const i = rowOfSerial(number);
   return h('li', {}, i === undefined ? title + ' ' + at(arrival) : link(i), due);
 }
 

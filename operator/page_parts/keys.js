@@ -1,7 +1,8 @@
 // The top of the page, the search, the keys, and the start.
 
 function drawTop() {
-  const { first, last, created } = D.plan, date = day => dayName(day * DAY).slice(4);
+  const { first, last, created } = D.plan;
+  const date = day => dateOf(day * DAY).getUTCDate() + ' ' + monthName(day * DAY);
   $('#file').textContent = D.file;
   fill('#asof', 'as of ', h('b', {}, dayName(D.now) + ' ' + year(D.now) + ' ' + clock(D.now)),
     created ? ' · planned ' + date(first) + ' to ' + date(last) : '');
@@ -97,7 +98,10 @@ function onKey(event) {
 }
 
 /** The row that the address names by its serial, as #o970. */
-const addressed = () => bySerial.get(+(location.hash.match(/^#o(\d+)$/) || [])[1]) ?? -1;
+function addressed() {
+  const found = location.hash.match(/^#o(\d+)$/);
+  return found ? rowOfSerial(+found[1]) ?? -1 : -1;
+}
 
 /** The pointer and the focus show a row's arrows, a click chooses it. */
 function listen() {
@@ -129,11 +133,11 @@ function fit() {
   document.documentElement.style.setProperty('--top', height + 'px');
 }
 
+document.querySelectorAll('nav, #shell').forEach(part => { part.hidden = false; });
 drawTop();
 tellAge();
 setInterval(tellAge, 30000);
 drawNow();
-drawDay();
 drawMonth();
 drawChanges();
 listen();

@@ -2,36 +2,56 @@
 // The plan as columns of rows, which are named by their place, and what waits for what.
 const D = JSON.parse(document.getElementById('data').textContent);
 const DAY = 1440;
-const rowCount = D.rows.serial.length;
-const ia = new Int32Array(rowCount), due = new Int32Array(rowCount);
-const late = new Set(D.late), risk = new Set(D.risk), rootOf = new Map(), bySerial = new Map();
-const before = new Map(), after = new Map();
-const perApp = new Map();
+const rowCount = D.state.length;
+const serial = new Int32Array(rowCount), ia = new Int32Array(rowCount), due = new Int32Array(rowCount);
+const late = new Set(), risk = new Set(), rootOf = new Map();
+const before = lists(), after = lists(), perApp = lists();
+
+/** A list for each of many small numbers. */
+function lists() {
+  const held = [];
+  return {
+    get: k => held[k],
+    put(k, value) { if (held[k]) held[k].push(value); else held[k] = [value]; },
+  };
+}
 
 function put(map, key, value) {
   const list = map.get(key);
   if (list) list.push(value); else map.set(key, [value]);
 }
 
-function unpack() {
-  for (let i = 0, at = 0; i < rowCount; i++) {
-    ia[i] = at += D.rows.arrival[i];
-    due[i] = at + D.rows.due[i];
-    bySerial.set(D.rows.serial[i], i);
-    put(perApp, D.rows.app[i], i);
-  }
-  const flat = D.rows.pairs;
+/** Goes through a run of lists of rows: how far on from the one before, how many, how far back each. */
+function eachOfRun(flat, take) {
   for (let k = 0, row = 0; k < flat.length;) {
     row += flat[k++];
-    for (let left = flat[k++]; left--;) {
-      const other = row - flat[k++];
-      put(before, row, other);
-      put(after, other, row);
-    }
+    for (let left = flat[k++]; left--;) take(row, row - flat[k++]);
   }
-  for (let k = 0; k < D.roots.length; k += 2) rootOf.set(D.roots[k], D.roots[k + 1]);
+}
+
+function unpack() {
+  for (let i = 0, at = 0, number = 0; i < rowCount; i++) {
+    serial[i] = number += D.rows.serial[i];
+    ia[i] = at += D.rows.arrival[i];
+    due[i] = at + D.rows.due[i];
+    perApp.put(D.rows.app[i], i);
+    if (D.marks[i] === 'l') late.add(i);
+    if (D.marks[i] === 'r') risk.add(i);
+  }
+  eachOfRun(D.rows.pairs, (row, other) => {
+    before.put(row, other);
+    after.put(other, row);
+  });
+  eachOfRun(D.rows.roots, (row, root) => rootOf.set(row, root));
 }
 unpack();
+
+let bySerial = null;
+/** The row of a serial, where it is shown. */
+function rowOfSerial(number) {
+  bySerial ??= new Map(Array.from(serial, (one, i) => [one, i]));
+  return bySerial.get(number);
+}
 
 const app = i => D.rows.app[i];
 const name = i => D.apps[app(i)][0];

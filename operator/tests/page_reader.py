@@ -22,33 +22,43 @@ def data_in(page):
     return json.loads(re.search(r'<script type="application/json" id="data">(.*?)</script>', page, re.S)[1])
 
 
+def serials_in(data):
+    """The serial of each row."""
+    return list(itertools.accumulate(data["rows"]["serial"]))
+
+
 def rows_in(data):
     """Each row as (serial, application, arrival, deadline, run cycle)."""
     rows = data["rows"]
     arrivals = itertools.accumulate(rows["arrival"])
     return [(serial, data["apps"][app][0], ia, ia + due, None if cycle < 0 else data["cycles"][cycle])
-            for serial, app, ia, due, cycle in zip(rows["serial"], rows["app"], arrivals, rows["due"], rows["cycle"])]
+            for serial, app, ia, due, cycle in
+            zip(serials_in(data), rows["app"], arrivals, rows["due"], rows["cycle"], strict=True)]
 
 
-def pairs_in(data):
-    """Each pair of serials (successor, predecessor)."""
-    serials, flat, found, at, k = data["rows"]["serial"], data["rows"]["pairs"], set(), 0, 0
+def run_in(data, column):
+    """The pairs of serials that a run of lists of rows has."""
+    serials, flat, found, at, k = serials_in(data), data["rows"][column], [], 0, 0
     while k < len(flat):
         at += flat[k]
-        for back in flat[k + 2 : k + 2 + flat[k + 1]]:
-            found.add((serials[at], serials[at - back]))
+        found += [(serials[at], serials[at - back]) for back in flat[k + 2 : k + 2 + flat[k + 1]]]
         k += 2 + flat[k + 1]
     return found
 
 
+def pairs_in(data):
+    """Each pair of serials (successor, predecessor)."""
+    return set(run_in(data, "pairs"))
+
+
 def with_state(data, *states):
     """The serials of the rows in some states."""
-    return {serial for serial, state in zip(data["rows"]["serial"], data["state"]) if state in states}
+    return {serial for serial, state in zip(serials_in(data), data["state"], strict=True) if state in states}
 
 
-def serials(data, places):
-    """The serials of places."""
-    return [data["rows"]["serial"][place] for place in places]
+def late_in(data):
+    """The serials of the rows that are late."""
+    return {serial for serial, mark in zip(serials_in(data), data["marks"], strict=True) if mark == "l"}
 
 
 def ask(path, text, *given):

@@ -35,7 +35,7 @@ class Centre(unittest.TestCase):
         wanted |= {other for serial, other in self.planner.pairs if serial in wanted}
         self.assertEqual(set(self.shown), wanted)
         self.assertEqual(self.shown, {serial: held[serial][0] for serial in wanted})
-        self.assertEqual(len(self.shown), len(self.data["rows"]["serial"]))
+        self.assertEqual(len(self.shown), len(read.rows_in(self.data)))
 
     def test_pairs(self):
         self.assertEqual(read.pairs_in(self.data), {pair for pair in self.planner.pairs if pair[0] in self.shown})
@@ -60,7 +60,7 @@ class Centre(unittest.TestCase):
     def test_late_and_in_error(self):
         text = "SELECT serial FROM cp_row WHERE status IN ('W', 'S', 'E') AND deadline < ? ORDER BY 1"
         late = [serial for serial, in ask(self.path, text, NOW)]
-        self.assertEqual(sorted(read.serials(self.data, self.data["late"])), late)
+        self.assertEqual(sorted(read.late_in(self.data)), late)
         errors = ask(self.path, "SELECT count(*) FROM cp_row WHERE status = 'E'")[0][0]
         self.assertTrue(late and errors)
         self.assertIn(f"<title>{errors} in error, {len(late)} late: ", self.page)
@@ -70,7 +70,7 @@ class Centre(unittest.TestCase):
         for now, is_late in ((deadline, False), (deadline + 1, True)):
             text = f"{moments.day_text(now // 1440)}/{moments.minute_text(now % 1440)}"
             data = read.data_in(read.page_of(self.path, "--now", text))
-            self.assertEqual(serial in read.serials(data, data["late"]), is_late)
+            self.assertEqual(serial in read.late_in(data), is_late)
 
     def test_roots(self):
         """The root of each row that waits is one of those that it reaches and that wait for nothing."""
@@ -82,8 +82,7 @@ class Centre(unittest.TestCase):
         wanted, status = {}, dict(ask(self.path, "SELECT serial, status FROM cp_row"))
         for successor, root in ask(self.path, text):
             wanted.setdefault(successor, set()).add(root)
-        roots = read.serials(self.data, self.data["roots"])
-        found = dict(zip(roots[::2], roots[1::2]))
+        found = dict(read.run_in(self.data, "roots"))
         self.assertEqual(set(found), set(wanted))
         self.assertGreater(len(found), 10)
         for successor, root in found.items():
@@ -97,7 +96,7 @@ class Centre(unittest.TestCase):
             SELECT count(*) - 1 FROM held"""
         self.assertTrue(self.data["holds"])
         for place, number, _, first in self.data["holds"]:
-            self.assertEqual(number, ask(self.path, text, self.data["rows"]["serial"][place])[0][0])
+            self.assertEqual(number, ask(self.path, text, read.serials_in(self.data)[place])[0][0])
             self.assertEqual(first >= 0, number > 0)
 
     def test_free_days(self):
@@ -135,7 +134,7 @@ class Centre(unittest.TestCase):
 
     def test_without_a_script(self):
         plain = re.search(r"<noscript>(.*?)</noscript>", self.page, re.S)[1]
-        for serial in read.serials(self.data, self.data["late"]):
+        for serial in read.late_in(self.data):
             _, app, arrival, deadline, _ = self.shown[serial]
             times = f"<td>{moments.moment_text(arrival)}<td>{moments.moment_text(deadline)}"
             self.assertIn(f"<td>{app}{times}<td>", plain)

@@ -91,8 +91,9 @@ class Words(unittest.TestCase):
                                                   "'2024-03-05' AND '2024-03-07'")}
         self.assertTrue(wanted)
         earlier = {predecessor for _, predecessor in read.pairs_in(data)}
-        self.assertEqual(set(data["rows"]["serial"]) - earlier, wanted - earlier)
-        self.assertTrue(wanted <= set(data["rows"]["serial"]))
+        shown = set(read.serials_in(data))
+        self.assertEqual(shown - earlier, wanted - earlier)
+        self.assertTrue(wanted <= shown)
 
     def test_a_clock_outside_the_plan(self):
         data = read.data_in(read.page_of(plans.of_worked("data-centre-year")))
