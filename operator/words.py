@@ -16,7 +16,7 @@ class Parser(argparse.ArgumentParser):
     """A parser that tells wrong words in one line and ends with status 2."""
 
     def error(self, message):
-        tell(f"{message}; {self.prog} --help says more")
+        tell(f"{message}; ./{self.prog} --help says more")
         raise SystemExit(2)
 
 
