@@ -48,14 +48,10 @@ def add_words(parser):
 
 
 def run(given):
-    program = given.program or next(filter(os.path.exists, PROGRAMS), None)
-    if program is None:
-        words.tell("there is no built planner to try it with; ./opcplan builds one, and --program names one")
-        return 1
     try:
         text = text_of(given.stream)
         with plan_file.opened(given.plan) as plan, tempfile.TemporaryDirectory(prefix="what-if-") as folder:
-            copy = os.path.join(folder, "plan.db")
+            program, copy = given.program or built_program(), os.path.join(folder, "plan.db")
             with contextlib.closing(sqlite3.connect(copy)) as other:
                 plan.db.backup(other)
             ran = subprocess.run([os.path.abspath(program), "--db", copy], input=text, capture_output=True, check=False)
@@ -73,6 +69,14 @@ def run(given):
     if ran.returncode >= FAULTED:
         words.tell(f"the planner ended with status {ran.returncode}; what is shown is what it did before")
     return 0 if ran.returncode == 0 else 1
+
+
+def built_program():
+    """The program that was built here, or else the release."""
+    for program in PROGRAMS:
+        if os.path.exists(program):
+            return program
+    raise plan_file.Unreadable("there is no built planner to try it with: ./opcplan builds one, --program names one")
 
 
 def text_of(name):
