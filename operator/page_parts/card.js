@@ -84,6 +84,15 @@ function drawLegend() {
     h('h3', {}, 'Keys'), h('ul', { class: 'signs' }, KEYS.map(([key, text]) => h('li', {}, h('kbd', {}, key), text))));
 }
 
+/** Names the row in the address, where the page has one. */
+function address(i) {
+  try {
+    history.replaceState(null, '', i >= 0 ? '#o' + serial[i] : '#');
+  } catch {
+    say('');
+  }
+}
+
 /** Chooses a row, or none. */
 function choose(i, isQuiet) {
   const old = view.pick;
@@ -92,7 +101,7 @@ function choose(i, isQuiet) {
   if (i >= 0 && view.kind !== 'chain' && !KINDS[view.kind](i)) view.kind = 'all';
   view.reveal = true;
   if (i >= 0 && (ia[i] >= view.from + DAY || lastShown(i) <= view.from)) view.from = dayOf(ia[i]) * DAY;
-  if (!isQuiet) history.replaceState(null, '', i >= 0 ? '#o' + serial[i] : '#');
+  if (!isQuiet) address(i);
   document.body.classList.toggle('chosen', i >= 0);
   $('#card').classList.toggle('idle', i < 0);
   $('#card').scrollTop = 0;

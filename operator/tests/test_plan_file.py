@@ -3,6 +3,7 @@
 import os
 import shutil
 import sqlite3
+import subprocess
 import tempfile
 import threading
 import unittest
@@ -196,6 +197,25 @@ class PlanFile(unittest.TestCase):
         finally:
             done.set()
             writer.join()
+
+    @unittest.skipUnless(plans.PROGRAM.exists(), "opcplan is not built")
+    def test_beside_opcplan(self):
+        """While opcplan has the file open, what it answered so far is read, and it goes on as if nobody had read."""
+        path = self.plan()
+        words = [plans.PROGRAM, "--db", path]
+        with subprocess.Popen(words, stdin=subprocess.PIPE, stdout=subprocess.PIPE, text=True) as program:
+            for hours in (7, 8):
+                statement = f"define options --job 90000{hours}\nmax_extension_hours = {hours}\n/*\n"
+                program.stdin.write(statement)
+                program.stdin.flush()
+                self.assertEqual(program.stdout.readline(), "ok defined 1\n")
+                before = plans.prints(path)
+                with plan_file.opened(path) as plan:
+                    self.assertEqual(plan.meta["max_hours"], hours)
+                self.assertEqual(before, plans.prints(path))
+            rest, _ = program.communicate("list cp\n")
+        self.assertTrue(rest.splitlines()[-1].startswith("ok rows "))
+        self.assertEqual(program.returncode, 0)
 
 
 def logged(db):
