@@ -92,13 +92,25 @@ def card(browser, page, ask):
     ask(browser.js("serial[rootOf.get(view.pick)]") in roots, "the root of a row", roots)
     text = browser.js("document.querySelector('#card').innerText")
     ask("root: POSTLOANS (in error" in text, "the card names the root", text)
+    ask(f"and {len(wanted) - 1} more" in text, "the card counts what a row waits for", text)
     ask(browser.js("document.querySelectorAll('.pairs .own').length") == len(wanted), "arrows of the chosen row")
     browser.js("choose(-1)")
     ask(browser.js("document.querySelectorAll('.pairs.all g').length") > 5, "faint arrows of all rows")
 
 
 def months(browser, page, ask):
-    """The sums of a month are SQLite's, and its free days those on which a daily application doesn't run."""
+    """The sums of each month are SQLite's, and its free days those on which a daily application doesn't run."""
+    for number in range(browser.js("months.length")):
+        browser.js(f"view.month = {number}; drawMonth()")
+        a_month(browser, ask)
+    browser.js("view.month = null; drawMonth()")
+    cells = browser.js("[...document.querySelectorAll('td[data-d]')].filter(x => x.classList.contains('bad'))"
+                       ".map(x => [D.apps[+x.dataset.a][0], +x.dataset.d])")
+    errors = ask_plan("SELECT app, ia / 1440 FROM cp_row WHERE status = 'E'")
+    ask(sorted(map(tuple, cells)) == sorted(errors), "cells in error", cells)
+
+
+def a_month(browser, ask):
     first, last = browser.js("[months[view.month], (months[view.month + 1] ?? D.last + 1) - 1]")
     wanted = dict(ask_plan(ARRIVALS, first, last))
     rows = browser.js("[...document.querySelectorAll('.month tr:has(td[data-d])')].map(x => "
@@ -112,10 +124,6 @@ def months(browser, page, ask):
     for calendar, app in (("BANK", "FEEDSWIFT"), ("DEFAULT", "FEEDBRANCH")):
         work = {moments.day_of(line[:10]) for line in planner.days(app, first, last)}
         ask(free[calendar][:-1] == ["" if day in work else "free" for day in range(first, last + 1)], calendar, free)
-    cells = browser.js("[...document.querySelectorAll('td[data-d]')].filter(x => x.classList.contains('bad'))"
-                       ".map(x => [D.apps[+x.dataset.a][0], +x.dataset.d])")
-    errors = ask_plan("SELECT app, ia / 1440 FROM cp_row WHERE status = 'E'")
-    ask(sorted(map(tuple, cells)) == sorted(errors), "cells in error", cells)
 
 
 def changes(browser, page, ask):
