@@ -25,7 +25,7 @@ def run(given):
         rows, pairs = unfinished(plan)
         notes = notes_on(plan, now)
     model = page_model.of_rows(rows, pairs, now)
-    late = sorted(model.late(), key=lambda place: (rows[place].deadline, rows[place].ia, rows[place].app))
+    late = in_order(rows, model)
     moment = moments.moment_text(now)
     print("\n".join(late_lines(rows, model, late, moment, now) if late else [f"Nothing is late at {moment}."]))
     for note in notes:
@@ -33,12 +33,20 @@ def run(given):
     return 0 if late else 1
 
 
+def in_order(rows, model):
+    """The places of the late rows, the earliest deadline first."""
+    late = [place for place, is_late in enumerate(model.is_late) if is_late]
+    return sorted(late, key=lambda place: (rows[place].deadline, rows[place].ia, rows[place].app))
+
+
 def unfinished(plan):
-    """The rows of the current plan that are neither complete nor deleted, by input arrival, and their pairs."""
+    """The rows of the current plan that are neither complete nor deleted, by input arrival, and pairs of these."""
     rows = waits.rows_of_current(plan, waits.UNFINISHED)
     cursor = plan.db.cursor()
     cursor.row_factory = None
-    asked = "SELECT successor, predecessor FROM dependency JOIN cp_row ON serial = successor WHERE instr(?, status)"
+    asked = """SELECT successor, predecessor FROM dependency JOIN cp_row AS later ON later.serial = successor
+        JOIN cp_row AS earlier ON earlier.serial = predecessor
+        WHERE instr(?1, later.status) AND instr(?1, earlier.status)"""
     return rows, cursor.execute(asked, (waits.UNFINISHED,)).fetchall()
 
 

@@ -9,7 +9,7 @@ import why_day
 import words
 
 SUMMARY = "why an occurrence isn't started, or why it stands where it stands"
-MOST_LINES, DEEPEST = 60, 24
+MOST_LINES, DEEPEST = 60, 20
 SENTENCES = {
     "S": "It is started, and not complete yet.",
     "E": "It ended in error. `cp-reset` lets it wait again, `cp-complete` takes it as done, `cp-delete` gives it up.",
@@ -108,7 +108,7 @@ def tree_lines(waiting, row, now, all_lines):
 def aligned(rows, waiting, now, places=None):
     """A line for each row, in columns: its key (indented by its depth), how far it is, when it is due, its serial."""
     places = places or [(row, 1, False) for row in rows]
-    keys = ["  " * min(depth, DEEPEST) + row.key for row, depth, _ in places]
+    keys = [indent(depth) + row.key for row, depth, _ in places]
     states = [waits.state(row, waiting[row.serial], now) for row, _, _ in places]
     wide, far = max(map(len, keys)), max(map(len, states))
     lines = []
@@ -117,6 +117,11 @@ def aligned(rows, waiting, now, places=None):
         tail.append("as above" if again else "")
         lines.append(f"{key:{wide}}  {state:{far}}  " + ", ".join(filter(None, tail)))
     return lines
+
+
+def indent(depth):
+    """The blanks before a row of a tree; deep ones stand at one place, behind the number of their depth."""
+    return "  " * depth if depth <= DEEPEST else "  " * DEEPEST + f"{depth}: "
 
 
 def nowhere_lines(plan, app, ia):

@@ -4,9 +4,10 @@ import collections
 import contextlib
 import functools
 import shutil
+import sqlite3
 import tempfile
+import types
 import unittest
-from pathlib import Path
 
 import plans
 from plans import plain
@@ -48,11 +49,17 @@ def defined_by(text):
 
 @functools.cache
 def read_back(text):
-    """The same, read from the tables."""
-    path = plans.folder() / f"defined-{len(list(plans.folder().iterdir()))}.db"
-    plans.write(defined_by(text), path)
-    with plan_file.opened(path) as plan:
-        return definitions.of_plan(plan)
+    """The same, read from the tables, which stand in memory."""
+    tool = plans.plan_files()
+    with contextlib.closing(sqlite3.connect(":memory:")) as db:
+        db.row_factory = sqlite3.Row
+        for made in plans.schema():
+            db.execute(made)
+        for table, rows in tool.rows_told(defined_by(text)).items():
+            columns = tool.COLUMNS[table]
+            db.executemany(f"INSERT INTO {table} ({columns}) VALUES ({', '.join('?' * len(columns.split(',')))})", rows)
+        meta = db.execute("SELECT * FROM plan_meta").fetchone()
+        return definitions.of_plan(types.SimpleNamespace(db=db, meta=meta))
 
 
 # what no worked stream has: a run cycle that is out of effect before it is in effect
