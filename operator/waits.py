@@ -97,14 +97,27 @@ def open_predecessors(plan, serial):
     return [row for row in predecessors(plan, serial) if row.place not in COMPLETE]
 
 
+OPEN_PAIRS = """reached JOIN dependency ON successor = reached.serial
+    WHERE EXISTS (SELECT 1 FROM ltp_row WHERE serial = predecessor)
+    OR EXISTS (SELECT 1 FROM cp_row WHERE serial = predecessor AND status IN ('W', 'S', 'E'))"""
+
+
 def chain(plan, row):
     """All that a row waits for: by serial the predecessors that aren't complete, down to rows that wait for none."""
-    waits, left = {}, [row]
-    while left:
-        here = left.pop()
-        if here.serial not in waits:
-            waits[here.serial] = open_predecessors(plan, here.serial) if here.place in "WL" else []
-            left += waits[here.serial]
+    ask = plan.db.execute
+    ask("DROP TABLE IF EXISTS temp.reached")
+    ask("CREATE TEMP TABLE reached (serial INTEGER PRIMARY KEY)")
+    ask(
+        "INSERT INTO temp.reached WITH RECURSIVE reached (serial) AS "
+        f"(VALUES (?) UNION SELECT predecessor FROM {OPEN_PAIRS}) SELECT serial FROM reached",
+        (row.serial,),
+    )
+    rows = {other.serial: other for other in rows_where(plan, "serial IN (SELECT serial FROM temp.reached)")}
+    waits = {serial: [] for serial in rows}
+    for successor, predecessor in ask(f"SELECT successor, predecessor FROM temp.{OPEN_PAIRS}"):
+        waits[successor].append(rows[predecessor])
+    for others in waits.values():
+        others.sort(key=lambda other: (other.ia, other.app, other.serial))
     return waits
 
 

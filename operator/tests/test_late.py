@@ -149,6 +149,8 @@ REPORT 2024-01-02 20.00  blocked  due 2024-01-03 08.00  late by 30 min      seri
             self.assertEqual(plans.plan("next-job", plans.of_worked(name), "--short").stdout, f"{used + 1}\n")
 
     def test_next_job_of_a_plan_without_jobs_and_of_one_without_room(self):
+        self.assertEqual(plans.plan("next-job", self.file).returncode, 0)
+        self.assertEqual(plans.prints(self.file), self.before)
         with closing(sqlite3.connect(self.file)) as db:
             db.execute("DELETE FROM job")
             db.commit()

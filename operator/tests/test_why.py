@@ -127,7 +127,7 @@ class Rows(unittest.TestCase):
             with plan_file.opened(plans.of_stream(text)) as plan:
                 for row, status in list(planner.current.values())[:80]:
                     if status == "W":
-                        blocked = waits.open_predecessors(plan, row[0])
+                        blocked = waits.chain(plan, waits.Row(*row, "W"))[row[0]]
                         try:
                             planner.copy().act("start", row[1], row[2])
                             self.assertEqual(blocked, [], name)

@@ -188,7 +188,7 @@ class Reasons(unittest.TestCase):
                 for one in naming.names(read, app, day).answers:
                     alike = (one.cycle.name, bool(one.hits), *(reason.kind for reason in one.reasons))
                     asked[alike] += 1
-                    if asked[alike] > 3:  # three days of one kind of answer are enough for a run cycle
+                    if asked[alike] > 2:  # two days of one kind of answer are enough for a run cycle
                         continue
                     with self.subTest(name, app=app, day=moments.day_text(day), cycle=one.cycle.name):
                         Mended(self, close, app, one.cycle.name).check(day, one, seen)
@@ -200,7 +200,7 @@ def mended_days(planner, app, name, changes):
     """The days of a time that a run cycle names with other values, whenever it is in effect."""
     cycle = {**planner.defined["run-cycles"][app][name], "first": plain.FIRST_DAY, "end": None, **dict(changes)}
     work = planner.work_days(app)
-    first, last = (NEW_YEAR - 9, NEW_YEAR + 4) if is_slow(planner, app) else (NEW_YEAR - 40, NEW_YEAR + 70)
+    first, last = (NEW_YEAR - 9, NEW_YEAR + 4) if is_slow(planner, app) else (NEW_YEAR - 20, NEW_YEAR + 50)
     return plain.days_named(cycle, planner.defined["periods"][cycle["period"]], work, first, last)
 
 
