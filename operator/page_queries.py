@@ -5,6 +5,7 @@ from typing import NamedTuple
 
 import definitions
 import moments
+import plan_file
 
 MOST_JOBS = 3000
 
@@ -21,6 +22,7 @@ class Row(NamedTuple):
     place: str
 
 
+PLACES = "WSECDLHowp"
 COLUMNS = "serial, app, ia, deadline, run_cycle"
 CURRENT = f"SELECT {COLUMNS}, status FROM cp_row"
 OTHERS = f"""SELECT {COLUMNS}, 'L' FROM ltp_row WHERE {{0}} UNION ALL
@@ -50,6 +52,10 @@ def occurrences(plan, first, last):
     if len(found) < len(shown) + len(beyond):  # somebody took rows away
         shown = {row[0] for row in found}
         pairs = [pair for pair in pairs if pair[1] in shown]
+    odd = {row[5] for row in found} - set(PLACES)
+    if odd:
+        told = f"its rows are no sound plan: one has the status or reason {odd.pop()!r}"
+        raise plan_file.Unreadable(f"{plan.path}: {told}")
     found.sort(key=itemgetter(2, 1, 0))
     return list(map(Row._make, found)), pairs
 

@@ -8,7 +8,7 @@ function cycleLine([title, kind, period, rule, offsets, time, days, minute, inEf
     (outEffect === null ? '' : ', until before ' + dayName(outEffect * DAY));
   const which = (kind === 'X' ? ' takes away ' : ' ') + period + ' ' + numbers;
   const text = which + ' at ' + clock(time) + deadline + effect;
-  return h('p', { class: 'cycle' }, h('b', {}, title), text, h('span', { class: 'quiet' }, '; ' + RULES[rule]));
+  return h('p', { class: 'cycle' }, h('b', {}, title), text, h('span', { class: 'quiet' }, '; ' + (RULES[rule] || rule)));
 }
 
 /** An application in a list: a button where it is defined or has rows. */

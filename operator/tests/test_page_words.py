@@ -71,6 +71,21 @@ class Words(unittest.TestCase):
                 self.assertEqual((asked.returncode, asked.stdout), (1, ""), given)
                 self.assertTrue(asked.stderr.startswith(f"plan: {path}: "), asked.stderr)
 
+    def test_rows_that_cannot_be(self):
+        deletion = "INSERT INTO deletion_row VALUES (9999, 'APP', 28401120, 28401120, NULL, '?')"
+        for name, text in (("status.db", "UPDATE cp_row SET status = 'Q'"), ("reason.db", deletion),
+                           ("day.db", "UPDATE plan_meta SET plan_end = 99999999999999999")):
+            path = plans.copy_of(self.path, self.folder, name)
+            with closing(sqlite3.connect(path)) as db:
+                db.execute(text)
+                db.commit()
+            asked = plans.plan("page", path)
+            self.assertEqual((asked.returncode, asked.stdout), (1, ""), name)
+            self.assertTrue(asked.stderr.startswith(f"plan: {path}: "), asked.stderr)
+            self.assertIn("no sound plan", asked.stderr)
+            asked = plans.plan("page", self.path, "--since", path)
+            self.assertNotIn("Traceback", asked.stderr, name)
+
     def test_wrong_words(self):
         for given in ((), (self.path, "--from", "x"), (self.path, "--now", "2024-01-01"), (self.path, "--no"),
                       (self.path, "--from", "2024-01-02", "--to", "2024-01-01"), (self.path, "more")):
