@@ -3,6 +3,7 @@
 import collections
 import contextlib
 import functools
+import itertools
 import shutil
 import sqlite3
 import tempfile
@@ -113,11 +114,16 @@ def is_slow(planner, app):
 
 def longest_free_run(planner, app):
     """The most free days in a row."""
-    work, longest, run = planner.work_days(app), 0, 0
-    for day in range(plain.FIRST_DAY, plain.LAST_DAY + 1):
-        run = 0 if work(day) else run + 1
-        longest = max(longest, run)
-    return longest
+    planner.work_days(app)
+    name = planner.defined["applications"][app][1] or planner.options["default_calendar"]
+    key = tuple(sorted(planner.defined["calendars"].get(name, {}).items()))
+    if key not in RUNS:
+        runs = itertools.groupby(planner.calendars[key])
+        RUNS[key] = max((sum(1 for _ in run) for is_work, run in runs if not is_work), default=0)
+    return RUNS[key]
+
+
+RUNS = {}
 
 
 def near(planner, app, days):
@@ -364,9 +370,10 @@ class Missing(unittest.TestCase):
                 continue
             made = {row[2] for row in after.planned.values() if row[1] == app}
             live = {row[2] for row in planner.live() if row[1] == app}
+            named = sorted(planner.named(app, *planner.bounds[:2]))
             for day in range(planner.bounds[0], planner.bounds[1] + 1):
                 lines = why_day.plan_lines(plan, app, day, naming.names(read, app, day))
-                for _, time in planner.named(app, day, day):
+                for time in [time for other, time in named if other == day]:
                     ia, at_time = day * plain.DAY + time, plain.minute_text(time)
                     found = [line for line in lines if line.startswith(at_time) and "It isn't" in line]
                     self.assertEqual(bool(found), ia not in live)
