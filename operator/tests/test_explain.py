@@ -107,6 +107,14 @@ class Worked(unittest.TestCase):
             if all(32 <= byte < 127 or byte == 9 for byte in line):
                 self.assertTrue(head.startswith(" ".join(line.decode().split())[:90]), head)
             seen[reply.split()[1]] += 1
+            self.check_record_line(text, sentences)
+
+    def check_record_line(self, text, sentences):
+        """The line of a faulty record is the line that is shown."""
+        told = re.search(r"record [0-9]+ of its data, line ([0-9]+), is faulty `(.*?)`", sentences)
+        line = text.split(b"\n")[int(told.group(1)) - 1].rstrip(b"\r") if told else b""
+        if told and all(32 < byte < 127 for byte in line):
+            self.assertEqual(line[:90].decode().split("`")[0], told.group(2))
 
     def test_what_is_said_holds_by_the_plain_planner(self):
         seen = collections.Counter()

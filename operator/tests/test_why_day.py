@@ -337,6 +337,7 @@ class Command(unittest.TestCase):
 
 DAILY = """define run-cycles --job 900
 LEDGER,RC,N,DAY,3,1,2024-01-01,,18.00,1,06.00
+LEDGER,EARLY,N,DAY,3,1,2024-01-01,,10.00,1,06.00
 /*
 """
 
@@ -349,7 +350,7 @@ class Missing(unittest.TestCase):
     def test_a_modification_makes_what_is_said_to_wait_for_one(self):
         told = set()
         # an application is named on further days, and nothing is modified yet
-        late = plans.stream("monday") + DAILY.encode()
+        late = plans.stream("monday") + plans.stream("tuesday") + DAILY.encode()
         for name in ("batch-through-all-sets", "withdrawn-and-named-again", "deleted-stays-deleted", None):
             for text in beginnings(plans.stream(name)) if name else [late]:
                 planner = plans.planner_of(text)
