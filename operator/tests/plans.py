@@ -21,7 +21,7 @@ sys.dont_write_bytecode = True
 TOP = Path(__file__).resolve().parents[2]
 PROGRAM = Path(os.environ.get("OPCPLAN") or TOP / "crates" / "opcplan" / "out" / "opcplan")
 DATA = TOP / "crates" / "planner_rows" / "data"
-SCHEMA = TOP / "crates" / "plan_schema" / "src" / "texts.rt"
+SCHEMA = TOP / "crates" / "table_schema" / "src" / "texts.rt"
 for folder in (TOP / "tools", TOP / "operator"):
     if str(folder) not in sys.path:
         sys.path.insert(0, str(folder))
