@@ -5,8 +5,6 @@ The built program makes them where it is there; else the rows of tools/plain_pla
 import atexit
 import functools
 import hashlib
-import importlib.machinery
-import importlib.util
 import os
 import re
 import shutil
@@ -27,6 +25,7 @@ for folder in (TOP / "tools", TOP / "operator"):
         sys.path.insert(0, str(folder))
 
 import plain_planner as plain  # noqa: E402
+import plan_rows  # noqa: E402
 
 
 def as_bytes(text):
@@ -86,16 +85,6 @@ def copy_of(path, into, name="plan.db"):
     return Path(into) / name
 
 
-@functools.cache
-def plan_files():
-    """The tool tools/plan-files, which says what rows a planner's tables have."""
-    path = str(TOP / "tools" / "plan-files")
-    loader = importlib.machinery.SourceFileLoader("plan_files", path)
-    module = importlib.util.module_from_spec(importlib.util.spec_from_loader("plan_files", loader))
-    loader.exec_module(module)
-    return module
-
-
 def schema():
     """The texts that make the tables."""
     texts = re.findall(r'"(CREATE TABLE .*?)"', SCHEMA.read_text(encoding="utf-8"), re.S)
@@ -104,13 +93,12 @@ def schema():
 
 def write(planner, path):
     """Makes the file of a plan with what a plain planner knows."""
-    tool = plan_files()
     with closing(sqlite3.connect(path)) as db:
         db.execute("PRAGMA journal_mode = WAL")
         for text in schema():
             db.execute(text)
-        for table, rows in tool.rows_told(planner).items():
-            columns = tool.COLUMNS[table]
+        for table, rows in plan_rows.rows_told(planner).items():
+            columns = plan_rows.COLUMNS[table]
             marks = ", ".join("?" * len(columns.split(",")))
             db.executemany(f"INSERT INTO {table} ({columns}) VALUES ({marks})", rows)
         db.commit()

@@ -64,7 +64,7 @@ class Dump(unittest.TestCase):
         self.addCleanup(self.room.cleanup)
 
     def test_definitions_of_each_worked_stream_come_again(self):
-        for name, _ in plans.plan_files().streams():
+        for name, _ in plans.plan_rows.streams():
             with self.subTest(name):
                 text = plans.stream(name)
                 planner, _ = after(text)
@@ -123,7 +123,7 @@ class Dump(unittest.TestCase):
 
     @unittest.skipUnless(plans.PROGRAM.exists(), "opcplan is not built")
     def test_program_takes_a_dump_and_dumps_it_again(self):
-        rows_of = plans.plan_files().rows_of
+        rows_of = plans.plan_rows.rows_of
         for name in ("data-centre-year", "definitions-merged", "options-value-by-value", "longest-list"):
             with self.subTest(name):
                 first = plans.of_worked(name)

@@ -1,5 +1,7 @@
 """Plans that somebody changed by hand: dump and export end with a message, and a mistake of ours isn't hidden."""
 
+import importlib.machinery
+import importlib.util
 import tempfile
 import unittest
 from pathlib import Path
@@ -17,6 +19,14 @@ CHANGES = ["a day past the last", "a moment past the plan", "hours past their li
            "a job without a number that it may have"]
 
 
+def plan_files():
+    """The tool tools/plan-files, which says how a plan is made unfit."""
+    loader = importlib.machinery.SourceFileLoader("plan_files", str(plans.TOP / "tools" / "plan-files"))
+    module = importlib.util.module_from_spec(importlib.util.spec_from_loader("plan_files", loader))
+    loader.exec_module(module)
+    return module
+
+
 class SoundRows(unittest.TestCase):
     def setUp(self):
         room = tempfile.TemporaryDirectory(prefix="sound-rows-")
@@ -25,7 +35,7 @@ class SoundRows(unittest.TestCase):
 
     def changed_plans(self):
         """Plans with a value that can't be, by a name for each."""
-        tool, plan = plans.plan_files(), plans.of_worked("two-hundred-statements")
+        tool, plan = plan_files(), plans.of_worked("two-hundred-statements")
         for name, _, _, change in tool.UNFIT:
             if name in CHANGES:
                 file = plans.copy_of(plan, self.room, f"{len(name)}-{name[-6:].replace(' ', '-')}.db")

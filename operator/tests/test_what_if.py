@@ -108,7 +108,7 @@ class WhatIf(unittest.TestCase):
     def test_differences_are_the_planners(self):
         shown = 0
         for name in STREAMS:
-            items = plans.plan_files().items_of(plans.stream(name))
+            items = plans.plan_rows.items_of(plans.stream(name))
             for cut in sorted({1 + number * len(items) // CUTS for number in range(CUTS)} & set(range(1, len(items)))):
                 with self.subTest(name, cut=cut):
                     first, rest = b"".join(items[:cut]), b"".join(items[cut:])

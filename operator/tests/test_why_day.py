@@ -51,7 +51,7 @@ def defined_by(text):
 @functools.cache
 def read_back(text):
     """The same, read from the tables, which stand in memory."""
-    tool = plans.plan_files()
+    tool = plans.plan_rows
     with contextlib.closing(sqlite3.connect(":memory:")) as db:
         db.row_factory = sqlite3.Row
         for made in plans.schema():
