@@ -3,6 +3,7 @@
 import moments
 import page_model
 import plan_file
+import sound_rows
 import waits
 import words
 
@@ -21,10 +22,10 @@ def add_words(parser):
 
 def run(given):
     now = moments.now() if given.now is None else given.now
-    with plan_file.opened(given.plan) as plan:
+    with plan_file.opened(given.plan) as plan, sound_rows.asked_of(plan):
         rows, pairs = unfinished(plan)
         notes = notes_on(plan, now)
-    model = page_model.of_rows(rows, pairs, now)
+        model = page_model.of_rows(rows, pairs, now)
     late = in_order(rows, model)
     moment = moments.moment_text(now)
     print("\n".join(late_lines(rows, model, late, moment, now) if late else [f"Nothing is late at {moment}."]))

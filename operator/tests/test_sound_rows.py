@@ -56,15 +56,18 @@ class SoundRows(unittest.TestCase):
         for name, file in self.changed_plans():
             with self.subTest(name), plan_file.opened(file) as plan:
                 self.assertIsNotNone(sound_rows.first_fault(plan.db))
-            for words in (["dump", file], ["export", file, "--json", "--set", "ltp", "--set", "deletions"]):
+            asked = [["dump", file], ["export", file, "--json", "--set", "ltp", "--set", "deletions"], ["next-job", file],
+                     ["why", file, "A", "2024-01-02/08.00"], ["why-day", file, "A", "2024-01-02"],
+                     ["late", file, "--now", "2024-02-01/00.00"]]
+            for words in asked:
                 with self.subTest(name, words=words[0]):
                     ran = plans.plan(*words)
                     self.assertIn(ran.returncode, (0, 1))
                     self.assertNotIn("Traceback", ran.stderr)
-                    if ran.returncode == 1:
-                        self.assertEqual(ran.stdout, "")
+                    if "no sound plan" in ran.stderr:
+                        self.assertEqual((ran.returncode, ran.stdout), (1, ""))
                         self.assertTrue(ran.stderr.startswith(f"plan: {file}: "), ran.stderr)
-                        found += "no sound plan" in ran.stderr
+                        found += 1
         self.assertGreater(found, 3)
 
     def test_mistakes_over_a_sound_plan_are_not_hidden(self):
