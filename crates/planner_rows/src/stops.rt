@@ -66,7 +66,7 @@ fn new_files(alloc: Global, stopping: Stopping, calls: u64) -> Disks {
 }
 
 /// How far a run came, by how it ended.
-fn reached(outcome: &Result<Tally, RunFault>) -> Reached {
+fn end_of(outcome: &Result<Tally, RunFault>) -> Reached {
     match outcome {
         Ok(_) => Reached::End,
         Err(
@@ -103,7 +103,7 @@ fn run_over(
         Ok(mut store) => {
             let mut left = text;
             let outcome = run(alloc, &mut store, &mut left, &mut Vec::new(alloc));
-            let how_far = reached(&outcome);
+            let how_far = end_of(&outcome);
             (how_far, store.into_connection().into_store().close())
         }
         Err((_, conn)) => (Reached::Nothing, conn.into_store().close()),
