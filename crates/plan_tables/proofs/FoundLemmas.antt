@@ -1,6 +1,5 @@
 -- What a store kept is found again.
 use Rattle.std.proofs.Common.{◌≡◌, ◌⊎◌, ◌∙◌, ◌<◌, ℕ, Bool, Result, Ok, Err, true, false, length, inl, inr, ap, arith, refl, subst, sym, IsTrue, filter}
-use Rattle.std.specs.Prelude.{IfOk}
 use Rattle.std.proofs.Math.Logic.{∥∥₁_elim, ∥∥₁_map}
 use Rattle.std.proofs.lemmas.Slice.Zip.{AllZip-long}
 use Rattle.sqlite.specs.Effect.{Database, IsDatabase}
@@ -113,10 +112,3 @@ found_in image s c opens live found told = record {
   reads = subst (AreFoundIn image) (ap (λ (d : Database). d.trees) (sym opens.clean)) found.reads;
   told = told;
 }
-
--- a clause that stands under two others
-pub both_so : {A E : Type 0} (r : Result A E) (IsClean Told Found : A → Type 0) (Honest : Type 0)
-    → IfOk r (λ a. IsClean a → Honest) → IfOk r (λ a. IsClean a → Told a) → ((a : A) → Honest → Told a → Found a)
-    → IfOk r (λ a. IsClean a → Found a)
-both_so (Ok a) IsClean Told Found Honest honest told f = λ clean. f a (honest clean) (told clean)
-both_so (Err e) IsClean Told Found Honest honest told f = tt

@@ -1,3 +1,4 @@
 pub mod Stored
+pub mod Adopted
 pub mod Unopened
 pub mod Found

@@ -1,21 +1,17 @@
 // Stores over databases that are opened.
 
 ghost use Rattle.std.specs.Prelude.{◌≡◌, false, IfErr, IfOk};
-ghost use Rattle.sqlite.specs.State.{HasCleanDisk, Survives};
+ghost use Rattle.sqlite.specs.State.{HasCleanDisk};
 ghost use Rattle.sqlite.specs.Files.{file_state};
-ghost use Rattle.sqlite.specs.Held.{state};
 ghost use Rattle.sqlite_wal.specs.Files.{image_at};
 ghost use Rattle.planner_machine.specs.Content.{nothing_known};
 ghost use Rattle.planner_machine.specs.Sound.{IsSound};
-ghost use Rattle.table_schema.specs.Schema.{no_schema};
 ghost use Rattle.plan_store.specs.Contents.{content_of};
-ghost use Rattle.table_reading.specs.Reading.{HasPlan};
-ghost use Rattle.table_opening.specs.Foreign.{IsForeign};
-ghost use Rattle.table_opening.specs.Held.{HasVersion, HoldsPlan};
-ghost use Rattle.table_opening.specs.Opened.{IsCaused, IsStored, IsToldBy, IsUnmade, MakesFirst};
+ghost use Rattle.table_opening.specs.Opened.{IsStored};
+ghost use Rattle.plan_tables.specs.Adopted.{ComesBack, IsOver};
 ghost use Rattle.plan_tables.specs.Found.{IsFoundIn};
 ghost use Rattle.plan_tables.specs.Unopened.{IsUnmadeBy};
-ghost use Rattle.table_opening.specs.declared.faults.OpenFault.TheVariants.{Memory, Rows, Unopened};
+ghost use Rattle.table_opening.specs.declared.faults.OpenFault.TheVariants.{Memory};
 
 use crate::table_store::TableStore;
 use sqlite::{Alter, Connection, File, FileFrom, FileStore, MemStore, Start, Unknown};
@@ -32,31 +28,8 @@ impl<S: Alter + Drop> TableStore<S> {
         conn: Connection<S>,
     ) -> Result<TableStore<S>, (OpenFault, Connection<S>)>
         requires { conn.in_transaction ≡ false }
-        ensures sound { IfOk result (λ store. IsSound (content_of store.lists)) }
-        ensures whole { IfOk result (λ store. store.failures ≡ 0) }
-        ensures opened { IfOk result (λ store. HasCleanDisk (state S.Store store.conn)
-            → IsStored (state S.Store store.conn) (content_of store.lists)) }
-        ensures told { IfOk result (λ store. HasCleanDisk (state S.Store store.conn)
-            → IsToldBy (state S.Store conn).now (content_of store.lists)) }
-        ensures empty { (state S.Store conn).now.schema ≡ no_schema
-            → IfOk result (λ store. content_of store.lists ≡ nothing_known) }
-        ensures crash { IfOk result (λ store. Survives (state S.Store conn) (state S.Store store.conn)
-            (MakesFirst (state S.Store conn))) }
-        ensures unopened { IfErr result (λ left. Survives (state S.Store conn) (state S.Store left.1)
-            (MakesFirst (state S.Store conn))) }
-        ensures mode { IfErr result (λ left. left.1.in_transaction ≡ false) }
-        ensures rows { IfErr result (λ left. HasCleanDisk (state S.Store left.1) → left.0 ≡ Rows
-            → HasVersion (state S.Store conn) × (HoldsPlan (state S.Store conn) → ⊥)) }
-        ensures version { IfErr result (λ left. HasCleanDisk (state S.Store left.1) → HasVersion (state S.Store conn)
-            → left.0 ≡ Unopened → ⊥) }
-        ensures caused { IfErr result (λ left. HasCleanDisk (state S.Store left.1) → HasPlan (state S.Store conn)
-            → IsCaused (state S.Store conn) (state S.Store left.1) left.0) }
-        ensures unmade { IfErr result (λ left. HasCleanDisk (state S.Store left.1)
-            → (state S.Store conn).now.schema ≡ no_schema
-            → IsUnmade (state S.Store conn) (state S.Store left.1) left.0) }
-        ensures foreign { IfErr result (λ left. HasCleanDisk (state S.Store left.1)
-            → (HasPlan (state S.Store conn) → ⊥) → ((state S.Store conn).now.schema ≡ no_schema → ⊥)
-            → IsForeign (state S.Store conn) (state S.Store left.1) left.0) }
+        ensures opened { IfOk result (IsOver conn) }
+        ensures unopened { IfErr result (ComesBack S.Store conn) }
     {
         let mut conn = conn;
         match open_content(alloc, &mut conn) {
@@ -68,16 +41,7 @@ impl<S: Alter + Drop> TableStore<S> {
     // The same, but where it is not opened the connection is let go.
     fn over_connection(alloc: Global, conn: Connection<S>) -> Result<TableStore<S>, OpenFault>
         requires { conn.in_transaction ≡ false }
-        ensures sound { IfOk result (λ store. IsSound (content_of store.lists)) }
-        ensures whole { IfOk result (λ store. store.failures ≡ 0) }
-        ensures opened { IfOk result (λ store. HasCleanDisk (state S.Store store.conn)
-            → IsStored (state S.Store store.conn) (content_of store.lists)) }
-        ensures told { IfOk result (λ store. HasCleanDisk (state S.Store store.conn)
-            → IsToldBy (state S.Store conn).now (content_of store.lists)) }
-        ensures honest { IfOk result (λ store. HasCleanDisk (state S.Store store.conn)
-            → HasCleanDisk (state S.Store conn)) }
-        ensures empty { (state S.Store conn).now.schema ≡ no_schema
-            → IfOk result (λ store. content_of store.lists ≡ nothing_known) }
+        ensures opened { IfOk result (IsOver conn) }
         ensures unmade { IfErr result (IsUnmadeBy S.Store conn) }
     {
         match TableStore::adopt(alloc, conn) {

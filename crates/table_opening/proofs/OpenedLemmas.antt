@@ -1,7 +1,7 @@
 -- A database that was opened.
 use Rattle.std.proofs.Common.{◌≡◌, ◌⊎◌, ◌∙◌, ◌≤◌, true, inl, inr, sym, subst, refl, ap, arith, true≢false, IsSome, IsTrue}
 use Rattle.std.proofs.Common.{Result, Ok, Err, None}
-use Rattle.std.specs.Prelude.{OnOk}
+use Rattle.std.specs.Prelude.{IfErr, IfOk, OnOk}
 use Rattle.sqlite.specs.Effect.{Database}
 use Rattle.sqlite.specs.State.{HasCleanDisk, IsUnchanged, State, Survives}
 use Rattle.sqlite.specs.declared.error.Error.{Error}
@@ -9,6 +9,7 @@ use Rattle.sqlite_trees.specs.declared.error.StoreError.TheVariants as store
 use Rattle.sqlite.proofs.StateLemmas.{survives_weaker}
 use Rattle.app_definitions.specs.Options.{default_options}
 use Rattle.planner_machine.specs.Content.{Content, nothing_known}
+use Rattle.planner_machine.specs.Sound.{IsSound}
 use Rattle.table_schema.specs.Rows.{HaveRowids, IsMadeWhole, MayFail, Stands, Tables, tables_of, with_cells}
 use Rattle.table_schema.specs.Schema.{no_schema}
 use Rattle.table_schema.specs.declared.tables.Table.TheVariants as table
@@ -16,7 +17,9 @@ use Rattle.table_facts.specs.Content.{IsContentOf, meta_values}
 use Rattle.table_reading.specs.Reading.{HasPlan, Looks}
 use Rattle.table_reading.proofs.LookLemmas.{plan_still}
 use Rattle.table_opening.specs.First.{IsMadeFirst, first_rows}
-use Rattle.table_opening.specs.Opened.{IsUnmade, IsCaused, IsStored, MakesFirst}
+use Rattle.table_opening.specs.Held.{HasVersion, HoldsPlan}
+use Rattle.table_opening.specs.Opened.{IsBlank, IsCaused, IsStored, IsToldBy, IsUnmade, MakesFirst}
+use Rattle.table_opening.specs.Opening.{IsOpened, IsUnopened}
 use Rattle.table_opening.specs.Faults.{fault_for}
 use Rattle.table_opening.specs.Stored.{AllHaveRowids}
 use Rattle.table_opening.specs.declared.faults.OpenFault.{OpenFault}
@@ -64,7 +67,29 @@ made_first (Ok a) old new begun stands = record {
 }
 made_first (Err e) old new begun stands = tt
 
+pub opened_of : {A : Type 0} (r : Result A OpenFault) (old new : State) (value : A → Content)
+    → IfOk r (λ a. IsSound (value a)) → (HasCleanDisk new → IfOk r (λ a. IsStored new (value a)))
+    → (HasCleanDisk new → IfOk r (λ a. IsToldBy old.now (value a)))
+    → (IsBlank old → IfOk r (λ a. value a ≡ nothing_known)) → IfOk r (λ a. IsOpened old new (value a))
+opened_of (Ok a) old new value sound stored told empty =
+    record { sound = sound; stored = stored; told = told; empty = empty }
+opened_of (Err e) old new value sound stored told empty = tt
+
 -- ---- why it is not opened
+
+pub unread_of : {A : Type 0} (r : Result A OpenFault) (old new : State) → HasPlan old
+    → IfErr r (IsCaused old new) → (r ≡ Err Rows → HasVersion old × (HoldsPlan old → ⊥))
+    → (HasVersion old → r ≡ Err Unopened → ⊥) → IfErr r (IsUnopened old new)
+unread_of (Ok a) old new plan caused rows version = tt
+unread_of (Err fault) old new plan caused rows version = inr (inl (
+  plan,
+  record { caused = caused; rows = λ is. rows (ap Err is); version = λ is known. version known (ap Err is) },
+))
+
+pub unmade_of : {A : Type 0} (r : Result A OpenFault) (old new : State) → IsBlank old
+    → IfErr r (IsUnmade old new) → IfErr r (IsUnopened old new)
+unmade_of (Ok a) old new blank h = tt
+unmade_of (Err fault) old new blank h = inr (inr (inl (blank, h)))
 
 pub caused_by : (a b : State) (e : Error) → MayFail a b e → IsCaused a b (fault_for e OtherTables)
 caused_by a b e (inl (store.OutOfMemory, is, more)) = subst (λ x. IsCaused a b (fault_for x OtherTables)) (sym is) tt

@@ -4,6 +4,7 @@ pub mod Places
 pub mod Stored
 pub mod Faults
 pub mod Opened
+pub mod Opening
 pub mod Held
 pub mod Foreign
 pub mod Files

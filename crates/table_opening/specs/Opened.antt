@@ -11,6 +11,10 @@ use Rattle.table_facts.specs.Content.{IsContentOf}
 use Rattle.table_opening.specs.declared.faults.OpenFault.{OpenFault}
 use Rattle.table_opening.specs.declared.faults.OpenFault.TheVariants.{Memory, Device, Unopened, Tables as OtherTables}
 
+-- the database has no tables
+abbrev pub IsBlank : State → Type 0
+IsBlank s = s.now.schema ≡ no_schema
+
 -- the database is open, all of it is committed, and its tables have the content
 pub record IsStored (s : State) (c : Content) : Type 0 where
   pub is_open : IsTrue s.is_open

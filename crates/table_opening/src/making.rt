@@ -8,9 +8,10 @@ ghost use Rattle.table_schema.specs.Schema.{no_schema};
 ghost use Rattle.table_schema.specs.Writes.{Makes};
 ghost use Rattle.table_opening.specs.First.{IsMadeFirst, first_rows};
 
+use app_definitions::MAX_EXTENSION_HOURS;
 use sqlite::types::ValueRef;
 use sqlite::{Alter, Connection, Error, Transaction};
-use table_schema::{Table, insert, make_all};
+use table_schema::{SCHEMA_VERSION, Table, insert, make_all};
 
 // Puts in that there is no plan, and the options that hold where none are given.
 fn put_first<S: Alter>(tx: &mut Transaction<'_, S>) -> Result<(), Error>
@@ -21,14 +22,14 @@ fn put_first<S: Alter>(tx: &mut Transaction<'_, S>) -> Result<(), Error>
         Table::Meta,
         &[
             ValueRef::Int(1),
-            ValueRef::Int(1),
+            ValueRef::Int(SCHEMA_VERSION as i64),
             ValueRef::Int(0),
             ValueRef::Int(0),
             ValueRef::Int(0),
             ValueRef::Int(0),
             ValueRef::Int(0),
             ValueRef::Text(b"DEFAULT"),
-            ValueRef::Int(504),
+            ValueRef::Int(MAX_EXTENSION_HOURS as i64),
         ],
     )
 }

@@ -14,8 +14,9 @@ ghost use Rattle.table_reading.specs.Reading.{HasPlan, Looks};
 ghost use Rattle.table_reading.specs.Tables.{TellPlans};
 ghost use Rattle.table_opening.specs.declared.faults.OpenFault.TheVariants.{Memory, Rows, Unopened};
 ghost use Rattle.table_opening.specs.Foreign.{IsForeign};
-ghost use Rattle.table_opening.specs.Held.{AreKnown, HasVersion, HoldSound, HoldsPlan};
-ghost use Rattle.table_opening.specs.Opened.{IsCaused, IsStored, IsToldBy, IsUnmade, MakesFirst};
+ghost use Rattle.table_opening.specs.Held.{AreKnown, HoldSound, HoldsPlan};
+ghost use Rattle.table_opening.specs.Opened.{IsCaused, IsStored, IsUnmade, MakesFirst};
+ghost use Rattle.table_opening.specs.Opening.{IsOpened, IsUnopened};
 ghost use Rattle.table_opening.specs.Stored.{TellStored};
 
 use crate::faults::{OpenFault, fault_for};
@@ -31,7 +32,7 @@ use std::alloc::Global;
 use table_definitions::StoredRows;
 use table_facts::tables_have_one_content;
 use table_reading::{Part, PlanLists};
-use table_schema::{Table, select};
+use table_schema::{SCHEMA_VERSION, Table, select};
 
 // The content, if it is sound.
 fn if_sound(alloc: Global, content: Content) -> Result<Content, OpenFault>
@@ -73,7 +74,10 @@ fn is_known(rows: &[Cells]) -> bool
     ensures { IsTrue result ↔ AreKnown rows.now }
 {
     match rows {
-        [cells] => matches!(cells.get_ref(1), Ok(ValueRef::Int(1))),
+        [cells] => match cells.get_ref(1) {
+            Ok(ValueRef::Int(version)) => version == i64::from(SCHEMA_VERSION),
+            _ => false,
+        },
         _ => false,
     }
 }
@@ -198,26 +202,13 @@ fn foreign_fault<S: Alter>(conn: &mut Connection<S>) -> OpenFault
 /// and gets the tables of a content of which nothing is known. Where it is not opened, it stays as it was.
 pub fn open_content<S: Alter>(alloc: Global, conn: &mut Connection<S>) -> Result<Content, OpenFault>
     requires { conn.old.in_transaction ≡ false }
-    ensures opened { HasCleanDisk (state S.Store conn.new)
-        → IfOk result (λ content. IsStored (state S.Store conn.new) (content_of content)) }
-    ensures told { HasCleanDisk (state S.Store conn.new)
-        → IfOk result (λ content. IsToldBy (state S.Store conn.old).now (content_of content)) }
-    ensures sound { IfOk result (λ content. IsSound (content_of content)) }
-    ensures empty { (state S.Store conn.old).now.schema ≡ no_schema
-        → IfOk result (λ content. content_of content ≡ nothing_known) }
-    ensures rows { HasCleanDisk (state S.Store conn.new) → result ≡ Err Rows
-        → HasVersion (state S.Store conn.old) × (HoldsPlan (state S.Store conn.old) → ⊥) }
-    ensures version { HasCleanDisk (state S.Store conn.new) → HasVersion (state S.Store conn.old)
-        → result ≡ Err Unopened → ⊥ }
-    ensures caused { HasCleanDisk (state S.Store conn.new) → HasPlan (state S.Store conn.old)
-        → IfErr result (IsCaused (state S.Store conn.old) (state S.Store conn.new)) }
-    ensures unmade { HasCleanDisk (state S.Store conn.new) → (state S.Store conn.old).now.schema ≡ no_schema
-        → IfErr result (IsUnmade (state S.Store conn.old) (state S.Store conn.new)) }
-    ensures foreign { HasCleanDisk (state S.Store conn.new) → (HasPlan (state S.Store conn.old) → ⊥)
-        → ((state S.Store conn.old).now.schema ≡ no_schema → ⊥)
-        → IfErr result (IsForeign (state S.Store conn.old) (state S.Store conn.new)) }
+    ensures opened { IfOk result (λ content.
+        IsOpened (state S.Store conn.old) (state S.Store conn.new) (content_of content)) }
+    ensures unopened { HasCleanDisk (state S.Store conn.new)
+        → IfErr result (IsUnopened (state S.Store conn.old) (state S.Store conn.new)) }
     ensures mode { conn.new.in_transaction ≡ false }
-    ensures crash { Survives (state S.Store conn.old) (state S.Store conn.new) (MakesFirst (state S.Store conn.old)) }
+    ensures crash { Survives (state S.Store conn.old) (state S.Store conn.new)
+        (MakesFirst (state S.Store conn.old)) }
 {
     match has_plan(alloc, conn) {
         Ok(true) => open_plan(alloc, conn),

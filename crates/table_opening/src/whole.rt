@@ -17,6 +17,10 @@ ghost use Rattle.table_opening.specs.Stored.{AllHaveRowids, TellStored};
 
 use crate::rowids::Rowids;
 use crate::stored::Shown;
+use crate::table_places::{
+    APPLICATION, CALENDAR_ENTRY, CURRENT, DELETION, DEPENDENCY, HISTORY, JOB, LINK_IN_FORCE,
+    LONG_TERM, META, OFFSET, PERIOD, PREDECESSOR, RUN_CYCLE,
+};
 use app_definitions::Definitions;
 use plan_store::Content;
 use sqlite::{Alter, Connection, Error};
@@ -26,19 +30,31 @@ use table_reading::{Part, PlanLists, content_of_lists, read_lists};
 
 // The rows of the tables of definitions.
 type StoredParts = (
-    (Shown<1>, Shown<2>),
-    ((Shown<3>, Shown<4>), (Shown<5>, Shown<6>)),
+    (Shown<CALENDAR_ENTRY>, Shown<PERIOD>),
+    (
+        (Shown<APPLICATION>, Shown<RUN_CYCLE>),
+        (Shown<OFFSET>, Shown<PREDECESSOR>),
+    ),
 );
 
 // The rowids of all tables.
 type AllRowids = (
     (
-        ((Rowids<0>, Rowids<1>), (Rowids<2>, Rowids<3>)),
-        ((Rowids<4>, Rowids<5>), (Rowids<6>, Rowids<7>)),
+        (
+            (Rowids<META>, Rowids<CALENDAR_ENTRY>),
+            (Rowids<PERIOD>, Rowids<APPLICATION>),
+        ),
+        (
+            (Rowids<RUN_CYCLE>, Rowids<OFFSET>),
+            (Rowids<PREDECESSOR>, Rowids<LINK_IN_FORCE>),
+        ),
     ),
     (
-        ((Rowids<8>, Rowids<9>), (Rowids<10>, Rowids<11>)),
-        (Rowids<12>, Rowids<13>),
+        (
+            (Rowids<LONG_TERM>, Rowids<CURRENT>),
+            (Rowids<HISTORY>, Rowids<DELETION>),
+        ),
+        (Rowids<DEPENDENCY>, Rowids<JOB>),
     ),
 );
 
@@ -140,7 +156,8 @@ fn some_content(
     definitions: Definitions,
     lists: PlanLists,
 ) -> Result<Option<Content>, AllocError>
-    ensures made { IfOk result (λ found. IfSome found (λ content. HasLists definitions lists (content_of content))) }
+    ensures made { IfOk result (λ found. IfSome found (λ content. HasLists definitions lists
+        (content_of content))) }
     ensures some { IfOk result IsSome }
 {
     Ok(Some(content_of_lists(alloc, definitions, lists)?))
@@ -152,8 +169,10 @@ fn found_definitions(
     lists: &PlanLists,
     stored: &StoredRows,
 ) -> Result<Option<Definitions>, AllocError>
-    ensures made { IfOk result (λ found. IfSome found (HaveRows stored.now lists.now.meta.options)) }
-    ensures refused { IfOk result (λ found. found ≡ None → (all : DefinitionsValue) → AreSoundDefinitions all
+    ensures made { IfOk result (λ found. IfSome found
+        (HaveRows stored.now lists.now.meta.options)) }
+    ensures refused { IfOk result (λ found. found ≡ None → (all : DefinitionsValue)
+        → AreSoundDefinitions all
         → HaveRows stored.now lists.now.meta.options all → ⊥) }
 {
     definitions_of_rows(alloc, stored, lists.meta.options)
@@ -165,9 +184,11 @@ pub(crate) fn content_of_tables(
     lists: PlanLists,
     stored: &StoredRows,
 ) -> Result<Option<Content>, AllocError>
-    ensures made { IfOk result (λ found. IfSome found (λ content. (all : Tables) → TellPlans all lists
+    ensures made { IfOk result (λ found. IfSome found (λ content. (all : Tables)
+        → TellPlans all lists
         → TellStored all stored.now → IsContentOf all (content_of content))) }
-    ensures refused { IfOk result (λ found. found ≡ None → (all : DefinitionsValue) → AreSoundDefinitions all
+    ensures refused { IfOk result (λ found. found ≡ None → (all : DefinitionsValue)
+        → AreSoundDefinitions all
         → HaveRows stored.now lists.meta.options all → ⊥) }
 {
     match found_definitions(alloc, &lists, stored) {

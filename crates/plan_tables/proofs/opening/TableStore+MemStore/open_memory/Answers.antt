@@ -1,3 +1,4 @@
+use Rattle.table_schema.proofs.ResultLemmas.{if_ok}
 use Rattle.plan_tables.proofs.UnopenedLemmas.{only_memory}
 use Rattle.plan_tables.proofs.opening.TableStore+MemStore.open_memory.Goals as goal
 
@@ -5,3 +6,16 @@ pub returns-in-Ok-clause-refused : goal.returns-in-Ok-clause-refused
 returns-in-Ok-clause-refused c =
     only_memory c.over_connection.result c.in-Ok.conn c.in-Ok.ensures.empty c.in-Ok.ensures.fresh
     c.over_connection.ensures.unmade
+
+pub returns-in-Ok-clause-empty : goal.returns-in-Ok-clause-empty
+returns-in-Ok-clause-empty c =
+    if_ok c.over_connection.result _ _ (λ store over. over.opened.empty c.in-Ok.ensures.empty.2)
+    c.over_connection.ensures.opened
+
+pub returns-in-Ok-clause-sound : goal.returns-in-Ok-clause-sound
+returns-in-Ok-clause-sound c =
+    if_ok c.over_connection.result _ _ (λ store over. over.opened.sound) c.over_connection.ensures.opened
+
+pub returns-in-Ok-clause-whole : goal.returns-in-Ok-clause-whole
+returns-in-Ok-clause-whole c =
+    if_ok c.over_connection.result _ _ (λ store over. over.whole) c.over_connection.ensures.opened

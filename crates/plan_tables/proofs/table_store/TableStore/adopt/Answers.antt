@@ -1,14 +1,19 @@
-use Rattle.std.proofs.Common.{Err, ap, subst, sym}
+use Rattle.std.proofs.Common.{subst, sym}
 use Rattle.sqlite.specs.Held.{state}
-use Rattle.sqlite.specs.State.{HasCleanDisk}
+use Rattle.sqlite.specs.State.{Survives}
 use Rattle.plan_store.specs.Contents.{content_of}
-use Rattle.table_opening.specs.Opened.{IsToldBy}
+use Rattle.table_opening.specs.Opened.{MakesFirst}
+use Rattle.table_opening.specs.Opening.{IsOpened}
 use Rattle.plan_tables.proofs.table_store.TableStore.adopt.Goals as goal
 
-pub returns-in-Ok-clause-told : goal.returns-in-Ok-clause-told
-returns-in-Ok-clause-told g c clean =
-    subst (λ lists. IsToldBy (state g.S.Store c.args.conn).now (content_of lists)) (sym c.over.ensures.lists)
-    (c.in-Ok.ensures.told (subst (λ conn. HasCleanDisk (state g.S.Store conn)) c.over.ensures.conn clean))
-
-pub returns-in-Err-clause-rows : goal.returns-in-Err-clause-rows
-returns-in-Err-clause-rows g c clean is = c.in-Err.ensures.rows clean (ap Err is)
+pub returns-in-Ok-clause-opened : goal.returns-in-Ok-clause-opened
+returns-in-Ok-clause-opened g c =
+    let old = state g.S.Store c.args.conn in
+    record {
+      opened = subst (λ lists. IsOpened old (state g.S.Store c.over.result.conn) (content_of lists))
+          (sym c.over.ensures.lists) (subst (λ conn. IsOpened old (state g.S.Store conn) _)
+          (sym c.over.ensures.conn) c.in-Ok.ensures.opened);
+      whole = c.over.ensures.whole;
+      crash = subst (λ conn. Survives old (state g.S.Store conn) (MakesFirst old)) (sym c.over.ensures.conn)
+          c.open_content.ensures.crash;
+    }
