@@ -37,6 +37,7 @@ use Rattle.table_definitions.specs.declared.stored.StoredRows.{StoredRows}
 use Rattle.table_reading.specs.Cells.{AreDays, IsNumberedRow, IsPair}
 use Rattle.table_reading.specs.Readable.{ArePlansReadable, ShowsMeta}
 use Rattle.table_opening.specs.Held.{AreKnown, HoldSound}
+use Rattle.table_opening.proofs.DefinedLemmas.{sound_definitions}
 use Rattle.table_opening.specs.Stored.{TellStored}
 
 in_ltp : (q row : Row) (place : Place) → (alone q place).ltp ≡ Some row → q ≡ row
@@ -283,13 +284,15 @@ module _ (all : Tables) (hold : HoldSound all) where
   }
 
   pub sound_rows : (options : Options) → AreSoundDefinitions (with_options options)
-  sound_rows options = record {
-    applications = hold.definitions.applications;
-    calendars = hold.definitions.calendars;
-    periods = hold.definitions.periods;
-    run_cycles = hold.definitions.run_cycles;
-    predecessors = hold.definitions.predecessors;
-  }
+  sound_rows options =
+      let sound = sound_definitions c.definitions hold.sound.definitions in
+      record {
+        applications = sound.applications;
+        calendars = sound.calendars;
+        periods = sound.periods;
+        run_cycles = sound.run_cycles;
+        predecessors = sound.predecessors;
+      }
 
   pub known : AreKnown (map (shown table.Meta) (all table.Meta))
   known =

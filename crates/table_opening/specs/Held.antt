@@ -9,7 +9,6 @@ use Rattle.table_schema.specs.declared.tables.TheConstants.{SCHEMA_VERSION}
 use Rattle.table_schema.specs.declared.tables.Table.TheVariants.{Meta}
 use Rattle.table_facts.specs.Content.{IsContentOf}
 use Rattle.sqlite.specs.State.{State}
-use Rattle.table_definitions.specs.Defined.{AreSoundDefinitions}
 use Rattle.table_reading.specs.Reading.{HasPlan}
 use Rattle.table_opening.specs.Stored.{AllHaveRowids}
 
@@ -22,7 +21,6 @@ pub record HoldSound (all : Tables) : Type 0 where
   pub content : Content
   pub told : IsContentOf all content
   pub sound : IsSound content
-  pub definitions : AreSoundDefinitions content.definitions
   pub rowids : AllHaveRowids all
 
 -- the database has the tables of the plan, and these hold a sound content
