@@ -1,4 +1,4 @@
--- Why a database without tables does not get them; in memory only memory can be short.
+-- In memory only memory can be short.
 use Rattle.std.proofs.Common.{◌≡◌, ◌⊎◌, ℕ, None, Result, Ok, Err, IsTrue, IsSome, arith, inl, inr, refl, subst, sym, true≢false, ◌∙◌}
 use Rattle.std.specs.Prelude.{IfErr}
 use Rattle.sqlite.specs.Held.{Held, IsNew, state}
@@ -6,20 +6,10 @@ use Rattle.sqlite.specs.State.{State}
 use Rattle.sqlite.specs.Steps.{IsEmpty, over_memory}
 use Rattle.sqlite.proofs.Callers.{memory_is_clean}
 use Rattle.sqlite_trees.specs.declared.memory.MemStore.{MemStore}
-use Rattle.table_opening.specs.Opened.{IsBlank, IsUnmade}
-use Rattle.table_opening.specs.Opening.{IsUnopened}
-use Rattle.table_opening.proofs.SchemaLemmas.{blank_has_none}
+use Rattle.table_opening.specs.Opened.{IsUnmade}
 use Rattle.table_opening.specs.declared.faults.OpenFault.{OpenFault}
 use Rattle.table_opening.specs.declared.faults.OpenFault.TheVariants.{Memory, Device, Unopened, Tables as OtherTables, Rows}
 use Rattle.plan_tables.specs.Unopened.{IsUnmadeBy}
-
--- what is there is nothing
-pub unmade_when : (old new : State) (fault : OpenFault) → IsBlank old → IsUnopened old new fault
-    → IsUnmade old new fault
-unmade_when old new fault blank (inl is) = subst (IsUnmade old new) (sym is) tt
-unmade_when old new fault blank (inr (inl (plan, h))) = absurd (blank_has_none old blank plan)
-unmade_when old new fault blank (inr (inr (inl (none, h)))) = h
-unmade_when old new fault blank (inr (inr (inr (others, h)))) = absurd (others.1 blank)
 
 memory_alone : (a b : State) (fault : OpenFault) → a.faults ≡ 0 → b.faults ≡ 0 → IsTrue a.is_open
     → a.step_limit ≡ None → IsUnmade a b fault → fault ≡ Memory

@@ -4,6 +4,7 @@ pub mod RowidLemmas
 pub mod FirstRows
 pub mod StoredLemmas
 pub mod OpenedLemmas
+pub mod OpeningLemmas
 pub mod DefinedLemmas
 pub mod ReadableLemmas
 pub mod ForeignLemmas

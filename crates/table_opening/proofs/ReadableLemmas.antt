@@ -285,7 +285,7 @@ module _ (all : Tables) (hold : HoldSound all) where
 
   pub sound_rows : (options : Options) → AreSoundDefinitions (with_options options)
   sound_rows options =
-      let sound = sound_definitions c.definitions hold.sound.definitions in
+      let sound = sound_definitions c.definitions hold.sound.ranges.definitions in
       record {
         applications = sound.applications;
         calendars = sound.calendars;

@@ -17,3 +17,10 @@ returns-in-Ok-clause-opened g c =
       crash = subst (λ conn. Survives old (state g.S.Store conn) (MakesFirst old)) (sym c.over.ensures.conn)
           c.open_content.ensures.crash;
     }
+
+pub returns-in-Err-clause-unopened : goal.returns-in-Err-clause-unopened
+returns-in-Err-clause-unopened g c = record {
+  unopened = c.in-Err.ensures.unopened;
+  mode = c.open_content.ensures.mode;
+  crash = c.open_content.ensures.crash;
+}
