@@ -3,7 +3,6 @@ use Rattle.std.specs.Prelude.{◌≡◌, false}
 use Rattle.sqlite.specs.Held.{Held, state}
 use Rattle.sqlite.specs.State.{HasCleanDisk, Survives}
 use Rattle.sqlite.specs.Store.{Ghosts}
-use Rattle.sqlite_trees.specs.declared.store.Alter as alter
 use Rattle.plan_store.specs.Contents.{content_of}
 use Rattle.table_opening.specs.Opened.{MakesFirst}
 use Rattle.table_opening.specs.Opening.{IsOpened, IsUnopened}
@@ -11,10 +10,10 @@ use Rattle.table_opening.specs.declared.faults.OpenFault.{OpenFault}
 use Rattle.plan_tables.specs.declared.table_store.TableStore.{TableStore}
 
 -- the store is over its database, and has its content; no failure was counted
-pub record IsOver {S : Type 0} {g : alter.Ghosts S} (conn : Held S) (store : TableStore S g) : Type 0 where
-  pub opened : IsOpened (state g.Store conn) (state g.Store store.conn) (content_of store.lists)
+pub record IsOver {S : Type 0} {g : Ghosts S} (conn : Held S) (store : TableStore S g) : Type 0 where
+  pub opened : IsOpened (state g conn) (state g store.conn) (content_of store.lists)
   pub whole : store.failures ≡ 0
-  pub crash : Survives (state g.Store conn) (state g.Store store.conn) (MakesFirst (state g.Store conn))
+  pub crash : Survives (state g conn) (state g store.conn) (MakesFirst (state g conn))
 
 -- it comes back, and with it why its database is not opened, by what is there
 pub record ComesBack {S : Type 0} (g : Ghosts S) (conn : Held S) (back : OpenFault × Held S) : Type 0 where
