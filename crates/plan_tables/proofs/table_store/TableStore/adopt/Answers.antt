@@ -11,7 +11,7 @@ returns-in-Ok-clause-opened g c =
     let old = state g.S.Store c.args.conn in
     record {
       opened = subst (λ lists. IsOpened old (state g.S.Store c.over.result.conn) (content_of lists))
-          (sym c.over.ensures.lists) (subst (λ conn. IsOpened old (state g.S.Store conn) _)
+          (sym c.over.ensures.lists) (subst (λ conn. IsOpened old (state g.S.Store conn) (content_of c.in-Ok.lists))
           (sym c.over.ensures.conn) c.in-Ok.ensures.opened);
       whole = c.over.ensures.whole;
       crash = subst (λ conn. Survives old (state g.S.Store conn) (MakesFirst old)) (sym c.over.ensures.conn)

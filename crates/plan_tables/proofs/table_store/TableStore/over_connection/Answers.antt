@@ -6,5 +6,5 @@ pub returns-in-Err-clause-unmade : goal.returns-in-Err-clause-unmade
 returns-in-Err-clause-unmade g c = (
   c.in-Err._conn,
   λ clean. unmade_when (state g.S.Store c.args.conn) (state g.S.Store c.in-Err._conn) c.in-Err.fault
-      (c.in-Err.ensures.unopened clean),
+      (c.in-Err.ensures.unopened.unopened clean),
 )
