@@ -2,7 +2,6 @@
 
 import importlib.machinery
 import importlib.util
-import shutil
 import tempfile
 import unittest
 from contextlib import closing
@@ -118,7 +117,7 @@ class Commands(unittest.TestCase):
     def test_it_runs_from_anywhere_and_by_a_link(self):
         link = self.room / "link"
         link.symlink_to(plans.TOP / "plan")
-        shutil.copy(plans.of_worked("monday"), self.room / "here.db")
+        plans.copy_of(plans.of_worked("monday"), self.room, "here.db")
         ran = plans.subprocess.run([link, "next-job", "here.db"], cwd=self.room, capture_output=True, check=False)
         self.assertEqual((ran.returncode, ran.stderr), (0, b""))
 
