@@ -1,15 +1,5 @@
 //! Where a stream can be cut.
 
-use std::alloc::{AllocError, Global};
-
-/// Whether the line gets no answer: a comment, or blanks alone.
-fn is_passed_over(line: &[u8]) -> bool {
-    line.first() == Some(&b'*')
-        || line
-            .iter()
-            .all(|byte| *byte == b' ' || *byte == b'\t' || *byte == b'\r')
-}
-
 /// Whether the line is a statement that a data block follows.
 fn has_data(line: &[u8]) -> bool {
     let mut words = line.split(|byte| *byte == b' ' || *byte == b'\t' || *byte == b'\r');
@@ -38,24 +28,4 @@ pub fn middle_of(text: &[u8]) -> usize {
         }
     }
     text.len()
-}
-
-/// The places behind the statements, and their data blocks if they have any, that get an answer.
-pub fn ends_of(alloc: Global, text: &[u8]) -> Result<Vec<usize>, AllocError> {
-    let mut ends = Vec::new(alloc);
-    let mut place: usize = 0;
-    let mut in_block = false;
-    for line in text.split(|byte| *byte == b'\n') {
-        place = place.saturating_add(line.len()).saturating_add(1);
-        let was_in_block = in_block;
-        in_block = if in_block {
-            !ends_data(line)
-        } else {
-            has_data(line)
-        };
-        if !in_block && (was_in_block || !is_passed_over(line)) {
-            ends.push(place.min(text.len()))?;
-        }
-    }
-    Ok(ends)
 }

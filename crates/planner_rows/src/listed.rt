@@ -16,8 +16,6 @@ pub enum Stores {
     Lists,
     /// Lists, and tables in memory.
     Both,
-    /// These, and files that stop at each call.
-    Stops,
 }
 
 /// A line of the list.
@@ -40,8 +38,8 @@ pub fn is_remark(line: &str) -> bool {
 }
 
 impl<'a> Listed<'a> {
-    /// Reads `NAME STATUS own` or `NAME STATUS both`, with `lists` behind it where the stream is tried over lists alone, or
-    /// `stops` where it is tried over files that stop as well; `None` where the line is none of these.
+    /// Reads `NAME STATUS own` or `NAME STATUS both`, with `lists` behind it where the stream is tried over lists alone;
+    /// `None` where the line is neither.
     pub fn from_line(line: &'a str) -> Option<Listed<'a>> {
         let mut words = line.split_whitespace();
         let name = words.next()?;
@@ -54,7 +52,6 @@ impl<'a> Listed<'a> {
         let stores = match words.next() {
             None => Stores::Both,
             Some("lists") => Stores::Lists,
-            Some("stops") => Stores::Stops,
             Some(_) => return None,
         };
         match words.next() {

@@ -60,7 +60,7 @@ fn unlike_plans(kept: &Content, wanted: &Content) -> Option<&'static str> {
 }
 
 /// The first part of the content that is otherwise than it should be.
-pub fn unlike(
+fn unlike(
     alloc: Global,
     kept: &Content,
     wanted: &Content,
