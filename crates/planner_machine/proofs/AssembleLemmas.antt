@@ -38,7 +38,7 @@ deletion_place row History deletion is = cc
 deletion_place row (Deleted reason) deletion is = let x : Deletion = record { row = row; reason = reason } in
     let same : x ≡ deletion = cc in ap (λ (d : Deletion). alone d.row (Deleted d.reason)) same
 
-stands_in_deletions : (s : Sets) → RowsSound s → (serial : ℕ) (deletion : Deletion)
+pub stands_in_deletions : (s : Sets) → RowsSound s → (serial : ℕ) (deletion : Deletion)
     → s.deletions serial ≡ Some deletion
     → StandsAt s serial (record { row = deletion.row; place = Deleted deletion.reason })
 stands_in_deletions s sound serial deletion is = elim (cases_issued s.issued serial) [
@@ -48,10 +48,10 @@ stands_in_deletions s sound serial deletion is = elim (cases_issued s.issued ser
   | inr past ↦ let none = ap (λ (x : Seat). x.deletions) (sound.unissued serial past) in absurd cc
 ]
 
-in_ltp : (s : Sets) (serial : ℕ) (p : PlacedRow) → p.place ≡ LongTerm → StandsAt s serial p → s.ltp serial ≡ Some p.row
+pub in_ltp : (s : Sets) (serial : ℕ) (p : PlacedRow) → p.place ≡ LongTerm → StandsAt s serial p → s.ltp serial ≡ Some p.row
 in_ltp s serial p is there = ap (λ (x : Seat). x.ltp) (there ∙ ap (alone p.row) is)
 
-in_deletions : (s : Sets) (serial : ℕ) (p : PlacedRow) → p.place ≡ Deleted Operator → StandsAt s serial p
+pub in_deletions : (s : Sets) (serial : ℕ) (p : PlacedRow) → p.place ≡ Deleted Operator → StandsAt s serial p
     → s.deletions serial ≡ Some (record { row = p.row; reason = Operator })
 in_deletions s serial p is there = ap (λ (x : Seat). x.deletions) (there ∙ ap (alone p.row) is)
 

@@ -203,7 +203,7 @@ deletion_keeps key = going_keeps (place_after_deletion key) (deletion_ltp key) (
     (delete_live key) (deletion_completes key)
 
 -- a modify statement
-draft_generated : (all : Definitions) (draft : Draft) → NamesDraft all draft → IsGenerated draft.origin
+pub draft_generated : (all : Definitions) (draft : Draft) → NamesDraft all draft → IsGenerated draft.origin
 draft_generated all draft (app, x, named, is) = subst (λ (d : Draft). IsGenerated d.origin) (sym is) tt
 
 module _ (Looks : List ℕ → Type 0) (all : Definitions) where

@@ -34,3 +34,6 @@ mod TrialLemmas
 mod PlanLawLemmas
 mod RingLemmas
 mod EmptyLemmas
+mod FreshLemmas
+mod FreshModifyLemmas
+mod FreshStepLemmas

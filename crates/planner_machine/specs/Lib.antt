@@ -11,6 +11,7 @@ pub mod Delete
 pub mod Drafts
 pub mod Extend
 pub mod Fate
+pub mod Fresh
 pub mod InForce
 pub mod Jobs
 pub mod Laws

@@ -4,9 +4,10 @@ ghost use Rattle.planner_machine.specs.Laws.{AnswersOnce, DailyIsFates, FollowsF
 ghost use Rattle.planner_machine.specs.Laws.{KeepsPairs, LeavesRefused, PairsHaveNoLoop, PredecessorsAreComplete};
 ghost use Rattle.planner_machine.specs.Laws.{StaysSound};
 ghost use Rattle.planner_machine.specs.Content.{nothing_known};
+ghost use Rattle.planner_machine.specs.Fresh.{FreshIsExact, LeavesFresh, StaysFresh};
 ghost use Rattle.planner_machine.specs.Rerun.{RerunEndsAsEachRun, RerunEndsAsOneRun};
 ghost use Rattle.planner_machine.specs.Sound.{IsSound};
-ghost use Rattle.planner_machine.specs.Statement.{Change, DailyExtend, Replan};
+ghost use Rattle.planner_machine.specs.Statement.{Change, Create, DailyExtend, ModifyAll, Replan};
 ghost use Rattle.planner_machine.specs.Stream.{RunsByFate, RunsOneWay, RunsSound};
 ghost use Rattle.planner_machine.specs.Trials.{TrialAnswersAsStatement, TrialLeaves};
 
@@ -81,4 +82,14 @@ pub fn reruns()
 pub fn trials()
     ensures leaves { TrialLeaves }
     ensures answers { TrialAnswersAsStatement }
+{}
+
+/// Law: an accepted `ltp-create` or `ltp-modify-all` leaves fresh content, whatever was there before; from fresh content
+/// each stream leaves fresh content that gives and takes away no definition; and in sound content
+/// fresh means that the generated rows of the long-term plan are exactly those that are named, less those left out.
+pub fn fresh_plans()
+    ensures create { (from to : ℕ) → LeavesFresh (Create from to) }
+    ensures modify { LeavesFresh ModifyAll }
+    ensures streams { StaysFresh }
+    ensures exact { FreshIsExact }
 {}

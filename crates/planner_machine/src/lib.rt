@@ -10,8 +10,8 @@ mod limits;
 pub use content::{Bounds, Draft};
 pub use job::{Answer, Job, JobText};
 pub use laws::{
-    daily_plans, empty_content_is_sound, fate_is_followed, occurrence_stays_itself, one_answer,
-    pairs_have_no_loop, predecessors_are_complete, refusal_changes_nothing, reruns,
+    daily_plans, empty_content_is_sound, fate_is_followed, fresh_plans, occurrence_stays_itself,
+    one_answer, pairs_have_no_loop, predecessors_are_complete, refusal_changes_nothing, reruns,
     sound_content_stays_sound, streams, trials,
 };
 pub use limits::{GREATEST_JOB, LONGEST_WINDOW, MOST_PLANNED_ROWS, limits_hold};
