@@ -5,6 +5,7 @@ use Rattle.std.specs.Prelude.{nat_eq, cond, option_map, unwrap_or, if◌then◌e
 use Rattle.std.specs.List.{Contains}
 use Rattle.std.proofs.lemmas.Bool.{eqb-true, eqb-false, eq-eqb, ne_eqb}
 use Rattle.occurrences.proofs.KeyLemmas.{key_same, same_key}
+use Rattle.occurrences.specs.Place.{IsLive}
 use Rattle.occurrences.specs.Status.{changed_status}
 use Rattle.occurrences.specs.Refusal.{refusal_number}
 use Rattle.occurrences.specs.declared.key.Key.{Key}
@@ -24,26 +25,26 @@ use Rattle.external_dependencies.specs.Nearest.{arrival_of}
 use Rattle.external_dependencies.specs.declared.rows.PlacedRow.{PlacedRow}
 use Rattle.planner_machine.specs.Act.{ActionRefused, Acts, IsCurrent, IsUncompleted, acted, acted_status, action_move}
 use Rattle.planner_machine.specs.Act.{cp_action}
-use Rattle.planner_machine.specs.Content.{Content, Seat, Sets, StandsAt}
+use Rattle.planner_machine.specs.Content.{Content, Seat, Sets, StandsAt, seat}
 use Rattle.planner_machine.specs.Fate.{place_after_action}
 use Rattle.planner_machine.specs.InForce.{PutsNone}
 use Rattle.planner_machine.specs.Moves.{each, has_key, or_else}
 use Rattle.planner_machine.specs.Plans.{ChangesPlans}
 use Rattle.planner_machine.specs.Sound.{IsSound}
-use Rattle.planner_machine.proofs.ActionLemmas.{action_sound, one_current}
+use Rattle.planner_machine.proofs.ActionLemmas.{one_current, stands_in_cp}
 use Rattle.planner_machine.specs.RowsSound.{RowsSound}
 use Rattle.planner_machine.proofs.SoundLemmas.{rows_sound}
 use Rattle.keyed_lists.specs.Rows.{look_up, of_current, of_deletion, of_row}
 use Rattle.plan_store.specs.Changes.{Fits, FitsSet, MovesNothing, after, moved_set, pairs_after, sets_after}
 use Rattle.plan_store.specs.Verdicts.{VerdictIs}
-use Rattle.plan_store.specs.Views.{IsAny, IsCurrentRow, ListsSet}
+use Rattle.plan_store.specs.Views.{IsCurrentRow}
 use Rattle.plan_store.specs.declared.changes.Change.{Change}
 use Rattle.plan_store.specs.declared.changes.Moves.{Moves}
 use Rattle.plan_store.specs.declared.changes.Verdict.TheVariants.{Done, Refused}
-use Rattle.daily_planning.specs.Actions.{ChangesStatus, IsActedOn, WaitsFor, replaced}
-use Rattle.plan_pairs.specs.LiveRows.{HasLists}
+use Rattle.daily_planning.specs.Actions.{ChangesStatus, IsActedOn, WaitsFor}
+use Rattle.plan_pairs.specs.Withdrawals.{LosesRow}
 use Rattle.daily_planning.proofs.ChangeLemmas.{after_moves, fits_moves, moved_is}
-use Rattle.daily_planning.proofs.SetLemmas.{contains_map, map_contains, nothing, once_nothing, once_one}
+use Rattle.daily_planning.proofs.SetLemmas.{nothing, once_nothing, once_one}
 
 stays_deleted : (action : Action) → acted_status action D ≡ D
 stays_deleted Start = refl
@@ -58,6 +59,13 @@ deleted_or_not S = inr (λ e. cc)
 deleted_or_not E = inr (λ e. cc)
 deleted_or_not C = inr (λ e. cc)
 deleted_or_not D = inl refl
+
+to_deleted : (was status : Status) → changed_status was Delete ≡ Some status → status ≡ D
+to_deleted W status e = cc
+to_deleted S status e = cc
+to_deleted E status e = cc
+to_deleted C status e = cc
+to_deleted D status e = cc
 
 module _ (c : Content) (sound : IsSound c) (action : Action) (changed : CurrentRow)
     (is : IsActedOn c action changed) where
@@ -135,56 +143,42 @@ module _ (c : Content) (sound : IsSound c) (action : Action) (changed : CurrentR
   at_other : (serial : ℕ) → nat_eq changed.row.serial serial ≡ false → sets'.cp serial ≡ c.sets.cp serial
   at_other serial other = sym (cp_is serial) ∙ ap (λ (b : Bool). if b then Some changed else c.sets.cp serial) other
 
-  turned : (m n : ℕ) → nat_eq m n ≡ false → nat_eq n m ≡ false
-  turned m n e = ne_eqb n m (λ same. eqb-false m n e (sym same))
+  -- under other serials nothing changes
+  same_seat : (serial : ℕ) → serial ≢ changed.row.serial → seat sets' serial ≡ seat c.sets serial
+  same_seat serial other =
+      let same = at_other serial (ne_eqb _ _ (λ is. other (sym is))) in
+      λ i. record {
+        ltp = c.sets.ltp serial;
+        cp = same i;
+        history = c.sets.history serial;
+        deletions = c.sets.deletions serial;
+      }
 
-  module _ (cp : List CurrentRow) (lists : ListsSet of_current c.sets.cp IsAny cp) where
-    stands_in : (x : CurrentRow) → Contains cp x → c.sets.cp x.row.serial ≡ Some x
-    stands_in x has = ((lists.exactly x).0 has).0
+  -- a row that is deleted lives no more
+  deleted_gone : changed.status ≡ D → (place : Place) (row : Row)
+      → StandsAt sets' changed.row.serial (record { row = row; place = place }) → IsLive place → ⊥
+  deleted_gone deleted LongTerm row at live =
+      let no : None ≡ Some changed = sym (ap (λ (x : Seat). x.cp) at) ∙ at_own in cc
+  deleted_gone deleted (Current status) row at live =
+      let both : Some (record { row = row; status = status }) ≡ Some changed =
+      sym (ap (λ (x : Seat). x.cp) at) ∙ at_own in
+      let same : record { row = row; status = status } ≡ changed = cc in
+      live (ap (λ (x : CurrentRow). x.status) same ∙ deleted)
+  deleted_gone deleted History row at live =
+      let no : None ≡ Some changed = sym (ap (λ (x : Seat). x.cp) at) ∙ at_own in cc
+  deleted_gone deleted (Deleted reason) row at live = live
 
-    listed_after : (x : CurrentRow) → Contains (map (replaced changed) cp) x → sets'.cp x.row.serial ≡ Some x
-    listed_after x has =
-        let (z, in_cp, at) = contains_map of_current of_current (replaced changed)
-        (λ y. same_serial y (nat_eq y.row.serial changed.row.serial) refl) cp x has in
-        subst (λ (y : CurrentRow). sets'.cp y.row.serial ≡ Some y) at
-        (by_serial z in_cp (nat_eq z.row.serial changed.row.serial) refl)
-      where
-        same_serial : (y : CurrentRow) (b : Bool) → nat_eq y.row.serial changed.row.serial ≡ b
-            → (if b then changed else y).row.serial ≡ y.row.serial
-        same_serial y true e = sym (eqb-true _ _ e)
-        same_serial y false e = refl
-
-        by_serial : (z : CurrentRow) → Contains cp z → (b : Bool) → nat_eq z.row.serial changed.row.serial ≡ b
-            → sets'.cp (if b then changed else z).row.serial ≡ Some (if b then changed else z)
-        by_serial z has true e = at_own
-        by_serial z has false e = at_other z.row.serial (turned _ _ e) ∙ stands_in z has
-
-    after_listed : (x : CurrentRow) → sets'.cp x.row.serial ≡ Some x → Contains (map (replaced changed) cp) x
-    after_listed x at = elim (nat_eq changed.row.serial x.row.serial) as
-        (λ b. nat_eq changed.row.serial x.row.serial ≡ b → Contains (map (replaced changed) cp) x) [
-          | true ↦ λ e.
-              let both : Some changed ≡ Some x = sym at_own ∙ ap (λ n. sets'.cp n) (eqb-true _ _ e) ∙ at in
-              let same : changed ≡ x = cc in
-              let was : CurrentRow = record { row = changed.row; status = is.was } in
-              let has : Contains cp was = (lists.exactly was).1 (is.stands, tt) in
-              let turns : replaced changed was ≡ changed =
-              ap (λ (b : Bool). if b then changed else was) (eq-eqb changed.row.serial changed.row.serial refl) in
-              subst (Contains (map (replaced changed) cp)) (turns ∙ same) (map_contains (replaced changed) cp was has)
-          | false ↦ λ e.
-              let has : Contains cp x = (lists.exactly x).1 (sym (at_other x.row.serial e) ∙ at, tt) in
-              let turns : replaced changed x ≡ x = ap (λ (b : Bool). if b then changed else x) (turned _ _ e) in
-              subst (Contains (map (replaced changed) cp)) turns (map_contains (replaced changed) cp x has)
-        ] refl
-
-    -- the lists after the action
-    pub lists_after : (ltp : List Row) → ListsSet of_row c.sets.ltp IsAny ltp → (history : List Row)
-        → ListsSet of_row c.sets.history IsAny history → HasLists sets' ltp (map (replaced changed) cp) history
-    lists_after ltp ltp_is history history_is = record {
-      sound = action_sound key action c.sets rows;
-      ltp = λ row. ((λ has. ((ltp_is.exactly row).0 has).0), λ at. (ltp_is.exactly row).1 (at, tt));
-      cp = λ x. (listed_after x, after_listed x);
-      history = λ row. ((λ has. ((history_is.exactly row).0 has).0), λ at. (history_is.exactly row).1 (at, tt));
-    }
+  -- the row is what its deletion withdraws
+  pub deletion_loses : action ≡ Delete → LosesRow c.sets sets' changed.row
+  deletion_loses deletes = record {
+    placed = record { row = changed.row; place = Current is.was };
+    of_row = refl;
+    stood = stands_in_cp c.sets rows changed.row.serial (record { row = changed.row; status = is.was }) is.stands;
+    lived = is.live;
+    gone = λ p at live. deleted_gone (to_deleted is.was changed.status
+        (ap (changed_status is.was) (sym deletes) ∙ is.allowed)) p.place p.row at live;
+    others = λ serial other p. ((λ at. same_seat serial other ∙ at), λ at. sym (same_seat serial other) ∙ at);
+  }
 
   module _ (change : Change) (d : ChangesStatus c action changed change) where
     none_moves : {X : Type 0} (row_of : X → Row) (moves : Moves X) (set : ℕ → Option X) → MovesNothing moves

@@ -32,10 +32,6 @@ pub record IsActedOn (c : Content) (action : Action) (changed : CurrentRow) : Ty
   pub live : was ≢ D
   pub allowed : changed_status was action ≡ Some changed.status
 
--- the row as it is then, and any other as it was
-abbrev pub replaced : CurrentRow → CurrentRow → CurrentRow
-replaced changed x = if nat_eq x.row.serial changed.row.serial then changed else x
-
 -- the pairs after the action
 abbrev pub ArePairsActed : Content → Action → CurrentRow → List Pair → Type 0
 ArePairsActed c action changed pairs =

@@ -8,11 +8,10 @@ ghost use Rattle.plan_store.specs.Changes.{pairs_after};
 ghost use Rattle.plan_store.specs.Verdicts.{VerdictIs};
 ghost use Rattle.plan_store.specs.Views.{IsCurrentRow, Shows, shown};
 ghost use Rattle.daily_planning.specs.Actions.{ArePairsActed, ChangesStatus, IsActedOn, LeadsToRowPairs, WaitsFor};
-ghost use Rattle.daily_planning.specs.Actions.{replaced};
 
 use external_dependencies::{PairChange, Pairs};
 use occurrences::{Action, CurrentRow, Key, Refusal, Reply, Row, Serial, next_status};
-use plan_pairs::{live_rows, pair_change, row_pairs_of, single};
+use plan_pairs::{pairs_without, row_pairs_of, single};
 use plan_store::{Change, Need, Verdict, View};
 use std::alloc::{AllocError, Global};
 
@@ -129,7 +128,7 @@ fn acted_pairs(
             added: Pairs::new(alloc),
         }),
         Action::Reset => reset_pairs(alloc, view, &changed.row),
-        Action::Delete => settled_change(alloc, view, changed),
+        Action::Delete => pairs_without(alloc, view, &changed.row),
     }
 }
 
@@ -144,38 +143,4 @@ fn reset_pairs(alloc: Global, view: &View<'_>, row: &Row) -> Result<PairChange, 
     let had = Pairs::from_vec(had);
     let now = row_pairs_of(alloc, view, row)?;
     PairChange::between(alloc, &had, &now)
-}
-
-// The change of the pairs from scratch, where the row of the current plan changes to this one.
-fn settled_change(
-    alloc: Global,
-    view: &View<'_>,
-    changed: &CurrentRow,
-) -> Result<PairChange, AllocError>
-    ensures { IfOk result (λ change. IsSound (shown view.now) → (action : ActionValue)
-        → IsActedOn (shown view.now) action changed.now
-        → ArePairsActed (shown view.now) action changed.now (pairs_after change (shown view.now).pairs)) }
-{
-    let current = with_changed(alloc, view.cp(), *changed)?;
-    let rows = live_rows(alloc, view.ltp(), current.as_slice(), view.history())?;
-    pair_change(alloc, view.pairs(), &rows, view.in_force())
-}
-
-// The rows, where the one of that serial is this one.
-fn with_changed(
-    alloc: Global,
-    rows: &[CurrentRow],
-    changed: CurrentRow,
-) -> Result<Vec<CurrentRow>, AllocError>
-    ensures { IfOk result (λ found. found.items ≡ map (replaced changed) rows.now) }
-{
-    rows.iter()
-        .map(|current| {
-            if current.row.serial == changed.row.serial {
-                changed
-            } else {
-                *current
-            }
-        })
-        .collect(alloc)
 }

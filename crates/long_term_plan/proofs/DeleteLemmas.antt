@@ -33,9 +33,8 @@ use Rattle.plan_store.specs.Views.{IsPlannedRow}
 use Rattle.plan_store.specs.declared.changes.Change.{Change}
 use Rattle.plan_store.specs.declared.changes.Verdict.{Verdict}
 use Rattle.plan_store.specs.declared.changes.Verdict.TheVariants.{Done, Refused}
-use Rattle.plan_pairs.proofs.ListLemmas.{filter_has, filter_keeps}
 use Rattle.long_term_plan.specs.Deletes.{DeletesRow, IsDeletionOf}
-use Rattle.plan_pairs.specs.LiveRows.{AreLiveRows}
+use Rattle.plan_pairs.specs.Withdrawals.{LosesRow}
 use Rattle.plan_pairs.proofs.SetLemmas.{fits_nothing, fits_one, fits_taken, keep_some, moves_nothing, moves_one}
 use Rattle.plan_pairs.proofs.SetLemmas.{moves_taken, some_keep}
 
@@ -97,9 +96,6 @@ module _ (c : Sets) (sound : RowsSound c) (row : Row) (stands : c.ltp row.serial
   pub no_deletion : c.deletions row.serial ≡ None
   no_deletion = ap (λ (s : Seat). s.deletions) (stands_in_ltp c sound row.serial row stands)
 
-  abbrev others : PlacedRow → Bool
-  others p = not (nat_eq p.row.serial row.serial)
-
   -- under other serials nothing changes
   same_seat : (serial : ℕ) → serial ≢ row.serial → seat (each (delete_move row.key) c) serial ≡ seat c serial
   same_seat serial other =
@@ -134,22 +130,15 @@ module _ (c : Sets) (sound : RowsSound c) (row : Row) (stands : c.ltp row.serial
       let no : None ≡ Some x = sym none ∙ ap c.history (sym same) ∙ ap (λ (s : Seat). s.history) at in cc
   goes serial (Deleted reason) x at live same = live
 
-  -- the live occurrences after the deletion
-  pub live_after : (rows : List PlacedRow) → AreLiveRows c rows
-      → AreLiveRows (each (delete_move row.key) c) (filter others rows)
-  live_after rows are = record {
-    all = λ serial p at live.
-        let other = goes serial p.place p.row at live in
-        let (listed, numbered) = are.all serial p (sym (same_seat serial other) ∙ at) live in
-        let differ : others p ≡ true = ap not (ne_eqb _ _ (λ same. other (sym numbered ∙ same))) in
-        (filter_keeps others rows p listed differ, numbered);
-    only = λ p kept.
-        let (listed, differ) = filter_has others rows p kept in
-        let (at, live) = are.only p listed in
-        let other : p.row.serial ≢ row.serial = λ same.
-        let yes : nat_eq p.row.serial row.serial ≡ true = eq-eqb _ _ same in
-        let no : false ≡ true = sym (ap not yes) ∙ differ in cc in
-        (same_seat p.row.serial other ∙ at, live);
+  -- the row is what the deletion withdraws
+  pub deletion_loses : LosesRow c (each (delete_move row.key) c) row
+  deletion_loses = record {
+    placed = record { row = row; place = LongTerm };
+    of_row = refl;
+    stood = stands_in_ltp c sound row.serial row stands;
+    lived = tt;
+    gone = λ p at live. goes row.serial p.place p.row at live refl;
+    others = λ serial other p. ((λ at. same_seat serial other ∙ at), λ at. sym (same_seat serial other) ∙ at);
   }
 
 module _ (c : Content) (sound : IsSound c) (row : Row) (stands : c.sets.ltp row.serial ≡ Some row) (change : Change)

@@ -1,22 +1,16 @@
 -- What a deletion from the long-term plan changes.
-use Rattle.std.specs.Prelude.{◌≡◌, List, [], ◌∷◌, None}
+use Rattle.std.specs.Prelude.{◌≡◌, [], ◌∷◌, None}
 use Rattle.occurrences.specs.declared.reply.Reply.TheVariants.{Numbered}
 use Rattle.occurrences.specs.declared.row.Row.{Row}
-use Rattle.external_dependencies.specs.declared.pairs.Pair.{Pair}
 use Rattle.planner_machine.specs.Content.{Content}
 use Rattle.planner_machine.specs.Delete.{deleted_by_hand, delete_move}
 use Rattle.planner_machine.specs.Moves.{each}
 use Rattle.planner_machine.specs.Pairs.{ArePairs}
-use Rattle.plan_pairs.specs.LiveRows.{HasPairsAfter}
 use Rattle.plan_store.specs.Changes.{MovesNothing, pairs_after}
 use Rattle.plan_store.specs.declared.changes.Change.{Change}
 use Rattle.plan_store.specs.declared.changes.Verdict.{Verdict}
 use Rattle.plan_store.specs.declared.changes.Verdict.TheVariants.{Done, Refused}
 use Rattle.plan_store.specs.declared.changes.DefinitionChange.TheVariants.{AsBefore}
-
--- the pairs are those without that row
-abbrev pub ArePairsWithout : Content → Row → List Pair → Type 0
-ArePairsWithout c row pairs = HasPairsAfter c.pairs c.in_force (each (delete_move row.key) c.sets) pairs
 
 -- the row goes from the long-term plan and comes to the deletions, the pairs follow, and all else stays
 pub record IsDeletionOf (c : Content) (row : Row) (change : Change) : Type 0 where

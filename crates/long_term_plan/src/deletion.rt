@@ -1,15 +1,13 @@
-ghost use Rattle.std.specs.Prelude.{◌≡◌, IfOk, filter, nat_eq, not};
-ghost use Rattle.external_dependencies.specs.declared.rows.PlacedRow.{PlacedRow as PlacedValue};
+ghost use Rattle.std.specs.Prelude.{◌≡◌, IfOk, Some};
 ghost use Rattle.planner_machine.specs.Content.{Content};
 ghost use Rattle.planner_machine.specs.Delete.{ltp_delete};
 ghost use Rattle.planner_machine.specs.Sound.{IsSound};
 ghost use Rattle.plan_store.specs.Verdicts.{VerdictIs};
 ghost use Rattle.plan_store.specs.Views.{Shows, shown};
-ghost use Rattle.long_term_plan.specs.Deletes.{ArePairsWithout, DeletesRow};
+ghost use Rattle.long_term_plan.specs.Deletes.{DeletesRow};
 
-use external_dependencies::{PairChange, Pairs, Rows};
-use occurrences::{Deletion, Key, Reason, Refusal, Reply, Row, Serial};
-use plan_pairs::{live_rows, settled_pairs, single};
+use occurrences::{Deletion, Key, Reason, Refusal, Reply, Row};
+use plan_pairs::{pairs_without, single};
 use plan_store::{Change, DefinitionChange, Moves, Need, Verdict, View};
 use std::alloc::{AllocError, Global};
 
@@ -39,9 +37,7 @@ fn delete_row(alloc: Global, view: &View<'_>, row: &Row) -> Result<Verdict, Allo
         reason: Reason::Operator,
     };
     let put = single(alloc, deletion)?;
-    let now = pairs_without(alloc, view, row)?;
-    let removed = view.pairs().without(alloc, &now)?;
-    let added = now.without(alloc, view.pairs())?;
+    let pairs = pairs_without(alloc, view, row)?;
     let change = Change {
         definitions: DefinitionChange::AsBefore,
         bounds: None,
@@ -59,28 +55,9 @@ fn delete_row(alloc: Global, view: &View<'_>, row: &Row) -> Result<Verdict, Allo
             changed: Vec::new(alloc),
             put,
         },
-        pairs: PairChange { removed, added },
+        pairs,
         job: None,
     };
     let serial = row.serial;
     Ok(Verdict::Done(change, Reply::Numbered { serial }))
-}
-
-// The pairs where the row leaves the long-term plan.
-fn pairs_without(alloc: Global, view: &View<'_>, row: &Row) -> Result<Pairs, AllocError>
-    ensures { IfOk result (λ pairs. IsSound (shown view.now)
-        → (shown view.now).sets.ltp row.now.serial ≡ Some row.now → ArePairsWithout (shown view.now) row.now pairs) }
-{
-    let rows = live_rows(alloc, view.ltp(), view.cp(), view.history())?;
-    let rest = without(rows, row.serial);
-    settled_pairs(alloc, view.pairs(), &rest, view.in_force())
-}
-
-// These occurrences but the one of the serial.
-fn without(rows: Rows, serial: Serial) -> Rows
-    ensures { result ≡ filter (λ (p : PlacedValue). not (nat_eq p.row.serial serial)) rows }
-{
-    let mut placed = rows.into_vec();
-    placed.retain(|p| p.row.serial != serial);
-    Rows::from_vec(placed)
 }

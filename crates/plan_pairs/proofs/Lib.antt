@@ -5,3 +5,5 @@ pub mod RowLemmas
 pub mod RowPairLemmas
 pub mod ScratchLemmas
 pub mod SetLemmas
+pub mod TouchLemmas
+mod WithdrawalLemmas

@@ -114,17 +114,17 @@ same_nearest P Q to from key app near is = record {
   last = λ other live. is.last other (from other live);
 }
 
-open_is_live : (place : Place) → IsOpen place → IsLive place
+pub open_is_live : (place : Place) → IsOpen place → IsLive place
 open_is_live LongTerm waits = tt
 open_is_live (Current status) waits = λ deleted. let no : W ≡ D = sym waits ∙ deleted in cc
 open_is_live History waits = absurd waits
 open_is_live (Deleted reason) waits = absurd waits
 
 module _ (s : Sets) (rows : List PlacedRow) (are : AreLiveRows s rows) where
-  live_to : (x : Arrival) → LiveAt s x → IsLiveIn rows x
+  pub live_to : (x : Arrival) → LiveAt s x → IsLiveIn rows x
   live_to x (serial, p, stands, live, arrives) = (p, (are.all serial p stands live).0, live, arrives)
 
-  live_from : (x : Arrival) → IsLiveIn rows x → LiveAt s x
+  pub live_from : (x : Arrival) → IsLiveIn rows x → LiveAt s x
   live_from x (p, there, live, arrives) = (p.row.serial, p, (are.only p there).0, live, arrives)
 
   -- the pairs of the list from scratch, with those that it holds, are the pairs after a statement

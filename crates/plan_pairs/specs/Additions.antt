@@ -10,6 +10,7 @@ use Rattle.occurrences.specs.declared.row.Row.{Row}
 use Rattle.occurrences.specs.declared.serial.TheConstants.{GREATEST_SERIAL}
 use Rattle.occurrences.specs.declared.status.Status.TheVariants.{W}
 use Rattle.external_dependencies.specs.declared.pairs.Pair.{Pair}
+use Rattle.external_dependencies.specs.declared.touch.Touch.{Touch}
 use Rattle.planner_machine.specs.Add.{AddRefused}
 use Rattle.planner_machine.specs.Content.{Content, Sets}
 use Rattle.planner_machine.specs.DailyPlan.{waiting}
@@ -56,6 +57,12 @@ IsNewRow c plan key (Err refusal) = IsLeastRefusal (AddRefused (place_in plan) k
 abbrev pub IsPutIn : Plan → Row → List Row → List CurrentRow → Type 0
 IsPutIn LongTerm row planned current = (planned ≡ row ∷ []) × (current ≡ [])
 IsPutIn Current row planned current = (planned ≡ []) × (current ≡ waiting row ∷ [])
+
+-- the row was made, and nothing else touched; what it may reach has no end
+pub record IsTouchOfNew (row : Row) (touch : Touch) : Type 0 where
+  pub made : touch.made.items ≡ row.serial ∷ []
+  pub withdrawn : touch.withdrawn.items ≡ []
+  pub stretches : touch.stretches.items ≡ record { app = row.key.app; first = row.key.ia; last = None } ∷ []
 
 -- the pairs where the row is added
 abbrev pub ArePairsWith : Content → Plan → Row → List Pair → Type 0

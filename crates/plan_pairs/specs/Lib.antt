@@ -1,3 +1,4 @@
 pub mod Additions
 pub mod LiveRows
 pub mod RowPairs
+pub mod Withdrawals

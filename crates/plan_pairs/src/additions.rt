@@ -6,13 +6,12 @@ ghost use Rattle.plan_store.specs.Changes.{pairs_after};
 ghost use Rattle.plan_store.specs.Verdicts.{VerdictIs};
 ghost use Rattle.plan_store.specs.Views.{Shows, shown};
 ghost use Rattle.plan_pairs.specs.Additions.{AddsRow, ArePairsWith, IsAddable, IsNewRow, IsNewSerial, IsPutIn};
-ghost use Rattle.plan_pairs.specs.Additions.{place_in};
+ghost use Rattle.plan_pairs.specs.Additions.{IsTouchOfNew, place_in};
 
-use crate::change::pair_change;
 use crate::listing::live_rows_in;
 use crate::singles::single;
 use app_occurrences::active;
-use external_dependencies::{PairChange, PlacedRow, Rows};
+use external_dependencies::{PairChange, PlacedRow, Rows, Stretch, Touch, resolve_touched};
 use occurrences::{CurrentRow, Key, Origin, Place, Refusal, Reply, Row, Serial, Status};
 use plan_store::{Change, Need, Verdict, View};
 use planner_machine::{Bounds, MOST_PLANNED_ROWS};
@@ -149,5 +148,20 @@ fn pairs_with(
     let place = plan.place();
     placed.push(PlacedRow { row: *row, place })?;
     let rows = Rows::from_vec(placed);
-    pair_change(alloc, view.pairs(), &rows, view.in_force())
+    let touch = touch_of(alloc, row)?;
+    resolve_touched(alloc, &rows, view.in_force(), view.pairs(), &touch)
+}
+
+// What the row touches that is added.
+fn touch_of(alloc: Global, row: &Row) -> Result<Touch, AllocError>
+    ensures { IfOk result (IsTouchOfNew row.now) }
+{
+    let mut touch = Touch::new(alloc);
+    touch.made.push(row.serial)?;
+    touch.stretches.push(Stretch {
+        app: row.key.app,
+        first: row.key.ia,
+        last: None,
+    })?;
+    Ok(touch)
 }

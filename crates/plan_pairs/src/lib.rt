@@ -1,6 +1,6 @@
-//! What both plans share: the live occurrences as a list, an addition by hand, and the pairs after a statement, found
-//! from scratch: those of open occurrences with their nearest predecessors, and of those that are live and no longer
-//! open the pairs that they had.
+//! What both plans share: the live occurrences as a list, an addition by hand, and the pairs after a statement: those
+//! of open occurrences with their nearest predecessors, and of those that are live and no longer open the pairs that
+//! they had. Planning finds them from scratch, and an addition and a deletion only where they reach.
 //!
 //! ```text
 //! // the pairs once some rows joined the long-term plan, and what leads to them from those before
@@ -15,6 +15,7 @@ mod listing;
 mod row_pairs;
 mod scratch;
 mod singles;
+mod withdrawals;
 
 pub use additions::{Plan, add};
 pub use change::pair_change;
@@ -22,3 +23,4 @@ pub use listing::{live_rows, live_rows_with};
 pub use row_pairs::row_pairs_of;
 pub use scratch::settled_pairs;
 pub use singles::single;
+pub use withdrawals::pairs_without;

@@ -11,6 +11,7 @@ use Rattle.plan_store.specs.Changes.{pairs_after}
 use Rattle.plan_store.specs.Views.{shown}
 use Rattle.daily_planning.specs.Actions.{ArePairsActed, IsActedOn, LeadsToRowPairs}
 use Rattle.daily_planning.specs.Statuses.{LeavesPairs}
+use Rattle.daily_planning.proofs.ActLemmas.{deletion_loses}
 use Rattle.daily_planning.proofs.ChangeLemmas.{no_pairs_move}
 use Rattle.daily_planning.proofs.ResetLemmas.{reset_are}
 use Rattle.daily_planning.proofs.StatusLemmas.{action_pairs}
@@ -47,3 +48,11 @@ returns-in-Reset c = weaker c.reset_pairs.result
     let reset = subst (λ (a : Action). IsActedOn content a changed) c.in-Reset.is acted in
     subst (λ (a : Action). ArePairsActed content a changed (pairs_after change content.pairs)) (sym c.in-Reset.is)
     (reset_are content sound changed reset change (leads sound))) c.reset_pairs.ensures
+
+pub returns-in-Delete : goal.returns-in-Delete
+returns-in-Delete c = weaker c.pairs_without.result _ _ (λ (change : PairChange) without sound acted.
+    let content = shown c.args.view.now in
+    let changed = c.args.changed.now in
+    let action = c.args.action in
+    without sound (each (action_move changed.row.key action) content.sets)
+    (deletion_loses content sound action changed acted c.in-Delete.is)) c.pairs_without.ensures

@@ -1,28 +1,16 @@
-use Rattle.std.proofs.Common.{◌↔◌, refl, subst}
-use Rattle.std.specs.List.{Contains}
-use Rattle.external_dependencies.specs.Change.{Leads}
-use Rattle.external_dependencies.specs.declared.change.PairChange.{PairChange}
+use Rattle.std.proofs.Common.{refl}
 use Rattle.planner_machine.specs.Delete.{delete_move}
 use Rattle.planner_machine.specs.Moves.{each}
-use Rattle.plan_store.proofs.PairLemmas.{pairs_after_rising}
-use Rattle.plan_pairs.proofs.ChangeLemmas.{pairs_after_are, pairs_same}
-use Rattle.plan_store.specs.Changes.{pairs_after}
+use Rattle.planner_machine.proofs.SoundLemmas.{rows_sound}
 use Rattle.plan_store.specs.Views.{shown}
+use Rattle.long_term_plan.proofs.DeleteLemmas.{deletion_loses}
 use Rattle.long_term_plan.proofs.deletion.delete_row.Goals as goal
 
 pub returns : goal.returns
 returns c sound stands =
     let content = shown c.args.view.now in
     let s = each (delete_move c.args.row.now.key) content.sets in
-    let now = c.in_ok-now.now in
-    let change : PairChange = record { removed = c.in_ok-removed.removed; added = c.in_ok-added.added } in
-    let leads : Leads content.pairs now change = record {
-      removed = λ p. subst (λ old. Contains change.removed p ↔ (Contains old p × (Contains now p → ⊥))) c.pairs.ensures
-          (c.in_ok-removed.ensures p);
-      added = λ p. subst (λ old. Contains change.added p ↔ (Contains now p × (Contains old p → ⊥))) c.pairs-2.ensures
-          (c.in_ok-added.ensures p);
-    } in
-    let rising = sound.pairs.settled.rising in (
+    let loses = deletion_loses content.sets (rows_sound content sound) c.args.row.now stands in (
       record {
         gone = c.in_ok-gone.ensures;
         unchanged = c.new.ensures.items;
@@ -41,9 +29,7 @@ returns c sound stands =
         issued = refl;
         in_force = refl;
         job = refl;
-        pairs = pairs_same content.pairs content.in_force s now (pairs_after change content.pairs)
-            (c.in_ok-now.ensures sound stands) (pairs_after_rising change content.pairs rising)
-            (pairs_after_are change content.pairs now leads);
+        pairs = c.in_ok-pairs.ensures sound s loses;
       },
       refl,
     )

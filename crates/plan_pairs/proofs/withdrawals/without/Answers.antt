@@ -1,7 +1,7 @@
 use Rattle.std.proofs.Common.{◌≡◌, ◌∙◌, Bool, ap, filter, nat_eq, not, rules}
 use Rattle.std.proofs.lemmas.Fn.{filter_same}
 use Rattle.external_dependencies.specs.declared.rows.PlacedRow.{PlacedRow}
-use Rattle.long_term_plan.proofs.deletion.without.Goals as goal
+use Rattle.plan_pairs.proofs.withdrawals.without.Goals as goal
 
 pub returns : goal.returns
 returns c =

@@ -1,0 +1,161 @@
+-- Pairs that are found anew only where a change reaches are those after a statement.
+use Rattle.std.proofs.Common.{◌≡◌, ◌≢◌, ◌↔◌, ◌⊎◌, ℕ, ◌+◌, ◌<◌, List, [], ◌∷◌, ◌++◌, refl, sym, ap, subst, ◌∙◌, inl, inr, arith, None}
+use Rattle.std.specs.List.{Contains}
+use Rattle.std.proofs.lemmas.List.Elements.{Contains-append_left, Contains-push, Contains-push_cases}
+use Rattle.occurrences.specs.Place.{IsLive, IsOpen}
+use Rattle.occurrences.specs.declared.row.Row.{Row}
+use Rattle.external_dependencies.specs.Pair.{pair_cmp}
+use Rattle.external_dependencies.specs.Rising.{IsRising}
+use Rattle.external_dependencies.specs.declared.change.PairChange.{PairChange}
+use Rattle.external_dependencies.specs.declared.links.Link.{Link}
+use Rattle.external_dependencies.specs.declared.pairs.Pair.{Pair}
+use Rattle.external_dependencies.specs.declared.rows.PlacedRow.{PlacedRow}
+use Rattle.external_dependencies.specs.Nearest.{IsLiveIn}
+use Rattle.planner_machine.specs.Content.{Content, Sets, StandsAt}
+use Rattle.planner_machine.specs.Drafts.{added}
+use Rattle.planner_machine.specs.Moves.{numbered_row}
+use Rattle.planner_machine.specs.Pairs.{ArePairs, IsKeptPair, IsOpenPair, LiveAt}
+use Rattle.planner_machine.specs.Sound.{IsSound}
+use Rattle.planner_machine.proofs.SeatLemmas.{not_empty, one_place}
+use Rattle.planner_machine.proofs.SoundLemmas.{rows_sound}
+use Rattle.plan_store.specs.Changes.{pairs_after}
+use Rattle.plan_store.proofs.PairLemmas.{pairs_after_contains, pairs_after_rising}
+use Rattle.plan_pairs.specs.Additions.{IsAddable, IsTouchOfNew, place_in}
+use Rattle.plan_pairs.specs.LiveRows.{AreLiveRows}
+use Rattle.plan_pairs.specs.declared.additions.Plan.{Plan}
+use Rattle.plan_pairs.proofs.ScratchLemmas.{live_from, live_to, open_is_live, same_nearest}
+use Rattle.external_dependencies.specs.declared.touch.Touch.{Touch}
+use Rattle.external_dependencies.specs.Change.{LeadsExactly}
+use Rattle.external_dependencies.specs.Reached.{HoldsReached}
+use Rattle.external_dependencies.specs.Settled.{AreSettled, IsOnce, IsSettledPair}
+use Rattle.external_dependencies.specs.Touch.{Touches}
+use Rattle.external_dependencies.proofs.TouchLemmas.{IsWith, row_comes, stretch_at}
+
+module _ (s : Sets) (rows : List PlacedRow) (are : AreLiveRows s rows) where
+  pub live_once : IsOnce rows
+  live_once p q p_in q_in same =
+      let at_p = (are.only p p_in).0 in
+      let at_q = (are.only q q_in).0 in
+      one_place s q.row.serial p q (subst (λ n. StandsAt s n p) same at_p) at_q
+
+  module _ (links : List Link) (old : List Pair) where
+    settled_to : (pair : Pair) → IsSettledPair old rows links pair → IsOpenPair links s pair ⊎ IsKeptPair old s pair
+    settled_to pair (inl is) = inl (record {
+      placed = is.placed;
+      stands = subst (λ n. StandsAt s n is.placed) is.successor (are.only is.placed is.stands).0;
+      waits = is.waits;
+      app = is.app;
+      listed = is.listed;
+      near = is.near;
+      nearest = same_nearest (IsLiveIn rows) (LiveAt s) (live_from s rows are) (live_to s rows are)
+          is.placed.row.key is.app is.near is.nearest;
+      predecessor = is.predecessor;
+    })
+    settled_to pair (inr kept) = inr (record {
+      placed = kept.placed;
+      stands = subst (λ n. StandsAt s n kept.placed) kept.successor (are.only kept.placed kept.stands).0;
+      live = kept.live;
+      waits_no_more = kept.closed;
+      had = kept.had;
+    })
+
+    settled_from : (pair : Pair) → IsOpenPair links s pair ⊎ IsKeptPair old s pair → IsSettledPair old rows links pair
+    settled_from pair (inl is) =
+        let here = are.all pair.successor is.placed is.stands (open_is_live is.placed.place is.waits) in
+        inl (record {
+          placed = is.placed;
+          stands = here.0;
+          waits = is.waits;
+          successor = here.1;
+          app = is.app;
+          listed = is.listed;
+          near = is.near;
+          nearest = same_nearest (LiveAt s) (IsLiveIn rows) (live_to s rows are) (live_from s rows are)
+              is.placed.row.key is.app is.near is.nearest;
+          predecessor = is.predecessor;
+        })
+    settled_from pair (inr kept) =
+        let here = are.all pair.successor kept.placed kept.stands kept.live in
+        inr (record {
+          placed = kept.placed;
+          stands = here.0;
+          successor = here.1;
+          live = kept.live;
+          closed = kept.waits_no_more;
+          had = kept.had;
+        })
+
+    -- pairs that are settled are so over the list
+    pub are_settled : ArePairs old links s old → AreSettled rows links old
+    are_settled pairs pair = (
+      (λ there. settled_from pair ((pairs.exactly pair).0 there)),
+      λ is. (pairs.exactly pair).1 (settled_to pair is),
+    )
+
+    -- what leads exactly to the pairs of the list makes the pairs after a statement
+    pub pairs_led : IsRising pair_cmp old → (change : PairChange)
+        → LeadsExactly old (IsSettledPair old rows links) change → ArePairs old links s (pairs_after change old)
+    pairs_led rising change leads = record {
+      rising = pairs_after_rising change old rising;
+      exactly = λ pair. (
+        (λ there. settled_to pair (forward pair ((pairs_after_contains change old pair).0 there))),
+        λ is. (pairs_after_contains change old pair).1 (backward pair (settled_from pair is)),
+      );
+    }
+      where
+        forward : (pair : Pair) → Contains change.added pair ⊎ (Contains old pair × (Contains change.removed pair → ⊥))
+            → IsSettledPair old rows links pair
+        forward pair (inl new) = ((leads.added pair).0 new).0
+        forward pair (inr both) = elim (leads.stays pair both.0) [
+          | inl gone ↦ absurd (both.1 gone)
+          | inr stays ↦ stays
+        ]
+
+        backward : (pair : Pair) → IsSettledPair old rows links pair
+            → Contains change.added pair ⊎ (Contains old pair × (Contains change.removed pair → ⊥))
+        backward pair is = elim (leads.comes pair is) [
+          | inl stood ↦ inr (stood, λ gone. ((leads.removed pair).0 gone).1 is)
+          | inr new ↦ inl new
+        ]
+
+-- all rows and all pairs hold what a change reaches
+pub all_hold : (touch : Touch) (links : List Link) (now : List PlacedRow) (old : List Pair)
+    → HoldsReached touch links now old now old
+all_hold touch links now old = record {
+  rows_stand = λ q there. there;
+  reached = λ q there _ _. there;
+  nearest = λ q _ _ _ app _ near. ((λ is. is), λ is. is);
+  pairs_stood = λ pair there. there;
+  had = λ pair there _. there;
+}
+
+-- the live rows before and after an addition
+module _ (c : Content) (sound : IsSound c) (plan : Plan) (row : Row) (able : IsAddable c plan row)
+    (rows : List PlacedRow) (are : AreLiveRows c.sets rows) where
+  pub row_with : IsWith rows (record { row = row; place = place_in plan })
+      (rows ++ (record { row = row; place = place_in plan }) ∷ [])
+  row_with = record {
+    exactly = λ q. (
+      (λ there. Contains-push_cases rows (record { row = row; place = place_in plan }) q there),
+      λ is. elim is [
+        | inl old ↦ Contains-append_left rows ((record { row = row; place = place_in plan }) ∷ []) q old
+        | inr new ↦ subst (Contains (rows ++ (record { row = row; place = place_in plan }) ∷ [])) new
+            (Contains-push rows (record { row = row; place = place_in plan }))
+      ],
+    );
+    once = live_once c.sets rows are;
+    new = λ p there same.
+        let number : row.serial ≡ c.sets.issued + 1 = ap (λ (r : Row). r.serial) able.numbered in
+        let stands = subst (λ n. StandsAt c.sets n p) (same ∙ number) (are.only p there).0 in
+        not_empty c.sets (c.sets.issued + 1) p stands
+        ((rows_sound c sound).unissued (c.sets.issued + 1) (inr (omega arith)));
+  }
+
+  pub addition_touches : (touch : Touch) → IsTouchOfNew row touch
+      → Touches touch rows (rows ++ (record { row = row; place = place_in plan }) ∷ []) c.in_force c.in_force
+  addition_touches touch is =
+      row_comes rows (record { row = row; place = place_in plan })
+      (rows ++ (record { row = row; place = place_in plan }) ∷ []) row_with touch c.in_force None
+      (subst (λ xs. Contains xs (stretch_at row None)) (sym is.stretches) (0, omega arith, refl)) tt
+      (λ n there. let here = subst (λ xs. Contains xs n) is.withdrawn there in let lt = here.1 in absurd (omega arith))
+      (inl (subst (λ xs. Contains xs row.serial) (sym is.made) (0, omega arith, refl)))
