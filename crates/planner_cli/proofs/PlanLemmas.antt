@@ -35,6 +35,12 @@ pub step_sound : RunsSound → (c c' : Content) (item : Item) (reply : Reply) �
     → IsSound c'
 step_sound law c c' item reply sound (asked, asks, h) = asked_sound law asked c c' reply sound h
 
+pub answers_sound : RunsSound → (items : List Item) (replies : List Reply) (c c' : Content) → IsSound c
+    → Answers Step c items replies c' → IsSound c'
+answers_sound law [] replies c c' sound h = subst IsSound (sym h.1) sound
+answers_sound law (item ∷ items) replies c c' sound (reply, rest, between, is, step, later) =
+    answers_sound law items rest between c' (step_sound law c between item reply sound step) later
+
 -- what a job's reply shows: its answer alone
 abbrev pub TellsJob : Statement → Answer → Reply → Type 0
 TellsJob s answer reply = (number : ℕ) → job_number s ≡ Some number → reply ≡ answering answer
@@ -155,7 +161,8 @@ since done replies c between c' hand h (inr (item, is, (reply, step))) = record 
   answers = answers_more Step c between c' done replies item reply h step;
 }
 
-ended : (cause : Cause) (line : List ℕ) (between c' : Content) (hand : Option Item) (tail : List ℕ)
+-- a fault changes nothing after the answers, but for the item in hand
+pub ended : (cause : Cause) (line : List ℕ) (between c' : Content) (hand : Option Item) (tail : List ℕ)
     → EndsBy Step cause line between c' hand tail
     → (c' ≡ between) ⊎ LeavesInHand Step between hand c'
 ended Memory line between c' hand tail h = inl h.0
@@ -171,12 +178,18 @@ reached line c c' w w' read fault h =
     since h.done h.replies c h.between c' h.hand h.answers
     (ended (cause_of fault) (line (cause_of fault)) h.between c' h.hand h.tail h.ending)
 
+-- what was answered before a crash
+pub reached_by_crash : (c c' : Content) (w w' read : Option (List ℕ)) (fault : RunFault) (left : Content)
+    (h : Crashed Step fault_line (ends_of c c' w w' read) fault left)
+    → Reached h.stopped.done h.stopped.replies c left h.stopped.hand
+reached_by_crash c c' w w' read fault left h =
+    since h.stopped.done h.stopped.replies c h.stopped.between left h.stopped.hand h.stopped.answers h.leaves
+
 pub crashed_leads : RunsSound → RunsByFate → (c c' : Content) (w w' read : Option (List ℕ)) (fault : RunFault)
     (left : Content) → IsSound c
     → Crashed Step fault_line (ends_of c c' w w' read) fault left → CrashedPlan (ends_of c c' w w' read) fault left
 crashed_leads law fates c c' w w' read fault left sound h =
-    let stopped = h.stopped in
-    let at = since stopped.done stopped.replies c stopped.between left stopped.hand stopped.answers h.leaves in
+    let at = reached_by_crash c c' w w' read fault left h in
     record {
       crashed = h;
       items = at.items;

@@ -1,23 +1,106 @@
 -- Streams that are run again: their items ask the same statements.
 use Rattle.std.proofs.Common.{◌≡◌, ◌∙◌, ℕ, zero, suc, List, [], ◌∷◌, ◌++◌, refl, sym, ap, subst, inl, inr, append_assoc}
-use Rattle.std.proofs.Common.{None, Option, Some}
+use Rattle.std.proofs.Common.{None, Option, Some, append-nil}
 use Rattle.std.specs.Prelude.{All, option_and_then, option_map, slice_get}
+use Rattle.planner_machine.specs.Content.{Content}
 use Rattle.planner_machine.specs.Rerun.{AnswersAgree, RerunEndsAsEachRun, job_number}
+use Rattle.planner_machine.specs.Sound.{IsSound}
 use Rattle.planner_machine.specs.Statement.{Answer, Statement}
-use Rattle.planner_machine.specs.Stream.{IsStatement, Runs}
+use Rattle.planner_machine.specs.Stream.{IsStatement, Runs, RunsSound}
 use Rattle.statements.specs.Statement.{IsLineOf, Reads}
 use Rattle.statements.specs.declared.statements.Statement.{Statement as LineStatement}
-use Rattle.stream_items.specs.Items.{Alone, Item, NoStatement, WithBlock}
+use Rattle.stream_items.specs.Items.{Alone, Item, NoStatement, WithBlock, items_of}
 use Rattle.planner_cli.specs.Asked.{AreAsked, Asks, asked_alone, asked_with, if_asked}
 use Rattle.planner_cli.specs.Faults.{fault_line}
 use Rattle.planner_cli.specs.Meaning.{Answers}
 use Rattle.planner_cli.specs.Outcomes.{answering}
 use Rattle.planner_cli.specs.Plans.{AreAnswered}
 use Rattle.planner_cli.specs.Replies.{Reply}
-use Rattle.planner_cli.specs.Reruns.{IsJobItem, RepliesAgree, RerunAfterFault, RerunEndsAsOneRun}
+use Rattle.planner_cli.specs.Reruns.{EndsAsOneRun, IsCutShort, IsJobItem, RepliesAgree, RerunAfterFaults}
+use Rattle.planner_cli.specs.Reruns.{RerunEndsAsOneRun}
 use Rattle.planner_cli.specs.Runs.{with_hand}
 use Rattle.planner_cli.specs.Steps.{Step}
-use Rattle.planner_cli.proofs.PlanLemmas.{Reached, Tells, TellsAsked, TellsJob, led, reached}
+use Rattle.planner_cli.proofs.PlanLemmas.{Reached, Tells, TellsAsked, TellsJob, answers_sound, led, reached}
+use Rattle.planner_cli.proofs.PlanLemmas.{reached_by_crash}
+
+-- what the whole stream is answered parts where the stream does
+abbrev pub AnswersParts : List Item → List Item → List Reply → Content → Content → Type 0
+AnswersParts first rest replies c c' =
+    (x : List Reply) × (y : List Reply) × (middle : Content) × (replies ≡ x ++ y) × Answers Step c first x middle
+    × Answers Step middle rest y c'
+
+answers_parts : (first rest : List Item) (replies : List Reply) (c c' : Content)
+    → Answers Step c (first ++ rest) replies c' → AnswersParts first rest replies c c'
+answers_parts [] rest replies c c' h = ([], replies, c, refl, (refl, refl), h)
+answers_parts (item ∷ first) rest replies c c' (reply, others, between, is, step, later) =
+    let (x, y, middle, split, firsts, rests) = answers_parts first rest others between c' later in (
+      reply ∷ x,
+      y,
+      middle,
+      is ∙ ap (λ l. reply ∷ l) split,
+      (reply, x, between, refl, step, firsts),
+      rests,
+    )
+
+answers_joined : (first rest : List Item) (x y : List Reply) (c middle c' : Content) → Answers Step c first x middle
+    → Answers Step middle rest y c' → Answers Step c (first ++ rest) (x ++ y) c'
+answers_joined [] rest x y c middle c' h more =
+    subst (λ (l : List Reply). Answers Step c rest (l ++ y) c') (sym h.0)
+    (subst (λ (s : Content). Answers Step s rest y c') h.1 more)
+answers_joined (item ∷ first) rest x y c middle c' (reply, others, between, is, step, later) more = (
+  reply,
+  others ++ y,
+  between,
+  ap (λ l. l ++ y) is,
+  step,
+  answers_joined first rest others y between middle c' later more,
+)
+
+-- the items of the text are those that were answered before it was cut short, and others
+record Kept (text : List ℕ) (c left : Content) : Type 0 where
+  pub items : List Item
+  pub others : List Item
+  pub told : List Reply
+  pub split : items_of text ≡ items ++ others
+  pub answers : Answers Step c items told left
+
+after : (done items : List Item) (hand : Option Item) (rest : List Item) → AreAnswered done hand items
+    → (others : List Item) × (done ++ with_hand hand rest ≡ items ++ others)
+after done items hand rest (inl is) = (with_hand hand rest, ap (λ l. l ++ with_hand hand rest) (sym is))
+after done items hand rest (inr (item, some, is)) = (
+  rest,
+  ap (λ o. done ++ with_hand o rest) some ∙ sym (append_assoc done (item ∷ []) rest)
+      ∙ ap (λ l. l ++ rest) (sym is),
+)
+
+kept_of : (text : List ℕ) (c left : Content) (done rest : List Item) (replies : List Reply) (hand : Option Item)
+    → items_of text ≡ done ++ with_hand hand rest → Reached done replies c left hand → Kept text c left
+kept_of text c left done rest replies hand read at =
+    let (others, split) = after done at.items hand rest at.are_answered in
+    record {
+      items = at.items;
+      others = others;
+      told = at.told;
+      split = read ∙ split;
+      answers = at.answers;
+    }
+
+kept : (text : List ℕ) (c left : Content) → IsCutShort text c left → Kept text c left
+kept text c left (end, w, w', fault, inl (stopped, is)) =
+    subst (Kept text c) (sym is)
+    (kept_of text c end stopped.done stopped.read.0 stopped.replies stopped.hand stopped.read.1
+    (reached fault_line c end w w' (Some text) fault stopped))
+kept text c left (end, w, w', fault, inr crashed) =
+    kept_of text c left crashed.stopped.done crashed.stopped.read.0 crashed.stopped.replies crashed.stopped.hand
+    crashed.stopped.read.1 (reached_by_crash c end w w' (Some text) fault left crashed)
+
+-- where one answering of the whole stream is there, the other one ends so
+abbrev EndsAsEach : Type 0
+EndsAsEach =
+    (first rest : List Item) (before replies again : List Reply) (c c1 c' c'' : Content) → IsSound c
+    → Answers Step c first before c1 → Answers Step c (first ++ rest) replies c'
+    → Answers Step c1 (first ++ rest) again c''
+    → (c'' ≡ c') × RepliesAgree (first ++ rest) replies again
 
 -- no line is two statements
 abbrev pub OneStatement : Type 0
@@ -30,7 +113,7 @@ module _ (law : OneStatement) where
   reads_one line (Some t) None r s = absurd (s t r)
   reads_one line (Some t) (Some u) r s = ap Some (law line t u r s)
 
-  asks_one : (item : Item) (a b : Option Statement) → Asks item a → Asks item b → a ≡ b
+  pub asks_one : (item : Item) (a b : Option Statement) → Asks item a → Asks item b → a ≡ b
   asks_one NoStatement a b x y = x ∙ sym y
   asks_one (Alone line) a b (read, reads, is) (read', reads', is') =
       is ∙ ap (option_map (asked_alone line)) (reads_one line read read' reads reads') ∙ sym is'
@@ -128,9 +211,9 @@ module _ (law : OneStatement) where
       more') more place job
       ∙ ap (λ l. slice_get l place) (sym is)
 
-  module _ (each : RerunEndsAsEachRun) where
-    pub one_run : RerunEndsAsOneRun
-    one_run first rest before replies again c c1 c' c'' sound cut whole rerun =
+  module _ (each : RerunEndsAsEachRun) (keeps : RunsSound) where
+    as_each : EndsAsEach
+    as_each first rest before replies again c c1 c' c'' sound cut whole rerun =
         let a = led first before c c1 cut in
         let b = led (first ++ rest) replies c c' whole in
         let d = led (first ++ rest) again c1 c'' rerun in
@@ -147,30 +230,55 @@ module _ (law : OneStatement) where
               (subst (λ l. AnswersAgree l b.answers d.answers) (sym split) ends.1),
         )
 
-    pub after_fault : RerunAfterFault
-    after_fault text c c1 c' c'' w0 w1 w2 w3 w4 w5 fault tally tally' sound stopped whole again =
-        let at = reached fault_line c c1 w0 w1 (Some text) fault stopped in
-        let (rest, items) = stopped.read in
-        ends at (after at.items stopped.done stopped.hand rest at.are_answered) (sym whole.read ∙ items)
-        (sym again.read ∙ items)
-      where
-        -- the items of the text are those that were answered, and others
-        after : (items done : List Item) (hand : Option Item) (rest : List Item) → AreAnswered done hand items
-            → (others : List Item) × (done ++ with_hand hand rest ≡ items ++ others)
-        after items done hand rest (inl is) = (with_hand hand rest, ap (λ l. l ++ with_hand hand rest) (sym is))
-        after items done hand rest (inr (item, some, is)) = (
-          rest,
-          ap (λ o. done ++ with_hand o rest) some ∙ sym (append_assoc done (item ∷ []) rest)
-              ∙ ap (λ l. l ++ rest) (sym is),
-        )
+    -- the first items, answered again, change nothing
+    first_again : (first : List Item) (before again : List Reply) (c c1 c2 : Content) → IsSound c
+        → Answers Step c first before c1 → Answers Step c1 first again c2 → c2 ≡ c1
+    first_again first before again c c1 c2 sound cut rerun =
+        (as_each first [] before before again c c1 c1 c2 sound cut
+        (subst (λ l. Answers Step c l before c1) (sym (append-nil first)) cut)
+        (subst (λ l. Answers Step c1 l again c2) (sym (append-nil first)) rerun)).0
 
-        ends : (at : Reached stopped.done stopped.replies c c1 stopped.hand)
-            → ((others : List Item) × (stopped.done ++ with_hand stopped.hand stopped.read.0 ≡ at.items ++ others))
-            → whole.items ≡ stopped.done ++ with_hand stopped.hand stopped.read.0
-            → again.items ≡ stopped.done ++ with_hand stopped.hand stopped.read.0
-            → (c'' ≡ c') × RepliesAgree whole.items whole.replies again.replies
-        ends at (others, split) whole_is again_is =
-            let both = one_run at.items others at.told whole.replies again.replies c c1 c' c'' sound at.answers
-            (subst (λ l. Answers Step c l whole.replies c') (whole_is ∙ split) whole.answers)
-            (subst (λ l. Answers Step c1 l again.replies c'') (again_is ∙ split) again.answers) in
-            (both.0, subst (λ l. RepliesAgree l whole.replies again.replies) (sym (whole_is ∙ split)) both.1)
+    -- so the first part and the rest of the second run are one answering of the whole stream
+    pub one_run : RerunEndsAsOneRun
+    one_run first rest before again c c1 c' sound cut rerun =
+        let (again1, later, middle, is, firsts, rests) = answers_parts first rest again c1 c' rerun in
+        let same : middle ≡ c1 = first_again first before again1 c c1 middle sound cut firsts in
+        let whole = answers_joined first rest before later c c1 c' cut
+        (subst (λ (x : Content). Answers Step x rest later c') same rests) in
+        record {
+          replies = before ++ later;
+          answers = whole;
+          agree = (as_each first rest before (before ++ later) again c c1 c' c' sound cut whole rerun).1;
+          only = λ others left h.
+              let ends = as_each first rest before others again c c1 left c' sound cut h rerun in (sym ends.0, ends.1);
+        }
+
+    -- one run from what was left, which ends as this one, ends as one run from the beginning
+    before_it : (text : List ℕ) (c left c' : Content) (again : List Reply) → IsSound c → Kept text c left
+        → EndsAsOneRun (items_of text) left c' again → EndsAsOneRun (items_of text) c c' again
+    before_it text c left c' again sound k ends =
+        let first = one_run k.items k.others k.told ends.replies c left c' sound k.answers
+        (subst (λ l. Answers Step left l ends.replies c') k.split ends.answers) in
+        through (subst (λ l. EndsAsOneRun l c c' ends.replies) (sym k.split) first)
+      where
+        through : EndsAsOneRun (items_of text) c c' ends.replies → EndsAsOneRun (items_of text) c c' again
+        through one = record {
+          replies = one.replies;
+          answers = one.answers;
+          agree = λ place job. ends.agree place job ∙ one.agree place job;
+          only = λ others last h. (
+            (one.only others last h).0,
+            λ place job. ends.agree place job ∙ (one.only others last h).1 place job,
+          );
+        }
+
+    pub after_faults : RerunAfterFaults
+    after_faults zero text c left c' w w' tally sound is again =
+        subst (λ l. EndsAsOneRun l c c' again.replies) (sym again.read)
+        (one_run [] again.items [] again.replies c c c' sound (refl, refl)
+        (subst (λ (x : Content). Answers Step x again.items again.replies c') is again.answers))
+    after_faults (suc times) text c left c' w w' tally sound (between, cut, more) again =
+        let k = kept text c between cut in
+        before_it text c between c' again.replies sound k
+        (after_faults times text between left c' w w' tally
+        (answers_sound keeps k.items k.told c between sound k.answers) more again)

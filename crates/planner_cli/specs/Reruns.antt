@@ -1,15 +1,15 @@
 -- A stream that is run again from its start, on what a first part of it left.
-use Rattle.std.specs.Prelude.{◌≡◌, ℕ, List, ◌++◌, Option, Some, slice_get}
+use Rattle.std.specs.Prelude.{◌≡◌, ◌⊎◌, ℕ, zero, suc, List, ◌++◌, Option, Some, slice_get}
 use Rattle.planner_machine.specs.Content.{Content}
 use Rattle.planner_machine.specs.Rerun.{job_number}
 use Rattle.planner_machine.specs.Sound.{IsSound}
 use Rattle.planner_machine.specs.Statement.{Statement}
-use Rattle.stream_items.specs.Items.{Item}
+use Rattle.stream_items.specs.Items.{Item, items_of}
 use Rattle.planner_cli.specs.Asked.{Asks}
 use Rattle.planner_cli.specs.Faults.{fault_line}
 use Rattle.planner_cli.specs.Meaning.{Answers}
 use Rattle.planner_cli.specs.Replies.{Reply}
-use Rattle.planner_cli.specs.Runs.{Ran, Stopped, ends_of}
+use Rattle.planner_cli.specs.Runs.{Crashed, Ran, Stopped, ends_of}
 use Rattle.planner_cli.specs.Steps.{Step}
 use Rattle.planner_cli.specs.declared.faults.RunFault.{RunFault}
 use Rattle.planner_cli.specs.declared.tally.Tally.{Tally}
@@ -24,22 +24,39 @@ IsJobItem items place =
 abbrev pub RepliesAgree : List Item → List Reply → List Reply → Type 0
 RepliesAgree items replies again = (place : ℕ) → IsJobItem items place → slice_get again place ≡ slice_get replies place
 
--- where the first items of a stream leave c1, and the whole stream is answered from its start on c1, it leaves what one
--- answering of the whole stream leaves, and each job gets the reply that it gets there. Job numbers may come twice
+-- there is an answering of the items from c, as one run gives it: it leaves c', and each job gets the reply there that
+-- it has in `again`. And there is no other: each answering of the items from c ends so
+pub record EndsAsOneRun (items : List Item) (c c' : Content) (again : List Reply) : Type 0 where
+  pub replies : List Reply
+  pub answers : Answers Step c items replies c'
+  pub agree : RepliesAgree items replies again
+  pub only : (others : List Reply) (left : Content) → Answers Step c items others left
+      → (left ≡ c') × RepliesAgree items others again
+
+-- where the first items of a stream leave c1, and the whole stream is answered from its start on c1, it ends as one run
+-- of the whole stream from c. Job numbers may come twice
 abbrev pub RerunEndsAsOneRun : Type 0
 RerunEndsAsOneRun =
-    (first rest : List Item) (before replies again : List Reply) (c c1 c' c'' : Content) → IsSound c
-    → Answers Step c first before c1 → Answers Step c (first ++ rest) replies c'
-    → Answers Step c1 (first ++ rest) again c''
-    → (c'' ≡ c') × RepliesAgree (first ++ rest) replies again
+    (first rest : List Item) (before again : List Reply) (c c1 c' : Content) → IsSound c
+    → Answers Step c first before c1 → Answers Step c1 (first ++ rest) again c'
+    → EndsAsOneRun (first ++ rest) c c' again
 
--- a run over a text that a fault ended, and then a run over the same text on what it left: that ends as one
--- uninterrupted run over the text, and each job gets the reply that it gets there
-abbrev pub RerunAfterFault : Type 0
-RerunAfterFault =
-    (text : List ℕ) (c c1 c' c'' : Content) (w0 w1 w2 w3 w4 w5 : Option (List ℕ)) (fault : RunFault)
-    (tally tally' : Tally)
-    → IsSound c → Stopped Step fault_line (ends_of c c1 w0 w1 (Some text)) fault
-    → (whole : Ran Step (ends_of c c' w2 w3 (Some text)) tally)
-    → (again : Ran Step (ends_of c1 c'' w4 w5 (Some text)) tally')
-    → (c'' ≡ c') × RepliesAgree whole.items whole.replies again.replies
+-- a fault ended a run over the text from c, and left this; or a crash after it did
+abbrev pub IsCutShort : (text : List ℕ) (c left : Content) → Type 0
+IsCutShort text c left =
+    (after : Content) × (written : Option (List ℕ)) × (written' : Option (List ℕ)) × (fault : RunFault)
+    × ((Stopped Step fault_line (ends_of c after written written' (Some text)) fault × (left ≡ after))
+    ⊎ Crashed Step fault_line (ends_of c after written written' (Some text)) fault left)
+
+-- so many runs over the text were cut short, the first from c, and each other on what the one before it left
+abbrev pub AreCutShort : (times : ℕ) (text : List ℕ) (c left : Content) → Type 0
+AreCutShort zero text c left = left ≡ c
+AreCutShort (suc times) text c left =
+    (between : Content) × IsCutShort text c between × AreCutShort times text between left
+
+-- however often runs over a text were cut short, a run over it on what is left then ends as one run from c
+abbrev pub RerunAfterFaults : Type 0
+RerunAfterFaults =
+    (times : ℕ) (text : List ℕ) (c left c' : Content) (written written' : Option (List ℕ)) (tally : Tally) → IsSound c
+    → AreCutShort times text c left → (again : Ran Step (ends_of left c' written written' (Some text)) tally)
+    → EndsAsOneRun (items_of text) c c' again.replies
