@@ -16,3 +16,4 @@ pub mod RerunLemmas
 pub mod TrialServes
 pub mod NothingLemmas
 pub mod StatementLemmas
+pub mod FreshRunLemmas

@@ -17,3 +17,4 @@ pub mod Sinks
 pub mod Writes
 pub mod Plans
 pub mod Reruns
+pub mod FreshRuns

@@ -29,7 +29,7 @@ mod well_formed;
 mod writing;
 
 pub use faults::{Part, RunFault};
-pub use laws::reruns;
+pub use laws::{fresh_plans, reruns};
 pub use over_lists::run_lists;
 pub use stream::{exit_status, run};
 pub use tally::Tally;
