@@ -1,5 +1,5 @@
 -- Pairs that are found anew only where a change reaches are those after a statement.
-use Rattle.std.proofs.Common.{◌≡◌, ◌⊎◌, ◌+◌, List, [], ◌∷◌, ◌++◌, refl, sym, ap, subst, ◌∙◌, inl, inr, arith, None}
+use Rattle.std.proofs.Common.{◌≡◌, ◌⊎◌, ℕ, ◌+◌, List, [], ◌∷◌, ◌++◌, refl, sym, ap, subst, ◌∙◌, inl, inr, arith, Option}
 use Rattle.std.specs.List.{Contains}
 use Rattle.std.proofs.lemmas.List.Elements.{Contains-append_left, Contains-push, Contains-push_cases}
 use Rattle.occurrences.specs.declared.row.Row.{Row}
@@ -9,7 +9,7 @@ use Rattle.external_dependencies.specs.declared.change.PairChange.{PairChange}
 use Rattle.external_dependencies.specs.declared.links.Link.{Link}
 use Rattle.external_dependencies.specs.declared.pairs.Pair.{Pair}
 use Rattle.external_dependencies.specs.declared.rows.PlacedRow.{PlacedRow}
-use Rattle.external_dependencies.specs.Nearest.{IsLiveIn}
+use Rattle.external_dependencies.specs.Nearest.{IsLiveIn, arrival_of}
 use Rattle.planner_machine.specs.Content.{Content, Sets, StandsAt}
 use Rattle.planner_machine.specs.Pairs.{ArePairs, IsKeptPair, IsOpenPair, LiveAt}
 use Rattle.planner_machine.specs.Sound.{IsSound}
@@ -23,9 +23,8 @@ use Rattle.plan_pairs.specs.declared.additions.Plan.{Plan}
 use Rattle.plan_pairs.proofs.ScratchLemmas.{live_from, live_to, open_is_live, same_nearest}
 use Rattle.external_dependencies.specs.declared.touch.Touch.{Touch}
 use Rattle.external_dependencies.specs.Change.{LeadsExactly}
-use Rattle.external_dependencies.specs.Reached.{HoldsReached}
 use Rattle.external_dependencies.specs.Settled.{AreSettled, IsOnce, IsSettledPair}
-use Rattle.external_dependencies.specs.Touch.{Touches}
+use Rattle.external_dependencies.specs.Touch.{IsBorder, Touches}
 use Rattle.external_dependencies.proofs.TouchLemmas.{IsWith, row_comes, stretch_at}
 
 module _ (s : Sets) (rows : List PlacedRow) (are : AreLiveRows s rows) where
@@ -121,17 +120,6 @@ pub led_on : (change : PairChange) (old : List Pair) (IsNew : Pair → Type 0) �
 led_on change old IsNew leads =
     leads_on change old (λ p gone. ((leads.removed p).0 gone).0) (λ p new. ((leads.added p).0 new).1)
 
--- all rows and all pairs hold what a change reaches
-pub all_hold : (touch : Touch) (links : List Link) (now : List PlacedRow) (old : List Pair)
-    → HoldsReached touch links now old now old
-all_hold touch links now old = record {
-  rows_stand = λ q there. there;
-  reached = λ q there _ _. there;
-  nearest = λ q _ _ _ app _ near. ((λ is. is), λ is. is);
-  pairs_stood = λ pair there. there;
-  had = λ pair there _. there;
-}
-
 -- the live rows before and after an addition
 module _ (c : Content) (sound : IsSound c) (plan : Plan) (row : Row) (able : IsAddable c plan row)
     (rows : List PlacedRow) (are : AreLiveRows c.sets rows) where
@@ -154,11 +142,12 @@ module _ (c : Content) (sound : IsSound c) (plan : Plan) (row : Row) (able : IsA
         ((rows_sound c sound).unissued (c.sets.issued + 1) (inr (omega arith)));
   }
 
-  pub addition_touches : (touch : Touch) → IsTouchOfNew row touch
+  pub addition_touches : (touch : Touch) (last : Option ℕ) → IsTouchOfNew row last touch
+      → IsBorder rows (rows ++ (record { row = row; place = place_in plan }) ∷ []) (arrival_of row) last
       → Touches touch rows (rows ++ (record { row = row; place = place_in plan }) ∷ []) c.in_force c.in_force
-  addition_touches touch is =
+  addition_touches touch last is border =
       row_comes rows (record { row = row; place = place_in plan })
-      (rows ++ (record { row = row; place = place_in plan }) ∷ []) row_with touch c.in_force None
-      (subst (λ xs. Contains xs (stretch_at row None)) (sym is.stretches) (0, omega arith, refl)) tt
+      (rows ++ (record { row = row; place = place_in plan }) ∷ []) row_with touch c.in_force last
+      (subst (λ xs. Contains xs (stretch_at row last)) (sym is.stretches) (0, omega arith, refl)) border
       (λ n there. let here = subst (λ xs. Contains xs n) is.withdrawn there in let lt = here.1 in absurd (omega arith))
       (inl (subst (λ xs. Contains xs row.serial) (sym is.made) (0, omega arith, refl)))

@@ -58,11 +58,13 @@ abbrev pub IsPutIn : Plan → Row → List Row → List CurrentRow → Type 0
 IsPutIn LongTerm row planned current = (planned ≡ row ∷ []) × (current ≡ [])
 IsPutIn Current row planned current = (planned ≡ []) × (current ≡ waiting row ∷ [])
 
--- the row was made, and nothing else touched; what it may reach has no end
-pub record IsTouchOfNew (row : Row) (touch : Touch) : Type 0 where
+-- the row was made, and nothing else touched; it may reach what arrives from it on to the last moment
+pub record IsTouchOfNew (row : Row) (last : Option ℕ) (touch : Touch) : Type 0 where
   pub made : touch.made.items ≡ row.serial ∷ []
   pub withdrawn : touch.withdrawn.items ≡ []
-  pub stretches : touch.stretches.items ≡ record { app = row.key.app; first = row.key.ia; last = None } ∷ []
+  pub opened : touch.opened.items ≡ []
+  pub lists : touch.lists.items ≡ []
+  pub stretches : touch.stretches.items ≡ record { app = row.key.app; first = row.key.ia; last = last } ∷ []
 
 -- the pairs where the row is added
 abbrev pub ArePairsWith : Content → Plan → Row → List Pair → Type 0

@@ -1,5 +1,5 @@
 -- A live occurrence that a statement withdraws.
-use Rattle.std.specs.Prelude.{◌≡◌, ◌≢◌, ◌↔◌, ℕ, [], ◌∷◌, None}
+use Rattle.std.specs.Prelude.{◌≡◌, ◌≢◌, ◌↔◌, ℕ, [], ◌∷◌, Option}
 use Rattle.occurrences.specs.Place.{IsLive}
 use Rattle.occurrences.specs.declared.row.Row.{Row}
 use Rattle.external_dependencies.specs.declared.rows.PlacedRow.{PlacedRow}
@@ -15,7 +15,10 @@ pub record LosesRow (s s' : Sets) (row : Row) : Type 0 where
   pub gone : (p : PlacedRow) → StandsAt s' row.serial p → IsLive p.place → ⊥
   pub others : (serial : ℕ) → serial ≢ row.serial → (p : PlacedRow) → StandsAt s serial p ↔ StandsAt s' serial p
 
--- the row was withdrawn, and nothing else touched; what it may reach has no end
-pub record IsTouchOfWithdrawn (row : Row) (touch : Touch) : Type 0 where
+-- the row was withdrawn, and nothing else touched; it may reach what arrives from it on to the last moment
+pub record IsTouchOfWithdrawn (row : Row) (last : Option ℕ) (touch : Touch) : Type 0 where
+  pub made : touch.made.items ≡ []
   pub withdrawn : touch.withdrawn.items ≡ row.serial ∷ []
-  pub stretches : touch.stretches.items ≡ record { app = row.key.app; first = row.key.ia; last = None } ∷ []
+  pub opened : touch.opened.items ≡ []
+  pub lists : touch.lists.items ≡ []
+  pub stretches : touch.stretches.items ≡ record { app = row.key.app; first = row.key.ia; last = last } ∷ []

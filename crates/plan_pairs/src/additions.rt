@@ -7,9 +7,11 @@ ghost use Rattle.plan_store.specs.Verdicts.{VerdictIs};
 ghost use Rattle.plan_store.specs.Views.{Shows, shown};
 ghost use Rattle.plan_pairs.specs.Additions.{AddsRow, ArePairsWith, IsAddable, IsNewRow, IsNewSerial, IsPutIn};
 ghost use Rattle.plan_pairs.specs.Additions.{IsTouchOfNew, place_in};
+ghost use Rattle.plan_pairs.specs.Gathering.{HoldsWith};
 
-use crate::listing::live_rows_in;
-use crate::singles::single;
+use crate::gathering::{gather, push_list};
+use crate::singles::{push_item, single};
+use crate::spans::next_arrival;
 use app_occurrences::active;
 use external_dependencies::{PairChange, PlacedRow, Rows, Stretch, Touch, resolve_touched};
 use occurrences::{CurrentRow, Key, Origin, Place, Refusal, Reply, Row, Serial, Status};
@@ -145,24 +147,40 @@ fn pairs_with(
         → ArePairsWith (shown view.now) plan row.now (pairs_after change (shown view.now).pairs)
         × LeadsOn (shown view.now).pairs change) }
 {
-    let mut placed = live_rows_in(alloc, 1, view.ltp(), &[], view.cp(), view.history())?.into_vec();
-    let place = plan.place();
-    placed.push(PlacedRow { row: *row, place })?;
-    let rows = Rows::from_vec(placed);
-    let touch = touch_of(alloc, row)?;
+    let last = next_arrival(view, &row.key.app, row.key.ia);
+    let rows = rows_with(alloc, view, plan, row, &last)?;
+    let touch = touch_of(alloc, row, &last)?;
     resolve_touched(alloc, &rows, view.in_force(), view.pairs(), &touch)
 }
 
-// What the row touches that is added.
-fn touch_of(alloc: Global, row: &Row) -> Result<Touch, AllocError>
-    ensures { IfOk result (IsTouchOfNew row.now) }
+// The rows that hold what the addition reaches.
+fn rows_with(
+    alloc: Global,
+    view: &View<'_>,
+    plan: Plan,
+    row: &Row,
+    last: &Option<Moment>,
+) -> Result<Rows, AllocError>
+    ensures { IfOk result (λ rows. AreNumbered (shown view.now).sets
+        → HoldsWith (shown view.now) plan row.now last.now rows) }
+{
+    let mut rows = gather(alloc, view, row, last)?;
+    push_list(view, row, &mut rows)?;
+    let place = plan.place();
+    push_item(&mut rows, &PlacedRow { row: *row, place })?;
+    Ok(Rows::from_vec(rows))
+}
+
+// What the row touches that is added: from its arrival on to the next of its application.
+fn touch_of(alloc: Global, row: &Row, last: &Option<Moment>) -> Result<Touch, AllocError>
+    ensures { IfOk result (IsTouchOfNew row.now last.now) }
 {
     let mut touch = Touch::new(alloc);
     touch.made.push(row.serial)?;
     touch.stretches.push(Stretch {
         app: row.key.app,
         first: row.key.ia,
-        last: None,
+        last: *last,
     })?;
     Ok(touch)
 }

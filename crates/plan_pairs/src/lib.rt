@@ -11,10 +11,12 @@
 
 mod additions;
 mod change;
+mod gathering;
 mod listing;
 mod row_pairs;
 mod scratch;
 mod singles;
+mod spans;
 mod withdrawals;
 
 pub use additions::{Plan, add};

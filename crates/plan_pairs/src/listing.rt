@@ -1,4 +1,4 @@
-ghost use Rattle.std.specs.Prelude.{◌++◌, IfOk, OnOk};
+ghost use Rattle.std.specs.Prelude.{◌≡◌, ◌++◌, IfOk, OnOk};
 ghost use Rattle.planner_machine.specs.Content.{Sets};
 ghost use Rattle.plan_pairs.specs.LiveRows.{AddsCurrent, AddsRows, AreLiveRows, HasLists};
 
@@ -30,23 +30,8 @@ pub fn live_rows_with(
     ensures { IfOk result (λ rows. (s : Sets) → HasLists s (planned.now ++ made.now) current.now history.now
         → AreLiveRows s rows) }
 {
-    live_rows_in(alloc, 0, planned, made, current, history)
-}
-
-// The same, with room for so many more.
-pub(crate) fn live_rows_in(
-    alloc: Global,
-    more: u8,
-    planned: &[Row],
-    made: &[Row],
-    current: &[CurrentRow],
-    history: &[Row],
-) -> Result<Rows, AllocError>
-    ensures { IfOk result (λ rows. (s : Sets) → HasLists s (planned.now ++ made.now) current.now history.now
-        → AreLiveRows s rows) }
-{
     let count = planned.len() + made.len() + current.len() + history.len();
-    let mut rows = Vec::with_capacity(alloc, count + usize::from(more))?;
+    let mut rows = Vec::with_capacity(alloc, count)?;
     push_rows(&mut rows, planned, Place::LongTerm)?;
     push_rows(&mut rows, made, Place::LongTerm)?;
     push_current(&mut rows, current)?;
@@ -54,8 +39,21 @@ pub(crate) fn live_rows_in(
     Ok(Rows::from_vec(rows))
 }
 
+// The same rows once more.
+pub(crate) fn copied(alloc: Global, rows: &[PlacedRow]) -> Result<Vec<PlacedRow>, AllocError>
+    ensures { IfOk result (λ copy. copy.items ≡ rows.now) }
+{
+    let mut copy = Vec::with_capacity(alloc, rows.len())?;
+    copy.extend_from_slice(rows)?;
+    Ok(copy)
+}
+
 // Adds rows that stand in one place.
-fn push_rows(rows: &mut Vec<PlacedRow>, list: &[Row], place: Place) -> Result<(), AllocError>
+pub(crate) fn push_rows(
+    rows: &mut Vec<PlacedRow>,
+    list: &[Row],
+    place: Place,
+) -> Result<(), AllocError>
     ensures { OnOk result (AddsRows list.now place rows.old.items rows.new.items) }
 {
     for row in list {
@@ -65,7 +63,7 @@ fn push_rows(rows: &mut Vec<PlacedRow>, list: &[Row], place: Place) -> Result<()
 }
 
 // Adds the rows of the current plan that are not deleted.
-fn push_current(rows: &mut Vec<PlacedRow>, list: &[CurrentRow]) -> Result<(), AllocError>
+pub(crate) fn push_current(rows: &mut Vec<PlacedRow>, list: &[CurrentRow]) -> Result<(), AllocError>
     ensures { OnOk result (AddsCurrent list.now rows.old.items rows.new.items) }
 {
     for current in list {

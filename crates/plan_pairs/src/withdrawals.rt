@@ -2,16 +2,19 @@ ghost use Rattle.std.specs.Prelude.{◌≡◌, IfOk, filter, nat_eq, not};
 ghost use Rattle.external_dependencies.specs.declared.rows.PlacedRow.{PlacedRow as PlacedValue};
 ghost use Rattle.planner_machine.specs.Content.{Sets};
 ghost use Rattle.planner_machine.specs.Pairs.{ArePairs};
-ghost use Rattle.planner_machine.specs.Sound.{IsSound};
+ghost use Rattle.planner_machine.specs.Sound.{AreNumbered, IsSound};
 ghost use Rattle.plan_store.specs.Changes.{LeadsOn, pairs_after};
 ghost use Rattle.plan_store.specs.Views.{shown};
+ghost use Rattle.plan_pairs.specs.Gathering.{HoldsWithout};
 ghost use Rattle.plan_pairs.specs.Withdrawals.{IsTouchOfWithdrawn, LosesRow};
 
-use crate::listing::live_rows;
+use crate::gathering::{gather, push_nearest};
+use crate::spans::next_arrival;
 use external_dependencies::{PairChange, Rows, Stretch, Touch, resolve_touched};
 use occurrences::{Row, Serial};
 use plan_store::View;
 use std::alloc::{AllocError, Global};
+use work_calendars::Moment;
 
 /// What leads from the pairs before a statement to those after it, and no more, where the row lives no longer and all
 /// others stay as they are.
@@ -21,10 +24,25 @@ pub fn pairs_without(alloc: Global, view: &View<'_>, row: &Row) -> Result<PairCh
         → ArePairs (shown view.now).pairs (shown view.now).in_force s
         (pairs_after change (shown view.now).pairs) × LeadsOn (shown view.now).pairs change) }
 {
-    let rows = live_rows(alloc, view.ltp(), view.cp(), view.history())?;
-    let rest = without(rows, row.serial);
-    let touch = touch_of(alloc, row)?;
-    resolve_touched(alloc, &rest, view.in_force(), view.pairs(), &touch)
+    let last = next_arrival(view, &row.key.app, row.key.ia);
+    let rows = rows_without(alloc, view, row, &last)?;
+    let touch = touch_of(alloc, row, &last)?;
+    resolve_touched(alloc, &rows, view.in_force(), view.pairs(), &touch)
+}
+
+// The rows that hold what the withdrawal reaches. In place of the row itself they have what stands before it.
+fn rows_without(
+    alloc: Global,
+    view: &View<'_>,
+    row: &Row,
+    last: &Option<Moment>,
+) -> Result<Rows, AllocError>
+    ensures { IfOk result (λ rows. AreNumbered (shown view.now).sets
+        → HoldsWithout (shown view.now) row.now last.now rows) }
+{
+    let mut rows = gather(alloc, view, row, last)?;
+    push_nearest(view, &row.key, &row.key.app, &mut rows)?;
+    Ok(without(Rows::from_vec(rows), row.serial))
 }
 
 // These occurrences but the one of the serial.
@@ -36,16 +54,16 @@ fn without(rows: Rows, serial: Serial) -> Rows
     Rows::from_vec(placed)
 }
 
-// What the row touches that is withdrawn.
-fn touch_of(alloc: Global, row: &Row) -> Result<Touch, AllocError>
-    ensures { IfOk result (IsTouchOfWithdrawn row.now) }
+// What the row touches that is withdrawn: from its arrival on to the next of its application.
+fn touch_of(alloc: Global, row: &Row, last: &Option<Moment>) -> Result<Touch, AllocError>
+    ensures { IfOk result (IsTouchOfWithdrawn row.now last.now) }
 {
     let mut touch = Touch::new(alloc);
     touch.withdrawn.push(row.serial)?;
     touch.stretches.push(Stretch {
         app: row.key.app,
         first: row.key.ia,
-        last: None,
+        last: *last,
     })?;
     Ok(touch)
 }

@@ -1,24 +1,19 @@
-use Rattle.std.proofs.Common.{◌≡◌, ◌++◌, ◌∷◌, ◌∙◌, List, [], ap, subst, sym}
+use Rattle.std.proofs.Common.{◌++◌, ◌∷◌, List, [], subst, sym}
 use Rattle.std.specs.Prelude.{IfOk, Result, Ok, Err}
-use Rattle.std.proofs.lemmas.List.{append-nil}
-use Rattle.occurrences.specs.declared.place.Place.{Place}
-use Rattle.occurrences.specs.declared.row.Row.{Row}
 use Rattle.external_dependencies.specs.Change.{LeadsExactly}
 use Rattle.external_dependencies.specs.Reached.{HoldsReached}
 use Rattle.external_dependencies.specs.Settled.{IsSettledPair}
 use Rattle.external_dependencies.specs.Touch.{Touches}
 use Rattle.external_dependencies.specs.declared.links.Link.{Link}
-use Rattle.external_dependencies.specs.declared.rows.PlacedRow.{PlacedRow}
 use Rattle.planner_machine.specs.Drafts.{added}
 use Rattle.planner_machine.specs.Moves.{with_made}
-use Rattle.planner_machine.proofs.SoundLemmas.{rows_sound}
-use Rattle.keyed_lists.specs.Rows.{of_current, of_row}
 use Rattle.plan_store.specs.Views.{shown}
 use Rattle.plan_pairs.specs.Additions.{place_in}
-use Rattle.plan_pairs.specs.LiveRows.{AreLiveRows, HasLists}
+use Rattle.plan_pairs.specs.LiveRows.{AreLiveRows}
 use Rattle.plan_pairs.proofs.AdditionLemmas.{addable_live}
-use Rattle.plan_pairs.proofs.RowLemmas.{of_set}
-use Rattle.plan_pairs.proofs.TouchLemmas.{addition_touches, all_hold, are_settled, led_on, pairs_led}
+use Rattle.plan_pairs.proofs.LiveLemmas.{live_rows}
+use Rattle.plan_pairs.proofs.ReachLemmas.{addition_borders, addition_holds}
+use Rattle.plan_pairs.proofs.TouchLemmas.{addition_touches, are_settled, led_on, pairs_led}
 use Rattle.plan_pairs.proofs.additions.pairs_with.Goals as goal
 
 weaker : {A E : Type 0} (r : Result A E) (P Q : A → Type 0) → ((a : A) → P a → Q a) → IfOk r P → IfOk r Q
@@ -28,36 +23,27 @@ weaker (Err e) P Q f is = tt
 pub returns : goal.returns
 returns c = weaker c.resolve_touched.result _ _ (λ change leads sound able.
     let content = shown c.args.view.now in
+    let plan = c.args.plan in
     let row = c.args.row.now in
-    let s = with_made (place_in c.args.plan) (added row.key ∷ []) content.sets in
-    let before = c.in_ok-live_rows_in.field-0 in
-    let now = before ++ (record { row = row; place = place_in c.args.plan }) ∷ [] in
+    let last = c.next_arrival-last.result in
+    let s = with_made (place_in plan) (added row.key ∷ []) content.sets in
+    let (before, were) = live_rows content.sets sound.serials in
+    let now = before ++ (record { row = row; place = place_in plan }) ∷ [] in
     let touch = c.in_ok-touch.touch in
+    let rows = c.in_ok-rows.rows in
     let links = c.in_force.result.now in
-    let has : HasLists content.sets c.ltp.result.now c.cp.result.now c.history.result.now = record {
-      sound = rows_sound content sound;
-      ltp = of_set of_row content.sets.ltp c.ltp.result.now c.ltp.ensures.rows;
-      cp = of_set of_current content.sets.cp c.cp.result.now c.cp.ensures.rows;
-      history = of_set of_row content.sets.history c.history.result.now c.history.ensures;
-    } in
-    let were : AreLiveRows content.sets before = c.in_ok-live_rows_in.ensures content.sets
-    (subst (λ (planned : List Row). HasLists content.sets planned c.cp.result.now c.history.result.now)
-    (sym (append-nil c.ltp.result.now)) has) in
-    let are : AreLiveRows s now = addable_live content sound c.args.plan row able before were in
-    let placed : c.push.new.self.items ≡ now =
-    c.in_ok-push.ensures.items
-    ∙ ap (λ (rs : List PlacedRow). rs ++ (record { row = row; place = c.place-place.result }) ∷ [])
-    c.into_vec-placed.ensures
-    ∙ ap (λ (p : Place). before ++ (record { row = row; place = p }) ∷ []) c.place-place.ensures in
-    let listed : c.from_vec-rows.result ≡ now = c.from_vec-rows.ensures ∙ placed in
+    let are : AreLiveRows s now = addable_live content sound plan row able before were in
+    let border = addition_borders content sound plan row able before were last
+    (c.next_arrival-last.ensures sound.serials) in
     let touches : Touches touch before now content.in_force links = subst (Touches touch before now content.in_force)
-    (sym c.in_force.ensures) (addition_touches content sound c.args.plan row able before were touch
-    c.in_ok-touch.ensures) in
+    (sym c.in_force.ensures) (addition_touches content sound plan row able before were touch last
+    c.in_ok-touch.ensures border) in
     let settled = are_settled content.sets before were content.in_force content.pairs sound.pairs.settled in
-    let holds : HoldsReached touch links now content.pairs c.from_vec-rows.result c.pairs.result.now =
-    subst (λ (rs : List PlacedRow). HoldsReached touch links now content.pairs rs c.pairs.result.now) (sym listed)
-    (subst (HoldsReached touch links now content.pairs now) (sym c.pairs.ensures)
-    (all_hold touch links now content.pairs)) in
+    let held = addition_holds content sound plan row able before were last touch c.in_ok-touch.ensures rows
+    (c.in_ok-rows.ensures sound.serials) in
+    let holds : HoldsReached touch links now content.pairs rows c.pairs.result.now =
+    subst (λ (ls : List Link). HoldsReached touch ls now content.pairs rows c.pairs.result.now) (sym c.in_force.ensures)
+    (subst (HoldsReached touch content.in_force now content.pairs rows) (sym c.pairs.ensures) held) in
     let exact = leads before now content.in_force content.pairs touches settled holds in
     let in_links = subst (λ (ls : List Link). LeadsExactly content.pairs (IsSettledPair content.pairs now ls) change)
     c.in_force.ensures exact in (

@@ -2,7 +2,7 @@ use Rattle.std.proofs.Common.{◌++◌, [], subst, sym}
 use Rattle.occurrences.specs.declared.place.Place.TheVariants.{LongTerm}
 use Rattle.plan_pairs.specs.LiveRows.{AddsRows, AreLiveRows}
 use Rattle.plan_pairs.proofs.RowLemmas.{are_live, rows_both}
-use Rattle.plan_pairs.proofs.listing.live_rows_in.Goals as goal
+use Rattle.plan_pairs.proofs.listing.live_rows_with.Goals as goal
 
 pub returns : goal.returns
 returns c s has =

@@ -1,0 +1,18 @@
+use Rattle.plan_store.specs.Views.{shown}
+use Rattle.plan_pairs.proofs.GatherLemmas.{nearest_held, nearest_none, nearest_unplaced}
+use Rattle.plan_pairs.proofs.gathering.push_nearest.Goals as goal
+
+pub returns-in_default : goal.returns-in_default
+returns-in_default c numbered =
+    nearest_none (shown c.args.view.now).sets c.args.rows.now.items c.args.key.now c.args.app.now
+    (c.in_default.ensures numbered)
+
+pub returns-in_default-placed : goal.returns-in_default-placed
+returns-in_default-placed c numbered = absurd (nearest_unplaced (shown c.args.view.now).sets numbered c.args.key.now
+    c.args.app.now c.in-Some.serial (c.in-Some.ensures numbered) (c.in_default-placed.ensures numbered))
+
+pub returns : goal.returns
+returns c numbered =
+    rw c.in_ok-push_item.ensures (nearest_held (shown c.args.view.now).sets numbered c.args.key.now c.args.app.now
+    c.in-Some.serial (c.in-Some.ensures numbered) c.args.rows.now.items c.in-Some-placed.placed
+    (c.in-Some-placed.ensures numbered))
