@@ -9,6 +9,8 @@ mod ExtendLemmas
 mod PartingLemmas
 mod ModifyingLemmas
 mod ChangedLemmas
+mod TurnedLemmas
+mod LookedLemmas
 mod ModifyPlanLemmas
 mod ModifyAllLemmas
 mod ModifyOneLemmas

@@ -84,7 +84,7 @@ module _ (c : Sets) (sound : RowsSound c) (rows : List Row) (lists : ListsSet of
   stands : (row : Row) → Contains rows row → c.ltp row.serial ≡ Some row
   stands row there = ((lists.exactly row).0 there).0
 
-  within : (row : Row) → Contains rows row → (1 ≤ row.serial) × (row.serial ≤ c.issued)
+  pub within : (row : Row) → Contains rows row → (1 ≤ row.serial) × (row.serial ≤ c.issued)
   within row there = elim (cases_issued c.issued row.serial) [
     | inl in_range ↦ in_range
     | inr past ↦ let empty = ap (λ (s : Seat). s.ltp) (sound.unissued row.serial past) in

@@ -144,30 +144,6 @@ module _ (f : Row → Option Row) where
       by_head None same = omega (arith, same)
       by_head (Some x) same = omega (arith, same)
 
-  all_stay : (rows : List Row) → filter (λ row. is_none (f row)) rows ≡ []
-      → ((row x : Row) → Contains rows row → f row ≡ Some x → x ≡ row) → filter_map f rows ≡ rows
-  all_stay [] gone same = refl
-  all_stay (row ∷ rows) gone same = by_head (f row) refl gone
-      (λ rest. all_stay rows rest (λ r x there is. same r x (further row r rows there) is))
-    where
-      rest : List Row
-      rest = filter (λ row. is_none (f row)) rows
-
-      by_head : (o : Option Row) → f row ≡ o → cond (is_none o) (row ∷ rest) rest ≡ []
-          → (rest ≡ [] → filter_map f rows ≡ rows) → cons_option o (filter_map f rows) ≡ row ∷ rows
-      by_head None is gone later = cc
-      by_head (Some x) is gone later =
-          ap (λ xs. x ∷ xs) (later gone) ∙ ap (λ y. y ∷ rows) (same row x (here row rows) is)
-
-  -- where none goes and none changes, the rows stay as they are
-  pub stays_whole : (rows gone changed : List Row) → gone ≡ filter (λ row. is_none (f row)) rows
-      → AreChanged f rows changed → gone ≡ [] → changed ≡ [] → filter_map f rows ≡ rows
-  stays_whole rows gone changed go change no_gone no_changed =
-      all_stay rows (sym go ∙ no_gone) (λ row x there is. elim (change.all row x there is) [
-        | inl at ↦ absurd (none x (subst (λ l. Contains l x) no_changed at))
-        | inr same ↦ same
-      ])
-
 -- ---- the draft of a key
 
 pub draft_there : (key : Key) (named : List Draft) (draft : Draft) → AreInOrder named → Contains named draft

@@ -1,5 +1,5 @@
 -- What `ltp-modify-all` and `ltp-modify-one` make of the rows of the long-term plan.
-use Rattle.std.specs.Prelude.{◌≡◌, ◌⊎◌, ℕ, ◌+◌, ◌<◌, Bool, List, Contains, Option, None, Some, filter, is_none, length}
+use Rattle.std.specs.Prelude.{◌≡◌, ◌⊎◌, ◌↔◌, ℕ, ◌+◌, ◌<◌, Bool, List, Contains, Option, None, Some, filter, is_none, length}
 use Rattle.std.specs.List.{AllPairs, filter_map}
 use Rattle.app_occurrences.specs.Active.{IsActive}
 use Rattle.definition_records.specs.declared.applications.Application.{Application}
@@ -12,7 +12,6 @@ use Rattle.occurrences.specs.declared.reply.Reply.TheVariants.{Made}
 use Rattle.occurrences.specs.declared.row.Row.{Row}
 use Rattle.occurrences.specs.declared.serial.TheConstants.{GREATEST_SERIAL}
 use Rattle.external_dependencies.specs.declared.links.Link.{Link}
-use Rattle.external_dependencies.specs.declared.rows.PlacedRow.{PlacedRow}
 use Rattle.planner_machine.specs.declared.content.Draft.{Draft}
 use Rattle.planner_machine.specs.declared.limits.TheConstants.{MOST_PLANNED_ROWS}
 use Rattle.planner_machine.specs.Content.{Content, Sets}
@@ -23,7 +22,7 @@ use Rattle.planner_machine.specs.ModifyOne.{IsThatApp, is_that_app}
 use Rattle.planner_machine.specs.Moves.{each, size, with_made}
 use Rattle.planner_machine.specs.Plans.{HoldTooMany}
 use Rattle.keyed_lists.specs.Rows.{HasEachOnce, of_current, of_row}
-use Rattle.plan_pairs.specs.LiveRows.{AreLiveRows, HasLists}
+use Rattle.plan_pairs.specs.LiveRows.{HasLists}
 use Rattle.plan_store.specs.Views.{IsAny, ListsSet}
 use Rattle.plan_store.specs.declared.changes.Verdict.{Verdict}
 use Rattle.plan_store.specs.declared.changes.Verdict.TheVariants.{Done, Refused}
@@ -86,14 +85,17 @@ AreTooMany s kept new = (MOST_PLANNED_ROWS < kept + size s.cp s.issued + new) �
 abbrev pub modified_sets : Option (List ℕ) → List Draft → List Draft → Sets → Sets
 modified_sets only named new s = with_made LongTerm new (each (modify_move (looks_at (looks only)) named) s)
 
--- the parts of a modification: rows that go and rows that change of the long-term plan, the new drafts as the rows that
--- come, and the occurrences that are live then
-pub record AreModifying (s : Sets) (only : Option (List ℕ)) (named new : List Draft) (gone changed put : List Row)
-    (live : List PlacedRow) : Type 0 where
+-- the parts of a modification: rows that go and rows that change of the long-term plan, and the new drafts as the rows
+-- that come
+pub record AreModifying (s : Sets) (only : Option (List ℕ)) (named new : List Draft) (gone changed put : List Row) : Type
+    0 where
   pub planned : List Row
   pub parts : PartsPlan s only named planned gone changed
   pub come : put ≡ numbered s.issued new
-  pub live_then : AreLiveRows (modified_sets only named new s) live
+
+-- of these rows the list has those of these applications
+abbrev pub AreOf : List (List ℕ) → List Row → List Row → Type 0
+AreOf apps rows own = (row : Row) → Contains own row ↔ (Contains rows row × Contains apps row.key.app)
 
 -- the answer counts those that are made, and those that are withdrawn
 abbrev pub modified_reply : Option (List ℕ) → List Draft → List Draft → Sets → Reply

@@ -14,7 +14,7 @@ ghost use Rattle.long_term_plan.specs.Making.{planned_sets};
 use crate::drafts::{named_drafts, new_drafts};
 use external_dependencies::Links;
 use occurrences::{GREATEST_SERIAL, Refusal, Reply, Row, Serial};
-use plan_pairs::{live_rows_with, pair_change};
+use plan_pairs::{live_rows_with, pair_change, touch_of};
 use plan_store::{Change, DefinitionChange, Moves, Verdict, View};
 use planner_machine::{Bounds, Draft, MOST_PLANNED_ROWS};
 use std::alloc::{AllocError, Global};
@@ -73,8 +73,9 @@ fn make_drafts(
     let made = new.len();
     let rows = numbered_rows(alloc, view.issued(), new.as_slice())?;
     drop(new);
+    let touch = touch_of(alloc, &[], &rows, view.in_force(), &links)?;
     let live = live_rows_with(alloc, view.ltp(), &rows, view.cp(), view.history())?;
-    let pairs = pair_change(alloc, view.pairs(), &live, &links)?;
+    let pairs = pair_change(alloc, view.pairs(), &live, &links, &touch)?;
     let change = Change {
         definitions: DefinitionChange::AsBefore,
         bounds: Some(*bounds),

@@ -1,7 +1,8 @@
-ghost use Rattle.std.specs.Prelude.{◌≡◌, ◌↔◌, ◌+◌, ◌++◌, ◌≤◌, ℕ, List, [], length, map, IfOk, IsTrue};
+ghost use Rattle.std.specs.Prelude.{◌≡◌, ◌↔◌, ◌+◌, ◌++◌, ◌≤◌, ℕ, List, length, map, Contains, IfOk, IsTrue};
 ghost use Rattle.std.specs.Prelude.{Option, Some, false};
 ghost use Rattle.std.specs.List.{filter_map};
 ghost use Rattle.work_calendars.specs.Day.{last_planning_day};
+ghost use Rattle.occurrences.specs.declared.row.Row.{Row as RowValue};
 ghost use Rattle.occurrences.specs.declared.serial.TheConstants.{GREATEST_SERIAL};
 ghost use Rattle.planner_machine.specs.declared.content.Draft.{Draft as DraftValue};
 ghost use Rattle.planner_machine.specs.Content.{Content, Sets};
@@ -9,13 +10,16 @@ ghost use Rattle.planner_machine.specs.Modify.{withdrawn};
 ghost use Rattle.planner_machine.specs.ModifyAll.{modify_all};
 ghost use Rattle.planner_machine.specs.ModifyOne.{modify_one};
 ghost use Rattle.planner_machine.specs.Moves.{size};
+ghost use Rattle.planner_machine.specs.Pairs.{ArePairs};
 ghost use Rattle.planner_machine.specs.Sound.{IsSound};
+ghost use Rattle.keyed_lists.specs.Rows.{of_row};
+ghost use Rattle.plan_store.specs.Changes.{LeadsOn, pairs_after};
 ghost use Rattle.plan_store.specs.Verdicts.{VerdictIs};
-ghost use Rattle.plan_store.specs.Views.{Shows, shown};
-ghost use Rattle.plan_pairs.specs.LiveRows.{AreLiveRows};
+ghost use Rattle.plan_store.specs.Views.{IsAny, ListsSet, Shows, shown};
+ghost use Rattle.plan_pairs.specs.Turns.{ArePlanned};
 ghost use Rattle.long_term_plan.specs.Drafting.{AreInOrder};
-ghost use Rattle.long_term_plan.specs.Modifying.{AreAsked, AreModifying, AreTooMany, HavePlanned, ModifiesPlan};
-ghost use Rattle.long_term_plan.specs.Modifying.{ModifiesRows, outcome};
+ghost use Rattle.long_term_plan.specs.Modifying.{AreAsked, AreModifying, AreOf, AreTooMany, HavePlanned, Looks};
+ghost use Rattle.long_term_plan.specs.Modifying.{ModifiesPlan, ModifiesRows, modified_sets, outcome};
 
 use crate::drafts::{named_drafts, new_drafts};
 use crate::lists::{defined_lists, lists_of_one};
@@ -24,9 +28,11 @@ use crate::parting::{changed_rows, staying_rows, withdrawn_rows};
 use crate::refusals::{lacking_definition, lacking_own_definition};
 use app_definitions::Definitions;
 use app_occurrences::active;
-use external_dependencies::{Links, Rows, find_loop};
+use external_dependencies::{Links, PairChange, find_loop};
 use occurrences::{Deletion, GREATEST_SERIAL, Reason, Refusal, Reply, Row};
-use plan_pairs::{live_rows_with, pair_change, single};
+use plan_pairs::{
+    are_few, live_rows_of, live_rows_with, pair_change, reached_apps, single, touch_of,
+};
 use plan_store::{Change, DefinitionChange, Moves, Need, Verdict, View};
 use planner_machine::{Bounds, Draft, MOST_PLANNED_ROWS};
 use std::alloc::{AllocError, Global};
@@ -78,8 +84,7 @@ pub fn modify_one(alloc: Global, view: &View<'_>, app: &App) -> Result<Verdict, 
     modify(alloc, view, &bounds, &Some(*app), links)
 }
 
-// What is decided where the statement looks at all applications, or at one, and these lists come into force. What is
-// named is let go before the pairs are found.
+// What is decided where the statement looks at all applications, or at one, and these lists come into force.
 fn modify(
     alloc: Global,
     view: &View<'_>,
@@ -95,16 +100,27 @@ fn modify(
     let last = last_planned(bounds);
     let named = named_drafts(alloc, all, apps.as_slice(), bounds.plan_end, last)?;
     let rows = view.ltp();
+    let looked = looked_rows(view, only);
     let new = new_drafts(alloc, view, &named)?;
-    let gone = withdrawn_rows(alloc, rows, only, &named)?;
-    let changed = changed_rows(alloc, rows, only, &named)?;
+    let gone = withdrawn_rows(alloc, looked, only, &named)?;
+    let changed = changed_rows(alloc, looked, only, &named)?;
     if are_too_many(view, &gone, &new) {
         return Ok(Verdict::Refused(Refusal::TooManyRows));
     }
     let put = numbered_rows(alloc, view.issued(), &new)?;
-    let stay_so = are_none(&gone, &changed);
-    let live = live_then(alloc, view, rows, only, named, stay_so, &put)?;
-    change_rows(alloc, view, links, &live, gone, changed, put)
+    let pairs = pairs_then(alloc, view, rows, only, named, &gone, &put, &links)?;
+    change_rows(alloc, view, links, pairs, gone, changed, put)
+}
+
+// The rows of the long-term plan of the applications that the statement looks at.
+fn looked_rows<'a>(view: &View<'a>, only: &Option<App>) -> &'a [Row]
+    ensures { ListsSet of_row (shown view.now).sets.ltp (λ row. Looks only.now row.key.app)
+        result.now }
+{
+    match only {
+        Some(app) => view.ltp_of(app),
+        None => view.ltp(),
+    }
 }
 
 // The last day of the plan, which is no later than the last planning day.
@@ -131,36 +147,78 @@ fn are_too_many(view: &View<'_>, gone: &[Row], new: &[Draft]) -> bool
     rows > MOST_PLANNED_ROWS + gone.len() || issued > GREATEST_SERIAL as usize
 }
 
-// Whether no row goes or changes.
-fn are_none(gone: &[Row], changed: &[Row]) -> bool
-    ensures { IsTrue result → (gone.now ≡ []) × (changed.now ≡ []) }
-{
-    gone.is_empty() && changed.is_empty()
-}
-
-// The live occurrences then. The rows of the plan are copied only where they don't all stay as they are.
-fn live_then(
+// What leads from the pairs before the statement to those after it. What it reaches is gathered by applications where
+// they are few; what is named is let go before the pairs are found.
+fn pairs_then(
     alloc: Global,
     view: &View<'_>,
     rows: &[Row],
     only: &Option<App>,
     named: Vec<Draft>,
-    stay_so: bool,
+    gone: &[Row],
     put: &[Row],
-) -> Result<Rows, AllocError>
-    ensures { AreInOrder named.items
-        → (IsTrue stay_so → filter_map (outcome only.now named.items) rows.now ≡ rows.now)
-        → IfOk result (λ live. (s : Sets)
+    links: &Links,
+) -> Result<PairChange, AllocError>
+    ensures { AreInOrder named.items → ListsSet of_row (shown view.now).sets.ltp IsAny rows.now
+        → IfOk result (λ change. IsSound (shown view.now) → (s : Sets)
+        → ArePlanned rows.now (filter_map (outcome only.now named.items) rows.now) gone.now put.now
         → HavePlanned (shown view.now).sets (filter_map (outcome only.now named.items) rows.now ++ put.now) s
-        → AreLiveRows s live) }
+        → ArePairs (shown view.now).pairs links.now s (pairs_after change (shown view.now).pairs)
+        × LeadsOn (shown view.now).pairs change) }
 {
-    if stay_so {
-        drop(named);
-        return live_rows_with(alloc, rows, put, view.cp(), view.history());
-    }
-    let kept = staying_rows(alloc, rows, only, &named)?;
+    let current = view.cp();
+    let completed = view.history();
+    let touch = touch_of(alloc, gone, put, view.in_force(), links)?;
+    let apps = reached_apps(alloc, links, &touch)?;
+    let live = if are_few(view, &apps) {
+        let planned = planned_of(alloc, view, &apps, only, &named, put)?;
+        live_rows_of(alloc, view, &apps, &planned)?
+    } else {
+        let kept = staying_rows(alloc, rows, only, &named)?;
+        live_rows_with(alloc, &kept, put, current, completed)?
+    };
     drop(named);
-    live_rows_with(alloc, &kept, put, view.cp(), view.history())
+    pair_change(alloc, view.pairs(), &live, links, &touch)
+}
+
+// The rows of the long-term plan then of these applications, of which are all that are made.
+fn planned_of(
+    alloc: Global,
+    view: &View<'_>,
+    apps: &[App],
+    only: &Option<App>,
+    named: &[Draft],
+    put: &[Row],
+) -> Result<Vec<Row>, AllocError>
+    ensures { AreInOrder named.now → (rows : List RowValue)
+        → ListsSet of_row (shown view.now).sets.ltp IsAny rows
+        → ((row : RowValue) → Contains put.now row → Contains apps.now row.key.app)
+        → IfOk result (λ planned. AreOf apps.now
+        (filter_map (outcome only.now named.now) rows ++ put.now) planned.items) }
+{
+    let mut planned = staying_of(alloc, view, apps, only, named)?;
+    planned.extend_from_slice(put)?;
+    Ok(planned)
+}
+
+// The rows of these applications that stay, each as it is then.
+fn staying_of(
+    alloc: Global,
+    view: &View<'_>,
+    apps: &[App],
+    only: &Option<App>,
+    named: &[Draft],
+) -> Result<Vec<Row>, AllocError>
+    ensures { AreInOrder named.now → (rows : List RowValue)
+        → ListsSet of_row (shown view.now).sets.ltp IsAny rows → IfOk result (λ kept.
+        AreOf apps.now (filter_map (outcome only.now named.now) rows) kept.items) }
+{
+    let mut kept = Vec::new(alloc);
+    for app in apps {
+        let own = staying_rows(alloc, view.ltp_of(app), only, named)?;
+        kept.extend_from_slice(&own)?;
+    }
+    Ok(kept)
 }
 
 // The names of the applications that the statement looks at.
@@ -178,7 +236,7 @@ fn change_rows(
     alloc: Global,
     view: &View<'_>,
     links: Links,
-    live: &Rows,
+    pairs: PairChange,
     gone: Vec<Row>,
     changed: Vec<Row>,
     put: Vec<Row>,
@@ -186,11 +244,12 @@ fn change_rows(
     requires { (shown view.now).sets.issued + length put.items ≤ GREATEST_SERIAL }
     ensures { IfOk result (λ verdict. IsSound (shown view.now)
         → (only : Option (List ℕ)) (named new : List DraftValue)
-        → AreModifying (shown view.now).sets only named new gone.items changed.items put.items live.now
+        → AreModifying (shown view.now).sets only named new gone.items changed.items put.items
+        → ArePairs (shown view.now).pairs links (modified_sets only named new (shown view.now).sets)
+        (pairs_after pairs (shown view.now).pairs) → LeadsOn (shown view.now).pairs pairs
         → ModifiesRows (shown view.now) links only named new verdict) }
 {
     let made = put.len();
-    let pairs = pair_change(alloc, view.pairs(), live, &links)?;
     let reply = Reply::Made {
         made,
         withdrawn: gone.len(),

@@ -11,8 +11,8 @@ use Rattle.planner_machine.specs.Content.{Sets}
 use Rattle.planner_machine.specs.Pairs.{ArePairs}
 use Rattle.keyed_lists.proofs.KeyLemmas.{holds_lacks}
 use Rattle.external_dependencies.proofs.PairLemmas.{pair_ties}
-use Rattle.plan_store.specs.Changes.{LeadsOn, is_among, pairs_after}
-use Rattle.plan_store.proofs.PairLemmas.{held_pair, itself, leads_on, pair_total, pairs_after_contains}
+use Rattle.plan_store.specs.Changes.{is_among, pairs_after}
+use Rattle.plan_store.proofs.PairLemmas.{held_pair, itself, pair_total, pairs_after_contains}
 use Rattle.plan_pairs.specs.LiveRows.{HasPairsAfter}
 
 -- a pair that the test doesn't find is not there
@@ -36,11 +36,6 @@ pairs_after_are change before now leads pair = (
         | false ↦ λ is. inl ((leads.added pair).1 (there, not_among before pair is))
       ] refl),
 )
-
--- a difference of pairs leads on
-pub leads_after : (change : PairChange) (before now : List Pair) → Leads before now change → LeadsOn before change
-leads_after change before now leads =
-    leads_on change before (λ p gone. ((leads.removed p).0 gone).0) (λ p new. ((leads.added p).0 new).1)
 
 -- pairs with the same elements, in rising order
 pub pairs_same : (before : List Pair) (links : List Link) (s : Sets) (pairs pairs' : List Pair)

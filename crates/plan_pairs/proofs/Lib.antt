@@ -1,6 +1,7 @@
 pub mod AdditionLemmas
 pub mod ChangeLemmas
 mod GatherLemmas
+pub mod GatheredLemmas
 pub mod ListLemmas
 mod LiveLemmas
 mod ReachLemmas
@@ -10,4 +11,6 @@ pub mod ScratchLemmas
 pub mod SetLemmas
 mod SpanLemmas
 pub mod TouchLemmas
+pub mod TouchedLemmas
+pub mod TurnLemmas
 mod WithdrawalLemmas

@@ -1,26 +1,30 @@
-ghost use Rattle.std.specs.Prelude.{IfOk};
-ghost use Rattle.external_dependencies.specs.Pair.{pair_cmp};
-ghost use Rattle.external_dependencies.specs.Rising.{IsRising};
+ghost use Rattle.std.specs.Prelude.{List, IfOk};
+ghost use Rattle.external_dependencies.specs.Reached.{HoldsReached};
+ghost use Rattle.external_dependencies.specs.declared.links.Link.{Link as LinkValue};
+ghost use Rattle.external_dependencies.specs.declared.rows.PlacedRow.{PlacedRow as PlacedValue};
 ghost use Rattle.planner_machine.specs.Content.{Sets};
 ghost use Rattle.planner_machine.specs.Pairs.{ArePairs};
 ghost use Rattle.plan_store.specs.Changes.{LeadsOn, pairs_after};
-ghost use Rattle.plan_pairs.specs.LiveRows.{AreLiveRows};
+ghost use Rattle.plan_pairs.specs.Turns.{IsTurn};
 
-use crate::scratch::settled_pairs;
-use external_dependencies::{Links, PairChange, Pairs, Rows};
+use external_dependencies::{Links, PairChange, Pairs, Rows, Touch, resolve_touched};
 use std::alloc::{AllocError, Global};
 
-/// What leads from the pairs before a statement to those after it, and no more.
+/// What leads from the pairs before a statement to those after it, and no more. The touch names all that the statement
+/// touches, and the rows hold what it reaches.
 pub fn pair_change(
     alloc: Global,
     before: &Pairs,
     rows: &Rows,
     links: &Links,
+    touch: &Touch,
 ) -> Result<PairChange, AllocError>
-    ensures pairs { IfOk result (λ change. (s : Sets) → AreLiveRows s rows.now → IsRising pair_cmp before.now
-        → ArePairs before.now links.now s (pairs_after change before.now)) }
-    ensures leads { IfOk result (LeadsOn before.now) }
+    ensures { IfOk result (λ change. (s s' : Sets) (was_links : List LinkValue)
+        (now : List PlacedValue) → ArePairs before.now was_links s before.now
+        → IsTurn s s' was_links links.now touch.now now
+        → HoldsReached touch.now links.now now before.now rows.now before.now
+        → ArePairs before.now links.now s' (pairs_after change before.now)
+        × LeadsOn before.now change) }
 {
-    let now = settled_pairs(alloc, before, rows, links)?;
-    PairChange::between(alloc, before, &now)
+    resolve_touched(alloc, rows, links, before, touch)
 }

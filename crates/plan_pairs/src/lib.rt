@@ -1,15 +1,17 @@
 //! What both plans share: the live occurrences as a list, an addition by hand, and the pairs after a statement: those
 //! of open occurrences with their nearest predecessors, and of those that are live and no longer open the pairs that
-//! they had. Planning finds them from scratch, and an addition and a deletion only where they reach.
+//! they had. Each statement finds them anew only where it reaches.
 //!
 //! ```text
-//! // the pairs once some rows joined the long-term plan, and what leads to them from those before
+//! // what leads from the pairs before some rows joined the long-term plan to those after it
+//! let touch = touch_of(alloc, &[], &made, view.in_force(), &links)?;
 //! let rows = live_rows_with(alloc, view.ltp(), &made, view.cp(), view.history())?;
-//! let change = pair_change(alloc, view.pairs(), &rows, view.in_force())?;
+//! let change = pair_change(alloc, view.pairs(), &rows, &links, &touch)?;
 //! ```
 #![tactic(auto)]
 
 mod additions;
+mod by_applications;
 mod change;
 mod gathering;
 mod listing;
@@ -17,12 +19,15 @@ mod row_pairs;
 mod scratch;
 mod singles;
 mod spans;
+mod touches;
 mod withdrawals;
 
 pub use additions::{Plan, add};
+pub use by_applications::{are_few, live_rows_of, reached_apps};
 pub use change::pair_change;
 pub use listing::{live_rows, live_rows_with};
 pub use row_pairs::row_pairs_of;
 pub use scratch::settled_pairs;
 pub use singles::single;
+pub use touches::touch_of;
 pub use withdrawals::pairs_without;

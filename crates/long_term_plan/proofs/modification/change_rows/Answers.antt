@@ -1,35 +1,25 @@
-use Rattle.std.proofs.Common.{◌≡◌, ◌+◌, ◌∙◌, List, Some, ap, length, map, refl, subst, sym}
-use Rattle.external_dependencies.specs.Pair.{pair_cmp}
-use Rattle.external_dependencies.specs.Rising.{IsRising}
-use Rattle.external_dependencies.specs.declared.pairs.Pair.{Pair}
+use Rattle.std.proofs.Common.{◌≡◌, ◌+◌, ◌∙◌, Some, ap, length, map, refl}
 use Rattle.occurrences.specs.declared.reply.Reply.TheVariants.{Made}
 use Rattle.planner_machine.specs.Modify.{withdrawn}
-use Rattle.planner_machine.specs.Pairs.{ArePairs}
 use Rattle.planner_machine.proofs.SoundLemmas.{rows_sound}
-use Rattle.plan_store.specs.Changes.{LeadsOn, pairs_after}
 use Rattle.plan_store.specs.Views.{shown}
-use Rattle.long_term_plan.specs.Modifying.{modified_sets}
 use Rattle.long_term_plan.proofs.ChangedLemmas.{modifying_is}
 use Rattle.long_term_plan.proofs.ModifyingLemmas.{count_gone}
 use Rattle.long_term_plan.proofs.NumberLemmas.{numbered_length}
 use Rattle.long_term_plan.proofs.modification.change_rows.Goals as goal
 
 pub returns : goal.returns
-returns c sound only named new modifying =
+returns c sound only named new modifying pairs leads =
     let planned = modifying.planned in
     let parts = modifying.parts in
     let put = modifying.come in
-    let live = modifying.live_then in
     let content = shown c.args.view.now in
     let links = c.args.links in
     let gone = c.args.gone.items in
     let changed = c.args.changed.items in
-    let s = modified_sets only named new content.sets in
     let rows = rows_sound content sound in
     let made : c.len-made.result ≡ length new =
-    c.len-made.ensures ∙ c.args.put.ok.0 ∙ ap length put ∙ numbered_length content.sets.issued new in
-    let pairs = c.in_ok-pairs.ensures.pairs s live
-    (subst (λ (ps : List Pair). IsRising pair_cmp ps) (sym c.pairs.ensures) sound.pairs.settled.rising) in (
+    c.len-made.ensures ∙ c.args.put.ok.0 ∙ ap length put ∙ numbered_length content.sets.issued new in (
       modifying_is content sound links parts.rows parts.lists only named new planned gone changed parts.parts _
           (record {
             gone = refl;
@@ -50,9 +40,8 @@ returns c sound only named new modifying =
             in_force = refl;
             definitions = refl;
             job = refl;
-            pairs = subst (λ before. ArePairs before links s (pairs_after c.in_ok-pairs.pairs before)) c.pairs.ensures
-                pairs;
-            leads = subst (λ (ps : List Pair). LeadsOn ps c.in_ok-pairs.pairs) c.pairs.ensures c.in_ok-pairs.ensures.leads;
+            pairs = pairs;
+            leads = leads;
           }),
       ap (λ n. Made n c.len.result) made
           ∙ ap (λ n. Made (length new) n)

@@ -1,6 +1,6 @@
 use Rattle.std.proofs.Common.{◌≡◌, ◌≢◌, ◌+◌, ◌++◌, ◌∙◌, ℕ, List, ap, arith, filter, length, refl, sym, subst}
 use Rattle.std.proofs.Common.{Option, Result, Ok, Err}
-use Rattle.std.specs.Prelude.{IfOk, IsTrue, is_none}
+use Rattle.std.specs.Prelude.{IfOk, is_none}
 use Rattle.std.specs.List.{AllPairs, filter_map}
 use Rattle.std.proofs.lemmas.Bool.{false≢true}
 use Rattle.occurrences.specs.declared.row.Row.{Row}
@@ -14,7 +14,8 @@ use Rattle.planner_machine.proofs.SoundLemmas.{rows_sound}
 use Rattle.plan_store.specs.Views.{shown}
 use Rattle.plan_store.specs.declared.changes.Verdict.{Verdict}
 use Rattle.plan_store.specs.declared.changes.Verdict.TheVariants.{Done, Refused}
-use Rattle.plan_pairs.specs.LiveRows.{AreLiveRows, HasLists}
+use Rattle.plan_pairs.specs.LiveRows.{HasLists}
+use Rattle.plan_pairs.specs.Turns.{ArePlanned}
 use Rattle.long_term_plan.specs.Drafting.{AreInOrder, AreNew}
 use Rattle.long_term_plan.specs.Making.{numbered}
 use Rattle.long_term_plan.specs.Modifying.{AreChanged, IsModifiedOrTooMany, ModifiesRows, NamesThen, PartsPlan}
@@ -23,7 +24,9 @@ use Rattle.long_term_plan.proofs.ChangedLemmas.{lists_then}
 use Rattle.long_term_plan.proofs.DraftingLemmas.{new_are}
 use Rattle.long_term_plan.proofs.ModifyPlanLemmas.{named_then, stays_sound, too_many}
 use Rattle.long_term_plan.proofs.NumberLemmas.{numbered_length}
-use Rattle.long_term_plan.proofs.PartingLemmas.{counts, stays_whole}
+use Rattle.long_term_plan.proofs.PartingLemmas.{counts}
+use Rattle.long_term_plan.proofs.LookedLemmas.{changed_same, gone_same}
+use Rattle.long_term_plan.proofs.TurnedLemmas.{modifying_planned}
 use Rattle.long_term_plan.proofs.modification.modify.Goals as goal
 
 weaker : {A E : Type 0} (r : Result A E) (P Q : A → Type 0) → ((a : A) → P a → Q a) → IfOk r P → IfOk r Q
@@ -48,6 +51,7 @@ returns-then-are_too_many c sound planned =
     let content = shown c.args.view.now in
     let only = c.args.only.now in
     let rows = c.ltp-rows.result.now in
+    let looked = c.looked_rows-looked.result.now in
     let named = c.in_ok-named.named.items in
     let new = c.in_ok-new.new.items in
     let gone = c.in_ok-gone.gone.items in
@@ -61,8 +65,9 @@ returns-then-are_too_many c sound planned =
     new_are (NamesThen content only) content.sets named new are_named
     (subst (λ (ds : List Draft). AreNew content.sets ds new) c.deref.ensures.value c.in_ok-new.ensures) in
     let go : gone ≡ filter (λ (r : Row). is_none (outcome only named r)) rows =
-    subst (λ (ds : List Draft). AreInOrder ds → gone ≡ filter (λ (r : Row). is_none (outcome only ds r)) rows)
-    c.deref-2.ensures.value c.in_ok-gone.ensures are_named.rising in
+    subst (λ (ds : List Draft). AreInOrder ds → gone ≡ filter (λ (r : Row). is_none (outcome only ds r)) looked)
+    c.deref-2.ensures.value c.in_ok-gone.ensures are_named.rising
+    ∙ gone_same content.sets only named rows c.ltp-rows.ensures.rows looked c.looked_rows-looked.ensures in
     let counted : length kept + length c.deref-4.result.now ≡ size content.sets.ltp content.sets.issued =
     ap (λ (l : List Row). length kept + length l) (c.deref-4.ensures.value ∙ go) ∙ counts (outcome only named) rows
     ∙ c.ltp-rows.ensures.count sound.serials in
@@ -88,6 +93,7 @@ returns c = weaker c.change_rows.result _ _ (λ verdict made sound planned.
     let content = shown c.args.view.now in
     let only = c.args.only.now in
     let rows = c.ltp-rows.result.now in
+    let looked = c.looked_rows-looked.result.now in
     let named = c.in_ok-named.named.items in
     let new = c.in_ok-new.new.items in
     let gone = c.in_ok-gone.gone.items in
@@ -101,8 +107,9 @@ returns c = weaker c.change_rows.result _ _ (λ verdict made sound planned.
     new_are (NamesThen content only) content.sets named new are_named
     (subst (λ (ds : List Draft). AreNew content.sets ds new) c.deref.ensures.value c.in_ok-new.ensures) in
     let go : gone ≡ filter (λ (r : Row). is_none (outcome only named r)) rows =
-    subst (λ (ds : List Draft). AreInOrder ds → gone ≡ filter (λ (r : Row). is_none (outcome only ds r)) rows)
-    c.deref-2.ensures.value c.in_ok-gone.ensures are_named.rising in
+    subst (λ (ds : List Draft). AreInOrder ds → gone ≡ filter (λ (r : Row). is_none (outcome only ds r)) looked)
+    c.deref-2.ensures.value c.in_ok-gone.ensures are_named.rising
+    ∙ gone_same content.sets only named rows c.ltp-rows.ensures.rows looked c.looked_rows-looked.ensures in
     let counted : length kept + length c.deref-4.result.now ≡ size content.sets.ltp content.sets.issued =
     ap (λ (l : List Row). length kept + length l) (c.deref-4.ensures.value ∙ go) ∙ counts (outcome only named) rows
     ∙ c.ltp-rows.ensures.count sound.serials in
@@ -110,8 +117,9 @@ returns c = weaker c.change_rows.result _ _ (λ verdict made sound planned.
     let many = too_many content sound only named new rows c.ltp-rows.ensures.rows kept refl (length kept)
     (length c.deref-5.result.now) refl (ap length c.deref-5.ensures.value) in
     let change : AreChanged (outcome only named) rows changed =
-    subst (λ (ds : List Draft). AreInOrder ds → AreChanged (outcome only ds) rows changed) c.deref-3.ensures.value
-    c.in_ok-changed.ensures are_named.rising in
+    changed_same content.sets only named rows c.ltp-rows.ensures.rows looked c.looked_rows-looked.ensures changed
+    (subst (λ (ds : List Draft). AreInOrder ds → AreChanged (outcome only ds) looked changed) c.deref-3.ensures.value
+    c.in_ok-changed.ensures are_named.rising) in
     let parts : PartsPlan content.sets only named kept gone changed =
     record {
       rows = rows;
@@ -125,13 +133,14 @@ returns c = weaker c.change_rows.result _ _ (λ verdict made sound planned.
     let lists = lists_then content.definitions content.sets (rows_sound content sound) rows c.ltp-rows.ensures.rows only
     named kept gone changed parts.parts new (stays_sound content sound only named new c.args.bounds.now planned are_new)
     in
-    let whole : IsTrue c.are_none-stay_so.result → kept ≡ rows =
-    λ is. let none = c.are_none-stay_so.ensures is in
-    stays_whole (outcome only named) rows gone changed go change (sym c.deref-7.ensures.value ∙ none.0)
-    (sym c.deref-8.ensures.value ∙ none.1) in
-    let live : AreLiveRows s c.in_ok-live.live = c.in_ok-live.ensures are_named.rising whole s
+    let plan : ArePlanned rows kept c.deref-7.result.now c.deref-8.result.now =
+    subst (λ (l : List Row). ArePlanned rows kept l c.deref-8.result.now) (sym c.deref-7.ensures.value)
+    (subst (λ (l : List Row). ArePlanned rows kept gone l) (sym (c.deref-8.ensures.value ∙ put))
+    (modifying_planned content.sets (rows_sound content sound) rows c.ltp-rows.ensures.rows only named kept gone changed
+    parts.parts new)) in
+    let led = c.in_ok-pairs.ensures are_named.rising c.ltp-rows.ensures.rows sound s plan
     (λ cp cp_are history history_are. subst (λ (l : List Row). HasLists s (kept ++ l) cp history)
-    (sym (c.deref-9.ensures.value ∙ put)) (lists cp cp_are history history_are)) in
+    (sym (c.deref-8.ensures.value ∙ put)) (lists cp cp_are history history_are)) in
     record {
       named = named;
       are_named = are_named;
@@ -139,6 +148,5 @@ returns c = weaker c.change_rows.result _ _ (λ verdict made sound planned.
       are_new = are_new;
       outcome = done content c.args.links only named new verdict
           (λ over. false≢true (sym c.if-are_too_many.false ∙ tested.1 (many.1 over)))
-          (made sound only named new
-          (record { planned = kept; parts = parts; come = put; live_then = live }));
+          (made sound only named new (record { planned = kept; parts = parts; come = put }) led.0 led.1);
     }) c.change_rows.ensures

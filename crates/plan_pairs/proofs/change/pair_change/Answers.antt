@@ -1,18 +1,18 @@
 use Rattle.std.specs.Prelude.{IfOk, Result, Ok, Err}
-use Rattle.plan_store.proofs.PairLemmas.{pairs_after_rising}
-use Rattle.plan_pairs.proofs.ChangeLemmas.{leads_after, pairs_after_are, pairs_same}
+use Rattle.plan_pairs.proofs.TouchLemmas.{are_settled, led_on, pairs_led}
 use Rattle.plan_pairs.proofs.change.pair_change.Goals as goal
 
 weaker : {A E : Type 0} (r : Result A E) (P Q : A → Type 0) → ((a : A) → P a → Q a) → IfOk r P → IfOk r Q
 weaker (Ok a) P Q f is = f a is
 weaker (Err e) P Q f is = tt
 
-pub returns-clause-pairs : goal.returns-clause-pairs
-returns-clause-pairs c = weaker c.between.result _ _ (λ change leads s are rising.
-    pairs_same c.args.before.now c.args.links.now s c.in_ok-now.now _ (c.in_ok-now.ensures s are)
-    (pairs_after_rising change c.args.before.now rising)
-    (pairs_after_are change c.args.before.now c.in_ok-now.now leads)) c.between.ensures
-
-pub returns-clause-leads : goal.returns-clause-leads
-returns-clause-leads c = weaker c.between.result _ _
-    (λ change leads. leads_after change c.args.before.now c.in_ok-now.now leads) c.between.ensures
+pub returns : goal.returns
+returns c = weaker c.resolve_touched.result _ _ (λ change leads s s' was_links now pairs turn holds.
+    let old = c.args.before.now in
+    let links = c.args.links.now in
+    let settled = are_settled s turn.was turn.before was_links old pairs in
+    let exact = leads turn.was now was_links old turn.touches settled holds in (
+      pairs_led s' now turn.after links old pairs.rising change exact,
+      led_on change old _ exact,
+    ))
+    c.resolve_touched.ensures

@@ -1,0 +1,71 @@
+-- What a planning statement makes of the live occurrences: rows of the long-term plan go, others come, and all else
+-- lives on; and what that touches.
+use Rattle.std.specs.Prelude.{◌≡◌, ◌≢◌, ◌⊎◌, ◌↔◌, ℕ, ◌≤◌, List, [], Contains, None}
+use Rattle.occurrences.specs.declared.place.CurrentRow.{CurrentRow}
+use Rattle.occurrences.specs.declared.place.Place.TheVariants.{LongTerm, History}
+use Rattle.occurrences.specs.declared.row.Row.{Row}
+use Rattle.external_dependencies.specs.Link.{Lists}
+use Rattle.external_dependencies.specs.Nearest.{arrival_of}
+use Rattle.external_dependencies.specs.Touch.{Touches}
+use Rattle.external_dependencies.specs.declared.links.Link.{Link}
+use Rattle.external_dependencies.specs.declared.live.Arrival.{Arrival}
+use Rattle.external_dependencies.specs.declared.rows.PlacedRow.{PlacedRow}
+use Rattle.external_dependencies.specs.declared.touch.Stretch.{Stretch}
+use Rattle.external_dependencies.specs.declared.touch.Touch.{Touch}
+use Rattle.planner_machine.specs.Content.{Sets}
+use Rattle.plan_pairs.specs.LiveRows.{AreLiveRows, IsCurrentIn}
+
+-- one of the rows has the serial
+abbrev pub HasSerial : List Row → ℕ → Type 0
+HasSerial rows serial = (row : Row) × Contains rows row × (row.serial ≡ serial)
+
+-- a stretch without end begins at or before the arrival, in its application
+pub record IsBegun (stretches : List Stretch) (a : Arrival) : Type 0 where
+  pub stretch : Stretch
+  pub listed : Contains stretches stretch
+  pub of_app : stretch.app ≡ a.app
+  pub begun : stretch.first ≤ a.ia
+  pub endless : stretch.last ≡ None
+
+-- the application has the same list among both links
+abbrev pub HasSameList : List Link → List Link → List ℕ → Type 0
+HasSameList was_links links app = (predecessor : List ℕ) → Lists was_links app predecessor ↔ Lists links app predecessor
+
+-- the touch names the rows that go, those that are made, the application of each where they begin, and each application
+-- whose list changes; what it may reach has no end
+pub record IsTouchOf (gone made : List Row) (was_links links : List Link) (touch : Touch) : Type 0 where
+  pub comes : (serial : ℕ) → Contains touch.made.items serial ↔ HasSerial made serial
+  pub goes : (serial : ℕ) → Contains touch.withdrawn.items serial ↔ HasSerial gone serial
+  pub none_opened : touch.opened.items ≡ []
+  pub begun : (row : Row) → Contains gone row ⊎ Contains made row → IsBegun touch.stretches.items (arrival_of row)
+  pub lists : (app : List ℕ) → HasSameList was_links links app ⊎ Contains touch.lists.items app
+
+-- one of the rows has the serial and the key of that one
+abbrev pub HasItself : List Row → Row → Type 0
+HasItself rows row = (x : Row) × Contains rows x × (x.serial ≡ row.serial) × (x.key ≡ row.key)
+
+-- of the rows of the long-term plan those that go are gone and the others stay, under their serials and keys; what is
+-- made has new serials
+pub record ArePlanned (rows stay gone made : List Row) : Type 0 where
+  pub on : (row : Row) → Contains rows row → HasItself stay row ⊎ Contains gone row
+  pub stood : (row : Row) → Contains stay row → HasItself rows row
+  pub gone_stood : (row : Row) → Contains gone row → Contains rows row
+  pub gone_apart : (row x : Row) → Contains gone row → Contains stay x → x.serial ≢ row.serial
+  pub new : (row x : Row) → Contains rows row → Contains made x → x.serial ≢ row.serial
+
+-- the occurrence stands in the current plan, not deleted, or in history
+abbrev pub IsBeside : List CurrentRow → List Row → PlacedRow → Type 0
+IsBeside current completed p = IsCurrentIn current p ⊎ (Contains completed p.row × (p.place ≡ History))
+
+-- the occurrence stands in the long-term plan, or beside it
+abbrev pub IsListed : List Row → List CurrentRow → List Row → PlacedRow → Type 0
+IsListed planned current completed p =
+    (Contains planned p.row × (p.place ≡ LongTerm)) ⊎ IsBeside current completed p
+
+-- the touch names all that a change touches that leads from the one sets and lists to the other, where those are the
+-- live occurrences after it
+pub record IsTurn (s s' : Sets) (was_links links : List Link) (touch : Touch) (now : List PlacedRow) : Type 0 where
+  pub was : List PlacedRow
+  pub before : AreLiveRows s was
+  pub after : AreLiveRows s' now
+  pub touches : Touches touch was now was_links links
