@@ -1,6 +1,7 @@
 //! The stream over the plans that a file keeps.
 
 use crate::faults::{MEMORY, explain, tell};
+use plan_store::StoreFault;
 use plan_tables::TableStore;
 use planner_cli::{exit_status, run};
 use std::io::{self, BufRead, BufReader, BufWriter, Write};
@@ -19,7 +20,8 @@ pub fn answer_over_file(rt: &HostRuntime, path: &str) -> u8 {
     run_over_file(rt, path, &mut reader, &mut writer)
 }
 
-/// Runs the stream of the reader over the plans that the file keeps, and gives the exit status.
+/// Runs the stream of the reader over the plans that the file keeps, and gives the exit status. At the end the log is
+/// copied into the file; where that fails, nothing is lost, and the status is the run's.
 fn run_over_file<R: BufRead, W: Write>(
     rt: &HostRuntime,
     path: &str,
@@ -30,10 +32,24 @@ fn run_over_file<R: BufRead, W: Write>(
     match TableStore::open_path(rt, alloc, path) {
         Ok(mut store) => {
             let outcome = run(alloc, &mut store, reader, writer);
-            drop(store.into_files());
             explain(rt, &outcome);
+            if let Err((fault, _files)) = store.close() {
+                tell_log_stands(rt, fault);
+            }
             exit_status(&outcome)
         }
         Err(fault) => tell(rt, open_fault_number(&fault)),
     }
+}
+
+/// Says on standard error why the log was not copied into the file. No memory is taken.
+fn tell_log_stands(rt: &impl Eprint, fault: StoreFault) {
+    let _ = rt.eprintln(match fault {
+        StoreFault::Memory => {
+            "opcplan: memory was refused as FILE was closed: what was written last stands in FILE-wal. Nothing is lost; keep both together"
+        }
+        StoreFault::Device => {
+            "opcplan: the disk failed as FILE was closed: what was written last stands in FILE-wal. Nothing is lost; keep both together"
+        }
+    });
 }

@@ -72,7 +72,7 @@ told_left {S} g own held same told clean db left =
     ∥∥₁_elim told squash₁ (λ h. h (subst (λ (x : Held S). HasCleanDisk (state g x)) same clean) db
     (subst (λ (x : Held S). g.recovers x.store db) same left))
 
-told_again : (found : Database) (k c : Content) → HaveOneContent → IsDatabase found → Tells found.trees k
+pub told_again : (found : Database) (k c : Content) → HaveOneContent → IsDatabase found → Tells found.trees k
     → IsToldBy found c → c ≡ k
 told_again found k c one obeys tells (inl told) = one (tables_of found.trees) c k told.1 tells.content
 told_again found k c one obeys tells (inr blank) =

@@ -1,5 +1,5 @@
 -- What is found in files that are opened.
-use Rattle.std.specs.Prelude.{◌≡◌}
+use Rattle.std.specs.Prelude.{◌≡◌, ◌⊎◌, []}
 use Rattle.sqlite.specs.Effect.{Database, IsDatabase}
 use Rattle.sqlite.specs.Files.{AreFoundIn, HoldsDatabase}
 use Rattle.sqlite.specs.Schema.{Schema}
@@ -29,6 +29,10 @@ pub record HoldsLeft (image : Image) (s : State) : Type 0 where
   pub content : Content
   pub sound : IsSound content
   pub told : IsContentOf (tables_of db) content
+
+-- it is found in both files, or in the database file with an empty log
+abbrev pub IsFoundInEither : Image → Content → Type 0
+IsFoundInEither image c = IsFoundIn image c ⊎ IsFoundIn (record image { log = [] }) c
 
 -- the database has the tables of the plan, and these tell the content
 pub record Tells (db : Trees) (c : Content) : Type 0 where

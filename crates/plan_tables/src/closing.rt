@@ -1,20 +1,25 @@
 // A store is let go at the end of a run.
 
-ghost use Rattle.std.specs.Prelude.{◌≡◌, ◌⊎◌, IsTrue};
+ghost use Rattle.std.specs.Prelude.{◌≡◌, ◌⊎◌, false, IfErr, IfOk, IsTrue};
 ghost use Rattle.sqlite.specs.Files.{file_state};
 ghost use Rattle.sqlite.specs.Held.{AreDatabases, state};
 ghost use Rattle.sqlite.specs.Tree.{Trees};
-ghost use Rattle.sqlite_store.specs.FileStore.{recovers, state as files_state, view};
+ghost use Rattle.sqlite_disk.specs.Disk.{MoreFaults};
+ghost use Rattle.sqlite_store.specs.FileStore.{faults, recovers, state as files_state, view};
 ghost use Rattle.sqlite_trees.specs.View.{IsClean};
+ghost use Rattle.sqlite_wal.specs.Files.{outcomes};
+ghost use Rattle.sqlite_wal.specs.Reads.{AreClean};
 ghost use Rattle.sqlite_wal.specs.Recovery.{Image};
 ghost use Rattle.planner_machine.specs.Content.{Content as ContentValue, nothing_known};
 ghost use Rattle.plan_store.specs.Contents.{content_of};
-ghost use Rattle.plan_tables.specs.Found.{HoldsLeft, IsFoundIn, Tells};
+ghost use Rattle.plan_store.specs.declared.stores.StoreFault.TheVariants.{Device, Memory};
+ghost use Rattle.plan_tables.specs.Found.{HoldsLeft, IsFoundIn, IsFoundInEither, Tells};
 ghost use Rattle.plan_tables.specs.Stored.{MayLeave, TellsSound};
 
 use crate::table_store::TableStore;
-use sqlite::{Alter, FileStore};
-use sqlite_disk::Disk;
+use plan_store::StoreFault;
+use sqlite::{Alter, Error, ErrorCode, FileStore};
+use sqlite_disk::{Disk, Files};
 use table_facts::tables_have_one_content;
 
 impl<S: Alter + Drop> TableStore<S> {
@@ -55,5 +60,54 @@ impl<D: Disk + Drop> TableStore<FileStore<D>> {
     {
         tables_have_one_content();
         self.into_store()
+    }
+}
+
+// Why files could not be closed.
+fn fault_of_closing(error: &Error) -> StoreFault
+    ensures memory { error.now ≡ Error.SqliteFailure ErrorCode.OutOfMemory → result ≡ Memory }
+    ensures cases { (result ≡ Memory) ⊎ (result ≡ Device) }
+{
+    match error {
+        Error::SqliteFailure(ErrorCode::OutOfMemory) => StoreFault::Memory,
+        _ => StoreFault::Device,
+    }
+}
+
+impl<D: Disk + Drop> TableStore<FileStore<D>> {
+    /// Copies the log into the database file and gives both files back, as a program does at its end. Whoever opens both,
+    /// or the database file without its log, whatever a crash left of them, finds a content that a crash might leave of
+    /// the tables, unless it is that of which nothing is known; and where no failure was counted, what the store kept and
+    /// nothing else. Where it fails, for want of memory or of the device, nothing is lost: the files come back, and each
+    /// database that they may be after a crash is one that the tables might be, and tells what the store kept where no
+    /// failure was counted.
+    pub fn close(self) -> Result<Files<D>, (StoreFault, FileStore<D>)>
+        ensures usable { IfOk result (λ files. IsTrue (D.Disk.is_usable files.log)
+            × IsTrue (D.Disk.is_usable files.db)) }
+        ensures goes_on { IfOk result (λ files. AreClean D.Disk files.log files.db
+            → (left : Image) → outcomes D.Disk files.log files.db left
+            → (c : ContentValue) → IsFoundInEither left c
+            → ∥ MayLeave (file_state self.conn) c ⊎ (c ≡ nothing_known) ∥₁) }
+        ensures found_again { IfOk result (λ files. self.failures ≡ 0
+            → AreClean D.Disk files.log files.db
+            → (left : Image) → outcomes D.Disk files.log files.db left
+            → (c : ContentValue) → IsFoundInEither left c → c ≡ content_of self.lists) }
+        ensures sound { IfErr result (λ left. IsClean (view left.1)
+            → AreDatabases (recovers left.1)) }
+        ensures stays { IfErr result (λ left. (db : Trees) → recovers left.1 db
+            → (file_state self.conn).may_leave db) }
+        ensures tells { IfErr result (λ left. self.failures ≡ 0 → IsClean (view left.1)
+            → (db : Trees) → recovers left.1 db → ∥ Tells db (content_of self.lists) ∥₁) }
+        ensures blames { IfErr result (λ left. IsClean (view left.1) → left.0 ≡ Device
+            → ((file_state self.conn).is_open ≡ false)
+            ⊎ MoreFaults (faults self.conn.store) (faults left.1)) }
+    {
+        tables_have_one_content();
+        let connection = self.into_connection();
+        let _schema = connection.schema();
+        match connection.close_files() {
+            Ok(files) => Ok(files),
+            Err((error, left)) => Err((fault_of_closing(&error), left)),
+        }
     }
 }
