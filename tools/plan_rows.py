@@ -32,10 +32,15 @@ COLUMNS = {
 }
 
 
+def ended(text, file=None, words=(), **how):
+    """A run of the program over a stream, with more words: .stdout, .stderr and .returncode."""
+    words = [PROGRAM, *(["--db", str(file)] if file else []), *words]
+    return subprocess.run(words, input=text, capture_output=True, check=False, timeout=120, **how)
+
+
 def run(text, file=None, **how):
     """What the program answers to a stream, and its exit status."""
-    words = [PROGRAM] + (["--db", str(file)] if file else [])
-    ran = subprocess.run(words, input=text, capture_output=True, check=False, timeout=120, **how)
+    ran = ended(text, file, **how)
     return ran.stdout, ran.returncode
 
 
@@ -150,12 +155,18 @@ def loaded_before(room, text):
     return library
 
 
-def run_before(library, text, file=None, **numbers):
-    """What the program answers with that library before it, its exit status, and whether the library told a byte."""
+def ended_before(library, text, file=None, **numbers):
+    """A run of the program with that library before it, and whether the library told a byte."""
     told, tells = os.pipe()
     env = {"LD_PRELOAD": str(library), "TELLS": str(tells), **{name: str(value) for name, value in numbers.items()}}
-    output, status = run(text, file, env=env, pass_fds=[tells])
+    ran = ended(text, file, env=env, pass_fds=[tells])
     os.close(tells)
     has_told = os.read(told, 1) != b""
     os.close(told)
-    return output, status, has_told
+    return ran, has_told
+
+
+def run_before(library, text, file=None, **numbers):
+    """What the program answers with that library before it, its exit status, and whether the library told a byte."""
+    ran, has_told = ended_before(library, text, file, **numbers)
+    return ran.stdout, ran.returncode, has_told

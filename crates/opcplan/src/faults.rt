@@ -10,8 +10,13 @@ pub const MEMORY: u8 = 40;
 
 /// Tells a fault before the run, for which no memory is taken, and gives the exit status.
 pub fn tell<R: Print + Eprint>(rt: &R, number: u8) -> u8 {
+    tell_so(rt, number, meaning_before_run(number))
+}
+
+/// The same, where standard error says this of it.
+pub fn tell_so<R: Print + Eprint>(rt: &R, number: u8, meaning: &str) -> u8 {
     let _ = println!(rt; "fault {number}");
-    let _ = rt.eprintln(meaning_before_run(number));
+    let _ = rt.eprintln(meaning);
     FAILED
 }
 
@@ -28,9 +33,7 @@ fn meaning_before_run(number: u8) -> &'static str {
         MEMORY =>
             "opcplan: fault 40: memory was refused before the first statement; nothing is changed",
         41 => "opcplan: fault 41: the disk failed while FILE was opened; nothing is changed",
-        50 => {
-            "opcplan: fault 50: FILE can't be opened or made, another program holds it, or it is no plan of this version"
-        }
+        50 => "opcplan: fault 50: FILE is a database, but no plan of this version; it is as it was",
         51 => "opcplan: fault 51: the tables in FILE are not those of a plan; FILE is as it was",
         _ => "opcplan: fault 52: the rows in FILE are no sound plan; FILE is as it was",
     }

@@ -1,6 +1,8 @@
 //! The stream over the plans that a file keeps.
 
 use crate::faults::{MEMORY, explain, tell};
+use crate::opening::open_file;
+use crate::words::NamedFile;
 use plan_store::StoreFault;
 use plan_tables::TableStore;
 use planner_cli::{exit_status, run};
@@ -9,7 +11,7 @@ use table_opening::open_fault_number;
 
 /// Runs the stream on standard input, over the plans that the file keeps, and gives the exit status. A reply is handed
 /// to standard output with its last byte, and a listing some thousand bytes at a time.
-pub fn answer_over_file(rt: &HostRuntime, path: &str) -> u8 {
+pub fn answer_over_file(rt: &HostRuntime, file: &NamedFile) -> u8 {
     let alloc = rt.alloc();
     let Ok(mut reader) = BufReader::new(alloc, rt.reader()) else {
         return tell(rt, MEMORY);
@@ -17,19 +19,23 @@ pub fn answer_over_file(rt: &HostRuntime, path: &str) -> u8 {
     let Ok(mut writer) = BufWriter::new(alloc, io::writer(rt)) else {
         return tell(rt, MEMORY);
     };
-    run_over_file(rt, path, &mut reader, &mut writer)
+    run_over_file(rt, file, &mut reader, &mut writer)
 }
 
 /// Runs the stream of the reader over the plans that the file keeps, and gives the exit status. At the end the log is
 /// copied into the file; where that fails, nothing is lost, and the status is the run's.
 fn run_over_file<R: BufRead, W: Write>(
     rt: &HostRuntime,
-    path: &str,
+    file: &NamedFile,
     reader: &mut R,
     writer: &mut W,
 ) -> u8 {
     let alloc = rt.alloc();
-    match TableStore::open_path(rt, alloc, path) {
+    let conn = match open_file(rt, file) {
+        Ok(conn) => conn,
+        Err(status) => return status,
+    };
+    match TableStore::adopt(alloc, conn) {
         Ok(mut store) => {
             let outcome = run(alloc, &mut store, reader, writer);
             explain(rt, &outcome);
@@ -38,7 +44,7 @@ fn run_over_file<R: BufRead, W: Write>(
             }
             exit_status(&outcome)
         }
-        Err(fault) => tell(rt, open_fault_number(&fault)),
+        Err((fault, _conn)) => tell(rt, open_fault_number(&fault)),
     }
 }
 

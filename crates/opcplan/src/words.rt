@@ -7,11 +7,20 @@ use std::alloc::{AllocError, Global};
 use std::env::{self, Env};
 use std::io;
 
+/// The database file that the words name.
+#[derive(Debug, Drop)]
+pub struct NamedFile {
+    /// Its path, as it is.
+    pub path: String,
+    /// Whether it gets the sums of its pages, if it is new.
+    pub new_has_sums: bool,
+}
+
 /// What the words ask for.
 #[derive(Debug, Drop)]
 pub enum Asked {
     /// To answer the stream, over this database file or, where none is named, over lists.
-    Run(Option<String>),
+    Run(Option<NamedFile>),
     /// Nothing more: help was printed, or what is wrong with the words. This is the exit status.
     Told(u8),
     /// Memory was refused before that was known.
@@ -35,9 +44,12 @@ WHAT: ltp, cp, history, deletions, dependencies
 D: 2024-01-31   M: 2024-01-31/08.00   N: 1 to 999999999, a new one for each job
 
 Exit status: 0 all accepted, 4 some refused, 8 a fault or wrong words.
+A file with sums is held to them always: a page with a wrong one is a fault. sqlite3 reads
+such a file, but what it writes there spoils the sums, and the file is then refused.
+docs/TABLES.md says how sums are taken off and put on.
 The statements stand in docs/STATEMENTS.md, an operator's week in docs/GUIDE.md.";
 
-/// The words that may be given: `--db FILE` and `--help`.
+/// The words that may be given: `--db FILE`, `--sums` beside it, and `--help`.
 fn command<'a>(alloc: Global) -> Result<Command<'a>, AllocError> {
     Command::new(alloc, "opcplan")
         .about(
@@ -50,6 +62,13 @@ fn command<'a>(alloc: Global) -> Result<Command<'a>, AllocError> {
                 .value_name("FILE")
                 .help("Goes on with the plans that this database file keeps")
                 .action(ArgAction::Set),
+        )?
+        .arg(
+            Arg::new(alloc, "sums")
+                .long("sums")
+                .help("Gives FILE, if it is new, a sum on each page, so that damage is told")
+                .action(ArgAction::SetTrue)
+                .requires_arg("db")?,
         )
 }
 
@@ -83,8 +102,9 @@ fn file_named(alloc: Global, matches: &ArgMatches<'_>) -> Asked {
     let Some(path) = matches.get_str("db") else {
         return Asked::Run(None);
     };
+    let new_has_sums = matches.get_flag("sums");
     match String::from_str(alloc, path) {
-        Ok(path) => Asked::Run(Some(path)),
+        Ok(path) => Asked::Run(Some(NamedFile { path, new_has_sums })),
         Err(_) => Asked::Memory,
     }
 }

@@ -3,9 +3,10 @@
 ghost use Rattle.std.specs.Prelude.{◌≡◌, ◌⊎◌, true, false, None, IfErr, IfOk, IfSome};
 ghost use Rattle.sqlite.specs.State.{HasCleanDisk};
 ghost use Rattle.sqlite.specs.Held.{IsNew};
-ghost use Rattle.sqlite.specs.Files.{file_state, IsCleanLeft, IsOpened, LeavesFiles};
+ghost use Rattle.sqlite.specs.Files.{file_state, IsBlankAs, IsCleanLeft, IsOpened, LeavesFiles};
 ghost use Rattle.sqlite.specs.Start.{FindsIn};
 ghost use Rattle.sqlite_std_file.specs.File.{IsFresh};
+ghost use Rattle.sqlite_store.specs.FileStore.{view};
 ghost use Rattle.sqlite_wal.specs.Files.{image_at};
 ghost use Rattle.table_opening.specs.Faults.{unopened_for};
 ghost use Rattle.table_opening.specs.Files.{IsRefused};
@@ -29,16 +30,21 @@ fn unopened_for(error: &Error) -> OpenFault
     }
 }
 
-/// The database in the files at the path, which are made where there are none; `start` stands for what they hold. Where
-/// it is not opened, the fault comes with what is left of the files, once they were opened. The path is taken as it is.
-pub fn open_connection_from<S: Start>(
+/// The database in the files at the path, which are made where there are none; `start` stands for what they hold. A file
+/// that is new gets the sums of its pages if that is asked for; one that has them is held to them always. Where it is not
+/// opened, the fault comes with what is left of the files, once they were opened, and with what `sqlite` said. The path
+/// is taken as it is.
+pub fn open_connection_with<S: Start>(
     rt: &HostRuntime,
     path: &str,
+    new_has_sums: bool,
     start: S,
-) -> Result<Connection<FileStore<FileFrom<S>>>, (OpenFault, Option<Leftover<FileFrom<S>>>)>
+) -> Result<Connection<FileStore<FileFrom<S>>>, (OpenFault, Option<Leftover<FileFrom<S>>>, Error)>
     ensures opened { IfOk result (λ conn. HasCleanDisk (file_state conn) → IsOpened conn) }
     ensures found { IfOk result (λ conn. HasCleanDisk (file_state conn)
         → FindsIn (image_at S.Start) (file_state conn)) }
+    ensures sums { IfOk result (λ conn. HasCleanDisk (file_state conn)
+        → IsBlankAs new_has_sums (image_at S.Start) → (view conn.store).has_sums ≡ new_has_sums) }
     ensures fresh { IfOk result IsNew }
     ensures cases { IfErr result (λ left. (left.0 ≡ Memory) ⊎ (left.0 ≡ Device)
         ⊎ (left.0 ≡ Unopened)) }
@@ -49,9 +55,36 @@ pub fn open_connection_from<S: Start>(
         × IsFresh false files.db × (IsCleanLeft rest → IsRefused files rest left.0
         × LeavesFiles files rest))) }
 {
-    match Connection::open_from(rt, path, false, start) {
+    match Connection::open_from(rt, path, new_has_sums, start) {
         Ok(conn) => Ok(conn),
-        Err((error, left)) => Err((unopened_for(&error), left)),
+        Err((error, left)) => Err((unopened_for(&error), left, error)),
+    }
+}
+
+/// The same, where a file that is new gets no sums, and what `sqlite` said is left out.
+pub fn open_connection_from<S: Start>(
+    rt: &HostRuntime,
+    path: &str,
+    start: S,
+) -> Result<Connection<FileStore<FileFrom<S>>>, (OpenFault, Option<Leftover<FileFrom<S>>>)>
+    ensures opened { IfOk result (λ conn. HasCleanDisk (file_state conn) → IsOpened conn) }
+    ensures found { IfOk result (λ conn. HasCleanDisk (file_state conn)
+        → FindsIn (image_at S.Start) (file_state conn)) }
+    ensures plain { IfOk result (λ conn. HasCleanDisk (file_state conn)
+        → IsBlankAs false (image_at S.Start) → (view conn.store).has_sums ≡ false) }
+    ensures fresh { IfOk result IsNew }
+    ensures cases { IfErr result (λ left. (left.0 ≡ Memory) ⊎ (left.0 ≡ Device)
+        ⊎ (left.0 ≡ Unopened)) }
+    ensures unopened { IfErr result (λ left. left.1 ≡ None → (left.0 ≡ Memory)
+        ⊎ (left.0 ≡ Unopened)) }
+    ensures caused { IfErr result (λ left. IfSome left.1 (λ rest. (files : _)
+        × IsFresh true files.log
+        × IsFresh false files.db × (IsCleanLeft rest → IsRefused files rest left.0
+        × LeavesFiles files rest))) }
+{
+    match open_connection_with(rt, path, false, start) {
+        Ok(conn) => Ok(conn),
+        Err((fault, left, _error)) => Err((fault, left)),
     }
 }
 

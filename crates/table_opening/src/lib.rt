@@ -14,5 +14,5 @@ mod table_places;
 mod whole;
 
 pub use faults::{OpenFault, open_fault_number};
-pub use files::{open_connection, open_connection_from};
+pub use files::{open_connection, open_connection_from, open_connection_with};
 pub use opening::open_content;

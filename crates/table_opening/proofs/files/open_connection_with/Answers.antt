@@ -2,7 +2,7 @@ use Rattle.std.proofs.Common.{sym, subst}
 use Rattle.std.proofs.lemmas.Option.{IfSome_then}
 use Rattle.table_opening.specs.Files.{IsRefused}
 use Rattle.table_opening.proofs.FileLemmas.{refused}
-use Rattle.table_opening.proofs.files.open_connection_from.Goals as goal
+use Rattle.table_opening.proofs.files.open_connection_with.Goals as goal
 
 pub returns-in-Err-clause-caused : goal.returns-in-Err-clause-caused
 returns-in-Err-clause-caused g c = IfSome_then c.in-Err.left c.in-Err.ensures.cause (λ rest h. (
