@@ -7,11 +7,13 @@ use Rattle.plan_store.specs.Contents.{content_of}
 use Rattle.table_opening.specs.Opened.{MakesFirst}
 use Rattle.table_opening.specs.Opening.{IsOpened, IsUnopened}
 use Rattle.table_opening.specs.declared.faults.OpenFault.{OpenFault}
+use Rattle.plan_tables.specs.Stored.{LeavesOne}
 use Rattle.plan_tables.specs.declared.table_store.TableStore.{TableStore}
 
--- the store is over its database, and has its content; no failure was counted
+-- the store is over its database, and has its content, which a crash leaves alone; no failure was counted
 pub record IsOver {S : Type 0} {g : Ghosts S} (conn : Held S) (store : TableStore S g) : Type 0 where
   pub opened : IsOpened (state g conn) (state g store.conn) (content_of store.lists)
+  pub settled : LeavesOne (state g store.conn) (content_of store.lists)
   pub whole : store.failures ≡ 0
   pub crash : Survives (state g conn) (state g store.conn) (MakesFirst (state g conn))
 

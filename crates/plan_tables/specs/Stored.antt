@@ -1,5 +1,6 @@
 -- What a crash leaves of a database that keeps a content.
-use Rattle.sqlite.specs.State.{State}
+use Rattle.std.specs.Prelude.{◌≡◌}
+use Rattle.sqlite.specs.State.{HasCleanDisk, State}
 use Rattle.sqlite.specs.Tree.{Trees}
 use Rattle.planner_machine.specs.Content.{Content}
 use Rattle.planner_machine.specs.Sound.{IsSound}
@@ -17,3 +18,7 @@ TellsSound db = (c : Content) × IsSound c × IsContentOf (tables_of db) c
 -- each database that a crash may leave tells a sound content
 abbrev pub LeavesSound : State → Type 0
 LeavesSound s = (db : Trees) → s.may_leave db → ∥ TellsSound db ∥₁
+
+-- where its disk did not fail, a crash of the database leaves this content, and no other
+abbrev pub LeavesOne : State → Content → Type 0
+LeavesOne s c = (left : Content) → HasCleanDisk s × MayLeave s left → left ≡ c

@@ -4,6 +4,8 @@ ghost use Rattle.std.specs.Prelude.{◌≡◌, false, IfErr, IfOk};
 ghost use Rattle.sqlite.specs.State.{HasCleanDisk};
 ghost use Rattle.sqlite.specs.Files.{file_state};
 ghost use Rattle.sqlite_std_file.specs.File.{IsFresh};
+ghost use Rattle.sqlite.specs.Held.{state};
+ghost use Rattle.sqlite.specs.Steps.{over_memory};
 ghost use Rattle.sqlite_wal.specs.Files.{image_at};
 ghost use Rattle.sqlite_wal.specs.Recovery.{Image};
 ghost use Rattle.planner_machine.specs.Content.{nothing_known};
@@ -13,6 +15,7 @@ ghost use Rattle.table_opening.specs.Opened.{IsStored};
 ghost use Rattle.plan_tables.specs.Adopted.{ComesBack, IsOver};
 ghost use Rattle.plan_tables.specs.Found.{IsFoundIn};
 ghost use Rattle.plan_tables.specs.Refused.{IsGivenBack, IsNotOpened};
+ghost use Rattle.plan_tables.specs.Stored.{LeavesOne};
 ghost use Rattle.plan_tables.specs.Unopened.{IsUnmadeBy};
 ghost use Rattle.table_opening.specs.declared.faults.OpenFault.TheVariants.{Memory};
 
@@ -20,6 +23,7 @@ use crate::table_store::TableStore;
 use sqlite::{Alter, Connection, File, FileFrom, FileStore, Leftover, MemStore, Start, Unknown};
 use std::alloc::Global;
 use std::rt::HostRuntime;
+use table_facts::tables_have_one_content;
 use table_opening::{OpenFault, open_connection_from, open_content};
 
 impl<S: Alter + Drop> TableStore<S> {
@@ -34,6 +38,7 @@ impl<S: Alter + Drop> TableStore<S> {
         ensures opened { IfOk result (IsOver conn) }
         ensures unopened { IfErr result (ComesBack S.Store conn) }
     {
+        tables_have_one_content();
         let mut conn = conn;
         match open_content(alloc, &mut conn) {
             Ok(lists) => Ok(TableStore::over(conn, lists)),
@@ -72,6 +77,8 @@ impl TableStore<MemStore> {
         ensures empty { IfOk result (λ store. content_of store.lists ≡ nothing_known) }
         ensures sound { IfOk result (λ store. IsSound (content_of store.lists)) }
         ensures whole { IfOk result (λ store. store.failures ≡ 0) }
+        ensures settled { IfOk result (λ store. LeavesOne (state over_memory store.conn)
+            (content_of store.lists)) }
         ensures refused { IfErr result (λ fault. fault ≡ Memory) }
     {
         match Connection::open_in_memory(alloc) {
@@ -96,6 +103,8 @@ impl<S: Start> TableStore<FileStore<FileFrom<S>>> {
         ensures whole { IfOk result (λ store. store.failures ≡ 0) }
         ensures opened { IfOk result (λ store. HasCleanDisk (file_state store.conn)
             → IsStored (file_state store.conn) (content_of store.lists)) }
+        ensures settled { IfOk result (λ store. LeavesOne (file_state store.conn)
+            (content_of store.lists)) }
         ensures found { IfOk result (λ store. HasCleanDisk (file_state store.conn)
             → IsFoundIn (image_at S.Start) (content_of store.lists)) }
         ensures refused { IfErr result (IsNotOpened (λ is_log file. IsFresh is_log file)
@@ -125,6 +134,8 @@ impl TableStore<FileStore<File>> {
             → IsStored (file_state store.conn) (content_of store.lists)) }
         ensures refused { IfErr result (λ fault. (image : Image) × (left : _)
             × IsNotOpened (λ is_log file. IsFresh is_log file) image (fault, left)) }
+        ensures settled { IfOk result (λ store. LeavesOne (file_state store.conn)
+            (content_of store.lists)) }
     {
         match TableStore::open_path_from(rt, alloc, path, Unknown) {
             Ok(store) => Ok(store),

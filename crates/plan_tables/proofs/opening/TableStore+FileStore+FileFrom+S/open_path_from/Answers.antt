@@ -7,6 +7,9 @@ use Rattle.plan_tables.proofs.FoundLemmas.{found_in}
 use Rattle.plan_tables.proofs.RefusedLemmas.{no_plan}
 use Rattle.plan_tables.proofs.opening.TableStore+FileStore+FileFrom+S.open_path_from.Goals as goal
 
+pub returns-in-Ok-over_store-clause-settled : goal.returns-in-Ok-over_store-clause-settled
+returns-in-Ok-over_store-clause-settled g c = c.in-Ok-over_store.ensures.opened.settled
+
 pub returns-in-Ok-over_store-clause-found : goal.returns-in-Ok-over_store-clause-found
 returns-in-Ok-over_store-clause-found g c clean =
     let over = c.in-Ok-over_store.ensures.opened in

@@ -16,6 +16,10 @@ pub returns-in-Ok-clause-sound : goal.returns-in-Ok-clause-sound
 returns-in-Ok-clause-sound c =
     if_ok c.over_connection.result _ _ (λ store over. over.opened.sound) c.over_connection.ensures.opened
 
+pub returns-in-Ok-clause-settled : goal.returns-in-Ok-clause-settled
+returns-in-Ok-clause-settled c =
+    if_ok c.over_connection.result _ _ (λ store over. over.settled) c.over_connection.ensures.opened
+
 pub returns-in-Ok-clause-whole : goal.returns-in-Ok-clause-whole
 returns-in-Ok-clause-whole c =
     if_ok c.over_connection.result _ _ (λ store over. over.whole) c.over_connection.ensures.opened
