@@ -1,177 +1,26 @@
 -- What a database of any tables answers that is asked for the version of a plan.
-use Rattle.std.proofs.Common.{◌≡◌, ◌⊎◌, ◌+◌, ◌≤◌, ◌≢◌, ℕ, Bool, cond, true, false, true≢false, inl, inr, List, []}
-use Rattle.std.proofs.Common.{length, Ok, Err, Option, None, IsSome, refl, sym, ap, subst}
-use Rattle.std.specs.Prelude.{⊤}
-use Rattle.sqlite_ast.specs.declared.Select.{Select as Written}
-use Rattle.sqlite_ast.specs.declared.Statement.{Statement}
-use Rattle.sqlite_ast.specs.declared.Statement.TheVariants as written
-use Rattle.sqlite_syntax.specs.declared.statement.Parsed.{Parsed}
-use Rattle.sqlite_resolve.specs.Lowering.{Checked, and_then}
-use Rattle.sqlite_resolve.specs.Compile.{command, compiled, first, meaning, planned, read, returning, small, timed}
-use Rattle.sqlite_resolve.specs.Program.{program, query}
-use Rattle.sqlite_resolve.specs.declared.compiled.Compiled.{Compiled}
-use Rattle.sqlite_resolve.specs.declared.error.CompileError.TheVariants.{NoSuchTable}
-use Rattle.sqlite_schema.specs.declared.command.Command.{Command}
-use Rattle.sqlite_schema.specs.declared.command.Command.TheVariants.{Select}
-use Rattle.sqlite_schema.specs.declared.command.Returning.{Returning}
-use Rattle.sqlite_schema.specs.declared.program.Program.{Program}
-use Rattle.sqlite_schema.specs.declared.schema.Schema.{Schema}
+use Rattle.std.proofs.Common.{◌≡◌, ◌⊎◌, inl, inr, [], subst, sym}
 use Rattle.sqlite_tied.specs.Compute.{everything}
-use Rattle.sqlite_trees.specs.declared.error.StoreError.{StoreError}
-use Rattle.sqlite_trees.specs.declared.error.StoreError.TheVariants as store
-use Rattle.sqlite_disk.specs.Disk.{MoreFaults}
-use Rattle.sqlite.specs.Effect.{Database, RefusesToRead}
-use Rattle.sqlite.specs.Listing.{if_select, is_select, listing_schema, reads_listing, understood}
-use Rattle.sqlite.specs.Order.{Row}
-use Rattle.sqlite.specs.State.{State, CommitsShowing, FailsToQuery, FailsToShow, HasCause, IsNotRun, Survives, store_error}
-use Rattle.sqlite.specs.Tree.{Trees}
+use Rattle.sqlite_resolve.specs.Compile.{first}
+use Rattle.sqlite.specs.State.{State, CommitsShowing, FailsToQuery, Survives}
 use Rattle.sqlite.specs.declared.error.Error.{Error}
-use Rattle.sqlite.specs.declared.error.Error.TheVariants.{InvalidParameterCount, MultipleStatement, SqliteFailure}
-use Rattle.sqlite.specs.declared.error.ErrorCode.TheVariants.{NoClock}
-use Rattle.sqlite.proofs.StateLemmas.{survives_weaker}
 use Rattle.table_opening.specs.Faults.{fault_for}
 use Rattle.table_opening.specs.Foreign.{IsForeign, version_sql}
+use Rattle.table_opening.specs.Queries.{IsReading}
 use Rattle.table_opening.specs.declared.faults.OpenFault.TheVariants.{Device, Memory, Unopened}
+use Rattle.table_opening.proofs.QueryLemmas as query
 
--- what is found has the property
-abbrev Finds : {A : Type 0} → (A → Type 0) → Checked A → Type 0
-Finds P (Ok a) = P a
-Finds P (Err e) = ⊤
-
-any : {A : Type 0} (r : Checked A) → Finds (λ _. ⊤) r
-any (Ok a) = tt
-any (Err e) = tt
-
-found : {A : Type 0} (P : A → Type 0) (r : Checked A) (a : A) → Finds P r → r ≡ Ok a → P a
-found P r a h is = subst (Finds P) is h
-
-then : {A B : Type 0} (Q : A → Type 0) (P : B → Type 0) (r : Checked A) (f : A → Checked B) → Finds Q r
-    → ((a : A) → Q a → Finds P (f a)) → Finds P (and_then r f)
-then Q P (Ok a) f h k = k a h
-then Q P (Err e) f h k = tt
-
--- a statement that reads
-abbrev IsQuery : Statement → Type 0
-IsQuery (written.Select s) = ⊤
-IsQuery _ = ⊥
-
--- a command that reads
-abbrev IsSelect : Command → Type 0
-IsSelect c = (p : Program) × (names : List (List ℕ)) × (c ≡ Select p names)
-
--- a command that reads, and shows nothing beside
-abbrev IsRead : Command × Option Returning → Type 0
-IsRead found = (found.1 ≡ None) × IsSelect found.0
-
-abbrev IsReadPlan : List (List ℕ) × (Command × Option Returning) → Type 0
-IsReadPlan plan = IsRead plan.1
-
-abbrev IsReadText : Compiled → Type 0
-IsReadText c = (c.returning ≡ None) × IsSelect c.command
-
-abbrev IsQueryText : Parsed → Type 0
-IsQueryText p = IsQuery p.statement
-
-reads_only : Finds IsQueryText (first version_sql)
+pub version_reads : IsReading version_sql
 unfolding first everything
-reads_only = tt
-
-reads : (schema : Schema) (s : Written) → Finds IsSelect (read schema s)
-unfolding read
-reads schema s = then (λ _. ⊤) IsSelect (query schema s) _ (any _) (λ q _.
-    then (λ _. ⊤) IsSelect (program schema q.1 q.0.0) _ (any _) (λ p _. (p, q.0.1, refl)))
-
-selects : (schema : Schema) (formats : List (List ℕ)) (base : ℕ) (s : Statement) → IsQuery s
-    → Finds IsRead (and_then (returning schema base s) (λ shown. and_then (command schema formats base s)
-    (λ c. Ok (c, shown))))
-unfolding returning command
-selects schema formats base (written.Select s) q =
-    then IsSelect IsRead (read schema s) _ (reads schema s) (λ c h. (refl, h))
-selects schema formats base _ q = absurd q
-
-plans : (schema : Schema) (p : Parsed) → IsQuery p.statement → Finds IsReadPlan (planned schema p)
-unfolding planned meaning
-plans schema p q =
-    let formats = timed schema p.formats p.statement in
-    then IsRead IsReadPlan _ _ (selects schema p.formats (small p.names + small formats) p.statement q) (λ f h. h)
-
-compiles : (schema : Schema) → Finds IsReadText (compiled schema version_sql)
-unfolding compiled
-compiles schema = then IsQueryText IsReadText (first version_sql) _ reads_only
-    (λ p q. then IsReadPlan IsReadText (planned schema p) _
-    (plans schema p q) (λ plan h. h))
-
-picked : (c : Compiled) (b : Bool) → IsReadText c → Finds IsReadText (cond b (Ok c) (Err NoSuchTable))
-picked c true h = h
-picked c false h = tt
-
-listed : (r : Checked Compiled) → Finds IsReadText r → Finds IsReadText (if_select r)
-listed (Ok c) h = picked c (is_select c.command) h
-listed (Err e) h = tt
-
--- whatever the tables are, the text reads, and does nothing else
-understands : (schema : Schema) → Finds IsReadText (understood schema version_sql)
-unfolding understood
-understands schema = go (reads_listing schema version_sql)
-  where
-    go : (b : Bool) → Finds IsReadText (cond b (if_select (compiled listing_schema version_sql)) (compiled schema
-        version_sql))
-    go true = listed (compiled listing_schema version_sql) (compiles listing_schema)
-    go false = compiles schema
-
-no_commit : (s : State) (db : Trees) → CommitsShowing version_sql [] s db → ⊥
-unfolding CommitsShowing
-no_commit s db h =
-    let is = found IsReadText _ h.0 (understands s.now.schema) h.1.is in
-    absurd (true≢false (sym (subst IsSome is.0 h.2)))
+version_reads = tt
 
 pub commits_none : (old new : State) → Survives old new (CommitsShowing version_sql [] old) → Survives old new (λ _. ⊥)
-commits_none old new = survives_weaker old new _ _ (λ clean db h. no_commit old db h)
+commits_none old new = query.commits_none version_sql version_reads old new
 
-module _ (old new : State) (e : Error) where
-  -- what the reading itself is refused for is neither memory nor the device
-  refuses : (c : Command) (db : Database) (params : Row) → IsSelect c → RefusesToRead old.step_limit c db params e
-      → fault_for e Unopened ≡ Unopened
-  refuses c db params is h = go (subst (λ c. RefusesToRead old.step_limit c db params e) is.2 h)
-    where
-      go : RefusesToRead old.step_limit (Select is.0 is.1) db params e → fault_for e Unopened ≡ Unopened
-      go (inl k) = ap (λ x. fault_for x Unopened) k.0
-      go (inr (inl k)) = ap (λ x. fault_for x Unopened) k.0
-      go (inr (inr k)) = ap (λ x. fault_for x Unopened) k.0
-
-  caused : (cause : StoreError) → e ≡ store_error cause → HasCause old new ⊥ cause → fault_for e Unopened ≡ Device
-      → MoreFaults old.faults new.faults ⊎ (old.is_open ≡ false)
-  caused store.OutOfMemory is h k = absurd cc
-  caused store.Io is h k = inl h
-  caused store.Corrupt is h k = inl h
-  caused store.Full is h k = inl h
-  caused store.Broken is h k = inr h
-  caused store.Unstorable is h k = absurd h
-
-  elsewhere : fault_for e Unopened ≡ Unopened → fault_for e Unopened ≡ Device → ⊥
-  elsewhere h k = cc
-
-  failed : FailsToQuery version_sql [] old new e → fault_for e Unopened ≡ Device
-      → MoreFaults old.faults new.faults ⊎ (old.is_open ≡ false)
-  unfolding FailsToQuery IsNotRun
-  failed (inl (inl (inl h, same))) k = absurd (elsewhere (ap (λ x. fault_for x Unopened) h.2) k)
-  failed (inl (inl (inr h, same))) k = absurd (elsewhere (go h.2) k)
-    where
-      go : ((¬ (length version_sql ≤ h.0.tail)) × (e ≡ MultipleStatement)) ⊎ (((0 ≢ length h.0.names)
-          × (e ≡ InvalidParameterCount 0 (length h.0.names))) ⊎ ((h.0.formats ≢ []) × (e ≡ SqliteFailure NoClock)))
-          → fault_for e Unopened ≡ Unopened
-      go (inl n) = ap (λ x. fault_for x Unopened) n.1
-      go (inr (inl n)) = ap (λ x. fault_for x Unopened) n.1
-      go (inr (inr n)) = ap (λ x. fault_for x Unopened) n.1
-  failed (inl (inr h)) k = caused h.0 h.1 h.2 k
-  failed (inr h) k =
-      let is = found IsReadText _ h.0 (understands old.now.schema) h.1.is in
-      let shown = subst (FailsToShow old new version_sql h.0 _ e) is.0 h.2 in
-      absurd (elsewhere (refuses h.0.command shown.0 _ is.1 shown.2) k)
-
-  pub foreign_by : FailsToQuery version_sql [] old new e → (fault_for e Unopened ≡ Memory)
-      ⊎ ((fault_for e Unopened ≡ Device) ⊎ (fault_for e Unopened ≡ Unopened))
-      → IsForeign old new (fault_for e Unopened)
-  foreign_by h (inl is) = subst (IsForeign old new) (sym is) tt
-  foreign_by h (inr (inl is)) = subst (IsForeign old new) (sym is) (failed h is)
-  foreign_by h (inr (inr is)) = subst (IsForeign old new) (sym is) (inl (e, h, is))
+pub foreign_by : (old new : State) (e : Error) → FailsToQuery version_sql [] old new e
+    → (fault_for e Unopened ≡ Memory) ⊎ ((fault_for e Unopened ≡ Device) ⊎ (fault_for e Unopened ≡ Unopened))
+    → IsForeign old new (fault_for e Unopened)
+foreign_by old new e h (inl is) = subst (IsForeign old new) (sym is) tt
+foreign_by old new e h (inr (inl is)) =
+    subst (IsForeign old new) (sym is) (query.failed_by_device version_sql version_reads old new e h is)
+foreign_by old new e h (inr (inr is)) = subst (IsForeign old new) (sym is) (inl (e, h, is))

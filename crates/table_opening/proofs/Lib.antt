@@ -7,6 +7,7 @@ pub mod OpenedLemmas
 pub mod OpeningLemmas
 pub mod DefinedLemmas
 pub mod ReadableLemmas
+pub mod QueryLemmas
 pub mod ForeignLemmas
 pub mod FileLemmas
 pub mod TermLemmas

@@ -13,9 +13,13 @@ use Rattle.table_opening.specs.declared.faults.OpenFault.TheVariants.{Memory, De
 abbrev pub version_sql : List ℕ
 version_sql = codes "SELECT id, version FROM plan_meta"
 
--- it refuses to show the version of a plan, neither for want of memory nor for the device
+-- it refuses to show what the text asks for, neither for want of memory nor for the device
+abbrev pub RefusesToShow : List ℕ → State → State → Type 0
+RefusesToShow sql old new = (e : Error) × FailsToQuery sql [] old new e × (fault_for e Unopened ≡ Unopened)
+
+-- it refuses to show the version of a plan
 abbrev pub RefusesVersion : State → State → Type 0
-RefusesVersion old new = (e : Error) × FailsToQuery version_sql [] old new e × (fault_for e Unopened ≡ Unopened)
+RefusesVersion = RefusesToShow version_sql
 
 -- why a database of other tables is not opened: memory is short; the device failed meanwhile, or the connection was
 -- shut before; or by what it shows that is asked for the version of a plan: a known one, none that is known, or nothing,

@@ -6,6 +6,7 @@ pub mod Faults
 pub mod Opened
 pub mod Opening
 pub mod Held
+pub mod Queries
 pub mod Foreign
 pub mod Files
 pub mod Alike

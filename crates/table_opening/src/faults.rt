@@ -28,7 +28,7 @@ pub enum OpenFault {
 }
 
 /// The fault of a call that failed: memory, the device, or else this one.
-pub(crate) fn fault_for(error: &Error, other: OpenFault) -> OpenFault
+pub fn fault_for(error: &Error, other: OpenFault) -> OpenFault
     ensures value { result ≡ fault_for error.now other }
     ensures cases { (result ≡ Memory) ⊎ (result ≡ Device) ⊎ (result ≡ other) }
 {

@@ -11,8 +11,10 @@ mod same_schema;
 mod schemas;
 mod stored;
 mod table_places;
+mod version_texts;
 mod whole;
 
-pub use faults::{OpenFault, open_fault_number};
+pub use faults::{OpenFault, fault_for, open_fault_number};
 pub use files::{open_connection, open_connection_from, open_connection_with};
-pub use opening::open_content;
+pub use opening::{is_known, open_content};
+pub use version_texts::version_text;

@@ -22,6 +22,7 @@ ghost use Rattle.table_opening.specs.Stored.{TellStored};
 use crate::faults::{OpenFault, fault_for};
 use crate::making::make_first;
 use crate::schemas::{has_plan, is_blank};
+use crate::version_texts::version_text;
 use crate::whole::{DefinitionPart, PlanPart, RowidPart, content_of_tables};
 use plan_soundness::is_sound;
 use plan_store::Content;
@@ -69,8 +70,8 @@ fn sound_content(alloc: Global, lists: PlanLists, stored: &StoredRows) -> Result
     }
 }
 
-// Whether these are the one row of a known version.
-fn is_known(rows: &[Cells]) -> bool
+/// Whether these are the one row of a known version.
+pub fn is_known(rows: &[Cells]) -> bool
     ensures { IsTrue result ↔ AreKnown rows.now }
 {
     match rows {
@@ -188,7 +189,7 @@ fn foreign_fault<S: Alter>(conn: &mut Connection<S>) -> OpenFault
     ensures mode { conn.new.in_transaction ≡ false }
     ensures survives { Survives (state S.Store conn.old) (state S.Store conn.new) (λ _. ⊥) }
 {
-    match conn.query_all("SELECT id, version FROM plan_meta", &[]) {
+    match conn.query_all(version_text(), &[]) {
         Ok(rows) => if is_known(&rows) {
             OpenFault::Tables
         } else {

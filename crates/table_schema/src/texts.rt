@@ -139,7 +139,7 @@ pub(crate) fn delete_text(table: Table) -> &'static str
 }
 
 /// The text that shows all rows of the table.
-pub(crate) fn select_text(table: Table) -> &'static str
+pub fn select_text(table: Table) -> &'static str
     ensures { result.now ≡ select_sql table }
 {
     match table {
