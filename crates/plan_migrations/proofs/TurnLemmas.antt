@@ -1,0 +1,169 @@
+-- Questions in turn: each leaves the database as the next one finds it.
+use Rattle.std.proofs.Common.{◌≡◌, ◌∙◌, ◌≤◌, ◌+◌, inl, inr, sym, subst, arith, true≢false, ℕ, List, [], Some, Option, Ok, Err}
+use Rattle.std.specs.List.{AllWithin, HoldsAt}
+use Rattle.std.proofs.lemmas.List.Elements.{AllWithin-more}
+use Rattle.sqlite.specs.Clock.{timed}
+use Rattle.sqlite.specs.Effect.{Database, RefusesToRead}
+use Rattle.sqlite.specs.Listing.{IsSourceOf, reads_listing, understood}
+use Rattle.sqlite.specs.Order.{Row}
+use Rattle.sqlite.specs.State.{State, FailsToQuery, FailsToShow, IsNoStatement, IsNotRun, IsStatement, IsUnchanged}
+use Rattle.sqlite.specs.State.{Shown, ShowsRows}
+use Rattle.sqlite.specs.declared.error.Error.{Error}
+use Rattle.sqlite_resolve.specs.declared.compiled.Compiled.{Compiled}
+use Rattle.sqlite.proofs.Callers.{unchanged_then}
+use Rattle.table_schema.specs.Texts.{select_sql}
+use Rattle.table_schema.specs.declared.tables.Table.{Table}
+use Rattle.table_opening.specs.Faults.{fault_for}
+use Rattle.table_opening.specs.Foreign.{RefusesToShow, version_sql}
+use Rattle.table_opening.specs.Queries.{IsReading}
+use Rattle.table_opening.specs.declared.faults.OpenFault.TheVariants.{Unopened}
+use Rattle.table_opening.proofs.ForeignLemmas.{version_reads}
+use Rattle.table_opening.proofs.QueryLemmas.{other_cause, refused_same, shown_same, shows_alone}
+use Rattle.plan_migrations.specs.Asking.{IsFailure, IsKept}
+use Rattle.plan_migrations.specs.Migrating.{ChecksTable, ChecksTables, IsUnmigrated}
+use Rattle.table_schema.specs.declared.tables.TheConstants.{SCHEMA_VERSION}
+use Rattle.plan_migrations.specs.Schemas.{IsOfSchema, IsOther, ShowsKnown, TellsVersion}
+use Rattle.plan_migrations.specs.declared.faults.MigrateFault.{MigrateFault}
+use Rattle.plan_migrations.specs.declared.faults.MigrateFault.TheVariants.{UnknownVersion, OtherTable, Memory, Device}
+use Rattle.plan_migrations.proofs.TextLemmas.{select_reads}
+
+abbrev statement_since : (a b : State) (sql : List ℕ) (c : Compiled) → IsUnchanged a b → IsStatement b sql [] c
+    → IsStatement a sql [] c
+statement_since a b sql c same it = record {
+  is = subst (λ (d : Database). understood d.schema sql ≡ Ok c) same.0.now_is it.is;
+  whole = it.whole;
+  given = it.given;
+  now = it.now;
+}
+
+module _ (sql : List ℕ) (reading : IsReading sql) (a b c : State) where
+  -- what is shown after a question was shown before it
+  pub shown_since : (rows : List Row) → IsUnchanged a b → Shown sql [] b c rows → Shown sql [] a c rows
+  unfolding Shown
+  shown_since rows same h =
+      let alone = shows_alone sql reading b h.0 h.1 in
+      let rest = subst (ShowsRows b c sql h.0 _ rows) alone h.2 in
+      let it = statement_since a b sql h.0 same h.1 in (
+        h.0,
+        it,
+        subst (ShowsRows a c sql h.0 _ rows) (sym alone) (
+          rest.0,
+          subst (λ (d : Database). IsSourceOf (reads_listing d.schema sql) d rest.0) same.0.now_is rest.1,
+          rest.2,
+          unchanged_then a b c same rest.3,
+        ),
+      )
+
+  -- and is shown still after the next
+  pub shown_until : (rows : List Row) → Shown sql [] a b rows → IsUnchanged b c → Shown sql [] a c rows
+  unfolding Shown
+  shown_until rows h same =
+      let alone = shows_alone sql reading a h.0 h.1 in
+      let rest = subst (ShowsRows a b sql h.0 _ rows) alone h.2 in (
+        h.0,
+        h.1,
+        subst (ShowsRows a c sql h.0 _ rows) (sym alone) (
+          rest.0,
+          rest.1,
+          rest.2,
+          unchanged_then a b c rest.3 same,
+        ),
+      )
+
+  fails_since : (e : Error) → IsUnchanged a b → b.step_limit ≡ a.step_limit → fault_for e Unopened ≡ Unopened
+      → FailsToQuery sql [] b c e → FailsToQuery sql [] a c e
+  unfolding FailsToQuery IsNotRun
+  fails_since e same limit other (inl (inl (none, after))) = inl (inl (
+    subst (λ (d : Database). IsNoStatement (record b { now = d }) sql [] e) same.0.now_is none,
+    unchanged_then a b c same after,
+  ))
+  fails_since e same limit other (inl (inr failed)) =
+      absurd (other_cause sql reading b c e failed.0 failed.1 failed.2 other)
+  fails_since e same limit other (inr (comp, it, shows)) =
+      let alone = shows_alone sql reading b comp it in
+      let params = timed [] comp.formats it.now in
+      let rest = subst (FailsToShow b c sql comp params e) alone shows in
+      inr (
+        comp,
+        statement_since a b sql comp same it,
+        subst (FailsToShow a c sql comp params e) (sym alone) (
+          rest.0,
+          subst (λ (d : Database). IsSourceOf (reads_listing d.schema sql) d rest.0) same.0.now_is rest.1,
+          subst (λ l. RefusesToRead l comp.command rest.0 params e) limit rest.2,
+          unchanged_then a b c same rest.3,
+        ),
+      )
+
+  pub refused_since : IsUnchanged a b → b.step_limit ≡ a.step_limit → RefusesToShow sql b c → RefusesToShow sql a c
+  refused_since same limit h = (h.0, fails_since h.0 same limit h.2 h.1, h.2)
+
+module _ (a b : State) where
+  pub same_if_known : ShowsKnown a b → IsUnchanged a b
+  same_if_known h = shown_same version_sql version_reads a b h.0 h.1
+
+  pub told_some : (found : Option ℕ) (v : ℕ) → found ≡ Some v → TellsVersion a b (Ok found)
+      → (v ≡ SCHEMA_VERSION) × ShowsKnown a b
+  told_some found v is h = subst (λ (o : Option ℕ). TellsVersion a b (Ok o)) is h
+
+  pub same_if_of_schema : (t : Table) → IsOfSchema a b t → IsUnchanged a b
+  same_if_of_schema t h = shown_same (select_sql t) (select_reads t) a b h.0 h.1
+
+  pub same_if_other : (t : Table) → IsOther a b t → IsUnchanged a b
+  same_if_other t (inl h) = refused_same (select_sql t) (select_reads t) a b h.0 h.1 h.2
+  same_if_other t (inr h) = shown_same (select_sql t) (select_reads t) a b h.0 h.1
+
+module _ (a b c : State) where
+  pub kept_since : IsUnchanged a b → IsKept b c → IsKept a c
+  kept_since same kept = record {
+    now = λ up. kept.now up ∙ same.0.now_is;
+    committed = λ up. kept.committed up ∙ same.0.committed_is;
+  }
+
+  pub failure_since : IsUnchanged a b → a.faults ≤ b.faults → (f : MigrateFault) → IsFailure b c f → IsFailure a c f
+  failure_since same more Memory h = tt
+  failure_since same more Device (inl h) = inl (omega (arith, more, h))
+  failure_since same more Device (inr h) = absurd (true≢false (sym same.0.is_open ∙ h))
+  failure_since same more UnknownVersion h = h
+  failure_since same more OtherTable h = h
+
+  pub known_until : ShowsKnown a b → IsUnchanged b c → ShowsKnown a c
+  known_until h same = (h.0, shown_until version_sql version_reads a b c h.0 h.1 same, h.2)
+
+  pub of_schema_since : IsUnchanged a b → (t : Table) → IsOfSchema b c t → IsOfSchema a c t
+  of_schema_since same t h = (h.0, shown_since (select_sql t) (select_reads t) a b c h.0 same h.1, h.2)
+
+  pub of_schema_until : IsUnchanged b c → (t : Table) → IsOfSchema a b t → IsOfSchema a c t
+  of_schema_until same t h = (h.0, shown_until (select_sql t) (select_reads t) a b c h.0 h.1 same, h.2)
+
+  pub other_since : IsUnchanged a b → b.step_limit ≡ a.step_limit → (t : Table) → IsOther b c t → IsOther a c t
+  other_since same limit t (inl h) = inl (refused_since (select_sql t) (select_reads t) a b c same limit h)
+  other_since same limit t (inr h) =
+      inr (h.0, shown_since (select_sql t) (select_reads t) a b c h.0 same h.1, h.2)
+
+  -- one more table is of its schema
+  pub turned : (tables : List Table) (at : ℕ) → IsUnchanged a b × AllWithin (IsOfSchema a b) tables 0 at
+      → HoldsAt (IsOfSchema b c) tables at → IsUnchanged b c
+      → IsUnchanged a c × AllWithin (IsOfSchema a c) tables 0 (at + 1)
+  turned tables at had holds same = (
+    unchanged_then a b c had.0 same,
+    AllWithin-more (IsOfSchema a c) tables 0 at (λ k d low high. of_schema_until same _ (had.1 k d low high))
+        (λ d. of_schema_since had.0 _ (holds d)),
+  )
+
+  -- a table that is not of its schema ends the loop, and so does a failure
+  pub stops : IsUnchanged a b → a.faults ≤ b.faults → b.step_limit ≡ a.step_limit → (tables : List Table) (t : Table)
+      (f : MigrateFault) → ChecksTable b c t (Err f) → ChecksTables a c tables (Err f)
+  stops same more limit tables t OtherTable h = (t, other_since same limit t h)
+  stops same more limit tables t Memory h = tt
+  stops same more limit tables t Device h = failure_since same more Device h
+  stops same more limit tables t UnknownVersion h = h
+
+  -- and what it was begun for
+  pub unmigrated : ShowsKnown a b → a.faults ≤ b.faults → b.step_limit ≡ a.step_limit → (tables : List Table)
+      (f : MigrateFault) → ChecksTables b c tables (Err f) → IsUnmigrated a c f
+  unmigrated known more limit tables OtherTable h =
+      let same = same_if_known a b known in
+      (known_until known (same_if_other b c h.0 h.1), (h.0, other_since same limit h.0 h.1))
+  unmigrated known more limit tables Memory h = tt
+  unmigrated known more limit tables Device h = failure_since (same_if_known a b known) more Device h
+  unmigrated known more limit tables UnknownVersion h = absurd h

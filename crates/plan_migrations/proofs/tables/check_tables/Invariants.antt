@@ -1,0 +1,16 @@
+use Rattle.std.proofs.Common.{◌≡◌, false}
+use Rattle.std.specs.List.{AllWithin}
+use Rattle.sqlite.specs.State.{HasCleanDisk, IsUnchanged, Survives}
+use Rattle.sqlite.specs.Held.{state}
+use Rattle.plan_migrations.specs.Schemas.{IsOfSchema}
+use Rattle.plan_migrations.proofs.tables.check_tables.Given as goal
+
+abbrev pub invariant-loop-table : goal.invariant-loop-table
+invariant-loop-table g l =
+    let old = state g.S.Store l.fn.conn in
+    let now = state g.S.Store l.conn in
+    record {
+      mode : l.conn.in_transaction ≡ false;
+      survives : Survives old now (λ _. ⊥);
+      checked : HasCleanDisk now → IsUnchanged old now × AllWithin (IsOfSchema old now) l.tables 0 l.table-index;
+    }

@@ -1,0 +1,57 @@
+// Tables that are of their schema.
+
+ghost use Rattle.std.specs.Prelude.{◌≡◌, false, IsTrue};
+ghost use Rattle.sqlite.specs.State.{HasCleanDisk, IsUnchanged, Survives};
+ghost use Rattle.sqlite.specs.Held.{state};
+ghost use Rattle.plan_migrations.specs.Asking.{IsKept};
+ghost use Rattle.plan_migrations.specs.Migrating.{ChecksTable, ChecksTables};
+
+use crate::asking::ask;
+use crate::faults::MigrateFault;
+use crate::types::are_typed;
+use sqlite::{Alter, Connection};
+use table_schema::{Table, select_text};
+
+// Looks whether the table is of its schema.
+fn check_table<S: Alter>(conn: &mut Connection<S>, table: &Table) -> Result<(), MigrateFault>
+    requires { conn.old.in_transaction ≡ false }
+    ensures checked { HasCleanDisk (state S.Store conn.new)
+        → ChecksTable (state S.Store conn.old) (state S.Store conn.new) table.now result }
+    ensures kept { HasCleanDisk (state S.Store conn.new)
+        → IsKept (state S.Store conn.old) (state S.Store conn.new) }
+    ensures mode { conn.new.in_transaction ≡ false }
+    ensures crash { Survives (state S.Store conn.old) (state S.Store conn.new) (λ _. ⊥) }
+{
+    match ask(conn, select_text(*table)) {
+        Ok(Some(rows)) => if are_typed(*table, &rows) {
+            Ok(())
+        } else {
+            Err(MigrateFault::OtherTable)
+        },
+        Ok(None) => Err(MigrateFault::OtherTable),
+        Err(fault) => Err(fault),
+    }
+}
+
+/// Looks whether the tables are of their schema, up to the first that is not.
+pub(crate) fn check_tables<S: Alter>(
+    conn: &mut Connection<S>,
+    tables: &[Table],
+) -> Result<(), MigrateFault>
+    requires mode { conn.old.in_transaction ≡ false }
+    requires open { HasCleanDisk (state S.Store conn.old) → IsTrue (state S.Store conn.old).is_open }
+    ensures checked { HasCleanDisk (state S.Store conn.new)
+        → ChecksTables (state S.Store conn.old) (state S.Store conn.new) tables.now result }
+    ensures kept { HasCleanDisk (state S.Store conn.new)
+        → IsKept (state S.Store conn.old) (state S.Store conn.new) }
+    ensures mode { conn.new.in_transaction ≡ false }
+    ensures crash { Survives (state S.Store conn.old) (state S.Store conn.new) (λ _. ⊥) }
+{
+    for table in tables {
+        match check_table(conn, table) {
+            Ok(()) => {}
+            Err(fault) => return Err(fault),
+        }
+    }
+    Ok(())
+}

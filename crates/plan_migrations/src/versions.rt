@@ -1,0 +1,35 @@
+// The version of a plan.
+
+ghost use Rattle.std.specs.Prelude.{◌≡◌, false};
+ghost use Rattle.sqlite.specs.State.{HasCleanDisk, Survives};
+ghost use Rattle.sqlite.specs.Held.{state};
+ghost use Rattle.plan_migrations.specs.Asking.{IsKept};
+ghost use Rattle.plan_migrations.specs.Schemas.{TellsVersion};
+
+use crate::asking::ask;
+use crate::faults::MigrateFault;
+use sqlite::{Alter, Connection};
+use table_opening::{is_known, version_text};
+use table_schema::SCHEMA_VERSION;
+
+/// The version of the plan that the database has; `None` where it is without tables, which is where it refuses to show
+/// a version, neither for want of memory nor for the device. Nothing changes.
+pub fn version<S: Alter>(conn: &mut Connection<S>) -> Result<Option<u32>, MigrateFault>
+    requires { conn.old.in_transaction ≡ false }
+    ensures tells { HasCleanDisk (state S.Store conn.new)
+        → TellsVersion (state S.Store conn.old) (state S.Store conn.new) result }
+    ensures kept { HasCleanDisk (state S.Store conn.new)
+        → IsKept (state S.Store conn.old) (state S.Store conn.new) }
+    ensures mode { conn.new.in_transaction ≡ false }
+    ensures crash { Survives (state S.Store conn.old) (state S.Store conn.new) (λ _. ⊥) }
+{
+    match ask(conn, version_text()) {
+        Ok(Some(rows)) => if is_known(&rows) {
+            Ok(Some(SCHEMA_VERSION))
+        } else {
+            Err(MigrateFault::UnknownVersion)
+        },
+        Ok(None) => Ok(None),
+        Err(fault) => Err(fault),
+    }
+}
