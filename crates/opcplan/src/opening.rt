@@ -1,13 +1,28 @@
-//! The database file that the words name is opened.
+//! The database file that the words name is opened, migrated and adopted.
 
 use crate::faults::{tell, tell_so};
 use crate::words::NamedFile;
+use plan_migrations::{migrate, migrate_fault_number};
+use plan_tables::TableStore;
 use sqlite::{Connection, Error, ErrorCode, File, FileStore, Unknown};
 use table_opening::{open_connection_with, open_fault_number};
 
+/// The store over the plans that the file keeps, which is opened, migrated and adopted. Where one of these fails, its
+/// fault is told, and the exit status comes back.
+pub fn open_store(rt: &HostRuntime, file: &NamedFile) -> Result<TableStore<FileStore<File>>, u8> {
+    let mut conn = open_file(rt, file)?;
+    if let Err(fault) = migrate(&mut conn) {
+        return Err(tell(rt, migrate_fault_number(&fault)));
+    }
+    match TableStore::adopt(rt.alloc(), conn) {
+        Ok(store) => Ok(store),
+        Err((fault, _conn)) => Err(tell(rt, open_fault_number(&fault))),
+    }
+}
+
 /// Opens the file, or makes it. Where it isn't opened, its fault is told, on standard error with what sqlite says of it,
 /// and the exit status comes back.
-pub fn open_file(rt: &HostRuntime, file: &NamedFile) -> Result<Connection<FileStore<File>>, u8> {
+fn open_file(rt: &HostRuntime, file: &NamedFile) -> Result<Connection<FileStore<File>>, u8> {
     match open_connection_with(rt, &file.path, file.new_has_sums, Unknown) {
         Ok(conn) => Ok(conn),
         Err((fault, _left, error)) => {

@@ -1,13 +1,11 @@
 //! The stream over the plans that a file keeps.
 
 use crate::faults::{MEMORY, explain, tell};
-use crate::opening::open_file;
+use crate::opening::open_store;
 use crate::words::NamedFile;
 use plan_store::StoreFault;
-use plan_tables::TableStore;
 use planner_cli::{exit_status, run};
 use std::io::{self, BufRead, BufReader, BufWriter, Write};
-use table_opening::open_fault_number;
 
 /// Runs the stream on standard input, over the plans that the file keeps, and gives the exit status. A reply is handed
 /// to standard output with its last byte, and a listing some thousand bytes at a time.
@@ -30,21 +28,16 @@ fn run_over_file<R: BufRead, W: Write>(
     reader: &mut R,
     writer: &mut W,
 ) -> u8 {
-    let alloc = rt.alloc();
-    let conn = match open_file(rt, file) {
-        Ok(conn) => conn,
-        Err(status) => return status,
-    };
-    match TableStore::adopt(alloc, conn) {
+    match open_store(rt, file) {
         Ok(mut store) => {
-            let outcome = run(alloc, &mut store, reader, writer);
+            let outcome = run(rt.alloc(), &mut store, reader, writer);
             explain(rt, &outcome);
             if let Err((fault, _files)) = store.close() {
                 tell_log_stands(rt, fault);
             }
             exit_status(&outcome)
         }
-        Err((fault, _conn)) => tell(rt, open_fault_number(&fault)),
+        Err(status) => status,
     }
 }
 
