@@ -8,8 +8,7 @@ use app_definitions::{Block, Kind};
 use plan_store::DefinitionChange;
 use std::alloc::{AllocError, Global};
 use table_definitions::{
-    application_rows, calendar_rows, cycle_rows, offset_rows, period_rows,
-    predecessor_rows,
+    application_rows, calendar_rows, cycle_rows, offset_rows, period_rows, predecessor_rows,
 };
 use table_writing::DefinitionMoves;
 use work_calendars::Name;
