@@ -26,8 +26,8 @@ returns-in-Ok-clause-found_again g c none clean left out d found =
     copied_again c.into_connection-connection.result c.in-Ok.files copied left out (content_of own.lists)
     c.tables_have_one_content.ensures
     (λ db may. tells_kept over_files (λ s. settled_at s g.met.D.Disk.seen_may_stay) own.conn
-    c.into_connection-connection.result (content_of own.lists) own.is_broken own.failures
-    c.into_connection-connection.ensures own.counted none own.stored copied.was_clean c.schema-schema.ensures.live db may)
+    c.into_connection-connection.result (content_of own.lists) own.failures
+    c.into_connection-connection.ensures none own.stored copied.was_clean c.schema-schema.ensures.live db may)
     g.met.D.Disk.seen_may_stay d found
 
 pub returns-in-Err-clause-stays : goal.returns-in-Err-clause-stays
@@ -40,8 +40,8 @@ returns-in-Err-clause-tells g c none clean db found =
     let own = c.args.self in
     let quiet = c.in-Err.ensures.err.0.quiet in
     tells_kept over_files (λ s. settled_at s g.met.D.Disk.seen_may_stay) own.conn
-    c.into_connection-connection.result (content_of own.lists) own.is_broken own.failures
-    c.into_connection-connection.ensures own.counted none own.stored (omega (arith, quiet.clean, clean))
+    c.into_connection-connection.result (content_of own.lists) own.failures
+    c.into_connection-connection.ensures none own.stored (omega (arith, quiet.clean, clean))
     c.schema-schema.ensures.live db (quiet.outcomes db found)
 
 pub returns-in-Err-clause-blames : goal.returns-in-Err-clause-blames
