@@ -1,5 +1,6 @@
 -- A change that leaves sound content can be told by tables.
 use Rattle.std.proofs.Common.{◌≡◌, ◌⊎◌, ◌∙◌, ℕ, ◌<◌, ◌^◌, List, [], length, inl, inr, refl, ap, arith, Option, None, Some, IsSome}
+use Rattle.std.proofs.lemmas.Bool.{false≢true}
 use Rattle.std.specs.Prelude.{IfSome, if◌then◌else◌, slice_get}
 use Rattle.std.specs.FinMap as map
 use Rattle.std.specs.Option.{option_or}
@@ -59,13 +60,13 @@ calendar_row c week (inl (weekday, below, some)) = listed (slice_index_or c.week
 
     listed : (o : Option DayStatus) → slice_index_or c.weekdays weekday None ≡ o → IsSome o
         → (values : Values) × IsCalendarRow [] c values
-    listed None is some = absurd some
+    listed None is some = absurd (false≢true some)
     listed (Some status) is some = (_, Weekday weekday status (at ∙ ap Some is) refl)
 calendar_row c week (inr (day, some)) = dated (map.get c.dates day) refl some
   where
     dated : (o : Option DayStatus) → map.get c.dates day ≡ o → IsSome o
         → (values : Values) × IsCalendarRow [] c values
-    dated None is some = absurd some
+    dated None is some = absurd (false≢true some)
     dated (Some status) is some = (_, Date day status is refl)
 
 has_entry : (p : Period) → IsSoundPeriod p → HasEntry p

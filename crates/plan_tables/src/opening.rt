@@ -7,7 +7,6 @@ ghost use Rattle.sqlite_std_file.specs.File.{IsFresh};
 ghost use Rattle.sqlite.specs.Held.{state};
 ghost use Rattle.sqlite.specs.Steps.{over_memory};
 ghost use Rattle.sqlite_wal.specs.Files.{image_at};
-ghost use Rattle.sqlite_wal.specs.Recovery.{Image};
 ghost use Rattle.planner_machine.specs.Content.{nothing_known};
 ghost use Rattle.planner_machine.specs.Sound.{IsSound};
 ghost use Rattle.plan_store.specs.Contents.{content_of};
@@ -132,8 +131,6 @@ impl TableStore<FileStore<File>> {
         ensures whole { IfOk result (λ store. store.failures ≡ 0) }
         ensures opened { IfOk result (λ store. HasCleanDisk (file_state store.conn)
             → IsStored (file_state store.conn) (content_of store.lists)) }
-        ensures refused { IfErr result (λ fault. (image : Image) × (left : _)
-            × IsNotOpened (λ is_log file. IsFresh is_log file) image (fault, left)) }
         ensures settled { IfOk result (λ store. LeavesOne (file_state store.conn)
             (content_of store.lists)) }
     {
