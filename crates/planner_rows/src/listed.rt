@@ -16,6 +16,8 @@ pub enum Stores {
     Lists,
     /// Lists, and tables in memory.
     Both,
+    /// These, and files that stop.
+    Stops,
 }
 
 /// A line of the list.
@@ -38,8 +40,8 @@ pub fn is_remark(line: &str) -> bool {
 }
 
 impl<'a> Listed<'a> {
-    /// Reads `NAME STATUS own` or `NAME STATUS both`, with `lists` behind it where the stream is tried over lists alone;
-    /// `None` where the line is neither.
+    /// Reads `NAME STATUS own` or `NAME STATUS both`, with `lists` behind it where the stream is tried over lists alone, or
+    /// `stops` where it is tried over files that stop as well; `None` where the line is none of these.
     pub fn from_line(line: &'a str) -> Option<Listed<'a>> {
         let mut words = line.split_whitespace();
         let name = words.next()?;
@@ -52,6 +54,7 @@ impl<'a> Listed<'a> {
         let stores = match words.next() {
             None => Stores::Both,
             Some("lists") => Stores::Lists,
+            Some("stops") => Stores::Stops,
             Some(_) => return None,
         };
         match words.next() {

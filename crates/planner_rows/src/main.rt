@@ -1,7 +1,7 @@
 //! Tries worked job streams: each is run over lists in memory, and over tables in memory which are let go and taken up
 //! again in its midst. All that it prints, and the exit status, is compared with what its files say; the definitions,
-//! plans and jobs that the tables hold at its end are compared with those of the lists. A line tells of each stream
-//! whether it holds.
+//! plans and jobs that the tables hold at its end are compared with those of the lists. Some are run over files that stop
+//! at each call in turn, and then again over what a crash left. A line tells of each stream whether it holds.
 #![tactic(auto)]
 
 mod definitions;
@@ -9,13 +9,15 @@ mod differences;
 mod items;
 mod listed;
 mod pieces;
+mod stops;
 mod tables;
 mod trials;
 
-use listed::Listed;
+use listed::{Listed, Stores};
 use std::process::ExitCode;
 use std::rt::Files;
 use std::{fs, io};
+use stops::try_stops;
 use trials::{Expected, show_wrong, try_stream};
 
 /// The list of streams, in the folder where the program runs.
@@ -56,12 +58,35 @@ fn try_one<R: AllocGlobal + Files + Print>(rt: &R, stream: &Listed<'_>) -> io::R
         status: stream.status,
     };
     match try_stream(alloc, &text, stream, &expected)? {
+        None if stream.stores == Stores::Stops => stop_one(rt, name, &text, &replies),
         None => {
             println!(rt; "{name} holds")?;
             Ok(true)
         }
         Some(wrong) => {
             show_wrong(&mut io::writer(rt), name, &wrong, &expected)?;
+            Ok(false)
+        }
+    }
+}
+
+/// Runs a stream over files that stop at each call, and prints the line that tells whether it holds.
+fn stop_one<R: AllocGlobal + Print>(
+    rt: &R,
+    name: &str,
+    text: &[u8],
+    replies: &[u8],
+) -> io::Result<bool> {
+    let stops = try_stops(rt.alloc(), text, replies)?;
+    let tried = stops.tried;
+    match stops.wrong {
+        None => {
+            println!(rt; "{name} holds, {tried} stops")?;
+            Ok(true)
+        }
+        Some(part) => {
+            println!(rt; "{name} GOES WRONG, over files of which one stops, at stop {tried}")?;
+            println!(rt; "  its {part} is not as it should be")?;
             Ok(false)
         }
     }

@@ -60,7 +60,7 @@ fn unlike_plans(kept: &Content, wanted: &Content) -> Option<&'static str> {
 }
 
 /// The first part of the content that is otherwise than it should be.
-fn unlike(
+pub fn unlike(
     alloc: Global,
     kept: &Content,
     wanted: &Content,
@@ -72,7 +72,7 @@ fn unlike(
 }
 
 /// The lists that a run of the whole stream leaves.
-fn lists_after(alloc: Global, text: &[u8]) -> ListStore {
+pub fn lists_after(alloc: Global, text: &[u8]) -> ListStore {
     let mut lists = ListStore::new(alloc);
     let mut left = text;
     let _ = run(alloc, &mut lists, &mut left, &mut Vec::new(alloc));

@@ -122,7 +122,7 @@ pub fn try_stream(
     expected: &Expected<'_>,
 ) -> Result<Option<Wrong>, AllocError> {
     let mut wrong = try_text(alloc, text, "as it stands", expected);
-    if wrong.is_none() && stream.stores == Stores::Both {
+    if wrong.is_none() && stream.stores != Stores::Lists {
         wrong = try_tables(alloc, text, expected);
     }
     if wrong.is_some() || stream.ends == Ends::Own {

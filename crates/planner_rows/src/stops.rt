@@ -1,0 +1,320 @@
+//! A stream over files in memory of which one stops at some call, and the same stream run again over what a crash left.
+ghost use Rattle.std.specs.Prelude.{IfOk};
+ghost use Rattle.planner_machine.specs.Sound.{IsSound};
+ghost use Rattle.plan_store.specs.Contents.{content_of};
+
+use crate::items::{Placed, statements_of};
+use crate::tables::{lists_after, unlike};
+use plan_tables::TableStore;
+use planner_cli::{Part, RunFault, Tally, run};
+use sqlite::{Connection, FileStore, Files, Options};
+use sqlite_disk::{Crash, Disk, Fuse, Memory};
+use std::alloc::{AllocError, Global};
+
+/// More calls than a run makes of a file.
+const MOST_CALLS: u64 = 100_000;
+
+/// What is written last where the store failed.
+const DEVICE_LINE: &[u8] = b"fault 41\n";
+
+/// The log and the database file, in memory; one of them stops after some calls.
+type Disks = Files<Fuse<Memory>>;
+
+/// A store over the two files.
+type Tables = TableStore<FileStore<Fuse<Memory>>>;
+
+/// What is not as it should be.
+type Wrong = &'static str;
+
+/// Which of the two files stops.
+#[derive(Clone, Copy, Debug, PartialEq, Eq)]
+enum Stopping {
+    Log,
+    Database,
+}
+
+/// How far a run came.
+#[derive(Clone, Copy, Debug, PartialEq, Eq)]
+enum Reached {
+    /// The files were not opened, or didn't get their tables.
+    Nothing,
+    /// So many statements were answered before the store failed.
+    Answered(usize),
+    /// All statements were answered.
+    End,
+    /// It ended as no stop ends one, or its answers are not those of one whole run.
+    Wrong,
+}
+
+/// A stream that is stopped.
+#[derive(Drop)]
+struct Stream<'a> {
+    /// Its text.
+    text: &'a [u8],
+    /// The statements in it.
+    statements: Vec<Placed>,
+    /// All that one whole run prints.
+    replies: &'a [u8],
+}
+
+/// What came of trying all stops of a stream.
+#[derive(Clone, Copy, Debug, PartialEq, Eq)]
+pub struct Stops {
+    /// How many stops were tried.
+    pub tried: u64,
+    /// What was not as it should be after the last of them, if anything.
+    pub wrong: Option<Wrong>,
+}
+
+impl Stream<'_> {
+    /// The text of the first so many statements, if there are as many.
+    fn beginning(&self, count: usize) -> Option<&[u8]> {
+        match count.checked_sub(1) {
+            None => Some(&[]),
+            Some(last) => self.text.get(..self.statements.get(last)?.end),
+        }
+    }
+}
+
+/// Files that hold nothing, one of which stops after so many calls.
+fn new_disks(alloc: Global, stopping: Stopping, calls: u64) -> Disks {
+    let (log, db) = match stopping {
+        Stopping::Log => (calls, u64::MAX),
+        Stopping::Database => (u64::MAX, calls),
+    };
+    Files {
+        log: Fuse::new(Memory::new(alloc), log),
+        db: Fuse::new(Memory::new(alloc), db),
+    }
+}
+
+/// A store over the files; they come back where they are not opened, or don't get their tables.
+fn open_store(alloc: Global, disks: Disks) -> Result<Tables, Disks>
+    ensures { IfOk result (λ store. IsSound (content_of store.lists)) }
+{
+    if !disks.may_be_used() {
+        return Err(disks);
+    }
+    match Connection::open_files(alloc, disks, Options::new(1)) {
+        Ok(conn) => adopt(alloc, conn),
+        Err((_, left)) => Err(left.into_files()),
+    }
+}
+
+/// A store over the connection; its files come back where it is not adopted.
+fn adopt(alloc: Global, conn: Connection<FileStore<Fuse<Memory>>>) -> Result<Tables, Disks>
+    ensures { IfOk result (λ store. IsSound (content_of store.lists)) }
+{
+    if !conn.is_autocommit() {
+        return Err(conn.into_store().close());
+    }
+    match TableStore::adopt(alloc, conn) {
+        Ok(store) => Ok(store),
+        Err((_, conn)) => Err(conn.into_store().close()),
+    }
+}
+
+/// The files of a store, which is let go.
+fn let_go(store: Tables) -> Disks {
+    store.into_connection().into_store().close()
+}
+
+/// Opens what a crash left of the files.
+fn open_again(alloc: Global, disks: Disks) -> Result<Tables, Wrong>
+    ensures { IfOk result (λ store. IsSound (content_of store.lists)) }
+{
+    let mut disks = disks;
+    disks.log.crash();
+    disks.db.crash();
+    match open_store(alloc, disks) {
+        Ok(store) => Ok(store),
+        Err(_) => Err("opening"),
+    }
+}
+
+/// Whether the line is the last one of an answer.
+fn is_reply(line: &[u8]) -> bool {
+    line.starts_with(b"ok ") || line.starts_with(b"refused ")
+}
+
+/// How many statements are answered.
+fn count_replies(written: &[u8]) -> usize {
+    written
+        .split(|byte| *byte == b'\n')
+        .filter(|line| is_reply(line))
+        .count()
+}
+
+/// How far a run came that wrote this, where one whole run prints the replies.
+fn end_of(outcome: &Result<Tally, RunFault>, written: &[u8], replies: &[u8]) -> Reached {
+    match outcome {
+        Ok(_) if written == replies => Reached::End,
+        Err(
+            RunFault::Device {
+                part: Part::Store,
+                ..
+            },
+        ) => stop_of(written, replies),
+        Ok(_) | Err(_) => Reached::Wrong,
+    }
+}
+
+/// How far a run came that its store ended.
+fn stop_of(written: &[u8], replies: &[u8]) -> Reached {
+    match written.strip_suffix(DEVICE_LINE) {
+        Some(told) if replies.starts_with(told) => Reached::Answered(count_replies(told)),
+        Some(_) | None => Reached::Wrong,
+    }
+}
+
+/// Runs the stream over the files for the first time; with the files as it left them.
+fn run_first(alloc: Global, disks: Disks, stream: &Stream<'_>) -> (Reached, Disks) {
+    match open_store(alloc, disks) {
+        Ok(mut store) => {
+            let mut left = stream.text;
+            let mut written = Vec::new(alloc);
+            let outcome = run(alloc, &mut store, &mut left, &mut written);
+            (end_of(&outcome, &written, stream.replies), let_go(store))
+        }
+        Err(disks) => (Reached::Nothing, disks),
+    }
+}
+
+/// Whether each statement that carries a job number was answered as in one whole run.
+fn are_same_answers(stream: &Stream<'_>, written: &[u8]) -> bool {
+    let answers = written
+        .split(|byte| *byte == b'\n')
+        .filter(|line| is_reply(line));
+    let wanted = stream
+        .replies
+        .split(|byte| *byte == b'\n')
+        .filter(|line| is_reply(line));
+    count_replies(written) == stream.statements.len()
+        && stream.statements.iter().zip(answers.zip(wanted)).all(|(
+            statement,
+            (answer, wanted),
+        )| !statement.has_job || answer == wanted)
+}
+
+/// Runs the whole stream over what a first run left.
+fn run_again(alloc: Global, store: &mut Tables, stream: &Stream<'_>) -> Result<(), Wrong>
+    requires { IsSound (content_of store.old.lists) }
+{
+    let mut left = stream.text;
+    let mut written = Vec::new(alloc);
+    match run(alloc, store, &mut left, &mut written) {
+        Ok(_) if are_same_answers(stream, &written) => Ok(()),
+        Ok(_) => Err("second run's answer"),
+        Err(_) => Err("second run's end"),
+    }
+}
+
+/// What the store has otherwise than a run of the text over lists leaves.
+fn unlike_lists(alloc: Global, store: &Tables, text: &[u8]) -> Result<Option<Wrong>, AllocError> {
+    let lists = lists_after(alloc, text);
+    unlike(alloc, store.content(), lists.content())
+}
+
+/// What the store has otherwise than after so many statements, and otherwise than after one more.
+fn unlike_after(
+    alloc: Global,
+    store: &Tables,
+    stream: &Stream<'_>,
+    count: usize,
+) -> Result<Option<Wrong>, AllocError> {
+    let Some(answered) = stream.beginning(count) else {
+        return Ok(Some("count"));
+    };
+    let wrong = unlike_lists(alloc, store, answered)?;
+    match stream.beginning(count.saturating_add(1)) {
+        Some(text) if wrong.is_some() => unlike_lists(alloc, store, text),
+        Some(_) | None => Ok(wrong),
+    }
+}
+
+/// What the store has otherwise than a run leaves that came so far.
+fn unlike_reached(
+    alloc: Global,
+    store: &Tables,
+    stream: &Stream<'_>,
+    how_far: Reached,
+) -> Result<Option<Wrong>, AllocError> {
+    match how_far {
+        Reached::Nothing => unlike_lists(alloc, store, &[]),
+        Reached::Answered(count) => unlike_after(alloc, store, stream, count),
+        Reached::End => unlike_lists(alloc, store, stream.text),
+        Reached::Wrong => Ok(Some("end")),
+    }
+}
+
+/// Nothing where nothing is otherwise.
+fn as_wanted(unlike: Result<Option<Wrong>, AllocError>) -> Result<(), Wrong> {
+    match unlike {
+        Ok(None) => Ok(()),
+        Ok(Some(part)) => Err(part),
+        Err(_) => Err("memory"),
+    }
+}
+
+/// Looks at what a crash left of the files after a run that came so far, and runs the whole stream again; with the
+/// files as that leaves them.
+fn go_on(
+    alloc: Global,
+    disks: Disks,
+    stream: &Stream<'_>,
+    how_far: Reached,
+) -> Result<Disks, Wrong> {
+    let mut store = open_again(alloc, disks)?;
+    as_wanted(unlike_reached(alloc, &store, stream, how_far))?;
+    run_again(alloc, &mut store, stream)?;
+    Ok(let_go(store))
+}
+
+/// Looks at what a crash left of the files after the second run.
+fn look_at_end(alloc: Global, disks: Disks, stream: &Stream<'_>) -> Result<(), Wrong> {
+    let store = open_again(alloc, disks)?;
+    as_wanted(unlike_lists(alloc, &store, stream.text))
+}
+
+/// Tries the stream over the files, of which one may stop; answers whether none did.
+fn try_stop(alloc: Global, disks: Disks, stream: &Stream<'_>) -> Result<bool, Wrong> {
+    let (how_far, disks) = run_first(alloc, disks, stream);
+    let disks = go_on(alloc, disks, stream, how_far)?;
+    look_at_end(alloc, disks, stream)?;
+    Ok(how_far == Reached::End)
+}
+
+/// Stops one file at its first call, at its second and so on, until a run ends without a stop.
+fn try_stops_of(alloc: Global, stream: &Stream<'_>, stopping: Stopping) -> Stops {
+    for tried in 0..MOST_CALLS {
+        let wrong = match try_stop(alloc, new_disks(alloc, stopping, tried), stream) {
+            Ok(false) => continue,
+            Ok(true) => None,
+            Err(part) => Some(part),
+        };
+        return Stops { tried, wrong };
+    }
+    Stops {
+        tried: MOST_CALLS,
+        wrong: Some("number of calls"),
+    }
+}
+
+/// Runs a stream over files of which one stops at each call in turn, first the log and then the database file. After
+/// each stop a crash loses what was not made safe, the files are opened again, and the whole stream is run again.
+pub fn try_stops(alloc: Global, text: &[u8], replies: &[u8]) -> Result<Stops, AllocError> {
+    let stream = Stream {
+        text,
+        statements: statements_of(alloc, text)?,
+        replies,
+    };
+    let in_log = try_stops_of(alloc, &stream, Stopping::Log);
+    if in_log.wrong.is_some() {
+        return Ok(in_log);
+    }
+    let in_database = try_stops_of(alloc, &stream, Stopping::Database);
+    Ok(Stops {
+        tried: in_log.tried.saturating_add(in_database.tried),
+        wrong: in_database.wrong,
+    })
+}
