@@ -1,5 +1,9 @@
 //! The database file that the words name is opened, migrated and adopted.
 
+ghost use Rattle.std.specs.Prelude.{◌≡◌, false, IfOk};
+ghost use Rattle.planner_machine.specs.Sound.{IsSound};
+ghost use Rattle.plan_store.specs.Contents.{content_of};
+
 use crate::faults::{tell, tell_so};
 use crate::words::NamedFile;
 use plan_migrations::{migrate, migrate_fault_number};
@@ -9,7 +13,9 @@ use table_opening::{open_connection_with, open_fault_number};
 
 /// The store over the plans that the file keeps, which is opened, migrated and adopted. Where one of these fails, its
 /// fault is told, and the exit status comes back.
-pub fn open_store(rt: &HostRuntime, file: &NamedFile) -> Result<TableStore<FileStore<File>>, u8> {
+pub fn open_store(rt: &HostRuntime, file: &NamedFile) -> Result<TableStore<FileStore<File>>, u8>
+    ensures { IfOk result (λ store. IsSound (content_of store.lists)) }
+{
     let mut conn = open_file(rt, file)?;
     if let Err(fault) = migrate(&mut conn) {
         return Err(tell(rt, migrate_fault_number(&fault)));
@@ -22,7 +28,9 @@ pub fn open_store(rt: &HostRuntime, file: &NamedFile) -> Result<TableStore<FileS
 
 /// Opens the file, or makes it. Where it isn't opened, its fault is told, on standard error with what sqlite says of it,
 /// and the exit status comes back.
-fn open_file(rt: &HostRuntime, file: &NamedFile) -> Result<Connection<FileStore<File>>, u8> {
+fn open_file(rt: &HostRuntime, file: &NamedFile) -> Result<Connection<FileStore<File>>, u8>
+    ensures { IfOk result (λ conn. conn.in_transaction ≡ false) }
+{
     match open_connection_with(rt, &file.path, file.new_has_sums, Unknown) {
         Ok(conn) => Ok(conn),
         Err((fault, _left, error)) => {
