@@ -1,3 +1,4 @@
+#!/usr/bin/env python3
 """Runs over plan files that are killed at random moments, or meet a full disk: what they leave is held against
 tools/plain_planner.py, and brought to its end by a second run. tools/plan-files tries some.
 
