@@ -1,29 +1,28 @@
 -- The first row of plan_meta is not refused.
-use Rattle.std.proofs.Common.{◌≡◌, ◌≢◌, ◌⊎◌, ◌++◌, ◌/◌, ℕ, zero, suc, pos, Bool, true, false, inl, inr, List, [], ◌∷◌, length}
+use Rattle.std.proofs.Common.{◌≡◌, ◌≢◌, ◌++◌, ◌/◌, ℕ, zero, suc, pos, true, false, inl, inr, List, [], ◌∷◌, length}
 use Rattle.std.proofs.Common.{Option, Some, None, Result, Ok, Err, IsSome, true≢false, refl, sym, ap, subst, ◌∙◌, arith, codes}
-use Rattle.std.proofs.Common.{append-nil, length-append, option_map}
+use Rattle.std.proofs.Common.{length-append}
 use Rattle.std.specs.List.{AllByRecursion, list_all}
 use Rattle.std.specs.Float.{NotNan}
 use Rattle.std.specs.Int.{bit_at}
 use Rattle.std.proofs.lemmas.List.Elements.{All-from_recursion}
 use Rattle.sqlite_keyed.proofs.ListLemmas.{all_of}
 use Rattle.sqlite.specs.Command.TheVariants.{Insert}
-use Rattle.sqlite.specs.Does.{Concludes, Does, Returns, Tally}
+use Rattle.sqlite.specs.Does.{Does}
 use Rattle.sqlite.specs.Edit.{Applies, Edit, edit_of}
-use Rattle.sqlite.specs.Effect.{Database, edit_error, value_rows}
+use Rattle.sqlite.specs.Effect.{value_rows}
 use Rattle.sqlite.specs.Listing.{understood}
 use Rattle.sqlite.specs.Order.{Row}
 use Rattle.sqlite.specs.Rowids.TheVariants.{Chosen}
-use Rattle.sqlite.specs.Rows.{Edited, Inserts, Task, Written}
+use Rattle.sqlite.specs.Rows.{Inserts, Task, Written}
 use Rattle.sqlite.specs.Source.TheVariants.{Values}
 use Rattle.sqlite.specs.State.{State, ExecutesInside, mode_of}
 use Rattle.sqlite.specs.Tree.{Trees}
-use Rattle.sqlite.specs.declared.run.Mode.{Mode}
 use Rattle.sqlite.specs.declared.error.Error.{Error}
 use Rattle.sqlite.specs.declared.error.Error.TheVariants.{SqliteFailure}
 use Rattle.sqlite.specs.declared.error.ErrorCode.TheVariants.{OperationInterrupted}
 use Rattle.sqlite.specs.declared.types.Value.TheVariants.{Null, Int, Text}
-use Rattle.sqlite_rules.specs.Action.{Leads, Settles, Writes, works}
+use Rattle.sqlite_rules.specs.Action.{Leads, Writes}
 use Rattle.sqlite_rules.specs.Edit.{IsOversized, IsRefused, are_fresh, edited, have_rowids, id_in, is_referred}
 use Rattle.sqlite_rules.specs.Lists.{Has}
 use Rattle.sqlite_rules.specs.declared.error.Refusal.{Refusal}
@@ -50,15 +49,15 @@ use Rattle.table_schema.specs.declared.tables.Table.TheVariants.{LongTerm, Curre
 use Rattle.table_schema.specs.declared.tables.Table.TheVariants.{Dependency, Job}
 use Rattle.table_schema.proofs.FurtherLemmas.{nothing}
 use Rattle.table_schema.proofs.Meanings.{IsWhole, insert_is, insert_plain}
-use Rattle.table_schema.proofs.RefusalLemmas.{IsOrdinary, IsStopped, has_passes, in_vain, stopped}
+use Rattle.table_schema.proofs.RefusalLemmas.{IsOrdinary, has_passes, in_vain, stopped}
 use Rattle.table_schema.proofs.StepLemmas.{quiet_insert}
 use Rattle.table_schema.proofs.Steps.{same_value}
 use Rattle.sqlite.proofs.Callers.{one_step, statement_of}
 
-same_error : {B E : Type 0} {a b : E} → ◌≡◌ {A = Result B E} (Err a) (Err b) → a ≡ b
+pub same_error : {B E : Type 0} {a b : E} → ◌≡◌ {A = Result B E} (Err a) (Err b) → a ≡ b
 same_error e = cc
 
-some_same : {A : Type 0} {a b : A} → ◌≡◌ {A = Option A} (Some a) (Some b) → a ≡ b
+pub some_same : {A : Type 0} {a b : A} → ◌≡◌ {A = Option A} (Some a) (Some b) → a ≡ b
 some_same e = cc
 
 -- the values of the row, where there is no plan
@@ -342,7 +341,7 @@ first_row_fails old new e has none h =
     let known = λ (stop : Option Error) (does : Does old.step_limit (mode_of old) first_cells old.now text None command
     (Err stop)). stops old.now.trees empty old.step_limit text stop (subst (λ s. Does old.step_limit (mode_of old)
     first_cells (record old.now { schema = s }) text None command (Err stop)) has does) in
-    in_vain old new first_cells text command e (λ does. let e = (known None does).0 in cc) (λ does. let told = known
-    (Some e) does in (some_same told.0, told.1))
+    in_vain old new first_cells text command e (λ does. let e = (known None does).0 in cc) (λ opened does. let told =
+    known (Some e) does in (some_same told.0, told.1))
     (stopped plan_schema sql first_cells command meta_fits (insert_plain nothing Meta) (insert_is nothing Meta) ordinary
     old new e has h)

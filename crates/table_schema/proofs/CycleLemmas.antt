@@ -4,7 +4,7 @@ use Rattle.std.proofs.Common.{if◌then◌else◌}
 use Rattle.std.proofs.Common.{List, [], ◌∷◌, ◌++◌, length, length-append, map, filter, find}
 use Rattle.std.proofs.Common.{Some, None, unwrap_or}
 use Rattle.std.proofs.Common.{Ok, refl, sym, ap, subst, ◌∙◌, arith, Ordering, Less, Equal, Greater, is_eq}
-use Rattle.std.proofs.Common.{IsTrue, Option, filter_map, flat_map}
+use Rattle.std.proofs.Common.{IsTrue, Err, Option, filter_map, true≢false}
 use Rattle.std.specs.List.{AllByRecursion, list_any}
 use Rattle.std.specs.List.Sorted.{IsPermutation}
 use Rattle.std.proofs.lemmas.Bool.{or_parts, and_parts}
@@ -12,11 +12,12 @@ use Rattle.std.proofs.lemmas.List.Elements.{All-from_recursion, recursion_from_A
 use Rattle.std.proofs.lemmas.List.Sorted.{All-permutation}
 use Rattle.sqlite.specs.Tree.{Trees}
 use Rattle.sqlite_keyed.proofs.ListLemmas.{all_both, all_map}
-use Rattle.sqlite_rules.specs.Action.{Work, Leads, Writes, works, work_for, pairs, loses, is_child_of, Acts}
+use Rattle.sqlite_rules.specs.Action.{Work, Leads, Settles, Writes, works, pairs, loses, is_child_of, Acts}
 use Rattle.sqlite_rules.specs.declared.action.Deed.TheVariants.{Delete}
 use Rattle.sqlite_rules.specs.Calls.{ids_of}
-use Rattle.sqlite_rules.specs.Edit.{Applies, edit_of, id_in, row_at}
+use Rattle.sqlite_rules.specs.Edit.{Applies, edit_of, id_in, row_at, taken_by}
 use Rattle.sqlite_rules.specs.Lists.{Has}
+use Rattle.sqlite_rules.specs.declared.error.Refusal.{Refusal}
 use Rattle.sqlite_schema.specs.Names.{same_name}
 use Rattle.sqlite_schema.specs.Rules.{agree, declared_order, equal}
 use Rattle.sqlite_schema.specs.declared.schema.Keys.TheVariants.{Enforced}
@@ -35,7 +36,6 @@ use Rattle.sqlite_value.specs.declared.keys.Order.{Order}
 use Rattle.sqlite_value.specs.declared.value.Value.{Value}
 use Rattle.sqlite_value.specs.declared.value.Value.TheVariants.{Null, Int}
 use Rattle.table_schema.specs.Rows.{Differ, HaveRowids, matches}
-use Rattle.sqlite_schema.specs.declared.schema.Table.{Table as Described}
 use Rattle.table_schema.specs.Schema.{Further, IsApart, plan_and, plan_schema, table, to_run_cycle, tree}
 use Rattle.table_schema.proofs.FurtherLemmas.{sets_off_none}
 use Rattle.table_schema.specs.declared.tables.Table.TheVariants.{Offset, RunCycle}
@@ -43,7 +43,7 @@ use Rattle.table_schema.proofs.RowLemmas.{id_back, tied}
 
 -- ---- equality of SQL goes from one to the next
 
-compared_parts : (null test : Bool) → is_true (cond null Null (from_truth (Some test))) ≡ true
+pub compared_parts : (null test : Bool) → is_true (cond null Null (from_truth (Some test))) ≡ true
     → (null ≡ false) × (test ≡ true)
 compared_parts true true h = absurd (let e : false ≡ true = h in cc)
 compared_parts true false h = absurd (let e : false ≡ true = h in cc)
@@ -76,7 +76,7 @@ equal_chain how a b c h k =
 
 -- ---- what taking out run cycles sets off
 
-abbrev name_order : Order
+abbrev pub name_order : Order
 name_order = unwrap_or (declared_order (table RunCycle) (1 ∷ 2 ∷ [])) plain
 
 abbrev their_offsets : List Row → Work
@@ -106,23 +106,23 @@ binary_names : (first_key name_order).collation ≡ Binary
 unfolding first_key joined
 binary_names = refl
 
+pub child_matches : (key r o : Row) → matches RunCycle key o ≡ true
+    → agree name_order (1 ∷ 2 ∷ []) r (1 ∷ 2 ∷ []) o ≡ true → matches Offset key r ≡ true
+child_matches key r o has same =
+    let names : equal Binary (column r 1) (column o 1) ≡ true =
+    subst (λ how. equal how (column r 1) (column o 1) ≡ true) binary_names (and_parts _ _ same).0 in
+    and_true _ ∙ equal_chain Binary (column r 1) (column o 1) (column key 0) names (sym (and_true _) ∙ has)
+
 no_child : (key : Row) (r : Row) (olds : List Row) → matches Offset key r ≡ false
     → AllByRecursion (λ o. matches RunCycle key o ≡ true) olds
     → list_any (is_child_of (their_offsets olds) r) (pairs olds []) ≡ false
 no_child key r olds apart all = none olds all
   where
-    one : (o : Row) → matches RunCycle key o ≡ true → agree name_order (1 ∷ 2 ∷ []) r (1 ∷ 2 ∷ []) o ≡ true
-        → matches Offset key r ≡ true
-    one o has same =
-        let names : equal Binary (column r 1) (column o 1) ≡ true =
-        subst (λ how. equal how (column r 1) (column o 1) ≡ true) binary_names (and_parts _ _ same).0 in
-        and_true _ ∙ equal_chain Binary (column r 1) (column o 1) (column key 0) names (sym (and_true _) ∙ has)
-
     each : (o : Row) → matches RunCycle key o ≡ true → is_child_of (their_offsets olds) r (o, []) ≡ false
     each o has = go (is_child_of (their_offsets olds) r (o, [])) refl
       where
         go : (b : Bool) → is_child_of (their_offsets olds) r (o, []) ≡ b → b ≡ false
-        go true e = absurd (let k : true ≡ false = sym (one o has (and_parts _ _ e).1) ∙ apart in cc)
+        go true e = absurd (true≢false (sym (child_matches key r o has (and_parts _ _ e).1) ∙ apart))
         go false e = refl
 
     none : (os : List Row) → AllByRecursion (λ o. matches RunCycle key o ≡ true) os
@@ -139,6 +139,11 @@ has_all P (y ∷ ys) x all (inr later) = has_all P ys x all.1 later
 nothing_left : (more : Further) (n : ℕ) (db next : Trees) → Leads (plan_and more) Enforced n db [] (Ok next) → db ≡ next
 nothing_left more zero db next h = let e = h.1 in cc
 nothing_left more (suc n) db next h = absurd (omega (arith, ap length h.2, length-append h.0 (h.1 ∷ [])))
+
+pub nothing_more : (more : Further) (n : ℕ) (db : Trees) (why : Option Refusal)
+    → Leads (plan_and more) Enforced n db [] (Err why) → ⊥
+nothing_more more zero db why h = let e = h.1 in cc
+nothing_more more (suc n) db why h = omega (arith, ap length h.2, length-append h.0 (h.1 ∷ []))
 
 one_left : (w : Work) (below : List Work) (last : Work) → w ∷ [] ≡ below ++ last ∷ [] → (below ≡ []) × (last ≡ w)
 one_left w [] last e = (refl, cc)
@@ -168,6 +173,22 @@ module _ (more : Further) (key : Row) (olds : List Row) (all : AllByRecursion (�
       acted n (subst (λ below. Acts (plan_and more) Enforced (Leads (plan_and more) Enforced n) mid (their_offsets olds)
       below (Ok next)) last.0
       (subst (λ w. Acts (plan_and more) Enforced (Leads (plan_and more) Enforced n) mid w h.0 (Ok next)) last.1 h.3))
+
+  refused : (n : ℕ) (why : Option Refusal)
+      → Acts (plan_and more) Enforced (Leads (plan_and more) Enforced n) mid (their_offsets olds) [] (Err why) → ⊥
+  refused n why ([], children, rest) = nothing_more more n mid why rest
+  refused n why (id ∷ ids, children, rest) =
+      let child = children.sound id (inl refl) in no_child_at child.0 child.1 child.2
+
+  unsettled : (b : Bool) (n : ℕ) (why : Option Refusal)
+      → Leads (plan_and more) Enforced n mid (set_off b olds) (Err why) → ⊥
+  unsettled false n why h = nothing_more more n mid why h
+  unsettled true zero why h = let e = h.0 in cc
+  unsettled true (suc n) why h =
+      let last = one_left (their_offsets olds) h.0 h.1 h.2 in
+      refused n why (subst (λ below. Acts (plan_and more) Enforced (Leads (plan_and more) Enforced n) mid
+      (their_offsets olds) below (Err why)) last.0 (subst (λ w. Acts (plan_and more) Enforced (Leads (plan_and more)
+      Enforced n) mid w h.0 (Err why)) last.1 h.3))
 
 -- ---- the rows that are taken out have the key
 
@@ -247,3 +268,19 @@ cycles_alone more apart key db next found all free same (inr (inr went)) =
     subst (Applies (plan_and more) Enforced db (edit_of db (table RunCycle) (ids_of found) Given 0 [])) (settled more key
     olds have went.0 next still (list_any (loses name_order (1 ∷ 2 ∷ [])) (pairs olds [])) went.2.0 leads)
     went.1
+
+-- and that is not refused
+pub cycles_unrefused : (more : Further) → AllByRecursion (IsApart plan_schema.tables) more.tables → (key : Row)
+    (db next : Trees) (found : List Row) (why : Option Refusal) → HaveRowids (db (tree RunCycle))
+    → AllByRecursion (λ r. matches Offset key r ≡ false) (db (tree Offset))
+    → IsPermutation (map (λ r. rowid r ∷ []) (filter (matches RunCycle key) (db (tree RunCycle)))) found
+    → Applies (plan_and more) Enforced db (edit_of db (table RunCycle) (ids_of found) Given 0 []) next
+    → Settles (plan_and more) Enforced next (works (plan_and more) Enforced 0 (tree RunCycle) (taken_by db (edit_of db
+    (table RunCycle) (ids_of found) Given 0 [])) []) (Err why) → ⊥
+cycles_unrefused more apart key db next found why all free same applies (n, leads) =
+    let olds = map (row_at (db (tree RunCycle))) (ids_of found) in
+    let offsets : next (tree Offset) ≡ db (tree Offset) = applies.tables.1.1.1.1.1.0 (λ e. cc) in
+    let still = subst (AllByRecursion (λ r. matches Offset key r ≡ false)) (sym offsets) free in
+    let have = found_pass (matches RunCycle key) (db (tree RunCycle)) found all same in
+    unsettled more key olds have next next still (list_any (loses name_order (1 ∷ 2 ∷ [])) (pairs olds [])) n why
+    (subst (λ stack. Leads (plan_and more) Enforced n next stack (Err why)) (works_are more olds apart) leads)

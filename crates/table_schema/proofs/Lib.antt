@@ -7,3 +7,7 @@ pub mod CycleLemmas
 pub mod StepLemmas
 pub mod BlankLemmas
 pub mod ResultLemmas
+pub mod TurnLemmas
+pub mod FitLemmas
+pub mod TakeLemmas
+pub mod GoneLemmas

@@ -1,5 +1,5 @@
 -- Why a statement that writes may fail.
-use Rattle.std.proofs.Common.{◌≡◌, ◌≢◌, ◌≤◌, ◌⊎◌, ◌&&◌, ◌+◌, ◌*◌, ◌^◌, ℕ, Bool, true, false, inl, inr, List, [], ◌∷◌, length}
+use Rattle.std.proofs.Common.{◌≡◌, ◌≢◌, ◌≤◌, ◌⊎◌, ◌+◌, ◌*◌, ◌^◌, ℕ, true, false, inl, inr, List, [], ◌∷◌, length}
 use Rattle.std.proofs.Common.{Option, Some, None, Result, Ok, Err, IsSome, IsTrue, true≢false, refl, sym, ap, subst, ◌∙◌, arith, nat_lt, codes, append-nil}
 use Rattle.std.specs.List.{AllByRecursion}
 use Rattle.std.specs.Prelude.{IsUtf8}
@@ -68,11 +68,11 @@ pub record IsOrdinary (command : Command) : Type 0 where
   pub releases : (name : List ℕ) → command ≢ Release name
   pub goes_back : (name : List ℕ) → command ≢ RollbackTo name
 
--- it failed by the store, or was refused by the database
+-- it failed by the store, or was refused by the database, which was open
 abbrev pub IsStopped : State → State → Row → List ℕ → Command → Error → Type 0
 IsStopped old new params text command e = Fails old new ⊥ e
     ⊎ (Fails old new (Does old.step_limit (mode_of old) params old.now text None command (Err None)) e
-    ⊎ Does old.step_limit (mode_of old) params old.now text None command (Err (Some e)))
+    ⊎ (IsTrue old.is_open × Does old.step_limit (mode_of old) params old.now text None command (Err (Some e))))
 
 module _ (schema : Schema) (sql : List ℕ) (params : Row) (command : Command)
     (whole : IsWhole (understood schema sql) (length sql) (length params)) (plain : IsPlain (understood schema sql))
@@ -97,8 +97,11 @@ module _ (schema : Schema) (sql : List ℕ) (params : Row) (command : Command)
       → IsStopped old new params text command e
   settle old new e c text same (inl (inl h, still)) =
       absurd (misplaced old e (subst (λ k. IsMisplaced old k e) same h))
-  settle old new e c text same (inl (inr h, still)) = inr (inr (subst (λ k. Does old.step_limit (mode_of old) params
-      old.now text None k (Err (Some e))) same h.1))
+  settle old new e c text same (inl (inr h, still)) = inr (inr (
+    still.0.was_open,
+    subst (λ k. Does old.step_limit
+        (mode_of old) params old.now text None k (Err (Some e))) same h.1,
+  ))
   settle old new e c text same (inr h) = inr (inl (subst (λ k. Fails old new (Does old.step_limit (mode_of old) params
       old.now text None k (Err None)) e) same h))
 
@@ -258,18 +261,18 @@ stored old new too_big never Unstorable h = never h
 
 pub in_vain : (old new : State) (params : Row) (text : List ℕ) (command : Command) (e : Error)
     → (Does old.step_limit (mode_of old) params old.now text None command (Err None) → ⊥)
-    → (Does old.step_limit (mode_of old) params old.now text None command (Err (Some e))
+    → (IsTrue old.is_open → Does old.step_limit (mode_of old) params old.now text None command (Err (Some e))
     → (e ≡ SqliteFailure OperationInterrupted) × IsSome old.step_limit)
     → IsStopped old new params text command e → MayFail old new e
 in_vain old new params text command e never late (inl h) = inl (h.0, h.1, h.2)
 in_vain old new params text command e never late (inr (inl h)) = inl (h.0, h.1, stored old new _ never h.0 h.2)
-in_vain old new params text command e never late (inr (inr h)) = inr (late h)
+in_vain old new params text command e never late (inr (inr h)) = inr (late h.0 h.1)
 
 pub make_fails : (t : Table) (old new : State) (e : Error) → old.now.schema ≡ before t
     → ExecutesInside 0 (create_sql t) [] old new (Err e) → MayFail old new e
 make_fails t old new e has h = in_vain old new [] (create_sql t) CreateTable e
     (λ does. never_stops t old.step_limit (mode_of old) old.now None has does)
-    (λ does. absurd (never_stops t old.step_limit (mode_of old) old.now (Some e) has does))
+    (λ opened does. absurd (never_stops t old.step_limit (mode_of old) old.now (Some e) has does))
     (subst (λ text. IsStopped old new [] text CreateTable e) (create_is t).1 (stopped (before t) (create_sql t) []
     CreateTable (create_fits t) (create_plain t) (create_is t).0 ordinary_create old new e has h))
 

@@ -1,6 +1,6 @@
 -- What the statements do to the tables.
 use Rattle.std.proofs.Common.{◌≡◌, ◌&&◌, ◌/◌, ◌≢◌, ℕ, Bool, true, false, not, cond, ◌==◌}
-use Rattle.std.proofs.Common.{◌⊎◌, ◌≤◌, inl, inr, Option, IsSome, true≢false}
+use Rattle.std.proofs.Common.{inl, inr, Option, IsSome, true≢false}
 use Rattle.std.proofs.Common.{List, [], ◌∷◌, ◌++◌, append-nil, length, map, filter, Some, Ok, refl, sym}
 use Rattle.std.proofs.Common.{ap, subst, ◌∙◌, IsTrue, arith, slice_get}
 use Rattle.std.specs.List.{AllByRecursion, flat_map, filter_map}
@@ -16,21 +16,18 @@ use Rattle.sqlite.specs.Source.TheVariants.{Values}
 use Rattle.sqlite.specs.Command.TheVariants.{Insert, Delete, Select}
 use Rattle.sqlite.specs.Effect.{Database, RefusesQuery, RefusesToRead, value_rows}
 use Rattle.sqlite.specs.Listing.{IsSourceOf, reads_listing, understood}
-use Rattle.sqlite_resolve.specs.declared.compiled.Compiled.{Compiled}
 use Rattle.sqlite.specs.declared.error.Error.{Error}
 use Rattle.sqlite.specs.declared.error.Error.TheVariants.{SqliteFailure}
 use Rattle.sqlite.specs.declared.error.ErrorCode.TheVariants.{OperationInterrupted}
 use Rattle.sqlite_typing.specs.Types.{accepts_program}
 use Rattle.sqlite.specs.Rowids.TheVariants.{Chosen, Given}
-use Rattle.sqlite.specs.Change.{created, next_tree}
+use Rattle.sqlite.specs.Change.{next_tree}
 use Rattle.sqlite.specs.Clock.{timed}
 use Rattle.sqlite.specs.Program.{overlay}
-use Rattle.sqlite.specs.Does.{lacks_sequence}
 use Rattle.sqlite.specs.Schema.{Schema}
 use Rattle.sqlite.specs.State.{State, CommitsShowing, ExecutesInside, FailsToQuery, IsNotRun, IsUnchanged, Shown, ShowsRows, Survives}
 use Rattle.sqlite.specs.declared.types.Value.TheVariants.{Null}
 use Rattle.sqlite.proofs.StateLemmas.{survives_weaker}
-use Rattle.sqlite.specs.Table.{Table as Described}
 use Rattle.sqlite.specs.Query.{IsAnswer}
 use Rattle.sqlite_rules.specs.Action as action
 use Rattle.sqlite_rules.specs.Calls.{ids_of}
@@ -63,7 +60,7 @@ use Rattle.table_schema.proofs.RefusalLemmas.{is_refused, uncounted}
 use Rattle.table_schema.proofs.RowLemmas.{left_after, put_is_placed, rowids_filter, rowids_placed}
 use Rattle.table_schema.proofs.Steps.{creates, deletes, inserts, plain_query, plain_rows}
 
-found : (more : Further) (t : Table) → slice_get (plan_and more).tables (place t) ≡ Some (table t)
+pub found : (more : Further) (t : Table) → slice_get (plan_and more).tables (place t) ≡ Some (table t)
 found more Meta = refl
 found more CalendarEntry = refl
 found more Period = refl
@@ -120,7 +117,7 @@ module _ (more : Further) (apart : AllByRecursion (IsApart plan_schema.tables) m
       ∙ sets_off_none more apart t [] news
 
   -- nor does one that is taken out, of a run cycle only where it has no offsets
-  settles : (t : Table) (values : Row) (db next : Trees) (found : List Row) → HaveRowids (db (tree t))
+  pub settles : (t : Table) (values : Row) (db next : Trees) (found : List Row) → HaveRowids (db (tree t))
       → IsAlone t values (tables_of db) → IsPermutation (map (λ r. rowid r ∷ []) (filter (matches t values) (db
       (tree t)))) found
       → action.Writes (plan_and more) Enforced db (edit_of db (table t) (ids_of found) Given 0 []) (Ok next)
@@ -168,7 +165,7 @@ module _ (more : Further) (apart : AllByRecursion (IsApart plan_schema.tables) m
       let edit = edit_of db (table Job) (ids_of found) Given 0 [] in
       one_step (plan_and more) Enforced db next edit (sets_off_none more apart Job (taken_by db edit) []) h
 
-given_rows : (t : Table) (cells : Row) → value_rows cells (width t) (length (insert_terms t) / width t)
+pub given_rows : (t : Table) (cells : Row) → value_rows cells (width t) (length (insert_terms t) / width t)
     (insert_terms t) ≡ stored t cells ∷ []
 given_rows Meta cells = refl
 given_rows CalendarEntry cells = refl
@@ -185,7 +182,7 @@ given_rows Deletion cells = refl
 given_rows Dependency cells = refl
 given_rows Job cells = refl
 
-own : (t : Table) (db : Trees) → overlay db [] (tree t) ≡ db (tree t)
+pub own : (t : Table) (db : Trees) → overlay db [] (tree t) ≡ db (tree t)
 own Meta db = refl
 own CalendarEntry db = refl
 own Period db = refl
@@ -268,6 +265,13 @@ inserted t cells old new count plan kinds h =
       mode = h.1.mode;
     }
 
+-- and the schema stays
+pub inserted_beside : (t : Table) (cells : Row) (old new : State) (count : ℕ) → IsPlan old → AreOfKinds t cells
+    → ExecutesInside 0 (insert_sql t) cells old new (Ok count) → new.now.schema ≡ old.now.schema
+unfolding inserted
+inserted_beside t cells old new count plan kinds h =
+    (inserted t cells old new count plan kinds h).plan.schema.is ∙ sym plan.schema.is
+
 pub deleted : (t : Table) (values : Row) (old new : State) (count : ℕ) → IsPlan old
     → IsAlone t values (tables_of old.now.trees) → ExecutesInside 0 (delete_sql t) values old new (Ok count)
     → Stands old new (without_key t values (tables_of old.now.trees))
@@ -303,6 +307,13 @@ deleted t values old new count plan free h =
       committed = h.1.committed_is;
       mode = h.1.mode;
     }
+
+pub deleted_beside : (t : Table) (values : Row) (old new : State) (count : ℕ) → IsPlan old
+    → IsAlone t values (tables_of old.now.trees) → ExecutesInside 0 (delete_sql t) values old new (Ok count)
+    → new.now.schema ≡ old.now.schema
+unfolding deleted
+deleted_beside t values old new count plan free h =
+    (deleted t values old new count plan free h).plan.schema.is ∙ sym plan.schema.is
 
 -- ---- the tables are made
 

@@ -6,6 +6,7 @@ use Rattle.sqlite.specs.Store.{Ghosts}
 use Rattle.sqlite.specs.declared.error.Error.{Error}
 use Rattle.sqlite.specs.declared.transaction.Transaction.{Transaction}
 use Rattle.table_schema.specs.Rows.{IsPlan, MayFail, Stands, Tables, tables_of}
+use Rattle.table_schema.specs.Takes.{IsSoundPlan}
 
 -- the state of its connection
 abbrev pub seen : {S : Type 0} → Ghosts S → Transaction S → State
@@ -25,6 +26,15 @@ pub record WritesWhere {S T : Type 0} (Fit : Tables → Type 0) (g : Ghosts S) (
 abbrev pub Writes : {S T : Type 0} → Ghosts S → (old new : Transaction S) → Result T Error
     → (Tables → Tables) → Type 0
 Writes g old new result after = WritesWhere (λ _. ⊤) g old new result after
+
+-- where the tables of a plan take it, it fails for nothing that stands in them, and an Ok leaves a plan with these
+pub record TakesWhere {S T : Type 0} (Take : Tables → Type 0) (g : Ghosts S) (old new : Transaction S)
+    (result : Result T Error) (after : Tables → Tables) : Type 0 where
+  pub fails : HasCleanDisk (seen g new) → IsSoundPlan (seen g old) → Take (tables_of (seen g old).now.trees)
+      → IfErr result (MayFail (seen g old) (seen g new))
+  pub sound : HasCleanDisk (seen g new) → IsSoundPlan (seen g old) → Take (tables_of (seen g old).now.trees)
+      → OnOk result (IsSoundPlan (seen g new) × (IsTrue (seen g old).is_open → IsTrue (seen g new).is_open)
+      × (tables_of (seen g new).now.trees ≡ after (tables_of (seen g old).now.trees)))
 
 -- of such a state an Ok makes one of those; it fails for nothing that stands in the tables, and nothing is committed
 pub record Makes {S T : Type 0} (g : Ghosts S) (old new : Transaction S) (result : Result T Error)

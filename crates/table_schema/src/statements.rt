@@ -8,8 +8,9 @@ ghost use Rattle.sqlite.specs.Values.{bound};
 ghost use Rattle.table_schema.specs.Rows.{AreOfKinds, IsAlone, MayFail, shown, tables_of};
 ghost use Rattle.table_schema.specs.Rows.{with_cells, without_key};
 ghost use Rattle.table_schema.specs.Schema.{HasTables};
+ghost use Rattle.table_schema.specs.Takes.{LosesKey, TakesRow};
 ghost use Rattle.table_schema.specs.Texts.{insert_sql};
-ghost use Rattle.table_schema.specs.Writes.{WritesWhere};
+ghost use Rattle.table_schema.specs.Writes.{TakesWhere, WritesWhere};
 
 use crate::tables::Table;
 use crate::texts::{delete_text, insert_text, select_text};
@@ -31,6 +32,8 @@ pub fn insert<S: Alter>(
     ensures stays_open { HasCleanDisk (state S.Store tx.new.conn.now)
         → IsTrue (state S.Store tx.old.conn.now).in_transaction
         → OnOk result (IsTrue (state S.Store tx.new.conn.now).is_open) }
+    ensures takes { TakesWhere (TakesRow table (bound values.now)) S.Store tx.old tx.new result
+        (with_cells table (bound values.now)) }
 {
     tx.execute(insert_text(table), values)?;
     Ok(())
@@ -43,7 +46,9 @@ pub fn delete<S: Alter>(
     table: Table,
     key: &[ValueRef<'_>],
 ) -> Result<(), Error>
-    ensures { WritesWhere (IsAlone table (bound key.now)) S.Store tx.old tx.new result
+    ensures writes { WritesWhere (IsAlone table (bound key.now)) S.Store tx.old tx.new result
+        (without_key table (bound key.now)) }
+    ensures takes { TakesWhere (LosesKey table (bound key.now)) S.Store tx.old tx.new result
         (without_key table (bound key.now)) }
 {
     tx.execute(delete_text(table), key)?;
