@@ -1,5 +1,5 @@
 -- What a reading call of a store does.
-use Rattle.std.specs.Prelude.{◌≡◌, ◌⊎◌, ℕ, ◌<◌, ◌≤◌, IfOk, IfErr, Result}
+use Rattle.std.specs.Prelude.{◌≡◌, ◌⊎◌, ℕ, ◌<◌, ◌≤◌, IfOk, IfErr, Result, Err}
 use Rattle.std.specs.Borrow.{Fml, MutBor, RattleType}
 use Rattle.std.specs.Io.BufRead.{Rests}
 use Rattle.planner_machine.specs.Content.{Content}
@@ -19,6 +19,8 @@ pub record Reads {S T : Type 0} (is_honest : S → Type 0) (content : S → Cont
     -- the device is blamed only where it failed, then or before
     pub blames : IfErr result (λ fault. fault ≡ Device → MoreFailures (failures before) (failures now)
         ⊎ (0 < failures before))
+    -- and once a failure is counted, no call answers anything else
+    pub broken : 0 < failures before → result ≡ Err Device
     pub counts : failures before ≤ failures now
     pub honest : is_honest now → is_honest before
 

@@ -1,8 +1,8 @@
-ghost use Rattle.std.specs.Prelude.{◌≡◌, ◌⊎◌, ℕ, ◌<◌, ◌≤◌, OnOk, OnErr, IfOk, IfErr, option_copied};
+ghost use Rattle.std.specs.Prelude.{◌≡◌, ◌⊎◌, ℕ, ◌<◌, ◌≤◌, Err, OnOk, OnErr, IfOk, IfErr, option_copied};
 ghost use Rattle.std.specs.Borrow.{sem};
 ghost use Rattle.planner_machine.specs.Content.{Content as ContentValue};
 ghost use Rattle.plan_store.specs.Changes.{Fits, after};
-ghost use Rattle.planner_machine.specs.Sound.{AreNumbered};
+ghost use Rattle.planner_machine.specs.Sound.{AreNumbered, IsSound};
 ghost use Rattle.plan_store.specs.Faults.{MoreFailures};
 ghost use Rattle.plan_store.specs.Listings.{HandsAll, HandsPart, IsListing};
 ghost use Rattle.plan_store.specs.Stores.{LendsRead, Reads};
@@ -99,12 +99,14 @@ pub trait PlanStore {
         ensures crash { is_honest self.new → (c : ContentValue) → may_leave self.new c → may_leave self.old c }
         ensures blames { IfErr result (λ fault. fault ≡ ListFault.Device → MoreFailures (failures self.old)
             (failures self.new) ⊎ (0 < failures self.old)) }
+        ensures broken { 0 < failures self.old → result ≡ Err ListFault.Device }
         ensures counts { failures self.old ≤ failures self.new }
         ensures honest { is_honest self.new → is_honest self.old };
 
     /// Makes the change, whole or not at all.
     fn apply(&mut self, alloc: Global, change: Change) -> Result<(), StoreFault>
-        requires { is_honest self.old → Fits change (content self.old) }
+        requires fits { is_honest self.old → Fits change (content self.old) }
+        requires sound { is_honest self.old → IsSound (after change (content self.old)) }
 
         ensures done { is_honest self.new → OnOk result (content self.new ≡ after change (content self.old)) }
         ensures unchanged { is_honest self.new → IfErr result (λ fault. fault ≡ StoreFault.Memory → content self.new
@@ -121,6 +123,7 @@ pub trait PlanStore {
 
         ensures blames { IfErr result (λ fault. fault ≡ StoreFault.Device → MoreFailures (failures self.old)
             (failures self.new) ⊎ (0 < failures self.old)) }
+        ensures broken { 0 < failures self.old → result ≡ Err StoreFault.Device }
         ensures counts { failures self.old ≤ failures self.new }
         ensures honest { is_honest self.new → is_honest self.old };
 }

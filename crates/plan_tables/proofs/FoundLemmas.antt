@@ -1,5 +1,5 @@
 -- What a store kept is found again.
-use Rattle.std.proofs.Common.{◌≡◌, ◌⊎◌, ◌∙◌, ◌<◌, ℕ, Bool, Result, Ok, Err, true, false, length, inl, inr, ap, arith, refl, subst, sym, IsTrue, filter}
+use Rattle.std.proofs.Common.{◌≡◌, ◌⊎◌, ◌∙◌, ℕ, length, inl, inr, ap, subst, sym, IsTrue, filter}
 use Rattle.std.proofs.Math.Logic.{∥∥₁_elim, ∥∥₁_map}
 use Rattle.std.proofs.lemmas.Slice.Zip.{AllZip-long}
 use Rattle.sqlite.specs.Effect.{Database, IsDatabase}
@@ -55,19 +55,14 @@ tells_stored g law held k stored live db left =
       content = subst (λ t. IsContentOf (tables_of t) k) same stored.content;
     }
 
--- a store of which no failure was counted is whole
-whole : (broken : Bool) (failures : ℕ) → (IsTrue broken → 0 < failures) → failures ≡ 0 → broken ≡ false
-whole true failures counted none = absurd (omega (arith, counted refl, none))
-whole false failures counted none = refl
-
 pub tells_kept : {S : Type 0} (g : Ghosts S)
     (law : (s : S) (db : Trees) → IsTrue (g.view s).is_open → g.recovers s db → db ≡ (g.view s).committed)
-    (own held : Held S) (k : Content) (broken : Bool) (failures : ℕ) → held ≡ own → (IsTrue broken → 0 < failures)
-    → failures ≡ 0 → ∥ (broken ≡ false → HasCleanDisk (state g own) → IsStored (state g own) k) ∥₁
+    (own held : Held S) (k : Content) (failures : ℕ) → held ≡ own
+    → failures ≡ 0 → ∥ (failures ≡ 0 → HasCleanDisk (state g own) → IsStored (state g own) k) ∥₁
     → HasCleanDisk (state g held) → IsLive (state g held) → (db : Trees) → g.recovers held.store db → ∥ Tells db k ∥₁
-tells_kept {S} g law own held k broken failures same counted none stored clean live db left =
+tells_kept {S} g law own held k failures same none stored clean live db left =
     ∥∥₁_map stored (λ h. tells_stored g law held k (subst (λ (x : Held S). IsStored (state g x) k) (sym same)
-    (h (whole broken failures counted none) (subst (λ (x : Held S). HasCleanDisk (state g x)) same clean))) live db left)
+    (h none (subst (λ (x : Held S). HasCleanDisk (state g x)) same clean))) live db left)
 
 told_again : (found : Database) (k c : Content) → HaveOneContent → IsDatabase found → Tells found.trees k
     → IsToldBy found c → c ≡ k

@@ -1,6 +1,6 @@
 // A store over a database.
 
-ghost use Rattle.std.specs.Prelude.{◌≡◌, ◌⊎◌, ◌<◌, ◌≤◌, false, ◌^◌, OnOk, OnErr, IfOk, IfErr, IfSome, IsTrue};
+ghost use Rattle.std.specs.Prelude.{◌≡◌, ◌⊎◌, ◌<◌, ◌≤◌, false, ◌^◌, Err, OnOk, OnErr, IfOk, IfErr, IfSome};
 ghost use Rattle.sqlite.specs.State.{HasCleanDisk};
 ghost use Rattle.sqlite.specs.Held.{state};
 ghost use Rattle.sqlite.specs.Tree.{Trees};
@@ -36,11 +36,9 @@ pub struct TableStore<S: Alter> {
     lists: Content,
     // how often sqlite failed, or refused for another cause than memory, up to the greatest number that is counted
     failures: u64,
-    is_broken: bool,
     ghost settled: { conn.in_transaction ≡ false },
-    ghost stored: { ∥ (is_broken ≡ false → HasCleanDisk (state S.Store conn)
+    ghost stored: { ∥ (failures ≡ 0 → HasCleanDisk (state S.Store conn)
         → IsStored (state S.Store conn) (content_of lists)) ∥₁ },
-    ghost counted: { IsTrue is_broken → 0 < failures },
 }
 
 impl<S: Alter + Drop> TableStore<S> {
@@ -72,7 +70,6 @@ impl<S: Alter + Drop> TableStore<S> {
             conn,
             lists,
             failures: 0,
-            is_broken: false,
         }
     }
 
@@ -85,14 +82,13 @@ impl<S: Alter + Drop> TableStore<S> {
         ensures counts { self.old.failures ≤ self.new.failures }
     {
         self.failures = self.failures.saturating_add(1);
-        self.is_broken = true;
         StoreFault::Device
     }
 
-    // What is made of a change before it is written. None is where the store is broken, where tables can't tell the
-    // change, which breaks it, or where memory is refused.
+    // What is made of a change before it is written. None is where the store failed before, where tables can't tell the
+    // change, which is counted as a failure, or where memory is refused.
     fn prepared(&mut self, alloc: Global, change: &Change) -> Result<Prepared, StoreFault>
-        ensures whole { OnOk result (self.old.is_broken ≡ false) }
+        ensures whole { OnOk result (self.old.failures ≡ 0) }
         ensures same { OnOk result (self.new ≡ self.old) }
         ensures moves { IfOk result (λ made. AreMovesOf change.now.definitions made.moves) }
         ensures number { IfOk result (λ _.
@@ -103,9 +99,10 @@ impl<S: Alter + Drop> TableStore<S> {
         ensures conn { self.new.conn ≡ self.old.conn }
         ensures blames { IfErr result (λ fault. fault ≡ Device
             → MoreFailures self.old.failures self.new.failures ⊎ (0 < self.old.failures)) }
+        ensures broken { 0 < self.old.failures → result ≡ Err Device }
         ensures counts { self.old.failures ≤ self.new.failures }
     {
-        if self.is_broken {
+        if self.failures > 0 {
             return Err(StoreFault::Device);
         }
         match prepare(alloc, change) {
@@ -122,7 +119,7 @@ impl<S: Alter + Drop> TableStore<S> {
         prepared: &Prepared,
         change: Change,
     ) -> Result<(), StoreFault>
-        requires whole { self.old.is_broken ≡ false }
+        requires whole { self.old.failures ≡ 0 }
         requires fits { Fits change (content_of self.old.lists) }
         requires moves { AreMovesOf change.definitions prepared.now.moves }
         requires number { IfSome change.job (λ (job : JobValue). job.number < 2 ^ 63) }
@@ -158,7 +155,6 @@ impl<S: Alter + Drop> TableStore<S> {
             Err(StoreFault::Memory) => Err(StoreFault::Memory),
             Err(StoreFault::Device) => {
                 self.failures = self.failures.saturating_add(1);
-                self.is_broken = true;
                 Err(StoreFault::Device)
             }
         }
@@ -184,7 +180,7 @@ impl<S: Alter + Drop> PlanStore for TableStore<S> {
         × MayLeave (state S.Store store.conn) c };
 
     fn definitions(&mut self) -> Result<Definitions, StoreFault> {
-        if self.is_broken {
+        if self.failures > 0 {
             return Err(StoreFault::Device);
         }
         match self.lists.definitions.clone() {
@@ -194,14 +190,14 @@ impl<S: Alter + Drop> PlanStore for TableStore<S> {
     }
 
     fn bounds(&mut self) -> Result<Option<Bounds>, StoreFault> {
-        if self.is_broken {
+        if self.failures > 0 {
             return Err(StoreFault::Device);
         }
         Ok(self.lists.bounds)
     }
 
     fn links(&mut self) -> Result<Links, StoreFault> {
-        if self.is_broken {
+        if self.failures > 0 {
             return Err(StoreFault::Device);
         }
         match self.lists.in_force.clone() {
@@ -211,14 +207,14 @@ impl<S: Alter + Drop> PlanStore for TableStore<S> {
     }
 
     fn read_window<'a>(&'a mut self, _need: Need) -> Result<View<'a>, StoreFault> {
-        if self.is_broken {
+        if self.failures > 0 {
             return Err(StoreFault::Device);
         }
         Ok(self.lists.view())
     }
 
     fn job<'a>(&'a mut self, number: u64) -> Result<Option<&'a Job>, StoreFault> {
-        if self.is_broken {
+        if self.failures > 0 {
             return Err(StoreFault::Device);
         }
         Ok(self.lists.job(number))
@@ -232,7 +228,7 @@ impl<S: Alter + Drop> PlanStore for TableStore<S> {
         sink: &mut K,
     ) -> Result<usize, ListFault> {
         self.lists.has_listings();
-        if self.is_broken {
+        if self.failures > 0 {
             return Err(ListFault::Device);
         }
         self.lists.rows_to(alloc, what, app, sink)

@@ -1,6 +1,7 @@
 -- Lemmas on statements that are answered.
-use Rattle.std.proofs.Common.{◌≡◌, ◌⊎◌, ◌≤◌, ◌∙◌, ℕ, List, length, refl, sym, ap, subst, inl, inr, arith}
+use Rattle.std.proofs.Common.{◌≡◌, ◌⊎◌, ◌≤◌, ◌∙◌, ℕ, List, [], ◌∷◌, length, refl, sym, ap, subst, inl, inr, arith}
 use Rattle.std.specs.Prelude.{Err, None, Ok, Option, Some}
+use Rattle.std.proofs.lemmas.List.Elements.{All-cons}
 use Rattle.app_definitions.specs.Blocks.{IsFaultyAt, ReadsAs}
 use Rattle.app_definitions.specs.Definitions.{IsDefined, names_given}
 use Rattle.app_definitions.specs.declared.definitions.Definitions.{Definitions}
@@ -16,7 +17,9 @@ use Rattle.planner_machine.specs.Decision.{Decides, Decision, IsLeastRefusal}
 use Rattle.planner_machine.specs.Define.{UndefineRefused}
 use Rattle.planner_machine.specs.Jobs.{AnswersJob, AnswersKept, kept, with_job}
 use Rattle.planner_machine.specs.Laws.{IsWellFormed}
+use Rattle.planner_machine.specs.Sound.{IsSound}
 use Rattle.planner_machine.specs.Statement.{Answer, Change as MachineChange, Days, Define, DefineJob, Job, decision_of}
+use Rattle.planner_machine.specs.Stream.{IsStatement, RunsSound}
 use Rattle.planner_machine.specs.declared.job.Job.{Job as KeptJob}
 use Rattle.plan_store.specs.Changes.{after}
 use Rattle.plan_store.specs.Verdicts.{VerdictIs}
@@ -55,6 +58,11 @@ shown_names : (number : ℕ) (kind : Kind) (bytes : List ℕ) → length bytes �
     → ReadsAs kind bytes block
     → names_given block ≤ 999999999
 shown_names number kind bytes short block reads = let few = names_few kind bytes block reads in omega (arith, few)
+
+-- what such a block defines is such as a line and a block give
+pub block_well_formed : (kind : Kind) (bytes : List ℕ) (block : Block) → length bytes ≤ longest_block
+    → ReadsAs kind bytes block → IsWellFormed (Define block)
+block_well_formed kind bytes block short reads = (shown_names 0 kind bytes short block reads, (kind, bytes, reads))
 
 pub serves_define : (number : ℕ) (text : List ℕ) (kind : Kind) (bytes : List ℕ) (block : Block) (c : Content)
     → IsJobNumber number
@@ -170,6 +178,19 @@ verdict_answers number text change verdict c is new reply c' h = (
       (left_by verdict c, verdict_decides (decision_of change) verdict c is, h.0),
   h.1,
 )
+
+-- what comes of a verdict on sound content is sound
+pub left_sound : RunsSound → (number : ℕ) (text : List ℕ) (change : MachineChange) (verdict : Verdict) (c : Content)
+    → IsJobNumber number → IsWellFormed change → VerdictIs (decision_of change) c verdict → c.jobs number ≡ None
+    → IsSound c → IsSound (job_left number text verdict c)
+left_sound runs number text change verdict c numbered fine is new sound =
+    let left = job_left number text verdict c in
+    let (answer, answers, same) = verdict_answers number text change verdict c is new (answering (answer_in verdict))
+    left (refl, refl) in
+    runs (Job number text change ∷ []) (answer ∷ []) c left sound
+    (All-cons IsStatement (Job number text change) []
+    (let h = numbered.0 in omega arith, let h = numbered.1 in omega arith, fine)
+    (λ k d lt. absurd (omega (arith, lt)))) (left, answers, refl)
 
 -- ---- kept jobs
 

@@ -3,10 +3,12 @@
 ghost use Rattle.std.specs.Prelude.{◌≡◌, ◌≢◌, ◌⊎◌, None, Some, Err, Option};
 ghost use Rattle.planner_machine.specs.Content.{Content};
 ghost use Rattle.planner_machine.specs.Jobs.{AnswersJob};
+ghost use Rattle.planner_machine.specs.Laws.{IsWellFormed};
 ghost use Rattle.planner_machine.specs.Sound.{IsSound};
 ghost use Rattle.planner_machine.specs.Statement.{Answer as AnswerValue, decision_of};
 ghost use Rattle.plan_store.specs.Changes.{Fits, after};
 ghost use Rattle.plan_store.specs.Stores.{Reads};
+ghost use Rattle.statements.specs.JobNumber.{IsJobNumber};
 ghost use Rattle.planner_cli.specs.Outcomes.{answering};
 ghost use Rattle.planner_cli.specs.Stores.{AnswersBy};
 ghost use Rattle.planner_cli.specs.Verdicts.{FitsVerdict, IsKeptAnswer, answer_in, job_change, job_left, left_by};
@@ -15,7 +17,7 @@ use crate::answers::{Printed, print_alone};
 use crate::decisions::{JobChange, decide, need_of};
 use occurrences::{Refusal, Reply};
 use plan_store::{Change, PlanStore, StoreFault, Verdict};
-use planner_machine::{Answer, Job, JobText};
+use planner_machine::{Answer, Job, JobText, streams};
 use std::alloc::Global;
 
 /// Answers a change that carries a job number. A job that is kept under the number is answered as then, or refused
@@ -27,7 +29,9 @@ pub(crate) fn answer_job<S: PlanStore>(
     text: JobText,
     change: JobChange,
 ) -> Result<Printed, StoreFault>
-    requires { S.is_honest store.old → IsSound (S.content store.old) }
+    requires numbered { IsJobNumber number }
+    requires well_formed { IsWellFormed (job_change change) }
+    requires sound { S.is_honest store.old → IsSound (S.content store.old) }
     ensures { AnswersBy S.is_honest S.content S.failures S.may_leave store.old store.new result (λ reply c.
         (answer : AnswerValue)
         × AnswersJob number text (decision_of (job_change change)) (S.content store.old) answer c
@@ -73,6 +77,8 @@ fn perform<S: PlanStore>(
     text: JobText,
     change: JobChange,
 ) -> Result<Printed, StoreFault>
+    requires numbered { IsJobNumber number }
+    requires well_formed { IsWellFormed (job_change change) }
     requires sound { S.is_honest store.old → IsSound (S.content store.old) }
     requires new { S.is_honest store.old → (S.content store.old).jobs number ≡ None }
     ensures { AnswersBy S.is_honest S.content S.failures S.may_leave store.old store.new result (λ reply c.
@@ -80,6 +86,7 @@ fn perform<S: PlanStore>(
         × AnswersJob number text (decision_of (job_change change)) (S.content store.old) answer c
         × (reply ≡ answering answer)) }
 {
+    streams();
     let need = need_of(&change);
     let view = store.read_window(need)?;
     let Ok(verdict) = decide(alloc, &view, change) else {
@@ -97,6 +104,7 @@ fn settle<S: PlanStore>(
     verdict: Verdict,
 ) -> Result<Printed, StoreFault>
     requires fits { S.is_honest store.old → FitsVerdict verdict (S.content store.old) }
+    requires sound { S.is_honest store.old → IsSound (job_left number text verdict (S.content store.old)) }
     requires new { S.is_honest store.old → (S.content store.old).jobs number ≡ None }
     ensures { AnswersBy S.is_honest S.content S.failures S.may_leave store.old store.new result (λ reply c.
         (c ≡ job_left number text verdict (S.content store.old)) × (reply ≡ answering (answer_in verdict))) }

@@ -1,8 +1,9 @@
 use Rattle.std.proofs.Common.{◌∙◌, ap, sym, subst}
 use Rattle.planner_machine.specs.Statement.{decision_of}
 use Rattle.plan_store.specs.Verdicts.{VerdictIs}
-use Rattle.planner_cli.specs.Verdicts.{job_change}
-use Rattle.planner_cli.proofs.ServeLemmas.{AnswersBoth, verdict_answers, verdict_fits}
+use Rattle.planner_machine.specs.Sound.{IsSound}
+use Rattle.planner_cli.specs.Verdicts.{job_change, job_left}
+use Rattle.planner_cli.proofs.ServeLemmas.{AnswersBoth, left_sound, verdict_answers, verdict_fits}
 use Rattle.planner_cli.proofs.StoreLemmas.{after_read, answers_so}
 use Rattle.planner_cli.proofs.jobs.perform.Goals as goal
 
@@ -15,6 +16,17 @@ settle-requires-clause-fits g c honest =
     (c.requires.sound (reads.honest honest)) in
     subst (λ x. Rattle.planner_cli.specs.Verdicts.FitsVerdict c.in-Ok.verdict x) (sym (reads.same honest))
     (verdict_fits change c.in-Ok.verdict _ decided)
+
+pub settle-requires-clause-sound : goal.settle-requires-clause-sound
+settle-requires-clause-sound g c honest =
+    let reads = c.read_window.follows.holds-at-none in
+    let shows = rw c.in_ok-view.was at reads.right honest in
+    let change = job_change c.args.change in
+    let first = c.requires.sound (reads.honest honest) in
+    let decided = c.in-Ok.ensures (g.S.PlanStore.content c.args.store.now) shows first in
+    subst (λ x. IsSound (job_left c.args.number c.args.text c.in-Ok.verdict x)) (sym (reads.same honest))
+    (left_sound c.streams.ensures.sound c.args.number c.args.text change c.in-Ok.verdict _ c.requires.numbered c.requires.well_formed decided
+    (c.requires.new (reads.honest honest)) first)
 
 pub returns : goal.returns
 returns g c =

@@ -1,10 +1,32 @@
-use Rattle.std.proofs.Common.{refl, inl, inr, subst}
+use Rattle.std.proofs.Common.{◌≡◌, Err, refl, rules, inl, inr, subst, sym}
+use Rattle.plan_store.specs.declared.stores.StoreFault.TheVariants.{Memory}
+use Rattle.planner_machine.specs.Sound.{IsSound}
 use Rattle.planner_cli.specs.Outcomes.{answering}
 use Rattle.planner_cli.specs.Replies.{Prints}
-use Rattle.planner_cli.specs.Verdicts.{answer_in}
+use Rattle.planner_cli.specs.Stores.{AnswersBy}
+use Rattle.planner_cli.specs.Verdicts.{answer_in, job_left}
 use Rattle.planner_cli.proofs.ServeLemmas.{settled}
-use Rattle.planner_cli.proofs.StoreLemmas.{made, not_made}
+use Rattle.planner_cli.proofs.StoreLemmas.{made, not_made, refused_memory}
 use Rattle.planner_cli.proofs.jobs.settle.Goals as goal
+
+pub apply-requires-clause-sound : goal.apply-requires-clause-sound
+apply-requires-clause-sound g c honest =
+    let verdict = c.args.verdict in
+    let parts = c.parts_of-change.ensures in
+    let before = g.S.PlanStore.content c.args.store.now in
+    let fits = c.requires.fits honest in
+    subst IsSound (sym (settled c.args.number c.args.text verdict c.parts_of-change.result.0
+    c.parts_of-change.result.1 before _ fits parts.answer (parts.leaves before fits) refl))
+    (c.requires.sound honest)
+
+pub returns-in_err-printed : goal.returns-in_err-printed
+returns-in_err-printed g c =
+    let refused : c.from_residual.result ≡ Err Memory = search rules in
+    subst (λ r. AnswersBy g.S.PlanStore.is_honest g.S.PlanStore.content g.S.PlanStore.failures g.S.PlanStore.may_leave
+    c.args.store.now c.args.store.now r (λ reply c'.
+    (c' ≡ job_left c.args.number c.args.text c.args.verdict (g.S.PlanStore.content c.args.store.now))
+    × (reply ≡ answering (answer_in c.args.verdict)))) (sym refused)
+    (refused_memory _ _ _ _ c.args.store.now _)
 
 pub returns-in-Ok : goal.returns-in-Ok
 returns-in-Ok g c =

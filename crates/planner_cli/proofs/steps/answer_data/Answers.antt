@@ -1,8 +1,13 @@
 use Rattle.std.proofs.Common.{◌∙◌, subst}
 use Rattle.planner_machine.specs.Statement.{Define}
-use Rattle.planner_cli.proofs.ServeLemmas.{AnswersBoth, serves_define, serves_faulty}
+use Rattle.planner_cli.proofs.ServeLemmas.{AnswersBoth, block_well_formed, serves_define, serves_faulty}
 use Rattle.planner_cli.proofs.StoreLemmas.{answers_so, untouched}
 use Rattle.planner_cli.proofs.steps.answer_data.Goals as goal
+
+pub answer_job-requires-clause-well_formed : goal.answer_job-requires-clause-well_formed
+answer_job-requires-clause-well_formed g c =
+    block_well_formed c.args.kind c.args.bytes.now c.in-Ok-read_block.block c.requires.short
+    c.in-Ok-read_block.ensures.reads
 
 pub returns-in-Ok-read_block : goal.returns-in-Ok-read_block
 returns-in-Ok-read_block g c = answers_so _ _ _ _ _ _ _ _ _ (λ honest reply c' h.

@@ -19,7 +19,6 @@ invariant_of-self g c = record {
       subst (λ (k : Content). IsStored (state g.S.Store c.change_both.new.conn) k)
       (sym c.in-Ok.ensures.lists)
       (c.in-Ok.ensures.done clean (h whole before)));
-  counted = c.args.self.now.counted;
 }
 
 pub returns-in-Ok-clause-settled : goal.returns-in-Ok-clause-settled
@@ -49,7 +48,6 @@ invariant_of-self-in-Err-Memory g c = record {
       (arith, c.change_both.ensures.crash.clean) in
       subst (λ (k : Content). IsStored (state g.S.Store c.change_both.new.conn) k) (sym c.in-Err-Memory.ensures.same)
       (c.in-Err-Memory.ensures.memory clean (h whole before) c.in-Err-Memory.field-0-is));
-  counted = c.args.self.now.counted;
 }
 
 pub returns-in-Err-Memory-clause-crash : goal.returns-in-Err-Memory-clause-crash

@@ -10,6 +10,6 @@ returns-clause-tells g c none clean db left =
     let before : HasCleanDisk (state g.S.Store c.into_connection-conn.result) = omega
     (arith, c.into_store.ensures.quiet.clean, clean) in
     tells_kept g.S.Store g.met.S.Store.settled c.args.self.conn c.into_connection-conn.result
-    (content_of c.args.self.lists) c.args.self.is_broken c.args.self.failures c.into_connection-conn.ensures
-    c.args.self.counted none c.args.self.stored before c.schema-schema.ensures.live db
+    (content_of c.args.self.lists) c.args.self.failures c.into_connection-conn.ensures
+    none c.args.self.stored before c.schema-schema.ensures.live db
     (c.into_store.ensures.quiet.outcomes db left)

@@ -1,4 +1,3 @@
-use Rattle.std.proofs.lemmas.Bool.{false≢true}
 use Rattle.std.proofs.lemmas.Grind.{merely}
 use Rattle.plan_tables.proofs.table_store.TableStore.over.Goals as goal
 
@@ -6,5 +5,4 @@ pub invariant_of-result : goal.invariant_of-result
 invariant_of-result g c = record {
   settled = c.requires.mode;
   stored = merely (λ whole clean. c.requires.opened clean);
-  counted = λ broken. absurd (false≢true broken);
 }
