@@ -11,3 +11,4 @@ pub mod DefinitionFacts
 pub mod StorableMoves
 pub mod UnopenedLemmas
 pub mod FoundLemmas
+pub mod RefusedLemmas

@@ -2,3 +2,4 @@ pub mod Stored
 pub mod Adopted
 pub mod Unopened
 pub mod Found
+pub mod Refused

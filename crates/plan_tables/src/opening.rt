@@ -3,6 +3,7 @@
 ghost use Rattle.std.specs.Prelude.{◌≡◌, false, IfErr, IfOk};
 ghost use Rattle.sqlite.specs.State.{HasCleanDisk};
 ghost use Rattle.sqlite.specs.Files.{file_state};
+ghost use Rattle.sqlite_std_file.specs.File.{IsFresh};
 ghost use Rattle.sqlite_wal.specs.Files.{image_at};
 ghost use Rattle.planner_machine.specs.Content.{nothing_known};
 ghost use Rattle.planner_machine.specs.Sound.{IsSound};
@@ -10,11 +11,12 @@ ghost use Rattle.plan_store.specs.Contents.{content_of};
 ghost use Rattle.table_opening.specs.Opened.{IsStored};
 ghost use Rattle.plan_tables.specs.Adopted.{ComesBack, IsOver};
 ghost use Rattle.plan_tables.specs.Found.{IsFoundIn};
+ghost use Rattle.plan_tables.specs.Refused.{IsGivenBack, IsNotOpened};
 ghost use Rattle.plan_tables.specs.Unopened.{IsUnmadeBy};
 ghost use Rattle.table_opening.specs.declared.faults.OpenFault.TheVariants.{Memory};
 
 use crate::table_store::TableStore;
-use sqlite::{Alter, Connection, File, FileFrom, FileStore, MemStore, Start, Unknown};
+use sqlite::{Alter, Connection, File, FileFrom, FileStore, Leftover, MemStore, Start, Unknown};
 use std::alloc::Global;
 use std::rt::HostRuntime;
 use table_opening::{OpenFault, open_connection_from, open_content};
@@ -38,7 +40,19 @@ impl<S: Alter + Drop> TableStore<S> {
         }
     }
 
-    // The same, but where it is not opened the connection is let go.
+    // The same, but where it is not opened the connection is let go, and what held the database comes back.
+    fn over_store(alloc: Global, conn: Connection<S>) -> Result<TableStore<S>, (OpenFault, S)>
+        requires { conn.in_transaction ≡ false }
+        ensures opened { IfOk result (IsOver conn) }
+        ensures refused { IfErr result (IsGivenBack S.Store conn) }
+    {
+        match TableStore::adopt(alloc, conn) {
+            Ok(store) => Ok(store),
+            Err((fault, conn)) => Err((fault, conn.into_store())),
+        }
+    }
+
+    // The same, and nothing comes back.
     fn over_connection(alloc: Global, conn: Connection<S>) -> Result<TableStore<S>, OpenFault>
         requires { conn.in_transaction ≡ false }
         ensures opened { IfOk result (IsOver conn) }
@@ -68,23 +82,30 @@ impl TableStore<MemStore> {
 
 impl<S: Start> TableStore<FileStore<FileFrom<S>>> {
     /// A store over the database in the files at the path, which are made where there are none; `start` stands for what
-    /// they hold. The path is taken as it is.
+    /// they hold. Where it is not opened, the files hold what they held, or, where they held nothing, perhaps tables of
+    /// what a planner knows that was told nothing; and the fault comes with what is left of them, once they were
+    /// opened. The path is taken as it is.
     pub fn open_path_from(
         rt: &HostRuntime,
         alloc: Global,
         path: &str,
         start: S,
-    ) -> Result<TableStore<FileStore<FileFrom<S>>>, OpenFault>
+    ) -> Result<TableStore<FileStore<FileFrom<S>>>, (OpenFault, Option<Leftover<FileFrom<S>>>)>
         ensures sound { IfOk result (λ store. IsSound (content_of store.lists)) }
         ensures whole { IfOk result (λ store. store.failures ≡ 0) }
         ensures opened { IfOk result (λ store. HasCleanDisk (file_state store.conn)
             → IsStored (file_state store.conn) (content_of store.lists)) }
         ensures found { IfOk result (λ store. HasCleanDisk (file_state store.conn)
             → IsFoundIn (image_at S.Start) (content_of store.lists)) }
+        ensures refused { IfErr result (IsNotOpened (λ is_log file. IsFresh is_log file)
+            (image_at S.Start)) }
     {
         match open_connection_from(rt, path, start) {
-            Ok(conn) => TableStore::over_connection(alloc, conn),
-            Err((fault, _left)) => Err(fault),
+            Ok(conn) => match TableStore::over_store(alloc, conn) {
+                Ok(store) => Ok(store),
+                Err((fault, left)) => Err((fault, Some(Leftover::Store(left)))),
+            },
+            Err(left) => Err(left),
         }
     }
 }
@@ -101,7 +122,12 @@ impl TableStore<FileStore<File>> {
         ensures whole { IfOk result (λ store. store.failures ≡ 0) }
         ensures opened { IfOk result (λ store. HasCleanDisk (file_state store.conn)
             → IsStored (file_state store.conn) (content_of store.lists)) }
+        ensures refused { IfErr result (λ fault. (left : _)
+            × IsNotOpened (λ is_log file. IsFresh is_log file) (image_at Unknown.Start) (fault, left)) }
     {
-        TableStore::open_path_from(rt, alloc, path, Unknown)
+        match TableStore::open_path_from(rt, alloc, path, Unknown) {
+            Ok(store) => Ok(store),
+            Err((fault, _left)) => Err(fault),
+        }
     }
 }
