@@ -22,8 +22,8 @@ use Rattle.table_schema.specs.Rows.{tables_of}
 use Rattle.table_schema.specs.Schema.{HasTables, no_schema, plan_and}
 use Rattle.table_facts.specs.Content.{HaveOneContent, IsContentOf}
 use Rattle.table_opening.specs.Opened.{IsStored, IsToldBy}
-use Rattle.plan_tables.specs.Found.{IsFoundIn, Tells}
-use Rattle.plan_tables.specs.Stored.{MayLeave}
+use Rattle.plan_tables.specs.Found.{HoldsLeft, IsFoundIn, Tells}
+use Rattle.plan_tables.specs.Stored.{LeavesSound, MayLeave, TellsSound}
 use Rattle.plan_tables.proofs.SetLemmas.{content_set}
 
 -- a database lists as many tables under each schema that it obeys
@@ -64,6 +64,14 @@ tells_kept {S} g law own held k failures same none stored clean live db left =
     ∥∥₁_map stored (λ h. tells_stored g law held k (subst (λ (x : Held S). IsStored (state g x) k) (sym same)
     (h none (subst (λ (x : Held S). HasCleanDisk (state g x)) same clean))) live db left)
 
+-- so it is of what is let go
+pub told_left : {S : Type 0} (g : Ghosts S) (own held : Held S) → held ≡ own
+    → ∥ (HasCleanDisk (state g own) → LeavesSound (state g own)) ∥₁ → HasCleanDisk (state g held) → (db : Trees)
+    → g.recovers held.store db → ∥ TellsSound db ∥₁
+told_left {S} g own held same told clean db left =
+    ∥∥₁_elim told squash₁ (λ h. h (subst (λ (x : Held S). HasCleanDisk (state g x)) same clean) db
+    (subst (λ (x : Held S). g.recovers x.store db) same left))
+
 told_again : (found : Database) (k c : Content) → HaveOneContent → IsDatabase found → Tells found.trees k
     → IsToldBy found c → c ≡ k
 told_again found k c one obeys tells (inl told) = one (tables_of found.trees) c k told.1 tells.content
@@ -79,6 +87,22 @@ found_again it k one numbered sound tells left may c found =
     ∥∥₁_elim (opens_again it numbered sound left may) (content_set c k) (λ held.
     ∥∥₁_elim (tells held.0 held.1) (content_set c k) (λ told. told_again found.found k c one found.obeys
     (subst (λ db. Tells db k) (sym (found.holds held.0 held.2)) told) found.told))
+
+-- files whose databases all tell sound contents hold one that does
+pub holds_left : {D : Type 0} {g : disk.Ghosts D} (conn : Held (FileStore D g)) (it : FileStore D g)
+    → IsTrue (files.view it).is_numbered → AreDatabases (files.recovers it)
+    → ((db : Trees) → files.recovers it db → files.recovers conn.store db)
+    → ((db : Trees) → files.recovers it db → ∥ TellsSound db ∥₁)
+    → (left : Image) → (files.state it).may_leave left → ∥ HoldsLeft left (file_state conn) ∥₁
+holds_left conn it numbered sound outcomes tells left may =
+    ∥∥₁_elim (opens_again it numbered sound left may) squash₁ (λ held. ∥∥₁_map (tells held.0 held.1) (λ told. record {
+      db = held.0;
+      holds = held.2;
+      left = outcomes held.0 held.1;
+      content = told.0;
+      sound = told.1;
+      told = told.2;
+    }))
 
 -- what is found again was a content that a crash might leave, unless it is nothing
 pub found_left : {D : Type 0} {g : disk.Ghosts D} (conn : Held (FileStore D g)) (it : FileStore D g)

@@ -4,11 +4,12 @@ use Rattle.std.specs.Prelude.{OnOk}
 use Rattle.sqlite.specs.Tree.{Trees}
 use Rattle.sqlite.specs.Effect.{Database}
 use Rattle.std.proofs.Common.{◌⊎◌, inl, inr, arith}
-use Rattle.std.proofs.Math.Logic.{∥∥₁_elim}
+use Rattle.std.proofs.Math.Logic.{∥∥₁_elim, ∥∥₁_map}
 use Rattle.sqlite.specs.Held.{Held, state}
 use Rattle.sqlite.specs.Store.{Ghosts}
 use Rattle.sqlite.specs.State.{HasCleanDisk, IsUnchanged, State, Survives}
 use Rattle.planner_machine.specs.Content.{Content}
+use Rattle.planner_machine.specs.Sound.{IsSound}
 use Rattle.table_schema.specs.Rows.{HaveRowids, tables_of}
 use Rattle.table_schema.specs.declared.tables.Table.{Table}
 use Rattle.plan_store.specs.Changes.{after, Fits, redefined}
@@ -17,7 +18,7 @@ use Rattle.plan_store.specs.declared.changes.Change.{Change}
 use Rattle.plan_store.specs.declared.changes.DefinitionChange.TheVariants.{AsBefore}
 use Rattle.table_facts.specs.Content.{HaveOneContent, IsContentOf}
 use Rattle.table_opening.specs.Opened.{IsStored}
-use Rattle.plan_tables.specs.Stored.{MayLeave}
+use Rattle.plan_tables.specs.Stored.{LeavesSound, MayLeave}
 use Rattle.table_writing.specs.Redefining.{AreMovesOf, definitions_moved, written}
 use Rattle.table_writing.specs.Writing.{IsTellableChange}
 use Rattle.table_writing.specs.declared.redefining.DefinitionMoves.{DefinitionMoves}
@@ -83,6 +84,28 @@ leaves_one g law held c d one stored (db, left, is) =
     let same : db ≡ (state g held).now.trees =
     law held.store db stored.is_open left ∙ sym (ap (λ (b : Database). b.trees) stored.settled) in
     one (tables_of (state g held).now.trees) c d (subst (λ t. IsContentOf (tables_of t) c) same is) stored.content
+
+-- each database that a crash leaves of one that keeps a sound content tells it
+pub stored_sound : {S : Type 0} (g : Ghosts S)
+    (law : (s : S) (db : Trees) → IsTrue (g.view s).is_open → g.recovers s db
+    → db ≡ (g.view s).committed) (held : Held S) (c : Content) → IsStored (state g held) c → IsSound c
+    → LeavesSound (state g held)
+stored_sound g law held c stored sound db left =
+    let same : (state g held).now.trees ≡ db =
+    ap (λ (b : Database). b.trees) stored.settled ∙ sym (law held.store db stored.is_open left) in
+    ∣ (c, sound, subst (λ t. IsContentOf (tables_of t) c) same stored.content) ∣₁
+
+-- so it is after a change that makes a sound content
+pub leaves_sound : (old new : State) (c goal : Content) → ∥ (HasCleanDisk old → LeavesSound old) ∥₁
+    → ∥ (HasCleanDisk old → IsStored old c) ∥₁ → ∥ IsSound goal ∥₁
+    → Survives old new (λ db. IsStored old c → IsContentOf (tables_of db) goal)
+    → HasCleanDisk new → LeavesSound new
+leaves_sound old new c goal told was sound survives clean db left =
+    let before : HasCleanDisk old = omega (arith, survives.clean, clean) in
+    elim (survives.crash clean db left) [
+      | inl earlier ↦ ∥∥₁_elim told squash₁ (λ h. h before db earlier)
+      | inr made ↦ ∥∥₁_elim was squash₁ (λ h. ∥∥₁_map sound (λ s. (goal, s, made (h before))))
+    ]
 
 -- what a crash leaves after a change is what it left before, or what the change makes
 pub leaves_either : (old new : State) (d : Content) (c : Content) → HaveOneContent → ∥ (HasCleanDisk old

@@ -5,6 +5,7 @@ ghost use Rattle.sqlite.specs.State.{HasCleanDisk};
 ghost use Rattle.sqlite.specs.Held.{state};
 ghost use Rattle.sqlite.specs.Tree.{Trees};
 ghost use Rattle.planner_machine.specs.Content.{Content as ContentValue};
+ghost use Rattle.planner_machine.specs.Sound.{IsSound};
 ghost use Rattle.planner_machine.specs.declared.job.Job.{Job as JobValue};
 ghost use Rattle.table_schema.specs.Rows.{tables_of};
 ghost use Rattle.plan_store.specs.Changes.{Fits, after};
@@ -14,7 +15,7 @@ ghost use Rattle.plan_store.specs.declared.stores.StoreFault.TheVariants.{Device
 ghost use Rattle.table_facts.specs.Content.{answer_text, IsContentOf};
 ghost use Rattle.table_opening.specs.Opened.{IsStored};
 ghost use Rattle.table_writing.specs.Redefining.{AreMovesOf};
-ghost use Rattle.plan_tables.specs.Stored.{MayLeave};
+ghost use Rattle.plan_tables.specs.Stored.{LeavesSound, MayLeave};
 
 use crate::answers::change_is_tellable;
 use crate::keeping::change_both;
@@ -39,6 +40,7 @@ pub struct TableStore<S: Alter> {
     ghost settled: { conn.in_transaction ≡ false },
     ghost stored: { ∥ (failures ≡ 0 → HasCleanDisk (state S.Store conn)
         → IsStored (state S.Store conn) (content_of lists)) ∥₁ },
+    ghost told: { ∥ (HasCleanDisk (state S.Store conn) → LeavesSound (state S.Store conn)) ∥₁ },
 }
 
 impl<S: Alter + Drop> TableStore<S> {
@@ -62,6 +64,7 @@ impl<S: Alter + Drop> TableStore<S> {
         requires mode { conn.in_transaction ≡ false }
         requires opened { HasCleanDisk (state S.Store conn)
             → IsStored (state S.Store conn) (content_of lists) }
+        requires sound { IsSound (content_of lists) }
         ensures conn { result.conn ≡ conn }
         ensures lists { result.lists ≡ lists }
         ensures whole { result.failures ≡ 0 }
@@ -121,6 +124,7 @@ impl<S: Alter + Drop> TableStore<S> {
     ) -> Result<(), StoreFault>
         requires whole { self.old.failures ≡ 0 }
         requires fits { Fits change (content_of self.old.lists) }
+        requires sound { IsSound (after change (content_of self.old.lists)) }
         requires moves { AreMovesOf change.definitions prepared.now.moves }
         requires number { IfSome change.job (λ (job : JobValue). job.number < 2 ^ 63) }
         requires line { IfSome change.job (λ (job : JobValue). prepared.now.line.items

@@ -1,6 +1,11 @@
 use Rattle.plan_store.specs.Contents.{content_of}
-use Rattle.plan_tables.proofs.FoundLemmas.{found_again, found_left}
+use Rattle.plan_tables.proofs.FoundLemmas.{found_again, found_left, holds_left}
 use Rattle.plan_tables.proofs.closing.TableStore+FileStore+D.into_files.Goals as goal
+
+pub returns-clause-opens_again : goal.returns-clause-opens_again
+returns-clause-opens_again g c clean =
+    holds_left c.args.self.conn c.into_store.result (c.into_store.ensures.numbered clean)
+    (c.into_store.ensures.sound clean) c.into_store.ensures.left (c.into_store.ensures.plans clean)
 
 pub returns-clause-goes_on : goal.returns-clause-goes_on
 returns-clause-goes_on g c clean =

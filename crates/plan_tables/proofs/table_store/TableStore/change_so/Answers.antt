@@ -7,19 +7,25 @@ use Rattle.plan_store.specs.Changes.{after}
 use Rattle.plan_store.specs.Contents.{content_of}
 use Rattle.table_opening.specs.Opened.{IsStored}
 use Rattle.plan_tables.proofs.SetLemmas.{content_set}
-use Rattle.plan_tables.proofs.StoredLemmas.{leaves_either, leaves_one}
+use Rattle.plan_tables.proofs.StoredLemmas.{leaves_either, leaves_one, leaves_sound}
 use Rattle.plan_tables.proofs.table_store.TableStore.change_so.Goals as goal
 
 pub invariant_of-self : goal.invariant_of-self
-invariant_of-self g c = record {
-  settled = c.change_both.ensures.ended;
-  stored = ∥∥₁_map c.args.self.now.stored (λ h whole clean.
-      let before : HasCleanDisk (state g.S.Store c.args.self.now.conn) = omega
-      (arith, c.change_both.ensures.crash.clean) in
-      subst (λ (k : Content). IsStored (state g.S.Store c.change_both.new.conn) k)
-      (sym c.in-Ok.ensures.lists)
-      (c.in-Ok.ensures.done clean (h whole before)));
-}
+invariant_of-self g c =
+    let old = c.args.self.now in
+    let made = content_of old.lists in
+    record {
+      settled = c.change_both.ensures.ended;
+      stored = ∥∥₁_map old.stored (λ h whole clean.
+          let before : HasCleanDisk (state g.S.Store old.conn) = omega
+          (arith, c.change_both.ensures.crash.clean) in
+          subst (λ (k : Content). IsStored (state g.S.Store c.change_both.new.conn) k)
+          (sym c.in-Ok.ensures.lists)
+          (c.in-Ok.ensures.done clean (h whole before)));
+      told = ∣ leaves_sound (state g.S.Store old.conn) (state g.S.Store c.change_both.new.conn) made
+          (after c.args.change made) old.told (∥∥₁_map old.stored (λ h. h c.requires.whole)) ∣ c.requires.sound ∣₁
+          c.change_both.ensures.crash ∣₁;
+    }
 
 pub returns-in-Ok-clause-settled : goal.returns-in-Ok-clause-settled
 returns-in-Ok-clause-settled g c clean left may =
@@ -41,14 +47,20 @@ returns-in-Ok-clause-crash g c clean left may =
     c.change_both.ensures.crash may
 
 pub invariant_of-self-in-Err-Memory : goal.invariant_of-self-in-Err-Memory
-invariant_of-self-in-Err-Memory g c = record {
-  settled = c.change_both.ensures.ended;
-  stored = ∥∥₁_map c.args.self.now.stored (λ h whole clean.
-      let before : HasCleanDisk (state g.S.Store c.args.self.now.conn) = omega
-      (arith, c.change_both.ensures.crash.clean) in
-      subst (λ (k : Content). IsStored (state g.S.Store c.change_both.new.conn) k) (sym c.in-Err-Memory.ensures.same)
-      (c.in-Err-Memory.ensures.memory clean (h whole before) c.in-Err-Memory.field-0-is));
-}
+invariant_of-self-in-Err-Memory g c =
+    let old = c.args.self.now in
+    let made = content_of old.lists in
+    record {
+      settled = c.change_both.ensures.ended;
+      stored = ∥∥₁_map old.stored (λ h whole clean.
+          let before : HasCleanDisk (state g.S.Store old.conn) = omega
+          (arith, c.change_both.ensures.crash.clean) in
+          subst (λ (k : Content). IsStored (state g.S.Store c.change_both.new.conn) k) (sym c.in-Err-Memory.ensures.same)
+          (c.in-Err-Memory.ensures.memory clean (h whole before) c.in-Err-Memory.field-0-is));
+      told = ∣ leaves_sound (state g.S.Store old.conn) (state g.S.Store c.change_both.new.conn) made
+          (after c.args.change made) old.told (∥∥₁_map old.stored (λ h. h c.requires.whole))
+          ∣ c.requires.sound ∣₁ c.change_both.ensures.crash ∣₁;
+    }
 
 pub returns-in-Err-Memory-clause-crash : goal.returns-in-Err-Memory-clause-crash
 returns-in-Err-Memory-clause-crash g c clean left may =
@@ -57,6 +69,18 @@ returns-in-Err-Memory-clause-crash g c clean left may =
     (∥∥₁_map c.args.self.now.stored (λ h. h c.requires.whole)) (after c.args.change
     (content_of c.args.self.now.lists)) clean
     c.change_both.ensures.crash may
+
+pub invariant_of-self-in-Err-Device : goal.invariant_of-self-in-Err-Device
+invariant_of-self-in-Err-Device g c =
+    let old = c.args.self.now in
+    let made = content_of old.lists in
+    record {
+      settled = c.change_both.ensures.ended;
+      stored = ∣ λ none clean. absurd (omega arith) ∣₁;
+      told = ∣ leaves_sound (state g.S.Store old.conn) (state g.S.Store c.change_both.new.conn) made
+          (after c.args.change made) old.told (∥∥₁_map old.stored (λ h. h c.requires.whole))
+          ∣ c.requires.sound ∣₁ c.change_both.ensures.crash ∣₁;
+    }
 
 pub returns-in-Err-Device-clause-crash : goal.returns-in-Err-Device-clause-crash
 returns-in-Err-Device-clause-crash g c clean left may =

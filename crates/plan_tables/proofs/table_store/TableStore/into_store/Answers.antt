@@ -2,8 +2,15 @@ use Rattle.std.proofs.Common.{arith}
 use Rattle.sqlite.specs.Held.{state}
 use Rattle.sqlite.specs.State.{HasCleanDisk}
 use Rattle.plan_store.specs.Contents.{content_of}
-use Rattle.plan_tables.proofs.FoundLemmas.{tells_kept}
+use Rattle.plan_tables.proofs.FoundLemmas.{tells_kept, told_left}
 use Rattle.plan_tables.proofs.table_store.TableStore.into_store.Goals as goal
+
+pub returns-clause-plans : goal.returns-clause-plans
+returns-clause-plans g c clean db left =
+    let before : HasCleanDisk (state g.S.Store c.into_connection-conn.result) = omega
+    (arith, c.into_store.ensures.quiet.clean, clean) in
+    told_left g.S.Store c.args.self.conn c.into_connection-conn.result c.into_connection-conn.ensures
+    c.args.self.told before db (c.into_store.ensures.quiet.outcomes db left)
 
 pub returns-clause-tells : goal.returns-clause-tells
 returns-clause-tells g c none clean db left =
