@@ -12,3 +12,4 @@ pub mod StorableMoves
 pub mod UnopenedLemmas
 pub mod FoundLemmas
 pub mod RefusedLemmas
+pub mod ToldLemmas

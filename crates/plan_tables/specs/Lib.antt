@@ -3,3 +3,4 @@ pub mod Adopted
 pub mod Unopened
 pub mod Found
 pub mod Refused
+pub mod Told

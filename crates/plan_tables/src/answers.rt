@@ -1,6 +1,6 @@
 // The lines that jobs were answered, and what the tables can tell of a change.
 
-ghost use Rattle.std.specs.Prelude.{◌≡◌, ◌<◌, ◌^◌, IfOk, IfSome, IsTrue};
+ghost use Rattle.std.specs.Prelude.{◌≡◌, IfOk, IfSome};
 ghost use Rattle.external_dependencies.specs.Link.{link_cmp};
 ghost use Rattle.external_dependencies.specs.Rising.{IsRising};
 ghost use Rattle.planner_machine.specs.declared.job.Job.{Job as JobValue};
@@ -47,14 +47,4 @@ pub(crate) fn change_is_tellable(change: &Change)
 {
     links_rise(&change.in_force);
     job_is_small(&change.job);
-}
-
-/// Whether the number of the job, if there is one, is one that a column holds.
-pub(crate) fn has_number(job: &Option<Job>) -> bool
-    ensures { IsTrue result → IfSome job.now (λ (job : JobValue). job.number < 2 ^ 63) }
-{
-    match job {
-        Some(job) => job.number < 1 << 63,
-        None => true,
-    }
 }

@@ -1,14 +1,14 @@
 // What a change of definitions moves in their tables.
 
-ghost use Rattle.std.specs.Prelude.{◌≡◌, ◌∷◌, [], None, Some, IfOk, IfSome};
-ghost use Rattle.table_definitions.specs.Telling.{IsTellableBlock};
+ghost use Rattle.std.specs.Prelude.{◌≡◌, ◌∷◌, [], None, Some, IfOk};
 ghost use Rattle.table_writing.specs.Redefining.{AreMovesOf, BringsRows, kind_of};
+ghost use Rattle.plan_tables.specs.Told.{IsToldChange};
 
 use app_definitions::{Block, Kind};
 use plan_store::DefinitionChange;
 use std::alloc::{AllocError, Global};
 use table_definitions::{
-    application_rows, block_is_told, calendar_rows, cycle_rows, offset_rows, period_rows,
+    application_rows, calendar_rows, cycle_rows, offset_rows, period_rows,
     predecessor_rows,
 };
 use table_writing::DefinitionMoves;
@@ -89,29 +89,17 @@ fn rows_of_block(alloc: Global, block: &Block) -> Result<DefinitionMoves, AllocE
     }
 }
 
-// What a block moves; none where tables can't tell its definitions.
-fn moves_of_block(alloc: Global, block: &Block) -> Result<Option<DefinitionMoves>, AllocError>
-    ensures told { IfOk result (λ moves. IfSome moves (λ _. IsTellableBlock block.now)) }
-    ensures kind { IfOk result (λ moves. IfSome moves (λ moves.
-        moves.kind ≡ Some (kind_of block.now))) }
-    ensures rows { IfOk result (λ moves. IfSome moves (λ moves. BringsRows block.now moves)) }
-{
-    if !block_is_told(alloc, block)? {
-        return Ok(None);
-    }
-    Ok(Some(rows_of_block(alloc, block)?))
-}
-
-/// What a change of definitions moves; none where tables can't tell the definitions of its block.
+/// What a change of definitions moves.
 pub(crate) fn moves_of(
     alloc: Global,
     change: &DefinitionChange,
-) -> Result<Option<DefinitionMoves>, AllocError>
-    ensures { IfOk result (λ moves. IfSome moves (λ moves. AreMovesOf change.now moves)) }
+) -> Result<DefinitionMoves, AllocError>
+    requires { IsToldChange change.now }
+    ensures { IfOk result (AreMovesOf change.now) }
 {
     match change {
-        DefinitionChange::AsBefore => Ok(Some(nothing(alloc))),
-        DefinitionChange::Merged(block) => moves_of_block(alloc, block),
-        DefinitionChange::Removed { kind, name } => Ok(Some(without_name(alloc, *kind, *name)?)),
+        DefinitionChange::AsBefore => Ok(nothing(alloc)),
+        DefinitionChange::Merged(block) => rows_of_block(alloc, block),
+        DefinitionChange::Removed { kind, name } => without_name(alloc, *kind, *name),
     }
 }

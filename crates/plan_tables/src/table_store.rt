@@ -16,6 +16,7 @@ ghost use Rattle.table_facts.specs.Content.{answer_text, IsContentOf};
 ghost use Rattle.table_opening.specs.Opened.{IsStored};
 ghost use Rattle.table_writing.specs.Redefining.{AreMovesOf};
 ghost use Rattle.plan_tables.specs.Stored.{LeavesSound, MayLeave};
+ghost use Rattle.plan_tables.specs.Told.{IsToldChange};
 
 use crate::answers::change_is_tellable;
 use crate::keeping::change_both;
@@ -88,29 +89,21 @@ impl<S: Alter + Drop> TableStore<S> {
         StoreFault::Device
     }
 
-    // What is made of a change before it is written. None is where the store failed before, where tables can't tell the
-    // change, which is counted as a failure, or where memory is refused.
-    fn prepared(&mut self, alloc: Global, change: &Change) -> Result<Prepared, StoreFault>
-        ensures whole { OnOk result (self.old.failures ≡ 0) }
-        ensures same { OnOk result (self.new ≡ self.old) }
+    // What is made of a change before it is written. None is where the store failed before, or where memory is refused.
+    fn prepared(&self, alloc: Global, change: &Change) -> Result<Prepared, StoreFault>
+        requires { IsToldChange change.now.definitions }
+        ensures whole { OnOk result (self.now.failures ≡ 0) }
         ensures moves { IfOk result (λ made. AreMovesOf change.now.definitions made.moves) }
-        ensures number { IfOk result (λ _.
-            IfSome change.now.job (λ (job : JobValue). job.number < 2 ^ 63)) }
         ensures line { IfOk result (λ made. IfSome change.now.job
             (λ (job : JobValue). made.line.items ≡ answer_text job.reply)) }
-        ensures lists { self.new.lists ≡ self.old.lists }
-        ensures conn { self.new.conn ≡ self.old.conn }
-        ensures blames { IfErr result (λ fault. fault ≡ Device
-            → MoreFailures self.old.failures self.new.failures ⊎ (0 < self.old.failures)) }
-        ensures broken { 0 < self.old.failures → result ≡ Err Device }
-        ensures counts { self.old.failures ≤ self.new.failures }
+        ensures blames { IfErr result (λ fault. fault ≡ Device → 0 < self.now.failures) }
+        ensures broken { 0 < self.now.failures → result ≡ Err Device }
     {
         if self.failures > 0 {
             return Err(StoreFault::Device);
         }
         match prepare(alloc, change) {
-            Ok(Some(prepared)) => Ok(prepared),
-            Ok(None) => Err(self.fail()),
+            Ok(prepared) => Ok(prepared),
             Err(_) => Err(StoreFault::Memory),
         }
     }

@@ -5,7 +5,16 @@ use Rattle.planner_machine.specs.Content.{Content}
 use Rattle.plan_store.specs.Contents.{content_of}
 use Rattle.plan_tables.specs.Stored.{MayLeave}
 use Rattle.plan_tables.proofs.StoredLemmas.{settled_so}
+use Rattle.plan_tables.proofs.ToldLemmas.{told_by_tables}
 use Rattle.plan_tables.proofs.table_store.TableStorePlanStore.apply.Goals as goal
+
+pub prepared-requires : goal.prepared-requires
+prepared-requires g c =
+    (told_by_tables c.args.change (content_of c.args.self.now.lists) (c.requires.sound tt)).0
+
+pub change_so-requires-clause-number : goal.change_so-requires-clause-number
+change_so-requires-clause-number g c =
+    (told_by_tables c.args.change (content_of c.args.self.now.lists) (c.requires.sound tt)).1
 
 pub returns-clause-settled : goal.returns-clause-settled
 returns-clause-settled g c honest =
@@ -15,7 +24,7 @@ returns-clause-settled g c honest =
 
 pub returns-clause-crash : goal.returns-clause-crash
 returns-clause-crash g c honest d (clean, may) =
-    elim (rw (c.prepared.ensures.conn, c.prepared.ensures.lists) at c.change_so.ensures.crash clean d may) [
-      | inl was ↦ inl (rw c.prepared.ensures.conn at c.change_so.ensures.honest clean, was)
+    elim (c.change_so.ensures.crash clean d may) [
+      | inl was ↦ inl (c.change_so.ensures.honest clean, was)
       | inr made ↦ inr (inr made)
     ]
