@@ -13,3 +13,4 @@ pub mod UnopenedLemmas
 pub mod FoundLemmas
 pub mod RefusedLemmas
 pub mod ToldLemmas
+pub mod CauseLemmas

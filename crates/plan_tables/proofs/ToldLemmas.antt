@@ -4,6 +4,7 @@ use Rattle.std.specs.Prelude.{IfSome, if◌then◌else◌, nat_eq}
 use Rattle.std.specs.FinMap as map
 use Rattle.std.specs.Option.{option_or}
 use Rattle.std.specs.List.{slice_index_or}
+use Rattle.std.proofs.lemmas.Cmp.{nat_eq_equiv}
 use Rattle.std.proofs.lemmas.Option.{slice_get-get_or}
 use Rattle.sqlite.specs.Order.{Row as Values}
 use Rattle.work_calendars.specs.Calendar.{CalendarEntries}
@@ -106,7 +107,7 @@ told_change all (Removed kind name) are = tt
 -- ---- jobs
 
 kept_job : (jobs : ℕ → Option Job) (job : Job) → jobs_after (Some job) jobs job.number ≡ Some job
-kept_job jobs job = ap (λ b. if b then Some job else jobs job.number) (nat_eq-refl job.number)
+kept_job jobs job = ap (λ b. if b then Some job else jobs job.number) (nat_eq_equiv.refl job.number)
 
 told_number : (o : Option Job) (change : Change) (c : Content) → change.job ≡ o → IsSound (after change c)
     → IfSome o (λ job. job.number < 2 ^ 63)

@@ -19,7 +19,7 @@ use table_facts::tables_have_one_content;
 
 impl<S: Alter + Drop> TableStore<S> {
     /// Lets the tables go, as a program does at its end. Each database that they may be after a crash tells a sound
-    /// content, and where no failure was counted what the store kept.
+    /// content; and where no failure was counted, and it is known that the connection is open, what the store kept.
     pub fn into_store(self) -> S
         ensures numbered { IsClean (S.Store.view result)
             → IsTrue (S.Store.view result).is_numbered }
@@ -28,7 +28,7 @@ impl<S: Alter + Drop> TableStore<S> {
             → (state S.Store self.conn).may_leave db }
         ensures plans { IsClean (S.Store.view result)
             → (db : Trees) → S.Store.recovers result db → ∥ TellsSound db ∥₁ }
-        ensures tells { self.failures ≡ 0 → IsClean (S.Store.view result)
+        ensures tells { self.failures ≡ 0 → self.in_doubt ≡ false → IsClean (S.Store.view result)
             → (db : Trees) → S.Store.recovers result db → ∥ Tells db (content_of self.lists) ∥₁ }
     {
         let conn = self.into_connection();
@@ -40,7 +40,8 @@ impl<S: Alter + Drop> TableStore<S> {
 impl<D: Disk + Drop> TableStore<FileStore<D>> {
     /// Lets the files go, as a program does at its end. Whatever a crash left of them, they hold a database that tells a
     /// sound content. Whoever opens them finds a content that a crash might leave of the tables, unless it is that of
-    /// which nothing is known; and where no failure was counted, what the store kept and nothing else.
+    /// which nothing is known; and where no failure was counted, and it is known that the connection is open, what the
+    /// store kept and nothing else.
     pub fn into_files(self) -> FileStore<D>
         ensures sound { IsClean (view result) → AreDatabases (recovers result) }
         ensures opens_again { IsClean (view result) → (left : Image)
@@ -49,7 +50,7 @@ impl<D: Disk + Drop> TableStore<FileStore<D>> {
             → (files_state result).may_leave left
             → (c : ContentValue) → IsFoundIn left c → ∥ MayLeave (file_state self.conn) c
             ⊎ (c ≡ nothing_known) ∥₁ }
-        ensures found_again { self.failures ≡ 0 → IsClean (view result)
+        ensures found_again { self.failures ≡ 0 → self.in_doubt ≡ false → IsClean (view result)
             → (left : Image) → (files_state result).may_leave left
             → (c : ContentValue) → IsFoundIn left c → c ≡ content_of self.lists }
     {

@@ -1,8 +1,9 @@
 // A store over a database.
 
-ghost use Rattle.std.specs.Prelude.{◌≡◌, ◌⊎◌, ◌<◌, ◌≤◌, false, ◌^◌, Err, OnOk, OnErr, IfOk, IfErr, IfSome};
-ghost use Rattle.sqlite.specs.State.{HasCleanDisk};
+ghost use Rattle.std.specs.Prelude.{◌≡◌, ◌⊎◌, ◌<◌, ◌≤◌, false, ◌^◌, Err, OnOk, OnErr, IfOk, IfErr, IfSome, IsTrue};
+ghost use Rattle.sqlite.specs.State.{HasCleanDisk, Survives};
 ghost use Rattle.sqlite.specs.Held.{state};
+ghost use Rattle.sqlite_disk.specs.Disk.{MoreFaults};
 ghost use Rattle.sqlite.specs.Tree.{Trees};
 ghost use Rattle.planner_machine.specs.Content.{Content as ContentValue};
 ghost use Rattle.planner_machine.specs.Sound.{IsSound};
@@ -19,7 +20,7 @@ ghost use Rattle.plan_tables.specs.Stored.{LeavesSound, MayLeave};
 ghost use Rattle.plan_tables.specs.Told.{IsToldChange};
 
 use crate::answers::change_is_tellable;
-use crate::keeping::change_both;
+use crate::keeping::{Unmade, ask_open, change_both};
 use crate::prepared::{Prepared, prepare};
 use app_definitions::Definitions;
 use external_dependencies::Links;
@@ -38,8 +39,11 @@ pub struct TableStore<S: Alter> {
     lists: Content,
     // how often sqlite failed, or refused for another cause than memory, up to the greatest number that is counted
     failures: u64,
+    // whether memory was refused when it was asked if the connection is open
+    in_doubt: bool,
     ghost settled: { conn.in_transaction ≡ false },
     ghost stored: { ∥ (failures ≡ 0 → HasCleanDisk (state S.Store conn)
+        → (IsTrue in_doubt → IsTrue (state S.Store conn).is_open)
         → IsStored (state S.Store conn) (content_of lists)) ∥₁ },
     ghost told: { ∥ (HasCleanDisk (state S.Store conn) → LeavesSound (state S.Store conn)) ∥₁ },
 }
@@ -74,6 +78,7 @@ impl<S: Alter + Drop> TableStore<S> {
             conn,
             lists,
             failures: 0,
+            in_doubt: false,
         }
     }
 
@@ -87,6 +92,35 @@ impl<S: Alter + Drop> TableStore<S> {
     {
         self.failures = self.failures.saturating_add(1);
         StoreFault::Device
+    }
+
+    // Asks whether the connection is open, where that is not known.
+    fn make_sure(&mut self) -> Result<(), StoreFault>
+        requires { self.old.failures ≡ 0 }
+        ensures sure { OnOk result (self.new.in_doubt ≡ false) }
+        ensures whole { OnOk result (self.new.failures ≡ 0) }
+        ensures lists { self.new.lists ≡ self.old.lists }
+        ensures survives { Survives (state S.Store self.old.conn) (state S.Store self.new.conn)
+            (λ _. ⊥) }
+        ensures blames { IfErr result (λ fault. fault ≡ Device
+            → MoreFailures self.old.failures self.new.failures) }
+        ensures counts { self.old.failures ≤ self.new.failures }
+        ensures shut { HasCleanDisk (state S.Store self.new.conn)
+            → IfErr result (λ fault. fault ≡ Device
+            → MoreFaults (state S.Store self.old.conn).faults (state S.Store self.new.conn).faults
+            ⊎ ((state S.Store self.old.conn).is_open ≡ false)) }
+    {
+        if !self.in_doubt {
+            return Ok(());
+        }
+        match ask_open(&mut self.conn) {
+            Ok(()) => {
+                self.in_doubt = false;
+                Ok(())
+            }
+            Err(StoreFault::Memory) => Err(StoreFault::Memory),
+            Err(StoreFault::Device) => Err(self.fail()),
+        }
     }
 
     // What is made of a change before it is written. None is where the store failed before, or where memory is refused.
@@ -116,6 +150,7 @@ impl<S: Alter + Drop> TableStore<S> {
         change: Change,
     ) -> Result<(), StoreFault>
         requires whole { self.old.failures ≡ 0 }
+        requires sure { self.old.in_doubt ≡ false }
         requires fits { Fits change (content_of self.old.lists) }
         requires sound { IsSound (after change (content_of self.old.lists)) }
         requires moves { AreMovesOf change.definitions prepared.now.moves }
@@ -149,8 +184,12 @@ impl<S: Alter + Drop> TableStore<S> {
             &prepared.line,
         ) {
             Ok(()) => Ok(()),
-            Err(StoreFault::Memory) => Err(StoreFault::Memory),
-            Err(StoreFault::Device) => {
+            Err(Unmade::Memory) => Err(StoreFault::Memory),
+            Err(Unmade::Doubt) => {
+                self.in_doubt = true;
+                Err(StoreFault::Memory)
+            }
+            Err(Unmade::Device) => {
                 self.failures = self.failures.saturating_add(1);
                 Err(StoreFault::Device)
             }
@@ -233,6 +272,7 @@ impl<S: Alter + Drop> PlanStore for TableStore<S> {
 
     fn apply(&mut self, alloc: Global, change: Change) -> Result<(), StoreFault> {
         let prepared = self.prepared(alloc, &change)?;
+        self.make_sure()?;
         self.change_so(alloc, &prepared, change)
     }
 }
