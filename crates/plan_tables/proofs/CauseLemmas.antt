@@ -43,7 +43,7 @@ module _ (old new : State) where
   pub asked_open : (sql : List ℕ) (e : Error) → IsNotRun old new sql [] e → fault_in e ≡ None → IsUnchanged old new
   unfolding IsNotRun
   asked_open sql e (inl (none, same)) is = same
-  asked_open sql e (inr (cause, at, has, more)) is =
+  asked_open sql e (inr (cause, at, has, back, more)) is =
       absurd (neither cause (subst (λ x. fault_in x ≡ None) at is) has)
 
   pub asked_memory : (sql : List ℕ) (e : Error) → IsNotRun old new sql [] e → fault_in e ≡ Some Memory
@@ -58,7 +58,7 @@ module _ (old new : State) where
   unfolding IsNotRun
   asked_shut sql e (inl (none, same)) is =
       absurd (let no : None ≡ Some Device = sym (refused old sql [] e none) ∙ is in let h : ⊥ = cc no in h)
-  asked_shut sql e (inr (cause, at, has, more)) is =
+  asked_shut sql e (inr (cause, at, has, back, more)) is =
       device cause (subst (λ x. fault_in x ≡ Some Device) at is) has
 
 -- ---- what is kept

@@ -39,9 +39,9 @@ returns-in-Ok-commit_change-clause-crash g c =
 pub returns-in-Err-commit_change-clause-crash : goal.returns-in-Err-commit_change-clause-crash
 returns-in-Err-commit_change-clause-crash g c =
     survives_then (state g.S.Store c.args.conn.now) (state g.S.Store c.commit_change.new.conn)
-    (state g.S.Store c.fault_of.new.conn) _ (λ _. ⊥) _
+    (state g.S.Store c.cause_of.new.conn) _ (λ _. ⊥) _
     (λ clean db h stored. tables_after (content_of c.args.lists.now) c.args.change c.args.moves.now c.requires.fits
     c.requires.moves c.requires.told c.in-Ok.underway.rest c.in-Ok.ensures.rest
     (state g.S.Store c.args.conn.now) db (content_of c.start.new.lists) c.in-Ok.ensures.ok stored (h stored.plan))
     (λ _ _ none. absurd none)
-    c.commit_change.ensures.crash c.fault_of.ensures.survives
+    c.commit_change.ensures.crash c.cause_of.ensures.survives
