@@ -1,7 +1,7 @@
 // The occurrences that the definitions name for an application.
 
 ghost use Rattle.std.specs.Prelude.{◌≤◌, IfOk};
-ghost use Rattle.work_calendars.specs.Day.{last_planning_day};
+ghost use Rattle.work_calendars.specs.Day.{last_kept_day};
 ghost use Rattle.app_occurrences.specs.NamedOccurrences.{AgreeOn, AreIndexesOf, ListsNamed};
 
 use crate::applications::{calendar_name, cycles_of, period_name};
@@ -35,7 +35,7 @@ pub fn named_occurrences(
     from: Day,
     to: Day,
 ) -> Result<Vec<Named>, AllocError>
-    requires planned { to ≤ last_planning_day }
+    requires planned { to ≤ last_kept_day }
     requires indexes { AreIndexesOf all.now indexes.old }
     ensures listed { IfOk result (λ list. ListsNamed all.now app.now application.now from to list.items) }
     ensures indexes { AreIndexesOf all.now indexes.new }

@@ -1,6 +1,6 @@
 //! `days`: the days that an application's run cycles name.
 ghost use Rattle.std.specs.Prelude.{◌≡◌, ◌↔◌, ◌≤◌, ℕ, IsTrue, IfErr, IfNone, IfOk, IfSome, OnOk};
-ghost use Rattle.work_calendars.specs.Day.{last_planning_day};
+ghost use Rattle.work_calendars.specs.Day.{last_kept_day};
 ghost use Rattle.app_occurrences.specs.Active.{IsActive, LacksCalendar, LacksPeriod};
 ghost use Rattle.occurrences.specs.declared.refusal.Refusal.{Refusal as RefusalValue};
 ghost use Rattle.planner_machine.specs.Content.{Content};
@@ -88,7 +88,7 @@ fn named_days(
 // number that holds.
 fn application_for(all: &Definitions, app: &App, from: Day, to: Day) -> Result<Application, Refusal>
     ensures active { IfOk result (IsActive all.now app.now) }
-    ensures planned { OnOk result (to ≤ last_planning_day) }
+    ensures planned { OnOk result (to ≤ last_kept_day) }
     ensures good { OnOk result ((c : Content) → c.definitions ≡ all.now → (r : RefusalValue)
         → ¬ (DaysRefused app.now from to c r)) }
     ensures refused { IfErr result (λ r. (c : Content) → c.definitions ≡ all.now
