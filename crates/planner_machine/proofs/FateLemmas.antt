@@ -106,10 +106,10 @@ change_follows (DailyExtendBy n count) c reply c' sound d =
       refl,
       subst (λ (o : Option Bounds). Follows LongTerm (DailyFateBy n count c.definitions o) [] c.sets c'.sets) (sym is)
           (record {
-        issues = follows.issues;
-        old = λ serial p at. let (q, goes, there) = follows.old serial p at in (q, (t, new, goes), there);
-        new = follows.new;
-      }),
+            issues = follows.issues;
+            old = λ serial p at. let (q, goes, there) = follows.old serial p at in (q, (t, new, goes), there);
+            new = follows.new;
+          }),
     )
 change_follows Replan c reply c' sound d =
     let (b, is, r) = d.1.rows in
