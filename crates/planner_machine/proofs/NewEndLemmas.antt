@@ -20,7 +20,7 @@ use Rattle.planner_machine.specs.Laws.{DailyByIsToEnd}
 use Rattle.planner_machine.specs.NewEnd.{IsNewDay, IsNewEnd, IsNthFrom, default_work}
 use Rattle.planner_machine.specs.Plans.{ChangesPlans}
 
-one_nth : (work : ℕ → Bool) (d n x y : ℕ) → IsNthFrom work d n x → IsNthFrom work d n y → x ≡ y
+pub one_nth : (work : ℕ → Bool) (d n x y : ℕ) → IsNthFrom work d n x → IsNthFrom work d n y → x ≡ y
 one_nth work d n x y p q =
     let at_x = p.place in
     let at_y = q.place in

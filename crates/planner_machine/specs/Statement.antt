@@ -46,7 +46,7 @@ pub data Change : Type 0 where
   Add : Key → Change
   Delete : Key → Change
   DailyExtend : (to : ℕ) → Change
-  DailyExtendBy : (days : ℕ) → Count → Change
+  DailyExtendBy : (n : ℕ) → Count → Change
   Replan : Change
   AddCurrent : Key → Change
   Act : Action → Key → Change
@@ -61,7 +61,7 @@ decision_of (ModifyOne app) = modify_one app
 decision_of (Add key) = ltp_add key
 decision_of (Delete key) = ltp_delete key
 decision_of (DailyExtend to) = dp_extend to
-decision_of (DailyExtendBy days count) = dp_extend_by days count
+decision_of (DailyExtendBy n count) = dp_extend_by n count
 decision_of Replan = dp_replan
 decision_of (AddCurrent key) = cp_add key
 decision_of (Act action key) = cp_action key action
@@ -77,7 +77,7 @@ fate_of ModifyAll all bounds = ModifyFate IsAnyApp all
 fate_of (ModifyOne app) all bounds = ModifyFate (IsThatApp app) all
 fate_of (Delete key) all bounds = DeletionFate key
 fate_of (DailyExtend to) all bounds = DailyFate to
-fate_of (DailyExtendBy days count) all bounds = DailyFateBy days count all bounds
+fate_of (DailyExtendBy n count) all bounds = DailyFateBy n count all bounds
 fate_of Replan all bounds = replan_fate bounds
 fate_of (Act action key) all bounds = ActionFate key action
 fate_of change all bounds = Stays
