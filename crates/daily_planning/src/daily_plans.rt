@@ -8,7 +8,7 @@ ghost use Rattle.planner_machine.specs.Replan.{dp_replan};
 ghost use Rattle.planner_machine.specs.Sound.{IsSound};
 ghost use Rattle.plan_store.specs.Verdicts.{VerdictIs};
 ghost use Rattle.plan_store.specs.Views.{Shows};
-ghost use Rattle.plan_store.specs.declared.stores.Need.TheVariants.{Daily};
+ghost use Rattle.plan_store.specs.declared.stores.Need.TheVariants.{Daily, LongTerm};
 ghost use Rattle.daily_planning.specs.DailyPlans.{DoesDaily, is_finished};
 
 use crate::new_ends::new_end;
@@ -43,7 +43,7 @@ pub fn extend_by(
     days: u8,
     count: Count,
 ) -> Result<Verdict, AllocError>
-    ensures { IfOk result (λ verdict. (moment : ℕ) (c : Content) → Shows (Daily moment) view.now c → IsSound c →
+    ensures { IfOk result (λ verdict. (c : Content) → Shows LongTerm view.now c → IsSound c →
         VerdictIs (dp_extend_by days count) c verdict) }
 {
     daily_plans();
