@@ -6,3 +6,4 @@ pub mod StatusLemmas
 pub mod ActLemmas
 pub mod ResetLemmas
 pub mod WaitLemmas
+pub mod NewEndLemmas

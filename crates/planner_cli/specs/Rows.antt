@@ -13,8 +13,8 @@ use Rattle.planner_machine.specs.Content.{Content}
 use Rattle.planner_machine.specs.Shown.{DailyChange, DailyMark, PlanChange, PlanMark, ShowsDaily, ShowsPlan, TrialShows}
 use Rattle.planner_machine.specs.Shown.{WouldBeCarried, WouldBeDeleted, WouldBeHistory, WouldBeMade, WouldBeMoved}
 use Rattle.planner_machine.specs.Shown.{WouldBeWithdrawn}
-use Rattle.planner_machine.specs.Statement.{Change, Create, DailyExtend, Extend, ModifyAll, ModifyOne, Replan}
-use Rattle.planner_machine.specs.Statement.{decision_of}
+use Rattle.planner_machine.specs.Statement.{Change, Create, DailyExtend, DailyExtendBy, Extend, ModifyAll, ModifyOne}
+use Rattle.planner_machine.specs.Statement.{Replan, decision_of}
 
 -- each row is the line of the occurrence at its place
 abbrev pub AreDaysLines : List Named → List (List ℕ) → Type 0
@@ -57,6 +57,7 @@ ShowsTrial (Extend to) c reply rows = ShowsPlanTrial (Extend to) c reply rows
 ShowsTrial ModifyAll c reply rows = ShowsPlanTrial ModifyAll c reply rows
 ShowsTrial (ModifyOne app) c reply rows = ShowsPlanTrial (ModifyOne app) c reply rows
 ShowsTrial (DailyExtend to) c reply rows = ShowsDailyTrial (DailyExtend to) c reply rows
+ShowsTrial (DailyExtendBy days count) c reply rows = ShowsDailyTrial (DailyExtendBy days count) c reply rows
 ShowsTrial Replan c reply rows = ShowsDailyTrial Replan c reply rows
 ShowsTrial change c reply rows = ⊥
 

@@ -13,9 +13,9 @@ use Rattle.planner_machine.specs.Jobs.{AnswersKept, kept, with_job}
 use Rattle.planner_machine.specs.Rerun.{AnswersAgree, RerunEndsAsEachRun, RerunEndsAsOneRun, job_number}
 use Rattle.planner_machine.specs.Shown.{list_pairs, list_rows}
 use Rattle.planner_machine.specs.Statement.{Act, Add, AddCurrent, Answer, AreRead, Change, Create}
-use Rattle.planner_machine.specs.Statement.{DailyExtend, Days, Define, DefineJob, Delete, Extend, IsFaulty, Job}
-use Rattle.planner_machine.specs.Statement.{ListPairs, ListRows, ModifyAll, ModifyOne, Replan, Statement, Steps, Trial}
-use Rattle.planner_machine.specs.Statement.{Undefine, decision_of}
+use Rattle.planner_machine.specs.Statement.{DailyExtend, DailyExtendBy, Days, Define, DefineJob, Delete, Extend}
+use Rattle.planner_machine.specs.Statement.{IsFaulty, Job, ListPairs, ListRows, ModifyAll, ModifyOne, Replan}
+use Rattle.planner_machine.specs.Statement.{Statement, Steps, Trial, Undefine, decision_of}
 use Rattle.planner_machine.specs.Stream.{Runs}
 use Rattle.planner_machine.proofs.StepLemmas.{asks_nothing, faulty_once, read_or_faulty}
 use Rattle.planner_machine.proofs.StreamLemmas.{one_way}
@@ -33,6 +33,7 @@ jobs_stay (ModifyOne app) c (Ok reply) c' (none, does) = does.jobs
 jobs_stay (Add key) c (Ok reply) c' (none, does) = does.jobs
 jobs_stay (Delete key) c (Ok reply) c' (none, does) = does.jobs
 jobs_stay (DailyExtend to) c (Ok reply) c' (none, does) = does.jobs
+jobs_stay (DailyExtendBy n count) c (Ok reply) c' (none, does) = does.jobs
 jobs_stay Replan c (Ok reply) c' (none, does) = does.jobs
 jobs_stay (AddCurrent key) c (Ok reply) c' (none, does) = does.jobs
 jobs_stay (Act action key) c (Ok reply) c' (none, does) = does.jobs

@@ -1,4 +1,4 @@
-//! Words without an option: kinds of definitions, functions of a trial, what is listed.
+//! Words without an option: kinds of definitions, functions of a trial, what is listed; and which days are counted.
 
 /// A kind of definitions, as a statement names it.
 #[derive(Clone, Copy, Debug, PartialEq, Eq)]
@@ -68,6 +68,32 @@ impl FunctionWord {
             "modify-all" => Some(FunctionWord::ModifyAll),
             "modify-one" => Some(FunctionWord::ModifyOne),
             "replan" => Some(FunctionWord::Replan),
+            _ => None,
+        }
+    }
+}
+
+/// Which days an extension counts.
+#[derive(Clone, Copy, Debug, PartialEq, Eq)]
+pub enum CountWord {
+    /// `A`: all days.
+    AllDays,
+    /// `W`: work days.
+    WorkDays,
+}
+
+impl CountWord {
+    ghost use Rattle.std.specs.Prelude.{◌≡◌, ◌≢◌, IfSome, IfNone};
+    ghost use Rattle.statements.specs.Words.{count_text};
+
+    /// The days that the word names.
+    pub fn from_text(text: &str) -> Option<CountWord>
+        ensures some { IfSome result (λ count. text.now ≡ count_text count) }
+        ensures none { IfNone result ((count : CountWord) → text.now ≢ count_text count) }
+    {
+        match text {
+            "A" => Some(CountWord::AllDays),
+            "W" => Some(CountWord::WorkDays),
             _ => None,
         }
     }
