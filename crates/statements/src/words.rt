@@ -86,6 +86,8 @@ pub enum WhatWord {
     Deletions,
     /// `dependencies`: pairs of a successor and its predecessor.
     Dependencies,
+    /// `links`: the predecessor lists in force.
+    Links,
 }
 
 impl WhatWord {
@@ -103,6 +105,7 @@ impl WhatWord {
             "history" => Some(WhatWord::History),
             "deletions" => Some(WhatWord::Deletions),
             "dependencies" => Some(WhatWord::Dependencies),
+            "links" => Some(WhatWord::Links),
             _ => None,
         }
     }
