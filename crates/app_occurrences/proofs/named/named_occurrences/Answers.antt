@@ -4,8 +4,8 @@ use Rattle.work_calendars.specs.WorkIndex.{is_work_in}
 use Rattle.app_occurrences.specs.NamedOccurrences.{work_in}
 use Rattle.app_occurrences.proofs.named.named_occurrences.Goals as goal
 
-pub named_by_index-requires-index : goal.named_by_index-requires-index
-named_by_index-requires-index c =
+pub named_by_index-requires-clause-index : goal.named_by_index-requires-clause-index
+named_by_index-requires-clause-index c =
     let all = c.args.all.now in
     let name = c.calendar_name-name.result in
     let index = c.unwrap-index.result.now in

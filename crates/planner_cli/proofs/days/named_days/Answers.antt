@@ -4,8 +4,8 @@ use Rattle.app_occurrences.specs.NamedOccurrences.{work_in}
 use Rattle.planner_cli.proofs.DaysLemmas.{lists_days}
 use Rattle.planner_cli.proofs.days.named_days.Goals as goal
 
-pub named_by_index-requires-index : goal.named_by_index-requires-index
-named_by_index-requires-index c d =
+pub named_by_index-requires-clause-index : goal.named_by_index-requires-clause-index
+named_by_index-requires-clause-index c d =
     ap (λ index. is_work_in index d) c.index.ensures ∙ c.in_ok-index.ensures d
     ∙ ap (λ name. work_in c.args.all.now name d) c.calendar_name-calendar.ensures
 
