@@ -12,7 +12,7 @@ ALONE = {  # the words without an option that a statement takes, one of them
     "undefine": KINDS[:-1],
     "ltp-trial": ("create", "extend", "modify-all", "modify-one"),
     "dp-trial": ("extend", "replan"),
-    "list": ("ltp", "cp", "history", "deletions", "dependencies"),
+    "list": ("ltp", "cp", "history", "deletions", "dependencies", "links"),
 }
 NEEDED = {  # the options that have to be there; those of trials stand by the function
     "define": ("job",),

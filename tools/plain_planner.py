@@ -586,6 +586,9 @@ class Planner:
                 for (day, time), (name, due) in sorted(self.named(app, first, last).items())]
 
     def list(self, what, app):
+        if what == "links":
+            return [f"{name:16} {predecessor:16} {'':4}" for name, listed in sorted(self.in_force.items())
+                    for predecessor in sorted(listed) if app in (None, name)]
         if what == "dependencies":
             rows = {**self.planned, **self.history}
             for held in (self.current, self.deleted):
@@ -658,7 +661,7 @@ WORDS_OF = {
     "undefine": list(RECORDS),
     "ltp-trial": ["create", "extend", "modify-all", "modify-one"],
     "dp-trial": ["extend", "replan"],
-    "list": ["ltp", "cp", "history", "deletions", "dependencies"],
+    "list": ["ltp", "cp", "history", "deletions", "dependencies", "links"],
 }
 
 

@@ -41,7 +41,7 @@ Statements, one a line:
   cp-start, cp-complete, cp-fail, cp-reset, cp-delete --app A --ia M --job N
 
 KIND: calendars, periods, applications, run-cycles, predecessors, options
-WHAT: ltp, cp, history, deletions, dependencies
+WHAT: ltp, cp, history, deletions, dependencies, links
 D: 2024-01-31   M: 2024-01-31/08.00   N: 1 to 999999999, a new one for each job
 K: 1 to 21      C: A, all days, or W, work days
 

@@ -3,6 +3,7 @@ ghost use Rattle.plan_store.specs.Listings.{Shown, item_shown};
 
 use occurrences::Row;
 use thiserror::Error;
+use work_calendars::{App, Within};
 
 /// What a listing shows.
 #[derive(Clone, Copy, Debug, PartialEq, Eq)]
@@ -17,6 +18,8 @@ pub enum What {
     Deletions,
     /// The pairs of successors and predecessors.
     Dependencies,
+    /// The lists in force.
+    Links,
 }
 
 /// One thing that a listing shows.
@@ -28,6 +31,8 @@ pub enum Item<'a> {
     Marked(&'a Row, u8),
     /// A successor and its predecessor.
     Pair(&'a Row, &'a Row),
+    /// An application, a predecessor in its list, and the limit, if there is one.
+    Link(&'a App, &'a App, Option<Within>),
 }
 
 /// A sink refused an item. The sink knows why.

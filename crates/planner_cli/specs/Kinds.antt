@@ -26,6 +26,7 @@ what_of words.Cp = what.Cp
 what_of words.History = what.History
 what_of words.Deletions = what.Deletions
 what_of words.Dependencies = what.Dependencies
+what_of words.Links = what.Links
 
 abbrev pub count_of : CountWord → Count
 count_of counts.AllDays = count.AllDays

@@ -1,14 +1,15 @@
 -- The rows that a list or a trial prints.
-use Rattle.std.specs.Prelude.{ℕ, List, [], ◌∷◌}
+use Rattle.std.specs.Prelude.{◌≡◌, ℕ, List, [], ◌∷◌}
 use Rattle.std.specs.Str.{byte}
 use Rattle.occurrences.specs.declared.reply.Reply.{Reply}
 use Rattle.run_cycles.specs.declared.named.Named.{Named}
 use Rattle.plan_listings.specs.Days.{IsDaysLine}
 use Rattle.plan_listings.specs.Line.{AreLinesOf}
+use Rattle.plan_listings.specs.Links.{link_text}
 use Rattle.plan_listings.specs.Report.{IsSignedText, daily_sign, plan_sign}
 use Rattle.plan_listings.specs.Row.{IsMarkedText, IsPairText, IsRowText}
 use Rattle.plan_listings.specs.declared.report.Signed.{Signed}
-use Rattle.plan_store.specs.Listings.{Linked, Marked, Plain, Shown}
+use Rattle.plan_store.specs.Listings.{InForce, Linked, Marked, Plain, Shown}
 use Rattle.planner_machine.specs.Content.{Content}
 use Rattle.planner_machine.specs.Shown.{DailyChange, DailyMark, PlanChange, PlanMark, ShowsDaily, ShowsPlan, TrialShows}
 use Rattle.planner_machine.specs.Shown.{WouldBeCarried, WouldBeDeleted, WouldBeHistory, WouldBeMade, WouldBeMoved}
@@ -66,3 +67,4 @@ abbrev pub IsShownText : Shown → List ℕ → Type 0
 IsShownText (Plain row) line = IsRowText row line
 IsShownText (Marked row letter) line = IsMarkedText row letter line
 IsShownText (Linked successor predecessor) line = IsPairText successor predecessor line
+IsShownText (InForce app predecessor within) line = line ≡ link_text app predecessor within

@@ -31,6 +31,7 @@ pub fn what_of(word: WhatWord) -> What
         WhatWord::History => What::History,
         WhatWord::Deletions => What::Deletions,
         WhatWord::Dependencies => What::Dependencies,
+        WhatWord::Links => What::Links,
     }
 }
 

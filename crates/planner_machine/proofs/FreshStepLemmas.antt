@@ -36,13 +36,13 @@ use Rattle.planner_machine.specs.Laws.{Follows, IsWellFormed}
 use Rattle.planner_machine.specs.ModifyAll.{IsAnyApp, is_any_app}
 use Rattle.planner_machine.specs.ModifyOne.{IsThatApp, is_that_app}
 use Rattle.planner_machine.specs.Moves.{numbered_row}
-use Rattle.planner_machine.specs.Shown.{list_pairs, list_rows}
+use Rattle.planner_machine.specs.Shown.{list_links, list_pairs, list_rows}
 use Rattle.planner_machine.specs.Days.{days}
 use Rattle.planner_machine.specs.Sound.{IsSound}
 use Rattle.planner_machine.specs.Statement.{Act, Add, AddCurrent, Answer, Change, Create, DailyExtend, DailyExtendBy}
-use Rattle.planner_machine.specs.Statement.{Define, DefineJob, Delete, Extend, Job, ListPairs, ListRows, ModifyAll}
-use Rattle.planner_machine.specs.Statement.{AnswersDefine, Days, ModifyOne, Replan, Statement, Steps, Trial, Undefine}
-use Rattle.planner_machine.specs.Statement.{decision_of, replan_fate}
+use Rattle.planner_machine.specs.Statement.{Define, DefineJob, Delete, Extend, Job, ListLinks, ListPairs, ListRows}
+use Rattle.planner_machine.specs.Statement.{AnswersDefine, Days, ModifyAll, ModifyOne, Replan, Statement, Steps, Trial}
+use Rattle.planner_machine.specs.Statement.{Undefine, decision_of, replan_fate}
 use Rattle.planner_machine.specs.Stream.{IsStatement, Runs}
 use Rattle.planner_machine.proofs.AssembleLemmas.{stands_in_deletions}
 use Rattle.planner_machine.proofs.ChangeSoundLemmas.{change_sound}
@@ -405,6 +405,8 @@ step_fresh (ListRows listed app) fine c sound a c' leaves h fresh =
     subst IsFresh (sym (asks_nothing (list_rows listed app) (λ c reply c' does. does.0) c a c' h)) fresh
 step_fresh (ListPairs app) fine c sound a c' leaves h fresh =
     subst IsFresh (sym (asks_nothing (list_pairs app) (λ c reply c' does. does.0) c a c' h)) fresh
+step_fresh (ListLinks app) fine c sound a c' leaves h fresh =
+    subst IsFresh (sym (asks_nothing (list_links app) (λ c reply c' does. does.0) c a c' h)) fresh
 
 pub stays_fresh : StaysFresh
 stays_fresh [] [] c c' sound fine r leaves fresh = subst IsFresh (sym r) fresh

@@ -33,7 +33,7 @@ use Rattle.planner_machine.specs.Modify.{NamesAhead}
 use Rattle.planner_machine.specs.ModifyAll.{IsAnyApp, modify_all}
 use Rattle.planner_machine.specs.ModifyOne.{IsThatApp, modify_one}
 use Rattle.planner_machine.specs.Replan.{dp_replan}
-use Rattle.planner_machine.specs.Shown.{Listed, list_pairs, list_rows}
+use Rattle.planner_machine.specs.Shown.{Listed, list_links, list_pairs, list_rows}
 
 -- the statements that change something
 pub data Change : Type 0 where
@@ -107,6 +107,7 @@ pub data Statement : Type 0 where
   Trial : Change → Statement
   ListRows : Listed → Option (List ℕ) → Statement
   ListPairs : Option (List ℕ) → Statement
+  ListLinks : Option (List ℕ) → Statement
 
 abbrev pub Answer : Type 0
 Answer = Result Reply Refusal
@@ -135,3 +136,4 @@ Steps (Days app from to) c answer c' = Decides (days app from to) c answer c'
 Steps (Trial change) c answer c' = Decides (trial (decision_of change)) c answer c'
 Steps (ListRows listed app) c answer c' = Decides (list_rows listed app) c answer c'
 Steps (ListPairs app) c answer c' = Decides (list_pairs app) c answer c'
+Steps (ListLinks app) c answer c' = Decides (list_links app) c answer c'

@@ -132,7 +132,8 @@ what_by t = or_else (bytes_eq t (codes "ltp")) what.Ltp
     (or_else (bytes_eq t (codes "cp")) what.Cp
     (or_else (bytes_eq t (codes "history")) what.History
     (or_else (bytes_eq t (codes "deletions")) what.Deletions
-    (or_else (bytes_eq t (codes "dependencies")) what.Dependencies None))))
+    (or_else (bytes_eq t (codes "dependencies")) what.Dependencies
+    (or_else (bytes_eq t (codes "links")) what.Links None)))))
 
 what_by-text : (x : WhatWord) → what_by (what_text x) ≡ Some x
 what_by-text what.Ltp = refl
@@ -140,6 +141,7 @@ what_by-text what.Cp = refl
 what_by-text what.History = refl
 what_by-text what.Deletions = refl
 what_by-text what.Dependencies = refl
+what_by-text what.Links = refl
 
 same_what : (x y : WhatWord) → what_text x ≡ what_text y → x ≡ y
 same_what x y e = let same : Some x ≡ Some y = sym (what_by-text x) ∙ ap what_by e ∙ what_by-text y in cc

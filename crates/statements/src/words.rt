@@ -112,6 +112,8 @@ pub enum WhatWord {
     Deletions,
     /// `dependencies`: pairs of a successor and its predecessor.
     Dependencies,
+    /// `links`: the predecessor lists in force.
+    Links,
 }
 
 impl WhatWord {
@@ -129,6 +131,7 @@ impl WhatWord {
             "history" => Some(WhatWord::History),
             "deletions" => Some(WhatWord::Deletions),
             "dependencies" => Some(WhatWord::Dependencies),
+            "links" => Some(WhatWord::Links),
             _ => None,
         }
     }
