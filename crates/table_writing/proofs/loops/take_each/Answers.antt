@@ -3,7 +3,7 @@ use Rattle.sqlite.specs.Held.{state}
 use Rattle.sqlite.proofs.InsideLemmas.{keeps_then}
 use Rattle.table_schema.specs.Rows.{Tables, tables_of, without_key}
 use Rattle.table_writing.proofs.TakingLemmas.{if_told, may_since}
-use Rattle.table_writing.proofs.Turns.{fold_on, stands_on, survives_both}
+use Rattle.table_writing.proofs.Turns.{fold_done, fold_on, stands_done, stands_on, survives_both}
 use Rattle.table_writing.proofs.loops.take_each.Goals as goal
 
 pub loop-fact-preserved : goal.loop-fact-preserved
@@ -59,3 +59,21 @@ returns-in_err-take g c =
         sound = search rules;
       };
     }
+
+pub returns : goal.returns
+returns g c = record {
+  same_reference = c.loop-fact.invariant.same;
+  ok = λ clean plan mode alone.
+      let way = c.loop-fact.invariant.leaves clean plan mode alone in
+      stands_done _ _ _ way.0 (fold_done (λ (now : Tables) x. without_key c.args.table (g.R.Fact.key x) now)
+      c.args.facts.now c.loop-fact.fact-index _ _ (omega arith) way.1);
+  kept = c.loop-fact.invariant.kept;
+  survives = c.loop-fact.invariant.survives;
+  takes = record {
+    fails = λ clean sound takes. tt;
+    sound = λ clean sound takes.
+        let was = c.loop-fact.invariant.takes clean sound takes in
+        (was.0, was.1, fold_done (λ (now : Tables) x. without_key c.args.table (g.R.Fact.key x) now) c.args.facts.now
+        c.loop-fact.fact-index _ _ (omega arith) was.2);
+  };
+}

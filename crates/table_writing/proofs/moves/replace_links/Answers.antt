@@ -34,5 +34,5 @@ returns-in_err-take_each g c = record {
   kept = search rules;
   survives = search rules;
   takes =
-      takes_no_more g.S.Store _ _ _ _ _ _ _ c.from_residual-3.result c.from_residual-3.ensures.1 (λ all t. (links_keys, links_alone)) (rw (c.deref.ensures.value, c.in_ok-gone.ensures) at c.in_err-take_each.ensures.takes);
+      takes_no_more g.S.Store _ _ _ _ _ _ _ c.from_residual-in_err-take_each.result c.from_residual-in_err-take_each.ensures.1 (λ all t. (links_keys, links_alone)) (rw (c.deref.ensures.value, c.in_ok-gone.ensures) at c.in_err-take_each.ensures.takes);
 }

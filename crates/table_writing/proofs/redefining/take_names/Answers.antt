@@ -5,7 +5,7 @@ use Rattle.table_schema.specs.Rows.{Tables, tables_of, without_key}
 use Rattle.table_writing.specs.Redefining.{AreAlone, name_key}
 use Rattle.table_writing.proofs.TakingLemmas.{if_told, may_since}
 use Rattle.table_writing.proofs.AloneLemmas.{alone_still}
-use Rattle.table_writing.proofs.Turns.{fold_on, item_contains, stands_on, survives_both}
+use Rattle.table_writing.proofs.Turns.{fold_done, fold_on, item_contains, stands_done, stands_on, survives_both}
 use Rattle.table_writing.proofs.redefining.take_names.Goals as goal
 
 pub loop-name-preserved : goal.loop-name-preserved
@@ -72,3 +72,21 @@ returns-in_err-take_name g c =
         sound = search rules;
       };
     }
+
+pub returns : goal.returns
+returns g c = record {
+  same_reference = c.loop-name.invariant.same;
+  ok = λ clean plan mode alone.
+      let way = (c.loop-name.invariant.leaves clean plan mode alone).1 in
+      stands_done _ _ _ way.0 (fold_done (λ (now : Tables) x. without_key c.args.table (name_key x) now)
+      c.args.names.now c.loop-name.name-index _ _ (omega arith) way.1);
+  kept = c.loop-name.invariant.kept;
+  survives = c.loop-name.invariant.survives;
+  takes = record {
+    fails = λ clean sound takes. tt;
+    sound = λ clean sound takes.
+        let was = c.loop-name.invariant.takes clean sound takes.0 takes.1 in
+        (was.0, was.1, fold_done (λ (now : Tables) x. without_key c.args.table (name_key x) now) c.args.names.now
+        c.loop-name.name-index _ _ (omega arith) was.3);
+  };
+}
