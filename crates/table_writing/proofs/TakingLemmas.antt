@@ -3,15 +3,16 @@ use Rattle.std.proofs.Common.{◌≡◌, ◌≤◌, ◌<◌, ◌+◌, ◌∙◌,
 use Rattle.std.proofs.Common.{get_or, drop-cons, add-one, refl, sym, ap, subst, arith, true≢false, IsSome, IsTrue, Result, Ok, Err}
 use Rattle.std.specs.Prelude.{IfErr, IsErrAnd, OnOk}
 use Rattle.sqlite.specs.Order.{Row as Values}
-use Rattle.sqlite.specs.State.{HasCause, HasCleanDisk, State, Survives}
+use Rattle.sqlite.specs.Held.{Held, state}
+use Rattle.sqlite.specs.State.{HasCause, HasCleanDisk, IsLive, State, Survives}
 use Rattle.sqlite.specs.Steps.{FailsToCommit}
 use Rattle.sqlite.specs.Store.{Ghosts}
 use Rattle.sqlite.specs.declared.error.Error.{Error}
 use Rattle.sqlite.specs.declared.transaction.Transaction.{Transaction}
 use Rattle.sqlite_trees.specs.declared.error.StoreError.{StoreError}
 use Rattle.sqlite_trees.specs.declared.error.StoreError.TheVariants.{OutOfMemory, Io, Corrupt, Full, Broken, Unstorable}
-use Rattle.table_schema.specs.Rows.{MayFail, Tables, tables_of, with_cells}
-use Rattle.table_schema.specs.Takes.{IsSoundPlan, TakesRow}
+use Rattle.table_schema.specs.Rows.{IsPlan, MayFail, Tables, tables_of, with_cells}
+use Rattle.table_schema.specs.Takes.{HasOwnIndexes, IsSoundPlan, TakesRow}
 use Rattle.table_schema.specs.Writes.{TakesWhere, seen}
 use Rattle.table_schema.specs.declared.tables.Table.{Table}
 use Rattle.table_writing.specs.Taking.{TakesEach}
@@ -112,3 +113,37 @@ pub each_on : {A : Type 0} (t : Table) (values_of : A → Values) (items : List 
     → TakesRow t (values_of item) all × TakesEach t values_of (drop (i + 1) items) (with_cells t (values_of item) all)
 each_on t values_of items i item all low is h =
     subst (λ xs. TakesEach t values_of xs all) (cut_at items i item low is) h
+
+-- ---- a transaction
+
+-- what caused a failure causes it still, however many faults follow
+pub may_until : (a b c : State) (e : Error) → b.faults ≤ c.faults → MayFail a b e → MayFail a c e
+may_until a b c e more (inl h) = inl (h.0, h.1, go h.0 h.2)
+  where
+    go : (cause : StoreError) → HasCause a b ⊥ cause → HasCause a c ⊥ cause
+    go OutOfMemory h = tt
+    go Io h = omega (arith, more, h)
+    go Corrupt h = omega (arith, more, h)
+    go Full h = omega (arith, more, h)
+    go Broken h = h
+    go Unstorable h = h
+may_until a b c e more (inr h) = inr h
+
+-- a commit in a transaction fails for these alone
+pub commit_may : (old new : State) (e : Error) → IsTrue old.in_transaction → FailsToCommit old new e → MayFail old new e
+commit_may old new e mode (inl fails) = inl (fails.0, fails.1, fails.2)
+commit_may old new e mode (inr late) = absurd (let k : true ≡ false = sym mode ∙ late.1 in true≢false k)
+
+-- a transaction begins with a plan that is sound
+pub begins_sound : {S : Type 0} (g : Ghosts S) (held begun : Held S) → begun ≡ record held { in_transaction = true }
+    → IsLive (state g held) → IsPlan (state g held) → HasOwnIndexes (state g held).now.schema
+    → IsSoundPlan (state g begun)
+begins_sound g held begun is live plan own = subst (λ h. IsSoundPlan (state g h)) (sym is) (record {
+      plan = record { schema = plan.schema; rowids = plan.rowids };
+      own = own;
+      sound = λ o. (live o).0;
+      mode = refl;
+    })
+
+pub if_ok_told : {T : Type 0} (r : Result T Error) (e : Error) (P : Error → Type 0) → r ≡ Err e → IfErr r P → P e
+if_ok_told r e P is h = subst (λ x. IfErr x P) is h

@@ -77,3 +77,16 @@ returns-clause-crash g c =
     (tables_of (state g.S.Store h).now.trees)) begun)
     one c.commit.ensures.survives in
     subst (λ h. Survives old (state g.S.Store h) goal_of) same both
+
+pub returns-in_err-write_change-clause-fails : goal.returns-in_err-write_change-clause-fails
+returns-in_err-write_change-clause-fails g c clean plan own takes =
+    let begun = c.transaction-tx.ensures.begun in
+    let w = c.in_err-write_change.ensures.takes in
+    ?
+
+pub returns-in_err-commit-clause-fails : goal.returns-in_err-commit-clause-fails
+returns-in_err-commit-clause-fails g c clean plan own takes =
+    let begun = c.transaction-tx.ensures.begun in
+    let w = c.in_ok-write_change.ensures.takes in
+    let why = c.in_err-commit.ensures.err in
+    ?
