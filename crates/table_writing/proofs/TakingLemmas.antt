@@ -3,6 +3,7 @@ use Rattle.std.proofs.Common.{◌≡◌, ◌≤◌, ◌<◌, ◌+◌, ◌∙◌,
 use Rattle.std.proofs.Common.{get_or, drop-cons, add-one, refl, sym, ap, subst, arith, true≢false, IsSome, IsTrue, Result, Ok, Err}
 use Rattle.std.specs.Prelude.{IfErr, IsErrAnd, OnOk}
 use Rattle.sqlite.specs.Order.{Row as Values}
+use Rattle.sqlite.specs.Effect.{Database}
 use Rattle.sqlite.specs.Held.{Held, state}
 use Rattle.sqlite.specs.State.{HasCause, HasCleanDisk, IsLive, State, Survives}
 use Rattle.sqlite.specs.Steps.{FailsToCommit}
@@ -11,7 +12,8 @@ use Rattle.sqlite.specs.declared.error.Error.{Error}
 use Rattle.sqlite.specs.declared.transaction.Transaction.{Transaction}
 use Rattle.sqlite_trees.specs.declared.error.StoreError.{StoreError}
 use Rattle.sqlite_trees.specs.declared.error.StoreError.TheVariants.{OutOfMemory, Io, Corrupt, Full, Broken, Unstorable}
-use Rattle.table_schema.specs.Rows.{IsPlan, MayFail, Tables, tables_of, with_cells}
+use Rattle.table_schema.specs.Rows.{HaveRowids, IsPlan, MayFail, Tables, tables_of, with_cells}
+use Rattle.table_schema.specs.Schema.{HasTables}
 use Rattle.table_schema.specs.Takes.{HasOwnIndexes, IsSoundPlan, TakesRow}
 use Rattle.table_schema.specs.Writes.{TakesWhere, seen}
 use Rattle.table_schema.specs.declared.tables.Table.{Table}
@@ -139,11 +141,19 @@ pub begins_sound : {S : Type 0} (g : Ghosts S) (held begun : Held S) → begun �
     → IsLive (state g held) → IsPlan (state g held) → HasOwnIndexes (state g held).now.schema
     → IsSoundPlan (state g begun)
 begins_sound g held begun is live plan own = subst (λ h. IsSoundPlan (state g h)) (sym is) (record {
-      plan = record { schema = plan.schema; rowids = plan.rowids };
-      own = own;
-      sound = λ o. (live o).0;
-      mode = refl;
-    })
+  plan = record { schema = plan.schema; rowids = plan.rowids };
+  own = own;
+  sound = λ o. (live o).0;
+  mode = refl;
+})
 
-pub if_ok_told : {T : Type 0} (r : Result T Error) (e : Error) (P : Error → Type 0) → r ≡ Err e → IfErr r P → P e
-if_ok_told r e P is h = subst (λ x. IfErr x P) is h
+-- what is committed is a plan with these rows
+pub plan_on : (mid new : State) (rows : Tables) → new.now ≡ mid.now → IsPlan mid → tables_of mid.now.trees ≡ rows
+    → IsPlan new × (tables_of new.now.trees ≡ rows)
+plan_on mid new rows is plan rows_are = (
+  record {
+    schema = subst (λ (db : Database). HasTables db.schema) (sym is) plan.schema;
+    rowids = subst (λ (db : Database). (t : Table) → HaveRowids (tables_of db.trees t)) (sym is) plan.rowids;
+  },
+  ap (λ (db : Database). tables_of db.trees) is ∙ rows_are,
+)

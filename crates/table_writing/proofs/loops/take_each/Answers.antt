@@ -28,8 +28,11 @@ loop-fact-preserved g c =
           );
       takes = λ clean sound takes.
           let was = c.loop-fact.invariant.takes (omega (arith, c.take.ensures.survives.clean)) sound takes in
-          let step = c.in_ok-take.ensures.takes.sound clean was.0 (takes.0 c.fact-item.result, takes.1 (g.R.Fact.key
-          c.fact-item.result) (tables_of mid.now.trees)) in (
+          let step = c.in_ok-take.ensures.takes.sound clean was.0 (
+            takes.0 c.fact-item.result,
+            takes.1 (g.R.Fact.key
+                c.fact-item.result) (tables_of mid.now.trees),
+          ) in (
             step.0,
             (λ o. step.1 (was.1 o)),
             fold_on (λ (now : Tables) x. without_key c.args.table
@@ -54,8 +57,11 @@ returns-in_err-take g c =
             let way = c.loop-fact.invariant.survives in
             let was = c.loop-fact.invariant.takes (omega (arith, c.take.ensures.survives.clean)) sound takes in
             if_told c.from_residual.result old new _ c.from_residual.ensures.1 (may_since old mid new _ way.counts was.1
-            way.limit (c.in_err-take.ensures.takes.fails clean was.0 (takes.0 c.fact-item.result, takes.1 (g.R.Fact.key
-            c.fact-item.result) (tables_of mid.now.trees))));
+            way.limit (c.in_err-take.ensures.takes.fails clean was.0 (
+              takes.0 c.fact-item.result,
+              takes.1 (g.R.Fact.key
+                  c.fact-item.result) (tables_of mid.now.trees),
+            )));
         sound = search rules;
       };
     }
@@ -72,8 +78,11 @@ returns g c = record {
   takes = record {
     fails = λ clean sound takes. tt;
     sound = λ clean sound takes.
-        let was = c.loop-fact.invariant.takes clean sound takes in
-        (was.0, was.1, fold_done (λ (now : Tables) x. without_key c.args.table (g.R.Fact.key x) now) c.args.facts.now
-        c.loop-fact.fact-index _ _ (omega arith) was.2);
+        let was = c.loop-fact.invariant.takes clean sound takes in (
+          was.0,
+          was.1,
+          fold_done (λ (now : Tables) x. without_key c.args.table (g.R.Fact.key x) now) c.args.facts.now
+              c.loop-fact.fact-index _ _ (omega arith) was.2,
+        );
   };
 }

@@ -36,8 +36,11 @@ loop-name-preserved g c =
           );
       takes = λ clean sound keys alone.
           let was = c.loop-name.invariant.takes (omega (arith, c.take_name.ensures.survives.clean)) sound keys alone in
-          let step = c.in_ok-take_name.ensures.takes.sound clean was.0 (keys c.name-item.result, was.2
-          c.name-item.result (item_contains _ c.loop-name.name-index c.name-item.result (omega arith) c.name-item.is))
+          let step = c.in_ok-take_name.ensures.takes.sound clean was.0 (
+            keys c.name-item.result,
+            was.2
+                c.name-item.result (item_contains _ c.loop-name.name-index c.name-item.result (omega arith) c.name-item.is),
+          )
           in (
             step.0,
             (λ o. step.1 (was.1 o)),
@@ -66,9 +69,12 @@ returns-in_err-take_name g c =
             let was = c.loop-name.invariant.takes (omega (arith, c.take_name.ensures.survives.clean)) sound takes.0
             takes.1 in
             if_told c.from_residual.result old new _ c.from_residual.ensures.1 (may_since old mid new _ way.counts was.1
-            way.limit (c.in_err-take_name.ensures.takes.fails clean was.0 (takes.0 c.name-item.result, was.2
-            c.name-item.result (item_contains _ c.loop-name.name-index c.name-item.result (omega arith)
-            c.name-item.is))));
+            way.limit (c.in_err-take_name.ensures.takes.fails clean was.0 (
+              takes.0 c.name-item.result,
+              was.2
+                  c.name-item.result (item_contains _ c.loop-name.name-index c.name-item.result (omega arith)
+                  c.name-item.is),
+            )));
         sound = search rules;
       };
     }
@@ -85,8 +91,11 @@ returns g c = record {
   takes = record {
     fails = λ clean sound takes. tt;
     sound = λ clean sound takes.
-        let was = c.loop-name.invariant.takes clean sound takes.0 takes.1 in
-        (was.0, was.1, fold_done (λ (now : Tables) x. without_key c.args.table (name_key x) now) c.args.names.now
-        c.loop-name.name-index _ _ (omega arith) was.3);
+        let was = c.loop-name.invariant.takes clean sound takes.0 takes.1 in (
+          was.0,
+          was.1,
+          fold_done (λ (now : Tables) x. without_key c.args.table (name_key x) now) c.args.names.now
+              c.loop-name.name-index _ _ (omega arith) was.3,
+        );
   };
 }
