@@ -5,7 +5,7 @@ ghost use Rattle.work_calendars.specs.Day.{IsDay};
 ghost use Rattle.work_calendars.specs.WorkIndex.{is_work_in};
 
 use app_definitions::Definitions;
-use app_occurrences::WorkIndexes;
+use app_occurrences::CalendarIndex;
 use planner_machine::Count;
 use std::alloc::{AllocError, Global};
 use work_calendars::{Day, Moment, WorkIndex};
@@ -43,11 +43,8 @@ fn day_after_work(
     ensures none { IfOk result (λ day. IfNone day ((x : ℕ) → IsDay x
         → ¬ (IsNewDay all.now from n counts.WorkDays x))) }
 {
-    let name = all.options.default_calendar;
-    let mut indexes = WorkIndexes::new(alloc);
-    indexes.hold(alloc, all, &name)?;
-    let index = indexes.get(&name).unwrap();
-    match nth_from(index, from, n) {
+    let index = CalendarIndex::of(alloc, None, all, &all.options.default_calendar)?;
+    match nth_from(index.index(), from, n) {
         Some(day) => Ok(day.next()),
         None => Ok(None),
     }
