@@ -22,13 +22,26 @@ pub fn new_end(
     ensures some { IfOk result (λ end. IfSome end (IsNewEnd all.now plan_end n count)) }
     ensures none { IfOk result (λ end. IfNone end ((t : ℕ) → ¬ (IsNewEnd all.now plan_end n count t))) }
 {
-    let day = match count {
-        Count::AllDays => plan_end.day().plus(u32::from(n)),
-        Count::WorkDays => day_after_work(alloc, all, plan_end.day(), n)?,
-    };
-    match day {
+    match new_day(alloc, all, plan_end.day(), n, count)? {
         Some(day) => Ok(Some(Moment::new(day, plan_end.minute()))),
         None => Ok(None),
+    }
+}
+
+// The day of the new plan end that n days from a day on give.
+fn new_day(
+    alloc: Global,
+    all: &Definitions,
+    from: Day,
+    n: u8,
+    count: Count,
+) -> Result<Option<Day>, AllocError>
+    ensures some { IfOk result (λ day. IfSome day (IsNewDay all.now from n count)) }
+    ensures none { IfOk result (λ day. IfNone day ((x : ℕ) → IsDay x → ¬ (IsNewDay all.now from n count x))) }
+{
+    match count {
+        Count::AllDays => Ok(from.plus(u32::from(n))),
+        Count::WorkDays => day_after_work(alloc, all, from, n),
     }
 }
 
