@@ -7,3 +7,4 @@ pub mod ActLemmas
 pub mod ResetLemmas
 pub mod WaitLemmas
 pub mod NewEndLemmas
+pub mod DailyByLemmas

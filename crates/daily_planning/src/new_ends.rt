@@ -5,7 +5,7 @@ ghost use Rattle.work_calendars.specs.Day.{IsDay};
 ghost use Rattle.work_calendars.specs.WorkIndex.{is_work_in};
 
 use app_definitions::Definitions;
-use app_occurrences::WorkIndexes;
+use app_occurrences::CalendarIndex;
 use planner_machine::Count;
 use std::alloc::{AllocError, Global};
 use work_calendars::{Day, Moment, WorkIndex};
@@ -22,13 +22,26 @@ pub fn new_end(
     ensures some { IfOk result (λ end. IfSome end (IsNewEnd all.now plan_end n count)) }
     ensures none { IfOk result (λ end. IfNone end ((t : ℕ) → ¬ (IsNewEnd all.now plan_end n count t))) }
 {
-    let day = match count {
-        Count::AllDays => plan_end.day().plus(u32::from(n)),
-        Count::WorkDays => day_after_work(alloc, all, plan_end.day(), n)?,
-    };
-    match day {
+    match new_day(alloc, all, plan_end.day(), n, count)? {
         Some(day) => Ok(Some(Moment::new(day, plan_end.minute()))),
         None => Ok(None),
+    }
+}
+
+// The day of the new plan end that n days from a day on give.
+fn new_day(
+    alloc: Global,
+    all: &Definitions,
+    from: Day,
+    n: u8,
+    count: Count,
+) -> Result<Option<Day>, AllocError>
+    ensures some { IfOk result (λ day. IfSome day (IsNewDay all.now from n count)) }
+    ensures none { IfOk result (λ day. IfNone day ((x : ℕ) → IsDay x → ¬ (IsNewDay all.now from n count x))) }
+{
+    match count {
+        Count::AllDays => Ok(from.plus(u32::from(n))),
+        Count::WorkDays => day_after_work(alloc, all, from, n),
     }
 }
 
@@ -43,11 +56,8 @@ fn day_after_work(
     ensures none { IfOk result (λ day. IfNone day ((x : ℕ) → IsDay x
         → ¬ (IsNewDay all.now from n counts.WorkDays x))) }
 {
-    let name = all.options.default_calendar;
-    let mut indexes = WorkIndexes::new(alloc);
-    indexes.hold(alloc, all, &name)?;
-    let index = indexes.get(&name).unwrap();
-    match nth_from(index, from, n) {
+    let index = CalendarIndex::of(alloc, None, all, &all.options.default_calendar)?;
+    match nth_from(index.index(), from, n) {
         Some(day) => Ok(day.next()),
         None => Ok(None),
     }
