@@ -8,7 +8,7 @@ pub loop-link-preserved : goal.loop-link-preserved
 loop-link-preserved g c =
     let links = c.args.links.now in
     let i = c.loop-link.link-index in
-    let link = c.link-item.result.now in
+    let link = c.link-item.result in
     let more : map in_force_shown (take (i + 1) links) ≡ map in_force_shown (take i links) ++ in_force_shown link ∷ [] =
     map_more in_force_shown links i link c.loop-link-test.true
     ∙ ap (λ x. map in_force_shown (take i links) ++ in_force_shown x ∷ []) (sym c.link-item.is) in
@@ -20,7 +20,7 @@ pub returns-in-Err-clause-part : goal.returns-in-Err-clause-part
 returns-in-Err-clause-part g c =
     let links = c.args.links.now in
     let i = c.loop-link.link-index in
-    let link = c.link-item.result.now in
+    let link = c.link-item.result in
     record {
       done = map in_force_shown (take i links);
       rest = map in_force_shown (drop i links);
