@@ -35,7 +35,7 @@ use Rattle.keyed_lists.specs.Rows.{AreRows, look_up, of_current, of_deletion, of
 use Rattle.keyed_lists.proofs.KeyLemmas.{contains_cases, contains_first, contains_later, nothing}
 use Rattle.plan_store.specs.Listed.{EndsWithin, ShowsSet, is_of_app, link_at, link_of, links_at, row_at, row_in}
 use Rattle.plan_store.specs.Listed.{shown_as, with_link}
-use Rattle.plan_store.specs.Listings.{HandsAll, HandsPart, ShowPairs, ShowRows, Shown, TakesAll, link_shown, row_shown}
+use Rattle.plan_store.specs.Listings.{HandsAll, HandsPart, ShowRows, Shown, TakesAll, link_shown, row_shown}
 use Rattle.plan_store.specs.declared.listings.ListFault.{ListFault}
 use Rattle.plan_store.specs.declared.listings.ListFault.TheVariants.{Sink}
 use Rattle.plan_store.specs.declared.listings.SinkFault.{SinkFault}
