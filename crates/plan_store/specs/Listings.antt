@@ -1,5 +1,5 @@
 -- What a listing hands out, and what becomes of the sink that takes it.
-use Rattle.std.specs.Prelude.{◌≡◌, ℕ, List, [], ◌∷◌, ◌++◌, length, map, Option, None}
+use Rattle.std.specs.Prelude.{◌≡◌, ℕ, List, [], ◌∷◌, ◌++◌, length, map, Option}
 use Rattle.occurrences.specs.Place.{reason_letter}
 use Rattle.occurrences.specs.Status.{status_letter}
 use Rattle.occurrences.specs.declared.place.Place.{Place}
@@ -18,19 +18,19 @@ use Rattle.plan_store.specs.declared.listings.ListFault.TheVariants as Faults
 use Rattle.plan_store.specs.declared.listings.What.{What}
 use Rattle.plan_store.specs.declared.listings.What.TheVariants as Whats
 
--- what an item shows: a row alone, a row and its letter, a successor and its predecessor, or an application, a
--- predecessor in its list and the hours of the limit
+-- what an item shows: a row alone, a row and its letter, a successor and its predecessor, or an application and a
+-- predecessor in its list
 pub data Shown : Type 0 where
   Plain : Row → Shown
   Marked : Row → ℕ → Shown
   Linked : Row → Row → Shown
-  InForce : (app predecessor : List ℕ) → (within : Option ℕ) → Shown
+  InForce : Link → Shown
 
 abbrev pub item_shown : Item → Shown
 item_shown (Items.Plan row) = Plain row.now
 item_shown (Items.Marked row letter) = Marked row.now letter
 item_shown (Items.Pair successor predecessor) = Linked successor.now predecessor.now
-item_shown (Items.Link app predecessor within) = InForce app.now predecessor.now within
+item_shown (Items.Link link) = InForce link.now
 
 -- a row as the list of its set shows it
 abbrev pub shown_at : Place → Row → Shown
@@ -45,9 +45,8 @@ row_shown p = shown_at p.place p.row
 abbrev pub link_shown : LinkedRows → Shown
 link_shown l = Linked l.successor l.predecessor
 
--- no list has a limit
 abbrev pub in_force_shown : Link → Shown
-in_force_shown link = InForce link.app link.predecessor None
+in_force_shown link = InForce link
 
 -- the items of a listing, in its order
 abbrev pub ShowRows : Listed → Option (List ℕ) → Content → List Shown → Type 0

@@ -244,7 +244,7 @@ fn hand_lists<K: RowSink>(links: &[Link], sink: &mut K) -> Result<usize, ListFau
     ensures blames { IfErr result (λ fault. fault ≢ ListFault.Device) }
 {
     for link in links {
-        match sink.take(Item::Link(&link.app, &link.predecessor, None)) {
+        match sink.take(Item::Link(link)) {
             Ok(()) => {}
             Err(fault) => return Err(ListFault::Sink(fault)),
         }

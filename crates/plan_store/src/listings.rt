@@ -1,9 +1,9 @@
 ghost use Rattle.std.specs.Prelude.{OnOk, OnErr};
 ghost use Rattle.plan_store.specs.Listings.{Shown, item_shown};
 
+use external_dependencies::Link;
 use occurrences::Row;
 use thiserror::Error;
-use work_calendars::{App, Within};
 
 /// What a listing shows.
 #[derive(Clone, Copy, Debug, PartialEq, Eq)]
@@ -31,8 +31,8 @@ pub enum Item<'a> {
     Marked(&'a Row, u8),
     /// A successor and its predecessor.
     Pair(&'a Row, &'a Row),
-    /// An application, a predecessor in its list, and the limit, if there is one.
-    Link(&'a App, &'a App, Option<Within>),
+    /// An application and a predecessor in its list.
+    Link(&'a Link),
 }
 
 /// A sink refused an item. The sink knows why.

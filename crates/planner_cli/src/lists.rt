@@ -49,16 +49,16 @@ fn write_item<W: Write>(writer: &mut W, item: Item<'_>) -> Result<(), Cause>
     ensures ok { OnOk result (TakesLine (W.contents writer.old) (item_shown item.entry) (W.contents writer.new)) }
     ensures front { OnErr result (TakesFront (W.contents writer.old) (item_shown item.entry) (W.contents writer.new)) }
 {
-    match &item {
+    match item {
         Item::Plan(row) => write_line(writer, &row_line(row)),
-        Item::Marked(row, letter) => write_line(writer, &marked_line(row, *letter)),
+        Item::Marked(row, letter) => write_line(writer, &marked_line(row, letter)),
         Item::Pair(successor, predecessor) => write_line(
             writer,
             &pair_line(successor, predecessor),
         ),
-        Item::Link(app, predecessor, within) => write_line(
+        Item::Link(link) => write_line(
             writer,
-            &link_line(app, predecessor, *within),
+            &link_line(&link.app, &link.predecessor, None),
         ),
     }
 }
