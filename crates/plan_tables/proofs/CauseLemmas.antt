@@ -2,7 +2,7 @@
 use Rattle.std.proofs.Common.{◌≡◌, ◌⊎◌, ◌∙◌, ℕ, Bool, List, [], true, false, inl, inr, ap, subst, sym, true≢false, arith, IsSome, IsTrue, None, Some, Result, Ok, Err}
 use Rattle.std.proofs.Math.Logic.{∥∥₁_map}
 use Rattle.sqlite.specs.Order.{Row as Values}
-use Rattle.std.specs.Prelude.{IfErr}
+use Rattle.std.specs.Prelude.{IfErr, IsErrAnd}
 use Rattle.sqlite.specs.Effect.{Database}
 use Rattle.sqlite.specs.State.{HasCause, HasCleanDisk, IsNoStatement, IsNotRun, IsRolledBack, IsUnchanged, State, Survives, store_error}
 use Rattle.sqlite.specs.Tree.{Trees}
@@ -94,9 +94,9 @@ certain doubt sure h = ∥∥₁_map h (λ f a b. f a b (λ is. absurd (true≢f
 pub sound_still : (old new : State) → ∥ (HasCleanDisk old → LeavesSound old) ∥₁ → Survives old new (λ _. ⊥)
     → ∥ (HasCleanDisk new → LeavesSound new) ∥₁
 sound_still old new told survives = ∥∥₁_map told (λ h clean db left. elim (survives.crash clean db left) [
-      | inl earlier ↦ h (omega (arith, survives.clean, clean)) db earlier
-      | inr none ↦ absurd none
-    ])
+  | inl earlier ↦ h (omega (arith, survives.clean, clean)) db earlier
+  | inr none ↦ absurd none
+])
 
 -- ---- why a change is not made
 
@@ -144,7 +144,7 @@ pub left_still : (old mid : State) (c : Content) → Survives old mid (λ _. ⊥
     → MayLeave old c
 left_still old mid c survives clean (db, left, is) = (
   db,
-  elim (survives.crash clean db left) [ | inl was ↦ was | inr none ↦ absurd none ],
+  elim (survives.crash clean db left) [ inl was ↦ was | inr none ↦ absurd none ],
   is,
 )
 
@@ -164,3 +164,14 @@ caused_since (Err fault) old mid new survives h = λ is. ∥∥₁_map (h is) si
     since : HasFailed mid new → HasFailed old new ⊎ (old.is_open ≡ false)
     since (inl more) = inl (inl (omega (arith, survives.counts, more)))
     since (inr limit) = inl (inr (subst IsSome survives.limit limit))
+
+-- where it was shut when it was asked
+pub told_shut : {T : Type 0} (r : Result T StoreFault) (e : StoreFault) (old new : State) → IsErrAnd r (λ told. told ≡ e)
+    → (e ≡ Device → MoreFaults old.faults new.faults ⊎ (old.is_open ≡ false))
+    → IfErr r (λ fault. fault ≡ Device → ∥ HasFailed old new ⊎ (old.is_open ≡ false) ∥₁)
+told_shut (Ok v) e old new is h = tt
+told_shut (Err told) e old new is h = λ device. ∣ (go (h (sym is ∙ device))) ∣₁
+  where
+    go : MoreFaults old.faults new.faults ⊎ (old.is_open ≡ false) → HasFailed old new ⊎ (old.is_open ≡ false)
+    go (inl more) = inl (inl more)
+    go (inr shut) = inr shut

@@ -83,18 +83,6 @@ impl<S: Alter + Drop> TableStore<S> {
         }
     }
 
-    // Counts a failure, after which the store answers that its device failed.
-    fn fail(&mut self) -> StoreFault
-        ensures fault { result ≡ Device }
-        ensures lists { self.new.lists ≡ self.old.lists }
-        ensures conn { self.new.conn ≡ self.old.conn }
-        ensures counted { MoreFailures self.old.failures self.new.failures }
-        ensures counts { self.old.failures ≤ self.new.failures }
-    {
-        self.failures = self.failures.saturating_add(1);
-        StoreFault::Device
-    }
-
     // Asks whether the connection is open, where that is not known.
     fn make_sure(&mut self) -> Result<(), StoreFault>
         requires { self.old.failures ≡ 0 }

@@ -102,7 +102,7 @@ invariant_of-self-in-Err-Device g c =
     let made = content_of old.lists in
     record {
       settled = c.change_both.ensures.ended;
-      stored = ∣ λ none clean doubt. absurd (omega arith) ∣₁;
+      stored = ∣ (λ none clean doubt. absurd (omega arith)) ∣₁;
       told = ∣ leaves_sound (state g.S.Store old.conn) (state g.S.Store c.change_both.new.conn) made
           (after c.args.change made) old.told (∥∥₁_map (certain old.in_doubt c.requires.sure old.stored) (λ h. h c.requires.whole))
           ∣ c.requires.sound ∣₁ c.change_both.ensures.crash ∣₁;

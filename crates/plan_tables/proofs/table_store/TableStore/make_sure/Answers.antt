@@ -41,7 +41,7 @@ invariant_of-self-in-Err-Device g c =
     let old = c.args.self.now in
     record {
       settled = c.ask_open.ensures.mode old.settled;
-      stored = ∣ λ none clean doubt. absurd (omega arith) ∣₁;
+      stored = ∣ (λ none clean doubt. absurd (omega arith)) ∣₁;
       told = sound_still (state g.S.Store old.conn) (state g.S.Store c.ask_open.new.conn) old.told
           c.ask_open.ensures.survives;
     }

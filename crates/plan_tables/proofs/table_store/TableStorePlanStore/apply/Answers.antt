@@ -5,7 +5,7 @@ use Rattle.planner_machine.specs.Content.{Content}
 use Rattle.plan_store.specs.Changes.{after}
 use Rattle.plan_store.specs.Contents.{content_of}
 use Rattle.plan_tables.specs.Stored.{MayLeave}
-use Rattle.plan_tables.proofs.CauseLemmas.{can_still, caused_since, left_still}
+use Rattle.plan_tables.proofs.CauseLemmas.{can_still, caused_since, left_still, told_shut}
 use Rattle.plan_tables.proofs.StoredLemmas.{settled_so}
 use Rattle.plan_tables.proofs.ToldLemmas.{told_by_tables}
 use Rattle.plan_tables.proofs.table_store.TableStorePlanStore.apply.Goals as goal
@@ -30,8 +30,10 @@ returns-clause-crash g c honest d (clean, may) =
     let mid = state g.S.Store c.make_sure.new.self.conn in
     let calm = c.change_so.ensures.honest clean in
     elim (c.change_so.ensures.crash clean d may) [
-      | inl was ↦ inl (omega (arith, c.make_sure.ensures.survives.clean, calm),
-          left_still old mid d c.make_sure.ensures.survives calm was)
+      | inl was ↦ inl (
+        omega (arith, c.make_sure.ensures.survives.clean, calm),
+        left_still old mid d c.make_sure.ensures.survives calm was,
+      )
       | inr made ↦ inr (inr (subst (λ l. d ≡ after c.args.change (content_of l)) c.make_sure.ensures.lists made))
     ]
 
@@ -53,4 +55,7 @@ returns-in_err-make_sure-clause-crash g c honest d (clean, may) = inl (
 )
 
 pub returns-in_err-make_sure-clause-caused : goal.returns-in_err-make_sure-clause-caused
-returns-in_err-make_sure-clause-caused g c none clean can = ?
+returns-in_err-make_sure-clause-caused g c none clean can =
+    told_shut c.from_residual-in_err-make_sure.result c.in_err-make_sure.field-0.0
+    (state g.S.Store c.args.self.now.conn) (state g.S.Store c.make_sure.new.self.conn)
+    c.from_residual-in_err-make_sure.ensures.1 (c.in_err-make_sure.ensures.shut clean)
