@@ -6,7 +6,7 @@ ghost use Rattle.table_schema.specs.Texts.{create_sql, delete_sql, insert_sql, s
 use crate::tables::Table;
 
 /// The text that makes the table.
-pub(crate) fn create_text(table: Table) -> &'static str
+pub fn create_text(table: Table) -> &'static str
     ensures { result.now ≡ create_sql table }
 {
     match table {

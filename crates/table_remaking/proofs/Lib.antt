@@ -1,0 +1,7 @@
+pub mod Meanings
+pub mod DropSteps
+pub mod StepLemmas
+pub mod TypeLemmas
+pub mod FitLemmas
+pub mod ShowLemmas
+pub mod TurnLemmas
