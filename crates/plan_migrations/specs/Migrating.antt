@@ -1,15 +1,29 @@
 -- What a migration finds and leaves.
-use Rattle.std.specs.Prelude.{◌≡◌, ◌⊎◌, ℕ, List, Result, Ok, Err}
+use Rattle.std.specs.Prelude.{◌≡◌, ◌⊎◌, ℕ, List, [], ◌∷◌, map, Result, Ok, Err, IsTrue}
 use Rattle.std.specs.List.{All}
-use Rattle.sqlite.specs.State.{IsUnchanged, State}
+use Rattle.std.specs.List.Sorted.{IsPermutation}
+use Rattle.sqlite.specs.State.{IsUnchanged, Shown, State}
+use Rattle.sqlite.specs.Tree.{Trees}
+use Rattle.planner_machine.specs.Content.{Content}
+use Rattle.table_schema.specs.Rows.{IsPlan, Tables, shown, tables_of}
 use Rattle.table_schema.specs.Schema.{all_tables}
 use Rattle.table_schema.specs.declared.tables.Table.{Table}
 use Rattle.table_schema.specs.declared.tables.TheConstants.{SCHEMA_VERSION}
+use Rattle.table_facts.specs.Content.{IsContentOf}
 use Rattle.table_opening.specs.Foreign.{RefusesVersion}
-use Rattle.plan_migrations.specs.Asking.{IsFailure}
-use Rattle.plan_migrations.specs.Schemas.{IsOfSchema, IsOther, ShowsKnown, ShowsUnknown}
+use Rattle.table_remaking.specs.FirstSchema.{first_schema, first_shown}
+use Rattle.table_remaking.specs.FirstTexts.{first_select_sql}
+use Rattle.table_remaking.specs.Remaking.{AreAllFirst, AreWhole, remade_row}
+use Rattle.table_remaking.specs.Types.{AreFirst}
+use Rattle.table_remaking.specs.declared.rows.FirstRows.{FirstRows}
+use Rattle.plan_migrations.specs.Asking.{IsFailure, IsKept}
+use Rattle.plan_migrations.specs.FirstContent.{IsFirstContentOf}
+use Rattle.plan_migrations.specs.Schemas.{IsOfSchema, IsOther, IsOtherFirst, ShowsUnknown, ShowsVersion}
 use Rattle.plan_migrations.specs.declared.faults.MigrateFault.{MigrateFault}
 use Rattle.plan_migrations.specs.declared.faults.MigrateFault.TheVariants.{UnknownVersion, OtherTable}
+use Rattle.plan_migrations.specs.declared.versions.TheConstants.{FIRST_VERSION}
+
+-- ---- tables of the current schema
 
 -- a table is of its schema, or another one
 abbrev pub ChecksTable : State → State → Table → Result (Unit {0}) MigrateFault → Type 0
@@ -23,14 +37,71 @@ ChecksTables old new tables (Ok _) = IsUnchanged old new × All (IsOfSchema old 
 ChecksTables old new tables (Err OtherTable) = (t : Table) × IsOther old new t
 ChecksTables old new tables (Err fault) = IsFailure old new fault
 
--- there are no tables, and none are made; or the tables of a plan are of the schema of its version already
+-- ---- tables of schema 1
+
+-- the rows are what the table shows
+abbrev pub AreShown : State → State → FirstRows → Type 0
+AreShown old new read = Shown (first_select_sql read.table) [] old new read.rows.items
+
+-- the rows of one table are read, or it is another
+abbrev pub ReadsTable : State → State → Table → Result FirstRows MigrateFault → Type 0
+ReadsTable old new t (Ok read) = (read.table ≡ t) × AreShown old new read × AreFirst read.table read.rows.items
+ReadsTable old new t (Err OtherTable) = IsOtherFirst old new t
+ReadsTable old new t (Err fault) = IsFailure old new fault
+
+-- the rows of these tables are read, in their order
+abbrev pub ReadsTables : State → State → List Table → List FirstRows → Type 0
+ReadsTables old new tables reads = IsUnchanged old new × (map (λ (read : FirstRows). read.table) reads ≡ tables)
+    × AreAllFirst reads × All (AreShown old new) reads
+
+-- why they are not: a table is another, or it fails
+abbrev pub FailsToReadTables : State → State → MigrateFault → Type 0
+FailsToReadTables old new OtherTable = (t : Table) × IsOtherFirst old new t
+FailsToReadTables old new fault = IsFailure old new fault
+
+-- each table shows what it showed, each row as often: with no limits, and the current version
+abbrev pub AreRenewed : Tables → Tables → Type 0
+AreRenewed old new = (t : Table) → IsPermutation (map (remade_row t) (map (first_shown t) (old t))) (map (shown t) (new t))
+
+-- and so they have the content that these had
+abbrev pub KeepsContent : Tables → Tables → Type 0
+KeepsContent old new = (c : Content) → IsFirstContentOf old c → IsContentOf new c
+
+-- what it may commit: tables of the current schema with the rows and the content of those of schema 1
+pub record MayRenew (s : State) (db : Trees) : Type 0 where
+  pub was : s.now.schema ≡ first_schema
+  pub rows : AreRenewed (tables_of s.now.trees) (tables_of db)
+  pub content : KeepsContent (tables_of s.now.trees) (tables_of db)
+
+-- the tables of schema 1 alone stood there; those of the current schema stand there, and all of it is committed
+pub record IsRenewed (old new : State) : Type 0 where
+  pub renewed : MayRenew old new.now.trees
+  pub plan : IsPlan new
+  pub settled : new.committed ≡ new.now
+  pub is_open : IsTrue new.is_open
+
+-- why they are not renewed: there are further tables, indexes or views; a table is another; a statement is refused
+-- whose rows were all read from the tables of schema 1; or it fails
+abbrev pub IsUnrenewed : State → State → MigrateFault → Type 0
+IsUnrenewed old new UnknownVersion = ⊥
+IsUnrenewed old new OtherTable = (old.now.schema ≡ first_schema → ⊥) ⊎ ((t : Table) × IsOtherFirst old new t)
+    ⊎ ((old.now.schema ≡ first_schema) × (reads : List FirstRows) × AreWhole reads × AreAllFirst reads)
+IsUnrenewed old new fault = IsFailure old new fault
+
+-- ---- all together
+
+-- there are no tables, and none are made; or the tables of a plan are of the current schema, and stay as they are; or
+-- they were of schema 1, and are renewed
 abbrev pub IsMigrated : State → State → ℕ → ℕ → Type 0
 IsMigrated old new found left =
-    ((found ≡ 0) × (left ≡ 0) × RefusesVersion old new)
-    ⊎ ((found ≡ SCHEMA_VERSION) × (left ≡ SCHEMA_VERSION) × ShowsKnown old new × All (IsOfSchema old new) all_tables)
+    ((found ≡ 0) × (left ≡ 0) × RefusesVersion old new × IsKept old new)
+    ⊎ ((found ≡ SCHEMA_VERSION) × (left ≡ SCHEMA_VERSION) × ShowsVersion SCHEMA_VERSION old new
+    × All (IsOfSchema old new) all_tables × IsKept old new)
+    ⊎ ((found ≡ FIRST_VERSION) × (left ≡ SCHEMA_VERSION) × IsRenewed old new)
 
--- why it is not migrated: its version is unknown; one of its tables is another; or it fails to answer
+-- why it is not migrated: its version is unknown; one of its tables is another; or it fails to answer or to be written
 abbrev pub IsUnmigrated : State → State → MigrateFault → Type 0
 IsUnmigrated old new UnknownVersion = ShowsUnknown old new
-IsUnmigrated old new OtherTable = ShowsKnown old new × ((t : Table) × IsOther old new t)
+IsUnmigrated old new OtherTable = (ShowsVersion SCHEMA_VERSION old new × ((t : Table) × IsOther old new t))
+    ⊎ IsUnrenewed old new OtherTable
 IsUnmigrated old new fault = IsFailure old new fault

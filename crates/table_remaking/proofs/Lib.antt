@@ -1,5 +1,6 @@
 pub mod Meanings
 pub mod DropSteps
+pub mod CauseLemmas
 pub mod StepLemmas
 pub mod TypeLemmas
 pub mod FitLemmas

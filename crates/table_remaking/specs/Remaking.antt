@@ -1,5 +1,5 @@
 -- The rows of the tables of schema 1, as those of schema 2 take them.
-use Rattle.std.specs.Prelude.{◌≡◌, List, [], ◌∷◌, ◌++◌, map, fold, pos, Result, OnOk, IsTrue}
+use Rattle.std.specs.Prelude.{◌≡◌, List, [], ◌∷◌, ◌++◌, map, fold, pos, Result, IfErr, OnOk, IsTrue}
 use Rattle.std.specs.List.{All}
 use Rattle.std.specs.List.Sorted.{IsPermutation}
 use Rattle.sqlite.specs.Order.{Row}
@@ -15,7 +15,7 @@ use Rattle.table_schema.specs.declared.tables.Table.{Table}
 use Rattle.table_schema.specs.declared.tables.Table.TheVariants.{Meta, Predecessor, LinkInForce}
 use Rattle.table_schema.specs.declared.tables.TheConstants.{SCHEMA_VERSION}
 use Rattle.table_remaking.specs.FirstSchema.{first_schema}
-use Rattle.table_remaking.specs.Turns.{IsInside}
+use Rattle.table_remaking.specs.Turns.{DeviceHasCause, IsInside}
 use Rattle.table_remaking.specs.Types.{AreFirst}
 use Rattle.table_remaking.specs.declared.rows.FirstRows.{FirstRows}
 
@@ -58,11 +58,23 @@ pub record IsRemadeInside (s : State) (reads : List FirstRows) : Type 0 where
   pub rows_are : tables_of s.now.trees ≡ with_all_put reads no_rows
   pub mode : IsTrue s.in_transaction
 
--- of the tables of schema 1 an Ok makes such; nothing is committed
+-- over the tables of a plan an error tells of the device with cause alone, and an Ok leaves the connection open
+pub record PutsWhere {S T : Type 0} (Fit : Type 0) (g : Ghosts S) (old new : Transaction S) (result : Result T Error)
+    : Type 0 where
+  pub device : HasCleanDisk (seen g new) → IsPlan (seen g old) → IsTrue (seen g old).in_transaction
+      → IsTrue (seen g old).is_open → Fit → IfErr result (DeviceHasCause (seen g old) (seen g new))
+  pub stays_open : HasCleanDisk (seen g new) → IsPlan (seen g old) → IsTrue (seen g old).in_transaction
+      → IsTrue (seen g old).is_open → Fit → OnOk result (IsTrue (seen g new).is_open)
+
+-- of the tables of schema 1 an Ok makes such; an error tells of the device with cause alone, and nothing is committed
 pub record Remakes {S T : Type 0} (g : Ghosts S) (old new : Transaction S) (result : Result T Error)
     (reads : List FirstRows) : Type 0 where
   pub same_reference : new.conn.ghost_name ≡ old.conn.ghost_name
   pub ok : HasCleanDisk (seen g new) → IsInside (seen g old) first_schema → AreAllFirst reads
       → OnOk result (IsRemadeInside (seen g new) reads)
+  pub device : HasCleanDisk (seen g new) → IsInside (seen g old) first_schema → AreAllFirst reads
+      → IfErr result (DeviceHasCause (seen g old) (seen g new))
+  pub stays_open : HasCleanDisk (seen g new) → IsInside (seen g old) first_schema → AreAllFirst reads
+      → OnOk result (IsTrue (seen g new).is_open)
   pub kept : HasCleanDisk (seen g new) → KeepsCommit (seen g old) (seen g new)
   pub survives : Survives (seen g old) (seen g new) (λ _. ⊥)

@@ -1,12 +1,13 @@
 // The tables of schema 1 are made anew.
 
-ghost use Rattle.std.specs.Prelude.{◌≡◌, false, IsTrue, OnErr, OnOk};
+ghost use Rattle.std.specs.Prelude.{◌≡◌, false, IfErr, IsTrue, OnErr, OnOk};
 ghost use Rattle.sqlite.specs.State.{HasCleanDisk, Survives};
 ghost use Rattle.sqlite.specs.Held.{state};
 ghost use Rattle.table_schema.specs.Rows.{IsPlan, tables_of};
 ghost use Rattle.table_remaking.specs.FirstSchema.{first_schema};
 ghost use Rattle.table_remaking.specs.Remaking.{AreAllFirst, AreRemade, AreWhole};
 ghost use Rattle.table_remaking.specs.Remaking.{Remakes};
+ghost use Rattle.table_remaking.specs.Turns.{DeviceHasCause};
 
 use crate::dropping::drop_all;
 use crate::putting::put_all;
@@ -49,6 +50,9 @@ pub fn remake_tables<S: Alter>(
         → IsTrue (state S.Store conn.new).is_open → OnErr result
         (((state S.Store conn.new).now ≡ (state S.Store conn.old).now)
         × ((state S.Store conn.new).committed ≡ (state S.Store conn.old).committed)) }
+    ensures device { HasCleanDisk (state S.Store conn.new)
+        → (state S.Store conn.old).now.schema ≡ first_schema
+        → IfErr result (DeviceHasCause (state S.Store conn.old) (state S.Store conn.new)) }
     ensures ended { conn.new.in_transaction ≡ false }
     ensures stays_open { HasCleanDisk (state S.Store conn.new) → OnOk result (IsTrue
         (state S.Store conn.new).is_open) }

@@ -1,11 +1,13 @@
 // Rows of schema 1, as the tables of schema 2 take them.
 
 ghost use Rattle.std.specs.Prelude.{◌≡◌, map, IfOk};
+ghost use Rattle.sqlite.specs.Order.{column};
+ghost use Rattle.sqlite.specs.Value.{owned};
 ghost use Rattle.sqlite.specs.Values.{bound, bound_value};
 ghost use Rattle.table_remaking.specs.Remaking.{remade_row, with_version};
 
+use sqlite::Row;
 use sqlite::types::ValueRef;
-use sqlite_value::row::Row;
 use std::alloc::{AllocError, Global};
 use table_schema::{SCHEMA_VERSION, Table};
 
@@ -18,13 +20,23 @@ pub struct FirstRows {
     pub rows: Vec<Row>,
 }
 
+// The value in the column.
+fn value_at(row: &Row, at: usize) -> ValueRef<'_>
+    ensures { owned result ≡ column row.now at }
+{
+    match row.get_ref(at) {
+        Ok(value) => value,
+        Err(_) => ValueRef::Null,
+    }
+}
+
 // The values of a row, as a statement takes them.
 fn lend(alloc: Global, row: &Row) -> Result<Vec<ValueRef<'_>>, AllocError>
     ensures { IfOk result (λ values. bound values.items ≡ map bound_value row.now) }
 {
     let mut values = Vec::new(alloc);
-    for place in 0..row.len() {
-        values.push(row.get(place))?;
+    for place in 0..row.column_count() {
+        values.push(value_at(row, place))?;
     }
     Ok(values)
 }

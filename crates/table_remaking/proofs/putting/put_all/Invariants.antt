@@ -14,6 +14,8 @@ invariant-loop-read g l =
       same : l.tx.conn.ghost_name ≡ l.fn.tx.conn.ghost_name;
       kept : HasCleanDisk now → KeepsCommit old now;
       survives : Survives old now (λ _. ⊥);
+      opened : HasCleanDisk now → IsPlan old → IsTrue old.in_transaction → IsTrue old.is_open → AreAllFirst l.reads
+          → IsTrue now.is_open;
       leaves : HasCleanDisk now → IsPlan old → IsTrue old.in_transaction → AreAllFirst l.reads
           → IsOnWay old now (with_all_put (drop l.read-index l.reads)) (with_all_put l.reads (tables_of old.now.trees));
     }

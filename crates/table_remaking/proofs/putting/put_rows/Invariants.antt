@@ -15,6 +15,8 @@ invariant-loop-row g l =
       same : l.tx.conn.ghost_name ≡ l.fn.tx.conn.ghost_name;
       kept : HasCleanDisk now → KeepsCommit old now;
       survives : Survives old now (λ _. ⊥);
+      opened : HasCleanDisk now → IsPlan old → IsTrue old.in_transaction → IsTrue old.is_open → AreFirst l.table l.rows
+          → IsTrue now.is_open;
       leaves : HasCleanDisk now → IsPlan old → IsTrue old.in_transaction → AreFirst l.table l.rows
           → IsOnWay old now (with_rows_put l.table (drop l.row-index l.rows))
           (with_rows_put l.table l.rows (tables_of old.now.trees));

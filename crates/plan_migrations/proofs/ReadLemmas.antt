@@ -1,0 +1,99 @@
+-- What is read of the tables of schema 1, and what is made of it.
+use Rattle.std.proofs.Common.{◌≡◌, ◌∙◌, ◌≤◌, ◌<◌, ◌+◌, ◌⊎◌, inl, inr, ℕ, List, [], ◌∷◌, ◌++◌, map, length, take, refl, sym, ap, subst, arith}
+use Rattle.std.proofs.Common.{Ok, Err}
+use Rattle.std.specs.List.{All}
+use Rattle.std.specs.List.Sorted.{IsPermutation}
+use Rattle.std.proofs.lemmas.List.{map-append}
+use Rattle.std.proofs.lemmas.List.Elements.{All-map, All-push, All-same, All-weaker, recursion_from_All}
+use Rattle.std.proofs.lemmas.List.Sorted.{IsPermutation-map, IsPermutation-trans}
+use Rattle.sqlite.specs.State.{IsUnchanged, State}
+use Rattle.sqlite.specs.Tree.{Trees}
+use Rattle.sqlite.proofs.Callers.{unchanged_then}
+use Rattle.table_schema.specs.Rows.{Tables, shown, tables_of}
+use Rattle.table_schema.specs.Schema.{all_tables}
+use Rattle.table_schema.specs.declared.tables.Table.{Table}
+use Rattle.table_schema.specs.declared.tables.Table.TheVariants.{Meta, CalendarEntry, Period, Application, RunCycle}
+use Rattle.table_schema.specs.declared.tables.Table.TheVariants.{Offset, Predecessor, LinkInForce, LongTerm, Current}
+use Rattle.table_schema.specs.declared.tables.Table.TheVariants.{History, Deletion, Dependency, Job}
+use Rattle.table_remaking.specs.FirstSchema.{first_schema, first_shown}
+use Rattle.table_remaking.specs.FirstTexts.{first_select_sql}
+use Rattle.table_remaking.specs.Remaking.{AreAllFirst, AreRemade, AreWhole, remade_row}
+use Rattle.table_remaking.specs.Types.{AreFirst}
+use Rattle.table_remaking.specs.declared.rows.FirstRows.{FirstRows}
+use Rattle.table_remaking.proofs.StepLemmas as step
+use Rattle.plan_migrations.specs.Asking.{IsFailure}
+use Rattle.plan_migrations.specs.Migrating.{AreRenewed, AreShown, FailsToReadTables, MayRenew, ReadsTable}
+use Rattle.plan_migrations.specs.Schemas.{IsOtherFirst}
+use Rattle.plan_migrations.specs.declared.faults.MigrateFault.{MigrateFault}
+use Rattle.plan_migrations.specs.declared.faults.MigrateFault.TheVariants.{UnknownVersion, OtherTable, Memory, Device}
+use Rattle.plan_migrations.proofs.ContentLemmas.{content_stays}
+use Rattle.plan_migrations.proofs.TextLemmas.{first_reads}
+use Rattle.plan_migrations.proofs.TurnLemmas.{failure_since, otherwise_since, shown_since, shown_until}
+
+each : (Q : Table → Type 0) → All Q all_tables → (t : Table) → Q t
+each Q all t = go (recursion_from_All Q all_tables all) t
+  where
+    go : _ → (t : Table) → Q t
+    go h Meta = h.0
+    go h CalendarEntry = h.1.0
+    go h Period = h.1.1.0
+    go h Application = h.1.1.1.0
+    go h RunCycle = h.1.1.1.1.0
+    go h Offset = h.1.1.1.1.1.0
+    go h Predecessor = h.1.1.1.1.1.1.0
+    go h LinkInForce = h.1.1.1.1.1.1.1.0
+    go h LongTerm = h.1.1.1.1.1.1.1.1.0
+    go h Current = h.1.1.1.1.1.1.1.1.1.0
+    go h History = h.1.1.1.1.1.1.1.1.1.1.0
+    go h Deletion = h.1.1.1.1.1.1.1.1.1.1.1.0
+    go h Dependency = h.1.1.1.1.1.1.1.1.1.1.1.1.0
+    go h Job = h.1.1.1.1.1.1.1.1.1.1.1.1.1.0
+
+module _ (a b : State) (has : a.now.schema ≡ first_schema) (reads : List FirstRows) (all : Tables) where
+  abbrev Remade : FirstRows → Type 0
+  Remade read = IsPermutation (map (remade_row read.table) read.rows.items) (map (shown read.table) (all read.table))
+
+  abbrev Renewed : Table → Type 0
+  Renewed t = IsPermutation (map (remade_row t) (map (first_shown t) (tables_of a.now.trees t))) (map (shown t) (all t))
+
+  one_renewed : (read : FirstRows) → AreShown a b read → Remade read → Renewed read.table
+  one_renewed read told remade =
+      let t = read.table in
+      let was = map (first_shown t) (tables_of a.now.trees t) in
+      IsPermutation-trans (map (remade_row t) was) (map (remade_row t) read.rows.items) (map (shown t) (all t))
+      (IsPermutation-map (remade_row t) was read.rows.items (step.reads t a b read.rows.items has told)) remade
+
+  -- the rows that are read are those of the tables, so these are made anew
+  pub renewed : AreWhole reads → All (AreShown a b) reads → AreRemade reads all → AreRenewed (tables_of a.now.trees) all
+  renewed whole told remade = each Renewed (subst (All Renewed) whole (All-map Renewed (λ (read : FirstRows). read.table)
+      reads (λ i d low. one_renewed _ (told i d low) (remade i d low))))
+
+pub may_renew : (a b : State) (reads : List FirstRows) (db : Trees) → a.now.schema ≡ first_schema → AreWhole reads
+    → All (AreShown a b) reads → AreRemade reads (tables_of db) → MayRenew a db
+may_renew a b reads db has whole told remade =
+    let rows = renewed a b has reads (tables_of db) whole told remade in
+    record { was = has; rows = rows; content = content_stays (tables_of a.now.trees) (tables_of db) rows }
+
+module _ (a b c : State) where
+  shown_again : IsUnchanged b c → (read : FirstRows) → AreShown a b read → AreShown a c read
+  shown_again same read told =
+      shown_until (first_select_sql read.table) (first_reads read.table) a b c read.rows.items told same
+
+  -- one more table is read
+  pub read_on : (reads : List FirstRows) (read : FirstRows) → IsUnchanged a b → IsUnchanged b c
+      → AreAllFirst reads → All (AreShown a b) reads → AreFirst read.table read.rows.items → AreShown b c read
+      → IsUnchanged a c × AreAllFirst (reads ++ read ∷ []) × All (AreShown a c) (reads ++ read ∷ [])
+  read_on reads read one two typed told first here = (
+    unchanged_then a b c one two,
+    All-push (λ (it : FirstRows). AreFirst it.table it.rows.items) reads read typed first,
+    All-push (AreShown a c) reads read (All-weaker (AreShown a b) (AreShown a c) (shown_again two) reads told)
+        (shown_since (first_select_sql read.table) (first_reads read.table) a b c read.rows.items one here),
+  )
+
+  pub read_stops : IsUnchanged a b → a.faults ≤ b.faults → b.step_limit ≡ a.step_limit → (t : Table) (f : MigrateFault)
+      → ReadsTable b c t (Err f) → FailsToReadTables a c f
+  read_stops same more limit t OtherTable h =
+      (t, otherwise_since (first_select_sql t) (first_reads t) (AreFirst t) a b c same limit h)
+  read_stops same more limit t Memory h = tt
+  read_stops same more limit t Device h = failure_since a b c same more Device h
+  read_stops same more limit t UnknownVersion h = h

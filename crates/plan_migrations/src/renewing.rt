@@ -1,0 +1,52 @@
+// The tables of schema 1 are made those of the current schema.
+
+ghost use Rattle.std.specs.Prelude.{◌≡◌, false, IfErr, IsTrue, OnErr, OnOk};
+ghost use Rattle.sqlite.specs.State.{HasCleanDisk, Survives};
+ghost use Rattle.sqlite.specs.Held.{state};
+ghost use Rattle.plan_migrations.specs.Asking.{IsKept};
+ghost use Rattle.plan_migrations.specs.Migrating.{IsRenewed, IsUnrenewed, MayRenew};
+
+use crate::faults::MigrateFault;
+use crate::first_tables::{has_first_tables, read_tables};
+use crate::tables::TABLES;
+use sqlite::{Alter, Connection, Error};
+use std::alloc::Global;
+use table_opening::{OpenFault, fault_for};
+use table_remaking::remake_tables;
+
+// The fault of tables that are not made anew.
+fn renew_fault(error: &Error) -> MigrateFault
+{
+    match fault_for(error, OpenFault::Unopened) {
+        OpenFault::Memory => MigrateFault::Memory,
+        OpenFault::Device => MigrateFault::Device,
+        _ => MigrateFault::OtherTable,
+    }
+}
+
+/// Makes the tables of schema 1 those of the current schema, with their rows, all of them or none.
+pub(crate) fn renew<S: Alter>(alloc: Global, conn: &mut Connection<S>) -> Result<(), MigrateFault>
+    requires mode { conn.old.in_transaction ≡ false }
+    requires open { HasCleanDisk (state S.Store conn.old) → IsTrue (state S.Store conn.old).is_open }
+    ensures renewed { HasCleanDisk (state S.Store conn.new)
+        → OnOk result (IsRenewed (state S.Store conn.old) (state S.Store conn.new)) }
+    ensures unrenewed { HasCleanDisk (state S.Store conn.new)
+        → IfErr result (IsUnrenewed (state S.Store conn.old) (state S.Store conn.new)) }
+    ensures kept { HasCleanDisk (state S.Store conn.new)
+        → OnErr result (IsKept (state S.Store conn.old) (state S.Store conn.new)) }
+    ensures mode { conn.new.in_transaction ≡ false }
+    ensures crash { Survives (state S.Store conn.old) (state S.Store conn.new)
+        (MayRenew (state S.Store conn.old)) }
+{
+    match has_first_tables(alloc, conn) {
+        Ok(true) => match read_tables(alloc, conn, &TABLES) {
+            Ok(reads) => match remake_tables(conn, alloc, &reads) {
+                Ok(()) => Ok(()),
+                Err(error) => Err(renew_fault(&error)),
+            },
+            Err(fault) => Err(fault),
+        },
+        Ok(false) => Err(MigrateFault::OtherTable),
+        Err(_) => Err(MigrateFault::Memory),
+    }
+}
