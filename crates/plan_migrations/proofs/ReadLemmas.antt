@@ -1,12 +1,16 @@
 -- What is read of the tables of schema 1, and what is made of it.
-use Rattle.std.proofs.Common.{◌≡◌, ◌∙◌, ◌≤◌, ◌<◌, ◌+◌, ◌⊎◌, inl, inr, ℕ, List, [], ◌∷◌, ◌++◌, map, length, take, refl, sym, ap, subst, arith}
+use Rattle.std.proofs.Common.{◌≡◌, ◌∙◌, ◌≤◌, ◌⊎◌, inl, inr, ℕ, List, [], ◌∷◌, ◌++◌, map, length, take, IsTrue, refl, sym, ap, subst}
 use Rattle.std.proofs.Common.{Ok, Err}
 use Rattle.std.specs.List.{All}
 use Rattle.std.specs.List.Sorted.{IsPermutation}
 use Rattle.std.proofs.lemmas.List.{map-append}
 use Rattle.std.proofs.lemmas.List.Elements.{All-map, All-push, All-same, All-weaker, recursion_from_All}
 use Rattle.std.proofs.lemmas.List.Sorted.{IsPermutation-map, IsPermutation-trans}
+use Rattle.sqlite.specs.Effect.{Database}
 use Rattle.sqlite.specs.State.{IsUnchanged, State}
+use Rattle.sqlite.specs.declared.error.Error.{Error}
+use Rattle.sqlite.specs.declared.error.Error.TheVariants.{SqliteFailure}
+use Rattle.sqlite.specs.declared.error.ErrorCode.TheVariants as code
 use Rattle.sqlite.specs.Tree.{Trees}
 use Rattle.sqlite.proofs.Callers.{unchanged_then}
 use Rattle.table_schema.specs.Rows.{Tables, shown, tables_of}
@@ -18,11 +22,16 @@ use Rattle.table_schema.specs.declared.tables.Table.TheVariants.{History, Deleti
 use Rattle.table_remaking.specs.FirstSchema.{first_schema, first_shown}
 use Rattle.table_remaking.specs.FirstTexts.{first_select_sql}
 use Rattle.table_remaking.specs.Remaking.{AreAllFirst, AreRemade, AreWhole, remade_row}
+use Rattle.table_remaking.specs.Turns.{DeviceHasCause, is_of_device}
 use Rattle.table_remaking.specs.Types.{AreFirst}
+use Rattle.table_opening.specs.Faults.{fault_for}
+use Rattle.table_opening.specs.declared.faults.OpenFault.TheVariants as OpenFault
+use Rattle.table_opening.specs.declared.faults.OpenFault.TheVariants.{Unopened}
 use Rattle.table_remaking.specs.declared.rows.FirstRows.{FirstRows}
 use Rattle.table_remaking.proofs.StepLemmas as step
 use Rattle.plan_migrations.specs.Asking.{IsFailure}
-use Rattle.plan_migrations.specs.Migrating.{AreRenewed, AreShown, FailsToReadTables, MayRenew, ReadsTable}
+use Rattle.plan_migrations.specs.Migrating.{AreRenewed, AreShown, FailsToRead, FailsToReadAll, FailsToRemake, IsRenewed}
+use Rattle.plan_migrations.specs.Migrating.{IsUnmigrated, IsUnrenewed, RenewsFrom, TellsOf}
 use Rattle.plan_migrations.specs.Schemas.{IsOtherFirst}
 use Rattle.plan_migrations.specs.declared.faults.MigrateFault.{MigrateFault}
 use Rattle.plan_migrations.specs.declared.faults.MigrateFault.TheVariants.{UnknownVersion, OtherTable, Memory, Device}
@@ -68,9 +77,9 @@ module _ (a b : State) (has : a.now.schema ≡ first_schema) (reads : List First
   renewed whole told remade = each Renewed (subst (All Renewed) whole (All-map Renewed (λ (read : FirstRows). read.table)
       reads (λ i d low. one_renewed _ (told i d low) (remade i d low))))
 
-pub may_renew : (a b : State) (reads : List FirstRows) (db : Trees) → a.now.schema ≡ first_schema → AreWhole reads
-    → All (AreShown a b) reads → AreRemade reads (tables_of db) → MayRenew a db
-may_renew a b reads db has whole told remade =
+pub renews : (a b : State) (reads : List FirstRows) (db : Trees) → a.now.schema ≡ first_schema → AreWhole reads
+    → All (AreShown a b) reads → AreRemade reads (tables_of db) → RenewsFrom a.now db
+renews a b reads db has whole told remade =
     let rows = renewed a b has reads (tables_of db) whole told remade in
     record { was = has; rows = rows; content = content_stays (tables_of a.now.trees) (tables_of db) rows }
 
@@ -81,19 +90,73 @@ module _ (a b c : State) where
 
   -- one more table is read
   pub read_on : (reads : List FirstRows) (read : FirstRows) → IsUnchanged a b → IsUnchanged b c
-      → AreAllFirst reads → All (AreShown a b) reads → AreFirst read.table read.rows.items → AreShown b c read
-      → IsUnchanged a c × AreAllFirst (reads ++ read ∷ []) × All (AreShown a c) (reads ++ read ∷ [])
-  read_on reads read one two typed told first here = (
+      → All (AreShown a b) reads → AreShown b c read → IsUnchanged a c × All (AreShown a c) (reads ++ read ∷ [])
+  read_on reads read one two told here = (
     unchanged_then a b c one two,
-    All-push (λ (it : FirstRows). AreFirst it.table it.rows.items) reads read typed first,
     All-push (AreShown a c) reads read (All-weaker (AreShown a b) (AreShown a c) (shown_again two) reads told)
         (shown_since (first_select_sql read.table) (first_reads read.table) a b c read.rows.items one here),
   )
 
+  other_since : IsUnchanged a b → b.step_limit ≡ a.step_limit → (t : Table) → IsOtherFirst b c t → IsOtherFirst a c t
+  other_since same limit t = otherwise_since (first_select_sql t) (first_reads t) (AreFirst t) a b c same limit
+
   pub read_stops : IsUnchanged a b → a.faults ≤ b.faults → b.step_limit ≡ a.step_limit → (t : Table) (f : MigrateFault)
-      → ReadsTable b c t (Err f) → FailsToReadTables a c f
-  read_stops same more limit t OtherTable h =
-      (t, otherwise_since (first_select_sql t) (first_reads t) (AreFirst t) a b c same limit h)
+      → FailsToRead b c t f → FailsToReadAll a c f
+  read_stops same more limit t OtherTable h = (t, other_since same limit t h)
   read_stops same more limit t Memory h = tt
   read_stops same more limit t Device h = failure_since a b c same more Device h
   read_stops same more limit t UnknownVersion h = h
+
+  -- what is not renewed after questions was not since before them
+  pub unrenewed_since : IsUnchanged a b → a.faults ≤ b.faults → b.step_limit ≡ a.step_limit → (f : MigrateFault)
+      → IsUnrenewed b c f → IsUnrenewed a c f
+  unrenewed_since same more limit OtherTable (inl other) =
+      inl (λ is. other (ap (λ (d : Database). d.schema) same.0.now_is ∙ is))
+  unrenewed_since same more limit OtherTable (inr (inl (t, h))) = inr (inl (t, other_since same limit t h))
+  unrenewed_since same more limit OtherTable (inr (inr (is, reads, whole, typed))) =
+      inr (inr (ap (λ (d : Database). d.schema) (sym same.0.now_is) ∙ is, reads, whole, typed))
+  unrenewed_since same more limit Memory h = tt
+  unrenewed_since same more limit Device h = failure_since a b c same more Device h
+  unrenewed_since same more limit UnknownVersion h = h
+
+  pub renewed_since : IsUnchanged a b → IsRenewed b c → IsRenewed a c
+  renewed_since same h = record {
+    renewed = subst (λ (d : Database). RenewsFrom d c.now.trees) same.0.now_is h.renewed;
+    plan = h.plan;
+    settled = h.settled;
+    is_open = h.is_open;
+  }
+
+  pub failed_remake : IsUnchanged a b → a.faults ≤ b.faults → (reads : List FirstRows) → a.now.schema ≡ first_schema
+      → AreWhole reads → AreAllFirst reads → (f : MigrateFault) → FailsToRemake b c f → IsUnrenewed a c f
+  failed_remake same more reads has whole typed OtherTable h = inr (inr (has, reads, whole, typed))
+  failed_remake same more reads has whole typed Memory h = tt
+  failed_remake same more reads has whole typed Device h = failure_since a b c same more Device h
+  failed_remake same more reads has whole typed UnknownVersion h = h
+
+pub failed_read : (a b : State) (f : MigrateFault) → FailsToReadAll a b f → IsUnrenewed a b f
+failed_read a b OtherTable h = inr (inl h)
+failed_read a b Memory h = tt
+failed_read a b Device h = h
+failed_read a b UnknownVersion h = h
+
+-- where the tables are not renewed, a plan of schema 1 is not migrated
+pub unmigrated_first : (a b : State) (f : MigrateFault) → IsUnrenewed a b f → IsUnmigrated a b f
+unmigrated_first a b OtherTable h = inr h
+unmigrated_first a b Memory h = tt
+unmigrated_first a b Device h = h
+unmigrated_first a b UnknownVersion h = absurd h
+
+-- an error is told as a failure of the device where it is one
+of_device : (e : Error) → fault_for e Unopened ≡ OpenFault.Device → IsTrue (is_of_device e)
+of_device (SqliteFailure code.SystemIoFailure) is = refl
+of_device (SqliteFailure code.DatabaseCorrupt) is = refl
+of_device (SqliteFailure code.DiskFull) is = refl
+of_device (SqliteFailure code.Closed) is = refl
+of_device _ is = absurd cc
+
+pub fails_to_remake : (a b : State) (e : Error) (f : MigrateFault) → DeviceHasCause a b e → TellsOf e f → FailsToRemake a b f
+fails_to_remake a b e OtherTable cause told = tt
+fails_to_remake a b e Memory cause told = tt
+fails_to_remake a b e Device cause told = cause (of_device e told)
+fails_to_remake a b e UnknownVersion cause told = told

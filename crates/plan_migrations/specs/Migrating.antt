@@ -1,26 +1,30 @@
 -- What a migration finds and leaves.
-use Rattle.std.specs.Prelude.{◌≡◌, ◌⊎◌, ℕ, List, [], ◌∷◌, map, Result, Ok, Err, IsTrue}
+use Rattle.std.specs.Prelude.{◌≡◌, ◌⊎◌, ℕ, List, [], ◌∷◌, map, Result, Ok, Err, IsTrue, ⊤}
 use Rattle.std.specs.List.{All}
 use Rattle.std.specs.List.Sorted.{IsPermutation}
+use Rattle.sqlite.specs.Effect.{Database}
 use Rattle.sqlite.specs.State.{IsUnchanged, Shown, State}
 use Rattle.sqlite.specs.Tree.{Trees}
+use Rattle.sqlite.specs.declared.error.Error.{Error}
 use Rattle.planner_machine.specs.Content.{Content}
 use Rattle.table_schema.specs.Rows.{IsPlan, Tables, shown, tables_of}
 use Rattle.table_schema.specs.Schema.{all_tables}
 use Rattle.table_schema.specs.declared.tables.Table.{Table}
 use Rattle.table_schema.specs.declared.tables.TheConstants.{SCHEMA_VERSION}
 use Rattle.table_facts.specs.Content.{IsContentOf}
+use Rattle.table_opening.specs.Faults.{fault_for}
 use Rattle.table_opening.specs.Foreign.{RefusesVersion}
+use Rattle.table_opening.specs.declared.faults.OpenFault.TheVariants as OpenFault
+use Rattle.table_opening.specs.declared.faults.OpenFault.TheVariants.{Unopened}
 use Rattle.table_remaking.specs.FirstSchema.{first_schema, first_shown}
 use Rattle.table_remaking.specs.FirstTexts.{first_select_sql}
-use Rattle.table_remaking.specs.Remaking.{AreAllFirst, AreWhole, remade_row}
-use Rattle.table_remaking.specs.Types.{AreFirst}
+use Rattle.table_remaking.specs.Remaking.{AreAllFirst, AreRemade, AreWhole, remade_row}
 use Rattle.table_remaking.specs.declared.rows.FirstRows.{FirstRows}
 use Rattle.plan_migrations.specs.Asking.{IsFailure, IsKept}
 use Rattle.plan_migrations.specs.FirstContent.{IsFirstContentOf}
 use Rattle.plan_migrations.specs.Schemas.{IsOfSchema, IsOther, IsOtherFirst, ShowsUnknown, ShowsVersion}
 use Rattle.plan_migrations.specs.declared.faults.MigrateFault.{MigrateFault}
-use Rattle.plan_migrations.specs.declared.faults.MigrateFault.TheVariants.{UnknownVersion, OtherTable}
+use Rattle.plan_migrations.specs.declared.faults.MigrateFault.TheVariants.{UnknownVersion, OtherTable, Device}
 use Rattle.plan_migrations.specs.declared.versions.TheConstants.{FIRST_VERSION}
 
 -- ---- tables of the current schema
@@ -43,21 +47,14 @@ ChecksTables old new tables (Err fault) = IsFailure old new fault
 abbrev pub AreShown : State → State → FirstRows → Type 0
 AreShown old new read = Shown (first_select_sql read.table) [] old new read.rows.items
 
--- the rows of one table are read, or it is another
-abbrev pub ReadsTable : State → State → Table → Result FirstRows MigrateFault → Type 0
-ReadsTable old new t (Ok read) = (read.table ≡ t) × AreShown old new read × AreFirst read.table read.rows.items
-ReadsTable old new t (Err OtherTable) = IsOtherFirst old new t
-ReadsTable old new t (Err fault) = IsFailure old new fault
+-- why rows are not read: a table is another, or it fails
+abbrev pub FailsToRead : State → State → Table → MigrateFault → Type 0
+FailsToRead old new t OtherTable = IsOtherFirst old new t
+FailsToRead old new t fault = IsFailure old new fault
 
--- the rows of these tables are read, in their order
-abbrev pub ReadsTables : State → State → List Table → List FirstRows → Type 0
-ReadsTables old new tables reads = IsUnchanged old new × (map (λ (read : FirstRows). read.table) reads ≡ tables)
-    × AreAllFirst reads × All (AreShown old new) reads
-
--- why they are not: a table is another, or it fails
-abbrev pub FailsToReadTables : State → State → MigrateFault → Type 0
-FailsToReadTables old new OtherTable = (t : Table) × IsOtherFirst old new t
-FailsToReadTables old new fault = IsFailure old new fault
+abbrev pub FailsToReadAll : State → State → MigrateFault → Type 0
+FailsToReadAll old new OtherTable = (t : Table) × IsOtherFirst old new t
+FailsToReadAll old new fault = IsFailure old new fault
 
 -- each table shows what it showed, each row as often: with no limits, and the current version
 abbrev pub AreRenewed : Tables → Tables → Type 0
@@ -67,11 +64,15 @@ AreRenewed old new = (t : Table) → IsPermutation (map (remade_row t) (map (fir
 abbrev pub KeepsContent : Tables → Tables → Type 0
 KeepsContent old new = (c : Content) → IsFirstContentOf old c → IsContentOf new c
 
--- what it may commit: tables of the current schema with the rows and the content of those of schema 1
-pub record MayRenew (s : State) (db : Trees) : Type 0 where
-  pub was : s.now.schema ≡ first_schema
-  pub rows : AreRenewed (tables_of s.now.trees) (tables_of db)
-  pub content : KeepsContent (tables_of s.now.trees) (tables_of db)
+-- tables of schema 1 alone stood there; those that stand there have their rows and their content
+pub record RenewsFrom (old : Database) (db : Trees) : Type 0 where
+  pub was : old.schema ≡ first_schema
+  pub rows : AreRenewed (tables_of old.trees) (tables_of db)
+  pub content : KeepsContent (tables_of old.trees) (tables_of db)
+
+-- what it may commit
+abbrev pub MayRenew : State → Trees → Type 0
+MayRenew s db = RenewsFrom s.now db
 
 -- the tables of schema 1 alone stood there; those of the current schema stand there, and all of it is committed
 pub record IsRenewed (old new : State) : Type 0 where
@@ -79,6 +80,24 @@ pub record IsRenewed (old new : State) : Type 0 where
   pub plan : IsPlan new
   pub settled : new.committed ≡ new.now
   pub is_open : IsTrue new.is_open
+
+-- the fault of an error
+abbrev pub TellsOf : Error → MigrateFault → Type 0
+TellsOf e Device = fault_for e Unopened ≡ OpenFault.Device
+TellsOf e UnknownVersion = ⊥
+TellsOf e _ = ⊤
+
+-- they were made anew with these rows, and all is committed
+pub record IsRemade (reads : List FirstRows) (s : State) : Type 0 where
+  pub plan : IsPlan s
+  pub rows : AreRemade reads (tables_of s.now.trees)
+  pub settled : s.committed ≡ s.now
+  pub is_open : IsTrue s.is_open
+
+-- why they were not: a statement is refused, or it fails
+abbrev pub FailsToRemake : State → State → MigrateFault → Type 0
+FailsToRemake old new OtherTable = ⊤
+FailsToRemake old new fault = IsFailure old new fault
 
 -- why they are not renewed: there are further tables, indexes or views; a table is another; a statement is refused
 -- whose rows were all read from the tables of schema 1; or it fails

@@ -1,11 +1,14 @@
 // The tables of schema 1.
 
-ghost use Rattle.std.specs.Prelude.{◌≡◌, ◌↔◌, false, [], IfErr, IfOk, IsTrue};
+ghost use Rattle.std.specs.Prelude.{◌≡◌, ◌↔◌, false, [], IfErr, IfOk, IsTrue, OnOk};
+ghost use Rattle.std.specs.List.{All};
 ghost use Rattle.sqlite.specs.State.{HasCleanDisk, IsUnchanged, Survives};
 ghost use Rattle.sqlite.specs.Held.{state};
 ghost use Rattle.table_remaking.specs.FirstSchema.{first_schema};
 ghost use Rattle.plan_migrations.specs.Asking.{IsKept};
-ghost use Rattle.plan_migrations.specs.Migrating.{FailsToReadTables, ReadsTable, ReadsTables};
+ghost use Rattle.plan_migrations.specs.Migrating.{AreShown, FailsToRead, FailsToReadAll};
+ghost use Rattle.table_remaking.specs.Remaking.{AreAllFirst, tables_in};
+ghost use Rattle.table_remaking.specs.Types.{AreFirst};
 
 use crate::asking::ask;
 use crate::faults::MigrateFault;
@@ -39,8 +42,14 @@ pub(crate) fn has_first_tables<S: Alter>(alloc: Global, conn: &Connection<S>) ->
 // Reads the rows of the table.
 fn read_table<S: Alter>(conn: &mut Connection<S>, table: Table) -> Result<FirstRows, MigrateFault>
     requires { conn.old.in_transaction ≡ false }
-    ensures read { HasCleanDisk (state S.Store conn.new)
-        → ReadsTable (state S.Store conn.old) (state S.Store conn.new) table result }
+    ensures named { IfOk result (λ read. read.table ≡ table) }
+    ensures typed { IfOk result (λ read. AreFirst read.table read.rows.items) }
+    ensures shown { HasCleanDisk (state S.Store conn.new)
+        → IfOk result (AreShown (state S.Store conn.old) (state S.Store conn.new)) }
+    ensures same { HasCleanDisk (state S.Store conn.new)
+        → OnOk result (IsUnchanged (state S.Store conn.old) (state S.Store conn.new)) }
+    ensures unread { HasCleanDisk (state S.Store conn.new)
+        → IfErr result (FailsToRead (state S.Store conn.old) (state S.Store conn.new) table) }
     ensures kept { HasCleanDisk (state S.Store conn.new)
         → IsKept (state S.Store conn.old) (state S.Store conn.new) }
     ensures mode { conn.new.in_transaction ≡ false }
@@ -65,11 +74,15 @@ pub(crate) fn read_tables<S: Alter>(
 ) -> Result<Vec<FirstRows>, MigrateFault>
     requires mode { conn.old.in_transaction ≡ false }
     requires open { HasCleanDisk (state S.Store conn.old) → IsTrue (state S.Store conn.old).is_open }
-    ensures read { HasCleanDisk (state S.Store conn.new)
-        → IfOk result (λ reads. ReadsTables (state S.Store conn.old) (state S.Store conn.new)
-        tables.now reads.items) }
+    ensures whole { IfOk result (λ reads. tables_in reads.items ≡ tables.now) }
+    ensures typed { IfOk result (λ reads. AreAllFirst reads.items) }
+    ensures shown { HasCleanDisk (state S.Store conn.new)
+        → IfOk result (λ reads. All (AreShown (state S.Store conn.old) (state S.Store conn.new))
+        reads.items) }
+    ensures same { HasCleanDisk (state S.Store conn.new)
+        → OnOk result (IsUnchanged (state S.Store conn.old) (state S.Store conn.new)) }
     ensures unread { HasCleanDisk (state S.Store conn.new)
-        → IfErr result (FailsToReadTables (state S.Store conn.old) (state S.Store conn.new)) }
+        → IfErr result (FailsToReadAll (state S.Store conn.old) (state S.Store conn.new)) }
     ensures kept { HasCleanDisk (state S.Store conn.new)
         → IsKept (state S.Store conn.old) (state S.Store conn.new) }
     ensures mode { conn.new.in_transaction ≡ false }

@@ -9,7 +9,7 @@ ghost use Rattle.plan_migrations.specs.Migrating.{IsMigrated, IsUnmigrated, MayR
 use crate::faults::MigrateFault;
 use crate::renewing::renew;
 use crate::tables::{TABLES, check_tables};
-use crate::versions::{FIRST_VERSION, version};
+use crate::versions::version;
 use sqlite::{Alter, Connection};
 use std::alloc::Global;
 use table_schema::SCHEMA_VERSION;
@@ -34,13 +34,16 @@ pub fn migrate<S: Alter>(
         (MayRenew (state S.Store conn.old)) }
 {
     match version(conn) {
-        Ok(Some(FIRST_VERSION)) => match renew(alloc, conn) {
-            Ok(()) => Ok((FIRST_VERSION, SCHEMA_VERSION)),
-            Err(fault) => Err(fault),
-        },
-        Ok(Some(found)) => match check_tables(conn, &TABLES) {
-            Ok(()) => Ok((found, found)),
-            Err(fault) => Err(fault),
+        Ok(Some(found)) => if found == SCHEMA_VERSION {
+            match check_tables(conn, &TABLES) {
+                Ok(()) => Ok((found, found)),
+                Err(fault) => Err(fault),
+            }
+        } else {
+            match renew(alloc, conn) {
+                Ok(()) => Ok((found, SCHEMA_VERSION)),
+                Err(fault) => Err(fault),
+            }
         },
         Ok(None) => Ok((0, 0)),
         Err(fault) => Err(fault),

@@ -18,7 +18,8 @@ use Rattle.sqlite_value.specs.Order.{value_cmp}
 use Rattle.table_schema.specs.Rows.{Tables, no_rows, placed, shown, stored, with_cells, with_rows}
 use Rattle.table_schema.specs.Schema.{tree}
 use Rattle.table_schema.specs.declared.tables.Table.{Table}
-use Rattle.table_remaking.specs.Remaking.{AreAllFirst, AreRemade, AreWhole, remade_row, with_all_put, with_rows_put}
+use Rattle.table_remaking.specs.Remaking.{AreAllFirst, AreRemade, AreWhole, remade_row, tables_in, with_all_put}
+use Rattle.table_remaking.specs.Remaking.{with_rows_put}
 use Rattle.table_remaking.specs.Types.{AreFirst, HasTypes, first_types}
 use Rattle.table_remaking.specs.declared.rows.FirstRows.{FirstRows}
 use Rattle.table_remaking.proofs.FitLemmas.{remade_shown}
@@ -94,9 +95,6 @@ is_apart t u = not (tree u == tree t)
 abbrev are_apart : List Table → Bool
 are_apart [] = true
 are_apart (t ∷ ts) = list_all (is_apart t) ts && are_apart ts
-
-abbrev tables_in : List FirstRows → List Table
-tables_in reads = map (λ (read : FirstRows). read.table) reads
 
 abbrev AreEmpty : List FirstRows → Tables → Type 0
 AreEmpty [] all = ⊤

@@ -43,9 +43,13 @@ with_all_put reads all = fold (λ (now : Tables) (read : FirstRows). with_rows_p
 abbrev pub AreAllFirst : List FirstRows → Type 0
 AreAllFirst reads = All (λ (read : FirstRows). AreFirst read.table read.rows.items) reads
 
+-- the tables of which these are
+abbrev pub tables_in : List FirstRows → List Table
+tables_in reads = map (λ (read : FirstRows). read.table) reads
+
 -- they are of each table once, in the order in which the tables are made
 abbrev pub AreWhole : List FirstRows → Type 0
-AreWhole reads = map (λ (read : FirstRows). read.table) reads ≡ all_tables
+AreWhole reads = tables_in reads ≡ all_tables
 
 -- each table shows these rows of it, each as often, and no others
 abbrev pub AreRemade : List FirstRows → Tables → Type 0

@@ -1,6 +1,7 @@
 use Rattle.std.proofs.Common.{arith, rules, subst, sym}
 use Rattle.std.proofs.lemmas.List.Elements.{All-contains}
 use Rattle.sqlite.specs.Held.{state}
+use Rattle.sqlite.specs.State.{HasCleanDisk}
 use Rattle.sqlite.proofs.InsideLemmas.{keeps_then}
 use Rattle.table_schema.specs.Rows.{Stands, Tables, tables_of}
 use Rattle.table_remaking.specs.Remaking.{with_rows_put}
@@ -24,7 +25,7 @@ loop-read-preserved g c =
           (arith, c.put_rows.ensures.writes.survives.clean))) (c.put_rows.ensures.writes.kept clean);
       survives = survives_both old mid new c.loop-read.invariant.survives c.put_rows.ensures.writes.survives;
       opened = λ clean plan mode up typed.
-          let calm = omega (arith, c.put_rows.ensures.writes.survives.clean) in
+          let calm : HasCleanDisk mid = omega (arith, c.put_rows.ensures.writes.survives.clean) in
           let before = c.loop-read.invariant.leaves calm plan mode typed in
           c.in_ok-put_rows.ensures.puts.stays_open clean before.0.plan before.0.mode
           (c.loop-read.invariant.opened calm plan mode up typed)
@@ -54,7 +55,7 @@ returns-in_err-put_rows-clause-puts g c = record {
       let mid = state g.S.Store c.loop-read.tx.conn.now in
       let new = state g.S.Store c.put_rows.new.tx.conn.now in
       let read = c.read-item.result in
-      let calm = omega (arith, c.put_rows.ensures.writes.survives.clean) in
+      let calm : HasCleanDisk mid = omega (arith, c.put_rows.ensures.writes.survives.clean) in
       let before = c.loop-read.invariant.leaves calm plan mode typed in
       let caused = c.in_err-put_rows.ensures.puts.device clean before.0.plan before.0.mode
       (c.loop-read.invariant.opened calm plan mode up typed)

@@ -1,6 +1,7 @@
 use Rattle.std.proofs.Common.{arith, rules, subst, sym}
 use Rattle.std.proofs.lemmas.List.Elements.{All-contains}
 use Rattle.sqlite.specs.Held.{state}
+use Rattle.sqlite.specs.State.{HasCleanDisk}
 use Rattle.sqlite.proofs.InsideLemmas.{keeps_then}
 use Rattle.table_schema.specs.Rows.{Tables, tables_of, with_cells}
 use Rattle.table_remaking.specs.Remaking.{remade_row}
@@ -22,7 +23,7 @@ loop-row-preserved g c =
           (arith, c.put_row.ensures.writes.survives.clean))) (c.put_row.ensures.writes.kept clean);
       survives = survives_both old mid new c.loop-row.invariant.survives c.put_row.ensures.writes.survives;
       opened = λ clean plan mode up typed.
-          let calm = omega (arith, c.put_row.ensures.writes.survives.clean) in
+          let calm : HasCleanDisk mid = omega (arith, c.put_row.ensures.writes.survives.clean) in
           let before = c.loop-row.invariant.leaves calm plan mode typed in
           c.in_ok-put_row.ensures.puts.stays_open clean before.0.plan before.0.mode
           (c.loop-row.invariant.opened calm plan mode up typed)
@@ -49,7 +50,7 @@ returns-in_err-put_row-clause-puts g c = record {
       let mid = state g.S.Store c.loop-row.tx.conn.now in
       let new = state g.S.Store c.put_row.new.tx.conn.now in
 
-      let calm = omega (arith, c.put_row.ensures.writes.survives.clean) in
+      let calm : HasCleanDisk mid = omega (arith, c.put_row.ensures.writes.survives.clean) in
       let before = c.loop-row.invariant.leaves calm plan mode typed in
       let caused = c.in_err-put_row.ensures.puts.device clean before.0.plan before.0.mode
       (c.loop-row.invariant.opened calm plan mode up typed)

@@ -56,9 +56,9 @@ returns-in_err-make_all g c = record {
       let first : HasCleanDisk one = omega (arith, c.make_all.ensures.survives.clean) in
       let lost = c.in_ok-drop_all.ensures.ok first begins in
       let caused = by_may one new c.in_err-make_all.field-0.0 (c.in_err-make_all.ensures.fails clean lost) in
-      if_from c.from_residual.result _ _ (λ e same. subst (DeviceHasCause old new) (sym same)
+      if_from c.from_residual-in_err-make_all.result _ _ (λ e same. subst (DeviceHasCause old new) (sym same)
       (cause_after old one new c.in_err-make_all.field-0.0 c.drop_all.ensures.survives.counts
-      (c.in_ok-drop_all.ensures.stays_open first begins) caused)) c.from_residual.ensures.1;
+      (c.in_ok-drop_all.ensures.stays_open first begins) caused)) c.from_residual-in_err-make_all.ensures.1;
   stays_open = search rules;
   kept = search rules;
   survives = search rules;
