@@ -1,9 +1,10 @@
 -- What is read of the tables of schema 1, and what is made of it.
-use Rattle.std.proofs.Common.{◌≡◌, ◌∙◌, ◌≤◌, ◌⊎◌, inl, inr, ℕ, List, [], ◌∷◌, ◌++◌, map, length, take, IsTrue, refl, sym, ap, subst}
-use Rattle.std.proofs.Common.{Ok, Err}
+use Rattle.std.proofs.Common.{◌≡◌, ◌∙◌, ◌≤◌, ◌<◌, ◌+◌, ◌⊎◌, get_or, inl, inr, ℕ, List, [], ◌∷◌, ◌++◌, map, length, take, IsTrue, refl, sym, ap, subst}
+use Rattle.std.proofs.Common.{Result, Ok, Err}
+use Rattle.std.specs.Prelude.{IfErr, OnErr, OnOk}
 use Rattle.std.specs.List.{All}
 use Rattle.std.specs.List.Sorted.{IsPermutation}
-use Rattle.std.proofs.lemmas.List.{map-append}
+use Rattle.std.proofs.lemmas.List.{map-append, take_more}
 use Rattle.std.proofs.lemmas.List.Elements.{All-map, All-push, All-same, All-weaker, recursion_from_All}
 use Rattle.std.proofs.lemmas.List.Sorted.{IsPermutation-map, IsPermutation-trans}
 use Rattle.sqlite.specs.Effect.{Database}
@@ -21,7 +22,7 @@ use Rattle.table_schema.specs.declared.tables.Table.TheVariants.{Offset, Predece
 use Rattle.table_schema.specs.declared.tables.Table.TheVariants.{History, Deletion, Dependency, Job}
 use Rattle.table_remaking.specs.FirstSchema.{first_schema, first_shown}
 use Rattle.table_remaking.specs.FirstTexts.{first_select_sql}
-use Rattle.table_remaking.specs.Remaking.{AreAllFirst, AreRemade, AreWhole, remade_row}
+use Rattle.table_remaking.specs.Remaking.{AreAllFirst, AreRemade, AreWhole, remade_row, tables_in}
 use Rattle.table_remaking.specs.Turns.{DeviceHasCause, is_of_device}
 use Rattle.table_remaking.specs.Types.{AreFirst}
 use Rattle.table_opening.specs.Faults.{fault_for}
@@ -29,15 +30,20 @@ use Rattle.table_opening.specs.declared.faults.OpenFault.TheVariants as OpenFaul
 use Rattle.table_opening.specs.declared.faults.OpenFault.TheVariants.{Unopened}
 use Rattle.table_remaking.specs.declared.rows.FirstRows.{FirstRows}
 use Rattle.table_remaking.proofs.StepLemmas as step
-use Rattle.plan_migrations.specs.Asking.{IsFailure}
-use Rattle.plan_migrations.specs.Migrating.{AreRenewed, AreShown, FailsToRead, FailsToReadAll, FailsToRemake, IsRenewed}
+use Rattle.plan_migrations.specs.Asking.{IsKept}
+use Rattle.plan_migrations.specs.Migrating.{AreRenewed, AreShown, FailsToRead, FailsToReadAll, FailsToRemake, IsRemade}
+use Rattle.plan_migrations.specs.Migrating.{ChecksTables, IsMigrated, IsRenewed, MayRenew}
 use Rattle.plan_migrations.specs.Migrating.{IsUnmigrated, IsUnrenewed, RenewsFrom, TellsOf}
-use Rattle.plan_migrations.specs.Schemas.{IsOtherFirst}
+use Rattle.plan_migrations.specs.Schemas.{IsKnownVersion, IsOfSchema, IsOtherFirst, ShowsVersion}
+use Rattle.plan_migrations.specs.declared.versions.TheConstants.{FIRST_VERSION}
+use Rattle.table_schema.specs.declared.tables.TheConstants.{SCHEMA_VERSION}
 use Rattle.plan_migrations.specs.declared.faults.MigrateFault.{MigrateFault}
 use Rattle.plan_migrations.specs.declared.faults.MigrateFault.TheVariants.{UnknownVersion, OtherTable, Memory, Device}
+use Rattle.plan_migrations.proofs.AskLemmas.{kept_if_same}
 use Rattle.plan_migrations.proofs.ContentLemmas.{content_stays}
 use Rattle.plan_migrations.proofs.TextLemmas.{first_reads}
-use Rattle.plan_migrations.proofs.TurnLemmas.{failure_since, otherwise_since, shown_since, shown_until}
+use Rattle.plan_migrations.proofs.TurnLemmas.{failure_since, kept_since, of_schema_since, otherwise_since, same_if_version}
+use Rattle.plan_migrations.proofs.TurnLemmas.{shown_since, shown_until, unmigrated, version_until}
 
 each : (Q : Table → Type 0) → All Q all_tables → (t : Table) → Q t
 each Q all t = go (recursion_from_All Q all_tables all) t
@@ -160,3 +166,65 @@ fails_to_remake a b e OtherTable cause told = tt
 fails_to_remake a b e Memory cause told = tt
 fails_to_remake a b e Device cause told = cause (of_device e told)
 fails_to_remake a b e UnknownVersion cause told = told
+
+pub tables_more : (reads : List FirstRows) (read : FirstRows) (tables : List Table) (i : ℕ) (d : Table) → i < length tables
+    → tables_in reads ≡ take i tables → read.table ≡ get_or tables i d
+    → tables_in (reads ++ read ∷ []) ≡ take (i + 1) tables
+tables_more reads read tables i d low whole is = map-append (λ (it : FirstRows). it.table) reads (read ∷ [])
+    ∙ (λ k. whole k ++ is k ∷ []) ∙ sym (take_more tables i d low)
+
+-- ---- the tables are made anew after they were read
+
+module _ {E : Type 0} (a b c : State) (reads : List FirstRows) (has : a.now.schema ≡ first_schema) (whole : AreWhole reads) where
+  pub renewed_by : (r : Result (Unit {0}) E) → All (AreShown a b) reads → OnOk r (IsRemade reads c) → OnOk r (IsRenewed a c)
+  renewed_by (Ok v) told h = record {
+    renewed = renews a b reads c.now.trees has whole told h.rows;
+    plan = h.plan;
+    settled = h.settled;
+    is_open = h.is_open;
+  }
+  renewed_by (Err e) told h = tt
+
+pub unrenewed_by : (a b c : State) (reads : List FirstRows) → IsUnchanged a b → a.faults ≤ b.faults
+    → a.now.schema ≡ first_schema → AreWhole reads → AreAllFirst reads → (r : Result (Unit {0}) MigrateFault)
+    → IfErr r (FailsToRemake b c) → IfErr r (IsUnrenewed a c)
+unrenewed_by a b c reads same more has whole typed (Ok v) h = tt
+unrenewed_by a b c reads same more has whole typed (Err f) h = failed_remake a b c same more reads has whole typed f h
+
+pub kept_by : {E : Type 0} (a b c : State) → IsUnchanged a b → (r : Result (Unit {0}) E) → OnErr r (IsKept b c)
+    → OnErr r (IsKept a c)
+kept_by a b c same (Ok v) h = tt
+kept_by a b c same (Err e) h = kept_since a b c same h
+
+-- ---- a plan is migrated
+
+module _ (a b c : State) (v : ℕ) (told : IsKnownVersion v × ShowsVersion v a b) where
+  same_since : IsUnchanged a b
+  same_since = same_if_version a b v told.1
+
+  pub current_migrated : v ≡ SCHEMA_VERSION → ChecksTables b c all_tables (Ok _) → IsMigrated a c v v
+  current_migrated is h = inr (inl (
+    is,
+    is,
+    subst (λ n. ShowsVersion n a c) is (version_until a b c v told.1 h.0),
+    All-weaker (IsOfSchema b c) (IsOfSchema a c) (of_schema_since a b c same_since) all_tables h.1,
+    kept_if_same a c (unchanged_then a b c same_since h.0),
+  ))
+
+  pub current_unmigrated : v ≡ SCHEMA_VERSION → a.faults ≤ b.faults → b.step_limit ≡ a.step_limit → (f : MigrateFault)
+      → ChecksTables b c all_tables (Err f) → IsUnmigrated a c f
+  current_unmigrated is more limit f h =
+      unmigrated a b c (subst (λ n. ShowsVersion n a b) is told.1) more limit all_tables f h
+
+  first_is : (v ≡ SCHEMA_VERSION → ⊥) → v ≡ FIRST_VERSION
+  first_is other = elim told.0 [ inl is ↦ is | inr is ↦ absurd (other is) ]
+
+  pub first_migrated : (v ≡ SCHEMA_VERSION → ⊥) → IsRenewed b c → IsMigrated a c v SCHEMA_VERSION
+  first_migrated other h = inr (inr (first_is other, refl, renewed_since a b c same_since h))
+
+  pub first_unmigrated : a.faults ≤ b.faults → b.step_limit ≡ a.step_limit → (f : MigrateFault) → IsUnrenewed b c f
+      → IsUnmigrated a c f
+  first_unmigrated more limit f h = unmigrated_first a c f (unrenewed_since a b c same_since more limit f h)
+
+pub renews_since : (a b : State) (v : ℕ) → ShowsVersion v a b → (db : Trees) → MayRenew b db → MayRenew a db
+renews_since a b v told db h = subst (λ (d : Database). RenewsFrom d db) (same_if_version a b v told).0.now_is h

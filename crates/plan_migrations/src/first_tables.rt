@@ -1,11 +1,12 @@
 // The tables of schema 1.
 
-ghost use Rattle.std.specs.Prelude.{◌≡◌, ◌↔◌, false, [], IfErr, IfOk, IsTrue, OnOk};
+ghost use Rattle.std.specs.Prelude.{◌≡◌, ◌↔◌, false, IfErr, IfOk, IsTrue, OnOk};
 ghost use Rattle.std.specs.List.{All};
 ghost use Rattle.sqlite.specs.State.{HasCleanDisk, IsUnchanged, Survives};
 ghost use Rattle.sqlite.specs.Held.{state};
 ghost use Rattle.table_remaking.specs.FirstSchema.{first_schema};
 ghost use Rattle.plan_migrations.specs.Asking.{IsKept};
+ghost use Rattle.plan_migrations.specs.Schemas.{HasNoMore};
 ghost use Rattle.plan_migrations.specs.Migrating.{AreShown, FailsToRead, FailsToReadAll};
 ghost use Rattle.table_remaking.specs.Remaking.{AreAllFirst, tables_in};
 ghost use Rattle.table_remaking.specs.Types.{AreFirst};
@@ -20,9 +21,8 @@ use table_remaking::{FirstRows, are_first, first_select_text, make_first_tables}
 use table_schema::Table;
 
 // Whether the schema has the tables and indexes of the other, and nothing else.
-fn is_same_schema(a: &Schema, b: &Schema) -> bool
-    ensures { IsTrue result ↔ ((a.now.tables ≡ b.now.tables) × (a.now.indexes ≡ b.now.indexes)
-        × (a.now.views ≡ [])) }
+fn has_no_more(a: &Schema, b: &Schema) -> bool
+    ensures { IsTrue result ↔ HasNoMore a.now b.now }
 {
     extends_schema(a, b)
         && a.tables.len() == b.tables.len()
@@ -36,7 +36,7 @@ pub(crate) fn has_first_tables<S: Alter>(alloc: Global, conn: &Connection<S>) ->
 {
     let mut made = Connection::open_in_memory(alloc)?;
     make_first_tables(&mut made)?;
-    Ok(is_same_schema(conn.schema(), made.schema()))
+    Ok(has_no_more(conn.schema(), made.schema()))
 }
 
 // Reads the rows of the table.

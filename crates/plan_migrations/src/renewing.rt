@@ -93,8 +93,6 @@ pub(crate) fn renew<S: Alter>(alloc: Global, conn: &mut Connection<S>) -> Result
     ensures crash { Survives (state S.Store conn.old) (state S.Store conn.new)
         (MayRenew (state S.Store conn.old)) }
 {
-    let settled = conn.is_autocommit();
-    prove!(settled);
     match has_first_tables(alloc, conn) {
         Ok(is_first) => if is_first {
             renew_first(alloc, conn)

@@ -11,6 +11,6 @@ returns g c =
     c.in_ok-made.ensures.empty.2 in
     let own = c.schema.ensures.value in
     let both = is_first _ _ (c.schema-2.ensures.value ∙ made) in (
-      λ same. subst (λ (s : Schema). s ≡ first_schema) own (both.0 (c.is_same_schema.ensures.0 same)),
-      λ first. c.is_same_schema.ensures.1 (both.1 (subst (λ (s : Schema). s ≡ first_schema) (sym own) first)),
+      λ same. subst (λ (s : Schema). s ≡ first_schema) own (both.0 (c.has_no_more.ensures.0 same)),
+      λ first. c.has_no_more.ensures.1 (both.1 (subst (λ (s : Schema). s ≡ first_schema) (sym own) first)),
     )
