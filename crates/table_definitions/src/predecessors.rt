@@ -14,7 +14,7 @@ ghost use Rattle.table_definitions.specs.Gathering.{AreSound};
 ghost use Rattle.table_definitions.specs.Storing.{AreRowsOf};
 ghost use Rattle.table_definitions.specs.Telling.{ArePredecessors};
 
-use crate::cells::row_of;
+use crate::cells::{optional_number, row_of};
 use crate::columns::{is_null_at, name_at};
 use crate::encoding::{Encoding, rows_of};
 use crate::gathering::{Draft, gathered};
@@ -33,7 +33,7 @@ fn link_row(alloc: Global, app: &Name, name: &Name) -> Result<Row, AllocError>
         &[
             ValueRef::Text(app.as_bytes()),
             ValueRef::Text(name.as_bytes()),
-            ValueRef::Null,
+            optional_number(None),
         ],
     )
 }

@@ -6,7 +6,7 @@ ghost use Rattle.table_schema.specs.Writes.{WritesWhere};
 ghost use Rattle.table_facts.specs.Facts.{row_values, current_values, deletion_values, pair_values, link_values};
 ghost use Rattle.table_facts.specs.Facts.{row_key, current_key, deletion_key, link_key};
 
-use crate::cells::{number, origin};
+use crate::cells::{no_limit, number, origin};
 use external_dependencies::{Link, Pair};
 use occurrences::{CurrentRow, Deletion, Row};
 use sqlite::types::ValueRef;
@@ -140,7 +140,7 @@ impl Fact for Link {
             &[
                 ValueRef::Text(self.app.as_bytes()),
                 ValueRef::Text(self.predecessor.as_bytes()),
-                ValueRef::Null,
+                no_limit(),
             ],
         )
     }

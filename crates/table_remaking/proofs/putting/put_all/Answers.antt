@@ -60,8 +60,8 @@ returns-in_err-put_rows-clause-puts g c = record {
       let caused = c.in_err-put_rows.ensures.puts.device clean before.0.plan before.0.mode
       (c.loop-read.invariant.opened calm plan mode up typed)
       (subst (AreFirst read.table) (sym c.deref.ensures.value)
-          (All-contains (λ (one : FirstRows). AreFirst one.table one.rows.items) c.args.reads.now read typed
-          (item_contains _ c.loop-read.read-index read (omega arith) c.read-item.is))) in
+      (All-contains (λ (one : FirstRows). AreFirst one.table one.rows.items) c.args.reads.now read typed
+      (item_contains _ c.loop-read.read-index read (omega arith) c.read-item.is))) in
       if_from c.from_residual.result _ _ (λ e same. subst (DeviceHasCause old new) (sym same)
       (cause_after old mid new c.in_err-put_rows.field-0.0 c.loop-read.invariant.survives.counts
       (c.loop-read.invariant.opened calm plan mode up typed) caused)) c.from_residual.ensures.1;

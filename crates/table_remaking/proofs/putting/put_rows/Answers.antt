@@ -49,13 +49,12 @@ returns-in_err-put_row-clause-puts g c = record {
       let old = state g.S.Store c.args.tx.now.conn.now in
       let mid = state g.S.Store c.loop-row.tx.conn.now in
       let new = state g.S.Store c.put_row.new.tx.conn.now in
-
       let calm : HasCleanDisk mid = omega (arith, c.put_row.ensures.writes.survives.clean) in
       let before = c.loop-row.invariant.leaves calm plan mode typed in
       let caused = c.in_err-put_row.ensures.puts.device clean before.0.plan before.0.mode
       (c.loop-row.invariant.opened calm plan mode up typed)
       (All-contains (HasTypes (first_types c.args.table)) c.args.rows.now c.row-item.result typed
-          (item_contains _ c.loop-row.row-index c.row-item.result (omega arith) c.row-item.is)) in
+      (item_contains _ c.loop-row.row-index c.row-item.result (omega arith) c.row-item.is)) in
       if_from c.from_residual.result _ _ (λ e same. subst (DeviceHasCause old new) (sym same)
       (cause_after old mid new c.in_err-put_row.field-0.0 c.loop-row.invariant.survives.counts
       (c.loop-row.invariant.opened calm plan mode up typed) caused)) c.from_residual.ensures.1;
