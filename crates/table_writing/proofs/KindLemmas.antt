@@ -7,8 +7,8 @@ use Rattle.sqlite.specs.Ops.{unary}
 use Rattle.sqlite.specs.Cast.{cast, as_text}
 use Rattle.table_schema.specs.Rows.{AreOfKinds}
 use Rattle.table_schema.specs.declared.tables.Table.TheVariants as table
-use Rattle.table_facts.specs.Facts.{current_key, current_values, deletion_key, deletion_values, link_values, or_null}
-use Rattle.table_facts.specs.Facts.{pair_values, row_key, row_values}
+use Rattle.table_facts.specs.Facts.{current_key, current_values, deletion_key, deletion_values, link_key, link_values}
+use Rattle.table_facts.specs.Facts.{or_null, pair_values, row_key, row_values}
 use Rattle.app_definitions.specs.declared.options.Options.{Options}
 use Rattle.planner_machine.specs.declared.content.Bounds.{Bounds}
 use Rattle.planner_machine.specs.declared.job.Job.{Job}
@@ -83,7 +83,7 @@ deletions_keys deletion = (pos deletion.row.serial, refl)
 pub pairs_keys : AreKeysOf table.Dependency pair_values
 pairs_keys pair = (pos pair.successor, pos pair.predecessor, refl)
 
-pub links_keys : AreKeysOf table.LinkInForce link_values
+pub links_keys : AreKeysOf table.LinkInForce link_key
 links_keys link = (link.app, link.predecessor, refl)
 
 pub calendars_alone : StandAlone table.CalendarEntry

@@ -17,8 +17,8 @@ use Rattle.planner_machine.specs.declared.job.Job.{Job}
 use Rattle.plan_store.specs.declared.changes.Change.{Change}
 use Rattle.plan_store.specs.declared.changes.Moves.{Moves}
 use Rattle.table_facts.specs.Content.{job_values, meta_values}
-use Rattle.table_facts.specs.Facts.{current_key, current_values, deletion_key, deletion_values, link_values, natural}
-use Rattle.table_facts.specs.Facts.{pair_values, row_key, row_values}
+use Rattle.table_facts.specs.Facts.{current_key, current_values, deletion_key, deletion_values, link_key, link_values}
+use Rattle.table_facts.specs.Facts.{natural, pair_values, row_key, row_values}
 use Rattle.table_schema.specs.Rows.{IsPlan, Stands, Tables, tables_of, with_cells, without_key}
 use Rattle.table_schema.specs.Takes.{IsKeyOf, TakesRow}
 use Rattle.table_schema.specs.Writes.{TakesWhere, seen}
@@ -63,7 +63,7 @@ TakesPairs change all = TakesEach table.Dependency pair_values change.added
 abbrev pub TakesLinks : List Link → Option (List Link) → Tables → Type 0
 TakesLinks old None all = ⊤
 TakesLinks old (Some new) all = TakesEach table.LinkInForce link_values (beside old new)
-    (without_each table.LinkInForce link_values (beside new old) all)
+    (without_each table.LinkInForce link_key (beside new old) all)
 
 abbrev pub TakesMeta : Option Bounds → ℕ → Options → Tables → Type 0
 TakesMeta bounds issued options all =

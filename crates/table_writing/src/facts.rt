@@ -4,10 +4,10 @@ ghost use Rattle.sqlite.specs.Order.{Row as Values};
 ghost use Rattle.table_schema.specs.Rows.{AreOfKinds, IsAlone, with_cells, without_key};
 ghost use Rattle.table_schema.specs.Takes.{LosesKey, TakesRow};
 ghost use Rattle.table_facts.specs.Facts.{row_values, current_values, deletion_values, pair_values, link_values};
-ghost use Rattle.table_facts.specs.Facts.{row_key, current_key, deletion_key};
+ghost use Rattle.table_facts.specs.Facts.{row_key, current_key, deletion_key, link_key};
 ghost use Rattle.table_writing.specs.Taking.{WritesTaking};
 
-use crate::cells::{number, origin};
+use crate::cells::{no_limit, number, origin};
 use external_dependencies::{Link, Pair};
 use occurrences::{CurrentRow, Deletion, Row};
 use sqlite::types::ValueRef;
@@ -134,7 +134,7 @@ impl Fact for Deletion {
 impl Fact for Link {
     ghost values = { link_values };
 
-    ghost key = { link_values };
+    ghost key = { link_key };
 
     fn put<S: Alter>(&self, tx: &mut Transaction<'_, S>, table: Table) -> Result<(), Error> {
         insert(
@@ -143,6 +143,7 @@ impl Fact for Link {
             &[
                 ValueRef::Text(self.app.as_bytes()),
                 ValueRef::Text(self.predecessor.as_bytes()),
+                no_limit(),
             ],
         )
     }
