@@ -2,7 +2,7 @@
 use Rattle.std.proofs.Common.{◌≡◌, ◌∙◌, ◌≤◌, ◌<◌, ◌+◌, ◌⊎◌, get_or, inl, inr, ℕ, List, [], ◌∷◌, ◌++◌, map, length, take, IsTrue, refl, sym, ap, subst}
 use Rattle.std.proofs.Common.{Result, Ok, Err}
 use Rattle.std.specs.Prelude.{IfErr, OnErr, OnOk}
-use Rattle.std.specs.List.{All}
+use Rattle.std.specs.List.{All, AllByRecursion}
 use Rattle.std.specs.List.Sorted.{IsPermutation}
 use Rattle.std.proofs.lemmas.List.{map-append, take_more}
 use Rattle.std.proofs.lemmas.List.Elements.{All-map, All-push, All-same, All-weaker, recursion_from_All}
@@ -45,24 +45,24 @@ use Rattle.plan_migrations.proofs.TextLemmas.{first_reads}
 use Rattle.plan_migrations.proofs.TurnLemmas.{failure_since, kept_since, of_schema_since, otherwise_since, same_if_version}
 use Rattle.plan_migrations.proofs.TurnLemmas.{shown_since, shown_until, unmigrated, version_until}
 
+pick : (Q : Table → Type 0) → AllByRecursion Q all_tables → (t : Table) → Q t
+pick Q h Meta = h.0
+pick Q h CalendarEntry = h.1.0
+pick Q h Period = h.1.1.0
+pick Q h Application = h.1.1.1.0
+pick Q h RunCycle = h.1.1.1.1.0
+pick Q h Offset = h.1.1.1.1.1.0
+pick Q h Predecessor = h.1.1.1.1.1.1.0
+pick Q h LinkInForce = h.1.1.1.1.1.1.1.0
+pick Q h LongTerm = h.1.1.1.1.1.1.1.1.0
+pick Q h Current = h.1.1.1.1.1.1.1.1.1.0
+pick Q h History = h.1.1.1.1.1.1.1.1.1.1.0
+pick Q h Deletion = h.1.1.1.1.1.1.1.1.1.1.1.0
+pick Q h Dependency = h.1.1.1.1.1.1.1.1.1.1.1.1.0
+pick Q h Job = h.1.1.1.1.1.1.1.1.1.1.1.1.1.0
+
 each : (Q : Table → Type 0) → All Q all_tables → (t : Table) → Q t
-each Q all t = go (recursion_from_All Q all_tables all) t
-  where
-    go : _ → (t : Table) → Q t
-    go h Meta = h.0
-    go h CalendarEntry = h.1.0
-    go h Period = h.1.1.0
-    go h Application = h.1.1.1.0
-    go h RunCycle = h.1.1.1.1.0
-    go h Offset = h.1.1.1.1.1.0
-    go h Predecessor = h.1.1.1.1.1.1.0
-    go h LinkInForce = h.1.1.1.1.1.1.1.0
-    go h LongTerm = h.1.1.1.1.1.1.1.1.0
-    go h Current = h.1.1.1.1.1.1.1.1.1.0
-    go h History = h.1.1.1.1.1.1.1.1.1.1.0
-    go h Deletion = h.1.1.1.1.1.1.1.1.1.1.1.0
-    go h Dependency = h.1.1.1.1.1.1.1.1.1.1.1.1.0
-    go h Job = h.1.1.1.1.1.1.1.1.1.1.1.1.1.0
+each Q all = pick Q (recursion_from_All Q all_tables all)
 
 module _ (a b : State) (has : a.now.schema ≡ first_schema) (reads : List FirstRows) (all : Tables) where
   abbrev Remade : FirstRows → Type 0
@@ -81,7 +81,7 @@ module _ (a b : State) (has : a.now.schema ≡ first_schema) (reads : List First
   -- the rows that are read are those of the tables, so these are made anew
   pub renewed : AreWhole reads → All (AreShown a b) reads → AreRemade reads all → AreRenewed (tables_of a.now.trees) all
   renewed whole told remade = each Renewed (subst (All Renewed) whole (All-map Renewed (λ (read : FirstRows). read.table)
-      reads (λ i d low. one_renewed _ (told i d low) (remade i d low))))
+      reads (λ i d low. one_renewed (get_or reads i d) (told i d low) (remade i d low))))
 
 pub renews : (a b : State) (reads : List FirstRows) (db : Trees) → a.now.schema ≡ first_schema → AreWhole reads
     → All (AreShown a b) reads → AreRemade reads (tables_of db) → RenewsFrom a.now db

@@ -1,5 +1,5 @@
 -- The content that the rows of the tables of schema 1 stand for.
-use Rattle.std.specs.Prelude.{◌≡◌, ◌↔◌, ◌×◌, ℕ, List, [], ◌∷◌, map, Option, Contains}
+use Rattle.std.specs.Prelude.{◌≡◌, ◌↔◌, ℕ, List, [], ◌∷◌, map, Option, Contains}
 use Rattle.sqlite.specs.Order.{Row as Values}
 use Rattle.sqlite.specs.declared.types.Value.TheVariants.{Text}
 use Rattle.app_definitions.specs.declared.options.Options.{Options}
