@@ -14,7 +14,9 @@ ghost use Rattle.planner_cli.specs.Stores.{AnswersBy};
 use crate::answers::{Printed, print_answer};
 use crate::rows::days_rows;
 use app_definitions::{Application, Definitions};
-use app_occurrences::{CalendarIndex, active, calendar_name, lacks_calendar, lacks_period, named_by_index};
+use app_occurrences::{
+    CalendarIndex, active, calendar_name, lacks_calendar, lacks_period, named_by_index,
+};
 use occurrences::{Refusal, Reply};
 use plan_store::{Need, PlanStore, StoreFault, View};
 use planner_machine::LONGEST_WINDOW;

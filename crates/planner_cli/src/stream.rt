@@ -145,9 +145,7 @@ fn answer_alone<S: PlanStore, W: Write>(
         (W.contents writer.old) (W.contents writer.new) (Alone line.now) result }
 {
     match read_statement(alloc, line) {
-        Ok(Some(statement)) => {
-            answer_statement(alloc, store, kept, line, &statement, writer)
-        }
+        Ok(Some(statement)) => { answer_statement(alloc, store, kept, line, &statement, writer) }
         Ok(None) => {
             let answered = no_statement(alloc);
             write_answer(writer, answered)
