@@ -10,7 +10,7 @@ import sqlite3
 import tempfile
 import time
 
-VERSIONS = (1,)  # of the tables, those that are read
+VERSIONS = (1, 2)  # of the tables, those that are read
 TRIES = 5
 TAILS = ("", "-wal", "-journal")
 # a change that comes this soon after another one may leave the file's time as it was

@@ -14,6 +14,8 @@ import plain_planner as plain  # noqa: E402
 
 PROGRAM = Path(os.environ.get("OPCPLAN") or TOOLS.parent / "crates" / "opcplan" / "out" / "opcplan")
 DATA = TOOLS.parent / "crates" / "planner_rows" / "data"
+# of the tables that the program makes
+VERSION = 2
 COLUMNS = {
     "plan_meta": "id, version, created, first_day, last_day, plan_end, issued, default_calendar, max_hours",
     "calendar_entry": "calendar, kind, day, work",
@@ -21,8 +23,8 @@ COLUMNS = {
     "application": "name, active, calendar",
     "run_cycle": "app, name, type, period, rule, in_effect, out_effect, ia, deadline_day, deadline_time",
     "run_cycle_offset": "app, name, seq, k",
-    "predecessor": "app, pred",
-    "link_in_force": "app, pred",
+    "predecessor": "app, pred, within",
+    "link_in_force": "app, pred, within",
     "ltp_row": "serial, app, ia, deadline, run_cycle",
     "cp_row": "serial, app, ia, deadline, run_cycle, status",
     "history_row": "serial, app, ia, deadline, run_cycle",
@@ -64,7 +66,7 @@ def rows_told(planner):
     defined = planner.defined
     cycles = [(app, name, cycle) for app, named in defined["run-cycles"].items() for name, cycle in named.items()]
     found = {
-        "plan_meta": [(1, 1, int(planner.bounds is not None), *(planner.bounds or (0, 0, 0)), planner.issued,
+        "plan_meta": [(1, VERSION, int(planner.bounds is not None), *(planner.bounds or (0, 0, 0)), planner.issued,
                        planner.options["default_calendar"], planner.options["max_extension_hours"])],
         "calendar_entry": [(name, int(kind == "date"), day, int(is_work))
                            for name, entries in defined["calendars"].items()
@@ -74,8 +76,8 @@ def rows_told(planner):
         "run_cycle": [(app, name, one["kind"], one["period"], one["rule"], one["first"], one["end"], one["time"],
                        *(one["deadline"] or (None, None))) for app, name, one in cycles],
         "run_cycle_offset": [(app, name, seq, k) for app, name, one in cycles for seq, k in enumerate(one["offsets"])],
-        "predecessor": [(app, other) for app, listed in defined["predecessors"].items() for other in listed],
-        "link_in_force": [(app, other) for app, listed in planner.in_force.items() for other in listed],
+        "predecessor": [(app, other, None) for app, listed in defined["predecessors"].items() for other in listed],
+        "link_in_force": [(app, other, None) for app, listed in planner.in_force.items() for other in listed],
         "ltp_row": planner.planned.values(),
         "cp_row": [(*row, status) for row, status in planner.current.values()],
         "history_row": planner.history.values(),

@@ -41,7 +41,7 @@ def planned():
     with closing(sqlite3.connect(path)) as db:
         for text in plans.schema():
             db.execute(text)
-        db.execute("INSERT INTO plan_meta VALUES (1, 1, 1, ?, ?, ?, ?, 'DEFAULT', 504)",
+        db.execute("INSERT INTO plan_meta VALUES (1, 2, 1, ?, ?, ?, ?, 'DEFAULT', 504)",
                    (first, first + DAYS - 1, first * 1440, APPS * DAYS))
         apps = [(name(number), 1, None) for number in range(APPS)]
         db.executemany("INSERT INTO application VALUES (?, ?, ?)", apps)

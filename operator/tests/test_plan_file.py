@@ -49,7 +49,7 @@ class PlanFile(unittest.TestCase):
         path = self.plan()
         before = plans.prints(path)
         with plan_file.opened(path) as plan:
-            self.assertEqual((plan.path, plan.version, plan.is_created), (str(path), 1, True))
+            self.assertEqual((plan.path, plan.version, plan.is_created), (str(path), 2, True))
             self.assertEqual((plan.meta["first_day"], plan.meta["last_day"], plan.meta["plan_end"]), planner.bounds)
             self.assertEqual(plan.meta["issued"], planner.issued)
             rows = plan.db.execute("SELECT serial, app, ia, deadline, run_cycle FROM ltp_row").fetchall()
@@ -97,7 +97,7 @@ class PlanFile(unittest.TestCase):
 
     def test_a_database_with_some_plan_tables(self):
         texts = plans.schema()[:3]
-        meta = "INSERT INTO plan_meta VALUES (1, 1, 0, 0, 0, 0, 0, 'DEFAULT', 504)"
+        meta = "INSERT INTO plan_meta VALUES (1, 2, 0, 0, 0, 0, 0, 'DEFAULT', 504)"
         self.refused(self.made("some.db", *texts, meta), "no table application")
 
     def test_a_plan_meta_of_another(self):

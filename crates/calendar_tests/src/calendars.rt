@@ -4,12 +4,15 @@ use std::alloc::{AllocError, Global};
 use std::test::Fail;
 use work_calendars::{Calendar, CountedIndex, Day, DayStatus, Minute, Moment, Weekday, WorkIndex};
 
-// The numbers of 1972-01-01, 2071-12-31 and 2068-12-31 from an almanac, and how many days the first two span.
+// The numbers of 1972-01-01, 2071-12-31, 2065-12-31 and 2068-12-31 from an almanac, and how many days the first two
+// span.
 const FIRST: u32 = 730;
 
 const LAST: u32 = 37_254;
 
-const LAST_PLANNING: u32 = 36_159;
+const LAST_PLANNING: u32 = 35_063;
+
+const LAST_KEPT: u32 = 36_159;
 
 const DAYS: usize = 36_525;
 
@@ -79,6 +82,7 @@ fn days_have_a_first_and_a_last(rt: HostRuntime) {
         Day::FIRST.number(),
         Day::LAST.number(),
         Day::LAST_PLANNING.number(),
+        Day::LAST_KEPT.number(),
         number_of(Day::from_number(first - 1)),
         number_of(Day::from_number(first)),
         number_of(Day::from_number(last)),
@@ -92,10 +96,10 @@ fn days_have_a_first_and_a_last(rt: HostRuntime) {
         number_of(Day::LAST.minus(last - first)),
         number_of(Day::LAST.minus(last - first + 1)),
     ];
-    let planned = LAST_PLANNING;
+    let (planned, kept) = (LAST_PLANNING, LAST_KEPT);
     let (second, earlier) = (first + 1, last - 1);
     let wanted = [
-        first, last, planned, 0, first, last, 0, 0, second, earlier, 0, last, 0, first, 0,
+        first, last, planned, kept, 0, first, last, 0, 0, second, earlier, 0, last, 0, first, 0,
     ];
     assert_eq!(rt; found, wanted);
 }

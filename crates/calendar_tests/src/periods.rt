@@ -37,7 +37,7 @@ fn checks_periods(rt: HostRuntime) -> Result<(), AllocError> {
         let holds = fault_is(&rt, rt.alloc(), row)?;
         assert!(rt; holds, "{row}");
     }
-    assert_eq!(rt; MAX_INTERVAL, 999);
+    assert_eq!(rt; MAX_INTERVAL, 1_999);
     Ok(())
 }
 
@@ -46,13 +46,13 @@ fn checks_periods(rt: HostRuntime) -> Result<(), AllocError> {
 const CHECKED: &str = "\
 A 2024-01-01 0|1
 A 2024-01-01 1|0
-A 2024-01-01 999|0
-A 2024-01-01 1000|1
+A 2024-01-01 1999|0
+A 2024-01-01 2000|1
 A 2024-01-01 65535|1
 W 2024-01-01 0|1
 W 2024-01-01 1|0
-W 2024-01-01 999|0
-W 2024-01-01 1000|1
+W 2024-01-01 1999|0
+W 2024-01-01 2000|1
 W 2024-01-01 65535|1
 N |4
 N 2024-01-01 -;2024-02-01 -;2024-03-01 -|0

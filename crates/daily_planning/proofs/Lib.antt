@@ -6,3 +6,5 @@ pub mod StatusLemmas
 pub mod ActLemmas
 pub mod ResetLemmas
 pub mod WaitLemmas
+pub mod NewEndLemmas
+pub mod DailyByLemmas

@@ -3,16 +3,18 @@ ghost use Rattle.std.specs.List.{filter};
 ghost use Rattle.planner_machine.specs.Content.{Content};
 ghost use Rattle.planner_machine.specs.DailyPlan.{deleted_in_plan, is_completed, is_deleted, is_uncompleted, waiting};
 ghost use Rattle.planner_machine.specs.DailyExtend.{IsBadPlanEnd, dp_extend};
+ghost use Rattle.planner_machine.specs.DailyExtendBy.{dp_extend_by};
 ghost use Rattle.planner_machine.specs.Replan.{dp_replan};
 ghost use Rattle.planner_machine.specs.Sound.{IsSound};
 ghost use Rattle.plan_store.specs.Verdicts.{VerdictIs};
 ghost use Rattle.plan_store.specs.Views.{Shows};
-ghost use Rattle.plan_store.specs.declared.stores.Need.TheVariants.{Daily};
+ghost use Rattle.plan_store.specs.declared.stores.Need.TheVariants.{Daily, LongTerm};
 ghost use Rattle.daily_planning.specs.DailyPlans.{DoesDaily, is_finished};
 
+use crate::new_ends::new_end;
 use occurrences::{CurrentRow, Deletion, Reason, Refusal, Reply, Row, Status};
 use plan_store::{Change, Verdict, View};
-use planner_machine::Bounds;
+use planner_machine::{Bounds, Count, daily_plans};
 use std::alloc::{AllocError, Global};
 use work_calendars::Moment;
 
@@ -31,6 +33,27 @@ pub fn extend(alloc: Global, view: &View<'_>, to: Moment) -> Result<Verdict, All
     }
     let (change, reply) = daily_plan(alloc, view, &bounds, to)?;
     Ok(Verdict::Done(change, reply))
+}
+
+/// `dp-extend` by days: the daily plan to the new end that they give. It is refused where nothing is planned (20), and
+/// where they give no new end, or one to which the plan can't be extended (32).
+pub fn extend_by(
+    alloc: Global,
+    view: &View<'_>,
+    days: u8,
+    count: Count,
+) -> Result<Verdict, AllocError>
+    ensures { IfOk result (λ verdict. (c : Content) → Shows LongTerm view.now c → IsSound c →
+        VerdictIs (dp_extend_by days count) c verdict) }
+{
+    daily_plans();
+    let Some(bounds) = view.bounds() else {
+        return Ok(Verdict::Refused(Refusal::NoPlan));
+    };
+    match new_end(alloc, view.definitions(), bounds.plan_end, days, count)? {
+        Some(to) => extend(alloc, view, to),
+        None => Ok(Verdict::Refused(Refusal::PlanEndOutOfRange)),
+    }
 }
 
 /// `dp-replan`: a daily plan to the plan end as it is, which takes nothing from the long-term plan. It is refused

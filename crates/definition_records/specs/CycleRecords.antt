@@ -42,7 +42,7 @@ abbrev pub offset_value : List ℕ → ℤ
 offset_value text =
     if has_minus text then neg_ℤ (pos (number_value (offset_digits text))) else pos (number_value (offset_digits text))
 
--- 1 to 999 in decimal digits without a leading zero
+-- 1 to MAX_OFFSET in decimal digits without a leading zero
 abbrev pub IsDistanceText : List ℕ → Type 0
 IsDistanceText digits = IsNumberUpTo MAX_OFFSET digits × (1 ≤ number_value digits)
 

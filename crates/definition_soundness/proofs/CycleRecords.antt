@@ -96,7 +96,7 @@ type_value letter day time (Normal deadline) is = deadline_value day time deadli
 type_value letter day time (Negative (Some deadline)) is = deadline_value day time deadline is.1
 type_value letter day time (Negative None) is = tt
 
-minus_is : (n : ℕ) → 1 ≤ n → n ≤ 999 → IsOffset (neg_ℤ (pos n))
+minus_is : (n : ℕ) → 1 ≤ n → n ≤ 1999 → IsOffset (neg_ℤ (pos n))
 minus_is zero low high = absurd (omega arith)
 minus_is (suc m) low high = (omega arith, omega arith)
 
@@ -104,7 +104,7 @@ offset_is : (text : List ℕ) → IsOffsetText text → IsOffset (offset_value t
 offset_is text is = by (has_minus text) is.1 is.0.1
   where
     by : (b : Bool) → 1 ≤ number_value (cond b (drop 1 text) text)
-        → number_value (cond b (drop 1 text) text) ≤ 999
+        → number_value (cond b (drop 1 text) text) ≤ 1999
         → IsOffset (cond b (neg_ℤ (pos (number_value (cond b (drop 1 text) text))))
         (pos (number_value (cond b (drop 1 text) text))))
     by true low high = minus_is (number_value (drop 1 text)) low high

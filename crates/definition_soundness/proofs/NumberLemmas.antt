@@ -58,19 +58,40 @@ three n above below = record {
   value = omega arith;
 }
 
-spelled : (n : ℕ) → (text : List ℕ) × (n ≤ 999 → SpellsNumber text n)
+four : (n : ℕ) → 1000 ≤ n → n ≤ 9999
+    → SpellsNumber ((48 + n / 1000) ∷ (48 + n / 100 % 10) ∷ (48 + n / 10 % 10) ∷ (48 + n % 10) ∷ []) n
+four n above below = record {
+  number = record {
+    not_empty = omega arith;
+    digits = All-from_recursion IsAsciiDigit
+        ((48 + n / 1000) ∷ (48 + n / 100 % 10) ∷ (48 + n / 10 % 10) ∷ (48 + n % 10) ∷ []) (
+      digit_is (n / 1000) (omega arith),
+      (digit_is (n / 100 % 10) (omega arith), (digit_is (n / 10 % 10) (omega arith), (digit_is (n % 10) (omega arith), tt))),
+    );
+    no_leading_zero = λ is. absurd (omega arith);
+  };
+  value = omega arith;
+}
+
+spelled : (n : ℕ) → (text : List ℕ) × (n ≤ 1999 → SpellsNumber text n)
 spelled n = elim (cases_lt n 10) [
   | inl below ↦ ((48 + n) ∷ [], λ within. one n below)
   | inr above ↦ elim (cases_lt n 100) [
     | inl below ↦ ((48 + n / 10) ∷ (48 + n % 10) ∷ [], λ within. two n above below)
-    | inr more ↦ ((48 + n / 100) ∷ (48 + n / 10 % 10) ∷ (48 + n % 10) ∷ [], λ within. three n more within)
+    | inr more ↦ elim (cases_lt n 1000) [
+      | inl below ↦
+        ((48 + n / 100) ∷ (48 + n / 10 % 10) ∷ (48 + n % 10) ∷ [], λ within. three n more (omega (arith, below)))
+      | inr most ↦
+        ((48 + n / 1000) ∷ (48 + n / 100 % 10) ∷ (48 + n / 10 % 10) ∷ (48 + n % 10) ∷ [],
+        λ within. four n most (omega (arith, within)))
+    ]
   ]
 ]
 
 pub number_text : ℕ → List ℕ
 number_text n = (spelled n).0
 
-pub number_spelled : (n : ℕ) → n ≤ 999 → SpellsNumber (number_text n) n
+pub number_spelled : (n : ℕ) → n ≤ 1999 → SpellsNumber (number_text n) n
 unfolding number_text
 number_spelled n within = (spelled n).1 within
 
@@ -101,7 +122,7 @@ offset_spelled (pos n) is =
           (pos (number_value (offset_digits (number_text n))))) plain ∙ ap pos value,
     )
 offset_spelled (negsuc m) is =
-    let within : suc m ≤ 999 = omega (arith, is.1) in
+    let within : suc m ≤ 1999 = omega (arith, is.1) in
     let spells = number_spelled (suc m) within in
     let value : number_value (number_text (suc m)) ≡ suc m = spells.value in (
       ((spells.number, omega arith), omega arith),
@@ -121,7 +142,7 @@ unfolding offset_text
 blanks (pos n) is =
     All-weaker IsAsciiDigit (λ b. (b == 32) ≡ false) no_blank (number_text n) (number_spelled n is.1).number.digits
 blanks (negsuc m) is =
-    let within : suc m ≤ 999 = omega (arith, is.1) in
+    let within : suc m ≤ 1999 = omega (arith, is.1) in
     more 45 (number_text (suc m)) refl
     (All-weaker IsAsciiDigit (λ b. (b == 32) ≡ false) no_blank (number_text (suc m))
     (number_spelled (suc m) within).number.digits)

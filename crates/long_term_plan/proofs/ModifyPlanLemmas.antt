@@ -3,7 +3,7 @@ use Rattle.std.proofs.Common.{◌≡◌, ◌↔◌, ℕ, ◌+◌, ◌≤◌, Lis
 use Rattle.std.proofs.Common.{Some}
 use Rattle.std.specs.Prelude.{IsSome, filter, is_none}
 use Rattle.std.specs.List.{filter_map}
-use Rattle.work_calendars.specs.Day.{last_planning_day}
+use Rattle.work_calendars.specs.Day.{last_kept_day}
 use Rattle.app_occurrences.specs.Active.{IsActive}
 use Rattle.definition_records.specs.ByName.{AreNamesOf}
 use Rattle.definition_records.specs.declared.applications.Application.{Application}
@@ -51,7 +51,7 @@ named_for all only apps asked b draft = (
 
 pub named_then : (c : Content) → IsSound c → (b : Bounds) → c.sets.bounds ≡ Some b → (only : Option (List ℕ))
     (all : Definitions) → all ≡ c.definitions → (names apps : List (List ℕ)) → AreAsked all only names → apps ≡ names
-    → (last : ℕ) → (b.last_day ≤ last_planning_day → last ≡ b.last_day) → (drafts named : List Draft)
+    → (last : ℕ) → (b.last_day ≤ last_kept_day → last ≡ b.last_day) → (drafts named : List Draft)
     → (AreDefinitions all → AreDrafts (NamesFor all apps b.plan_end (midnight (last + 1))) drafts) → named ≡ drafts
     → AreDrafts (NamesThen c only) named
 named_then c sound b planned only all defined names apps asked same last within drafts named are same' =

@@ -1,6 +1,6 @@
 ghost use Rattle.std.specs.Prelude.{◌≡◌, ◌≢◌, ◌↔◌, ℕ, ◌+◌, ◌≤◌, ◌++◌, List, Contains, IfOk, OnOk, IsTrue};
 ghost use Rattle.std.specs.List.{AllPairs};
-ghost use Rattle.work_calendars.specs.Day.{last_planning_day};
+ghost use Rattle.work_calendars.specs.Day.{last_kept_day};
 ghost use Rattle.app_occurrences.specs.NamedOccurrences.{AreIndexesOf};
 ghost use Rattle.planner_machine.specs.declared.content.Draft.{Draft as DraftValue};
 ghost use Rattle.planner_machine.specs.Content.{midnight};
@@ -28,7 +28,7 @@ pub(crate) fn named_drafts(
     first: Moment,
     last: Day,
 ) -> Result<Vec<Draft>, AllocError>
-    requires planned { last ≤ last_planning_day }
+    requires planned { last ≤ last_kept_day }
     requires apart { AllPairs (λ (a b : List ℕ). a ≢ b) apps.now }
     ensures { IfOk result (λ drafts. AreDefinitions all.now
         → AreDrafts (NamesFor all.now apps.now first (midnight (last + 1))) drafts.items) }
@@ -52,7 +52,7 @@ fn add_drafts(
     first: Moment,
     last: Day,
 ) -> Result<(), AllocError>
-    requires planned { last ≤ last_planning_day }
+    requires planned { last ≤ last_kept_day }
     requires indexes { AreIndexesOf all.now indexes.old }
     ensures indexes { AreIndexesOf all.now indexes.new }
     ensures added { OnOk result (AddsDrafts all.now app.now first last drafts.old.items drafts.new.items) }

@@ -1,5 +1,5 @@
 ghost use Rattle.std.specs.Prelude.{◌≡◌, ◌↔◌, ◌+◌, ◌≤◌, List, length, IfOk, IsTrue, false};
-ghost use Rattle.work_calendars.specs.Day.{last_planning_day};
+ghost use Rattle.work_calendars.specs.Day.{last_kept_day};
 ghost use Rattle.occurrences.specs.Serial.{IsSerial};
 ghost use Rattle.occurrences.specs.declared.serial.TheConstants.{GREATEST_SERIAL};
 ghost use Rattle.planner_machine.specs.declared.content.Draft.{Draft as DraftValue};
@@ -29,7 +29,7 @@ pub(crate) fn add_days(
     links: Links,
     first: Moment,
 ) -> Result<Verdict, AllocError>
-    requires { bounds.now.last_day ≤ last_planning_day }
+    requires { bounds.now.last_day ≤ last_kept_day }
     ensures { IfOk result (λ verdict. IsSound (shown view.now)
         → ((new : List DraftValue) → AreDaysAdded (shown view.now) bounds.now first new
         → KeepsRowsSound (shown view.now) bounds.now new)

@@ -1,7 +1,7 @@
 ghost use Rattle.std.specs.Prelude.{◌≡◌, ◌↔◌, ◌+◌, ◌++◌, ◌≤◌, ℕ, List, length, map, Contains, IfOk, IsTrue};
 ghost use Rattle.std.specs.Prelude.{Option, Some, false};
 ghost use Rattle.std.specs.List.{filter_map};
-ghost use Rattle.work_calendars.specs.Day.{last_planning_day};
+ghost use Rattle.work_calendars.specs.Day.{last_kept_day};
 ghost use Rattle.occurrences.specs.declared.row.Row.{Row as RowValue};
 ghost use Rattle.occurrences.specs.declared.serial.TheConstants.{GREATEST_SERIAL};
 ghost use Rattle.planner_machine.specs.declared.content.Draft.{Draft as DraftValue};
@@ -123,13 +123,13 @@ fn looked_rows<'a>(view: &View<'a>, only: &Option<App>) -> &'a [Row]
     }
 }
 
-// The last day of the plan, which is no later than the last planning day.
+// The last day of the plan, which is no later than the last day that a plan may have.
 fn last_planned(bounds: &Bounds) -> Day
-    ensures within { result ≤ last_planning_day }
-    ensures same { bounds.now.last_day ≤ last_planning_day → result ≡ bounds.now.last_day }
+    ensures within { result ≤ last_kept_day }
+    ensures same { bounds.now.last_day ≤ last_kept_day → result ≡ bounds.now.last_day }
 {
-    if bounds.last_day > Day::LAST_PLANNING {
-        return Day::LAST_PLANNING;
+    if bounds.last_day > Day::LAST_KEPT {
+        return Day::LAST_KEPT;
     }
     bounds.last_day
 }

@@ -17,7 +17,7 @@ pub fn open_store(rt: &HostRuntime, file: &NamedFile) -> Result<TableStore<FileS
     ensures { IfOk result (λ store. IsSound (content_of store.lists)) }
 {
     let mut conn = open_file(rt, file)?;
-    if let Err(fault) = migrate(&mut conn) {
+    if let Err(fault) = migrate(rt.alloc(), &mut conn) {
         return Err(tell(rt, migrate_fault_number(&fault)));
     }
     match TableStore::adopt(rt.alloc(), conn) {

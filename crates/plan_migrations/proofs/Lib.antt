@@ -1,3 +1,6 @@
 pub mod AskLemmas
 pub mod TextLemmas
 pub mod TurnLemmas
+pub mod ContentLemmas
+pub mod ReadLemmas
+pub mod SchemaLemmas

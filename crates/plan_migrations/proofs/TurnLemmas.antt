@@ -22,7 +22,8 @@ use Rattle.table_opening.proofs.QueryLemmas.{other_cause, refused_same, shown_sa
 use Rattle.plan_migrations.specs.Asking.{IsFailure, IsKept}
 use Rattle.plan_migrations.specs.Migrating.{ChecksTable, ChecksTables, IsUnmigrated}
 use Rattle.table_schema.specs.declared.tables.TheConstants.{SCHEMA_VERSION}
-use Rattle.plan_migrations.specs.Schemas.{IsOfSchema, IsOther, ShowsKnown, TellsVersion}
+use Rattle.plan_migrations.specs.Schemas.{IsKnownVersion, IsOfSchema, IsOther, ShowsOther, ShowsSuch, ShowsVersion, TellsVersion}
+use Rattle.table_remaking.specs.Types.{AreTyped}
 use Rattle.plan_migrations.specs.declared.faults.MigrateFault.{MigrateFault}
 use Rattle.plan_migrations.specs.declared.faults.MigrateFault.TheVariants.{UnknownVersion, OtherTable, Memory, Device}
 use Rattle.plan_migrations.proofs.TextLemmas.{select_reads}
@@ -97,20 +98,35 @@ module _ (sql : List ℕ) (reading : IsReading sql) (a b c : State) where
   pub refused_since : IsUnchanged a b → b.step_limit ≡ a.step_limit → RefusesToShow sql b c → RefusesToShow sql a c
   refused_since same limit h = (h.0, fails_since h.0 same limit h.2 h.1, h.2)
 
+module _ (sql : List ℕ) (reading : IsReading sql) (Such : List Row → Type 0) where
+  pub same_if_such : (a b : State) → ShowsSuch sql Such a b → IsUnchanged a b
+  same_if_such a b h = shown_same sql reading a b h.0 h.1
+
+  pub same_if_otherwise : (a b : State) → ShowsOther sql Such a b → IsUnchanged a b
+  same_if_otherwise a b (inl h) = refused_same sql reading a b h.0 h.1 h.2
+  same_if_otherwise a b (inr h) = shown_same sql reading a b h.0 h.1
+
+  module _ (a b c : State) where
+    pub such_since : IsUnchanged a b → ShowsSuch sql Such b c → ShowsSuch sql Such a c
+    such_since same h = (h.0, shown_since sql reading a b c h.0 same h.1, h.2)
+
+    pub such_until : IsUnchanged b c → ShowsSuch sql Such a b → ShowsSuch sql Such a c
+    such_until same h = (h.0, shown_until sql reading a b c h.0 h.1 same, h.2)
+
+    pub otherwise_since : IsUnchanged a b → b.step_limit ≡ a.step_limit → ShowsOther sql Such b c → ShowsOther sql Such a c
+    otherwise_since same limit (inl h) = inl (refused_since sql reading a b c same limit h)
+    otherwise_since same limit (inr h) = inr (h.0, shown_since sql reading a b c h.0 same h.1, h.2)
+
 module _ (a b : State) where
-  pub same_if_known : ShowsKnown a b → IsUnchanged a b
-  same_if_known h = shown_same version_sql version_reads a b h.0 h.1
+  pub same_if_version : (v : ℕ) → ShowsVersion v a b → IsUnchanged a b
+  same_if_version v h = shown_same version_sql version_reads a b h.0 h.1
 
   pub told_some : (found : Option ℕ) (v : ℕ) → found ≡ Some v → TellsVersion a b (Ok found)
-      → (v ≡ SCHEMA_VERSION) × ShowsKnown a b
+      → IsKnownVersion v × ShowsVersion v a b
   told_some found v is h = subst (λ (o : Option ℕ). TellsVersion a b (Ok o)) is h
 
   pub same_if_of_schema : (t : Table) → IsOfSchema a b t → IsUnchanged a b
-  same_if_of_schema t h = shown_same (select_sql t) (select_reads t) a b h.0 h.1
-
-  pub same_if_other : (t : Table) → IsOther a b t → IsUnchanged a b
-  same_if_other t (inl h) = refused_same (select_sql t) (select_reads t) a b h.0 h.1 h.2
-  same_if_other t (inr h) = shown_same (select_sql t) (select_reads t) a b h.0 h.1
+  same_if_of_schema t = same_if_such (select_sql t) (select_reads t) (AreTyped t) a b
 
 module _ (a b c : State) where
   pub kept_since : IsUnchanged a b → IsKept b c → IsKept a c
@@ -126,19 +142,17 @@ module _ (a b c : State) where
   failure_since same more UnknownVersion h = h
   failure_since same more OtherTable h = h
 
-  pub known_until : ShowsKnown a b → IsUnchanged b c → ShowsKnown a c
-  known_until h same = (h.0, shown_until version_sql version_reads a b c h.0 h.1 same, h.2)
+  pub version_until : (v : ℕ) → ShowsVersion v a b → IsUnchanged b c → ShowsVersion v a c
+  version_until v h same = (h.0, shown_until version_sql version_reads a b c h.0 h.1 same, h.2)
 
   pub of_schema_since : IsUnchanged a b → (t : Table) → IsOfSchema b c t → IsOfSchema a c t
-  of_schema_since same t h = (h.0, shown_since (select_sql t) (select_reads t) a b c h.0 same h.1, h.2)
+  of_schema_since same t = such_since (select_sql t) (select_reads t) (AreTyped t) a b c same
 
-  pub of_schema_until : IsUnchanged b c → (t : Table) → IsOfSchema a b t → IsOfSchema a c t
-  of_schema_until same t h = (h.0, shown_until (select_sql t) (select_reads t) a b c h.0 h.1 same, h.2)
+  of_schema_until : IsUnchanged b c → (t : Table) → IsOfSchema a b t → IsOfSchema a c t
+  of_schema_until same t = such_until (select_sql t) (select_reads t) (AreTyped t) a b c same
 
-  pub other_since : IsUnchanged a b → b.step_limit ≡ a.step_limit → (t : Table) → IsOther b c t → IsOther a c t
-  other_since same limit t (inl h) = inl (refused_since (select_sql t) (select_reads t) a b c same limit h)
-  other_since same limit t (inr h) =
-      inr (h.0, shown_since (select_sql t) (select_reads t) a b c h.0 same h.1, h.2)
+  other_since : IsUnchanged a b → b.step_limit ≡ a.step_limit → (t : Table) → IsOther b c t → IsOther a c t
+  other_since same limit t = otherwise_since (select_sql t) (select_reads t) (AreTyped t) a b c same limit
 
   -- one more table is of its schema
   pub turned : (tables : List Table) (at : ℕ) → IsUnchanged a b × AllWithin (IsOfSchema a b) tables 0 at
@@ -159,11 +173,15 @@ module _ (a b c : State) where
   stops same more limit tables t UnknownVersion h = h
 
   -- and what it was begun for
-  pub unmigrated : ShowsKnown a b → a.faults ≤ b.faults → b.step_limit ≡ a.step_limit → (tables : List Table)
-      (f : MigrateFault) → ChecksTables b c tables (Err f) → IsUnmigrated a c f
+  pub unmigrated : ShowsVersion SCHEMA_VERSION a b → a.faults ≤ b.faults → b.step_limit ≡ a.step_limit
+      → (tables : List Table) (f : MigrateFault) → ChecksTables b c tables (Err f) → IsUnmigrated a c f
   unmigrated known more limit tables OtherTable h =
-      let same = same_if_known a b known in
-      (known_until known (same_if_other b c h.0 h.1), (h.0, other_since same limit h.0 h.1))
+      let same = same_if_version a b SCHEMA_VERSION known in
+      inl (
+        version_until SCHEMA_VERSION known
+            (same_if_otherwise (select_sql h.0) (select_reads h.0) (AreTyped h.0) b c h.1),
+        (h.0, other_since same limit h.0 h.1),
+      )
   unmigrated known more limit tables Memory h = tt
-  unmigrated known more limit tables Device h = failure_since (same_if_known a b known) more Device h
+  unmigrated known more limit tables Device h = failure_since (same_if_version a b SCHEMA_VERSION known) more Device h
   unmigrated known more limit tables UnknownVersion h = absurd h

@@ -1,5 +1,5 @@
-pub mod Types
 pub mod Faults
 pub mod Asking
 pub mod Schemas
+pub mod FirstContent
 pub mod Migrating

@@ -1,38 +1,71 @@
--- The version of a plan, and tables that are of its schema.
-use Rattle.std.specs.Prelude.{◌≡◌, ◌⊎◌, ℕ, List, [], Option, Some, None, Result, Ok, Err}
-use Rattle.sqlite.specs.Order.{Row as Values}
+-- The version of a plan, and tables that are of the schema of a version.
+use Rattle.std.specs.Prelude.{◌≡◌, ◌⊎◌, ℕ, List, [], ◌∷◌, length, Option, Some, None, Result, Ok, Err}
+use Rattle.sqlite.specs.Order.{Row as Values, column}
 use Rattle.sqlite.specs.State.{State, Shown}
 use Rattle.table_schema.specs.Texts.{select_sql}
 use Rattle.table_schema.specs.declared.tables.Table.{Table}
 use Rattle.table_schema.specs.declared.tables.TheConstants.{SCHEMA_VERSION}
+use Rattle.table_facts.specs.Facts.{natural}
+use Rattle.sqlite_schema.specs.declared.schema.Schema.{Schema}
+use Rattle.table_opening.specs.Extended.{Extends}
 use Rattle.table_opening.specs.Foreign.{RefusesToShow, RefusesVersion, version_sql}
-use Rattle.table_opening.specs.Held.{AreKnown}
+use Rattle.table_remaking.specs.FirstTexts.{first_select_sql}
+use Rattle.table_remaking.specs.Types.{AreFirst, AreTyped}
 use Rattle.plan_migrations.specs.Asking.{IsFailure}
-use Rattle.plan_migrations.specs.Types.{AreTyped}
 use Rattle.plan_migrations.specs.declared.faults.MigrateFault.{MigrateFault}
 use Rattle.plan_migrations.specs.declared.faults.MigrateFault.TheVariants.{UnknownVersion}
+use Rattle.plan_migrations.specs.declared.versions.TheConstants.{FIRST_VERSION}
 
--- `plan_meta` shows one row, of a known version
-abbrev pub ShowsKnown : State → State → Type 0
-ShowsKnown old new = (rows : List Values) × Shown version_sql [] old new rows × AreKnown rows
+-- ---- versions
+
+-- the one row that `plan_meta` shows has this version
+abbrev pub AreOf : ℕ → List Values → Type 0
+AreOf v rows = (cells : Values) × (rows ≡ cells ∷ []) × (column cells 1 ≡ natural v)
+
+-- there are two
+abbrev pub IsKnownVersion : ℕ → Type 0
+IsKnownVersion v = (v ≡ FIRST_VERSION) ⊎ (v ≡ SCHEMA_VERSION)
+
+-- `plan_meta` shows one row, of this version
+abbrev pub ShowsVersion : ℕ → State → State → Type 0
+ShowsVersion v old new = (rows : List Values) × Shown version_sql [] old new rows × AreOf v rows
 
 -- it shows none, several, or one of another version
 abbrev pub ShowsUnknown : State → State → Type 0
-ShowsUnknown old new = (rows : List Values) × Shown version_sql [] old new rows × (AreKnown rows → ⊥)
+ShowsUnknown old new = (rows : List Values) × Shown version_sql [] old new rows
+    × ((v : ℕ) → IsKnownVersion v → AreOf v rows → ⊥)
 
 -- the version that is answered is the one that `plan_meta` shows; none is answered where the database refuses to show
 -- it: it is without tables
 abbrev pub TellsVersion : State → State → Result (Option ℕ) MigrateFault → Type 0
-TellsVersion old new (Ok (Some v)) = (v ≡ SCHEMA_VERSION) × ShowsKnown old new
+TellsVersion old new (Ok (Some v)) = IsKnownVersion v × ShowsVersion v old new
 TellsVersion old new (Ok None) = RefusesVersion old new
 TellsVersion old new (Err UnknownVersion) = ShowsUnknown old new
 TellsVersion old new (Err fault) = IsFailure old new fault
 
+-- ---- tables
+
+-- the schema has the tables and indexes of the other, and nothing else
+abbrev pub HasNoMore : Schema → Schema → Type 0
+HasNoMore a b = Extends a b × (length a.tables ≡ length b.tables) × (length a.indexes ≡ length b.indexes) × (a.views ≡ [])
+
+-- what the text asks for is shown, and it is such
+abbrev pub ShowsSuch : List ℕ → (List Values → Type 0) → State → State → Type 0
+ShowsSuch sql Such old new = (rows : List Values) × Shown sql [] old new rows × Such rows
+
+-- it is not shown, neither for want of memory nor for the device; or it is not such
+abbrev pub ShowsOther : List ℕ → (List Values → Type 0) → State → State → Type 0
+ShowsOther sql Such old new = RefusesToShow sql old new
+    ⊎ ((rows : List Values) × Shown sql [] old new rows × (Such rows → ⊥))
+
 -- all rows of the table are shown, with values of the types of its columns
 abbrev pub IsOfSchema : State → State → Table → Type 0
-IsOfSchema old new t = (rows : List Values) × Shown (select_sql t) [] old new rows × AreTyped t rows
+IsOfSchema old new t = ShowsSuch (select_sql t) (AreTyped t) old new
 
 -- they are not shown, neither for want of memory nor for the device; or one has a value of another type
 abbrev pub IsOther : State → State → Table → Type 0
-IsOther old new t = RefusesToShow (select_sql t) old new
-    ⊎ ((rows : List Values) × Shown (select_sql t) [] old new rows × (AreTyped t rows → ⊥))
+IsOther old new t = ShowsOther (select_sql t) (AreTyped t) old new
+
+-- the same by schema 1
+abbrev pub IsOtherFirst : State → State → Table → Type 0
+IsOtherFirst old new t = ShowsOther (first_select_sql t) (AreFirst t) old new

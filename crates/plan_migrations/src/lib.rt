@@ -1,14 +1,15 @@
-//! The version of a plan in a database, and its tables made those of the current schema. There is one schema, so a
-//! migration looks at the tables and changes nothing.
+//! The version of a plan in a database, and its tables made those of the current schema: those of schema 1 are made anew
+//! with their rows, and others are looked at.
 #![tactic(auto)]
 
 mod asking;
 mod faults;
+mod first_tables;
 mod migrating;
+mod renewing;
 mod tables;
-mod types;
 mod versions;
 
 pub use faults::{MigrateFault, migrate_fault_number};
 pub use migrating::migrate;
-pub use versions::version;
+pub use versions::{FIRST_VERSION, version};

@@ -8,9 +8,27 @@ ghost use Rattle.plan_migrations.specs.Migrating.{ChecksTable, ChecksTables};
 
 use crate::asking::ask;
 use crate::faults::MigrateFault;
-use crate::types::are_typed;
 use sqlite::{Alter, Connection};
+use table_remaking::are_typed;
 use table_schema::{Table, select_text};
+
+/// All tables of a plan.
+pub(crate) const TABLES: [Table; 14] = [
+    Table::Meta,
+    Table::CalendarEntry,
+    Table::Period,
+    Table::Application,
+    Table::RunCycle,
+    Table::Offset,
+    Table::Predecessor,
+    Table::LinkInForce,
+    Table::LongTerm,
+    Table::Current,
+    Table::History,
+    Table::Deletion,
+    Table::Dependency,
+    Table::Job,
+];
 
 // Looks whether the table is of its schema.
 fn check_table<S: Alter>(conn: &mut Connection<S>, table: &Table) -> Result<(), MigrateFault>

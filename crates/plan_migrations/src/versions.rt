@@ -1,16 +1,34 @@
 // The version of a plan.
 
-ghost use Rattle.std.specs.Prelude.{◌≡◌, false};
+ghost use Rattle.std.specs.Prelude.{◌≡◌, ◌↔◌, false, IsTrue};
 ghost use Rattle.sqlite.specs.State.{HasCleanDisk, Survives};
 ghost use Rattle.sqlite.specs.Held.{state};
 ghost use Rattle.plan_migrations.specs.Asking.{IsKept};
-ghost use Rattle.plan_migrations.specs.Schemas.{TellsVersion};
+ghost use Rattle.plan_migrations.specs.Schemas.{AreOf, TellsVersion};
+ghost use Rattle.plan_migrations.specs.declared.versions.TheConstants.{FIRST_VERSION};
 
 use crate::asking::ask;
 use crate::faults::MigrateFault;
-use sqlite::{Alter, Connection};
+use sqlite::types::ValueRef;
+use sqlite::{Alter, Connection, Row as Cells};
 use table_opening::{is_known, version_text};
 use table_schema::SCHEMA_VERSION;
+
+/// The version before the current one, whose lists of predecessors have no limits.
+pub const FIRST_VERSION: u32 = 1;
+
+// Whether these are the one row of the first version.
+fn is_first(rows: &[Cells]) -> bool
+    ensures { IsTrue result ↔ AreOf FIRST_VERSION rows.now }
+{
+    match rows {
+        [cells] => match cells.get_ref(1) {
+            Ok(ValueRef::Int(version)) => version == i64::from(FIRST_VERSION),
+            _ => false,
+        },
+        _ => false,
+    }
+}
 
 /// The version of the plan that the database has; `None` where it is without tables, which is where it refuses to show
 /// a version, neither for want of memory nor for the device. Nothing changes.
@@ -26,6 +44,8 @@ pub fn version<S: Alter>(conn: &mut Connection<S>) -> Result<Option<u32>, Migrat
     match ask(conn, version_text()) {
         Ok(Some(rows)) => if is_known(&rows) {
             Ok(Some(SCHEMA_VERSION))
+        } else if is_first(&rows) {
+            Ok(Some(FIRST_VERSION))
         } else {
             Err(MigrateFault::UnknownVersion)
         },

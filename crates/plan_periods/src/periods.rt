@@ -10,7 +10,7 @@ use std::alloc::AllocError;
 use work_calendars::Day;
 
 /// The greatest number of days, or work days, of an interval.
-pub const MAX_INTERVAL: u16 = 999;
+pub const MAX_INTERVAL: u16 = 1999;
 
 /// Divides the days into intervals.
 #[derive(Debug, Drop)]

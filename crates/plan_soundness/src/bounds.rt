@@ -27,7 +27,7 @@ fn are_bounds(bounds: &Bounds) -> bool
     let last = bounds.last_day.number();
     let end = bounds.plan_end.number();
     first <= last
-        && last <= Day::LAST_PLANNING.number()
+        && last <= Day::LAST_KEPT.number()
         && minute_of_day(first) <= end
         && end <= minute_of_day(last + 1)
 }

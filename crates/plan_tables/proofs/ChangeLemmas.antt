@@ -28,7 +28,7 @@ use Rattle.std.specs.Ordering.{is_eq}
 use Rattle.std.proofs.lemmas.List.Folds.{Any-from_list_any}
 use Rattle.sqlite.specs.declared.types.Value.TheVariants.{Text}
 use Rattle.plan_store.proofs.PairLemmas.{held_pair, itself, pair_total, pairs_after_contains}
-use Rattle.table_facts.specs.Facts.{link_values, natural, pair_values}
+use Rattle.table_facts.specs.Facts.{link_key, link_values, natural, pair_values}
 use Rattle.table_facts.specs.Content.{IsOfList, IsOfSet, job_values, meta_values}
 use Rattle.table_writing.specs.Writing.{beside, job_put, links_replaced, meta_told, pairs_moved, without_each}
 use Rattle.plan_tables.proofs.Held.{equal_from, Shows, matched, natural_itself, one_natural, one_text, same_cell}
@@ -131,7 +131,7 @@ pairs_shown change pairs all held v = (
 
 -- ---- links
 
-link_itself : (l : Link) → matched table.LinkInForce (link_values l) (link_values l) ≡ true
+link_itself : (l : Link) → matched table.LinkInForce (link_key l) (link_values l) ≡ true
 link_itself l = and_true _ _ (text_itself l.app l.app refl) (and_true _ _
     (text_itself l.predecessor l.predecessor refl) refl)
 
@@ -139,7 +139,7 @@ link_shows : (l : Link) (rows : List Values)
     → shown table.LinkInForce (with_rowid Chosen rows (stored table.LinkInForce (link_values l))) ≡ link_values l
 link_shows l rows = refl
 
-links_told : (l m : Link) → matched table.LinkInForce (link_values l) (link_values m) ≡ true → l ≡ m
+links_told : (l m : Link) → matched table.LinkInForce (link_key l) (link_values m) ≡ true → l ≡ m
 links_told l m h =
     let k = and_both (same_cell (Text m.app) (Text l.app)) _ h in
     let n = and_both (same_cell (Text m.predecessor) (Text l.predecessor)) _ k.1 in
@@ -177,17 +177,17 @@ links_shown old new all held v = (
   (λ there. elim ((shows_with table.LinkInForce link_values link_shows (beside old new) _ v).0 there) [
     | inl come ↦ (come.0, (contains_filter (lacked_by old) new come.0 come.1).0, come.2)
     | inr stood ↦
-        let k = (shows_without table.LinkInForce link_values (beside new old) all v).0 stood in
+        let k = (shows_without table.LinkInForce link_key (beside new old) all v).0 stood in
         let (l, has, is) = (held v).0 k.0 in
         (l, stays l has is k.1, is)
   ]),
   λ fact.
       let (l, has, is) = fact in
       (shows_with table.LinkInForce link_values link_shows (beside old new) _ v).1 (elim (link_among old l) [
-        | inl stood ↦ inr ((shows_without table.LinkInForce link_values (beside new old) all v).1 (
+        | inl stood ↦ inr ((shows_without table.LinkInForce link_key (beside new old) all v).1 (
           (held v).1 (l, stood, is),
           λ m gone. apart _ (λ hit.
-              let same : m ≡ l = links_told m l (subst (λ w. matched table.LinkInForce (link_values m) w ≡ true) is hit)
+              let same : m ≡ l = links_told m l (subst (λ w. matched table.LinkInForce (link_key m) w ≡ true) is hit)
               in
               link_lacks new m (contains_filter (lacked_by new) old m gone).1 (subst (Contains new) (sym same) has)),
         ))
@@ -196,12 +196,12 @@ links_shown old new all held v = (
 )
   where
     stays : (l : Link) → Contains old l → v ≡ link_values l
-        → ((m : Link) → Contains (beside new old) m → matched table.LinkInForce (link_values m) v ≡ false)
+        → ((m : Link) → Contains (beside new old) m → matched table.LinkInForce (link_key m) v ≡ false)
         → Contains new l
     stays l has is none = elim (link_among new l) [
       | inl there ↦ there
       | inr lacks ↦ absurd (false≢true (sym (none l (filter_contains (lacked_by new) old l has lacks))
-          ∙ ap (matched table.LinkInForce (link_values l)) is ∙ link_itself l))
+          ∙ ap (matched table.LinkInForce (link_key l)) is ∙ link_itself l))
     ]
 
 -- ---- a job

@@ -28,7 +28,7 @@ use Rattle.plan_store.specs.Changes.{after, Fits, jobs_after, redefined}
 use Rattle.plan_store.specs.declared.changes.Change.{Change}
 use Rattle.plan_store.specs.declared.changes.DefinitionChange.TheVariants.{AsBefore}
 use Rattle.plan_store.proofs.PairLemmas.{pairs_after_rising}
-use Rattle.table_facts.specs.Facts.{current_key, current_values, deletion_key, deletion_values, link_values, natural}
+use Rattle.table_facts.specs.Facts.{current_key, current_values, deletion_key, deletion_values, link_key, link_values, natural}
 use Rattle.table_facts.specs.Facts.{pair_values, row_key, row_values}
 use Rattle.table_writing.specs.Writing.{cp_moved, deletions_moved, history_moved, ltp_moved}
 use Rattle.std.proofs.Common.{filter, not}
@@ -106,7 +106,7 @@ links_other : (u : Table) → IsApart u table.LinkInForce → (old : List Link) 
     → links_moved old new all u ≡ all u
 links_other u apart old None all = refl
 links_other u apart old (Some new) all = with_other table.LinkInForce link_values u apart (beside old new) _
-    ∙ without_other table.LinkInForce link_values u apart (beside new old) all
+    ∙ without_other table.LinkInForce link_key u apart (beside new old) all
 
 pairs_other : (u : Table) → IsApart u table.Dependency → (change : PairChange) (all : Tables)
     → pairs_moved change all u ≡ all u

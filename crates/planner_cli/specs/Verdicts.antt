@@ -52,6 +52,7 @@ job_change (by_job.Statement change) = change_of change
 -- what the decision on a daily plan has to see
 abbrev pub need_of_daily : DailyFunction → Need
 need_of_daily (daily.Extend to) = need.Daily to
+need_of_daily (daily.ExtendBy days count) = need.LongTerm
 need_of_daily daily.Replan = need.LongTerm
 
 -- what the decision on a change has to see

@@ -1,6 +1,6 @@
 //! `days`: the days that an application's run cycles name.
 ghost use Rattle.std.specs.Prelude.{◌≡◌, ◌↔◌, ◌≤◌, ℕ, IsTrue, IfErr, IfNone, IfOk, IfSome, OnOk};
-ghost use Rattle.work_calendars.specs.Day.{last_planning_day};
+ghost use Rattle.work_calendars.specs.Day.{last_kept_day};
 ghost use Rattle.app_occurrences.specs.Active.{IsActive, LacksCalendar, LacksPeriod};
 ghost use Rattle.occurrences.specs.declared.refusal.Refusal.{Refusal as RefusalValue};
 ghost use Rattle.planner_machine.specs.Content.{Content};
@@ -14,7 +14,9 @@ ghost use Rattle.planner_cli.specs.Stores.{AnswersBy};
 use crate::answers::{Printed, print_answer};
 use crate::rows::days_rows;
 use app_definitions::{Application, Definitions};
-use app_occurrences::{WorkIndexes, active, lacks_calendar, lacks_period, named_occurrences};
+use app_occurrences::{
+    CalendarIndex, active, calendar_name, lacks_calendar, lacks_period, named_by_index,
+};
 use occurrences::{Refusal, Reply};
 use plan_store::{Need, PlanStore, StoreFault, View};
 use planner_machine::LONGEST_WINDOW;
@@ -22,10 +24,11 @@ use run_cycles::Named;
 use std::alloc::{AllocError, Global};
 use work_calendars::{App, Day};
 
-/// Lists the days that an application's run cycles name.
+/// Lists the days that an application's run cycles name. The index of the calendar asked last is kept for the next.
 pub(crate) fn answer_days<S: PlanStore>(
     alloc: Global,
     store: &mut S,
+    kept: &mut Option<CalendarIndex>,
     app: &App,
     from: Day,
     to: Day,
@@ -34,7 +37,7 @@ pub(crate) fn answer_days<S: PlanStore>(
         (Serves (DaysStatement app.now from to) (S.content store.old)) }
 {
     let view = store.read_window(Need::LongTerm)?;
-    match days(alloc, view.definitions(), app, from, to) {
+    match days(alloc, view.definitions(), kept, app, from, to) {
         Ok(printed) => Ok(printed),
         Err(_) => Err(StoreFault::Memory),
     }
@@ -44,6 +47,7 @@ pub(crate) fn answer_days<S: PlanStore>(
 fn days(
     alloc: Global,
     all: &Definitions,
+    kept: &mut Option<CalendarIndex>,
     app: &App,
     from: Day,
     to: Day,
@@ -51,7 +55,7 @@ fn days(
     ensures { IfOk result (λ printed. (c : Content) → c.definitions ≡ all.now → (reply : ReplyValue)
         × Serves (DaysStatement app.now from to) c reply c × Prints reply printed.text.items printed.is_accepted) }
 {
-    match named_days(alloc, all, app, from, to)? {
+    match named_days(alloc, all, kept, app, from, to)? {
         Ok(named) => {
             let rows = days_rows(alloc, &named)?;
             print_answer(alloc, rows, &Ok(Reply::Rows { rows: named.len() }))
@@ -65,6 +69,7 @@ fn days(
 fn named_days(
     alloc: Global,
     all: &Definitions,
+    kept: &mut Option<CalendarIndex>,
     app: &App,
     from: Day,
     to: Day,
@@ -79,8 +84,10 @@ fn named_days(
         Ok(application) => application,
         Err(refusal) => return Ok(Err(refusal)),
     };
-    let mut indexes = WorkIndexes::new(alloc);
-    let list = named_occurrences(alloc, all, &mut indexes, app, &application, from, to)?;
+    let calendar = calendar_name(all, &application);
+    let index = CalendarIndex::of(alloc, kept.take(), all, &calendar)?;
+    let list = named_by_index(alloc, all, index.index(), app, &application, from, to)?;
+    *kept = Some(index);
     Ok(Ok(list))
 }
 
@@ -88,7 +95,7 @@ fn named_days(
 // number that holds.
 fn application_for(all: &Definitions, app: &App, from: Day, to: Day) -> Result<Application, Refusal>
     ensures active { IfOk result (IsActive all.now app.now) }
-    ensures planned { OnOk result (to ≤ last_planning_day) }
+    ensures planned { OnOk result (to ≤ last_kept_day) }
     ensures good { OnOk result ((c : Content) → c.definitions ≡ all.now → (r : RefusalValue)
         → ¬ (DaysRefused app.now from to c r)) }
     ensures refused { IfErr result (λ r. (c : Content) → c.definitions ≡ all.now

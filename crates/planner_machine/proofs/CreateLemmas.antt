@@ -2,7 +2,7 @@
 use Rattle.std.proofs.Common.{◌≡◌, ◌≢◌, ℕ, ◌<◌, ◌≤◌, List, length, refl, sym, ap, ap₂, subst, ◌∙◌, inl, inr, arith}
 use Rattle.std.proofs.Common.{Option, None, Some}
 use Rattle.std.proofs.lemmas.Bool.{cases_lt}
-use Rattle.work_calendars.specs.Day.{last_planning_day}
+use Rattle.work_calendars.specs.Day.{last_kept_day, last_planning_day}
 use Rattle.app_definitions.specs.declared.definitions.Definitions.{Definitions}
 use Rattle.occurrences.specs.declared.place.Place.{Place}
 use Rattle.occurrences.specs.declared.place.Place.TheVariants.{LongTerm, Current, History, Deleted}
@@ -38,16 +38,16 @@ no_plan None h = refl
 no_plan (Some b) h = absurd (h (λ is. cc))
 
 -- dates that are not refused
-pub good_days : (from to : ℕ) → (AreBadPlanDays from to → ⊥) → (from ≤ to) × (to ≤ last_planning_day)
+pub good_days : (from to : ℕ) → (AreBadPlanDays from to → ⊥) → (from ≤ to) × (to ≤ last_kept_day)
 good_days from to good = (
   elim (cases_lt to from) [ inl h ↦ absurd (good (inl h)) | inr h ↦ h ],
-  elim (cases_lt last_planning_day to) [ inl h ↦ absurd (good (inr (inl h))) | inr h ↦ h ],
+  elim (cases_lt last_planning_day to) [ inl h ↦ absurd (good (inr (inl h))) | inr h ↦ omega (arith, h) ],
 )
 
-pub good_last : (b : Bounds) (to : ℕ) → (IsBadLastDay b to → ⊥) → (b.last_day < to) × (to ≤ last_planning_day)
+pub good_last : (b : Bounds) (to : ℕ) → (IsBadLastDay b to → ⊥) → (b.last_day < to) × (to ≤ last_kept_day)
 good_last b to good = (
   elim (cases_lt b.last_day to) [ inl h ↦ h | inr h ↦ absurd (good (inl h)) ],
-  elim (cases_lt last_planning_day to) [ inl h ↦ absurd (good (inr (inl h))) | inr h ↦ h ],
+  elim (cases_lt last_planning_day to) [ inl h ↦ absurd (good (inr (inl h))) | inr h ↦ omega (arith, h) ],
 )
 
 -- the same follows, seen from the sets before their bounds changed
@@ -66,7 +66,7 @@ module _ (from to : ℕ) (all : Definitions) where
       )
 
   module _ (c : Sets) (sound : RowsSound c) (none : c.bounds ≡ None) (days : from ≤ to)
-      (last : to ≤ last_planning_day) where
+      (last : to ≤ last_kept_day) where
     opened : RowsSound (with_bounds (first_bounds from to) c)
     opened = move_sound stay same_row stay_is_move c sound (Some (first_bounds from to))
         (λ b is. let same : first_bounds from to ≡ b = cc in
@@ -107,7 +107,7 @@ module _ (to : ℕ) (all : Definitions) where
       )
 
   module _ (c : Sets) (sound : RowsSound c) (b : Bounds) (is : c.bounds ≡ Some b) (later : b.last_day < to)
-      (last : to ≤ last_planning_day) where
+      (last : to ≤ last_kept_day) where
     arrives_still : (ia : ℕ) (place : Place) → ArrivesIn b ia place → ArrivesIn (later_bounds b to) ia place
     arrives_still ia LongTerm arrives = (arrives.0, omega (arith, arrives.1))
     arrives_still ia (Current status) arrives = arrives

@@ -4,7 +4,7 @@ use Rattle.std.proofs.Common.{arith, Option, None, Some}
 use Rattle.std.specs.Prelude.{Bool, Contains, option_map}
 use Rattle.std.proofs.lemmas.Bool.{cases_lt}
 use Rattle.std.specs.FinMap as map
-use Rattle.work_calendars.specs.Day.{IsDay, last_planning_day, first_day}
+use Rattle.work_calendars.specs.Day.{IsDay, last_kept_day, first_day}
 use Rattle.work_calendars.specs.Name.{IsName}
 use Rattle.occurrences.specs.Place.{IsLive, IsOpen}
 use Rattle.occurrences.specs.declared.key.Key.{Key}
@@ -181,7 +181,7 @@ module _ (looks : List ℕ → Bool) (Looks : List ℕ → Type 0) (tests : Test
 
 -- the part of the days that a place takes lies in the range of moments
 arrival_fits : (c : Content) → IsSound c → (b : Bounds) → c.sets.bounds ≡ Some b → (place : Place) → IsOpen place
-    → (ia : ℕ) → ArrivesIn b ia place → (midnight first_day ≤ ia) × (ia < midnight (last_planning_day + 1))
+    → (ia : ℕ) → ArrivesIn b ia place → (midnight first_day ≤ ia) × (ia < midnight (last_kept_day + 1))
 arrival_fits c sound b is LongTerm opens ia arrives = let fit = days_fit c sound b is in
     (omega (arith, fit.0, arrives.0), omega (arith, fit.3, arrives.1))
 arrival_fits c sound b is (Current status) opens ia arrives = let fit = days_fit c sound b is in

@@ -7,7 +7,7 @@ use Rattle.std.specs.FinMap as map
 use Rattle.std.proofs.lemmas.List.{get_or-map, get_or_default, length-map}
 use Rattle.std.proofs.lemmas.List.Elements.{All-contains, All-contains_itself, All-filter, Contains-get_or}
 use Rattle.std.proofs.lemmas.List.Elements.{filter_passes}
-use Rattle.work_calendars.specs.Day.{last_planning_day, first_day, last_day}
+use Rattle.work_calendars.specs.Day.{last_kept_day, first_day, last_day}
 use Rattle.work_calendars.specs.Minute.{IsMinute}
 use Rattle.work_calendars.specs.Moment.{IsMoment}
 use Rattle.work_calendars.specs.Name.{IsName, IsShort}
@@ -142,7 +142,7 @@ pub row_ranges : (serial : ℕ) (draft : Draft) → DraftRanges draft → IsRow 
 row_ranges serial draft r = record { app = r.app; ia = r.ia; deadline = r.deadline; origin = r.origin }
 
 pub named_ranges : (all : Definitions) → AreDefinitions all → (draft : Draft) → NamesDraft all draft
-    → midnight first_day ≤ draft.key.ia → draft.key.ia < midnight (last_planning_day + 1) → DraftRanges draft
+    → midnight first_day ≤ draft.key.ia → draft.key.ia < midnight (last_kept_day + 1) → DraftRanges draft
 named_ranges all are draft (app, x, named, is) from to =
     let ia : draft.key.ia ≡ (draft_of app x).key.ia = ap (λ (d : Draft). d.key.ia) is in
     let (a, active, occurs) = named in

@@ -3,7 +3,7 @@ use Rattle.std.proofs.Common.{◌≡◌, ℕ, ◌+◌, ◌<◌, ◌≤◌, ◌�
 use Rattle.std.proofs.Common.{inr, arith, Option, None, Some}
 use Rattle.std.specs.Prelude.{Bool, Contains, if◌then◌else◌, nat_lt}
 use Rattle.std.specs.FinMap as map
-use Rattle.work_calendars.specs.Day.{last_planning_day, first_day}
+use Rattle.work_calendars.specs.Day.{last_kept_day, first_day}
 use Rattle.work_calendars.specs.Name.{IsName}
 use Rattle.definition_records.specs.Applications.{FitsApplication, IsApplicationOf}
 use Rattle.definition_records.specs.declared.applications.Application.{Application}
@@ -188,8 +188,8 @@ modify_operator Looks all =
 
 -- days that plans have
 pub days_fit : (c : Content) → IsSound c → (b : Bounds) → c.sets.bounds ≡ Some b → (midnight first_day ≤ b.plan_end)
-    × (b.plan_end ≤ midnight (last_planning_day + 1)) × (midnight first_day ≤ midnight b.first_day)
-    × (midnight (b.last_day + 1) ≤ midnight (last_planning_day + 1))
+    × (b.plan_end ≤ midnight (last_kept_day + 1)) × (midnight first_day ≤ midnight b.first_day)
+    × (midnight (b.last_day + 1) ≤ midnight (last_kept_day + 1))
 days_fit c sound b is =
     let are = sound.bounds.after b is in let (first, last, end) = sound.ranges.days b is in
     let low = first.0 in let begun = are.begun in let ended = are.ended in let most = are.last in
@@ -226,14 +226,14 @@ modified_row Looks c sound serial p q there (inl (at, inl named)) good =
 
 -- what is named within days of the plan has its ranges
 pub within_ranges : (all : Definitions) → AreDefinitions all → (first end : ℕ) → midnight first_day ≤ first
-    → end ≤ midnight (last_planning_day + 1) → (draft : Draft) → NamesWithin all first end draft → DraftRanges draft
+    → end ≤ midnight (last_kept_day + 1) → (draft : Draft) → NamesWithin all first end draft → DraftRanges draft
 within_ranges all are first end low high draft is =
     named_ranges all are draft is.0 (omega (arith, is.1)) (omega (arith, is.2))
 
 -- an added occurrence has its ranges
 pub added_ranges : (c : Content) → IsSound c → (key : Key) → IsPlannedApp c.definitions key.app
     → midnight first_day ≤ key.ia
-    → key.ia < midnight (last_planning_day + 1) → DraftRanges (added key)
+    → key.ia < midnight (last_kept_day + 1) → DraftRanges (added key)
 added_ranges c sound key (a, active) low high = record {
   app = defined_name APPLICATION_FIELDS FitsApplication IsApplicationOf
       (map.get c.definitions.applications) sound.ranges.definitions.applications key.app a active.0;

@@ -1,7 +1,7 @@
 -- Sound content.
 use Rattle.std.specs.Prelude.{◌≡◌, ◌≢◌, ◌⊎◌, ℕ, ◌+◌, ◌<◌, ◌≤◌, Contains, List, [], Option, Some, None, Result, Ok, Err}
 use Rattle.std.specs.FinMap as map
-use Rattle.work_calendars.specs.Day.{IsDay, last_planning_day}
+use Rattle.work_calendars.specs.Day.{IsDay, last_kept_day}
 use Rattle.work_calendars.specs.Moment.{IsMoment}
 use Rattle.work_calendars.specs.Name.{IsName, IsShort}
 use Rattle.definition_records.specs.Applications.{FitsApplication, IsApplicationOf}
@@ -90,7 +90,7 @@ pub record IsUnplanned (c : Content) : Type 0 where
 -- that begins the first day to the one that ends the last
 pub record AreBounds (b : Bounds) : Type 0 where
   pub days : b.first_day ≤ b.last_day
-  pub last : b.last_day ≤ last_planning_day
+  pub last : b.last_day ≤ last_kept_day
   pub begun : midnight b.first_day ≤ b.plan_end
   pub ended : b.plan_end ≤ midnight (b.last_day + 1)
 

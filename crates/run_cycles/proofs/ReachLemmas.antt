@@ -86,7 +86,7 @@ given_within After work first n k d h some = day_within k first n h.0 h.2 some
 given_within Same work first n k d h some = day_within k first n h.0 h.2 some
 given_within Skip work first n k d h some = day_within k first n h.0 h.2 some
 
-listed_within : (k : Offset) → IsInReach k → IsWithin 999 k
+listed_within : (k : Offset) → IsInReach k → IsWithin 1999 k
 listed_within (FromFirst k) h = h.1
 listed_within (FromLast k) h = h.1
 

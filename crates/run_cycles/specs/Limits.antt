@@ -4,7 +4,7 @@ use Rattle.run_cycles.specs.declared.cycles.TheConstants.{MAX_DEADLINE_DAYS}
 use Rattle.run_cycles.specs.declared.offsets.TheConstants.{MAX_OFFSET, MAX_OFFSETS}
 
 -- days, or work days, from either end of an interval
-pub greatest_offset : MAX_OFFSET ≡ 999
+pub greatest_offset : MAX_OFFSET ≡ 1999
 greatest_offset = refl
 
 -- of a run cycle

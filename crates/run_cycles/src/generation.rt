@@ -1,6 +1,6 @@
 ghost use Rattle.std.specs.Prelude.{◌≡◌, ℕ, ◌↔◌, ◌+◌, ◌<◌, ◌≤◌, All, Some, IfOk, IfSome, IsTrue};
 ghost use Rattle.std.specs.Prelude.{length, slice_index_or};
-ghost use Rattle.work_calendars.specs.Day.{last_planning_day};
+ghost use Rattle.work_calendars.specs.Day.{last_kept_day};
 ghost use Rattle.work_calendars.specs.WorkIndex.{is_work_in};
 ghost use Rattle.run_cycles.specs.declared.named.Named.{Named};
 ghost use Rattle.run_cycles.specs.declared.namings.Naming.{Naming};
@@ -14,7 +14,7 @@ use work_calendars::{Day, Minute, Moment, WorkIndex};
 
 // The moment of a deadline, for an occurrence of the day.
 fn moment_of_deadline(day: Day, deadline: Deadline) -> Moment
-    requires { day ≤ last_planning_day }
+    requires { day ≤ last_kept_day }
     ensures { result ≡ deadline_of day deadline }
 {
     let last = Day::from_number(day.number() + u32::from(deadline.days)).unwrap();
@@ -23,7 +23,7 @@ fn moment_of_deadline(day: Day, deadline: Deadline) -> Moment
 
 // The occurrence that is given on the day and at the time.
 fn named_by(day: Day, time: Minute, given: Given) -> Named
-    requires { day ≤ last_planning_day }
+    requires { day ≤ last_kept_day }
     ensures { result ≡ named_by day time given }
 {
     Named {
@@ -53,7 +53,7 @@ fn is_first(namings: &[Naming], place: usize) -> bool
 // The occurrence that the naming at the place gives, if it is the first of its day and time.
 fn decided(namings: &[Naming], place: usize) -> Option<Named>
     requires place { place < length namings.now }
-    requires planned { All (λ x. x.day ≤ last_planning_day) namings.now }
+    requires planned { All (λ x. x.day ≤ last_kept_day) namings.now }
     ensures found { IfSome result (λ x. DecidesAt namings.now place x) }
     ensures only { (x : Named) → DecidesAt namings.now place x → result ≡ Some x }
 {
@@ -69,7 +69,7 @@ fn decided(namings: &[Naming], place: usize) -> Option<Named>
 
 // What the first naming of each day and time gives.
 fn all_decided(alloc: Global, namings: &[Naming]) -> Result<Vec<Named>, AllocError>
-    requires planned { All (λ x. x.day ≤ last_planning_day) namings.now }
+    requires planned { All (λ x. x.day ≤ last_kept_day) namings.now }
     requires order { InOrder namings.now }
     ensures { IfOk result (λ list. ListsInOrder (IsDecidedBefore namings.now (length namings.now)) list.items) }
 {
@@ -97,7 +97,7 @@ pub fn generate(
     to: Day,
 ) -> Result<Vec<Named>, AllocError>
     requires names { HaveOwnNames cycles.now }
-    requires planned { to ≤ last_planning_day }
+    requires planned { to ≤ last_kept_day }
     ensures { IfOk result
         (λ list. ListsOccurrences cycles.now periods.now (is_work_in index.now) from to list.items) }
 {

@@ -5,7 +5,7 @@ use std::alloc::AllocError;
 use std::marker::Model;
 
 /// The greatest distance of an offset from 0.
-pub const MAX_OFFSET: u16 = 999;
+pub const MAX_OFFSET: u16 = 1999;
 
 /// The greatest number of offsets of a run cycle.
 pub const MAX_OFFSETS: usize = 64;

@@ -8,7 +8,7 @@ use Rattle.sqlite.specs.declared.types.Value.TheVariants.{Text}
 use Rattle.definition_records.specs.declared.applications.Application.{Application}
 use Rattle.table_facts.specs.Facts.{application_values}
 use Rattle.table_facts.proofs.Decoded.{nat_in, one_application}
-use Rattle.table_facts.specs.Facts.{IsCalendarRow, IsPredecessorRow, is_work}
+use Rattle.table_facts.specs.Facts.{IsCalendarRow, IsPredecessorRow, is_work, predecessor_values}
 use Rattle.table_facts.specs.Content.{ByName}
 use Rattle.definition_records.specs.ByName.{AreNamesOf}
 use Rattle.definition_records.proofs.ByNameLemmas.{get-inserted, name_itself, same_name}
@@ -257,14 +257,12 @@ no_entry name v is = let (k, d, s, it, tells) = entry_of name no_entries v is in
 -- ---- predecessors
 
 pub predecessor_joins : (app : List ℕ) (old new : ByName (Unit {0})) (n : List ℕ) (row : Values)
-    → row ≡ Text app ∷ Text n ∷ [] → new ≡ map.insert old n tt
+    → row ≡ predecessor_values app n → new ≡ map.insert old n tt
     → Joins (IsReadPredecessor app old) row (IsReadPredecessor app new)
 predecessor_joins app old new n row at put v = (
   λ (m, has, is). elim (pointwise nat_eq n m) as (λ b. pointwise nat_eq n m ≡ b
       → IsReadPredecessor app old v ⊎ (v ≡ row)) [
-        | true ↦ λ e. inr (is ∙ ap (λ (l : List ℕ). let r : Values = Text app ∷ Text l ∷ [] in r) (sym (same_name n m
-            e))
-            ∙ sym at)
+        | true ↦ λ e. inr (is ∙ ap (predecessor_values app) (sym (same_name n m e)) ∙ sym at)
         | false ↦ λ e. inl (m, subst IsSome (got m ∙ ap (λ b. cond b (Some tt) (map.get old m)) e) has, is)
       ] refl,
   λ some. elim some [

@@ -21,6 +21,7 @@ use Rattle.table_facts.specs.Content.{ByName, IsApplicationRow, IsOfSome}
 use Rattle.table_facts.specs.Facts.{IsCalendarRow, IsCycleRow, IsOffsetRow, IsPeriodRow, IsPredecessorRow}
 use Rattle.table_facts.specs.Facts.IsCalendarRow.{Weekday, Date}
 use Rattle.table_facts.specs.Facts.{application_values, cycle_values, entry_values, is_work, natural, offset_values}
+use Rattle.table_facts.specs.Facts.{predecessor_values}
 use Rattle.table_definitions.specs.Storing.{IsStorable}
 
 either : (b : Bool) (x : Value) → cond b x x ≡ x
@@ -72,7 +73,7 @@ cycle_storable app name period (Negative (Some deadline)) cycle (Some day) =
 offset_storable : (app name : List ℕ) (place : ℕ) (k : ℤ) → IsStorable table.Offset (offset_values app name place k)
 offset_storable app name place k = record { kinds = simp (cast-Int, cast-Null); bound = refl }
 
-link_storable : (app name : List ℕ) → IsStorable table.Predecessor (Text app ∷ Text name ∷ [])
+link_storable : (app name : List ℕ) → IsStorable table.Predecessor (predecessor_values app name)
 link_storable app name = record { kinds = simp cast-Null; bound = refl }
 
 -- ---- of all definitions

@@ -12,6 +12,7 @@ use Rattle.work_calendars.specs.declared.statuses.DayStatus.{DayStatus}
 use Rattle.definition_records.specs.declared.applications.Application.{Application}
 use Rattle.table_facts.specs.Content.{ByName}
 use Rattle.table_facts.specs.Facts.{IsCalendarRow, IsPredecessorRow, application_values, is_work, natural}
+use Rattle.table_facts.specs.Facts.{predecessor_values}
 use Rattle.table_facts.specs.Facts.IsCalendarRow.{Weekday, Date}
 
 -- ---- applications
@@ -52,8 +53,8 @@ pub record IsSoundCalendar (name : List ℕ) (c : CalendarEntries) : Type 0 wher
 -- ---- predecessors
 
 abbrev pub IsReadPredecessor : List ℕ → ByName (Unit {0}) → Values → Type 0
-IsReadPredecessor app names values = (name : List ℕ) × IsSome (map.get names name) × (values ≡ Text app ∷ Text name ∷
-    [])
+IsReadPredecessor app names values =
+    (name : List ℕ) × IsSome (map.get names name) × (values ≡ predecessor_values app name)
 
 -- they are names
 abbrev pub ArePredecessorNames : List ℕ → List (List ℕ) → Type 0

@@ -8,7 +8,7 @@ use Rattle.work_calendars.specs.Calendar.{CalendarEntries}
 use Rattle.work_calendars.specs.declared.statuses.DayStatus.{DayStatus}
 use Rattle.plan_periods.specs.Period.{Entry}
 use Rattle.run_cycles.specs.declared.cycles.RunCycle.{RunCycle}
-use Rattle.table_facts.specs.Facts.{cycle_values, entry_values, is_work, natural, offset_values}
+use Rattle.table_facts.specs.Facts.{cycle_values, entry_values, is_work, natural, offset_values, predecessor_values}
 
 -- what a calendar lists for this weekday, if it lists it
 abbrev pub IsWeekdayRow : List ℕ → CalendarEntries → ℕ → Values → Type 0
@@ -39,4 +39,4 @@ IsOffsetOf app cycle values = (place : ℕ) × (k : ℤ) × (slice_get cycle.off
 
 -- one predecessor of an application
 abbrev pub IsLinkRow : List ℕ → List ℕ → Values → Type 0
-IsLinkRow app name values = values ≡ Text app ∷ Text name ∷ []
+IsLinkRow app name values = values ≡ predecessor_values app name

@@ -1,8 +1,8 @@
 // Rows of predecessors.
 
-ghost use Rattle.std.specs.Prelude.{◌≡◌, ◌∷◌, ◌↔◌, [], length, IfOk, IfSome, OnOk, ℕ, List, IsSome};
+ghost use Rattle.std.specs.Prelude.{◌≡◌, ◌↔◌, length, IfOk, IfSome, OnOk, ℕ, List, IsSome};
 ghost use Rattle.sqlite.specs.declared.types.Value.TheVariants.{Text};
-ghost use Rattle.table_facts.specs.Facts.{IsPredecessorRow};
+ghost use Rattle.table_facts.specs.Facts.{IsPredecessorRow, predecessor_values};
 ghost use Rattle.table_definitions.specs.Adding.{Adds, IsOfPlace};
 ghost use Rattle.table_definitions.specs.Parts.{IsLinkRow};
 ghost use Rattle.sqlite.specs.Order.{column};
@@ -14,8 +14,8 @@ ghost use Rattle.table_definitions.specs.Gathering.{AreSound};
 ghost use Rattle.table_definitions.specs.Storing.{AreRowsOf};
 ghost use Rattle.table_definitions.specs.Telling.{ArePredecessors};
 
-use crate::cells::row_of;
-use crate::columns::name_at;
+use crate::cells::{optional_number, row_of};
+use crate::columns::{is_null_at, name_at};
 use crate::encoding::{Encoding, rows_of};
 use crate::gathering::{Draft, gathered};
 use app_definitions::{ByName, Predecessors};
@@ -26,13 +26,14 @@ use work_calendars::Name;
 
 // The row of one predecessor of an application.
 fn link_row(alloc: Global, app: &Name, name: &Name) -> Result<Row, AllocError>
-    ensures { IfOk result (λ row. row ≡ Text app.now ∷ Text name.now ∷ []) }
+    ensures { IfOk result (λ row. row ≡ predecessor_values app.now name.now) }
 {
     row_of(
         alloc,
         &[
             ValueRef::Text(app.as_bytes()),
             ValueRef::Text(name.as_bytes()),
+            optional_number(None),
         ],
     )
 }
@@ -81,14 +82,14 @@ pub fn predecessor_rows(
     rows_of::<PredecessorRows>(alloc, predecessors)
 }
 
-// The predecessor that a row of this application tells.
+// The predecessor that a row of this application tells, which has no limit.
 fn predecessor_at(row: &Row, app: &Name) -> Option<Name>
     requires { column row.now 0 ≡ Text app.now }
-    ensures value { IfSome result (λ name. row.now ≡ Text app.now ∷ Text name ∷ []) }
-    ensures found { (name : List ℕ) → IsName name → row.now ≡ Text app.now ∷ Text name ∷ []
+    ensures value { IfSome result (λ name. row.now ≡ predecessor_values app.now name) }
+    ensures found { (name : List ℕ) → IsName name → row.now ≡ predecessor_values app.now name
         → result ≡ Some name }
 {
-    if row.len() != 2 {
+    if row.len() != 3 || !is_null_at(row, 2) {
         return None;
     }
     name_at(row, 1)

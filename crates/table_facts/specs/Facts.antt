@@ -65,8 +65,12 @@ deletion_key deletion = natural deletion.row.serial ∷ []
 abbrev pub pair_values : Pair → Values
 pair_values pair = natural pair.successor ∷ natural pair.predecessor ∷ []
 
+-- of a link without a limit, which each is
 abbrev pub link_values : Link → Values
-link_values link = Text link.app ∷ Text link.predecessor ∷ []
+link_values link = Text link.app ∷ Text link.predecessor ∷ Null ∷ []
+
+abbrev pub link_key : Link → Values
+link_key link = Text link.app ∷ Text link.predecessor ∷ []
 
 -- ---- definitions, each under its name
 
@@ -125,6 +129,10 @@ abbrev pub IsOffsetRow : List ℕ → List RunCycle → Values → Type 0
 IsOffsetRow app cycles values = (cycle : RunCycle) × Contains cycles cycle × (place : ℕ) × (k : ℤ)
     × (slice_get cycle.offsets place ≡ Some k) × (values ≡ offset_values app cycle.name place k)
 
+-- one predecessor of an application, without a limit
+abbrev pub predecessor_values : List ℕ → List ℕ → Values
+predecessor_values app name = Text app ∷ Text name ∷ Null ∷ []
+
 -- of an application's list of predecessors: each of them
 abbrev pub IsPredecessorRow : List ℕ → List (List ℕ) → Values → Type 0
-IsPredecessorRow app names values = (name : List ℕ) × Contains names name × (values ≡ Text app ∷ Text name ∷ [])
+IsPredecessorRow app names values = (name : List ℕ) × Contains names name × (values ≡ predecessor_values app name)

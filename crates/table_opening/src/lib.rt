@@ -17,4 +17,5 @@ mod whole;
 pub use faults::{OpenFault, fault_for, open_fault_number};
 pub use files::{open_connection, open_connection_from, open_connection_with};
 pub use opening::{is_known, open_content};
+pub use same_schema::extends_schema;
 pub use version_texts::version_text;

@@ -4,4 +4,4 @@ mod schemas;
 mod terms;
 mod values;
 
-pub(crate) use schemas::extends_schema;
+pub use schemas::extends_schema;

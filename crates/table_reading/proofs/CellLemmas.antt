@@ -2,7 +2,7 @@
 use Rattle.std.proofs.Common.{◌≡◌, [], ◌∷◌, length, refl, sym, ap, subst, ◌∙◌, arith}
 use Rattle.std.specs.Prelude.{ℕ, Option, Some, None}
 use Rattle.sqlite.specs.Order.{Row as Values, column}
-use Rattle.sqlite.specs.declared.types.Value.TheVariants.{Blob, Text}
+use Rattle.sqlite.specs.declared.types.Value.TheVariants.{Blob, Null, Text}
 use Rattle.occurrences.specs.Place.{reason_letter}
 use Rattle.occurrences.specs.Status.{status_letter}
 use Rattle.occurrences.specs.declared.place.CurrentRow.{CurrentRow}
@@ -94,14 +94,14 @@ pub pair_is : (pair : Pair) (cells : Values) → pair_values pair ≡ cells
 pair_is pair cells is = subst (λ l. (length l ≡ 2) × (column l 0 ≡ natural pair.successor)
     × (column l 1 ≡ natural pair.predecessor)) is (refl, refl, refl)
 
-pub link_from : (link : Link) (cells : Values) → length cells ≡ 2 → column cells 0 ≡ Text link.app
-    → column cells 1 ≡ Text link.predecessor → link_values link ≡ cells
-link_from link cells len one other = (λ i. sym one i ∷ sym other i ∷ []) ∙ two cells len
+pub link_from : (link : Link) (cells : Values) → length cells ≡ 3 → column cells 0 ≡ Text link.app
+    → column cells 1 ≡ Text link.predecessor → column cells 2 ≡ Null → link_values link ≡ cells
+link_from link cells len one other none = (λ i. sym one i ∷ sym other i ∷ sym none i ∷ []) ∙ three cells len
 
-pub link_is : (link : Link) (cells : Values) → link_values link ≡ cells
-    → (length cells ≡ 2) × (column cells 0 ≡ Text link.app) × (column cells 1 ≡ Text link.predecessor)
-link_is link cells is = subst (λ l. (length l ≡ 2) × (column l 0 ≡ Text link.app)
-    × (column l 1 ≡ Text link.predecessor)) is (refl, refl, refl)
+pub link_is : (link : Link) (cells : Values) → link_values link ≡ cells → (length cells ≡ 3)
+    × (column cells 0 ≡ Text link.app) × (column cells 1 ≡ Text link.predecessor) × (column cells 2 ≡ Null)
+link_is link cells is = subst (λ l. (length l ≡ 3) × (column l 0 ≡ Text link.app)
+    × (column l 1 ≡ Text link.predecessor) × (column l 2 ≡ Null)) is (refl, refl, refl, refl)
 
 pub job_from : (job : Job) (cells : Values) → length cells ≡ 3 → column cells 0 ≡ natural job.number
     → column cells 1 ≡ Blob job.text → column cells 2 ≡ Text (answer_text job.reply) → job_values job ≡ cells

@@ -12,7 +12,7 @@ ghost use Rattle.planner_machine.specs.Sound.{IsRow};
 ghost use Rattle.table_facts.specs.Facts.{row_values, current_values, deletion_values, pair_values, link_values};
 ghost use Rattle.table_reading.specs.Cells.{IsLink, IsNumberedRow, IsPair, Leads};
 
-use crate::cells::{letter_at, moment_at, name_at, origin_at, serial_at};
+use crate::cells::{is_null, letter_at, moment_at, name_at, origin_at, serial_at};
 use external_dependencies::{Link, Pair};
 use occurrences::{CurrentRow, Deletion, Key, Reason, Row, Status};
 use sqlite::Row as Cells;
@@ -117,7 +117,7 @@ fn told_link(cells: &Cells) -> Option<Link>
     ensures none { result ≡ None → (link : LinkValue) → IsLink link → link_values link ≡ cells.now
         → ⊥ }
 {
-    if cells.column_count() != 2 {
+    if cells.column_count() != 3 || !is_null(cells, 2) {
         return None;
     }
     let app = name_at(cells, 0)?;

@@ -42,6 +42,7 @@ use Rattle.table_schema.specs.Cells.{insert_terms, width}
 use Rattle.table_schema.specs.Rows.{MayFail, Tables, no_rows, tables_of}
 use Rattle.table_schema.specs.Schema.{plan_schema, table, tree}
 use Rattle.table_schema.specs.Texts.{insert_sql}
+use Rattle.table_schema.specs.declared.tables.TheConstants.{SCHEMA_VERSION}
 use Rattle.table_schema.specs.declared.tables.Table.{Table}
 use Rattle.table_schema.specs.declared.tables.Table.TheVariants.{Meta, CalendarEntry, Period, Application}
 use Rattle.table_schema.specs.declared.tables.Table.TheVariants.{RunCycle, Offset, Predecessor, LinkInForce}
@@ -62,11 +63,11 @@ some_same e = cc
 
 -- the values of the row, where there is no plan
 abbrev pub first_cells : Row
-first_cells = Int (pos 1) ∷ Int (pos 1) ∷ Int (pos 0) ∷ Int (pos 0) ∷ Int (pos 0) ∷ Int (pos 0) ∷ Int (pos 0) ∷ Text (codes "DEFAULT") ∷ Int (pos 504) ∷ []
+first_cells = Int (pos 1) ∷ Int (pos SCHEMA_VERSION) ∷ Int (pos 0) ∷ Int (pos 0) ∷ Int (pos 0) ∷ Int (pos 0) ∷ Int (pos 0) ∷ Text (codes "DEFAULT") ∷ Int (pos 504) ∷ []
 
 -- as it is stored
 abbrev first_row : Row
-first_row = Int (pos 1) ∷ Null ∷ Int (pos 1) ∷ Int (pos 0) ∷ Int (pos 0) ∷ Int (pos 0) ∷ Int (pos 0) ∷ Int (pos 0) ∷ Text (codes "DEFAULT") ∷ Int (pos 504) ∷ []
+first_row = Int (pos 1) ∷ Null ∷ Int (pos SCHEMA_VERSION) ∷ Int (pos 0) ∷ Int (pos 0) ∷ Int (pos 0) ∷ Int (pos 0) ∷ Int (pos 0) ∷ Text (codes "DEFAULT") ∷ Int (pos 504) ∷ []
 
 abbrev given : List Row
 given = value_rows (first_cells ++ []) (width Meta) (length (insert_terms Meta) / width Meta) (insert_terms Meta)

@@ -20,8 +20,8 @@ column_names Application = codes "name" ∷ codes "active" ∷ codes "calendar" 
 column_names RunCycle = codes "app" ∷ codes "name" ∷ codes "type" ∷ codes "period" ∷ codes "rule" ∷ codes
     "in_effect" ∷ codes "out_effect" ∷ codes "ia" ∷ codes "deadline_day" ∷ codes "deadline_time" ∷ []
 column_names Offset = codes "app" ∷ codes "name" ∷ codes "seq" ∷ codes "k" ∷ []
-column_names Predecessor = codes "app" ∷ codes "pred" ∷ []
-column_names LinkInForce = codes "app" ∷ codes "pred" ∷ []
+column_names Predecessor = codes "app" ∷ codes "pred" ∷ codes "within" ∷ []
+column_names LinkInForce = codes "app" ∷ codes "pred" ∷ codes "within" ∷ []
 column_names LongTerm = codes "serial" ∷ codes "app" ∷ codes "ia" ∷ codes "deadline" ∷ codes "run_cycle" ∷ []
 column_names Current = codes "serial" ∷ codes "app" ∷ codes "ia" ∷ codes "deadline" ∷ codes "run_cycle" ∷ codes
     "status" ∷ []
@@ -41,8 +41,8 @@ insert_terms Application = lit Null ∷ col 0 0 ∷ col 0 1 ∷ col 0 2 ∷ []
 insert_terms RunCycle = lit Null ∷ col 0 0 ∷ col 0 1 ∷ col 0 2 ∷ col 0 3 ∷ col 0 4 ∷ col 0 5 ∷ col 0 6 ∷ col 0 7 ∷
     col 0 8 ∷ col 0 9 ∷ []
 insert_terms Offset = lit Null ∷ col 0 0 ∷ col 0 1 ∷ col 0 2 ∷ col 0 3 ∷ []
-insert_terms Predecessor = lit Null ∷ col 0 0 ∷ col 0 1 ∷ []
-insert_terms LinkInForce = lit Null ∷ col 0 0 ∷ col 0 1 ∷ []
+insert_terms Predecessor = lit Null ∷ col 0 0 ∷ col 0 1 ∷ col 0 2 ∷ []
+insert_terms LinkInForce = lit Null ∷ col 0 0 ∷ col 0 1 ∷ col 0 2 ∷ []
 insert_terms LongTerm = col 0 0 ∷ lit Null ∷ col 0 1 ∷ col 0 2 ∷ col 0 3 ∷ col 0 4 ∷ []
 insert_terms Current = col 0 0 ∷ lit Null ∷ col 0 1 ∷ col 0 2 ∷ col 0 3 ∷ col 0 4 ∷ col 0 5 ∷ []
 insert_terms History = col 0 0 ∷ lit Null ∷ col 0 1 ∷ col 0 2 ∷ col 0 3 ∷ col 0 4 ∷ []
@@ -58,8 +58,8 @@ width Period = 6
 width Application = 4
 width RunCycle = 11
 width Offset = 5
-width Predecessor = 3
-width LinkInForce = 3
+width Predecessor = 4
+width LinkInForce = 4
 width LongTerm = 6
 width Current = 7
 width History = 6
@@ -76,8 +76,8 @@ select_terms Application = col 1 1 ∷ col 1 2 ∷ col 1 3 ∷ []
 select_terms RunCycle = col 1 1 ∷ col 1 2 ∷ col 1 3 ∷ col 1 4 ∷ col 1 5 ∷ col 1 6 ∷ col 1 7 ∷ col 1 8 ∷ col 1 9 ∷
     col 1 10 ∷ []
 select_terms Offset = col 1 1 ∷ col 1 2 ∷ col 1 3 ∷ col 1 4 ∷ []
-select_terms Predecessor = col 1 1 ∷ col 1 2 ∷ []
-select_terms LinkInForce = col 1 1 ∷ col 1 2 ∷ []
+select_terms Predecessor = col 1 1 ∷ col 1 2 ∷ col 1 3 ∷ []
+select_terms LinkInForce = col 1 1 ∷ col 1 2 ∷ col 1 3 ∷ []
 select_terms LongTerm = col 1 0 ∷ col 1 2 ∷ col 1 3 ∷ col 1 4 ∷ col 1 5 ∷ []
 select_terms Current = col 1 0 ∷ col 1 2 ∷ col 1 3 ∷ col 1 4 ∷ col 1 5 ∷ col 1 6 ∷ []
 select_terms History = col 1 0 ∷ col 1 2 ∷ col 1 3 ∷ col 1 4 ∷ col 1 5 ∷ []

@@ -145,8 +145,8 @@ columns RunCycle = needed (codes "app") Text ∷ needed (codes "name") Text ∷ 
     "deadline_time") Integer ∷ []
 columns Offset = needed (codes "app") Text ∷ needed (codes "name") Text ∷ needed (codes "seq") Integer ∷ needed
     (codes "k") Integer ∷ []
-columns Predecessor = needed (codes "app") Text ∷ needed (codes "pred") Text ∷ []
-columns LinkInForce = needed (codes "app") Text ∷ needed (codes "pred") Text ∷ []
+columns Predecessor = needed (codes "app") Text ∷ needed (codes "pred") Text ∷ optional (codes "within") Integer ∷ []
+columns LinkInForce = needed (codes "app") Text ∷ needed (codes "pred") Text ∷ optional (codes "within") Integer ∷ []
 columns LongTerm = key_column (codes "serial") ∷ needed (codes "app") Text ∷ needed (codes "ia") Integer ∷ needed
     (codes "deadline") Integer ∷ optional (codes "run_cycle") Text ∷ []
 columns Current = key_column (codes "serial") ∷ needed (codes "app") Text ∷ needed (codes "ia") Integer ∷ needed

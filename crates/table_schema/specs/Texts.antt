@@ -30,10 +30,11 @@ create_sql Offset =
     ++ (codes "INTEGER NOT NULL, PRIMARY KEY (app, name, seq), FOREIGN KEY (app, name) REFERENCES run_cycle ON "
     ++ codes "DELETE CASCADE) STRICT")
 create_sql Predecessor =
-    codes "CREATE TABLE predecessor (app TEXT NOT NULL, pred TEXT NOT NULL, PRIMARY KEY (app, pred)) STRICT"
+    codes "CREATE TABLE predecessor (app TEXT NOT NULL, pred TEXT NOT NULL, within INTEGER, PRIMARY KEY (app, "
+    ++ codes "pred)) STRICT"
 create_sql LinkInForce =
-    codes "CREATE TABLE link_in_force (app TEXT NOT NULL, pred TEXT NOT NULL, PRIMARY KEY (app, pred)) "
-    ++ codes "STRICT"
+    codes "CREATE TABLE link_in_force (app TEXT NOT NULL, pred TEXT NOT NULL, within INTEGER, PRIMARY KEY "
+    ++ codes "(app, pred)) STRICT"
 create_sql LongTerm =
     codes "CREATE TABLE ltp_row (serial INTEGER PRIMARY KEY, app TEXT NOT NULL, ia INTEGER NOT NULL, "
     ++ codes "deadline INTEGER NOT NULL, run_cycle TEXT, UNIQUE (app, ia)) STRICT"
@@ -66,8 +67,8 @@ insert_sql RunCycle =
     codes "INSERT INTO run_cycle (app, name, type, period, rule, in_effect, out_effect, ia, deadline_day, "
     ++ codes "deadline_time) VALUES (?1, ?2, ?3, ?4, ?5, ?6, ?7, ?8, ?9, ?10)"
 insert_sql Offset = codes "INSERT INTO run_cycle_offset (app, name, seq, k) VALUES (?1, ?2, ?3, ?4)"
-insert_sql Predecessor = codes "INSERT INTO predecessor (app, pred) VALUES (?1, ?2)"
-insert_sql LinkInForce = codes "INSERT INTO link_in_force (app, pred) VALUES (?1, ?2)"
+insert_sql Predecessor = codes "INSERT INTO predecessor (app, pred, within) VALUES (?1, ?2, ?3)"
+insert_sql LinkInForce = codes "INSERT INTO link_in_force (app, pred, within) VALUES (?1, ?2, ?3)"
 insert_sql LongTerm =
     codes "INSERT INTO ltp_row (serial, app, ia, deadline, run_cycle) VALUES (?1, ?2, ?3, ?4, ?5)"
 insert_sql Current =
@@ -110,8 +111,8 @@ select_sql RunCycle =
     codes "SELECT app, name, type, period, rule, in_effect, out_effect, ia, deadline_day, deadline_time "
     ++ codes "FROM run_cycle"
 select_sql Offset = codes "SELECT app, name, seq, k FROM run_cycle_offset"
-select_sql Predecessor = codes "SELECT app, pred FROM predecessor"
-select_sql LinkInForce = codes "SELECT app, pred FROM link_in_force"
+select_sql Predecessor = codes "SELECT app, pred, within FROM predecessor"
+select_sql LinkInForce = codes "SELECT app, pred, within FROM link_in_force"
 select_sql LongTerm = codes "SELECT serial, app, ia, deadline, run_cycle FROM ltp_row"
 select_sql Current = codes "SELECT serial, app, ia, deadline, run_cycle, status FROM cp_row"
 select_sql History = codes "SELECT serial, app, ia, deadline, run_cycle FROM history_row"

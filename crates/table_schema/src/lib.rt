@@ -9,4 +9,4 @@ mod texts;
 pub use making::{make_all, make_tables};
 pub use statements::{delete, insert, select};
 pub use tables::{SCHEMA_VERSION, Table};
-pub use texts::select_text;
+pub use texts::{create_text, select_text};

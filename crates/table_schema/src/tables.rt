@@ -1,7 +1,7 @@
 // The tables, and the version of their schema.
 
 /// The version of the schema, which `plan_meta` tells.
-pub const SCHEMA_VERSION: u32 = 1;
+pub const SCHEMA_VERSION: u32 = 2;
 
 /// A table of the plan.
 #[derive(Clone, Copy, Debug, PartialEq, Eq)]

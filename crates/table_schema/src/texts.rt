@@ -6,7 +6,7 @@ ghost use Rattle.table_schema.specs.Texts.{create_sql, delete_sql, insert_sql, s
 use crate::tables::Table;
 
 /// The text that makes the table.
-pub(crate) fn create_text(table: Table) -> &'static str
+pub fn create_text(table: Table) -> &'static str
     ensures { result.now ≡ create_sql table }
 {
     match table {
@@ -40,10 +40,12 @@ pub(crate) fn create_text(table: Table) -> &'static str
              run_cycle ON DELETE CASCADE) STRICT"
         }
         Table::Predecessor => {
-            "CREATE TABLE predecessor (app TEXT NOT NULL, pred TEXT NOT NULL, PRIMARY KEY (app, pred)) STRICT"
+            "CREATE TABLE predecessor (app TEXT NOT NULL, pred TEXT NOT NULL, within INTEGER, PRIMARY KEY \
+             (app, pred)) STRICT"
         }
         Table::LinkInForce => {
-            "CREATE TABLE link_in_force (app TEXT NOT NULL, pred TEXT NOT NULL, PRIMARY KEY (app, pred)) STRICT"
+            "CREATE TABLE link_in_force (app TEXT NOT NULL, pred TEXT NOT NULL, within INTEGER, PRIMARY KEY \
+             (app, pred)) STRICT"
         }
         Table::LongTerm => {
             "CREATE TABLE ltp_row (serial INTEGER PRIMARY KEY, app TEXT NOT NULL, ia INTEGER NOT NULL, \
@@ -96,8 +98,12 @@ pub(crate) fn insert_text(table: Table) -> &'static str
         Table::Offset => {
             "INSERT INTO run_cycle_offset (app, name, seq, k) VALUES (?1, ?2, ?3, ?4)"
         }
-        Table::Predecessor => { "INSERT INTO predecessor (app, pred) VALUES (?1, ?2)" }
-        Table::LinkInForce => { "INSERT INTO link_in_force (app, pred) VALUES (?1, ?2)" }
+        Table::Predecessor => {
+            "INSERT INTO predecessor (app, pred, within) VALUES (?1, ?2, ?3)"
+        }
+        Table::LinkInForce => {
+            "INSERT INTO link_in_force (app, pred, within) VALUES (?1, ?2, ?3)"
+        }
         Table::LongTerm => {
             "INSERT INTO ltp_row (serial, app, ia, deadline, run_cycle) VALUES (?1, ?2, ?3, ?4, ?5)"
         }
@@ -155,8 +161,8 @@ pub fn select_text(table: Table) -> &'static str
              deadline_time FROM run_cycle"
         }
         Table::Offset => { "SELECT app, name, seq, k FROM run_cycle_offset" }
-        Table::Predecessor => { "SELECT app, pred FROM predecessor" }
-        Table::LinkInForce => { "SELECT app, pred FROM link_in_force" }
+        Table::Predecessor => { "SELECT app, pred, within FROM predecessor" }
+        Table::LinkInForce => { "SELECT app, pred, within FROM link_in_force" }
         Table::LongTerm => { "SELECT serial, app, ia, deadline, run_cycle FROM ltp_row" }
         Table::Current => { "SELECT serial, app, ia, deadline, run_cycle, status FROM cp_row" }
         Table::History => { "SELECT serial, app, ia, deadline, run_cycle FROM history_row" }

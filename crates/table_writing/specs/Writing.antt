@@ -15,7 +15,7 @@ use Rattle.keyed_lists.specs.Keyed.{holds_key}
 use Rattle.plan_store.specs.declared.changes.Change.{Change}
 use Rattle.plan_store.specs.declared.changes.Moves.{Moves}
 use Rattle.table_facts.specs.Facts.{current_key, current_values, deletion_key, deletion_values, link_values, natural}
-use Rattle.table_facts.specs.Facts.{pair_values, row_key, row_values}
+use Rattle.table_facts.specs.Facts.{link_key, pair_values, row_key, row_values}
 use Rattle.table_facts.specs.Content.{job_values, meta_values, IsSmall}
 use Rattle.std.specs.Prelude.{is_some, ◌||◌, if◌then◌else◌, unwrap_or, IfSome}
 use Rattle.planner_machine.specs.Moves.{or_else}
@@ -76,7 +76,7 @@ beside others links = filter (λ (l : Link). not (holds_key link_cmp (λ (m : Li
 abbrev pub links_replaced : List Link → List Link → Tables → Tables
 links_replaced old new all =
     with_each table.LinkInForce link_values (beside old new)
-    (without_each table.LinkInForce link_values (beside new old) all)
+    (without_each table.LinkInForce link_key (beside new old) all)
 
 abbrev pub links_moved : List Link → Option (List Link) → Tables → Tables
 links_moved old None all = all

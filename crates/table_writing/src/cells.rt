@@ -3,7 +3,7 @@
 ghost use Rattle.std.specs.Prelude.{◌≡◌, option_map};
 ghost use Rattle.sqlite.specs.Values.{bound_value};
 ghost use Rattle.sqlite.specs.Value.{owned};
-ghost use Rattle.sqlite.specs.declared.types.Value.TheVariants.{Text};
+ghost use Rattle.sqlite.specs.declared.types.Value.TheVariants.{Null, Text};
 ghost use Rattle.occurrences.specs.Row.{run_cycle_of};
 ghost use Rattle.table_facts.specs.Facts.{natural, or_null};
 
@@ -15,6 +15,13 @@ pub(crate) fn number(n: u32) -> ValueRef<'static>
     ensures { bound_value (owned result) ≡ natural n }
 {
     ValueRef::Int(i64::from(n))
+}
+
+/// No limit, as each link has.
+pub(crate) fn no_limit() -> ValueRef<'static>
+    ensures { bound_value (owned result) ≡ Null }
+{
+    ValueRef::Null
 }
 
 /// The run cycle that named an occurrence, or NULL where it was added.

@@ -1,6 +1,6 @@
 -- Days, as day numbers: days since 1970-01-01.
 use Rattle.std.specs.Prelude.{ℕ, ◌+◌, ◌%◌, ◌≤◌, Bool, ◌&&◌, nat_le}
-use Rattle.work_calendars.specs.declared.days.TheConstants.{FIRST_NUMBER, LAST_NUMBER, LAST_PLANNING_NUMBER}
+use Rattle.work_calendars.specs.declared.days.TheConstants.{FIRST_NUMBER, LAST_KEPT_NUMBER, LAST_NUMBER, LAST_PLANNING_NUMBER}
 
 -- the first day that calendars know
 abbrev pub first_day : ℕ
@@ -10,9 +10,13 @@ first_day = FIRST_NUMBER
 abbrev pub last_day : ℕ
 last_day = LAST_NUMBER
 
--- the last day that a plan may reach
+-- the last day that a statement plans
 abbrev pub last_planning_day : ℕ
 last_planning_day = LAST_PLANNING_NUMBER
+
+-- the last day that a plan may have: one that was made earlier may reach so far
+abbrev pub last_kept_day : ℕ
+last_kept_day = LAST_KEPT_NUMBER
 
 -- a day of the range that calendars know
 abbrev pub IsDay : ℕ → Type 0

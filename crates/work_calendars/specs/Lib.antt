@@ -3,6 +3,7 @@ pub mod Limits
 pub mod Minute
 pub mod Moment
 pub mod Name
+pub mod Within
 pub mod WorkDay
 pub mod WorkIndex
 pub mod Calendar

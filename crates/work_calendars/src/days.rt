@@ -9,13 +9,16 @@ use crate::digits::{digit, two_digits_value};
 use jiff::civil::Date;
 use std::marker::Model;
 
-// The numbers of the first and the last day, and of the last day that a plan may reach: 1972-01-01, 2071-12-31 and
-// 2068-12-31. The definitions cite them, and `specs/Limits.antt` states their values once more.
+// The numbers of the first and the last day, of the last day that a statement plans, and of the last day that a plan
+// may have: 1972-01-01, 2071-12-31, 2065-12-31 and 2068-12-31. The definitions cite them, and `specs/Limits.antt`
+// states their values once more.
 pub(crate) const FIRST_NUMBER: u16 = 730;
 
 pub(crate) const LAST_NUMBER: u16 = 37254;
 
-pub(crate) const LAST_PLANNING_NUMBER: u16 = 36159;
+pub(crate) const LAST_PLANNING_NUMBER: u16 = 35063;
+
+pub(crate) const LAST_KEPT_NUMBER: u16 = 36159;
 
 /// How many days there are.
 pub(crate) const DAYS: usize = LAST_NUMBER as usize + 1 - FIRST_NUMBER as usize;
@@ -47,9 +50,14 @@ impl Day {
         number: LAST_NUMBER,
     };
 
-    /// 2068-12-31, the last day that a plan may reach.
+    /// 2065-12-31, the last day that a statement plans.
     pub const LAST_PLANNING: Day = Day {
         number: LAST_PLANNING_NUMBER,
+    };
+
+    /// 2068-12-31, the last day that a plan may have: one that was made earlier may reach so far.
+    pub const LAST_KEPT: Day = Day {
+        number: LAST_KEPT_NUMBER,
     };
 
     /// The day with this number, if it is in range.

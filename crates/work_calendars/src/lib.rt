@@ -21,6 +21,7 @@ mod minutes;
 mod moments;
 mod names;
 mod statuses;
+mod within;
 mod work_index;
 
 pub use calendars::Calendar;
@@ -33,4 +34,5 @@ pub use moments::Moment;
 pub use names::{App, LONGEST_NAME, LONGEST_SHORT_NAME, Name, NameWithin, Short};
 pub use statuses::DayStatus;
 pub use std::alloc::AllocError as Memory;
+pub use within::{MAX_WITHIN, Within};
 pub use work_index::WorkIndex;

@@ -155,7 +155,7 @@ fn extend_tables(tables: &[Table], others: &[Table]) -> bool
 
 /// Whether the schema has the tables and indexes of the other as its first part, and its further tables are in other
 /// trees and refer to none of these. Further indexes and views may be there.
-pub(crate) fn extends_schema(a: &Schema, b: &Schema) -> bool
+pub fn extends_schema(a: &Schema, b: &Schema) -> bool
     ensures { IsTrue result ↔ Extends a.now b.now }
 {
     extend_tables(a.tables.as_slice(), b.tables.as_slice())

@@ -1,9 +1,12 @@
-use Rattle.std.proofs.Common.{arith, inr}
-use Rattle.std.proofs.lemmas.List.Elements.{All-weaker}
+use Rattle.std.proofs.Common.{arith}
 use Rattle.sqlite.specs.Held.{state}
-use Rattle.plan_migrations.specs.Schemas.{IsOfSchema}
-use Rattle.table_schema.specs.Schema.{all_tables}
-use Rattle.plan_migrations.proofs.TurnLemmas.{kept_since, known_until, of_schema_since, same_if_known, told_some, unmigrated}
+use Rattle.sqlite.specs.State.{HasCleanDisk}
+use Rattle.sqlite.proofs.StateLemmas.{survives_then}
+use Rattle.plan_migrations.specs.Migrating.{MayRenew}
+use Rattle.plan_migrations.specs.Schemas.{IsKnownVersion, ShowsVersion}
+use Rattle.plan_migrations.proofs.ReadLemmas.{current_migrated, current_unmigrated, first_migrated, first_unmigrated}
+use Rattle.plan_migrations.proofs.ReadLemmas.{renews_since}
+use Rattle.plan_migrations.proofs.TurnLemmas.{kept_since, same_if_version, told_some}
 use Rattle.plan_migrations.proofs.migrating.migrate.Goals as goal
 
 pub check_tables-requires-clause-open : goal.check_tables-requires-clause-open
@@ -12,7 +15,15 @@ check_tables-requires-clause-open g c clean =
     let mid = state g.S.Store c.version.new.conn in
     let told = told_some old mid c.in-Ok-Some.field-0 c.in-Ok-Some.found c.in-Ok-Some.field-0-is
     (c.in-Ok-Some.ensures.tells clean) in
-    (same_if_known old mid told.1).0.is_open
+    (same_if_version old mid c.in-Ok-Some.found told.1).0.is_open
+
+pub renew-requires-clause-open : goal.renew-requires-clause-open
+renew-requires-clause-open g c clean =
+    let old = state g.S.Store c.args.conn.now in
+    let mid = state g.S.Store c.version.new.conn in
+    let told = told_some old mid c.in-Ok-Some.field-0 c.in-Ok-Some.found c.in-Ok-Some.field-0-is
+    (c.in-Ok-Some.ensures.tells clean) in
+    (same_if_version old mid c.in-Ok-Some.found told.1).0.is_open
 
 pub returns-in-Ok-clause-migrated : goal.returns-in-Ok-clause-migrated
 returns-in-Ok-clause-migrated g c clean =
@@ -21,14 +32,7 @@ returns-in-Ok-clause-migrated g c clean =
     let new = state g.S.Store c.check_tables.new.conn in
     let told = told_some old mid c.in-Ok-Some.field-0 c.in-Ok-Some.found c.in-Ok-Some.field-0-is
     (c.in-Ok-Some.ensures.tells (omega (arith, c.check_tables.ensures.crash.clean, clean))) in
-    let checked = c.in-Ok.ensures.checked clean in
-    let same = same_if_known old mid told.1 in
-    inr (
-      told.0,
-      told.0,
-      known_until old mid new told.1 checked.0,
-      All-weaker (IsOfSchema mid new) (IsOfSchema old new) (of_schema_since old mid new same) all_tables checked.1,
-    )
+    current_migrated old mid new c.in-Ok-Some.found told c.if-found-eq-SCHEMA_VERSION.true (c.in-Ok.ensures.checked clean)
 
 pub returns-in-Err-check_tables-clause-unmigrated : goal.returns-in-Err-check_tables-clause-unmigrated
 returns-in-Err-check_tables-clause-unmigrated g c clean =
@@ -37,8 +41,9 @@ returns-in-Err-check_tables-clause-unmigrated g c clean =
     let new = state g.S.Store c.check_tables.new.conn in
     let told = told_some old mid c.in-Ok-Some.field-0 c.in-Ok-Some.found c.in-Ok-Some.field-0-is
     (c.in-Ok-Some.ensures.tells (omega (arith, c.check_tables.ensures.crash.clean, clean))) in
-    unmigrated old mid new told.1 c.version.ensures.crash.counts c.version.ensures.crash.limit all_tables
-    c.in-Err-check_tables.fault (c.in-Err-check_tables.ensures.checked clean)
+    current_unmigrated old mid new c.in-Ok-Some.found told c.if-found-eq-SCHEMA_VERSION.true
+    c.version.ensures.crash.counts c.version.ensures.crash.limit c.in-Err-check_tables.fault
+    (c.in-Err-check_tables.ensures.checked clean)
 
 pub returns-in-Err-check_tables-clause-kept : goal.returns-in-Err-check_tables-clause-kept
 returns-in-Err-check_tables-clause-kept g c clean =
@@ -47,4 +52,53 @@ returns-in-Err-check_tables-clause-kept g c clean =
     let new = state g.S.Store c.check_tables.new.conn in
     let told = told_some old mid c.in-Ok-Some.field-0 c.in-Ok-Some.found c.in-Ok-Some.field-0-is
     (c.in-Ok-Some.ensures.tells (omega (arith, c.check_tables.ensures.crash.clean, clean))) in
-    kept_since old mid new (same_if_known old mid told.1) (c.check_tables.ensures.kept clean)
+    kept_since old mid new (same_if_version old mid c.in-Ok-Some.found told.1) (c.check_tables.ensures.kept clean)
+
+pub returns-in-Ok-renew-clause-migrated : goal.returns-in-Ok-renew-clause-migrated
+returns-in-Ok-renew-clause-migrated g c clean =
+    let old = state g.S.Store c.args.conn.now in
+    let mid = state g.S.Store c.version.new.conn in
+    let new = state g.S.Store c.renew.new.conn in
+    let told = told_some old mid c.in-Ok-Some.field-0 c.in-Ok-Some.found c.in-Ok-Some.field-0-is
+    (c.in-Ok-Some.ensures.tells (omega (arith, c.renew.ensures.crash.clean, clean))) in
+    first_migrated old mid new c.in-Ok-Some.found told c.if-found-eq-SCHEMA_VERSION.false
+    (c.in-Ok-renew.ensures.renewed clean)
+
+pub returns-in-Err-renew-clause-unmigrated : goal.returns-in-Err-renew-clause-unmigrated
+returns-in-Err-renew-clause-unmigrated g c clean =
+    let old = state g.S.Store c.args.conn.now in
+    let mid = state g.S.Store c.version.new.conn in
+    let new = state g.S.Store c.renew.new.conn in
+    let told = told_some old mid c.in-Ok-Some.field-0 c.in-Ok-Some.found c.in-Ok-Some.field-0-is
+    (c.in-Ok-Some.ensures.tells (omega (arith, c.renew.ensures.crash.clean, clean))) in
+    first_unmigrated old mid new c.in-Ok-Some.found told c.version.ensures.crash.counts c.version.ensures.crash.limit
+    c.in-Err-renew.fault (c.in-Err-renew.ensures.unrenewed clean)
+
+pub returns-in-Err-renew-clause-kept : goal.returns-in-Err-renew-clause-kept
+returns-in-Err-renew-clause-kept g c clean =
+    let old = state g.S.Store c.args.conn.now in
+    let mid = state g.S.Store c.version.new.conn in
+    let new = state g.S.Store c.renew.new.conn in
+    let told = told_some old mid c.in-Ok-Some.field-0 c.in-Ok-Some.found c.in-Ok-Some.field-0-is
+    (c.in-Ok-Some.ensures.tells (omega (arith, c.renew.ensures.crash.clean, clean))) in
+    kept_since old mid new (same_if_version old mid c.in-Ok-Some.found told.1) (c.in-Err-renew.ensures.kept clean)
+
+pub returns-in-Ok-renew-clause-crash : goal.returns-in-Ok-renew-clause-crash
+returns-in-Ok-renew-clause-crash g c =
+    let old = state g.S.Store c.args.conn.now in
+    let mid = state g.S.Store c.version.new.conn in
+    let new = state g.S.Store c.renew.new.conn in
+    survives_then old mid new (λ _. ⊥) (MayRenew mid) (MayRenew old) (λ _ db none. absurd none)
+    (λ clean db h. renews_since old mid c.in-Ok-Some.found (told_some old mid c.in-Ok-Some.field-0 c.in-Ok-Some.found
+    c.in-Ok-Some.field-0-is (c.in-Ok-Some.ensures.tells (omega (arith, c.renew.ensures.crash.clean, clean)))).1 db h)
+    c.version.ensures.crash c.renew.ensures.crash
+
+pub returns-in-Err-renew-clause-crash : goal.returns-in-Err-renew-clause-crash
+returns-in-Err-renew-clause-crash g c =
+    let old = state g.S.Store c.args.conn.now in
+    let mid = state g.S.Store c.version.new.conn in
+    let new = state g.S.Store c.renew.new.conn in
+    survives_then old mid new (λ _. ⊥) (MayRenew mid) (MayRenew old) (λ _ db none. absurd none)
+    (λ clean db h. renews_since old mid c.in-Ok-Some.found (told_some old mid c.in-Ok-Some.field-0 c.in-Ok-Some.found
+    c.in-Ok-Some.field-0-is (c.in-Ok-Some.ensures.tells (omega (arith, c.renew.ensures.crash.clean, clean)))).1 db h)
+    c.version.ensures.crash c.renew.ensures.crash

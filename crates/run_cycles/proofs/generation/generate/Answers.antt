@@ -1,5 +1,5 @@
 use Rattle.std.proofs.Common.{◌≤◌, List, length, sym, subst}
-use Rattle.work_calendars.specs.Day.{last_planning_day}
+use Rattle.work_calendars.specs.Day.{last_kept_day}
 use Rattle.work_calendars.specs.WorkIndex.{is_work_in}
 use Rattle.std.specs.Prelude.{All}
 use Rattle.run_cycles.specs.declared.namings.Naming.{Naming}
@@ -10,9 +10,9 @@ use Rattle.run_cycles.proofs.generation.generate.Goals as goal
 
 pub all_decided-requires-clause-planned : goal.all_decided-requires-clause-planned
 all_decided-requires-clause-planned c =
-    let P : List Naming → Type 0 = λ l. All (λ x. x.day ≤ last_planning_day) l in
+    let P : List Naming → Type 0 = λ l. All (λ x. x.day ≤ last_kept_day) l in
     subst P (sym c.deref.ensures.value) (all_planned c.args.from
-    c.args.to last_planning_day c.requires.planned c.in_ok-namings.namings.items (λ x h. let n =
+    c.args.to last_kept_day c.requires.planned c.in_ok-namings.namings.items (λ x h. let n =
     (c.in_ok-namings.ensures.each x).0 h in (n.0, n.1)))
 
 pub returns : goal.returns

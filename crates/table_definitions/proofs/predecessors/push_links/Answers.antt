@@ -1,5 +1,5 @@
-use Rattle.std.proofs.Common.{arith, subst, [], ◌∷◌}
-use Rattle.sqlite.specs.declared.types.Value.TheVariants.{Text}
+use Rattle.std.proofs.Common.{arith, subst}
+use Rattle.table_facts.specs.Facts.{predecessor_values}
 use Rattle.table_definitions.specs.Adding.{Adds, IsOfPlace}
 use Rattle.table_definitions.specs.Parts.{IsLinkRow}
 use Rattle.table_definitions.proofs.AddLemmas.{adds_step, get_at, row_added}
@@ -10,7 +10,7 @@ loop-name-preserved c = adds_step (λ _. IsLinkRow c.args.app.now) c.args.names.
     c.name-item.result c.args.rows.now.items c.loop-name.rows.items c.push.new.self.items
     (get_at c.args.names.now c.loop-name.name-index c.name-item.result c.loop-name-test.true c.name-item.is)
     c.loop-name.invariant
-    (row_added (Text c.args.app.now ∷ Text c.name-item.result ∷ []) c.in_ok-row.row c.loop-name.rows.items
+    (row_added (predecessor_values c.args.app.now c.name-item.result) c.in_ok-row.row c.loop-name.rows.items
     c.push.new.self.items c.in_ok-row.ensures
     c.in_ok-push.ensures.items)
 

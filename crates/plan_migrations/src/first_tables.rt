@@ -1,0 +1,102 @@
+// The tables of schema 1.
+
+ghost use Rattle.std.specs.Prelude.{◌≡◌, ◌↔◌, false, IfErr, IfOk, IsTrue, OnOk};
+ghost use Rattle.std.specs.List.{All};
+ghost use Rattle.sqlite.specs.State.{HasCleanDisk, IsUnchanged, Survives};
+ghost use Rattle.sqlite.specs.Held.{state};
+ghost use Rattle.table_remaking.specs.FirstSchema.{first_schema};
+ghost use Rattle.plan_migrations.specs.Asking.{IsKept};
+ghost use Rattle.plan_migrations.specs.Schemas.{HasNoMore};
+ghost use Rattle.plan_migrations.specs.Migrating.{AreShown, FailsToRead, FailsToReadAll};
+ghost use Rattle.table_remaking.specs.Remaking.{AreAllFirst, tables_in};
+ghost use Rattle.table_remaking.specs.Types.{AreFirst};
+
+use crate::asking::ask;
+use crate::faults::MigrateFault;
+use sqlite::{Alter, Connection, Error};
+use sqlite_schema::schema::Schema;
+use std::alloc::Global;
+use table_opening::extends_schema;
+use table_remaking::{FirstRows, are_first, first_select_text, make_first_tables};
+use table_schema::Table;
+
+// Whether the schema has the tables and indexes of the other, and nothing else.
+fn has_no_more(a: &Schema, b: &Schema) -> bool
+    ensures { IsTrue result ↔ HasNoMore a.now b.now }
+{
+    extends_schema(a, b)
+        && a.tables.len() == b.tables.len()
+        && a.indexes.len() == b.indexes.len()
+        && a.views.is_empty()
+}
+
+/// Whether the database has the tables of schema 1, and nothing else.
+pub(crate) fn has_first_tables<S: Alter>(alloc: Global, conn: &Connection<S>) -> Result<bool, Error>
+    ensures { IfOk result (λ b. IsTrue b ↔ ((state S.Store conn.now).now.schema ≡ first_schema)) }
+{
+    let mut made = Connection::open_in_memory(alloc)?;
+    make_first_tables(&mut made)?;
+    Ok(has_no_more(conn.schema(), made.schema()))
+}
+
+// Reads the rows of the table.
+fn read_table<S: Alter>(conn: &mut Connection<S>, table: Table) -> Result<FirstRows, MigrateFault>
+    requires { conn.old.in_transaction ≡ false }
+    ensures named { IfOk result (λ read. read.table ≡ table) }
+    ensures typed { IfOk result (λ read. AreFirst read.table read.rows.items) }
+    ensures shown { HasCleanDisk (state S.Store conn.new)
+        → IfOk result (AreShown (state S.Store conn.old) (state S.Store conn.new)) }
+    ensures same { HasCleanDisk (state S.Store conn.new)
+        → OnOk result (IsUnchanged (state S.Store conn.old) (state S.Store conn.new)) }
+    ensures unread { HasCleanDisk (state S.Store conn.new)
+        → IfErr result (FailsToRead (state S.Store conn.old) (state S.Store conn.new) table) }
+    ensures kept { HasCleanDisk (state S.Store conn.new)
+        → IsKept (state S.Store conn.old) (state S.Store conn.new) }
+    ensures mode { conn.new.in_transaction ≡ false }
+    ensures crash { Survives (state S.Store conn.old) (state S.Store conn.new) (λ _. ⊥) }
+{
+    match ask(conn, first_select_text(table)) {
+        Ok(Some(rows)) => if are_first(table, &rows) {
+            Ok(FirstRows { table, rows })
+        } else {
+            Err(MigrateFault::OtherTable)
+        },
+        Ok(None) => Err(MigrateFault::OtherTable),
+        Err(fault) => Err(fault),
+    }
+}
+
+/// Reads the rows of the tables, up to the first that is another.
+pub(crate) fn read_tables<S: Alter>(
+    alloc: Global,
+    conn: &mut Connection<S>,
+    tables: &[Table],
+) -> Result<Vec<FirstRows>, MigrateFault>
+    requires mode { conn.old.in_transaction ≡ false }
+    requires open { HasCleanDisk (state S.Store conn.old) → IsTrue (state S.Store conn.old).is_open }
+    ensures whole { IfOk result (λ reads. tables_in reads.items ≡ tables.now) }
+    ensures typed { IfOk result (λ reads. AreAllFirst reads.items) }
+    ensures shown { HasCleanDisk (state S.Store conn.new)
+        → IfOk result (λ reads. All (AreShown (state S.Store conn.old) (state S.Store conn.new))
+        reads.items) }
+    ensures same { HasCleanDisk (state S.Store conn.new)
+        → OnOk result (IsUnchanged (state S.Store conn.old) (state S.Store conn.new)) }
+    ensures unread { HasCleanDisk (state S.Store conn.new)
+        → IfErr result (FailsToReadAll (state S.Store conn.old) (state S.Store conn.new)) }
+    ensures kept { HasCleanDisk (state S.Store conn.new)
+        → IsKept (state S.Store conn.old) (state S.Store conn.new) }
+    ensures mode { conn.new.in_transaction ≡ false }
+    ensures crash { Survives (state S.Store conn.old) (state S.Store conn.new) (λ _. ⊥) }
+{
+    let mut reads = Vec::new(alloc);
+    for table in tables {
+        match read_table(conn, *table) {
+            Ok(read) => match reads.push(read) {
+                Ok(()) => {}
+                Err(_) => return Err(MigrateFault::Memory),
+            },
+            Err(fault) => return Err(fault),
+        }
+    }
+    Ok(reads)
+}

@@ -1,0 +1,104 @@
+// The tables of schema 1 are made those of the current schema.
+
+ghost use Rattle.std.specs.Prelude.{◌≡◌, ◌⊎◌, false, IfErr, IsTrue, OnErr, OnOk};
+ghost use Rattle.sqlite.specs.State.{HasCleanDisk, Survives};
+ghost use Rattle.sqlite.specs.Held.{state};
+ghost use Rattle.table_remaking.specs.FirstSchema.{first_schema};
+ghost use Rattle.plan_migrations.specs.Asking.{IsKept};
+ghost use Rattle.table_schema.specs.Rows.{tables_of};
+ghost use Rattle.table_remaking.specs.Remaking.{AreAllFirst, AreRemade, AreWhole};
+ghost use Rattle.plan_migrations.specs.Migrating.{FailsToRemake, IsRemade, IsRenewed, IsUnrenewed};
+ghost use Rattle.plan_migrations.specs.Migrating.{MayRenew, TellsOf};
+
+use crate::faults::MigrateFault;
+use crate::first_tables::{has_first_tables, read_tables};
+use crate::tables::TABLES;
+use sqlite::{Alter, Connection, Error};
+use std::alloc::Global;
+use table_opening::{OpenFault, fault_for};
+use table_remaking::{FirstRows, remake_tables};
+
+// The fault of tables that are not made anew.
+fn renew_fault(error: &Error) -> MigrateFault
+    ensures { TellsOf error.now result }
+{
+    match fault_for(error, OpenFault::Unopened) {
+        OpenFault::Memory => MigrateFault::Memory,
+        OpenFault::Device => MigrateFault::Device,
+        _ => MigrateFault::OtherTable,
+    }
+}
+
+// Makes the tables anew with the rows that were read.
+fn remake<S: Alter>(
+    alloc: Global,
+    conn: &mut Connection<S>,
+    reads: &[FirstRows],
+) -> Result<(), MigrateFault>
+    requires mode { conn.old.in_transaction ≡ false }
+    requires whole { AreWhole reads.now }
+    requires typed { AreAllFirst reads.now }
+    ensures remade { HasCleanDisk (state S.Store conn.new)
+        → (state S.Store conn.old).now.schema ≡ first_schema
+        → OnOk result (IsRemade reads.now (state S.Store conn.new)) }
+    ensures failed { HasCleanDisk (state S.Store conn.new)
+        → (state S.Store conn.old).now.schema ≡ first_schema
+        → IfErr result (FailsToRemake (state S.Store conn.old) (state S.Store conn.new)) }
+    ensures kept { HasCleanDisk (state S.Store conn.new)
+        → (state S.Store conn.old).now.schema ≡ first_schema
+        → OnErr result (IsKept (state S.Store conn.old) (state S.Store conn.new)) }
+    ensures mode { conn.new.in_transaction ≡ false }
+    ensures crash { Survives (state S.Store conn.old) (state S.Store conn.new)
+        (λ db. (state S.Store conn.old).now.schema ≡ first_schema
+        → AreRemade reads.now (tables_of db)) }
+{
+    match remake_tables(conn, alloc, reads) {
+        Ok(()) => Ok(()),
+        Err(error) => Err(renew_fault(&error)),
+    }
+}
+
+// The same with the rows that the tables have.
+fn renew_first<S: Alter>(alloc: Global, conn: &mut Connection<S>) -> Result<(), MigrateFault>
+    requires mode { conn.old.in_transaction ≡ false }
+    requires first { (state S.Store conn.old).now.schema ≡ first_schema }
+    requires open { HasCleanDisk (state S.Store conn.old) → IsTrue (state S.Store conn.old).is_open }
+    ensures renewed { HasCleanDisk (state S.Store conn.new)
+        → OnOk result (IsRenewed (state S.Store conn.old) (state S.Store conn.new)) }
+    ensures unrenewed { HasCleanDisk (state S.Store conn.new)
+        → IfErr result (IsUnrenewed (state S.Store conn.old) (state S.Store conn.new)) }
+    ensures kept { HasCleanDisk (state S.Store conn.new)
+        → OnErr result (IsKept (state S.Store conn.old) (state S.Store conn.new)) }
+    ensures mode { conn.new.in_transaction ≡ false }
+    ensures crash { Survives (state S.Store conn.old) (state S.Store conn.new)
+        (MayRenew (state S.Store conn.old)) }
+{
+    match read_tables(alloc, conn, &TABLES) {
+        Ok(reads) => remake(alloc, conn, &reads),
+        Err(fault) => Err(fault),
+    }
+}
+
+/// Makes the tables of schema 1 those of the current schema, with their rows, all of them or none.
+pub(crate) fn renew<S: Alter>(alloc: Global, conn: &mut Connection<S>) -> Result<(), MigrateFault>
+    requires mode { conn.old.in_transaction ≡ false }
+    requires open { HasCleanDisk (state S.Store conn.old) → IsTrue (state S.Store conn.old).is_open }
+    ensures renewed { HasCleanDisk (state S.Store conn.new)
+        → OnOk result (IsRenewed (state S.Store conn.old) (state S.Store conn.new)) }
+    ensures unrenewed { HasCleanDisk (state S.Store conn.new)
+        → IfErr result (IsUnrenewed (state S.Store conn.old) (state S.Store conn.new)) }
+    ensures kept { HasCleanDisk (state S.Store conn.new)
+        → OnErr result (IsKept (state S.Store conn.old) (state S.Store conn.new)) }
+    ensures mode { conn.new.in_transaction ≡ false }
+    ensures crash { Survives (state S.Store conn.old) (state S.Store conn.new)
+        (MayRenew (state S.Store conn.old)) }
+{
+    match has_first_tables(alloc, conn) {
+        Ok(is_first) => if is_first {
+            renew_first(alloc, conn)
+        } else {
+            Err(MigrateFault::OtherTable)
+        },
+        Err(_) => Err(MigrateFault::Memory),
+    }
+}

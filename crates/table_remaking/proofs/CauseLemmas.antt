@@ -1,0 +1,270 @@
+-- An error that tells of the device, or that the connection is shut, has that cause.
+use Rattle.std.proofs.Common.{◌≡◌, ◌≢◌, ◌≤◌, ◌⊎◌, ◌∙◌, ℕ, ℤ, Bool, fold, true, false, true≢false, inl, inr, List, [], ◌∷◌, Option, Some, None, IsTrue}
+use Rattle.std.proofs.Common.{Result, Ok, Err, append-nil, option_map, refl, sym, ap, subst, arith, slice_get}
+use Rattle.std.specs.Prelude.{MatchBool, if◌then◌else◌}
+use Rattle.sqlite.specs.Clock.{timed}
+use Rattle.sqlite.specs.Command.{Command}
+use Rattle.sqlite.specs.Command.TheVariants.{Begin, Commit, CreateTable, DropTable, Insert, Release, Rollback, RollbackTo}
+use Rattle.sqlite.specs.Does.{AtPlace, Concludes, Does, Drops, Empties, HoldWithout, MakesSequence, MakesTable, OnRows, Tested}
+use Rattle.sqlite.specs.Does.{UncountsIn, is_acted_on, lacks_sequence, sequence_text}
+use Rattle.sqlite.specs.Edit.{Edit, edit_of}
+use Rattle.sqlite.specs.Effect.{Database, edit_error, is_query}
+use Rattle.sqlite.specs.Listing.{understood}
+use Rattle.sqlite.specs.Order.{Row}
+use Rattle.sqlite.specs.Rows.{Counter, CounterIn, Counts, CountsIn, Edited, Gives, Inserts, Part, Refuses, Sourced, Task, Then}
+use Rattle.sqlite.specs.Rows.{Written, count_of, counting, higher, rowids_for, sequence, stamped}
+use Rattle.sqlite.specs.Rowids.TheVariants.{Given}
+use Rattle.sqlite_rules.specs.Calls.{ids_of}
+use Rattle.sqlite_schema.specs.Rules.{Refers}
+use Rattle.std.specs.Option.{option_to_list}
+use Rattle.std.specs.Ordering.{int_cmp, is_lt}
+use Rattle.sqlite.specs.Schema.{Schema}
+use Rattle.sqlite.specs.Source.TheVariants.{Values}
+use Rattle.sqlite.specs.State.{State, EndsScope, ExecutesIn, ExecutesInside, Fails, HasCause, IsMisplaced, IsNotRun, IsUnchanged}
+use Rattle.sqlite.specs.State.{RunsCommand, is_pragma, mode_of, shows_rows, store_error, text_of}
+use Rattle.sqlite.specs.Steps.{FailsToCommit}
+use Rattle.sqlite.specs.Table.{Table as Described}
+use Rattle.sqlite.specs.Term.{Term}
+use Rattle.sqlite.specs.Tree.{Trees}
+use Rattle.sqlite.specs.declared.error.Error.{Error}
+use Rattle.sqlite.specs.declared.error.Error.TheVariants.{InvalidQuery}
+use Rattle.sqlite.specs.declared.run.Mode.{Mode}
+use Rattle.sqlite.proofs.Callers.{IsPlain, command_of, statement_of}
+use Rattle.sqlite_catalog.specs.declared.error.Refusal.{Refusal as Altered}
+use Rattle.sqlite_catalog.specs.declared.error.Refusal.TheVariants as altered
+use Rattle.sqlite_resolve.specs.declared.compiled.Compiled.{Compiled}
+use Rattle.sqlite_rules.specs.declared.error.Refusal.{Refusal}
+use Rattle.sqlite_rules.specs.declared.error.Refusal.TheVariants.{BadReference, Mismatch, NoRowid, TooDeep, Violates}
+use Rattle.sqlite_schema.specs.declared.schema.Among.{Among}
+use Rattle.sqlite_schema.specs.declared.schema.Keys.{Keys}
+use Rattle.sqlite_trees.specs.declared.error.StoreError.{StoreError}
+use Rattle.sqlite_trees.specs.declared.error.StoreError.TheVariants.{Broken, Corrupt, Full, Io, OutOfMemory, Unstorable}
+use Rattle.table_schema.specs.Rows.{MayFail}
+use Rattle.table_remaking.specs.Turns.{DeviceHasCause, is_of_device}
+
+-- ---- causes
+
+-- the error tells of something else
+pub elsewhere : (a b : State) (e : Error) → is_of_device e ≡ false → DeviceHasCause a b e
+elsewhere a b e none is = absurd (true≢false (sym is ∙ none))
+
+by_store : (a b : State) (X : Type 0) (cause : StoreError) (e : Error) → e ≡ store_error cause → HasCause a b X cause
+    → DeviceHasCause a b e
+by_store a b X OutOfMemory e same h = elsewhere a b e (ap is_of_device same)
+by_store a b X Io e same h = λ _. inl h
+by_store a b X Corrupt e same h = λ _. inl h
+by_store a b X Full e same h = λ _. inl h
+by_store a b X Broken e same h = λ _. inr h
+by_store a b X Unstorable e same h = elsewhere a b e (ap is_of_device same)
+
+pub by_may : (a b : State) (e : Error) → MayFail a b e → DeviceHasCause a b e
+by_may a b e (inl h) = by_store a b ⊥ h.0 e h.1 h.2
+by_may a b e (inr h) = elsewhere a b e (ap is_of_device h.0)
+
+-- what caused it has caused it later too
+pub cause_before : (a b c : State) (e : Error) → b.faults ≤ c.faults → DeviceHasCause a b e → DeviceHasCause a c e
+cause_before a b c e more h is = elim (h is) [ inl m ↦ inl (omega (arith, more, m)) | inr shut ↦ inr shut ]
+
+-- and what causes it once the connection was open causes it since before
+pub cause_after : (a b c : State) (e : Error) → a.faults ≤ b.faults → IsTrue b.is_open → DeviceHasCause b c e
+    → DeviceHasCause a c e
+cause_after a b c e more stays h is =
+    elim (h is) [ inl m ↦ inl (omega (arith, more, m)) | inr shut ↦ absurd (true≢false (sym stays ∙ shut)) ]
+
+pub by_commit : (a b : State) (e : Error) → FailsToCommit a b e → DeviceHasCause a b e
+by_commit a b e (inl h) = by_store a b ⊥ h.0 e h.1 h.2
+by_commit a b e (inr h) = elsewhere a b e (ap is_of_device h.0)
+
+-- ---- what a database refuses is told by other errors
+
+abbrev Tame : {A : Type 0} → Part A → Type 0
+Tame P = (e : Error) → P (Err (Some e)) → is_of_device e ≡ false
+
+gives : {A : Type 0} (a : A) → Tame (Gives a)
+gives a e h = absurd cc
+
+refuses : {A : Type 0} (d : Error) → is_of_device d ≡ false → Tame {A = A} (Refuses d)
+refuses d none e h = let same : e ≡ d = cc in ap is_of_device same ∙ none
+
+from_stop : {A B : Type 0} (P : Part A) → Tame P → (stop : Option Error) (e : Error)
+    → ◌≡◌ {A = Result B (Option Error)} (Err (Some e)) (Err stop) → P (Err stop) → is_of_device e ≡ false
+from_stop P tame None e same h = absurd cc
+from_stop P tame (Some d) e same h = let is : e ≡ d = cc in ap is_of_device is ∙ tame d h
+
+if_so : {A : Type 0} (b : Bool) (P Q : Part A) → Tame P → Tame Q → Tame (λ out. MatchBool b (P out) (Q out))
+if_so true P Q one two e h = one e h
+if_so false P Q one two e h = two e h
+
+by_edit : (why : Refusal) → is_of_device (edit_error why) ≡ false
+by_edit (Violates rule) = refl
+by_edit Mismatch = refl
+by_edit BadReference = refl
+by_edit NoRowid = refl
+by_edit TooDeep = refl
+
+edited : (schema : Schema) (keys : Keys) (db : Trees) (edit : Edit) → Tame (Edited schema keys db edit)
+edited schema keys db edit e (None, h, same) = absurd cc
+edited schema keys db edit e (Some why, h, same) =
+    let is : e ≡ edit_error why = cc in ap is_of_device is ∙ by_edit why
+
+tested : (mode : Mode) (Holds : Among → Type 0) → Tame (Tested mode Holds)
+tested mode Holds e (not, same) = let is = same in (ap (λ (o : Option Error). told o) is)
+  where
+    told : Option Error → Bool
+    told None = false
+    told (Some d) = is_of_device d
+
+sourced : (limit : Option ℕ) (db : Database) (params : Row) (terms : List Term) (width : ℕ)
+    → Tame (Sourced limit db params (Values terms width))
+sourced limit db params terms width e (inl h) = ap is_of_device h.0
+sourced limit db params terms width e (inr h) = ap is_of_device h.0
+
+by_alter : (why : Altered) (e : Error) → e ≡ Rattle.sqlite.specs.Effect.alter_error why → is_of_device e ≡ false
+by_alter (altered.Invalid c) e same = ap is_of_device same
+by_alter altered.NameTaken e same = ap is_of_device same
+by_alter altered.BadName e same = ap is_of_device same
+by_alter altered.BadKey e same = ap is_of_device same
+by_alter altered.BadText e same = ap is_of_device same
+by_alter altered.TooBig e same = ap is_of_device same
+by_alter (altered.Violates rule) e same = ap is_of_device same
+
+makes_table : (text : List ℕ) (db : Database) → Tame (MakesTable text db)
+makes_table text db e (inl h) = ap is_of_device h.1
+makes_table text db e (inr h) = by_alter h.0 e h.2
+
+module _ (task : Task) where
+  counter_in : (db : Trees) (o : Option Described) → Tame (CounterIn task db o)
+  counter_in db None = refuses InvalidQuery refl
+  counter_in db (Some t) = gives (Rattle.sqlite.specs.Rows.counter_in db task.table t)
+
+  counted : (db : Trees) → Tame (Counter task db)
+  counted db = if_so task.table.is_counted (CounterIn task db (sequence task.schema)) (Gives None)
+      (counter_in db (sequence task.schema)) (gives None)
+
+  counts_in : (db : Trees) (counter : Option Row) (top : ℤ) (o : Option Described) → Tame (CountsIn task db counter top o)
+  counts_in db counter top None = refuses InvalidQuery refl
+  counts_in db counter top (Some t) = edited task.schema task.keys db (counting db task.table t top counter)
+
+  counts : (db : Trees) (counter : Option Row) (top : ℤ) → Tame (Counts task db counter top)
+  counts db counter top = if_so (if task.table.is_counted then is_lt (int_cmp (count_of counter) top) else false) (CountsIn task db counter top (sequence task.schema)) (Gives db)
+      (counts_in db counter top (sequence task.schema)) (gives db)
+
+  abbrev edit_for : Trees → Option Row → List Row → Edit
+  edit_for db counter rows = edit_of db task.table [] (rowids_for task.table (count_of counter)) 0 rows
+
+  inserted : (terms : List Term) (width : ℕ) (db : Trees) → Tame (Inserts task (Values terms width) db)
+  inserted terms width db e (inl (stop, h, same)) = from_stop (Sourced task.limit (record {
+    schema = task.schema;
+    trees = db;
+  }) (stamped task.table task.params) (Values terms width)) (sourced task.limit (record {
+    schema = task.schema;
+    trees = db;
+  }) (stamped task.table task.params) terms width) stop e same h
+  inserted terms width db e (inr (rows, ok, inl (stop, h, same))) = from_stop (Counter task db) (counted db) stop e same h
+  inserted terms width db e (inr (rows, ok, inr (counter, found, inl (stop, h, same)))) =
+      from_stop (Edited task.schema task.keys db (edit_for db counter rows))
+      (edited task.schema task.keys db (edit_for db counter rows)) stop e same h
+  inserted terms width db e (inr (rows, ok, inr (counter, found, inr (mid, put, inl (stop, h, same))))) =
+      from_stop (Counts task mid counter (fold higher (count_of counter) (edit_for db counter rows).news))
+      (counts mid counter (fold higher (count_of counter) (edit_for db counter rows).news)) stop e same h
+  inserted terms width db e (inr (rows, ok, inr (counter, found, inr (mid, put, inr (next, done, h))))) = absurd cc
+
+  concluded : (mode : Mode) (w : Written) → Tame (Concludes task mode None w)
+  concluded mode w e (inl (stop, h, same)) =
+      from_stop (Tested mode (λ among. Refers among task.schema w.trees))
+      (tested mode (λ among. Refers among task.schema w.trees)) stop e same h
+  concluded mode w e (inr (doubt, ok, inl (stop, h, same))) = absurd cc
+  concluded mode w e (inr (doubt, ok, inr (rows, none, h))) = absurd cc
+
+  emptied : (db : Trees) → Tame (Empties task db)
+  emptied db = if_so (is_acted_on task.schema task.keys task.table)
+      (Edited task.schema task.keys db (edit_of db task.table (ids_of (db task.table.tree)) Given 0 [])) (Gives db)
+      (edited task.schema task.keys db (edit_of db task.table (ids_of (db task.table.tree)) Given 0 [])) (gives db)
+
+  uncounted_in : (db : Trees) (o : Option Described) → Tame (UncountsIn task db o)
+  uncounted_in db None e h = gives db e h
+  uncounted_in db (Some t) e (inl (stop, h, same)) = from_stop (Counter task db) (counted db) stop e same h
+  uncounted_in db (Some t) e (inr (counter, ok, h)) =
+      edited task.schema task.keys db (edit_of db t (ids_of (option_to_list counter)) Given 0 []) e h
+
+  dropped : (mode : Mode) (db : Trees) → Tame (Drops task mode db)
+  dropped mode db e (inl (stop, h, same)) = from_stop (Empties task db) (emptied db) stop e same h
+  dropped mode db e (inr (now, ok, inl (stop, h, same))) =
+      from_stop (UncountsIn task now (if task.table.is_counted then sequence task.schema else None))
+      (uncounted_in now (if task.table.is_counted then sequence task.schema else None)) stop e same h
+  dropped mode db e (inr (now, ok, inr (left, ok2, inl (stop, h, same)))) =
+      from_stop (Tested mode (HoldWithout task left)) (tested mode (HoldWithout task left)) stop e same h
+  dropped mode db e (inr (now, ok, inr (left, ok2, inr (doubt, ok3, inl (None, h, same))))) = absurd h
+  dropped mode db e (inr (now, ok, inr (left, ok2, inr (doubt, ok3, inl (Some d, h, same))))) = absurd h
+  dropped mode db e (inr (now, ok, inr (left, ok2, inr (doubt, ok3, inr (after, ok4, h))))) = absurd cc
+
+module _ (limit : Option ℕ) (mode : Mode) (params : Row) (db : Database) (text : List ℕ) where
+  abbrev task_for : Described → Task
+  task_for table = record { limit = limit; keys = mode.keys; schema = db.schema; table = table; params = params }
+
+  on_rows : (task : Task) (terms : List Term) (width : ℕ) → Tame (OnRows task mode None (Insert 0 (Values terms width)) db.trees)
+  on_rows task terms width e (inl (stop, h, same)) = from_stop (Inserts task (Values terms width) db.trees)
+      (inserted task terms width db.trees) stop e same h
+  on_rows task terms width e (inr (w, ok, h)) = concluded task mode w e h
+
+  inserts_at : (o : Option Described) (at : ℕ) (terms : List Term) (width : ℕ)
+      → Tame (AtPlace (λ (table : Described). OnRows (task_for table) mode None (Insert at (Values terms width)) db.trees) o)
+  inserts_at None at terms width = refuses InvalidQuery refl
+  inserts_at (Some table) at terms width = on_rows (task_for table) terms width
+
+  pub tame_insert : (at : ℕ) (terms : List Term) (width : ℕ) → Tame (Does limit mode params db text None (Insert at (Values terms width)))
+  tame_insert at terms width = inserts_at (slice_get db.schema.tables at) at terms width
+
+  drops_at : (o : Option Described) → Tame (AtPlace (λ (table : Described). Drops (task_for table) mode db.trees) o)
+  drops_at None = refuses InvalidQuery refl
+  drops_at (Some table) = dropped (task_for table) mode db.trees
+
+  pub tame_drop : (at : ℕ) → Tame (Does limit mode params db text None (DropTable at))
+  tame_drop at = drops_at (slice_get db.schema.tables at)
+
+  sequenced : (made : Database) → Tame (MakesSequence made)
+  sequenced made = if_so (lacks_sequence made.schema) (MakesTable sequence_text made) (Gives made)
+      (makes_table sequence_text made) (gives made)
+
+  made_whole : Tame (Then (MakesTable text db) MakesSequence)
+  made_whole e (inl (stop, h, same)) = from_stop (MakesTable text db) (makes_table text db) stop e same h
+  made_whole e (inr (made, ok, h)) = sequenced made e h
+
+  pub tame_create : Tame (Does limit mode params db text None CreateTable)
+  tame_create e (inl (stop, h, same)) = from_stop (Then (MakesTable text db) MakesSequence) made_whole stop e same h
+  tame_create e (inr (after, ok, h)) = absurd cc
+
+-- ---- a statement
+
+module _ (schema : Schema) (sql : List ℕ) (params : Row) (command : Command) (plain : IsPlain (understood schema sql))
+    (is : command_of (understood schema sql) ≡ command) (query : is_query command ≡ false) (pragma : is_pragma command ≡ false)
+    (tame : (old : State) (text : List ℕ) → Tame (Does old.step_limit (mode_of old) params old.now text None command)) where
+  misplaced : (old : State) (k : Command) (e : Error) → IsMisplaced old k e → is_of_device e ≡ false
+  misplaced old k e (inl (same, h)) = ap is_of_device same
+  misplaced old k e (inr (same, name, h, unnamed)) = ap is_of_device same
+
+  settled : {W X : Type 0} (old new : State) (e : Error) (c : Compiled) (text : List ℕ) → c.command ≡ command
+      → ((IsMisplaced old c.command e ⊎ (W × Does old.step_limit (mode_of old) params old.now text None c.command
+      (Err (Some e)))) × IsUnchanged old new) ⊎ Fails old new X e → DeviceHasCause old new e
+  settled old new e c text same (inl (inl h, still)) = elsewhere old new e (misplaced old c.command e h)
+  settled old new e c text same (inl (inr h, still)) = elsewhere old new e (tame old text e
+      (subst (λ k. Does old.step_limit (mode_of old) params old.now text None k (Err (Some e))) same h.1))
+  settled {W} {X} old new e c text same (inr h) = by_store old new X h.0 e h.1 h.2
+
+  pub by_statement : (old new : State) (e : Error) → old.now.schema ≡ schema → ExecutesInside 0 sql params old new (Err e)
+      → DeviceHasCause old new e
+  unfolding ExecutesIn IsNotRun EndsScope
+  by_statement old new e has (inl (inl (inl (inl h, same)), after)) = elsewhere old new e (ap is_of_device h.2)
+  by_statement old new e has (inl (inl (inl (inr h, same)), after)) = elsewhere old new e (elim h.2 [
+    | inl more ↦ ap is_of_device more.1
+    | inr rest ↦ elim rest [ inl count ↦ ap is_of_device count.1 | inr clock ↦ ap is_of_device clock.1 ]
+  ])
+  by_statement old new e has (inl (inl (inr h), after)) = by_store old new ⊥ h.0 e h.1 h.2
+  by_statement old new e has (inl (inr h, after)) =
+      let known = sym h.1.is ∙ ap (λ s. understood s sql) has in
+      let bare = subst IsPlain (sym known) plain in
+      let same : h.0.command ≡ command = ap command_of known ∙ is in
+      let quiet : shows_rows false h.0 ≡ false = rw (same, bare.0, query, pragma) refl in
+      let runs : RunsCommand old new sql h.0 (timed params h.0.formats h.1.now) (Err e) = rw quiet at h.2 in
+      settled old new e h.0 (text_of sql h.0) same (rw (bare.0, bare.1, append-nil params) at runs)
+  by_statement old new e has (inr h) = elsewhere old new e (ap is_of_device h.1)

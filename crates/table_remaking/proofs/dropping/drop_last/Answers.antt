@@ -1,0 +1,35 @@
+use Rattle.std.proofs.Common.{rules, subst, sym}
+use Rattle.sqlite.specs.Held.{state}
+use Rattle.table_schema.proofs.ResultLemmas.{if_from}
+use Rattle.table_remaking.specs.Turns.{DeviceHasCause}
+use Rattle.table_remaking.proofs.StepLemmas.{drop_cause, loses}
+use Rattle.table_remaking.proofs.dropping.drop_last.Goals as goal
+
+pub returns : goal.returns
+returns g c = record {
+  same_reference = search rules;
+  ok = λ clean has.
+      loses c.args.table (state g.S.Store c.args.tx.now.conn.now) (state g.S.Store c.execute.new.self.conn.now)
+      c.in_ok-execute.field-0 has
+      (rw c.drop_text.ensures at (c.in_ok-execute.ensures.runs clean has.1));
+  device = search rules;
+  stays_open = search rules;
+  kept = search rules;
+  survives = search rules;
+}
+
+pub returns-in_err-execute : goal.returns-in_err-execute
+returns-in_err-execute g c = record {
+  same_reference = search rules;
+  ok = search rules;
+  device = λ clean has.
+      let old = state g.S.Store c.args.tx.now.conn.now in
+      let new = state g.S.Store c.execute.new.self.conn.now in
+      let caused = drop_cause c.args.table old new c.in_err-execute.field-0.0 has
+      (rw c.drop_text.ensures at (c.in_err-execute.ensures.runs clean has.1)) in
+      if_from c.from_residual.result _ _ (λ e same. subst (DeviceHasCause old new) (sym same) caused)
+      c.from_residual.ensures.1;
+  stays_open = search rules;
+  kept = search rules;
+  survives = search rules;
+}

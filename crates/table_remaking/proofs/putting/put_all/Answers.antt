@@ -1,0 +1,69 @@
+use Rattle.std.proofs.Common.{arith, rules, subst, sym}
+use Rattle.std.proofs.lemmas.List.Elements.{All-contains}
+use Rattle.sqlite.specs.Held.{state}
+use Rattle.sqlite.specs.State.{HasCleanDisk}
+use Rattle.sqlite.proofs.InsideLemmas.{keeps_then}
+use Rattle.table_schema.specs.Rows.{Stands, Tables, tables_of}
+use Rattle.table_remaking.specs.Remaking.{with_rows_put}
+use Rattle.table_remaking.specs.Types.{AreFirst}
+use Rattle.table_remaking.specs.declared.rows.FirstRows.{FirstRows}
+use Rattle.table_schema.proofs.ResultLemmas.{if_from}
+use Rattle.table_remaking.specs.Turns.{DeviceHasCause}
+use Rattle.table_remaking.proofs.CauseLemmas.{cause_after}
+use Rattle.table_remaking.proofs.TurnLemmas.{fold_on, item_contains, stands_on, survives_both}
+use Rattle.table_remaking.proofs.putting.put_all.Goals as goal
+
+pub loop-read-preserved : goal.loop-read-preserved
+loop-read-preserved g c =
+    let old = state g.S.Store c.args.tx.now.conn.now in
+    let mid = state g.S.Store c.loop-read.tx.conn.now in
+    let new = state g.S.Store c.put_rows.new.tx.conn.now in
+    let read = c.read-item.result in
+    record {
+      same = search rules;
+      kept = λ clean. keeps_then old mid new (c.loop-read.invariant.kept (omega
+          (arith, c.put_rows.ensures.writes.survives.clean))) (c.put_rows.ensures.writes.kept clean);
+      survives = survives_both old mid new c.loop-read.invariant.survives c.put_rows.ensures.writes.survives;
+      opened = λ clean plan mode up typed.
+          let calm : HasCleanDisk mid = omega (arith, c.put_rows.ensures.writes.survives.clean) in
+          let before = c.loop-read.invariant.leaves calm plan mode typed in
+          c.in_ok-put_rows.ensures.puts.stays_open clean before.0.plan before.0.mode
+          (c.loop-read.invariant.opened calm plan mode up typed)
+          (subst (AreFirst read.table) (sym c.deref.ensures.value)
+          (All-contains (λ (one : FirstRows). AreFirst one.table one.rows.items) c.args.reads.now read typed
+          (item_contains _ c.loop-read.read-index read (omega arith) c.read-item.is)));
+      leaves = λ clean plan mode typed.
+          let before = c.loop-read.invariant.leaves (omega
+          (arith, c.put_rows.ensures.writes.survives.clean)) plan mode typed in
+          let are = All-contains (λ (one : FirstRows). AreFirst one.table one.rows.items) c.args.reads.now read typed
+          (item_contains _ c.loop-read.read-index read (omega arith) c.read-item.is) in
+          let step : Stands mid new (with_rows_put read.table read.rows.items (tables_of mid.now.trees)) =
+          rw c.deref.ensures.value at (c.in_ok-put_rows.ensures.writes.ok clean before.0.plan before.0.mode
+          (subst (AreFirst read.table) (sym c.deref.ensures.value) are)) in (
+            stands_on old mid new _ before.0 step,
+            fold_on (λ (now : Tables) (one : FirstRows). with_rows_put one.table one.rows.items now) c.args.reads.now
+                c.loop-read.read-index read
+                (tables_of mid.now.trees) (tables_of new.now.trees) _
+                (omega arith) c.read-item.is step.rows_are before.1,
+          );
+    }
+
+pub returns-in_err-put_rows-clause-puts : goal.returns-in_err-put_rows-clause-puts
+returns-in_err-put_rows-clause-puts g c = record {
+  device = λ clean plan mode up typed.
+      let old = state g.S.Store c.args.tx.now.conn.now in
+      let mid = state g.S.Store c.loop-read.tx.conn.now in
+      let new = state g.S.Store c.put_rows.new.tx.conn.now in
+      let read = c.read-item.result in
+      let calm : HasCleanDisk mid = omega (arith, c.put_rows.ensures.writes.survives.clean) in
+      let before = c.loop-read.invariant.leaves calm plan mode typed in
+      let caused = c.in_err-put_rows.ensures.puts.device clean before.0.plan before.0.mode
+      (c.loop-read.invariant.opened calm plan mode up typed)
+      (subst (AreFirst read.table) (sym c.deref.ensures.value)
+      (All-contains (λ (one : FirstRows). AreFirst one.table one.rows.items) c.args.reads.now read typed
+      (item_contains _ c.loop-read.read-index read (omega arith) c.read-item.is))) in
+      if_from c.from_residual.result _ _ (λ e same. subst (DeviceHasCause old new) (sym same)
+      (cause_after old mid new c.in_err-put_rows.field-0.0 c.loop-read.invariant.survives.counts
+      (c.loop-read.invariant.opened calm plan mode up typed) caused)) c.from_residual.ensures.1;
+  stays_open = search rules;
+}

@@ -1,0 +1,5 @@
+pub mod FirstSchema
+pub mod FirstTexts
+pub mod Types
+pub mod Turns
+pub mod Remaking

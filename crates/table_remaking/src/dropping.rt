@@ -1,0 +1,64 @@
+// The tables of schema 1 are taken away, the last one first.
+
+ghost use Rattle.table_schema.specs.Schema.{no_schema};
+ghost use Rattle.table_schema.specs.declared.tables.Table.TheVariants as table;
+ghost use Rattle.table_remaking.specs.FirstSchema.{first_after, first_before, first_schema};
+ghost use Rattle.table_remaking.specs.Turns.{Turns};
+
+use crate::texts::drop_text;
+use sqlite::{Alter, Error, Transaction};
+use table_schema::Table;
+
+// Takes the table away, which is the last.
+fn drop_last<S: Alter>(tx: &mut Transaction<'_, S>, table: Table) -> Result<(), Error>
+    ensures { Turns S.Store tx.old tx.new result (first_after table) (first_before table) }
+{
+    tx.execute(drop_text(table), &[])?;
+    Ok(())
+}
+
+fn drop_rest<S: Alter>(tx: &mut Transaction<'_, S>) -> Result<(), Error>
+    ensures { Turns S.Store tx.old tx.new result first_schema (first_before table.Dependency) }
+{
+    drop_last(tx, Table::Job)?;
+    drop_last(tx, Table::Dependency)
+}
+
+fn drop_rows<S: Alter>(tx: &mut Transaction<'_, S>) -> Result<(), Error>
+    ensures { Turns S.Store tx.old tx.new result (first_after table.Deletion)
+        (first_before table.LongTerm) }
+{
+    drop_last(tx, Table::Deletion)?;
+    drop_last(tx, Table::History)?;
+    drop_last(tx, Table::Current)?;
+    drop_last(tx, Table::LongTerm)
+}
+
+fn drop_cycles<S: Alter>(tx: &mut Transaction<'_, S>) -> Result<(), Error>
+    ensures { Turns S.Store tx.old tx.new result (first_after table.LinkInForce)
+        (first_before table.RunCycle) }
+{
+    drop_last(tx, Table::LinkInForce)?;
+    drop_last(tx, Table::Predecessor)?;
+    drop_last(tx, Table::Offset)?;
+    drop_last(tx, Table::RunCycle)
+}
+
+fn drop_definitions<S: Alter>(tx: &mut Transaction<'_, S>) -> Result<(), Error>
+    ensures { Turns S.Store tx.old tx.new result (first_after table.Application) no_schema }
+{
+    drop_last(tx, Table::Application)?;
+    drop_last(tx, Table::Period)?;
+    drop_last(tx, Table::CalendarEntry)?;
+    drop_last(tx, Table::Meta)
+}
+
+/// Takes all tables of schema 1 away.
+pub(crate) fn drop_all<S: Alter>(tx: &mut Transaction<'_, S>) -> Result<(), Error>
+    ensures { Turns S.Store tx.old tx.new result first_schema no_schema }
+{
+    drop_rest(tx)?;
+    drop_rows(tx)?;
+    drop_cycles(tx)?;
+    drop_definitions(tx)
+}

@@ -1,0 +1,16 @@
+//! The tables of schema 1 are made anew as those of schema 2, with their rows, in one transaction.
+#![tactic(auto)]
+
+mod dropping;
+mod making;
+mod putting;
+mod remaking;
+mod rows;
+mod texts;
+mod types;
+
+pub use making::make_first_tables;
+pub use remaking::remake_tables;
+pub use rows::FirstRows;
+pub use texts::first_select_text;
+pub use types::{are_first, are_typed};

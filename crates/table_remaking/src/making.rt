@@ -1,0 +1,79 @@
+// The tables of schema 1 are made.
+
+ghost use Rattle.std.specs.Prelude.{◌≡◌, false, OnOk};
+ghost use Rattle.sqlite.specs.State.{HasCleanDisk};
+ghost use Rattle.sqlite.specs.Held.{state};
+ghost use Rattle.table_schema.specs.Schema.{no_schema};
+ghost use Rattle.table_schema.specs.declared.tables.Table.TheVariants as table;
+ghost use Rattle.table_remaking.specs.FirstSchema.{first_after, first_before, first_schema};
+ghost use Rattle.table_remaking.specs.Turns.{Turns};
+
+use crate::texts::first_create_text;
+use sqlite::{Alter, Connection, Error, Transaction};
+use table_schema::Table;
+
+// Makes the table, which is the next.
+fn make<S: Alter>(tx: &mut Transaction<'_, S>, table: Table) -> Result<(), Error>
+    ensures { Turns S.Store tx.old tx.new result (first_before table) (first_after table) }
+{
+    tx.execute(first_create_text(table), &[])?;
+    Ok(())
+}
+
+fn make_definitions<S: Alter>(tx: &mut Transaction<'_, S>) -> Result<(), Error>
+    ensures { Turns S.Store tx.old tx.new result no_schema (first_after table.Application) }
+{
+    make(tx, Table::Meta)?;
+    make(tx, Table::CalendarEntry)?;
+    make(tx, Table::Period)?;
+    make(tx, Table::Application)
+}
+
+fn make_cycles<S: Alter>(tx: &mut Transaction<'_, S>) -> Result<(), Error>
+    ensures { Turns S.Store tx.old tx.new result (first_before table.RunCycle)
+        (first_after table.LinkInForce) }
+{
+    make(tx, Table::RunCycle)?;
+    make(tx, Table::Offset)?;
+    make(tx, Table::Predecessor)?;
+    make(tx, Table::LinkInForce)
+}
+
+fn make_rows<S: Alter>(tx: &mut Transaction<'_, S>) -> Result<(), Error>
+    ensures { Turns S.Store tx.old tx.new result (first_before table.LongTerm)
+        (first_after table.Deletion) }
+{
+    make(tx, Table::LongTerm)?;
+    make(tx, Table::Current)?;
+    make(tx, Table::History)?;
+    make(tx, Table::Deletion)
+}
+
+fn make_rest<S: Alter>(tx: &mut Transaction<'_, S>) -> Result<(), Error>
+    ensures { Turns S.Store tx.old tx.new result (first_before table.Dependency) first_schema }
+{
+    make(tx, Table::Dependency)?;
+    make(tx, Table::Job)
+}
+
+fn make_all<S: Alter>(tx: &mut Transaction<'_, S>) -> Result<(), Error>
+    ensures { Turns S.Store tx.old tx.new result no_schema first_schema }
+{
+    make_definitions(tx)?;
+    make_cycles(tx)?;
+    make_rows(tx)?;
+    make_rest(tx)
+}
+
+/// Makes the tables of schema 1 in an empty database.
+pub fn make_first_tables<S: Alter>(conn: &mut Connection<S>) -> Result<(), Error>
+    requires { conn.old.in_transaction ≡ false }
+    ensures { HasCleanDisk (state S.Store conn.new)
+        → (state S.Store conn.old).now.schema ≡ no_schema
+        → OnOk result ((state S.Store conn.new).now.schema ≡ first_schema) }
+{
+    let mut tx = conn.transaction();
+    make_all(&mut tx)?;
+    tx.commit()?;
+    Ok(())
+}
