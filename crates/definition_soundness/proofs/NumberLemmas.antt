@@ -65,9 +65,9 @@ four n above below = record {
     not_empty = omega arith;
     digits = All-from_recursion IsAsciiDigit
         ((48 + n / 1000) ∷ (48 + n / 100 % 10) ∷ (48 + n / 10 % 10) ∷ (48 + n % 10) ∷ []) (
-      digit_is (n / 1000) (omega arith),
-      (digit_is (n / 100 % 10) (omega arith), (digit_is (n / 10 % 10) (omega arith), (digit_is (n % 10) (omega arith), tt))),
-    );
+          digit_is (n / 1000) (omega arith),
+          (digit_is (n / 100 % 10) (omega arith), (digit_is (n / 10 % 10) (omega arith), (digit_is (n % 10) (omega arith), tt))),
+        );
     no_leading_zero = λ is. absurd (omega arith);
   };
   value = omega arith;
@@ -80,10 +80,11 @@ spelled n = elim (cases_lt n 10) [
     | inl below ↦ ((48 + n / 10) ∷ (48 + n % 10) ∷ [], λ within. two n above below)
     | inr more ↦ elim (cases_lt n 1000) [
       | inl below ↦
-        ((48 + n / 100) ∷ (48 + n / 10 % 10) ∷ (48 + n % 10) ∷ [], λ within. three n more (omega (arith, below)))
-      | inr most ↦
-        ((48 + n / 1000) ∷ (48 + n / 100 % 10) ∷ (48 + n / 10 % 10) ∷ (48 + n % 10) ∷ [],
-        λ within. four n most (omega (arith, within)))
+          ((48 + n / 100) ∷ (48 + n / 10 % 10) ∷ (48 + n % 10) ∷ [], λ within. three n more (omega (arith, below)))
+      | inr most ↦ (
+        (48 + n / 1000) ∷ (48 + n / 100 % 10) ∷ (48 + n / 10 % 10) ∷ (48 + n % 10) ∷ [],
+        λ within. four n most (omega (arith, within)),
+      )
     ]
   ]
 ]

@@ -98,9 +98,7 @@ pub(crate) fn insert_text(table: Table) -> &'static str
         Table::Offset => {
             "INSERT INTO run_cycle_offset (app, name, seq, k) VALUES (?1, ?2, ?3, ?4)"
         }
-        Table::Predecessor => {
-            "INSERT INTO predecessor (app, pred, within) VALUES (?1, ?2, ?3)"
-        }
+        Table::Predecessor => { "INSERT INTO predecessor (app, pred, within) VALUES (?1, ?2, ?3)" }
         Table::LinkInForce => {
             "INSERT INTO link_in_force (app, pred, within) VALUES (?1, ?2, ?3)"
         }

@@ -15,11 +15,14 @@ returns g c = record {
       let new = state g.S.Store c.put_meta.new.tx.conn.now in
       let one = c.in_ok-take_meta.ensures.ok (omega (arith, c.put_meta.ensures.survives.clean)) plan mode tt in
       then_ok c.put_meta.result old mid new _ (with_meta c.args.bounds.now c.args.issued c.args.options.now) one
-      (c.put_meta.ensures.ok clean one.plan one.mode (meta_storable c.args.bounds.now c.args.issued c.args.options.now));
+      (c.put_meta.ensures.ok clean one.plan one.mode (meta_storable c.args.bounds.now c.args.issued
+      c.args.options.now));
   kept = search rules;
   survives = search rules;
   takes =
-      takes_weaker g.S.Store _ _ _ _ _ _ (λ all t. (tt, t)) (takes_then g.S.Store _ _ _ _ _ _ _ _ _ c.take_meta.ensures.survives c.put_meta.ensures.survives c.in_ok-take_meta.ensures.takes c.put_meta.ensures.takes);
+      takes_weaker g.S.Store _ _ _ _ _ _ (λ all t. (tt, t)) (takes_then g.S.Store _ _ _ _ _ _ _ _ _
+      c.take_meta.ensures.survives c.put_meta.ensures.survives c.in_ok-take_meta.ensures.takes
+      c.put_meta.ensures.takes);
 }
 
 pub returns-in_err-take_meta : goal.returns-in_err-take_meta
@@ -29,5 +32,6 @@ returns-in_err-take_meta g c = record {
   kept = search rules;
   survives = search rules;
   takes =
-      takes_no_more g.S.Store _ _ _ _ _ _ _ c.from_residual.result c.from_residual.ensures.1 (λ all t. tt) c.in_err-take_meta.ensures.takes;
+      takes_no_more g.S.Store _ _ _ _ _ _ _ c.from_residual.result c.from_residual.ensures.1 (λ all t. tt)
+      c.in_err-take_meta.ensures.takes;
 }

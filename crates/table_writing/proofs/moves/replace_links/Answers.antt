@@ -24,7 +24,10 @@ returns g c = record {
   kept = search rules;
   survives = search rules;
   takes =
-      takes_weaker g.S.Store _ _ _ _ _ _ (λ all t. ((links_keys, links_alone), t)) (takes_then g.S.Store _ _ _ _ _ _ _ _ _ c.take_each.ensures.survives c.put_each.ensures.survives (rw (c.deref.ensures.value, c.in_ok-gone.ensures) at c.in_ok-take_each.ensures.takes) (rw (c.deref-2.ensures.value, c.in_ok-come.ensures) at c.put_each.ensures.takes));
+      takes_weaker g.S.Store _ _ _ _ _ _ (λ all t. ((links_keys, links_alone), t))
+      (takes_then g.S.Store _ _ _ _ _ _ _ _ _ c.take_each.ensures.survives c.put_each.ensures.survives
+      (rw (c.deref.ensures.value, c.in_ok-gone.ensures) at c.in_ok-take_each.ensures.takes)
+      (rw (c.deref-2.ensures.value, c.in_ok-come.ensures) at c.put_each.ensures.takes));
 }
 
 pub returns-in_err-take_each : goal.returns-in_err-take_each
@@ -34,5 +37,7 @@ returns-in_err-take_each g c = record {
   kept = search rules;
   survives = search rules;
   takes =
-      takes_no_more g.S.Store _ _ _ _ _ _ _ c.from_residual-in_err-take_each.result c.from_residual-in_err-take_each.ensures.1 (λ all t. (links_keys, links_alone)) (rw (c.deref.ensures.value, c.in_ok-gone.ensures) at c.in_err-take_each.ensures.takes);
+      takes_no_more g.S.Store _ _ _ _ _ _ _ c.from_residual-in_err-take_each.result
+      c.from_residual-in_err-take_each.ensures.1 (λ all t. (links_keys, links_alone))
+      (rw (c.deref.ensures.value, c.in_ok-gone.ensures) at c.in_err-take_each.ensures.takes);
 }

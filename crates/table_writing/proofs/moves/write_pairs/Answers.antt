@@ -11,7 +11,13 @@ returns g c = record {
   kept = search rules;
   survives = search rules;
   takes =
-      takes_weaker g.S.Store _ _ _ _ _ _ (λ all t. (((pairs_keys, pairs_alone), (pairs_keys, pairs_alone)), t)) (takes_then g.S.Store _ _ _ _ _ _ _ _ _ (survives_both _ _ _ c.take_each.ensures.survives c.take_each-2.ensures.survives) c.put_each.ensures.survives (takes_then g.S.Store _ _ _ _ _ _ _ _ _ c.take_each.ensures.survives c.take_each-2.ensures.survives (rw c.as_slice.ensures.all at c.in_ok-take_each.ensures.takes) (rw c.as_slice-2.ensures.all at c.in_ok-take_each-2.ensures.takes)) (rw c.as_slice-3.ensures.all at c.put_each.ensures.takes));
+      takes_weaker g.S.Store _ _ _ _ _ _ (λ all t. (((pairs_keys, pairs_alone), (pairs_keys, pairs_alone)), t))
+      (takes_then g.S.Store _ _ _ _ _ _ _ _ _ (survives_both _ _ _ c.take_each.ensures.survives
+      c.take_each-2.ensures.survives) c.put_each.ensures.survives
+      (takes_then g.S.Store _ _ _ _ _ _ _ _ _ c.take_each.ensures.survives c.take_each-2.ensures.survives
+      (rw c.as_slice.ensures.all at c.in_ok-take_each.ensures.takes)
+      (rw c.as_slice-2.ensures.all at c.in_ok-take_each-2.ensures.takes))
+      (rw c.as_slice-3.ensures.all at c.put_each.ensures.takes));
 }
 
 pub returns-in_err-take_each : goal.returns-in_err-take_each
@@ -21,7 +27,8 @@ returns-in_err-take_each g c = record {
   kept = search rules;
   survives = search rules;
   takes =
-      takes_no_more g.S.Store _ _ _ _ _ _ _ c.from_residual.result c.from_residual.ensures.1 (λ all t. (pairs_keys, pairs_alone)) (rw c.as_slice.ensures.all at c.in_err-take_each.ensures.takes);
+      takes_no_more g.S.Store _ _ _ _ _ _ _ c.from_residual.result c.from_residual.ensures.1
+      (λ all t. (pairs_keys, pairs_alone)) (rw c.as_slice.ensures.all at c.in_err-take_each.ensures.takes);
 }
 
 pub returns-in_err-take_each-2 : goal.returns-in_err-take_each-2
@@ -31,5 +38,11 @@ returns-in_err-take_each-2 g c = record {
   kept = search rules;
   survives = search rules;
   takes =
-      takes_no_more g.S.Store _ _ _ _ _ _ _ c.from_residual-in_err-take_each-2.result c.from_residual-in_err-take_each-2.ensures.1 (λ all t. ((pairs_keys, pairs_alone), (pairs_keys, pairs_alone))) (takes_then g.S.Store _ _ _ _ _ _ _ _ _ c.take_each.ensures.survives c.take_each-2.ensures.survives (rw c.as_slice.ensures.all at c.in_ok-take_each.ensures.takes) (rw c.as_slice-2.ensures.all at c.in_err-take_each-2.ensures.takes));
+      takes_no_more g.S.Store _ _ _ _ _ _ _ c.from_residual-in_err-take_each-2.result
+      c.from_residual-in_err-take_each-2.ensures.1 (λ all t. (
+        (pairs_keys, pairs_alone),
+        (pairs_keys, pairs_alone),
+      )) (takes_then g.S.Store _ _ _ _ _ _ _ _ _ c.take_each.ensures.survives
+      c.take_each-2.ensures.survives (rw c.as_slice.ensures.all at c.in_ok-take_each.ensures.takes)
+      (rw c.as_slice-2.ensures.all at c.in_err-take_each-2.ensures.takes));
 }

@@ -10,7 +10,8 @@ returns g c = record {
   kept = search rules;
   survives = search rules;
   takes =
-      (takes_then g.S.Store _ _ _ _ _ _ _ _ _ c.put_rows.ensures.survives c.put_rows-2.ensures.survives c.in_ok-put_rows.ensures.takes c.put_rows-2.ensures.takes);
+      (takes_then g.S.Store _ _ _ _ _ _ _ _ _ c.put_rows.ensures.survives c.put_rows-2.ensures.survives
+      c.in_ok-put_rows.ensures.takes c.put_rows-2.ensures.takes);
 }
 
 pub returns-in_err-put_rows : goal.returns-in_err-put_rows
@@ -20,5 +21,6 @@ returns-in_err-put_rows g c = record {
   kept = search rules;
   survives = search rules;
   takes =
-      takes_no_more g.S.Store _ _ _ _ _ _ _ c.from_residual.result c.from_residual.ensures.1 (λ all t. t.0) c.in_err-put_rows.ensures.takes;
+      takes_no_more g.S.Store _ _ _ _ _ _ _ c.from_residual.result c.from_residual.ensures.1 (λ all t. t.0)
+      c.in_err-put_rows.ensures.takes;
 }

@@ -24,7 +24,10 @@ returns g c = record {
   kept = search rules;
   survives = search rules;
   takes =
-      takes_weaker g.S.Store _ _ _ _ _ _ (λ all t. (tt, ((t.0.0, t.1.0), (t.0.1, t.1.1)))) (takes_then g.S.Store _ _ _ _ _ _ _ _ _ c.take_cycles.ensures.survives c.put_cycles.ensures.survives (rw c.deref.ensures.value at c.in_ok-take_cycles.ensures.takes) (rw (c.deref-2.ensures.value, c.deref-3.ensures.value) at c.put_cycles.ensures.takes));
+      takes_weaker g.S.Store _ _ _ _ _ _ (λ all t. (tt, ((t.0.0, t.1.0), (t.0.1, t.1.1))))
+      (takes_then g.S.Store _ _ _ _ _ _ _ _ _ c.take_cycles.ensures.survives c.put_cycles.ensures.survives
+      (rw c.deref.ensures.value at c.in_ok-take_cycles.ensures.takes)
+      (rw (c.deref-2.ensures.value, c.deref-3.ensures.value) at c.put_cycles.ensures.takes));
 }
 
 pub returns-in_err-take_cycles : goal.returns-in_err-take_cycles
@@ -34,5 +37,6 @@ returns-in_err-take_cycles g c = record {
   kept = search rules;
   survives = search rules;
   takes =
-      takes_no_more g.S.Store _ _ _ _ _ _ _ c.from_residual.result c.from_residual.ensures.1 (λ all t. tt) (rw c.deref.ensures.value at c.in_err-take_cycles.ensures.takes);
+      takes_no_more g.S.Store _ _ _ _ _ _ _ c.from_residual.result c.from_residual.ensures.1 (λ all t. tt)
+      (rw c.deref.ensures.value at c.in_err-take_cycles.ensures.takes);
 }

@@ -25,7 +25,12 @@ returns g c = record {
   kept = search rules;
   survives = search rules;
   takes =
-      takes_weaker g.S.Store _ _ _ _ _ _ (λ all t. (((λ name. (name, refl)), (λ name has. tt)), ((λ name. (name, refl)), cycles_alone c.args.apps.now all))) (takes_then g.S.Store _ _ _ _ _ _ _ _ _ c.take_names.ensures.survives c.take_names-2.ensures.survives c.in_ok-take_names.ensures.takes c.take_names-2.ensures.takes);
+      takes_weaker g.S.Store _ _ _ _ _ _ (λ all t. (
+        ((λ name. (name, refl)), (λ name has. tt)),
+        ((λ name. (name, refl)), cycles_alone c.args.apps.now all),
+      ))
+      (takes_then g.S.Store _ _ _ _ _ _ _ _ _ c.take_names.ensures.survives c.take_names-2.ensures.survives
+      c.in_ok-take_names.ensures.takes c.take_names-2.ensures.takes);
 }
 
 pub returns-in_err-take_names : goal.returns-in_err-take_names
@@ -35,5 +40,6 @@ returns-in_err-take_names g c = record {
   kept = search rules;
   survives = search rules;
   takes =
-      takes_no_more g.S.Store _ _ _ _ _ _ _ c.from_residual.result c.from_residual.ensures.1 (λ all t. ((λ name. (name, refl)), (λ name has. tt))) c.in_err-take_names.ensures.takes;
+      takes_no_more g.S.Store _ _ _ _ _ _ _ c.from_residual.result c.from_residual.ensures.1
+      (λ all t. ((λ name. (name, refl)), (λ name has. tt))) c.in_err-take_names.ensures.takes;
 }

@@ -39,7 +39,8 @@ loop-name-preserved g c =
           let step = c.in_ok-take_name.ensures.takes.sound clean was.0 (
             keys c.name-item.result,
             was.2
-                c.name-item.result (item_contains _ c.loop-name.name-index c.name-item.result (omega arith) c.name-item.is),
+                c.name-item.result (item_contains _ c.loop-name.name-index c.name-item.result (omega arith)
+                c.name-item.is),
           )
           in (
             step.0,

@@ -20,7 +20,9 @@ returns g c = record {
   kept = search rules;
   survives = search rules;
   takes =
-      takes_weaker g.S.Store _ _ _ _ _ _ (λ all t. ((t.0, t.1.0), t.1.1)) (takes_then g.S.Store _ _ _ _ _ _ _ _ _ c.write_definitions.ensures.survives c.write_plans.ensures.survives c.in_ok-write_definitions.ensures.takes c.write_plans.ensures.takes);
+      takes_weaker g.S.Store _ _ _ _ _ _ (λ all t. ((t.0, t.1.0), t.1.1))
+      (takes_then g.S.Store _ _ _ _ _ _ _ _ _ c.write_definitions.ensures.survives c.write_plans.ensures.survives
+      c.in_ok-write_definitions.ensures.takes c.write_plans.ensures.takes);
 }
 
 pub returns-in_err-write_definitions : goal.returns-in_err-write_definitions
@@ -30,5 +32,6 @@ returns-in_err-write_definitions g c = record {
   kept = search rules;
   survives = search rules;
   takes =
-      takes_no_more g.S.Store _ _ _ _ _ _ _ c.from_residual.result c.from_residual.ensures.1 (λ all t. (t.0, t.1.0)) c.in_err-write_definitions.ensures.takes;
+      takes_no_more g.S.Store _ _ _ _ _ _ _ c.from_residual.result c.from_residual.ensures.1
+      (λ all t. (t.0, t.1.0)) c.in_err-write_definitions.ensures.takes;
 }

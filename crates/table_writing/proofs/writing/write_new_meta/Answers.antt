@@ -20,7 +20,8 @@ returns-then-is_some-2 g c =
     let told : (is_some change.bounds || is_some change.issued) ≡ true =
     (elim c.if-is_some.branch [
       | then-is_some w ↦ either_left (is_some change.bounds) (is_some change.issued) (sym w.if-is_some.ensures)
-      | else-is_some w ↦ either_right (is_some change.bounds) (is_some change.issued) (sym w.is_some-else-is_some.ensures
+      | else-is_some w ↦ either_right (is_some change.bounds) (is_some change.issued)
+          (sym w.is_some-else-is_some.ensures
           ∙ sym w.value-is ∙ c.if-is_some-2.true)
     ]) in
     subst (λ b. WritesTaking (λ _. ⊤) (λ all. MatchBool b (TakesMeta (or_else change.bounds old.bounds)

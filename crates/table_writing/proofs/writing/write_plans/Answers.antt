@@ -34,7 +34,18 @@ returns g c = record {
   kept = search rules;
   survives = search rules;
   takes =
-      takes_weaker g.S.Store _ _ _ _ _ _ (λ all t. ((((t.0, t.1), t.2), t.3), t.4)) (takes_then g.S.Store _ _ _ _ _ _ _ _ _ (survives_both _ _ _ (survives_both _ _ _ (survives_both _ _ _ c.write_rows.ensures.survives c.write_pairs.ensures.survives) c.write_links.ensures.survives) c.write_new_meta.ensures.survives) c.write_job.ensures.survives (takes_then g.S.Store _ _ _ _ _ _ _ _ _ (survives_both _ _ _ (survives_both _ _ _ c.write_rows.ensures.survives c.write_pairs.ensures.survives) c.write_links.ensures.survives) c.write_new_meta.ensures.survives (takes_then g.S.Store _ _ _ _ _ _ _ _ _ (survives_both _ _ _ c.write_rows.ensures.survives c.write_pairs.ensures.survives) c.write_links.ensures.survives (takes_then g.S.Store _ _ _ _ _ _ _ _ _ c.write_rows.ensures.survives c.write_pairs.ensures.survives c.in_ok-write_rows.ensures.takes c.in_ok-write_pairs.ensures.takes) c.in_ok-write_links.ensures.takes) c.in_ok-write_new_meta.ensures.takes) c.write_job.ensures.takes);
+      takes_weaker g.S.Store _ _ _ _ _ _ (λ all t. ((((t.0, t.1), t.2), t.3), t.4))
+      (takes_then g.S.Store _ _ _ _ _ _ _ _ _ (survives_both _ _ _
+      (survives_both _ _ _ (survives_both _ _ _ c.write_rows.ensures.survives c.write_pairs.ensures.survives)
+      c.write_links.ensures.survives) c.write_new_meta.ensures.survives) c.write_job.ensures.survives
+      (takes_then g.S.Store _ _ _ _ _ _ _ _ _ (survives_both _ _ _
+      (survives_both _ _ _ c.write_rows.ensures.survives c.write_pairs.ensures.survives)
+      c.write_links.ensures.survives) c.write_new_meta.ensures.survives
+      (takes_then g.S.Store _ _ _ _ _ _ _ _ _ (survives_both _ _ _ c.write_rows.ensures.survives
+      c.write_pairs.ensures.survives) c.write_links.ensures.survives
+      (takes_then g.S.Store _ _ _ _ _ _ _ _ _ c.write_rows.ensures.survives c.write_pairs.ensures.survives
+      c.in_ok-write_rows.ensures.takes c.in_ok-write_pairs.ensures.takes) c.in_ok-write_links.ensures.takes)
+      c.in_ok-write_new_meta.ensures.takes) c.write_job.ensures.takes);
 }
 
 pub returns-in_err-write_rows : goal.returns-in_err-write_rows
@@ -44,7 +55,8 @@ returns-in_err-write_rows g c = record {
   kept = search rules;
   survives = search rules;
   takes =
-      takes_no_more g.S.Store _ _ _ _ _ _ _ c.from_residual.result c.from_residual.ensures.1 (λ all t. t.0) c.in_err-write_rows.ensures.takes;
+      takes_no_more g.S.Store _ _ _ _ _ _ _ c.from_residual.result c.from_residual.ensures.1 (λ all t. t.0)
+      c.in_err-write_rows.ensures.takes;
 }
 
 pub returns-in_err-write_pairs : goal.returns-in_err-write_pairs
@@ -54,7 +66,10 @@ returns-in_err-write_pairs g c = record {
   kept = search rules;
   survives = search rules;
   takes =
-      takes_no_more g.S.Store _ _ _ _ _ _ _ c.from_residual-in_err-write_pairs.result c.from_residual-in_err-write_pairs.ensures.1 (λ all t. (t.0, t.1)) (takes_then g.S.Store _ _ _ _ _ _ _ _ _ c.write_rows.ensures.survives c.write_pairs.ensures.survives c.in_ok-write_rows.ensures.takes c.in_err-write_pairs.ensures.takes);
+      takes_no_more g.S.Store _ _ _ _ _ _ _ c.from_residual-in_err-write_pairs.result
+      c.from_residual-in_err-write_pairs.ensures.1 (λ all t. (t.0, t.1))
+      (takes_then g.S.Store _ _ _ _ _ _ _ _ _ c.write_rows.ensures.survives c.write_pairs.ensures.survives
+      c.in_ok-write_rows.ensures.takes c.in_err-write_pairs.ensures.takes);
 }
 
 pub returns-in_err-write_links : goal.returns-in_err-write_links
@@ -64,7 +79,12 @@ returns-in_err-write_links g c = record {
   kept = search rules;
   survives = search rules;
   takes =
-      takes_no_more g.S.Store _ _ _ _ _ _ _ c.from_residual-in_err-write_links.result c.from_residual-in_err-write_links.ensures.1 (λ all t. ((t.0, t.1), t.2)) (takes_then g.S.Store _ _ _ _ _ _ _ _ _ (survives_both _ _ _ c.write_rows.ensures.survives c.write_pairs.ensures.survives) c.write_links.ensures.survives (takes_then g.S.Store _ _ _ _ _ _ _ _ _ c.write_rows.ensures.survives c.write_pairs.ensures.survives c.in_ok-write_rows.ensures.takes c.in_ok-write_pairs.ensures.takes) c.in_err-write_links.ensures.takes);
+      takes_no_more g.S.Store _ _ _ _ _ _ _ c.from_residual-in_err-write_links.result
+      c.from_residual-in_err-write_links.ensures.1 (λ all t. ((t.0, t.1), t.2))
+      (takes_then g.S.Store _ _ _ _ _ _ _ _ _ (survives_both _ _ _ c.write_rows.ensures.survives
+      c.write_pairs.ensures.survives) c.write_links.ensures.survives
+      (takes_then g.S.Store _ _ _ _ _ _ _ _ _ c.write_rows.ensures.survives c.write_pairs.ensures.survives
+      c.in_ok-write_rows.ensures.takes c.in_ok-write_pairs.ensures.takes) c.in_err-write_links.ensures.takes);
 }
 
 pub returns-in_err-write_new_meta : goal.returns-in_err-write_new_meta
@@ -74,5 +94,14 @@ returns-in_err-write_new_meta g c = record {
   kept = search rules;
   survives = search rules;
   takes =
-      takes_no_more g.S.Store _ _ _ _ _ _ _ c.from_residual-in_err-write_new_meta.result c.from_residual-in_err-write_new_meta.ensures.1 (λ all t. (((t.0, t.1), t.2), t.3)) (takes_then g.S.Store _ _ _ _ _ _ _ _ _ (survives_both _ _ _ (survives_both _ _ _ c.write_rows.ensures.survives c.write_pairs.ensures.survives) c.write_links.ensures.survives) c.write_new_meta.ensures.survives (takes_then g.S.Store _ _ _ _ _ _ _ _ _ (survives_both _ _ _ c.write_rows.ensures.survives c.write_pairs.ensures.survives) c.write_links.ensures.survives (takes_then g.S.Store _ _ _ _ _ _ _ _ _ c.write_rows.ensures.survives c.write_pairs.ensures.survives c.in_ok-write_rows.ensures.takes c.in_ok-write_pairs.ensures.takes) c.in_ok-write_links.ensures.takes) c.in_err-write_new_meta.ensures.takes);
+      takes_no_more g.S.Store _ _ _ _ _ _ _ c.from_residual-in_err-write_new_meta.result
+      c.from_residual-in_err-write_new_meta.ensures.1 (λ all t. (((t.0, t.1), t.2), t.3))
+      (takes_then g.S.Store _ _ _ _ _ _ _ _ _ (survives_both _ _ _
+      (survives_both _ _ _ c.write_rows.ensures.survives c.write_pairs.ensures.survives)
+      c.write_links.ensures.survives) c.write_new_meta.ensures.survives
+      (takes_then g.S.Store _ _ _ _ _ _ _ _ _ (survives_both _ _ _ c.write_rows.ensures.survives
+      c.write_pairs.ensures.survives) c.write_links.ensures.survives
+      (takes_then g.S.Store _ _ _ _ _ _ _ _ _ c.write_rows.ensures.survives c.write_pairs.ensures.survives
+      c.in_ok-write_rows.ensures.takes c.in_ok-write_pairs.ensures.takes) c.in_ok-write_links.ensures.takes)
+      c.in_err-write_new_meta.ensures.takes);
 }
