@@ -12,8 +12,9 @@ use Rattle.std.proofs.lemmas.Cmp.{tied_itself, alike_right}
 use Rattle.std.proofs.lemmas.List.{get_or-take, get_or-drop, length-drop, length-take-le}
 use Rattle.std.proofs.lemmas.List.Sorted.{searchable_from_sorted}
 use Rattle.std.proofs.lemmas.Bool.{cases_lt, cases_order, false≢true}
-use Rattle.external_dependencies.specs.Link.{link_cmp}
+use Rattle.external_dependencies.specs.Link.{link_cmp, AreNamedOnce, HaveSameNames, KeepsNames}
 use Rattle.external_dependencies.specs.Rising.{IsRising}
+use Rattle.external_dependencies.specs.declared.links.Link.{Link}
 
 -- only equal names tie
 pub name_ties : IsAntisymmetric (slice_cmp nat_cmp)
@@ -41,12 +42,27 @@ then_less Less p is = inl refl
 then_less Equal p is = inr (refl, is)
 then_less Greater p is = cc
 
-pub link_ties : IsAntisymmetric link_cmp
+-- links that tie have the same names
+pub link_ties : (x y : Link) → link_cmp x y ≡ Equal → HaveSameNames x y
 link_ties x y is =
     let both = then_equal _ _ is in
-    let apps : x.app ≡ y.app = name_ties x.app y.app both.0 in
-    let predecessors : x.predecessor ≡ y.predecessor = name_ties x.predecessor y.predecessor both.1 in
-    λ i. record { app = apps i; predecessor = predecessors i }
+    (name_ties x.app y.app both.0, name_ties x.predecessor y.predecessor both.1)
+
+pub names_kept : (links kept : List Link) → ((link : Link) → Contains kept link → Contains links link)
+    → ((link : Link) → Contains links link → (stays : Link) × Contains kept stays × (link_cmp link stays ≡ Equal))
+    → KeepsNames links kept
+names_kept links kept only all = record {
+  only = only;
+  all = λ link here. let stays = all link here in (stays.0, stays.1, link_ties link stays.0 stays.2);
+}
+
+-- where no two have the same names, all stay
+pub keeps_all : (links kept : List Link) → AreNamedOnce links → KeepsNames links kept → (link : Link)
+    → Contains kept link ↔ Contains links link
+keeps_all links kept once keeps link = (keeps.only link, λ here. there here (keeps.all link here))
+  where
+    there : Contains links link → (stays : Link) × Contains kept stays × HaveSameNames link stays → Contains kept link
+    there here (stays, in_kept, same) = subst (Contains kept) (sym (once link stays here (keeps.only stays in_kept) same)) in_kept
 
 module _ {K : Type 0} {R : K → K → Ordering} (o : IsTotalOrder R) where
   -- at most

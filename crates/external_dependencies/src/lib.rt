@@ -5,7 +5,7 @@
 //! predecessors:
 //!
 //! ```text
-//! let links = Links::from_vec(vec![in alloc; Link { app: a, predecessor: b }]?);
+//! let links = Links::from_vec(vec![in alloc; Link { app: a, predecessor: b, within: None }]?);
 //! let pairs = resolve_all(alloc, &rows, &links)?;
 //! assert_eq!(rt; pairs.of_successor(fourth), [Pair { successor: fourth, predecessor: third }].as_slice());
 //! ```
