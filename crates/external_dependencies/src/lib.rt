@@ -37,7 +37,7 @@ pub use laws::{
     pairs_depend_on_set, pairs_have_no_loop, rising_is_unique,
 };
 pub use links::{Link, Links};
-pub use live::{Arrival, Live, nearest};
+pub use live::{Arrival, Live, arrives_within, nearest};
 pub use loops::find_loop;
 pub use pairs::{Pair, Pairs, resolve_all, resolve_some};
 pub use repair::resolve_touched;

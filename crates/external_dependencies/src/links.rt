@@ -1,4 +1,4 @@
-ghost use Rattle.std.specs.Prelude.{◌≡◌, ◌==◌, [], ◌↔◌, Contains, IfOk, filter};
+ghost use Rattle.std.specs.Prelude.{◌≡◌, ◌==◌, [], ◌↔◌, Contains, IfOk, IsTrue, filter};
 ghost use Rattle.std.specs.Str.{bytes_eq};
 ghost use Rattle.std.specs.Cmp.{partial_order_from_own_ties};
 ghost use Rattle.std.specs.Cmp.Lexicographic.{pointwise, slice_cmp};
@@ -137,6 +137,16 @@ impl Links {
         links
     }
 
+    /// Whether the link is one of these, with the same limit.
+    pub fn contains(&self, link: &Link) -> bool
+        ensures { IsTrue result ↔ Contains self.now link.now }
+    {
+        match self.links.binary_search(link) {
+            Ok(place) => is_same_limit(self.links[place].within, link.within),
+            Err(_) => false,
+        }
+    }
+
     /// The list of an application.
     pub fn list(&self, app: &App) -> &[Link]
         ensures rising { IsRising link_cmp result.now }
@@ -155,6 +165,17 @@ impl Links {
             Contains found.items link ↔ (Contains self.now link × (link.predecessor ≡ predecessor.now))) }
     {
         links_naming(alloc, self.links.as_slice(), predecessor)
+    }
+}
+
+// Whether both are the same limit, or both are none.
+fn is_same_limit(a: Option<Within>, b: Option<Within>) -> bool
+    ensures { IsTrue result ↔ (a ≡ b) }
+{
+    match (a, b) {
+        (None, None) => true,
+        (Some(a), Some(b)) => a.hours() == b.hours(),
+        _ => false,
     }
 }
 

@@ -91,8 +91,8 @@ pub fn nearest(live: &Live, key: &Key, app: &App, within: Option<Within>) -> Opt
     }
 }
 
-// Whether the moment is at most as many hours after the first as the limit says.
-fn arrives_within(within: Option<Within>, ia: Moment, first: Moment) -> bool
+/// Whether the moment is at most as many hours after the first as the limit says; where there is none, it is.
+pub fn arrives_within(within: Option<Within>, ia: Moment, first: Moment) -> bool
     ensures { IsTrue result ↔ ArrivesWithin within ia first }
 {
     match within {
