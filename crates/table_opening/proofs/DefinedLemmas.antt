@@ -11,8 +11,8 @@ use Rattle.definition_records.specs.CycleRecords.{AreRunCyclesOf, FitsRunCycle}
 use Rattle.definition_records.specs.Periods.{FitsPeriod, IsPeriodOf}
 use Rattle.definition_records.specs.Predecessors.{ArePredecessorsOf, FitsPredecessors}
 use Rattle.definition_records.specs.Records.{Record, Records}
-use Rattle.definition_records.specs.declared.columns.TheConstants.{APPLICATION_FIELDS, CALENDAR_FIELDS, CYCLE_FIELDS}
-use Rattle.definition_records.specs.declared.columns.TheConstants.{PERIOD_FIELDS, PREDECESSOR_FIELDS}
+use Rattle.definition_records.specs.FieldCounts.{HasApplicationFields, HasCalendarFields, HasCycleFields}
+use Rattle.definition_records.specs.FieldCounts.{HasPeriodFields, HasPredecessorFields}
 use Rattle.app_definitions.specs.declared.definitions.Definitions.{Definitions}
 use Rattle.work_calendars.specs.Name.{IsName}
 use Rattle.plan_periods.specs.Period.{Entry}
@@ -68,19 +68,19 @@ cycle_sound cycle is = record {
 pub sound_definitions : (all : Definitions) → AreDefinitions all → AreSoundDefinitions all
 sound_definitions all are = record {
   applications = λ name a at.
-      let value = application_value name a (definable_from APPLICATION_FIELDS FitsApplication IsApplicationOf
+      let value = application_value name a (definable_from HasApplicationFields FitsApplication IsApplicationOf
       all.applications are.applications name a at) in
       (value.named, value.calendar);
   calendars = λ name c at.
-      let is = definable_from CALENDAR_FIELDS FitsCalendar IsCalendarOf all.calendars are.calendars name c at in
+      let is = definable_from HasCalendarFields FitsCalendar IsCalendarOf all.calendars are.calendars name c at in
       let value = calendar_value c name is in
       (value.named, record { week = calendar_week name c is; days = calendar_days name c is });
   periods = λ name p at.
-      let is = definable_from PERIOD_FIELDS FitsPeriod IsPeriodOf all.periods are.periods name p at in
+      let is = definable_from HasPeriodFields FitsPeriod IsPeriodOf all.periods are.periods name p at in
       let value = period_value name p is in
       (short_named name value.named, record { sound = period_sound name p is; days = days_of p value.days });
   run_cycles = λ app cycles at.
-      let is = definable_from CYCLE_FIELDS FitsRunCycle AreRunCyclesOf all.run_cycles are.run_cycles app cycles at in
+      let is = definable_from HasCycleFields FitsRunCycle AreRunCyclesOf all.run_cycles are.run_cycles app cycles at in
       let value = cycles_value app cycles is in (
         value.named,
         record {
@@ -89,7 +89,7 @@ sound_definitions all are = record {
         },
       );
   predecessors = λ app names at.
-      let value = predecessors_value app names (definable_from PREDECESSOR_FIELDS FitsPredecessors ArePredecessorsOf
+      let value = predecessors_value app names (definable_from HasPredecessorFields FitsPredecessors ArePredecessorsOf
       all.predecessors are.predecessors app names at) in
       (value.named, λ name has. All-contains IsName names name value.names has);
 }
