@@ -23,7 +23,10 @@ fn push_links(
 }
 
 /// Each application with each predecessor in its list, in no order, each pair of names once.
-pub fn defined_links(alloc: Global, all: &Definitions) -> Result<Vec<(App, Predecessor)>, AllocError>
+pub fn defined_links(
+    alloc: Global,
+    all: &Definitions,
+) -> Result<Vec<(App, Predecessor)>, AllocError>
     ensures exactly { IfOk result (λ links. (app : List ℕ) (predecessor : PredecessorValue)
         → Contains links.items (app, predecessor) ↔ IsDefinedLink all.now app predecessor) }
     ensures own_names { IfOk result (λ links. HaveOwnNames links.items) }
