@@ -68,7 +68,7 @@ nothing_sound = record {
     not_deleted = λ serial row is. cc;
   };
   sizes = record { planned = omega arith; issued = omega arith };
-  lists = λ app (ring, is, at). none_in _ (is.closes app);
+  lists = λ app (ring, is, at). none_in _ (is.closes app).1;
   pairs = record {
     settled = record {
       rising = λ i j d lt within. absurd (omega (arith, within));
