@@ -73,10 +73,10 @@ fn are_rows(all: &[PlacedRow]) -> bool
 fn is_limit(within: &Option<Within>) -> bool
     ensures { IsTrue result ↔ IfSome within.now IsWithinHours }
 {
-    match within {
-        Some(within) => within.hours() >= 1,
-        None => true,
+    if let Some(within) = within {
+        return within.hours() >= 1;
     }
+    true
 }
 
 fn is_link(link: &Link) -> bool
