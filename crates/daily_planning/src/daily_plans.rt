@@ -1,4 +1,4 @@
-ghost use Rattle.std.specs.Prelude.{◌≡◌, ℕ, ◌↔◌, IsTrue, IfOk, map};
+ghost use Rattle.std.specs.Prelude.{◌≡◌, ◌↔◌, IsTrue, IfOk, Some, map};
 ghost use Rattle.std.specs.List.{filter};
 ghost use Rattle.planner_machine.specs.Content.{Content};
 ghost use Rattle.planner_machine.specs.DailyPlan.{deleted_in_plan, is_completed, is_deleted, is_uncompleted, waiting};
@@ -8,10 +8,10 @@ ghost use Rattle.planner_machine.specs.Sound.{IsSound};
 ghost use Rattle.plan_store.specs.Verdicts.{VerdictIs};
 ghost use Rattle.plan_store.specs.Views.{Shows};
 ghost use Rattle.plan_store.specs.declared.stores.Need.TheVariants.{Daily};
-ghost use Rattle.daily_planning.specs.DailyPlans.{DoesDaily, is_finished};
+ghost use Rattle.daily_planning.specs.DailyPlans.{DoesDaily, is_finished, replan_need};
 
 use occurrences::{CurrentRow, Deletion, Reason, Refusal, Reply, Row, Status};
-use plan_store::{Change, Verdict, View};
+use plan_store::{Change, Need, Verdict, View};
 use planner_machine::Bounds;
 use std::alloc::{AllocError, Global};
 use work_calendars::Moment;
@@ -33,10 +33,21 @@ pub fn extend(alloc: Global, view: &View<'_>, to: Moment) -> Result<Verdict, All
     Ok(Verdict::Done(change, reply))
 }
 
+/// What `dp-replan` has to see where the plans reach so far: what a daily plan to the plan end asks, and the definitions
+/// alone where nothing is planned.
+pub fn replan_need(bounds: Option<Bounds>) -> Need
+    ensures { result ≡ replan_need bounds }
+{
+    match bounds {
+        Some(bounds) => Need::Daily(bounds.plan_end),
+        None => Need::Definitions,
+    }
+}
+
 /// `dp-replan`: a daily plan to the plan end as it is, which takes nothing from the long-term plan. It is refused
 /// where nothing is planned (20).
 pub fn replan(alloc: Global, view: &View<'_>) -> Result<Verdict, AllocError>
-    ensures { IfOk result (λ verdict. (moment : ℕ) (c : Content) → Shows (Daily moment) view.now c → IsSound c →
+    ensures { IfOk result (λ verdict. (c : Content) → Shows (replan_need c.sets.bounds) view.now c → IsSound c →
         VerdictIs dp_replan c verdict) }
 {
     let Some(bounds) = view.bounds() else {
@@ -56,8 +67,6 @@ fn is_bad_end(bounds: &Bounds, hours: u16, to: Moment) -> bool
     to <= end || last < to || end + u64::from(hours) * 60 < to
 }
 
-ghost use Rattle.plan_store.specs.Views.{shown};
-
 // A daily plan to the moment: what it changes, and its reply.
 fn daily_plan(
     alloc: Global,
@@ -65,10 +74,10 @@ fn daily_plan(
     bounds: &Bounds,
     to: Moment,
 ) -> Result<(Change, Reply), AllocError>
-    ensures { IfOk result (λ done. IsSound (shown view.now) → (shown view.now).sets.bounds ≡ Some bounds.now →
-        DoesDaily to (shown view.now) done.0 done.1) }
+    ensures { IfOk result (λ done. (c : Content) → Shows (Daily to) view.now c → IsSound c →
+        c.sets.bounds ≡ Some bounds.now → DoesDaily to c done.0 done.1) }
 {
-    let moved = view.ltp_before(alloc, to)?;
+    let moved = owned_rows(alloc, view.ltp())?;
     let rows = view.cp();
     let finished = finished_rows(alloc, rows)?;
     let completed = completed_rows(alloc, rows)?;
@@ -90,6 +99,13 @@ fn daily_plan(
     change.history.put = completed;
     change.deletions.put = deleted;
     Ok((change, reply))
+}
+
+// The rows as a list of their own.
+fn owned_rows(alloc: Global, rows: &[Row]) -> Result<Vec<Row>, AllocError>
+    ensures { IfOk result (λ owned. owned.items ≡ rows.now) }
+{
+    rows.iter().copied().collect(alloc)
 }
 
 // The rows of the current plan that a daily plan takes from it: those that are complete or deleted.

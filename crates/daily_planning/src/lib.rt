@@ -17,5 +17,5 @@ mod laws;
 
 pub use actions::cp_action;
 pub use additions::cp_add;
-pub use daily_plans::{extend, replan};
+pub use daily_plans::{extend, replan, replan_need};
 pub use laws::status_changes_leave_pairs;

@@ -1,0 +1,65 @@
+-- What a window shows of a content.
+use Rattle.std.proofs.Common.{◌≡◌, ◌<◌, ℕ, Bool, true, false, List, [], Contains, Option, None, Some, ap, sym, subst}
+use Rattle.std.proofs.Common.{◌∙◌}
+use Rattle.std.specs.Prelude.{filter, if◌then◌else◌}
+use Rattle.std.proofs.lemmas.Bool.{lt-ltb, ltb-true}
+use Rattle.occurrences.specs.declared.row.Row.{Row}
+use Rattle.planner_machine.specs.Content.{Content}
+use Rattle.planner_machine.specs.DailyPlan.{arrives_before, moved}
+use Rattle.planner_machine.specs.Moves.{keep}
+use Rattle.keyed_lists.specs.Rows.{AreRows, look_up, of_current, of_row}
+use Rattle.occurrences.specs.declared.place.CurrentRow.{CurrentRow}
+use Rattle.plan_store.specs.Contents.{content_of}
+use Rattle.plan_store.specs.Views.{IsAny, ListsSet, Shows, shown}
+use Rattle.plan_store.specs.declared.contents.Content.{Content as Kept}
+use Rattle.plan_store.specs.declared.stores.Need.TheVariants.{Daily}
+use Rattle.plan_store.specs.declared.views.View.{View}
+use Rattle.plan_store.proofs.ViewLemmas.{filter_rows, look_filter}
+
+-- what is kept was there, and passes
+kept_one : {X : Type 0} (p : X → Bool) (x y : X) (b : Bool) → p y ≡ b → (if b then Some y else None) ≡ Some x
+    → (Some y ≡ Some x) × (p x ≡ true)
+kept_one p x y true passes is = let same : y ≡ x = cc is in (is, subst (λ z. p z ≡ true) same passes)
+kept_one p x y false fails is = absurd (let no : ⊥ = cc is in no)
+
+pub kept_is : {X : Type 0} (p : X → Bool) (o : Option X) (x : X) → keep p o ≡ Some x → (o ≡ Some x) × (p x ≡ true)
+kept_is p None x is = absurd (let no : ⊥ = cc is in no)
+kept_is p (Some y) x is = kept_one p x y (p y) refl is
+
+pub is_kept : {X : Type 0} (p : X → Bool) (o : Option X) (x : X) → o ≡ Some x → p x ≡ true → keep p o ≡ Some x
+is_kept p o x is passes = rw (is, passes) refl
+
+-- the rows that arrive before a moment, as the buffer has them
+pub early_look : (t : ℕ) (kept : Kept) (early : List Row) → early ≡ filter (arrives_before t) kept.ltp.items
+    → (serial : ℕ) → look_up (λ (row : Row). row.serial) early serial ≡ moved t ((content_of kept).sets.ltp serial)
+early_look t kept early is serial =
+    ap (λ (xs : List Row). look_up (λ (row : Row). row.serial) xs serial) is
+    ∙ look_filter of_row (arrives_before t) kept.ltp.items kept.ltp_rows serial
+
+pub early_rows : (t : ℕ) (kept : Kept) (early : List Row) → early ≡ filter (arrives_before t) kept.ltp.items
+    → AreRows of_row early
+early_rows t kept early is =
+    subst (AreRows of_row) (sym is) (filter_rows of_row (arrives_before t) kept.ltp.items kept.ltp_rows)
+
+-- a window for a daily plan to t
+module _ (t : ℕ) (view : View) (c : Content) (shows : Shows (Daily t) view c) where
+  -- lists the rows of the long-term plan that arrive before t
+  pub daily_ltp : ((serial : ℕ) (row : Row) → c.sets.ltp serial ≡ Some row → row.serial ≡ serial) → (rows : List Row)
+      → ListsSet of_row (shown view).sets.ltp IsAny rows → ListsSet of_row c.sets.ltp (λ row. row.key.ia < t) rows
+  daily_ltp numbered rows lists =
+      let those = subst (λ (x : Content). ListsSet of_row x.sets.ltp IsAny rows) shows lists in
+      record {
+        rows = those.rows;
+        exactly = λ row. (
+          (λ there.
+              let is = kept_is (arrives_before t) (c.sets.ltp row.serial) row ((those.exactly row).0 there).0 in
+              (is.0, ltb-true row.key.ia t is.1)),
+          λ both. (those.exactly row).1
+              (is_kept (arrives_before t) (c.sets.ltp row.serial) row both.0 (lt-ltb row.key.ia t both.1), tt),
+        );
+      }
+
+  -- and all rows of the current plan
+  pub daily_cp : (rows : List CurrentRow) → ListsSet of_current (shown view).sets.cp IsAny rows
+      → ListsSet of_current c.sets.cp IsAny rows
+  daily_cp rows lists = subst (λ (x : Content). ListsSet of_current x.sets.cp IsAny rows) shows lists
