@@ -207,8 +207,8 @@ impl<S: Alter + Drop> PlanStore for TableStore<S> {
         if self.failures > 0 {
             return Err(StoreFault::Device);
         }
-        match self.lists.fill_window(need) {
-            Ok(()) => Ok(self.lists.window(need)),
+        match self.lists.fill_window(&need) {
+            Ok(()) => Ok(self.lists.window(&need)),
             Err(_) => Err(StoreFault::Memory),
         }
     }
