@@ -1,6 +1,6 @@
 -- What a window shows of a content.
 use Rattle.std.proofs.Common.{◌≡◌, ◌<◌, ℕ, Bool, true, false, List, [], Contains, Option, None, Some, ap, sym, subst}
-use Rattle.std.proofs.Common.{◌∙◌}
+use Rattle.std.proofs.Common.{◌∙◌, arith, refl}
 use Rattle.std.specs.Prelude.{filter, if◌then◌else◌}
 use Rattle.std.proofs.lemmas.Bool.{lt-ltb, ltb-true}
 use Rattle.occurrences.specs.declared.row.Row.{Row}
@@ -8,9 +8,12 @@ use Rattle.planner_machine.specs.Content.{Content}
 use Rattle.planner_machine.specs.DailyPlan.{arrives_before, moved}
 use Rattle.planner_machine.specs.Moves.{keep}
 use Rattle.keyed_lists.specs.Rows.{AreRows, look_up, of_current, of_row}
+use Rattle.keyed_lists.specs.Seats.{HasSeats}
+use Rattle.keyed_lists.specs.declared.seats.Seat.{Seat}
+use Rattle.keyed_lists.proofs.KeyLemmas.{contains_filter}
 use Rattle.occurrences.specs.declared.place.CurrentRow.{CurrentRow}
 use Rattle.plan_store.specs.Contents.{content_of}
-use Rattle.plan_store.specs.Views.{IsAny, ListsSet, Shows, shown}
+use Rattle.plan_store.specs.Views.{IsAny, ListsSet, Shows, named, row_serial, shown, with_plans_alone}
 use Rattle.plan_store.specs.declared.contents.Content.{Content as Kept}
 use Rattle.plan_store.specs.declared.stores.Need.TheVariants.{Daily}
 use Rattle.plan_store.specs.declared.views.View.{View}
@@ -29,17 +32,34 @@ kept_is p (Some y) x is = kept_one p x y (p y) refl is
 pub is_kept : {X : Type 0} (p : X → Bool) (o : Option X) (x : X) → o ≡ Some x → p x ≡ true → keep p o ≡ Some x
 is_kept p o x is passes = rw (is, passes) refl
 
--- the rows that arrive before a moment, as the buffer has them
-pub early_look : (t : ℕ) (kept : Kept) (early : List Row) → early ≡ filter (arrives_before t) kept.ltp.items
-    → (serial : ℕ) → look_up (λ (row : Row). row.serial) early serial ≡ moved t ((content_of kept).sets.ltp serial)
-early_look t kept early is serial =
-    ap (λ (xs : List Row). look_up (λ (row : Row). row.serial) xs serial) is
-    ∙ look_filter of_row (arrives_before t) kept.ltp.items kept.ltp_rows serial
+-- a list without rows
+pub no_rows : {X : Type 0} (row_of : X → Row) → AreRows row_of []
+no_rows row_of = record {
+  keyed = λ i j d below lt. absurd (omega arith);
+  one_each = λ x y (k, lt, at) there same. absurd (omega arith);
+}
 
-pub early_rows : (t : ℕ) (kept : Kept) (early : List Row) → early ≡ filter (arrives_before t) kept.ltp.items
-    → AreRows of_row early
-early_rows t kept early is =
-    subst (AreRows of_row) (sym is) (filter_rows of_row (arrives_before t) kept.ltp.items kept.ltp_rows)
+pub no_seats : {X : Type 0} (row_of : X → Row) (seats : List Seat) → HasSeats row_of [] seats
+no_seats row_of seats x (k, lt, at) = absurd (omega arith)
+
+-- the rows that arrive before a moment, as the buffer has them
+module _ (t : ℕ) (kept : Kept) (early : List Row) (is : early ≡ filter (arrives_before t) kept.ltp.items) where
+  pub early_rows : AreRows of_row early
+  early_rows = subst (AreRows of_row) (sym is) (filter_rows of_row (arrives_before t) kept.ltp.items kept.ltp_rows)
+
+  pub early_seats : HasSeats of_row early kept.seats.items
+  early_seats row there = kept.ltp_seats row
+      (contains_filter (arrives_before t) kept.ltp.items row (subst (λ xs. Contains xs row) is there)).0
+
+  early_look : (serial : ℕ) → look_up row_serial early serial ≡ moved t ((content_of kept).sets.ltp serial)
+  early_look serial =
+      ap (λ (xs : List Row). look_up row_serial xs serial) is
+      ∙ look_filter of_row (arrives_before t) kept.ltp.items kept.ltp_rows serial
+
+  -- so they stand in a window for a daily plan
+  pub early_named : with_plans_alone (look_up row_serial early) (content_of kept).sets.cp (content_of kept)
+      ≡ named (Daily t) (content_of kept)
+  early_named i = with_plans_alone (λ serial. early_look serial i) (content_of kept).sets.cp (content_of kept)
 
 -- a window for a daily plan to t
 module _ (t : ℕ) (view : View) (c : Content) (shows : Shows (Daily t) view c) where

@@ -19,6 +19,12 @@ use Rattle.plan_store.specs.declared.stores.Need.{Need}
 use Rattle.plan_store.specs.declared.stores.Need.TheVariants as need
 use Rattle.plan_store.specs.declared.views.View.{View}
 
+abbrev pub row_serial : Row → ℕ
+row_serial row = row.serial
+
+abbrev pub current_serial : CurrentRow → ℕ
+current_serial current = current.row.serial
+
 -- what the window shows, as a content; of the jobs none of its calls tells anything
 abbrev pub shown : View → Content
 shown view = record {
@@ -26,9 +32,9 @@ shown view = record {
   sets = record {
     bounds = view.content.now.bounds;
     issued = view.content.now.issued;
-    ltp = look_up (λ (row : Row). row.serial) view.ltp.now;
-    cp = look_up (λ (current : CurrentRow). current.row.serial) view.cp.now;
-    history = look_up (λ (row : Row). row.serial) view.history.now;
+    ltp = look_up row_serial view.ltp.now;
+    cp = look_up current_serial view.cp.now;
+    history = look_up row_serial view.history.now;
     deletions = look_up (λ (deletion : Deletion). deletion.row.serial) view.deletions.now;
   };
   in_force = view.content.now.in_force;

@@ -70,7 +70,8 @@ impl Content {
     ghost use Rattle.plan_store.specs.Changes.{Fits, after};
     ghost use Rattle.planner_machine.specs.Content.{nothing_known};
     ghost use Rattle.plan_store.specs.Contents.{content_of};
-    ghost use Rattle.plan_store.specs.Views.{IsFilled, Shows};
+    ghost use Rattle.keyed_lists.specs.Rows.{look_up};
+    ghost use Rattle.plan_store.specs.Views.{IsFilled, Shows, current_serial, row_serial, shown, with_plans_alone};
     ghost use Rattle.plan_store.specs.Room.{HasPutSeats, HasRoom, HasRowRoom, HasSame, with_definitions, with_pairs_of};
     ghost use Rattle.plan_store.specs.declared.changes.DefinitionChange.TheVariants.{AsBefore};
 
@@ -112,30 +113,42 @@ impl Content {
         ensures { Shows need.now result (content_of self.now) }
     {
         match need {
-            Need::Definitions => View {
-                content: self,
-                ltp: &[],
-                cp: &[],
-                history: &[],
-                deletions: &[],
-                pairs: &self.buffer.no_pairs,
-            },
-            Need::Daily(_) => View {
-                content: self,
-                ltp: &self.buffer.early,
-                cp: &self.cp,
-                history: &[],
-                deletions: &[],
-                pairs: &self.buffer.no_pairs,
-            },
-            Need::Key(_) | Need::LongTerm => View {
-                content: self,
-                ltp: &self.ltp,
-                cp: &self.cp,
-                history: &self.history,
-                deletions: &self.deletions,
-                pairs: &self.pairs,
-            },
+            Need::Definitions => self.window_of_plans(&[], &[]),
+            Need::Daily(_) => self.window_of_plans(&self.buffer.early, &self.cp),
+            Need::Key(_) | Need::LongTerm => self.whole_window(),
+        }
+    }
+
+    // A window of these rows of the two plans, and no other row or pair.
+    fn window_of_plans<'a>(&'a self, ltp: &'a [Row], cp: &'a [CurrentRow]) -> View<'a>
+        requires ltp_rows { AreRows of_row ltp.now }
+        requires ltp_seats { HasSeats of_row ltp.now self.now.seats.items }
+        requires cp_rows { AreRows of_current cp.now }
+        requires cp_seats { HasSeats of_current cp.now self.now.seats.items }
+        ensures { shown result ≡ with_plans_alone (look_up row_serial ltp.now) (look_up current_serial cp.now)
+            (content_of self.now) }
+    {
+        View {
+            content: self,
+            ltp,
+            cp,
+            history: &[],
+            deletions: &[],
+            pairs: &self.buffer.no_pairs,
+        }
+    }
+
+    // A window of all rows and pairs.
+    fn whole_window(&self) -> View<'_>
+        ensures { shown result ≡ content_of self.now }
+    {
+        View {
+            content: self,
+            ltp: &self.ltp,
+            cp: &self.cp,
+            history: &self.history,
+            deletions: &self.deletions,
+            pairs: &self.pairs,
         }
     }
 
