@@ -13,3 +13,5 @@ mod soundness;
 mod stores;
 #[cfg(test)]
 mod streams;
+#[cfg(test)]
+mod windows;

@@ -1,12 +1,15 @@
-use Rattle.std.proofs.Common.{◌≡◌, ◌∙◌, rules, arith, length, refl, sym, ap, Some}
+use Rattle.std.proofs.Common.{◌≡◌, ◌∙◌, ℕ, rules, arith, length, refl, sym, ap, subst, Option, Some}
 use Rattle.planner_machine.specs.DailyPlan.{waiting}
-use Rattle.plan_store.specs.Views.{shown}
+use Rattle.keyed_lists.specs.Rows.{of_current}
+use Rattle.occurrences.specs.declared.place.CurrentRow.{CurrentRow}
+use Rattle.plan_store.specs.Views.{IsAny, ListsSet, shown}
+use Rattle.plan_store.proofs.WindowLemmas.{early_lists}
 use Rattle.plan_store.specs.declared.changes.Change.{Change}
 use Rattle.daily_planning.proofs.DailyLemmas.{daily_replied}
 use Rattle.daily_planning.proofs.daily_plans.daily_plan.Goals as goal
 
 pub returns : goal.returns
-returns c sound is =
+returns c c' has sound is =
     let t = c.args.to in
     let b = c.args.bounds.now in
     let none = c.none-change.result in
@@ -18,8 +21,12 @@ returns c sound is =
       history = record none.history { put = c.in_ok-completed.completed };
       deletions = record none.deletions { put = c.in_ok-deleted.deleted };
     } in
-    daily_replied t b (shown c.args.view.now) sound is c.in_ok-moved.moved.items c.cp-rows.result.now
-    c.in_ok-moved.ensures.rows c.cp-rows.ensures.rows change
+    let rows = c.cp-rows.result.now in
+    let moved = c.in_ok-moved.moved.items in
+    let moved_list = early_lists t (shown c.args.view.now).sets.ltp c'.sets.ltp has.ltp moved c.in_ok-moved.ensures in
+    let current = subst (λ (cp : ℕ → Option CurrentRow). ListsSet of_current cp IsAny rows) has.cp c.cp-rows.ensures.rows
+    in
+    daily_replied t b c' sound is moved rows moved_list current change
     (record {
       definitions = nothing.definitions;
       bounds = refl;
@@ -42,8 +49,7 @@ returns c sound is =
       job = nothing.job;
     })
     c.len.result c.count_uncompleted.result c.len-2.result c.len-3.result
-    (let e : c.len.result ≡ length c.in_ok-moved.moved.items = omega arith in
-    e ∙ c.in_ok-moved.ensures.count sound.serials)
+    (let e : c.len.result ≡ length c.in_ok-moved.moved.items = omega arith in e)
     c.count_uncompleted.ensures
     (let e : c.len-2.result ≡ length c.in_ok-completed.completed.items = omega arith in
     e ∙ ap length c.in_ok-completed.ensures)

@@ -1,12 +1,12 @@
 use Rattle.std.proofs.Common.{◌≡◌, ◌≢◌, ◌+◌, ◌∙◌, ◌⊎◌, ap, inl, inr, sym}
-use Rattle.plan_store.specs.Contents.{content_of}
+use Rattle.plan_store.specs.Views.{shown}
 use Rattle.plan_store.proofs.ArrivalLemmas.{other_name, nearest_none, nearest_some, same_name}
 use Rattle.plan_store.proofs.views.View.nearest.Goals as goal
 use Rattle.plan_store.proofs.views.View.nearest.Goals.{then-eq, else-eq}
 
 pub returns-in-Some : goal.returns-in-Some
 returns-in-Some c numbered =
-    let s = (content_of c.args.self.now.content.now).sets in
+    let s = (shown c.args.self.now).sets in
     let key = c.args.key.now in
     let app = c.args.app.now in
     let limit = c.if-eq.limit in
@@ -27,7 +27,7 @@ returns-in-Some c numbered =
 
 pub returns-in-None : goal.returns-in-None
 returns-in-None c numbered =
-    let s = (content_of c.args.self.now.content.now).sets in
+    let s = (shown c.args.self.now).sets in
     let key = c.args.key.now in
     let app = c.args.app.now in
     let limit = c.if-eq.limit in
