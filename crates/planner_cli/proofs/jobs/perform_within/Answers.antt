@@ -11,7 +11,7 @@ use Rattle.planner_cli.proofs.jobs.perform_within.Goals as goal
 pub settle-requires-clause-fits : goal.settle-requires-clause-fits
 settle-requires-clause-fits g c honest =
     let reads = c.read_window.follows.holds-at-none in
-    let is = c.need_of.ensures ∙ ap (λ b. need_of b c.args.change) (c.requires.reach (reads.honest honest)) in
+    let is = c.need_of-need.ensures ∙ ap (λ b. need_of b c.args.change) (c.requires.reach (reads.honest honest)) in
     let shows = subst (λ n. Shows n c.in_ok-view.view (g.S.PlanStore.content c.args.store.now)) is
     (rw c.in_ok-view.was at reads.right honest) in
     let change = job_change c.args.change in
@@ -23,7 +23,7 @@ settle-requires-clause-fits g c honest =
 pub settle-requires-clause-sound : goal.settle-requires-clause-sound
 settle-requires-clause-sound g c honest =
     let reads = c.read_window.follows.holds-at-none in
-    let is = c.need_of.ensures ∙ ap (λ b. need_of b c.args.change) (c.requires.reach (reads.honest honest)) in
+    let is = c.need_of-need.ensures ∙ ap (λ b. need_of b c.args.change) (c.requires.reach (reads.honest honest)) in
     let shows = subst (λ n. Shows n c.in_ok-view.view (g.S.PlanStore.content c.args.store.now)) is
     (rw c.in_ok-view.was at reads.right honest) in
     let change = job_change c.args.change in
@@ -40,7 +40,7 @@ returns g c =
     after_read _ _ _ _ _ _ _ _ reads c.settle.new.store c.settle.result (AnswersBoth c.args.number c.args.text change)
     (answers_so _ _ _ _ _ _ _ _ _ (λ honest reply c'.
     let honest' = c.settle.ensures.honest honest in
-    let is = c.need_of.ensures ∙ ap (λ b. need_of b c.args.change) (c.requires.reach (reads.honest honest')) in
+    let is = c.need_of-need.ensures ∙ ap (λ b. need_of b c.args.change) (c.requires.reach (reads.honest honest')) in
     let shows = subst (λ n. Shows n c.in_ok-view.view (g.S.PlanStore.content c.args.store.now)) is
     (rw c.in_ok-view.was at reads.right honest') in
     let decided = c.in-Ok.ensures (g.S.PlanStore.content c.args.store.now) shows
