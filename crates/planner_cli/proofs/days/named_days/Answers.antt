@@ -6,7 +6,7 @@ use Rattle.planner_cli.proofs.days.named_days.Goals as goal
 
 pub named_by_index-requires-clause-index : goal.named_by_index-requires-clause-index
 named_by_index-requires-clause-index c d =
-    ap (λ index. is_work_in index d) c.index.ensures ∙ c.in_ok-index.ensures d
+    ap (λ index. is_work_in index d) c.index-2.ensures ∙ c.in_ok-index.ensures d
     ∙ ap (λ name. work_in c.args.all.now name d) c.calendar_name-calendar.ensures
 
 pub returns-clause-listed : goal.returns-clause-listed
