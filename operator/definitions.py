@@ -7,7 +7,7 @@ import bisect
 import dataclasses
 
 FIRST_DAY, LAST_DAY = 730, 37254  # 1972-01-01 and 2071-12-31
-LAST_PLANNING_DAY = 36159  # 2068-12-31
+LAST_PLANNING_DAY = 35063  # 2065-12-31
 WEEKDAYS = ("MON", "TUE", "WED", "THU", "FRI", "SAT", "SUN")
 
 

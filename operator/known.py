@@ -62,12 +62,21 @@ class Known:
         elif statement.name == "ltp-extend" and self.bounds:
             self.bounds[1] = values["to"]
         elif statement.name == "dp-extend" and self.bounds:
-            self.bounds[2] = values["to"]
+            self.bounds[2] = values["to"] if "to" in values else self.end_by(values["days"], values["count"])
         serial = re.match(r"ok serial ([0-9]+)(?: status ([WSECD]))?$", reply)
         if serial and "ia" in values:
             key = f"{values['app']} {moments.moment_text(values['ia'])}"
             self.rows[int(serial.group(1))] = key
             self.statuses[key] = serial.group(2) or ("W" if statement.name == "cp-add" else None)
+
+    def end_by(self, number, count):
+        """The plan end that a number of days gives, all days or work days of the default calendar."""
+        day, minute = divmod(self.bounds[2], moments.DAY)
+        calendar = self.defined.calendars.get(self.defined.default_calendar, definitions.Calendar())
+        while number and day <= definitions.LAST_DAY:
+            number -= count == "A" or calendar.is_work(day)
+            day += 1
+        return day * moments.DAY + minute
 
     def define(self, item):
         """Takes the definitions of a block."""

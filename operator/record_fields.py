@@ -121,7 +121,7 @@ def take_period(found, texts, seen):
     period, kind, origin = texts.name("period", 8), texts.one_of("type", ("A", "W", "N")), texts.day("origin")
     before = found.get(period)
     if kind != "N":
-        interval = texts.number("second", 1, 999)
+        interval = texts.number("second", 1, 1999)
         again(f"period {period}, and types A and W have one", seen, (period,))
         found[period] = Period(kind, origin, interval)
         return (period,)
@@ -151,9 +151,9 @@ def read_offsets(texts):
     if len(parts) > 64:
         raise Wrong("offsets", f"it has {len(parts)} offsets, and at most 64 may stand")
     for part in parts:
-        if not re.fullmatch(r"-?[1-9][0-9]{0,2}", part):
+        if not re.fullmatch(r"-?(1[0-9]{3}|[1-9][0-9]{0,2})", part):
             wrong = f"`{part[:20]}` is no offset" if part else "there is an empty offset (one blank stands between two)"
-            raise Wrong("offsets", f"{wrong}: each is 1 to 999 or -1 to -999")
+            raise Wrong("offsets", f"{wrong}: each is 1 to 1999 or -1 to -1999")
     return list(map(int, parts))
 
 

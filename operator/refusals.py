@@ -5,9 +5,9 @@ import moments
 import stream
 
 DATES = {
-    "days": "the last day is before the first one or after 2068-12-31, or there are more than 1,461 days",
-    "ltp-create": "the last day is before the first one, after 2068-12-31, or more than 1,461 days after the first one",
-    "ltp-extend": "the new last day isn't later than the old one, is after 2068-12-31, or is more than 1,461 days "
+    "days": "the last day is before the first one or after 2065-12-31, or there are more than 1,461 days",
+    "ltp-create": "the last day is before the first one, after 2065-12-31, or more than 1,461 days after the first one",
+    "ltp-extend": "the new last day isn't later than the old one, is after 2065-12-31, or is more than 1,461 days "
                   "after the day of the current plan's end",
     "ltp-add": "it arrives before the current plan's end or after the last day of the long-term plan",
     "cp-add": "it arrives before the first day of the long-term plan, or not before the current plan's end",
@@ -170,6 +170,8 @@ def too_many(item, detail, known):
 def plan_end_wrong(item, detail, known):
     hours = f"more than {known.defined.max_hours} hours after it (option max_extension_hours)"
     told = f"the new plan end isn't later than the old one, is past the end of the long-term plan, or is {hours}"
+    if "days" in item.statement.values:
+        told += ", or the days give no new end"
     return [told, *bounds_text(known)]
 
 

@@ -39,7 +39,7 @@ RULES = {
         "name": TEXT,
         "type": "{0} IN ('A', 'W', 'N')",
         "origin": DAY,
-        "second": f"(type = 'N' AND {or_null(DAY)} OR type <> 'N' AND {between(1, 999)})",
+        "second": f"(type = 'N' AND {or_null(DAY)} OR type <> 'N' AND {between(1, 1999)})",
     },
     "application": {"name": TEXT, "active": YES_OR_NO, "calendar": or_null(TEXT)},
     "run_cycle": {
@@ -54,7 +54,7 @@ RULES = {
         "deadline_day": or_null(between(0, 99)),
         "deadline_time": or_null(MINUTE),
     },
-    "run_cycle_offset": {"app": TEXT, "name": TEXT, "k": f"({between(-999, 999)} AND {{0}} <> 0)"},
+    "run_cycle_offset": {"app": TEXT, "name": TEXT, "k": f"({between(-1999, 1999)} AND {{0}} <> 0)"},
     "predecessor": {"app": TEXT, "pred": TEXT},
     "link_in_force": {"app": TEXT, "pred": TEXT},
     "ltp_row": ROW,

@@ -12,7 +12,7 @@ ALONE = {  # the words without an option that a statement takes, one of them
     "undefine": KINDS[:-1],
     "ltp-trial": ("create", "extend", "modify-all", "modify-one"),
     "dp-trial": ("extend", "replan"),
-    "list": ("ltp", "cp", "history", "deletions", "dependencies"),
+    "list": ("ltp", "cp", "history", "deletions", "dependencies", "links"),
 }
 NEEDED = {  # the options that have to be there; those of trials stand by the function
     "define": ("job",),
@@ -39,6 +39,8 @@ NEEDED = {  # the options that have to be there; those of trials stand by the fu
 }
 NAMES = [name for name in NEEDED if " " not in name]
 LIST_OPTIONS = ("app",)  # what `list` may have
+BY_DAYS = ("days", "count")  # what an extension has in place of `to`
+EXTENSIONS = ("dp-extend", "dp-trial extend")
 FORMS = {
     "job": "a number from 1 to 999999999 without a leading zero",
     "app": "a name of 1 to 16 of A to Z, 0 to 9, @, # and $, the first no digit",
@@ -46,6 +48,8 @@ FORMS = {
     "short": "a name of 1 to 8 of A to Z, 0 to 9, @, # and $, the first no digit",
     "day": "a day YYYY-MM-DD from 1972-01-01 to 2071-12-31",
     "moment": "a day, / and a minute, YYYY-MM-DD/HH.MM",
+    "days": "a number from 1 to 21 without a leading zero",
+    "count": "`A`, all days, or `W`, work days",
 }
 
 
@@ -87,11 +91,16 @@ def statement_of(words):
         raise Wrong(f"`{name}` takes no word without an option, and `{cut(alone[0])}` is one")
     word = alone[0] if alone else None
     what = f"{name} {word}" if name.endswith("-trial") else name
-    allowed = LIST_OPTIONS if name == "list" else NEEDED[what]
+    needed = NEEDED[what]
+    if what in EXTENSIONS and set(given) & set(BY_DAYS):
+        if "to" in given:
+            raise Wrong(f"`{what}` has `--to`, or `--days` and `--count`, and not both")
+        needed = BY_DAYS + needed[1:]
+    allowed = LIST_OPTIONS if name == "list" else needed
     for option in given:
         if option not in allowed:
             raise Wrong(f"`{what}` has no option `--{cut(option)}`" + near(option, allowed, "--"))
-    for option in NEEDED[what]:
+    for option in needed:
         if option not in given:
             raise Wrong(f"`{what}` lacks its option `--{option}`")
     values = {option: value_of(form_of(what, word, option), option, text) for option, text in given.items()}
@@ -133,7 +142,7 @@ def check_alone(name, alone):
 def form_of(what, word, option):
     """The form of an option's value, a word of FORMS."""
     if option in ("from", "to"):
-        return "moment" if what in ("dp-extend", "dp-trial extend") else "day"
+        return "moment" if what in EXTENSIONS else "day"
     return {"ia": "moment", "name": "short" if word == "periods" else "name"}.get(option, option)
 
 
@@ -149,6 +158,10 @@ def spelled(form, text):
     """The value of a text in a form, or None."""
     if form == "job":
         return int(text) if re.fullmatch(r"[1-9][0-9]{0,8}", text) else None
+    if form == "days":
+        return int(text) if re.fullmatch(r"[1-9]|1[0-9]|2[01]", text) else None
+    if form == "count":
+        return text if text in ("A", "W") else None
     if form == "day":
         return moments.day_of(text)
     if form == "moment":

@@ -21,8 +21,9 @@ def number_of(year, month, day):
 
 
 FIRST_DAY, LAST_DAY = number_of(1972, 1, 1), number_of(2071, 12, 31)
-LAST_PLANNING_DAY = number_of(2068, 12, 31)
+LAST_PLANNING_DAY = number_of(2065, 12, 31)
 DAY = 1440
+LONGEST_INTERVAL, LONGEST_EXTENSION = 1999, 21
 MOST_ROWS, GREATEST_SERIAL, LONGEST_WINDOW = 200_000, 999_999_999, 1461
 WEEKDAYS = ["MON", "TUE", "WED", "THU", "FRI", "SAT", "SUN"]
 
@@ -109,7 +110,7 @@ def take_period(found, fields):
     check(read_name(name, 8) and kind in ("A", "W", "N") and origin is not None)
     before = found.get(name)
     if kind in "AW":
-        interval = read_number(second, 1, 999)
+        interval = read_number(second, 1, LONGEST_INTERVAL)
         check(interval is not None and before is None)
         found[name] = (kind, origin, interval)
         return
@@ -133,7 +134,7 @@ def take_application(found, fields):
 
 def read_offset(text):
     negative = text.startswith("-")
-    size = read_number(text[1:] if negative else text, 1, 999)
+    size = read_number(text[1:] if negative else text, 1, LONGEST_INTERVAL)
     check(size is not None)
     return -size if negative else size
 
@@ -304,7 +305,9 @@ class Planner:
         return sorted(app for app, (is_active, _) in self.defined["applications"].items() if is_active)
 
     def work_days(self, app):
-        name = self.defined["applications"][app][1] or self.options["default_calendar"]
+        return self.work_days_by(self.defined["applications"][app][1] or self.options["default_calendar"])
+
+    def work_days_by(self, name):
         calendar = self.defined["calendars"].get(name, {})
         key = tuple(sorted(calendar.items()))
         if key not in self.calendars:
@@ -499,6 +502,15 @@ class Planner:
 
         return [], f"ok serial {found[0]}", change
 
+    def new_end(self, number, count):
+        """The plan end that a number of days from that of today on gives; one past all days where there is none."""
+        day, minute = divmod(self.ask_plan()[2], DAY)
+        work = self.work_days_by(self.options["default_calendar"])
+        while number and day <= LAST_DAY:
+            number -= count == "A" or work(day)
+            day += 1
+        return (LAST_DAY + 1) * DAY if number or day > LAST_DAY else day * DAY + minute
+
     def daily(self, to):
         first, last, end = self.ask_plan()
         if to is None:
@@ -574,6 +586,9 @@ class Planner:
                 for (day, time), (name, due) in sorted(self.named(app, first, last).items())]
 
     def list(self, what, app):
+        if what == "links":
+            return [f"{name:16} {predecessor:16} {'':4}" for name, listed in sorted(self.in_force.items())
+                    for predecessor in sorted(listed) if app in (None, name)]
         if what == "dependencies":
             rows = {**self.planned, **self.history}
             for held in (self.current, self.deleted):
@@ -615,6 +630,9 @@ JOB = {"job": lambda text: read_number(text, 1, 999_999_999)}
 APP = {"app": lambda text: read_name(text, 16)}
 KEY = {**APP, "ia": read_moment}
 FROM, TO, TO_MOMENT = {"from": read_day}, {"to": read_day}, {"to": read_moment}
+BY_DAYS = {"days": lambda text: read_number(text, 1, LONGEST_EXTENSION),
+           "count": lambda text: text if text in ("A", "W") else None}
+EXTEND, EXTEND_TRIAL = ("dp-extend", None), ("dp-trial", "extend")
 ACTIONS = ("start", "complete", "fail", "reset", "delete")
 OPTIONS_OF = {
     "define": JOB,
@@ -643,7 +661,7 @@ WORDS_OF = {
     "undefine": list(RECORDS),
     "ltp-trial": ["create", "extend", "modify-all", "modify-one"],
     "dp-trial": ["extend", "replan"],
-    "list": ["ltp", "cp", "history", "deletions", "dependencies"],
+    "list": ["ltp", "cp", "history", "deletions", "dependencies", "links"],
 }
 
 
@@ -667,6 +685,8 @@ def read_statement(words):
         return None
     word = alone[0] if alone else None
     forms = OPTIONS_OF.get(f"{name} {word}" if name.endswith("trial") else name)
+    if (name, word) in (EXTEND, EXTEND_TRIAL) and "to" not in given:
+        forms = {**BY_DAYS, **(JOB if word is None else {})}
     if forms is None or not set(given) <= set(forms) or name != "list" and set(given) != set(forms):
         return None
     values = {option: forms[option](text) for option, text in given.items()}
@@ -688,7 +708,7 @@ def decide(planner, name, word, values, block):
         "ltp-modify-one": lambda: planner.modify_one(app),
         "ltp-add": lambda: planner.add(app, key, False),
         "ltp-delete": lambda: planner.delete(app, key),
-        "dp-extend": lambda: planner.daily(to),
+        "dp-extend": lambda: planner.daily(planner.new_end(values["days"], values["count"]) if to is None else to),
         "dp-replan": lambda: planner.daily(None),
         "cp-add": lambda: planner.add(app, key, True),
         **{f"cp-{action}": lambda action=action: planner.act(action, app, key) for action in ACTIONS},

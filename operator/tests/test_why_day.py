@@ -257,7 +257,7 @@ class Mended:
         return reason.to == to and day in self.by_offset(reason.offset) and day not in self.days()
 
     def offsets(self, day, reason):
-        here = [offset for offset in (reason.place, reason.from_end) if offset is not None and abs(offset) <= 999]
+        here = [offset for offset in (reason.place, reason.from_end) if offset is not None and abs(offset) <= 1999]
         named = self.by_offset(*self.cycle["offsets"])
         return all(day in self.by_offset(offset) for offset in here) and day not in named
 

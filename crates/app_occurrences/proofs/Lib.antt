@@ -1,3 +1,4 @@
 pub mod LinkLemmas
+pub mod CalendarIndexLemmas
 pub mod NamedLemmas
 pub mod LeastLemmas

@@ -17,8 +17,9 @@ use Rattle.run_cycles.specs.Occurrence.{PeriodMap, NamesAt, GivesAt, TakesAt, Is
 use Rattle.run_cycles.specs.Occurrence.{ListsOccurrences}
 use Rattle.run_cycles.specs.declared.cycles.RunCycle.{RunCycle}
 use Rattle.run_cycles.specs.declared.named.Named.{Named}
-use Rattle.app_occurrences.specs.Active.{calendar_name, cycles_of}
+use Rattle.app_occurrences.specs.Active.{cycles_of}
 use Rattle.app_occurrences.specs.NamedOccurrences.{AgreeOn, AreIndexesOf, HoldsAlso, IndexMap, ListsNamed, work_in}
+use Rattle.app_occurrences.specs.NamedOccurrences.{work_of}
 use Rattle.definition_records.specs.declared.applications.Application.{Application}
 use Rattle.app_definitions.specs.declared.definitions.Definitions.{Definitions}
 use Rattle.definition_records.proofs.ByNameLemmas.{get-inserted, name_itself, same_name}
@@ -192,17 +193,14 @@ indexes_more all m name index built are other found there d =
     at false e h = are other found h d
 
 -- what is listed with the index of an application's calendar, and with the periods of its run cycles
-pub named_listed : (all : Definitions) (app : List ℕ) (a : Application) (indexes : IndexMap) (name : List ℕ)
+pub named_listed : (all : Definitions) (app : List ℕ) (a : Application)
     (index : List Bool) (own : List RunCycle) (periods : PeriodMap) (from to : ℕ) (list : List Named)
-    → name ≡ calendar_name all a → AreIndexesOf all indexes → map.get indexes name ≡ Some index
+    → ((d : ℕ) → is_work_in index d ≡ work_of all a d)
     → own ≡ cycles_of all app → AgreeOn all.periods periods own
     → ListsOccurrences own periods (is_work_in index) from to list → ListsNamed all app a from to list
-named_listed all app a indexes name index own periods from to list named are there cycles agree lists =
-    let test : is_work_in index ≡ work_in all name =
-    same_test (is_work_in index) (work_in all name) (are name index there) in
-    let by_name : ListsOccurrences own periods (work_in all name) from to list =
+named_listed all app a index own periods from to list is cycles agree lists =
+    let test : is_work_in index ≡ work_of all a = same_test (is_work_in index) (work_of all a) is in
+    let by_work : ListsOccurrences own periods (work_of all a) from to list =
     subst (λ w. ListsOccurrences own periods w from to list) test lists in
-    let moved = occurrences_move own periods all.periods (work_in all name) from to list agree by_name in
-    let of_app : ListsOccurrences (cycles_of all app) all.periods (work_in all name) from to list =
-    subst (λ cs. ListsOccurrences cs all.periods (work_in all name) from to list) cycles moved in
-    subst (λ n. ListsOccurrences (cycles_of all app) all.periods (work_in all n) from to list) named of_app
+    let moved = occurrences_move own periods all.periods (work_of all a) from to list agree by_work in
+    subst (λ cs. ListsOccurrences cs all.periods (work_of all a) from to list) cycles moved

@@ -1,3 +1,4 @@
 pub mod Active
 pub mod Links
+pub mod CalendarIndex
 pub mod NamedOccurrences

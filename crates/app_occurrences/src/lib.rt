@@ -12,13 +12,15 @@
 #![tactic(auto)]
 
 mod applications;
+mod calendar_index;
 mod least_names;
 mod links;
 mod named;
 mod work_indexes;
 
 pub use applications::{active, calendar_name, cycles_of, lacks_calendar, lacks_period};
+pub use calendar_index::CalendarIndex;
 pub use least_names::{least_without_calendar, least_without_period};
 pub use links::defined_links;
-pub use named::named_occurrences;
+pub use named::{named_by_index, named_occurrences};
 pub use work_indexes::WorkIndexes;

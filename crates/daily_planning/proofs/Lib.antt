@@ -6,3 +6,6 @@ pub mod StatusLemmas
 pub mod ActLemmas
 pub mod ResetLemmas
 pub mod WaitLemmas
+pub mod NewEndLemmas
+pub mod DailyByLemmas
+pub mod DailyWindowLemmas

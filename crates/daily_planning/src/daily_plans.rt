@@ -3,16 +3,18 @@ ghost use Rattle.std.specs.List.{filter};
 ghost use Rattle.planner_machine.specs.Content.{Content};
 ghost use Rattle.planner_machine.specs.DailyPlan.{deleted_in_plan, is_completed, is_deleted, is_uncompleted, waiting};
 ghost use Rattle.planner_machine.specs.DailyExtend.{IsBadPlanEnd, dp_extend};
+ghost use Rattle.planner_machine.specs.DailyExtendBy.{dp_extend_by};
 ghost use Rattle.planner_machine.specs.Replan.{dp_replan};
 ghost use Rattle.planner_machine.specs.Sound.{IsSound};
 ghost use Rattle.plan_store.specs.Verdicts.{VerdictIs};
 ghost use Rattle.plan_store.specs.Views.{Shows};
-ghost use Rattle.plan_store.specs.declared.stores.Need.TheVariants.{Daily};
-ghost use Rattle.daily_planning.specs.DailyPlans.{DoesDaily, is_finished, replan_need};
+ghost use Rattle.plan_store.specs.declared.stores.Need.TheVariants.{Daily, LongTerm};
+ghost use Rattle.daily_planning.specs.DailyPlans.{DoesDaily, HasDailyRows, is_finished, replan_need};
 
+use crate::new_ends::new_end;
 use occurrences::{CurrentRow, Deletion, Reason, Refusal, Reply, Row, Status};
 use plan_store::{Change, Need, Verdict, View};
-use planner_machine::Bounds;
+use planner_machine::{Bounds, Count, daily_plans};
 use std::alloc::{AllocError, Global};
 use work_calendars::Moment;
 
@@ -20,6 +22,14 @@ use work_calendars::Moment;
 /// after the plan end, past the end of the last day, or more hours on than the options allow (32).
 pub fn extend(alloc: Global, view: &View<'_>, to: Moment) -> Result<Verdict, AllocError>
     ensures { IfOk result (λ verdict. (c : Content) → Shows (Daily to) view.now c → IsSound c →
+        VerdictIs (dp_extend to) c verdict) }
+{
+    extend_to(alloc, view, to)
+}
+
+// The same over any window that has the rows of a daily plan to the moment.
+fn extend_to(alloc: Global, view: &View<'_>, to: Moment) -> Result<Verdict, AllocError>
+    ensures { IfOk result (λ verdict. (c : Content) → HasDailyRows to view.now c → IsSound c →
         VerdictIs (dp_extend to) c verdict) }
 {
     let Some(bounds) = view.bounds() else {
@@ -31,6 +41,27 @@ pub fn extend(alloc: Global, view: &View<'_>, to: Moment) -> Result<Verdict, All
     }
     let (change, reply) = daily_plan(alloc, view, &bounds, to)?;
     Ok(Verdict::Done(change, reply))
+}
+
+/// `dp-extend` by days: the daily plan to the new end that they give. It is refused where nothing is planned (20), and
+/// where they give no new end, or one to which the plan can't be extended (32).
+pub fn extend_by(
+    alloc: Global,
+    view: &View<'_>,
+    days: u8,
+    count: Count,
+) -> Result<Verdict, AllocError>
+    ensures { IfOk result (λ verdict. (c : Content) → Shows LongTerm view.now c → IsSound c →
+        VerdictIs (dp_extend_by days count) c verdict) }
+{
+    daily_plans();
+    let Some(bounds) = view.bounds() else {
+        return Ok(Verdict::Refused(Refusal::NoPlan));
+    };
+    match new_end(alloc, view.definitions(), bounds.plan_end, days, count)? {
+        Some(to) => extend_to(alloc, view, to),
+        None => Ok(Verdict::Refused(Refusal::PlanEndOutOfRange)),
+    }
 }
 
 /// What `dp-replan` has to see where the plans reach so far: what a daily plan to the plan end asks, and the definitions
@@ -74,10 +105,10 @@ fn daily_plan(
     bounds: &Bounds,
     to: Moment,
 ) -> Result<(Change, Reply), AllocError>
-    ensures { IfOk result (λ done. (c : Content) → Shows (Daily to) view.now c → IsSound c →
+    ensures { IfOk result (λ done. (c : Content) → HasDailyRows to view.now c → IsSound c →
         c.sets.bounds ≡ Some bounds.now → DoesDaily to c done.0 done.1) }
 {
-    let moved = owned_rows(alloc, view.ltp())?;
+    let moved = view.ltp_before(alloc, to)?;
     let rows = view.cp();
     let finished = finished_rows(alloc, rows)?;
     let completed = completed_rows(alloc, rows)?;
@@ -99,13 +130,6 @@ fn daily_plan(
     change.history.put = completed;
     change.deletions.put = deleted;
     Ok((change, reply))
-}
-
-// The rows as a list of their own.
-fn owned_rows(alloc: Global, rows: &[Row]) -> Result<Vec<Row>, AllocError>
-    ensures { IfOk result (λ owned. owned.items ≡ rows.now) }
-{
-    rows.iter().copied().collect(alloc)
 }
 
 // The rows of the current plan that a daily plan takes from it: those that are complete or deleted.

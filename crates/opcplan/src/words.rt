@@ -35,13 +35,15 @@ Statements, one a line:
   ltp-create --from D --to D --job N            ltp-extend --to D --job N
   ltp-modify-all --job N                        ltp-modify-one --app A --job N
   ltp-add, ltp-delete --app A --ia M --job N    ltp-trial FUNCTION [--from D] [--to D] [--app A]
-  dp-extend --to M --job N                      dp-replan --job N
-  dp-trial FUNCTION [--to M]                    cp-add --app A --ia M --job N
+  dp-extend --to M --job N                      dp-extend --days K --count C --job N
+  dp-replan --job N                             dp-trial FUNCTION [--to M] [--days K] [--count C]
+  cp-add --app A --ia M --job N
   cp-start, cp-complete, cp-fail, cp-reset, cp-delete --app A --ia M --job N
 
 KIND: calendars, periods, applications, run-cycles, predecessors, options
-WHAT: ltp, cp, history, deletions, dependencies
+WHAT: ltp, cp, history, deletions, dependencies, links
 D: 2024-01-31   M: 2024-01-31/08.00   N: 1 to 999999999, a new one for each job
+K: 1 to 21      C: A, all days, or W, work days
 
 Exit status: 0 all accepted, 4 some refused, 8 a fault or wrong words.
 A file with sums is held to them always: a page with a wrong one is a fault. sqlite3 reads

@@ -5,6 +5,10 @@ use Rattle.std.specs.Prelude.{ℕ, ◌-◌, List, [], ◌∷◌, ◌++◌, lengt
 abbrev pub left_in : ℕ → List ℕ → List ℕ
 left_in width text = text ++ replicate (width - length text) 32
 
+-- a text right in so many places, with blanks before it
+abbrev pub right_in : ℕ → List ℕ → List ℕ
+right_in width text = replicate (width - length text) 32 ++ text
+
 -- a line and the line feed that ends it
 abbrev pub ended : List ℕ → List ℕ
 ended line = line ++ 10 ∷ []

@@ -7,11 +7,13 @@
 
 mod days;
 mod line;
+mod links;
 mod replies;
 mod report;
 mod rows;
 
 pub use days::days_line;
+pub use links::link_line;
 pub use replies::{refusal_line, reply_line};
 pub use report::{Signed, dp_report, ltp_report};
 pub use rows::{marked_line, pair_line, row_line};

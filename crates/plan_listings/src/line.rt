@@ -1,6 +1,6 @@
 ghost use Rattle.std.specs.Prelude.{◌≡◌, ◌+◌, ◌≤◌, ◌<◌, ◌++◌, ◌∷◌, [], length};
 ghost use Rattle.arrayvec.specs.ArrayVec.{array_vec_len};
-ghost use Rattle.plan_listings.specs.Line.{left_in};
+ghost use Rattle.plan_listings.specs.Line.{left_in, right_in};
 
 use arrayvec::ArrayVec;
 
@@ -29,4 +29,16 @@ pub(crate) fn append_left<const N: usize>(line: &mut ArrayVec<u8, N>, text: &[u8
 {
     append(line, text);
     append(line, &BLANKS[..width - text.len()]);
+}
+
+// Writes a text right in so many places, with blanks before it.
+pub(crate) fn append_right<const N: usize>(line: &mut ArrayVec<u8, N>, text: &[u8], width: usize)
+    requires fits { length text.now ≤ width }
+    requires room { array_vec_len line.old + width ≤ N }
+    requires narrow { width ≤ 16 }
+    ensures items { line.new.items ≡ line.old.items ++ right_in width text.now }
+    ensures len { array_vec_len line.new ≡ array_vec_len line.old + width }
+{
+    append(line, &BLANKS[..width - text.len()]);
+    append(line, text);
 }

@@ -35,7 +35,7 @@ use Rattle.keyed_lists.specs.Rows.{AreRows, look_up, of_current, of_deletion, of
 use Rattle.keyed_lists.proofs.KeyLemmas.{contains_cases, contains_first, contains_later, nothing}
 use Rattle.plan_store.specs.Listed.{EndsWithin, ShowsSet, is_of_app, link_at, link_of, links_at, row_at, row_in}
 use Rattle.plan_store.specs.Listed.{shown_as, with_link}
-use Rattle.plan_store.specs.Listings.{HandsAll, HandsPart, ShowPairs, ShowRows, Shown, TakesAll, link_shown, row_shown}
+use Rattle.plan_store.specs.Listings.{HandsAll, HandsPart, ShowRows, Shown, TakesAll, link_shown, row_shown}
 use Rattle.plan_store.specs.declared.listings.ListFault.{ListFault}
 use Rattle.plan_store.specs.declared.listings.ListFault.TheVariants.{Sink}
 use Rattle.plan_store.specs.declared.listings.SinkFault.{SinkFault}
@@ -432,28 +432,26 @@ module _ {K : Type 0} (Takes Refuses : K → Shown → K → Type 0) (old new : 
   whole_part (Ok n) h = tt
   whole_part (Err e) h = record { done = h.done; rest = h.rest; whole = to (h.done ++ h.rest) h.whole; ends = h.ends }
 
-module _ {K : Type 0} (Takes Refuses : K → Shown → K → Type 0) (old new : K) (c : Content) (app : Option (List ℕ))
-    (lists : ListsPairs app c (links_at c.sets app c.pairs)) where
-  pub pairs_all : (r : Result ℕ ListFault) → IfOk r (λ count. (count ≡ length (links_at c.sets app c.pairs))
-      × TakesAll Takes old (map link_shown (links_at c.sets app c.pairs)) new)
-      → IfOk r (HandsAll Takes (ShowPairs app c) old new)
-  pairs_all (Ok n) h = record {
-    items = map link_shown (links_at c.sets app c.pairs);
-    whole = (links_at c.sets app c.pairs, lists, refl);
+-- all that is shown of a list is handed, or its first part
+module _ {X K : Type 0} (Takes Refuses : K → Shown → K → Type 0) (old new : K) (show : X → Shown) (xs : List X)
+    (IsWhole : List Shown → Type 0) (whole : IsWhole (map show xs)) where
+  pub shown_all : (r : Result ℕ ListFault) → IfOk r (λ count. (count ≡ length xs)
+      × TakesAll Takes old (map show xs) new) → IfOk r (HandsAll Takes IsWhole old new)
+  shown_all (Ok n) h = record {
+    items = map show xs;
+    whole = whole;
     taken = h.1;
-    counted = h.0 ∙ sym (length-map (links_at c.sets app c.pairs) link_shown);
+    counted = h.0 ∙ sym (length-map xs show);
   }
-  pairs_all (Err e) h = tt
+  shown_all (Err e) h = tt
 
-  pub pairs_part : (r : Result ℕ ListFault)
-      → IfErr r (λ fault. EndsWithin Takes Refuses old (map link_shown (links_at c.sets app c.pairs)) new fault)
-      → IfErr r (HandsPart Takes Refuses (ShowPairs app c) old new)
-  pairs_part (Ok n) h = tt
-  pairs_part (Err e) h = record {
+  pub shown_part : (r : Result ℕ ListFault) → IfErr r (λ fault. EndsWithin Takes Refuses old (map show xs) new fault)
+      → IfErr r (HandsPart Takes Refuses IsWhole old new)
+  shown_part (Ok n) h = tt
+  shown_part (Err e) h = record {
     done = h.done;
     rest = h.rest;
-    whole =
-        (links_at c.sets app c.pairs, lists, sym h.parts);
+    whole = subst IsWhole h.parts whole;
     ends = h.ends;
   }
 

@@ -10,14 +10,14 @@ use Rattle.planner_machine.specs.Moves.{keep}
 use Rattle.keyed_lists.specs.Rows.{AreRows, look_up, of_current, of_row}
 use Rattle.keyed_lists.specs.Seats.{HasSeats}
 use Rattle.keyed_lists.specs.declared.seats.Seat.{Seat}
-use Rattle.keyed_lists.proofs.KeyLemmas.{contains_filter}
+use Rattle.keyed_lists.proofs.KeyLemmas.{contains_filter, filter_contains}
 use Rattle.occurrences.specs.declared.place.CurrentRow.{CurrentRow}
 use Rattle.plan_store.specs.Contents.{content_of}
 use Rattle.plan_store.specs.Views.{IsAny, ListsSet, Shows, named, row_serial, shown, with_plans_alone}
 use Rattle.plan_store.specs.declared.contents.Content.{Content as Kept}
 use Rattle.plan_store.specs.declared.stores.Need.TheVariants.{Daily}
 use Rattle.plan_store.specs.declared.views.View.{View}
-use Rattle.plan_store.proofs.ViewLemmas.{filter_rows, look_filter}
+use Rattle.plan_store.proofs.ViewLemmas.{filter_rows, lists_part, look_filter}
 
 -- what is kept was there, and passes
 kept_one : {X : Type 0} (p : X → Bool) (x y : X) (b : Bool) → p y ≡ b → (if b then Some y else None) ≡ Some x
@@ -61,23 +61,53 @@ module _ (t : ℕ) (kept : Kept) (early : List Row) (is : early ≡ filter (arri
       ≡ named (Daily t) (content_of kept)
   early_named i = with_plans_alone (λ serial. early_look serial i) (content_of kept).sets.cp (content_of kept)
 
+-- the rows of a list that arrive before a moment
+pub lists_early : (t : ℕ) (xs : List Row) → AreRows of_row xs → (found : List Row)
+    → found ≡ filter (arrives_before t) xs → ListsSet of_row (look_up row_serial xs) (λ row. row.key.ia < t) found
+lists_early t xs rows found is =
+    subst (ListsSet of_row (look_up row_serial xs) (λ row. row.key.ia < t)) (sym is)
+    (lists_part of_row (λ row. row.key.ia < t) xs (filter (arrives_before t) xs) rows
+    (filter_rows of_row (arrives_before t) xs rows).keyed (λ row. (
+      (λ there. let from = contains_filter (arrives_before t) xs row there in (from.0, ltb-true row.key.ia t from.1)),
+      λ both. filter_contains (arrives_before t) xs row both.0 (lt-ltb row.key.ia t both.1),
+    )))
+
+kept_twice : {X : Type 0} (p : X → Bool) (o : Option X) → keep p (keep p o) ≡ keep p o
+kept_twice p None = refl
+kept_twice p (Some x) = elim (p x) as
+    (λ b. p x ≡ b → keep p (if b then Some x else None) ≡ (if b then Some x else None)) [
+      | true ↦ λ e. rw e refl
+      | false ↦ λ e. refl
+    ] refl
+
+-- two sets that have the same rows before a moment
+module _ (t : ℕ) (s s' : ℕ → Option Row) (same : (serial : ℕ) → moved t (s serial) ≡ moved t (s' serial)) where
+  in_both : (row : Row) → s row.serial ≡ Some row → row.key.ia < t → s' row.serial ≡ Some row
+  in_both row is lt =
+      (kept_is (arrives_before t) (s' row.serial) row
+      (sym (same row.serial) ∙ is_kept (arrives_before t) (s row.serial) row is (lt-ltb row.key.ia t lt))).0
+
+  in_first : (row : Row) → s' row.serial ≡ Some row → row.key.ia < t → s row.serial ≡ Some row
+  in_first row is lt =
+      (kept_is (arrives_before t) (s row.serial) row
+      (same row.serial ∙ is_kept (arrives_before t) (s' row.serial) row is (lt-ltb row.key.ia t lt))).0
+
+  pub early_lists : (rows : List Row) → ListsSet of_row s (λ row. row.key.ia < t) rows
+      → ListsSet of_row s' (λ row. row.key.ia < t) rows
+  early_lists rows lists = record {
+    rows = lists.rows;
+    exactly = λ row. (
+      (λ there. let both = (lists.exactly row).0 there in (in_both row both.0 both.1, both.1)),
+      λ both. (lists.exactly row).1 (in_first row both.0 both.1, both.1),
+    );
+  }
+
 -- a window for a daily plan to t
 module _ (t : ℕ) (view : View) (c : Content) (shows : Shows (Daily t) view c) where
-  -- lists the rows of the long-term plan that arrive before t
-  pub daily_ltp : ((serial : ℕ) (row : Row) → c.sets.ltp serial ≡ Some row → row.serial ≡ serial) → (rows : List Row)
-      → ListsSet of_row (shown view).sets.ltp IsAny rows → ListsSet of_row c.sets.ltp (λ row. row.key.ia < t) rows
-  daily_ltp numbered rows lists =
-      let those = subst (λ (x : Content). ListsSet of_row x.sets.ltp IsAny rows) shows lists in
-      record {
-        rows = those.rows;
-        exactly = λ row. (
-          (λ there.
-              let is = kept_is (arrives_before t) (c.sets.ltp row.serial) row ((those.exactly row).0 there).0 in
-              (is.0, ltb-true row.key.ia t is.1)),
-          λ both. (those.exactly row).1
-              (is_kept (arrives_before t) (c.sets.ltp row.serial) row both.0 (lt-ltb row.key.ia t both.1), tt),
-        );
-      }
+  -- has the rows of the long-term plan that arrive before t
+  pub daily_same : (serial : ℕ) → moved t ((shown view).sets.ltp serial) ≡ moved t (c.sets.ltp serial)
+  daily_same serial = ap (λ (x : Content). moved t (x.sets.ltp serial)) shows
+      ∙ kept_twice (arrives_before t) (c.sets.ltp serial)
 
   -- and all rows of the current plan
   pub daily_cp : (rows : List CurrentRow) → ListsSet of_current (shown view).sets.cp IsAny rows

@@ -6,10 +6,11 @@ use Rattle.occurrences.specs.declared.place.Place.{Place}
 use Rattle.occurrences.specs.declared.place.Place.TheVariants.{LongTerm, Current, History, Deleted}
 use Rattle.occurrences.specs.declared.row.Row.{Row}
 use Rattle.occurrences.specs.declared.status.Status.TheVariants.{C}
+use Rattle.external_dependencies.specs.declared.links.Link.{Link}
 use Rattle.external_dependencies.specs.declared.rows.PlacedRow.{PlacedRow}
 use Rattle.planner_machine.specs.Content.{Content}
 use Rattle.planner_machine.specs.Shown.{Listed, LongTermPlan, CurrentPlan, InHistory, InDeletions}
-use Rattle.planner_machine.specs.Shown.{LinkedRows, ListsPairs, ListsRows}
+use Rattle.planner_machine.specs.Shown.{LinkedRows, ListsLinks, ListsPairs, ListsRows}
 use Rattle.plan_store.specs.declared.listings.Item.{Item}
 use Rattle.plan_store.specs.declared.listings.Item.TheVariants as Items
 use Rattle.plan_store.specs.declared.listings.ListFault.{ListFault}
@@ -17,16 +18,19 @@ use Rattle.plan_store.specs.declared.listings.ListFault.TheVariants as Faults
 use Rattle.plan_store.specs.declared.listings.What.{What}
 use Rattle.plan_store.specs.declared.listings.What.TheVariants as Whats
 
--- what an item shows: a row alone, a row and its letter, or a successor and its predecessor
+-- what an item shows: a row alone, a row and its letter, a successor and its predecessor, or an application and a
+-- predecessor in its list
 pub data Shown : Type 0 where
   Plain : Row → Shown
   Marked : Row → ℕ → Shown
   Linked : Row → Row → Shown
+  InForce : Link → Shown
 
 abbrev pub item_shown : Item → Shown
 item_shown (Items.Plan row) = Plain row.now
 item_shown (Items.Marked row letter) = Marked row.now letter
 item_shown (Items.Pair successor predecessor) = Linked successor.now predecessor.now
+item_shown (Items.Link link) = InForce link.now
 
 -- a row as the list of its set shows it
 abbrev pub shown_at : Place → Row → Shown
@@ -41,6 +45,9 @@ row_shown p = shown_at p.place p.row
 abbrev pub link_shown : LinkedRows → Shown
 link_shown l = Linked l.successor l.predecessor
 
+abbrev pub in_force_shown : Link → Shown
+in_force_shown link = InForce link
+
 -- the items of a listing, in its order
 abbrev pub ShowRows : Listed → Option (List ℕ) → Content → List Shown → Type 0
 ShowRows listed app c items =
@@ -49,12 +56,16 @@ ShowRows listed app c items =
 abbrev pub ShowPairs : Option (List ℕ) → Content → List Shown → Type 0
 ShowPairs app c items = (links : List LinkedRows) × ListsPairs app c links × (items ≡ map link_shown links)
 
+abbrev pub ShowLinks : Option (List ℕ) → Content → List Shown → Type 0
+ShowLinks app c items = (links : List Link) × ListsLinks app c links × (items ≡ map in_force_shown links)
+
 abbrev pub IsListing : What → Option (List ℕ) → Content → List Shown → Type 0
 IsListing Whats.Ltp app c items = ShowRows LongTermPlan app c items
 IsListing Whats.Cp app c items = ShowRows CurrentPlan app c items
 IsListing Whats.History app c items = ShowRows InHistory app c items
 IsListing Whats.Deletions app c items = ShowRows InDeletions app c items
 IsListing Whats.Dependencies app c items = ShowPairs app c items
+IsListing Whats.Links app c items = ShowLinks app c items
 
 -- the sink takes the items, one after another
 abbrev pub TakesAll : {K : Type 0} → (K → Shown → K → Type 0) → K → List Shown → K → Type 0

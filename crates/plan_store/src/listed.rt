@@ -2,9 +2,11 @@
 ghost use Rattle.std.specs.Prelude.{◌≡◌, ◌≢◌, ◌↔◌, ◌++◌, ℕ, Contains, IfOk, IfErr, OnOk, OnErr, length, map};
 ghost use Rattle.std.specs.Prelude.{List, Option, option_copied, option_map};
 ghost use Rattle.external_dependencies.specs.Arrival.{arrival_cmp};
+ghost use Rattle.external_dependencies.specs.Link.{link_cmp};
 ghost use Rattle.external_dependencies.specs.Nearest.{arrival_of};
 ghost use Rattle.external_dependencies.specs.Pair.{pair_cmp};
 ghost use Rattle.external_dependencies.specs.Rising.{IsRising};
+ghost use Rattle.external_dependencies.specs.declared.links.Link.{Link as LinkValue};
 ghost use Rattle.keyed_lists.specs.Keyed.{IsKeyed};
 ghost use Rattle.keyed_lists.specs.Rows.{AreRows};
 ghost use Rattle.planner_machine.specs.Content.{Sets};
@@ -13,13 +15,13 @@ ghost use Rattle.planner_machine.specs.Sound.{AreNumbered};
 ghost use Rattle.plan_store.specs.Contents.{content_of};
 ghost use Rattle.plan_store.specs.Listed.{AreBySerial, AreInOrder, EndsWithin, ShowsSet, link_at};
 ghost use Rattle.plan_store.specs.Listed.{linked_rows, links_at, row_at, shown_as};
-ghost use Rattle.plan_store.specs.Listings.{HandsAll, HandsPart, IsListing, Shown, TakesAll, link_shown};
+ghost use Rattle.plan_store.specs.Listings.{HandsAll, HandsPart, IsListing, Shown, TakesAll, in_force_shown, link_shown};
 ghost use Rattle.plan_store.specs.declared.listings.What.{What as Showable};
 
 use crate::contents::Content;
 use crate::listings::{Item, ListFault, RowSink, SinkFault, What};
 use crate::slices::of_app;
-use external_dependencies::Pair;
+use external_dependencies::{Link, Links, Pair};
 use keyed_lists::PlanRow;
 use occurrences::{CurrentRow, Deletion, Row, Serial, Status};
 use std::alloc::{AllocError, Global};
@@ -221,6 +223,35 @@ fn hand_links<K: RowSink>(
     Ok(count)
 }
 
+// The lists of one application, or all.
+fn lists_of<'a>(links: &'a Links, app: Option<&App>) -> &'a [Link]
+    ensures rising { IsRising link_cmp result.now }
+    ensures all { (link : LinkValue) → Contains result.now link
+        ↔ (Contains links.now link × IsOfApp (option_copied app.entry) link.app) }
+{
+    match app {
+        Some(app) => links.list(app),
+        None => links.as_slice(),
+    }
+}
+
+// Hands the sink what stands in lists, in its order. No list has a limit.
+fn hand_lists<K: RowSink>(links: &[Link], sink: &mut K) -> Result<usize, ListFault>
+    ensures all { IfOk result (λ count. (count ≡ length links.now)
+        × TakesAll K.takes sink.old (map in_force_shown links.now) sink.new) }
+    ensures part { IfErr result (λ fault. EndsWithin K.takes K.refuses sink.old (map in_force_shown links.now)
+        sink.new fault) }
+    ensures blames { IfErr result (λ fault. fault ≢ ListFault.Device) }
+{
+    for link in links {
+        match sink.take(Item::Link(link)) {
+            Ok(()) => {}
+            Err(fault) => return Err(ListFault::Sink(fault)),
+        }
+    }
+    Ok(links.len())
+}
+
 impl Content {
     // The occurrences of all sets, by serial.
     fn by_serial(&self, alloc: Global) -> Result<Vec<&Row>, AllocError>
@@ -289,6 +320,7 @@ impl Content {
             What::History => hand_rows(alloc, &self.history, app, false, sink),
             What::Deletions => hand_rows(alloc, &self.deletions, app, false, sink),
             What::Dependencies => self.hand_pairs(alloc, app, sink),
+            What::Links => hand_lists(lists_of(&self.in_force, app), sink),
         }
     }
 
@@ -298,5 +330,6 @@ impl Content {
             → (items : List Shown) × IsListing what app (content_of self.now) items }
     {
         let _rising = self.pairs.as_slice();
+        let _lists = self.in_force.as_slice();
     }
 }

@@ -1,6 +1,7 @@
 ghost use Rattle.std.specs.Prelude.{OnOk, OnErr};
 ghost use Rattle.plan_store.specs.Listings.{Shown, item_shown};
 
+use external_dependencies::Link;
 use occurrences::Row;
 use thiserror::Error;
 
@@ -17,6 +18,8 @@ pub enum What {
     Deletions,
     /// The pairs of successors and predecessors.
     Dependencies,
+    /// The lists in force.
+    Links,
 }
 
 /// One thing that a listing shows.
@@ -28,6 +31,8 @@ pub enum Item<'a> {
     Marked(&'a Row, u8),
     /// A successor and its predecessor.
     Pair(&'a Row, &'a Row),
+    /// An application and a predecessor in its list.
+    Link(&'a Link),
 }
 
 /// A sink refused an item. The sink knows why.

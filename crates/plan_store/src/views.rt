@@ -9,7 +9,9 @@ ghost use Rattle.planner_machine.specs.Sound.{AreNumbered};
 
 use crate::arrivals::{last_live, last_of, later};
 use crate::contents::Content;
-use crate::slices::{before, first_live, first_of, has_operator, of_app, of_key, of_serial};
+use crate::slices::{
+    arriving_before, before, first_live, first_of, has_operator, of_app, of_key, of_serial,
+};
 use app_definitions::Definitions;
 use external_dependencies::{Arrival, Links, Pair, Pairs, PlacedRow};
 use occurrences::{CurrentRow, Deletion, Key, Place, Row, Serial};
@@ -159,6 +161,17 @@ impl<'a> View<'a> {
         ensures { ListsSet of_row (shown self.now).sets.history (λ row. row.key.app ≡ app.now) result.now }
     {
         of_app(self.history, app)
+    }
+
+    /// The rows of the long-term plan that arrive before the moment, as a list of their own, which the change of a
+    /// daily plan takes. Costs a few searches for each application, and what moves.
+    pub fn ltp_before(&self, alloc: Global, moment: Moment) -> Result<Vec<Row>, AllocError>
+        ensures { IfOk result (λ rows. ListsSet of_row (shown self.now).sets.ltp (λ row. row.key.ia < moment)
+            rows.items) }
+    {
+        let mut found = Vec::new(alloc);
+        arriving_before(&mut found, self.ltp, moment)?;
+        Ok(found)
     }
 
     /// The row of the long-term plan that has the key.

@@ -14,4 +14,4 @@ pub mod FoundLemmas
 pub mod RefusedLemmas
 pub mod ToldLemmas
 pub mod CopiedLemmas
-pub mod UnreadLemmas
+pub mod CauseLemmas

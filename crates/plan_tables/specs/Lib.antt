@@ -4,3 +4,4 @@ pub mod Unopened
 pub mod Found
 pub mod Refused
 pub mod Told
+pub mod Causes

@@ -24,7 +24,7 @@ use table_facts::tables_have_one_content;
 
 impl<S: Alter + Drop> TableStore<S> {
     /// Lets the tables go, as a program does at its end. Each database that they may be after a crash tells a sound
-    /// content, and where no failure was counted what the store kept.
+    /// content; and where no failure was counted, and it is known that the connection is open, what the store kept.
     pub fn into_store(self) -> S
         ensures numbered { IsClean (S.Store.view result)
             → IsTrue (S.Store.view result).is_numbered }
@@ -33,7 +33,7 @@ impl<S: Alter + Drop> TableStore<S> {
             → (state S.Store self.conn).may_leave db }
         ensures plans { IsClean (S.Store.view result)
             → (db : Trees) → S.Store.recovers result db → ∥ TellsSound db ∥₁ }
-        ensures tells { self.failures ≡ 0 → IsClean (S.Store.view result)
+        ensures tells { self.failures ≡ 0 → self.in_doubt ≡ false → IsClean (S.Store.view result)
             → (db : Trees) → S.Store.recovers result db → ∥ Tells db (content_of self.lists) ∥₁ }
     {
         let conn = self.into_connection();
@@ -45,7 +45,8 @@ impl<S: Alter + Drop> TableStore<S> {
 impl<D: Disk + Drop> TableStore<FileStore<D>> {
     /// Lets the files go, as a program does at its end. Whatever a crash left of them, they hold a database that tells a
     /// sound content. Whoever opens them finds a content that a crash might leave of the tables, unless it is that of
-    /// which nothing is known; and where no failure was counted, what the store kept and nothing else.
+    /// which nothing is known; and where no failure was counted, and it is known that the connection is open, what the
+    /// store kept and nothing else.
     pub fn into_files(self) -> FileStore<D>
         ensures sound { IsClean (view result) → AreDatabases (recovers result) }
         ensures opens_again { IsClean (view result) → (left : Image)
@@ -54,7 +55,7 @@ impl<D: Disk + Drop> TableStore<FileStore<D>> {
             → (files_state result).may_leave left
             → (c : ContentValue) → IsFoundIn left c → ∥ MayLeave (file_state self.conn) c
             ⊎ (c ≡ nothing_known) ∥₁ }
-        ensures found_again { self.failures ≡ 0 → IsClean (view result)
+        ensures found_again { self.failures ≡ 0 → self.in_doubt ≡ false → IsClean (view result)
             → (left : Image) → (files_state result).may_leave left
             → (c : ContentValue) → IsFoundIn left c → c ≡ content_of self.lists }
     {
@@ -77,10 +78,10 @@ fn fault_of_closing(error: &Error) -> StoreFault
 impl<D: Disk + Drop> TableStore<FileStore<D>> {
     /// Copies the log into the database file and gives both files back, as a program does at its end. Whoever opens both,
     /// or the database file without its log, whatever a crash left of them, finds a content that a crash might leave of
-    /// the tables, unless it is that of which nothing is known; and where no failure was counted, what the store kept and
-    /// nothing else. Where it fails, for want of memory or of the device, nothing is lost: the files come back, and each
-    /// database that they may be after a crash is one that the tables might be, and tells what the store kept where no
-    /// failure was counted.
+    /// the tables, unless it is that of which nothing is known; and where no failure was counted, and it is known that the
+    /// connection is open, what the store kept and nothing else. Where it fails, for want of memory or of the device,
+    /// nothing is lost: the files come back, and each database that they may be after a crash is one that the tables might
+    /// be, and tells what the store kept where no failure was counted and it is known that the connection is open.
     pub fn close(self) -> Result<Files<D>, (StoreFault, FileStore<D>)>
         ensures usable { IfOk result (λ files. IsTrue (D.Disk.is_usable files.log)
             × IsTrue (D.Disk.is_usable files.db)) }
@@ -88,7 +89,7 @@ impl<D: Disk + Drop> TableStore<FileStore<D>> {
             → (left : Image) → outcomes D.Disk files.log files.db left
             → (c : ContentValue) → IsFoundInEither left c
             → ∥ MayLeave (file_state self.conn) c ⊎ (c ≡ nothing_known) ∥₁) }
-        ensures found_again { IfOk result (λ files. self.failures ≡ 0
+        ensures found_again { IfOk result (λ files. self.failures ≡ 0 → self.in_doubt ≡ false
             → AreClean D.Disk files.log files.db
             → (left : Image) → outcomes D.Disk files.log files.db left
             → (c : ContentValue) → IsFoundInEither left c → c ≡ content_of self.lists) }
@@ -96,8 +97,8 @@ impl<D: Disk + Drop> TableStore<FileStore<D>> {
             → AreDatabases (recovers left.1)) }
         ensures stays { IfErr result (λ left. (db : Trees) → recovers left.1 db
             → (file_state self.conn).may_leave db) }
-        ensures tells { IfErr result (λ left. self.failures ≡ 0 → IsClean (view left.1)
-            → (db : Trees) → recovers left.1 db → ∥ Tells db (content_of self.lists) ∥₁) }
+        ensures tells { IfErr result (λ left. self.failures ≡ 0 → self.in_doubt ≡ false
+            → IsClean (view left.1) → (db : Trees) → recovers left.1 db → ∥ Tells db (content_of self.lists) ∥₁) }
         ensures blames { IfErr result (λ left. IsClean (view left.1) → left.0 ≡ Device
             → ((file_state self.conn).is_open ≡ false)
             ⊎ MoreFaults (faults self.conn.store) (faults left.1)) }

@@ -1,8 +1,9 @@
 // The lists and the tables of a content change together.
 
-ghost use Rattle.std.specs.Prelude.{◌≡◌, ◌<◌, ◌^◌, false, [], OnOk, OnErr, IfOk, IfErr, IsTrue, IfSome, unwrap_or};
-ghost use Rattle.sqlite.specs.State.{HasCleanDisk, IsUnchanged, Survives};
+ghost use Rattle.std.specs.Prelude.{◌≡◌, ◌⊎◌, ◌<◌, ◌^◌, false, [], Some, OnOk, OnErr, IfOk, IfErr, IsTrue, IfSome, unwrap_or};
+ghost use Rattle.sqlite.specs.State.{HasCleanDisk, IsRolledBack, IsUnchanged, Survives};
 ghost use Rattle.sqlite.specs.Held.{state};
+ghost use Rattle.sqlite_disk.specs.Disk.{MoreFaults};
 ghost use Rattle.table_schema.specs.Rows.{tables_of};
 ghost use Rattle.planner_machine.specs.declared.job.Job.{Job as JobValue};
 ghost use Rattle.plan_store.specs.Changes.{Fits, after, redefined};
@@ -11,11 +12,12 @@ ghost use Rattle.plan_store.specs.Room.{HasRoom, with_definitions, with_pairs_of
 ghost use Rattle.plan_store.specs.declared.changes.Change.{Change as ChangeValue};
 ghost use Rattle.plan_store.specs.declared.changes.DefinitionChange.TheVariants.{AsBefore};
 ghost use Rattle.plan_store.specs.declared.room.Room.{Room as RoomValue};
-ghost use Rattle.plan_store.specs.declared.stores.StoreFault.TheVariants.{Memory};
+ghost use Rattle.plan_store.specs.declared.stores.StoreFault.TheVariants.{Device, Memory};
 ghost use Rattle.table_facts.specs.Content.{answer_text, IsContentOf};
 ghost use Rattle.table_opening.specs.Opened.{IsStored};
 ghost use Rattle.table_writing.specs.Redefining.{AreMovesOf};
 ghost use Rattle.table_writing.specs.Writing.{IsTellableChange};
+ghost use Rattle.plan_tables.specs.Causes.{CanTake, HasFailed, fault_in};
 
 use app_definitions::Definitions;
 use plan_store::{Change, Content, DefinitionChange, Room, StoreFault};
@@ -24,44 +26,76 @@ use std::alloc::{AllocError, Global};
 use std::mem::replace;
 use table_writing::{DefinitionMoves, commit_change};
 
-// Whether the connection is open, which leaves it as it is. The text is no statement: that is told without memory.
-fn is_open<S: Alter>(conn: &mut Connection<S>) -> bool
-    ensures open { HasCleanDisk (state S.Store conn.new) → IsTrue result
-        → IsUnchanged (state S.Store conn.old) (state S.Store conn.new) }
+/// Why a change is not made.
+#[derive(Clone, Copy)]
+pub(crate) enum Unmade {
+    /// Memory was refused; the tables are as they were.
+    Memory,
+    /// The same where the connection is open; whether it is could not be asked, since memory was refused again.
+    Doubt,
+    /// The device failed, or the change was refused.
+    Device,
+}
+
+// Want of memory, a failure of the device, or none where it is neither.
+fn fault_in(error: &Error) -> Option<StoreFault>
+    ensures { result ≡ fault_in error.now }
+{
+    match error {
+        Error::SqliteFailure(ErrorCode::OutOfMemory) => Some(StoreFault::Memory),
+        Error::SqliteFailure(
+            ErrorCode::SystemIoFailure
+            | ErrorCode::DatabaseCorrupt
+            | ErrorCode::DiskFull
+            | ErrorCode::Closed,
+        ) => Some(StoreFault::Device),
+        _ => None,
+    }
+}
+
+/// Asks whether the connection is open, which leaves it as it is. Where memory is refused that is not known.
+pub(crate) fn ask_open<S: Alter>(conn: &mut Connection<S>) -> Result<(), StoreFault>
+    ensures open { HasCleanDisk (state S.Store conn.new)
+        → OnOk result (IsUnchanged (state S.Store conn.old) (state S.Store conn.new)) }
+    ensures unknown { HasCleanDisk (state S.Store conn.new)
+        → IfErr result (λ fault. fault ≡ Memory
+        → IsRolledBack (state S.Store conn.old) (state S.Store conn.new)) }
+    ensures shut { HasCleanDisk (state S.Store conn.new)
+        → IfErr result (λ fault. fault ≡ Device
+        → MoreFaults (state S.Store conn.old).faults (state S.Store conn.new).faults
+        ⊎ ((state S.Store conn.old).is_open ≡ false)) }
     ensures mode { conn.old.in_transaction ≡ false → conn.new.in_transaction ≡ false }
     ensures survives { Survives (state S.Store conn.old) (state S.Store conn.new) (λ _. ⊥) }
 {
     match conn.prepare("no statement") {
-        Ok(_statement) => true,
-        Err(Error::SqlInputError(_)) => true,
-        Err(_) => false,
+        Ok(_statement) => Ok(()),
+        Err(error) => match fault_in(&error) {
+            Some(fault) => Err(fault),
+            None => Ok(()),
+        },
     }
 }
 
-// Whether a call failed for want of memory and the connection is open.
-fn lacks_memory<S: Alter>(conn: &mut Connection<S>, error: &Error) -> bool
-    ensures open { HasCleanDisk (state S.Store conn.new) → IsTrue result
+// Why a change is not made whose call failed so.
+fn cause_of<S: Alter>(conn: &mut Connection<S>, error: &Error) -> Unmade
+    ensures open { HasCleanDisk (state S.Store conn.new) → result ≡ Unmade.Memory
         → IsUnchanged (state S.Store conn.old) (state S.Store conn.new) }
+    ensures doubt { HasCleanDisk (state S.Store conn.new) → result ≡ Unmade.Doubt
+        → IsRolledBack (state S.Store conn.old) (state S.Store conn.new) }
+    ensures shut { HasCleanDisk (state S.Store conn.new) → result ≡ Unmade.Device
+        → (fault_in error.now ≡ Some Memory → ⊥)
+        ⊎ MoreFaults (state S.Store conn.old).faults (state S.Store conn.new).faults
+        ⊎ ((state S.Store conn.old).is_open ≡ false) }
     ensures mode { conn.old.in_transaction ≡ false → conn.new.in_transaction ≡ false }
     ensures survives { Survives (state S.Store conn.old) (state S.Store conn.new) (λ _. ⊥) }
 {
-    match error {
-        Error::SqliteFailure(ErrorCode::OutOfMemory) => is_open(conn),
-        _ => false,
-    }
-}
-
-// The fault of a call that failed.
-fn fault_of<S: Alter>(conn: &mut Connection<S>, error: &Error) -> StoreFault
-    ensures open { HasCleanDisk (state S.Store conn.new) → result ≡ Memory
-        → IsUnchanged (state S.Store conn.old) (state S.Store conn.new) }
-    ensures mode { conn.old.in_transaction ≡ false → conn.new.in_transaction ≡ false }
-    ensures survives { Survives (state S.Store conn.old) (state S.Store conn.new) (λ _. ⊥) }
-{
-    if lacks_memory(conn, error) {
-        StoreFault::Memory
-    } else {
-        StoreFault::Device
+    match fault_in(error) {
+        Some(StoreFault::Memory) => match ask_open(conn) {
+            Ok(()) => Unmade::Memory,
+            Err(StoreFault::Memory) => Unmade::Doubt,
+            Err(StoreFault::Device) => Unmade::Device,
+        },
+        Some(StoreFault::Device) | None => Unmade::Device,
     }
 }
 
@@ -200,7 +234,7 @@ pub(crate) fn change_both<S: Alter>(
     moves: &DefinitionMoves,
     change: Change,
     line: &[u8],
-) -> Result<(), StoreFault>
+) -> Result<(), Unmade>
     requires mode { conn.old.in_transaction ≡ false }
     requires fits { Fits change (content_of lists.old) }
     requires moves { AreMovesOf change.definitions moves.now }
@@ -214,8 +248,17 @@ pub(crate) fn change_both<S: Alter>(
         → OnOk result (IsStored (state S.Store conn.new) (after change (content_of lists.old))) }
     ensures memory { HasCleanDisk (state S.Store conn.new)
         → IsStored (state S.Store conn.old) (content_of lists.old)
-        → IfErr result (λ fault. fault ≡ Memory
+        → IfErr result (λ why. why ≡ Unmade.Memory
         → IsStored (state S.Store conn.new) (content_of lists.old)) }
+    ensures doubt { HasCleanDisk (state S.Store conn.new)
+        → IsStored (state S.Store conn.old) (content_of lists.old)
+        → IfErr result (λ why. why ≡ Unmade.Doubt → IsTrue (state S.Store conn.new).is_open
+        → IsStored (state S.Store conn.new) (content_of lists.old)) }
+    ensures blames { HasCleanDisk (state S.Store conn.new)
+        → IsStored (state S.Store conn.old) (content_of lists.old)
+        → CanTake (state S.Store conn.old) (content_of lists.old) change
+        → IfErr result (λ why. why ≡ Unmade.Device
+        → HasFailed (state S.Store conn.old) (state S.Store conn.new)) }
     ensures ended { conn.new.in_transaction ≡ false }
     ensures crash { Survives (state S.Store conn.old) (state S.Store conn.new)
         (λ db. IsStored (state S.Store conn.old) (content_of lists.old)
@@ -223,7 +266,7 @@ pub(crate) fn change_both<S: Alter>(
 {
     let underway = match start(lists, alloc, change) {
         Ok(underway) => underway,
-        Err(_) => return Err(StoreFault::Memory),
+        Err(_) => return Err(Unmade::Memory),
     };
     match commit_change(conn, alloc, lists, moves, &underway.rest, line) {
         Ok(()) => {
@@ -232,7 +275,7 @@ pub(crate) fn change_both<S: Alter>(
         }
         Err(error) => {
             undo(lists, underway);
-            Err(fault_of(conn, &error))
+            Err(cause_of(conn, &error))
         }
     }
 }

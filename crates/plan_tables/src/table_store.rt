@@ -1,8 +1,9 @@
 // A store over a database.
 
-ghost use Rattle.std.specs.Prelude.{◌≡◌, ◌⊎◌, ◌<◌, ◌≤◌, false, ◌^◌, Err, OnOk, OnErr, IfOk, IfErr, IfSome};
-ghost use Rattle.sqlite.specs.State.{HasCleanDisk};
+ghost use Rattle.std.specs.Prelude.{◌≡◌, ◌⊎◌, ◌<◌, ◌≤◌, false, ◌^◌, Err, OnOk, OnErr, IfOk, IfErr, IfSome, IsTrue, ⊤};
+ghost use Rattle.sqlite.specs.State.{HasCleanDisk, Survives};
 ghost use Rattle.sqlite.specs.Held.{state};
+ghost use Rattle.sqlite_disk.specs.Disk.{MoreFaults};
 ghost use Rattle.sqlite.specs.Tree.{Trees};
 ghost use Rattle.planner_machine.specs.Content.{Content as ContentValue};
 ghost use Rattle.planner_machine.specs.Sound.{IsSound};
@@ -15,11 +16,12 @@ ghost use Rattle.plan_store.specs.declared.stores.StoreFault.TheVariants.{Device
 ghost use Rattle.table_facts.specs.Content.{answer_text, IsContentOf};
 ghost use Rattle.table_opening.specs.Opened.{IsStored};
 ghost use Rattle.table_writing.specs.Redefining.{AreMovesOf};
+ghost use Rattle.plan_tables.specs.Causes.{CanTake, HasFailed};
 ghost use Rattle.plan_tables.specs.Stored.{LeavesSound, MayLeave};
 ghost use Rattle.plan_tables.specs.Told.{IsToldChange};
 
 use crate::answers::change_is_tellable;
-use crate::keeping::change_both;
+use crate::keeping::{Unmade, ask_open, change_both};
 use crate::prepared::{Prepared, prepare};
 use app_definitions::Definitions;
 use external_dependencies::Links;
@@ -38,8 +40,11 @@ pub struct TableStore<S: Alter> {
     lists: Content,
     // how often sqlite failed, or refused for another cause than memory, up to the greatest number that is counted
     failures: u64,
+    // whether memory was refused when it was asked if the connection is open
+    in_doubt: bool,
     ghost settled: { conn.in_transaction ≡ false },
     ghost stored: { ∥ (failures ≡ 0 → HasCleanDisk (state S.Store conn)
+        → (IsTrue in_doubt → IsTrue (state S.Store conn).is_open)
         → IsStored (state S.Store conn) (content_of lists)) ∥₁ },
     ghost told: { ∥ (HasCleanDisk (state S.Store conn) → LeavesSound (state S.Store conn)) ∥₁ },
 }
@@ -74,19 +79,42 @@ impl<S: Alter + Drop> TableStore<S> {
             conn,
             lists,
             failures: 0,
+            in_doubt: false,
         }
     }
 
-    // Counts a failure, after which the store answers that its device failed.
-    fn fail(&mut self) -> StoreFault
-        ensures fault { result ≡ Device }
+    // Asks whether the connection is open, where that is not known.
+    fn make_sure(&mut self) -> Result<(), StoreFault>
+        requires { self.old.failures ≡ 0 }
+        ensures sure { OnOk result (self.new.in_doubt ≡ false) }
+        ensures whole { OnOk result (self.new.failures ≡ 0) }
         ensures lists { self.new.lists ≡ self.old.lists }
-        ensures conn { self.new.conn ≡ self.old.conn }
-        ensures counted { MoreFailures self.old.failures self.new.failures }
+        ensures same { HasCleanDisk (state S.Store self.new.conn)
+            → OnOk result ((state S.Store self.new.conn).now ≡ (state S.Store self.old.conn).now) }
+        ensures survives { Survives (state S.Store self.old.conn) (state S.Store self.new.conn)
+            (λ _. ⊥) }
+        ensures blames { IfErr result (λ fault. fault ≡ Device
+            → MoreFailures self.old.failures self.new.failures) }
         ensures counts { self.old.failures ≤ self.new.failures }
+        ensures shut { HasCleanDisk (state S.Store self.new.conn)
+            → IfErr result (λ fault. fault ≡ Device
+            → MoreFaults (state S.Store self.old.conn).faults (state S.Store self.new.conn).faults
+            ⊎ ((state S.Store self.old.conn).is_open ≡ false)) }
     {
-        self.failures = self.failures.saturating_add(1);
-        StoreFault::Device
+        if !self.in_doubt {
+            return Ok(());
+        }
+        match ask_open(&mut self.conn) {
+            Ok(()) => {
+                self.in_doubt = false;
+                Ok(())
+            }
+            Err(StoreFault::Memory) => Err(StoreFault::Memory),
+            Err(StoreFault::Device) => {
+                self.failures = self.failures.saturating_add(1);
+                Err(StoreFault::Device)
+            }
+        }
     }
 
     // What is made of a change before it is written. None is where the store failed before, or where memory is refused.
@@ -116,6 +144,7 @@ impl<S: Alter + Drop> TableStore<S> {
         change: Change,
     ) -> Result<(), StoreFault>
         requires whole { self.old.failures ≡ 0 }
+        requires sure { self.old.in_doubt ≡ false }
         requires fits { Fits change (content_of self.old.lists) }
         requires sound { IsSound (after change (content_of self.old.lists)) }
         requires moves { AreMovesOf change.definitions prepared.now.moves }
@@ -134,6 +163,10 @@ impl<S: Alter + Drop> TableStore<S> {
             ⊎ (c ≡ after change (content_of self.old.lists)) }
         ensures blames { IfErr result (λ fault. fault ≡ Device
             → MoreFailures self.old.failures self.new.failures) }
+        ensures caused { HasCleanDisk (state S.Store self.new.conn)
+            → CanTake (state S.Store self.old.conn) (content_of self.old.lists) change
+            → IfErr result (λ fault. fault ≡ Device
+            → ∥ HasFailed (state S.Store self.old.conn) (state S.Store self.new.conn) ∥₁) }
         ensures counts { self.old.failures ≤ self.new.failures }
         ensures honest { HasCleanDisk (state S.Store self.new.conn)
             → HasCleanDisk (state S.Store self.old.conn) }
@@ -149,8 +182,12 @@ impl<S: Alter + Drop> TableStore<S> {
             &prepared.line,
         ) {
             Ok(()) => Ok(()),
-            Err(StoreFault::Memory) => Err(StoreFault::Memory),
-            Err(StoreFault::Device) => {
+            Err(Unmade::Memory) => Err(StoreFault::Memory),
+            Err(Unmade::Doubt) => {
+                self.in_doubt = true;
+                Err(StoreFault::Memory)
+            }
+            Err(Unmade::Device) => {
                 self.failures = self.failures.saturating_add(1);
                 Err(StoreFault::Device)
             }
@@ -234,8 +271,35 @@ impl<S: Alter + Drop> PlanStore for TableStore<S> {
         self.lists.rows_to(alloc, what, app, sink)
     }
 
-    fn apply(&mut self, alloc: Global, change: Change) -> Result<(), StoreFault> {
+    // The clauses of every store, and why the device is blamed: over an open connection whose tables take the change it
+    // failed meanwhile, by the count of sqlite, or a limit on steps is set.
+    fn apply(&mut self, alloc: Global, change: Change) -> Result<(), StoreFault>
+        requires fits { ⊤ → Fits change (content_of self.old.lists) }
+        requires sound { ⊤ → IsSound (after change (content_of self.old.lists)) }
+        ensures done { ⊤ → OnOk result (content_of self.new.lists ≡ after change (content_of self.old.lists)) }
+        ensures unchanged { ⊤ → IfErr result (λ fault. fault ≡ StoreFault.Memory → content_of self.new.lists
+            ≡ content_of self.old.lists) }
+        ensures whole { ⊤ → OnErr result ((content_of self.new.lists ≡ content_of self.old.lists)
+            ⊎ (content_of self.new.lists ≡ after change (content_of self.old.lists))) }
+        ensures settled { ⊤ → OnOk result ((c : ContentValue) → HasCleanDisk (state S.Store self.new.conn)
+            × MayLeave (state S.Store self.new.conn) c → c ≡ content_of self.new.lists) }
+        ensures crash { ⊤ → (c : ContentValue) → HasCleanDisk (state S.Store self.new.conn)
+            × MayLeave (state S.Store self.new.conn) c → (HasCleanDisk (state S.Store self.old.conn)
+            × MayLeave (state S.Store self.old.conn) c) ⊎ (c ≡ content_of self.old.lists)
+            ⊎ (c ≡ after change (content_of self.old.lists)) }
+        ensures blames { IfErr result (λ fault. fault ≡ StoreFault.Device
+            → MoreFailures self.old.failures self.new.failures ⊎ (0 < self.old.failures)) }
+        ensures broken { 0 < self.old.failures → result ≡ Err StoreFault.Device }
+        ensures counts { self.old.failures ≤ self.new.failures }
+        ensures honest { ⊤ → ⊤ }
+        ensures caused { self.old.failures ≡ 0 → HasCleanDisk (state S.Store self.new.conn)
+            → CanTake (state S.Store self.old.conn) (content_of self.old.lists) change
+            → IfErr result (λ fault. fault ≡ StoreFault.Device
+            → ∥ HasFailed (state S.Store self.old.conn) (state S.Store self.new.conn)
+            ⊎ ((state S.Store self.old.conn).is_open ≡ false) ∥₁) }
+    {
         let prepared = self.prepared(alloc, &change)?;
+        self.make_sure()?;
         self.change_so(alloc, &prepared, change)
     }
 }

@@ -10,8 +10,9 @@ use Rattle.planner_machine.specs.Content.{Content}
 use Rattle.planner_machine.specs.Decision.{Decides}
 use Rattle.planner_machine.specs.Jobs.{with_job}
 use Rattle.planner_machine.specs.Moves.{or_else}
-use Rattle.planner_machine.specs.Statement.{Act, Add, AddCurrent, Change as MachineChange, Create, DailyExtend, Define}
-use Rattle.planner_machine.specs.Statement.{Delete, Extend, ModifyAll, ModifyOne, Replan, Undefine, decision_of}
+use Rattle.planner_machine.specs.Statement.{Act, Add, AddCurrent, Change as MachineChange, Create, DailyExtend}
+use Rattle.planner_machine.specs.Statement.{DailyExtendBy, Define, Delete, Extend, ModifyAll, ModifyOne, Replan}
+use Rattle.planner_machine.specs.Statement.{Undefine, decision_of}
 use Rattle.planner_machine.specs.declared.job.Job.{Job}
 use Rattle.keyed_lists.specs.Rows.{HasEachOnce, of_current, of_deletion, of_row}
 use Rattle.plan_store.specs.Changes.{ChangesNothing, Fits, FitsSet, LeadsOn, MovesNothing, after, jobs_after}
@@ -150,6 +151,7 @@ keeps_jobs (ModifyOne app) c reply c' (good, does) = does.jobs
 keeps_jobs (Add key) c reply c' (good, does) = does.jobs
 keeps_jobs (Delete key) c reply c' (good, does) = does.jobs
 keeps_jobs (DailyExtend to) c reply c' (good, does) = does.jobs
+keeps_jobs (DailyExtendBy days count) c reply c' (good, does) = does.jobs
 keeps_jobs Replan c reply c' (good, does) = does.jobs
 keeps_jobs (AddCurrent key) c reply c' (good, does) = does.jobs
 keeps_jobs (Act action key) c reply c' (good, does) = does.jobs

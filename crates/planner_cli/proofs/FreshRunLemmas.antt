@@ -12,8 +12,9 @@ use Rattle.planner_machine.specs.Fresh.{StaysFresh}
 use Rattle.planner_machine.specs.Jobs.{AnswersJob, AnswersKept}
 use Rattle.planner_machine.specs.Laws.{IsWellFormed, StaysSound}
 use Rattle.planner_machine.specs.Sound.{IsSound}
-use Rattle.planner_machine.specs.Statement.{Act, Add, AddCurrent, Answer, Change, Create, DailyExtend, Define, Delete}
-use Rattle.planner_machine.specs.Statement.{Extend, Job, ModifyAll, ModifyOne, Replan, Statement, Undefine, decision_of}
+use Rattle.planner_machine.specs.Statement.{Act, Add, AddCurrent, Answer, Change, Create, DailyExtend, DailyExtendBy}
+use Rattle.planner_machine.specs.Statement.{Define, Delete, Extend, Job, ModifyAll, ModifyOne, Replan, Statement}
+use Rattle.planner_machine.specs.Statement.{Undefine, decision_of}
 use Rattle.planner_machine.specs.Stream.{IsStatement, RunsSound}
 use Rattle.stream_items.specs.Items.{Item}
 use Rattle.planner_cli.specs.Asked.{Asks}
@@ -100,6 +101,7 @@ module _ (one : OneStatement) (stays : StaysFresh) (keeps : RunsSound) where
     planned (Add key) plans = absurd plans
     planned (Delete key) plans = absurd plans
     planned (DailyExtend to) plans = absurd plans
+    planned (DailyExtendBy days count) plans = absurd plans
     planned Replan plans = absurd plans
     planned (AddCurrent key) plans = absurd plans
     planned (Act action key) plans = absurd plans

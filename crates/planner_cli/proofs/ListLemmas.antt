@@ -8,8 +8,8 @@ use Rattle.std.proofs.Math.Seq.{take-append-add}
 use Rattle.std.proofs.lemmas.List.{length-append, length-map}
 use Rattle.occurrences.specs.declared.reply.Reply.TheVariants.{Rows}
 use Rattle.plan_listings.specs.Line.{AreLinesOf}
-use Rattle.plan_store.specs.Listings.{EndsSo, HandsAll, HandsPart, IsListing, Shown, ShowPairs, ShowRows, TakesAll}
-use Rattle.plan_store.specs.Listings.{link_shown, row_shown}
+use Rattle.plan_store.specs.Listings.{EndsSo, HandsAll, HandsPart, IsListing, Shown, ShowLinks, ShowPairs, ShowRows}
+use Rattle.plan_store.specs.Listings.{TakesAll, in_force_shown, link_shown, row_shown}
 use Rattle.plan_store.specs.declared.listings.ListFault.{ListFault}
 use Rattle.plan_store.specs.declared.listings.ListFault.TheVariants as Faults
 use Rattle.plan_store.specs.declared.listings.What.{What}
@@ -18,7 +18,7 @@ use Rattle.plan_store.specs.declared.stores.StoreFault.{StoreFault}
 use Rattle.plan_store.specs.declared.stores.StoreFault.TheVariants as Stores
 use Rattle.planner_machine.specs.Content.{Content}
 use Rattle.planner_machine.specs.Shown.{CurrentPlan, InDeletions, InHistory, Listed, LongTermPlan}
-use Rattle.planner_machine.specs.Statement.{ListPairs, ListRows}
+use Rattle.planner_machine.specs.Statement.{ListLinks, ListPairs, ListRows}
 use Rattle.stream_items.specs.Items.{Item}
 use Rattle.planner_cli.specs.Asked.{Asks, list_asked}
 use Rattle.planner_cli.specs.Faults.{store_cause}
@@ -178,6 +178,17 @@ pairs_served app c items lines (links, lists, is) are = record {
   well_formed = tt;
 }
 
+links_served : (app : Option (List ℕ)) (c : Content) (items : List Shown) (lines : List (List ℕ))
+    → ShowLinks app c items
+    → AreLinesOf IsShownText items lines → Serves (ListLinks app) c (listing items lines) c
+links_served app c items lines (links, lists, is) are = record {
+  answer = Ok (Rows (length items));
+  steps = (λ r refused. refused, (refl, (links, lists, ap Rows (ap length is ∙ length-map links in_force_shown))));
+  rows = (items, (links, lists, is), are);
+  line = refl;
+  well_formed = tt;
+}
+
 list_served : (what : What) (app : Option (List ℕ)) (c : Content) (items : List Shown) (lines : List (List ℕ))
     → IsListing what app c items
     → AreLinesOf IsShownText items lines → Serves (list_asked what app) c (listing items lines) c
@@ -186,6 +197,7 @@ list_served Whats.Cp app c items lines whole are = rows_served CurrentPlan app c
 list_served Whats.History app c items lines whole are = rows_served InHistory app c items lines whole are
 list_served Whats.Deletions app c items lines whole are = rows_served InDeletions app c items lines whole are
 list_served Whats.Dependencies app c items lines whole are = pairs_served app c items lines whole are
+list_served Whats.Links app c items lines whole are = links_served app c items lines whole are
 
 -- rows before a line that is printed
 printed_behind : (rows : List (List ℕ)) (line text : List ℕ) → text ≡ printed (record { rows = []; line = line })

@@ -5,7 +5,8 @@ use Rattle.std.proofs.lemmas.List.Elements.{All-cons}
 use Rattle.planner_machine.specs.Content.{Content}
 use Rattle.planner_machine.specs.Sound.{IsSound}
 use Rattle.planner_machine.specs.Rerun.{job_number}
-use Rattle.planner_machine.specs.Statement.{Answer, Days, DefineJob, Job, ListPairs, ListRows, Statement, Trial}
+use Rattle.planner_machine.specs.Statement.{Answer, Days, DefineJob, Job, ListLinks, ListPairs, ListRows, Statement}
+use Rattle.planner_machine.specs.Statement.{Trial}
 use Rattle.planner_machine.specs.Stream.{IsStatement, Runs, RunsByFate, RunsSound}
 use Rattle.stream_items.specs.Items.{Item}
 use Rattle.planner_cli.specs.Asked.{AreAsked, Asks}
@@ -66,6 +67,7 @@ job_told (Days app from to) c c' reply h number is = absurd (let no : ⊥ = cc i
 job_told (Trial change) c c' reply h number is = absurd (let no : ⊥ = cc is in no)
 job_told (ListRows listed app) c c' reply h number is = absurd (let no : ⊥ = cc is in no)
 job_told (ListPairs app) c c' reply h number is = absurd (let no : ⊥ = cc is in no)
+job_told (ListLinks app) c c' reply h number is = absurd (let no : ⊥ = cc is in no)
 
 -- the statements of the items that were answered
 pub record Led (items : List Item) (replies : List Reply) (c c' : Content) : Type 0 where

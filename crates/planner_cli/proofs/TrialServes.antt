@@ -1,5 +1,5 @@
 -- Trials that are answered: the rows of a report are the way from the content to what the statement would leave.
-use Rattle.std.proofs.Common.{◌≡◌, ◌∙◌, ℕ, List, [], ◌∷◌, ◌++◌, map, append_assoc, refl, sym, ap, subst, None, Option}
+use Rattle.std.proofs.Common.{◌≡◌, ◌∙◌, ℕ, List, [], ◌∷◌, ◌++◌, map, append_assoc, refl, sym, ap, subst, Option}
 use Rattle.std.proofs.Common.{Some}
 use Rattle.std.specs.List.{filter}
 use Rattle.std.specs.Str.{byte}
@@ -9,20 +9,22 @@ use Rattle.app_definitions.specs.declared.definitions.Definitions.{Definitions}
 use Rattle.occurrences.specs.declared.place.CurrentRow.{CurrentRow}
 use Rattle.occurrences.specs.declared.place.Place.TheVariants.{Current}
 use Rattle.occurrences.specs.declared.refusal.Refusal.{Refusal}
-use Rattle.occurrences.specs.declared.refusal.Refusal.TheVariants.{NoPlan}
 use Rattle.occurrences.specs.declared.reply.Reply.{Reply as Outcome}
 use Rattle.occurrences.specs.declared.row.Row.{Row}
 use Rattle.occurrences.specs.declared.status.Status.{Status}
 use Rattle.occurrences.specs.declared.status.Status.TheVariants.{C, D}
 use Rattle.external_dependencies.specs.declared.rows.PlacedRow.{PlacedRow}
 use Rattle.planner_machine.specs.Content.{Content, StandsAt}
-use Rattle.planner_machine.specs.Fate.{DailyFate, Fate}
+use Rattle.planner_machine.specs.DailyExtendBy.{DailyFateBy}
+use Rattle.planner_machine.specs.Decision.{Decides}
+use Rattle.planner_machine.specs.Fate.{DailyFate}
 use Rattle.planner_machine.specs.Laws.{FollowsFate, IsWellFormed, StaysSound}
 use Rattle.planner_machine.specs.ModifyAll.{IsAnyApp}
 use Rattle.planner_machine.specs.ModifyOne.{IsThatApp}
 use Rattle.planner_machine.specs.Sound.{AreNumbered, IsSound}
 use Rattle.planner_machine.specs.Statement.{Change as MachineChange, Trial, decision_of, fate_of, replan_fate}
 use Rattle.planner_machine.specs.declared.content.Bounds.{Bounds}
+use Rattle.planner_machine.proofs.NewEndLemmas.{one_end}
 use Rattle.keyed_lists.specs.Rows.{of_current, of_row}
 use Rattle.plan_listings.specs.Line.{ended as line_ended}
 use Rattle.plan_listings.specs.Report.{IsReport, daily_sign, daily_signs, plan_signs}
@@ -37,6 +39,7 @@ use Rattle.plan_store.proofs.ViewLemmas.{once_from_rows}
 use Rattle.planner_cli.specs.Outcomes.{answer_text, answering}
 use Rattle.planner_cli.specs.Replies.{Prints, Reply, ended}
 use Rattle.planner_cli.specs.Changes.{daily_change, plan_change}
+use Rattle.planner_cli.specs.Kinds.{count_of}
 use Rattle.planner_cli.specs.Rows.{ShowsDailyTrial, ShowsPlanTrial, ShowsTrial, daily_signed, plan_signed}
 use Rattle.planner_cli.specs.Steps.{Serves}
 use Rattle.planner_cli.specs.Trials.{carried_part, completed, daily_changes, deleted, deleted_part, history_part}
@@ -171,19 +174,26 @@ plan_shown function law stays made reply c sound verdict text report =
 
 -- ---- daily plans
 
-some_end : (o : Option Bounds) → (o ≡ None → ⊥) → (t : ℕ) × (replan_fate o ≡ DailyFate t)
-some_end None there = absurd (there refl)
-some_end (Some b) there = (b.plan_end, refl)
-
-daily_end : (function : DailyFunction) (c : Content) → ((q : Refusal) → (decision_of (daily_change function)).Refuses c q → ⊥)
-    → (t : ℕ) × (fate_of (daily_change function) c.definitions c.sets.bounds ≡ DailyFate t)
-daily_end (daily.Extend to) c allowed = (to, refl)
-daily_end daily.Replan c allowed = some_end c.sets.bounds (λ e. allowed NoPlan e)
+-- each daily plan is one to some moment
+daily_end : (function : DailyFunction) (c : Content) (reply : Outcome) (left : Content)
+    → Decides (decision_of (daily_change function)) c (Ok reply) left
+    → (t : ℕ) × ((p q : PlacedRow) → fate_of (daily_change function) c.definitions c.sets.bounds p q → DailyFate t p q)
+daily_end (daily.Extend to) c reply left d = (to, λ p q goes. goes)
+daily_end (daily.ExtendBy days count) c reply left d =
+    let (b, is, (t, new, plans)) = d.1.rows in (
+      t,
+      λ p q goes. let (u, new_u, to_u) =
+          subst (λ (o : Option Bounds). DailyFateBy days (count_of count) c.definitions o p q) is goes in
+          subst (λ x. DailyFate x p q) (one_end c.definitions b.plan_end days (count_of count) u t new_u new) to_u,
+    )
+daily_end daily.Replan c reply left d = let (b, is, plans) = d.1.rows in
+    (b.plan_end, λ p q goes. subst (λ (o : Option Bounds). replan_fate o p q) is goes)
 
 daily_trial_shows : (function : DailyFunction) (c : Content) (reply : Outcome) (rows : List (List ℕ))
     → ShowsDailyTrial (daily_change function) c reply rows
     → ShowsTrial (daily_change function) c reply rows
 daily_trial_shows (daily.Extend to) c reply rows h = h
+daily_trial_shows (daily.ExtendBy days count) c reply rows h = h
 daily_trial_shows daily.Replan c reply rows h = h
 
 abbrev carried_pair : CurrentRow → Row × Status
@@ -222,9 +232,10 @@ daily_shown function law stays made reply c sound verdict rows lists text report
       all = λ serial row h. is_gone of_row made.ltp set fits serial row h.0 h.1;
     } in
     let current = current_rows c sound.serials rows lists in
-    let (t, fate_is) = daily_end function c verdict.1.0 in
-    let old = subst (λ (fate : Fate). (serial : ℕ) (p : PlacedRow) → StandsAt c.sets serial p → (q : PlacedRow)
-    × fate p q × StandsAt left.sets serial q) fate_is follows.old in
+    let (t, is_to) = daily_end function c reply left verdict.1 in
+    let old : (serial : ℕ) (p : PlacedRow) → StandsAt c.sets serial p → (q : PlacedRow)
+    × DailyFate t p q × StandsAt left.sets serial q = λ serial p at.
+    let (q, goes, there) = follows.old serial p at in (q, is_to p q goes, there) in
     let items = daily_changes made.ltp.gone.items rows in
     let apart = daily_apart c.sets left.sets sound.serials left_sound.serials t old made.ltp.gone.items rows gone
     current in
@@ -292,4 +303,5 @@ daily_signs_are moved rows =
 -- its values are such as a line gives
 pub well_formed : (function : DailyFunction) → IsWellFormed (daily_change function)
 well_formed (daily.Extend to) = tt
+well_formed (daily.ExtendBy days count) = tt
 well_formed daily.Replan = tt

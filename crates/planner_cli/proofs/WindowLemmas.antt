@@ -11,7 +11,7 @@ use Rattle.plan_store.specs.declared.views.View.{View}
 use Rattle.plan_store.proofs.WindowLemmas.{daily_cp}
 use Rattle.daily_planning.specs.DailyPlans.{replan_need}
 use Rattle.statements.specs.declared.statements.DailyFunction.{DailyFunction}
-use Rattle.statements.specs.declared.statements.DailyFunction.TheVariants.{Extend, Replan}
+use Rattle.statements.specs.declared.statements.DailyFunction.TheVariants.{Extend, ExtendBy, Replan}
 use Rattle.planner_cli.specs.Verdicts.{need_of_daily}
 
 module _ (view : View) (c : Content) (sound : IsSound c) (rows : List CurrentRow)
@@ -32,4 +32,6 @@ module _ (view : View) (c : Content) (sound : IsSound c) (rows : List CurrentRow
   pub lists_current : (function : DailyFunction) → Shows (need_of_daily c.sets.bounds function) view c
       → ListsSet of_current c.sets.cp IsAny rows
   lists_current (Extend to) shows = daily_cp to view c shows rows lists
+  lists_current (ExtendBy days count) shows =
+      subst (λ (x : Content). ListsSet of_current x.sets.cp IsAny rows) shows lists
   lists_current Replan shows = replanned c.sets.bounds refl shows

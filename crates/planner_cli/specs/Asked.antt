@@ -4,7 +4,7 @@ use Rattle.app_definitions.specs.declared.kinds.Kind.{Kind}
 use Rattle.plan_store.specs.declared.listings.What.{What}
 use Rattle.plan_store.specs.declared.listings.What.TheVariants as what
 use Rattle.planner_machine.specs.Shown.{CurrentPlan, InDeletions, InHistory, LongTermPlan}
-use Rattle.planner_machine.specs.Statement.{Days, DefineJob, Job, ListPairs, ListRows, Statement, Trial}
+use Rattle.planner_machine.specs.Statement.{Days, DefineJob, Job, ListLinks, ListPairs, ListRows, Statement, Trial}
 use Rattle.statements.specs.Statement.{Reads}
 use Rattle.statements.specs.declared.statements.Statement.{Statement as LineStatement}
 use Rattle.statements.specs.declared.statements.Statement.TheVariants as statement
@@ -20,6 +20,7 @@ list_asked what.Cp app = ListRows CurrentPlan app
 list_asked what.History app = ListRows InHistory app
 list_asked what.Deletions app = ListRows InDeletions app
 list_asked what.Dependencies app = ListPairs app
+list_asked what.Links app = ListLinks app
 
 -- a line without data; `define` needs them
 abbrev pub asked_alone : List ℕ → LineStatement → Statement

@@ -1,13 +1,13 @@
 -- The change of the planner's machine that a statement asks for.
-use Rattle.planner_machine.specs.Statement.{Act, Add, AddCurrent, Change, Create, DailyExtend, Delete, Extend}
-use Rattle.planner_machine.specs.Statement.{ModifyAll, ModifyOne, Replan, Undefine}
+use Rattle.planner_machine.specs.Statement.{Act, Add, AddCurrent, Change, Create, DailyExtend, DailyExtendBy, Delete}
+use Rattle.planner_machine.specs.Statement.{Extend, ModifyAll, ModifyOne, Replan, Undefine}
 use Rattle.statements.specs.declared.statements.ChangeStatement.{ChangeStatement}
 use Rattle.statements.specs.declared.statements.ChangeStatement.TheVariants as change
 use Rattle.statements.specs.declared.statements.DailyFunction.{DailyFunction}
 use Rattle.statements.specs.declared.statements.DailyFunction.TheVariants as daily
 use Rattle.statements.specs.declared.statements.PlanFunction.{PlanFunction}
 use Rattle.statements.specs.declared.statements.PlanFunction.TheVariants as plan
-use Rattle.planner_cli.specs.Kinds.{definitions_kind}
+use Rattle.planner_cli.specs.Kinds.{count_of, definitions_kind}
 
 abbrev pub plan_change : PlanFunction → Change
 plan_change (plan.Create from to) = Create from to
@@ -17,6 +17,7 @@ plan_change (plan.ModifyOne app) = ModifyOne app
 
 abbrev pub daily_change : DailyFunction → Change
 daily_change (daily.Extend to) = DailyExtend to
+daily_change (daily.ExtendBy days count) = DailyExtendBy days (count_of count)
 daily_change daily.Replan = Replan
 
 abbrev pub change_of : ChangeStatement → Change

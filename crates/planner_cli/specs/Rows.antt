@@ -1,20 +1,21 @@
 -- The rows that a list or a trial prints.
-use Rattle.std.specs.Prelude.{ℕ, List, [], ◌∷◌}
+use Rattle.std.specs.Prelude.{◌≡◌, ℕ, List, [], ◌∷◌, None}
 use Rattle.std.specs.Str.{byte}
 use Rattle.occurrences.specs.declared.reply.Reply.{Reply}
 use Rattle.run_cycles.specs.declared.named.Named.{Named}
 use Rattle.plan_listings.specs.Days.{IsDaysLine}
 use Rattle.plan_listings.specs.Line.{AreLinesOf}
+use Rattle.plan_listings.specs.Links.{link_text}
 use Rattle.plan_listings.specs.Report.{IsSignedText, daily_sign, plan_sign}
 use Rattle.plan_listings.specs.Row.{IsMarkedText, IsPairText, IsRowText}
 use Rattle.plan_listings.specs.declared.report.Signed.{Signed}
-use Rattle.plan_store.specs.Listings.{Linked, Marked, Plain, Shown}
+use Rattle.plan_store.specs.Listings.{InForce, Linked, Marked, Plain, Shown}
 use Rattle.planner_machine.specs.Content.{Content}
 use Rattle.planner_machine.specs.Shown.{DailyChange, DailyMark, PlanChange, PlanMark, ShowsDaily, ShowsPlan, TrialShows}
 use Rattle.planner_machine.specs.Shown.{WouldBeCarried, WouldBeDeleted, WouldBeHistory, WouldBeMade, WouldBeMoved}
 use Rattle.planner_machine.specs.Shown.{WouldBeWithdrawn}
-use Rattle.planner_machine.specs.Statement.{Change, Create, DailyExtend, Extend, ModifyAll, ModifyOne, Replan}
-use Rattle.planner_machine.specs.Statement.{decision_of}
+use Rattle.planner_machine.specs.Statement.{Change, Create, DailyExtend, DailyExtendBy, Extend, ModifyAll, ModifyOne}
+use Rattle.planner_machine.specs.Statement.{Replan, decision_of}
 
 -- each row is the line of the occurrence at its place
 abbrev pub AreDaysLines : List Named → List (List ℕ) → Type 0
@@ -57,6 +58,7 @@ ShowsTrial (Extend to) c reply rows = ShowsPlanTrial (Extend to) c reply rows
 ShowsTrial ModifyAll c reply rows = ShowsPlanTrial ModifyAll c reply rows
 ShowsTrial (ModifyOne app) c reply rows = ShowsPlanTrial (ModifyOne app) c reply rows
 ShowsTrial (DailyExtend to) c reply rows = ShowsDailyTrial (DailyExtend to) c reply rows
+ShowsTrial (DailyExtendBy days count) c reply rows = ShowsDailyTrial (DailyExtendBy days count) c reply rows
 ShowsTrial Replan c reply rows = ShowsDailyTrial Replan c reply rows
 ShowsTrial change c reply rows = ⊥
 
@@ -65,3 +67,4 @@ abbrev pub IsShownText : Shown → List ℕ → Type 0
 IsShownText (Plain row) line = IsRowText row line
 IsShownText (Marked row letter) line = IsMarkedText row letter line
 IsShownText (Linked successor predecessor) line = IsPairText successor predecessor line
+IsShownText (InForce link) line = line ≡ link_text link.app link.predecessor None

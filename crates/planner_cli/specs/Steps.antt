@@ -2,11 +2,11 @@
 use Rattle.std.specs.Prelude.{◌≡◌, ℕ, List, [], Option, None, Some, Ok}
 use Rattle.occurrences.specs.declared.refusal.Refusal.TheVariants.{NotAStatement}
 use Rattle.plan_listings.specs.Line.{AreLinesOf}
-use Rattle.plan_store.specs.Listings.{ShowPairs, ShowRows, Shown}
+use Rattle.plan_store.specs.Listings.{ShowLinks, ShowPairs, ShowRows, Shown}
 use Rattle.run_cycles.specs.declared.named.Named.{Named}
 use Rattle.planner_machine.specs.Content.{Content}
 use Rattle.planner_machine.specs.Days.{ListsDays}
-use Rattle.planner_machine.specs.Statement.{Answer, Change, Days, ListPairs, ListRows, Statement, Steps, Trial}
+use Rattle.planner_machine.specs.Statement.{Answer, Change, Days, ListLinks, ListPairs, ListRows, Statement, Steps, Trial}
 use Rattle.planner_machine.specs.Stream.{IsStatement}
 use Rattle.stream_items.specs.Items.{Item}
 use Rattle.planner_cli.specs.Asked.{Asks}
@@ -24,6 +24,8 @@ ShowsRows (ListRows listed app) c (Ok reply) rows =
     (items : List Shown) × ShowRows listed app c items × AreLinesOf IsShownText items rows
 ShowsRows (ListPairs app) c (Ok reply) rows =
     (items : List Shown) × ShowPairs app c items × AreLinesOf IsShownText items rows
+ShowsRows (ListLinks app) c (Ok reply) rows =
+    (items : List Shown) × ShowLinks app c items × AreLinesOf IsShownText items rows
 ShowsRows statement c answer rows = rows ≡ []
 
 -- a statement is answered by a step of the planner's machine, and the reply prints its rows and its answer

@@ -54,6 +54,7 @@ job_change (by_job.Statement change) = change_of change
 -- what the decision on a daily plan has to see, where the plans reach so far
 abbrev pub need_of_daily : Option Bounds → DailyFunction → Need
 need_of_daily bounds (daily.Extend to) = need.Daily to
+need_of_daily bounds (daily.ExtendBy days count) = need.LongTerm
 need_of_daily bounds daily.Replan = replan_need bounds
 
 -- what the decision on a change has to see

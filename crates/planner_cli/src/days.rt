@@ -14,7 +14,7 @@ ghost use Rattle.planner_cli.specs.Stores.{AnswersBy};
 use crate::answers::{Printed, print_answer};
 use crate::rows::days_rows;
 use app_definitions::{Application, Definitions};
-use app_occurrences::{WorkIndexes, active, lacks_calendar, lacks_period, named_occurrences};
+use app_occurrences::{CalendarIndex, active, calendar_name, lacks_calendar, lacks_period, named_by_index};
 use occurrences::{Refusal, Reply};
 use plan_store::{Need, PlanStore, StoreFault, View};
 use planner_machine::LONGEST_WINDOW;
@@ -22,10 +22,11 @@ use run_cycles::Named;
 use std::alloc::{AllocError, Global};
 use work_calendars::{App, Day};
 
-/// Lists the days that an application's run cycles name.
+/// Lists the days that an application's run cycles name. The index of the calendar asked last is kept for the next.
 pub(crate) fn answer_days<S: PlanStore>(
     alloc: Global,
     store: &mut S,
+    kept: &mut Option<CalendarIndex>,
     app: &App,
     from: Day,
     to: Day,
@@ -34,7 +35,7 @@ pub(crate) fn answer_days<S: PlanStore>(
         (Serves (DaysStatement app.now from to) (S.content store.old)) }
 {
     let view = store.read_window(Need::Definitions)?;
-    match days(alloc, view.definitions(), app, from, to) {
+    match days(alloc, view.definitions(), kept, app, from, to) {
         Ok(printed) => Ok(printed),
         Err(_) => Err(StoreFault::Memory),
     }
@@ -44,6 +45,7 @@ pub(crate) fn answer_days<S: PlanStore>(
 fn days(
     alloc: Global,
     all: &Definitions,
+    kept: &mut Option<CalendarIndex>,
     app: &App,
     from: Day,
     to: Day,
@@ -51,7 +53,7 @@ fn days(
     ensures { IfOk result (λ printed. (c : Content) → c.definitions ≡ all.now → (reply : ReplyValue)
         × Serves (DaysStatement app.now from to) c reply c × Prints reply printed.text.items printed.is_accepted) }
 {
-    match named_days(alloc, all, app, from, to)? {
+    match named_days(alloc, all, kept, app, from, to)? {
         Ok(named) => {
             let rows = days_rows(alloc, &named)?;
             print_answer(alloc, rows, &Ok(Reply::Rows { rows: named.len() }))
@@ -65,6 +67,7 @@ fn days(
 fn named_days(
     alloc: Global,
     all: &Definitions,
+    kept: &mut Option<CalendarIndex>,
     app: &App,
     from: Day,
     to: Day,
@@ -79,8 +82,10 @@ fn named_days(
         Ok(application) => application,
         Err(refusal) => return Ok(Err(refusal)),
     };
-    let mut indexes = WorkIndexes::new(alloc);
-    let list = named_occurrences(alloc, all, &mut indexes, app, &application, from, to)?;
+    let calendar = calendar_name(all, &application);
+    let index = CalendarIndex::of(alloc, kept.take(), all, &calendar)?;
+    let list = named_by_index(alloc, all, index.index(), app, &application, from, to)?;
+    *kept = Some(index);
     Ok(Ok(list))
 }
 

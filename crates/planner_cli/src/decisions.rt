@@ -10,7 +10,7 @@ ghost use Rattle.planner_cli.specs.Changes.{change_of, daily_change, plan_change
 ghost use Rattle.planner_cli.specs.Verdicts.{job_change, need_of, need_of_change, need_of_daily};
 
 use crate::define::{define, undefine};
-use crate::kinds::definitions_kind;
+use crate::kinds::{count_of, definitions_kind};
 use app_definitions::Block;
 use plan_store::{Need, Verdict, View};
 use planner_machine::Bounds;
@@ -57,6 +57,7 @@ pub(crate) fn need_of_daily(bounds: Option<Bounds>, function: &DailyFunction) ->
 {
     match function {
         DailyFunction::Extend { to } => Need::Daily(*to),
+        DailyFunction::ExtendBy { .. } => Need::LongTerm,
         DailyFunction::Replan => daily_planning::replan_need(bounds),
     }
 }
@@ -124,6 +125,9 @@ pub(crate) fn decide_daily(
 {
     match function {
         DailyFunction::Extend { to } => daily_planning::extend(alloc, view, *to),
+        DailyFunction::ExtendBy { days, count } => {
+            daily_planning::extend_by(alloc, view, *days, count_of(*count))
+        }
         DailyFunction::Replan => daily_planning::replan(alloc, view),
     }
 }

@@ -1,10 +1,11 @@
-//! Kinds of definitions and listings, as a statement names them.
+//! Kinds of definitions, listings, and the days of an extension, as a statement names them.
 ghost use Rattle.std.specs.Prelude.{◌≡◌};
-ghost use Rattle.planner_cli.specs.Kinds.{definitions_kind, what_of};
+ghost use Rattle.planner_cli.specs.Kinds.{count_of, definitions_kind, what_of};
 
 use app_definitions::Kind;
 use plan_store::What;
-use statements::{KindWord, WhatWord};
+use planner_machine::Count;
+use statements::{CountWord, KindWord, WhatWord};
 
 /// The kind of definitions that a statement's word names.
 pub fn definitions_kind(word: KindWord) -> Kind
@@ -30,5 +31,16 @@ pub fn what_of(word: WhatWord) -> What
         WhatWord::History => What::History,
         WhatWord::Deletions => What::Deletions,
         WhatWord::Dependencies => What::Dependencies,
+        WhatWord::Links => What::Links,
+    }
+}
+
+/// The days that a statement's word counts.
+pub fn count_of(word: CountWord) -> Count
+    ensures { result ≡ count_of word }
+{
+    match word {
+        CountWord::AllDays => Count::AllDays,
+        CountWord::WorkDays => Count::WorkDays,
     }
 }

@@ -17,7 +17,7 @@ use crate::answers::print_alone;
 use crate::faults::{Cause, Part};
 use crate::writing::{write_answer, write_bytes};
 use occurrences::Reply;
-use plan_listings::{marked_line, pair_line, row_line};
+use plan_listings::{link_line, marked_line, pair_line, row_line};
 use plan_store::{Item, ListFault, PlanStore, RowSink, SinkFault, What};
 use std::alloc::Global;
 use std::io::Write;
@@ -55,6 +55,10 @@ fn write_item<W: Write>(writer: &mut W, item: Item<'_>) -> Result<(), Cause>
         Item::Pair(successor, predecessor) => write_line(
             writer,
             &pair_line(successor, predecessor),
+        ),
+        Item::Link(link) => write_line(
+            writer,
+            &link_line(&link.app, &link.predecessor, None),
         ),
     }
 }

@@ -24,6 +24,7 @@ use crate::steps::{answer_change, answer_define, answer_with_data};
 use crate::tally::Tally;
 use crate::trials::{answer_daily_trial, answer_plan_trial};
 use crate::writing::{write_answer, write_out};
+use app_occurrences::CalendarIndex;
 use plan_store::PlanStore;
 use planner_machine::streams;
 use statements::{Statement, read_statement};
@@ -87,6 +88,7 @@ fn answer_all<S: PlanStore, R: BufRead, W: Write>(
 {
     streams();
     let mut page = Page::new(alloc);
+    let mut kept = None;
     let mut tally = Tally::new();
     for _ in 0..u64::MAX {
         if let Err(fault) = page.read_item(reader) {
@@ -95,7 +97,7 @@ fn answer_all<S: PlanStore, R: BufRead, W: Write>(
         let Some(item) = page.item() else {
             return Ok(tally);
         };
-        match answer_one(alloc, store, item, writer) {
+        match answer_one(alloc, store, &mut kept, item, writer) {
             Ok(is_accepted) => tally.count(is_accepted),
             Err(cause) => return Err(RunFault::new(cause, tally)),
         }
@@ -108,6 +110,7 @@ fn answer_all<S: PlanStore, R: BufRead, W: Write>(
 fn answer_one<S: PlanStore, W: Write>(
     alloc: Global,
     store: &mut S,
+    kept: &mut Option<CalendarIndex>,
     item: Item<'_>,
     writer: &mut W,
 ) -> Result<bool, Cause>
@@ -121,7 +124,7 @@ fn answer_one<S: PlanStore, W: Write>(
             let answered = no_statement(alloc);
             write_answer(writer, answered)
         }
-        Item::Alone(line) => answer_alone(alloc, store, line, writer),
+        Item::Alone(line) => answer_alone(alloc, store, kept, line, writer),
         Item::WithBlock(line, block) => {
             let answered = answer_with_data(alloc, store, line, block);
             write_answer(writer, answered)
@@ -133,6 +136,7 @@ fn answer_one<S: PlanStore, W: Write>(
 fn answer_alone<S: PlanStore, W: Write>(
     alloc: Global,
     store: &mut S,
+    kept: &mut Option<CalendarIndex>,
     line: &[u8],
     writer: &mut W,
 ) -> Result<bool, Cause>
@@ -141,7 +145,9 @@ fn answer_alone<S: PlanStore, W: Write>(
         (W.contents writer.old) (W.contents writer.new) (Alone line.now) result }
 {
     match read_statement(alloc, line) {
-        Ok(Some(statement)) => answer_statement(alloc, store, line, &statement, writer),
+        Ok(Some(statement)) => {
+            answer_statement(alloc, store, kept, line, &statement, writer)
+        }
         Ok(None) => {
             let answered = no_statement(alloc);
             write_answer(writer, answered)
@@ -154,6 +160,7 @@ fn answer_alone<S: PlanStore, W: Write>(
 fn answer_statement<S: PlanStore, W: Write>(
     alloc: Global,
     store: &mut S,
+    kept: &mut Option<CalendarIndex>,
     line: &[u8],
     statement: &Statement,
     writer: &mut W,
@@ -176,7 +183,7 @@ fn answer_statement<S: PlanStore, W: Write>(
             write_answer(writer, answered)
         }
         Statement::Days { app, from, to } => {
-            let answered = answer_days(alloc, store, app, *from, *to);
+            let answered = answer_days(alloc, store, kept, app, *from, *to);
             write_answer(writer, answered)
         }
         Statement::PlanTrial(function) => {

@@ -28,6 +28,7 @@ pub(crate) fn change_is_well_formed(change: &ChangeStatement)
         ChangeStatement::Add { .. } => {}
         ChangeStatement::Delete { .. } => {}
         ChangeStatement::Daily(DailyFunction::Extend { .. }) => {}
+        ChangeStatement::Daily(DailyFunction::ExtendBy { .. }) => {}
         ChangeStatement::Daily(DailyFunction::Replan) => {}
         ChangeStatement::AddCurrent { .. } => {}
         ChangeStatement::Act { .. } => {}

@@ -8,13 +8,14 @@ use Rattle.occurrences.specs.declared.status.Status.TheVariants.{W}
 use Rattle.planner_machine.specs.declared.content.Bounds.{Bounds}
 use Rattle.planner_machine.specs.declared.content.Draft.{Draft}
 use Rattle.planner_machine.specs.Content.{Content, Sets}
+use Rattle.planner_machine.specs.DailyExtendBy.{DailyFateBy}
 use Rattle.planner_machine.specs.Drafts.{added}
 use Rattle.planner_machine.specs.Fate.{ActionFate, DailyFate, DeletionFate, ModifyFate, Stays}
 use Rattle.planner_machine.specs.Laws.{Follows, FollowsFate}
 use Rattle.planner_machine.specs.ModifyAll.{IsAnyApp, is_any_app}
 use Rattle.planner_machine.specs.ModifyOne.{IsThatApp, is_that_app}
-use Rattle.planner_machine.specs.Statement.{Act, Add, AddCurrent, Change, Create, DailyExtend, Define, Delete, Extend}
-use Rattle.planner_machine.specs.Statement.{ModifyAll, ModifyOne, Replan, Undefine, replan_fate}
+use Rattle.planner_machine.specs.Statement.{Act, Add, AddCurrent, Change, Create, DailyExtend, DailyExtendBy, Define}
+use Rattle.planner_machine.specs.Statement.{Delete, Extend, ModifyAll, ModifyOne, Replan, Undefine, replan_fate}
 use Rattle.planner_machine.proofs.ActionLemmas.{action_follows}
 use Rattle.planner_machine.proofs.CreateLemmas.{create_follows, extend_follows, good_days, good_last, no_plan}
 use Rattle.planner_machine.proofs.DailyLemmas.{daily_follows}
@@ -96,6 +97,20 @@ change_follows (DailyExtend t) c reply c' sound d = (
   subst (λ (s : Sets). Follows LongTerm (DailyFate t) [] c.sets s) (sym d.1.rows.1)
       (daily_follows t LongTerm c.sets (rows_sound c sound)),
 )
+change_follows (DailyExtendBy n count) c reply c' sound d =
+    let (b, is, (t, new, plans)) = d.1.rows in
+    let follows : Follows LongTerm (DailyFate t) [] c.sets c'.sets =
+    subst (λ (s : Sets). Follows LongTerm (DailyFate t) [] c.sets s) (sym plans.1)
+    (daily_follows t LongTerm c.sets (rows_sound c sound)) in (
+      [],
+      refl,
+      subst (λ (o : Option Bounds). Follows LongTerm (DailyFateBy n count c.definitions o) [] c.sets c'.sets) (sym is)
+          (record {
+            issues = follows.issues;
+            old = λ serial p at. let (q, goes, there) = follows.old serial p at in (q, (t, new, goes), there);
+            new = follows.new;
+          }),
+    )
 change_follows Replan c reply c' sound d =
     let (b, is, r) = d.1.rows in
     let follows = subst (λ (s : Sets). Follows LongTerm (DailyFate b.plan_end) [] c.sets s) (sym r.1)

@@ -36,13 +36,13 @@ use Rattle.planner_machine.specs.Laws.{Follows, IsWellFormed}
 use Rattle.planner_machine.specs.ModifyAll.{IsAnyApp, is_any_app}
 use Rattle.planner_machine.specs.ModifyOne.{IsThatApp, is_that_app}
 use Rattle.planner_machine.specs.Moves.{numbered_row}
-use Rattle.planner_machine.specs.Shown.{list_pairs, list_rows}
+use Rattle.planner_machine.specs.Shown.{list_links, list_pairs, list_rows}
 use Rattle.planner_machine.specs.Days.{days}
 use Rattle.planner_machine.specs.Sound.{IsSound}
-use Rattle.planner_machine.specs.Statement.{Act, Add, AddCurrent, Answer, Change, Create, DailyExtend, Define, DefineJob}
-use Rattle.planner_machine.specs.Statement.{Delete, Extend, Job, ListPairs, ListRows, ModifyAll, ModifyOne, Replan}
-use Rattle.planner_machine.specs.Statement.{AnswersDefine, Days, Statement, Steps, Trial, Undefine, decision_of}
-use Rattle.planner_machine.specs.Statement.{replan_fate}
+use Rattle.planner_machine.specs.Statement.{Act, Add, AddCurrent, Answer, Change, Create, DailyExtend, DailyExtendBy}
+use Rattle.planner_machine.specs.Statement.{Define, DefineJob, Delete, Extend, Job, ListLinks, ListPairs, ListRows}
+use Rattle.planner_machine.specs.Statement.{AnswersDefine, Days, ModifyAll, ModifyOne, Replan, Statement, Steps, Trial}
+use Rattle.planner_machine.specs.Statement.{Undefine, decision_of, replan_fate}
 use Rattle.planner_machine.specs.Stream.{IsStatement, Runs}
 use Rattle.planner_machine.proofs.AssembleLemmas.{stands_in_deletions}
 use Rattle.planner_machine.proofs.ChangeSoundLemmas.{change_sound}
@@ -54,6 +54,7 @@ use Rattle.planner_machine.proofs.FreshLemmas.{Leaves, Told, at_ltp, both_told, 
 use Rattle.planner_machine.proofs.FreshLemmas.{left_out_operator, made_stands, named_after, operator_told, some_stands}
 use Rattle.planner_machine.proofs.FreshModifyLemmas.{modified_named, modified_stands}
 use Rattle.planner_machine.proofs.ModifyLemmas.{any_tests, that_tests}
+use Rattle.planner_machine.proofs.NewEndLemmas.{by_end}
 use Rattle.planner_machine.proofs.SeatLemmas.{going, not_empty}
 use Rattle.planner_machine.proofs.SoundLemmas.{rows_sound}
 use Rattle.planner_machine.proofs.StepLemmas.{asks_nothing, step_keeps}
@@ -298,6 +299,20 @@ extend_fresh to c reply c' sound sound' d fresh =
               ]
         ]
 
+extended_fresh : (t : ℕ) (c : Content) (reply : Reply) (c' : Content) → IsSound c → IsSound c'
+    → Decides (decision_of (DailyExtend t)) c (Ok reply) c' → IsFresh c → IsFresh c'
+extended_fresh t c reply c' sound sound' d fresh =
+    still_fresh (DailyFate t) t (daily_leaves t) LongTerm [] c c' sound sound'
+    (subst (λ (l : List Draft). Follows LongTerm (DailyFate t) l c.sets c'.sets) (change_follows (DailyExtend t) c reply c' sound d).1 (change_follows (DailyExtend t) c reply c' sound d).2) d.1.definitions fresh
+    (no_drafts_named LongTerm c.definitions) (record fresh.bounds { plan_end = t })
+    (ap (λ (s : Sets). s.bounds) d.1.rows.1
+    ∙ ap (option_map (λ (b : Bounds). record b { plan_end = t })) fresh.planned) (omega arith)
+    (later (cases_lt t fresh.bounds.plan_end)) refl
+  where
+    later : (t < fresh.bounds.plan_end) ⊎ (fresh.bounds.plan_end ≤ t) → fresh.bounds.plan_end ≤ t
+    later (inr le) = le
+    later (inl lt) = absurd (d.0 PlanEndOutOfRange (fresh.bounds, fresh.planned, inl (omega arith)))
+
 -- each accepted statement that leaves the definitions, from fresh content
 accepted_fresh : (change : Change) → (RedefinesBy change → ⊥) → (c : Content) (reply : Reply) (c' : Content) → IsSound c
     → IsSound c' → Decides (decision_of change) c (Ok reply) c' → IsFresh c → IsFresh c'
@@ -318,17 +333,10 @@ accepted_fresh (Delete key) leaves c reply c' sound sound' d fresh =
     (subst (λ (l : List Draft). Follows LongTerm (DeletionFate key) l c.sets c'.sets) (change_follows (Delete key) c reply c' sound d).1 (change_follows (Delete key) c reply c' sound d).2) d.1.definitions fresh
     (deletion_leaves key fresh.bounds.plan_end) (no_drafts_named LongTerm c.definitions)
     (ap (λ (s : Sets). s.bounds) d.1.rows.becomes)
-accepted_fresh (DailyExtend t) leaves c reply c' sound sound' d fresh =
-    still_fresh (DailyFate t) t (daily_leaves t) LongTerm [] c c' sound sound'
-    (subst (λ (l : List Draft). Follows LongTerm (DailyFate t) l c.sets c'.sets) (change_follows (DailyExtend t) c reply c' sound d).1 (change_follows (DailyExtend t) c reply c' sound d).2) d.1.definitions fresh
-    (no_drafts_named LongTerm c.definitions) (record fresh.bounds { plan_end = t })
-    (ap (λ (s : Sets). s.bounds) d.1.rows.1
-    ∙ ap (option_map (λ (b : Bounds). record b { plan_end = t })) fresh.planned) (omega arith)
-    (later (cases_lt t fresh.bounds.plan_end)) refl
-  where
-    later : (t < fresh.bounds.plan_end) ⊎ (fresh.bounds.plan_end ≤ t) → fresh.bounds.plan_end ≤ t
-    later (inr le) = le
-    later (inl lt) = absurd (d.0 PlanEndOutOfRange (fresh.bounds, fresh.planned, inl (omega arith)))
+accepted_fresh (DailyExtend t) leaves c reply c' sound sound' d fresh = extended_fresh t c reply c' sound sound' d fresh
+accepted_fresh (DailyExtendBy n count) leaves c reply c' sound sound' d fresh =
+    let (b, is, (t, new, plans)) = d.1.rows in
+    extended_fresh t c reply c' sound sound' ((by_end n count c b t is new (Ok reply) c').0 d) fresh
 accepted_fresh Replan leaves c reply c' sound sound' d fresh =
     let (b, is, rows) = d.1.rows in
     let same : b ≡ fresh.bounds = one_bounds c.sets b fresh.bounds is fresh.planned in
@@ -397,6 +405,8 @@ step_fresh (ListRows listed app) fine c sound a c' leaves h fresh =
     subst IsFresh (sym (asks_nothing (list_rows listed app) (λ c reply c' does. does.0) c a c' h)) fresh
 step_fresh (ListPairs app) fine c sound a c' leaves h fresh =
     subst IsFresh (sym (asks_nothing (list_pairs app) (λ c reply c' does. does.0) c a c' h)) fresh
+step_fresh (ListLinks app) fine c sound a c' leaves h fresh =
+    subst IsFresh (sym (asks_nothing (list_links app) (λ c reply c' does. does.0) c a c' h)) fresh
 
 pub stays_fresh : StaysFresh
 stays_fresh [] [] c c' sound fine r leaves fresh = subst IsFresh (sym r) fresh

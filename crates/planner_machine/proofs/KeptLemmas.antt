@@ -16,11 +16,13 @@ use Rattle.occurrences.specs.declared.refusal.Refusal.TheVariants.{PlanEndOutOfR
 use Rattle.occurrences.specs.declared.reply.Reply.{Reply}
 use Rattle.occurrences.specs.declared.status.Action.{Action}
 use Rattle.occurrences.specs.declared.status.Status.TheVariants.{W}
+use Rattle.planner_machine.specs.declared.counts.Count.{Count}
 use Rattle.planner_machine.specs.Act.{ActionRefused}
 use Rattle.planner_machine.specs.Add.{AddRefused}
 use Rattle.planner_machine.specs.Content.{Content, Sets}
 use Rattle.planner_machine.specs.Create.{CreateRefused}
 use Rattle.planner_machine.specs.DailyExtend.{DailyExtendRefused}
+use Rattle.planner_machine.specs.DailyExtendBy.{DailyExtendByRefused}
 use Rattle.planner_machine.specs.DailyPlan.{carried, completed, daily_reply, deleted, moved}
 use Rattle.planner_machine.specs.Decision.{Decides}
 use Rattle.planner_machine.specs.Define.{UndefineRefused}
@@ -33,8 +35,8 @@ use Rattle.planner_machine.specs.ModifyAll.{ModifyAllRefused, is_any_app}
 use Rattle.planner_machine.specs.ModifyOne.{ModifyOneRefused, is_that_app}
 use Rattle.planner_machine.specs.Replan.{ReplanRefused}
 use Rattle.planner_machine.specs.Sound.{IsKeptReply, IsShown, IsSound}
-use Rattle.planner_machine.specs.Statement.{Act, Add, AddCurrent, Change, Create, DailyExtend, Define, Delete, Extend}
-use Rattle.planner_machine.specs.Statement.{ModifyAll, ModifyOne, Replan, Undefine, decision_of}
+use Rattle.planner_machine.specs.Statement.{Act, Add, AddCurrent, Change, Create, DailyExtend, DailyExtendBy, Define}
+use Rattle.planner_machine.specs.Statement.{Delete, Extend, ModifyAll, ModifyOne, Replan, Undefine, decision_of}
 use Rattle.planner_machine.proofs.ActionLemmas.{stands_in_cp}
 use Rattle.planner_machine.proofs.DeleteLemmas.{stands_in_ltp}
 use Rattle.planner_machine.proofs.JobLemmas.{is_serial, loop_name, no_calendar_name, no_period_name}
@@ -100,6 +102,12 @@ daily_err : (t : ℕ) (c : Content) (q : Refusal) → DailyExtendRefused t c q �
 daily_err t c NoPlan h = omega arith
 daily_err t c PlanEndOutOfRange h = omega arith
 daily_err t c _ h = absurd h
+
+daily_by_err : (n : ℕ) (count : Count) (c : Content) (q : Refusal) → DailyExtendByRefused n count c q
+    → IsKeptReply (Err q)
+daily_by_err n count c NoPlan h = omega arith
+daily_by_err n count c PlanEndOutOfRange h = omega arith
+daily_by_err n count c _ h = absurd h
 
 replan_err : (c : Content) (q : Refusal) → ReplanRefused c q → IsKeptReply (Err q)
 replan_err c NoPlan h = omega arith
@@ -169,6 +177,9 @@ kept_reply (Delete key) fine c (Ok reply) c' sound sound' d =
 kept_reply (Delete key) fine c (Err q) c' sound sound' d = delete_err key c q d.0.0
 kept_reply (DailyExtend t) fine c (Ok reply) c' sound sound' d = moved_kept t c sound reply d.1.rows.0
 kept_reply (DailyExtend t) fine c (Err q) c' sound sound' d = daily_err t c q d.0.0
+kept_reply (DailyExtendBy n count) fine c (Ok reply) c' sound sound' d = let (b, is, (t, new, plans)) = d.1.rows in
+    moved_kept t c sound reply plans.0
+kept_reply (DailyExtendBy n count) fine c (Err q) c' sound sound' d = daily_by_err n count c q d.0.0
 kept_reply Replan fine c (Ok reply) c' sound sound' d = let (b, is, rows) = d.1.rows in
     moved_kept b.plan_end c sound reply rows.0
 kept_reply Replan fine c (Err q) c' sound sound' d = replan_err c q d.0.0

@@ -12,6 +12,7 @@ pub mod CreateLemmas
 pub mod LinkLemmas
 pub mod PairLemmas
 pub mod SoundLemmas
+pub mod NewEndLemmas
 mod OneAnswerLemmas
 mod FateLemmas
 mod FollowLemmas

@@ -10,11 +10,13 @@ use Rattle.occurrences.specs.declared.reply.Reply.{Reply}
 use Rattle.occurrences.specs.declared.status.Action.{Action}
 use Rattle.occurrences.specs.declared.status.Status.TheVariants.{W}
 use Rattle.planner_machine.specs.declared.content.Bounds.{Bounds}
+use Rattle.planner_machine.specs.declared.counts.Count.{Count}
 use Rattle.planner_machine.specs.Act.{ActionRefused, Acts, IsLeastUncompleted}
 use Rattle.planner_machine.specs.Add.{AddRefused, Adds}
 use Rattle.planner_machine.specs.Content.{Content, Sets}
 use Rattle.planner_machine.specs.Create.{CreateRefused, Creates}
 use Rattle.planner_machine.specs.DailyExtend.{DailyExtendRefused, ExtendsDaily}
+use Rattle.planner_machine.specs.DailyExtendBy.{DailyExtendByRefused, ExtendsDailyBy}
 use Rattle.planner_machine.specs.DailyPlan.{daily, daily_reply}
 use Rattle.planner_machine.specs.Decision.{DecidesOne}
 use Rattle.planner_machine.specs.Define.{UndefineRefused, define, undefine}
@@ -24,19 +26,21 @@ use Rattle.planner_machine.specs.InForce.{PutsAll, PutsLists, PutsNone, PutsOne}
 use Rattle.planner_machine.specs.Laws.{AnswersOnce}
 use Rattle.planner_machine.specs.ModifyAll.{IsAnyApp, ModifiesAll, ModifyAllRefused, is_any_app}
 use Rattle.planner_machine.specs.ModifyOne.{IsThatApp, ModifiesOne, ModifyOneRefused, is_that_app}
+use Rattle.planner_machine.specs.NewEnd.{IsNewEnd}
 use Rattle.planner_machine.specs.Pairs.{ArePairs}
 use Rattle.app_occurrences.specs.Active.{HasNoCalendar, HasNoPeriod}
 use Rattle.planner_machine.specs.Plans.{ChangesPlans, MakesOfRows}
 use Rattle.planner_machine.specs.Replan.{ReplanRefused, Replans}
 use Rattle.planner_machine.specs.Sound.{IsSound}
-use Rattle.planner_machine.specs.Statement.{Act, Add, AddCurrent, Change, Create, DailyExtend, Define, Delete, Extend}
-use Rattle.planner_machine.specs.Statement.{ModifyAll, ModifyOne, Replan, Undefine}
+use Rattle.planner_machine.specs.Statement.{Act, Add, AddCurrent, Change, Create, DailyExtend, DailyExtendBy, Define}
+use Rattle.planner_machine.specs.Statement.{Delete, Extend, ModifyAll, ModifyOne, Replan, Undefine}
 use Rattle.planner_machine.proofs.ActionLemmas.{action_does_one, one_current}
 use Rattle.planner_machine.proofs.CreateLemmas.{create_does_one, extend_does_one}
 use Rattle.planner_machine.proofs.DecisionLemmas.{ShowsOne, decides_one, shows_one}
 use Rattle.planner_machine.proofs.DeleteLemmas.{delete_does_one}
 use Rattle.planner_machine.proofs.LinkLemmas.{PutsOneList, all_is_one, none_is_one, one_is_one, one_least_app, one_loop}
 use Rattle.planner_machine.proofs.ModifyLemmas.{any_tests, modify_does_one, that_tests}
+use Rattle.planner_machine.proofs.NewEndLemmas.{one_end}
 use Rattle.planner_machine.proofs.PairLemmas.{pairs_are_one}
 use Rattle.planner_machine.specs.RowsSound.{RowsSound}
 use Rattle.planner_machine.proofs.SoundLemmas.{rows_sound}
@@ -134,6 +138,15 @@ daily_shows t c sound = record {
   predecessor = λ m n h k. absurd h;
 }
 
+daily_by_shows : (n : ℕ) (count : Count) (c : Content) → IsSound c → ShowsOne (DailyExtendByRefused n count c)
+daily_by_shows n count c sound = record {
+  data_at = λ m k h l. absurd h;
+  calendar = λ a b h k. absurd h;
+  period = λ a b h k. absurd h;
+  loop = λ a b h k. absurd h;
+  predecessor = λ m k h l. absurd h;
+}
+
 replan_shows : (c : Content) → IsSound c → ShowsOne (ReplanRefused c)
 replan_shows c sound = record {
   data_at = λ m n h k. absurd h;
@@ -167,6 +180,17 @@ action_shows key action c sound = record {
       let up = least.1 n least''.0 in let down = least''.1 m least.0 in
       omega arith;
 }
+
+daily_by_does_one : (n : ℕ) (count : Count) → MakesOne (ExtendsDailyBy n count)
+daily_by_does_one n count all s reply reply' s' s'' sound (b, is, (t, new, p)) (b', is', (t', new', p')) =
+    let whole : Some b ≡ Some b' = sym is ∙ is' in
+    let same : b ≡ b' = cc in
+    let end : t ≡ t' = one_end all b'.plan_end n count t t'
+    (subst (λ (x : Bounds). IsNewEnd all x.plan_end n count t) same new) new' in (
+      p.0 ∙ ap (λ x. daily_reply x s) end ∙ sym p'.0,
+      p.1
+          ∙ ap (λ x. daily x s) end ∙ sym p'.1,
+    )
 
 replan_does_one : MakesOne Replans
 replan_does_one all s reply reply' s' s'' sound (b, is, r) (b', is', r') =
@@ -212,6 +236,9 @@ change_once (DailyExtend t) =
       a.1
           ∙ sym b.1,
     )) none_is_one (DailyExtendRefused t) (daily_shows t)
+change_once (DailyExtendBy n count) =
+    plans_once (ExtendsDailyBy n count) PutsNone (daily_by_does_one n count) none_is_one (DailyExtendByRefused n count)
+    (daily_by_shows n count)
 change_once Replan = plans_once Replans PutsNone replan_does_one none_is_one ReplanRefused replan_shows
 change_once (AddCurrent key) =
     plans_once (Adds (Current W) key) PutsNone (λ all s reply reply' s' s'' sound a b. (

@@ -1,14 +1,15 @@
 -- Daily plans and pairs, as laws of their own.
 use Rattle.std.proofs.Common.{◌≡◌, ℕ, sym, subst, Option, None, Some}
 use Rattle.planner_machine.specs.declared.content.Bounds.{Bounds}
+use Rattle.planner_machine.specs.declared.counts.Count.{Count}
 use Rattle.planner_machine.specs.Content.{Content, Sets, StandsAt}
 use Rattle.planner_machine.specs.DailyPlan.{daily, daily_move}
 use Rattle.planner_machine.specs.Fate.{place_after_daily_plan}
 use Rattle.planner_machine.specs.Laws.{DailyIsFates, KeepsItself, KeepsPairs}
 use Rattle.planner_machine.specs.Pairs.{ArePairs}
 use Rattle.planner_machine.specs.Sound.{IsSound}
-use Rattle.planner_machine.specs.Statement.{Act, Add, AddCurrent, Change, Create, DailyExtend, Define, Delete, Extend}
-use Rattle.planner_machine.specs.Statement.{ModifyAll, ModifyOne, Replan, Undefine, fate_of}
+use Rattle.planner_machine.specs.Statement.{Act, Add, AddCurrent, Change, Create, DailyExtend, DailyExtendBy, Define}
+use Rattle.planner_machine.specs.Statement.{Delete, Extend, ModifyAll, ModifyOne, Replan, Undefine, fate_of}
 use Rattle.planner_machine.proofs.DailyLemmas.{daily_is_move}
 use Rattle.planner_machine.proofs.FollowLemmas.{FateKeeps, action_keeps, daily_keeps, deletion_keeps}
 use Rattle.planner_machine.proofs.FollowLemmas.{modify_keeps_all, stays_keeps}
@@ -41,6 +42,10 @@ no_change t c c' sound sets lists pairs =
 pub extend_keeps_pairs : (t : ℕ) → KeepsPairs (DailyExtend t)
 extend_keeps_pairs t c reply c' sound d = no_change t c c' sound d.1.rows.1 d.1.lists d.1.pairs
 
+pub days_keep_pairs : (n : ℕ) (count : Count) → KeepsPairs (DailyExtendBy n count)
+days_keep_pairs n count c reply c' sound d = let (b, is, (t, new, plans)) = d.1.rows in
+    no_change t c c' sound plans.1 d.1.lists d.1.pairs
+
 pub replan_keeps_pairs : KeepsPairs Replan
 replan_keeps_pairs c reply c' sound d = let (b, is, rows) = d.1.rows in
     no_change b.plan_end c c' sound rows.1 d.1.lists d.1.pairs
@@ -56,6 +61,17 @@ itself (ModifyOne app) all bounds = modify_keeps_all (IsThatApp app) all
 itself (Add key) all bounds = stays_keeps
 itself (Delete key) all bounds = deletion_keeps key
 itself (DailyExtend t) all bounds = daily_keeps t
+itself (DailyExtendBy n count) all None = stays_keeps
+itself (DailyExtendBy n count) all (Some b) = record {
+  key = λ p q goes. (daily_keeps goes.0).key p q goes.2;
+  serial = λ p q goes. (daily_keeps goes.0).serial p q goes.2;
+  generated = λ p q goes. (daily_keeps goes.0).generated p q goes.2;
+  added = λ p q goes. (daily_keeps goes.0).added p q goes.2;
+  ltp = λ p q goes. (daily_keeps goes.0).ltp p q goes.2;
+  planned = λ p q goes. (daily_keeps goes.0).planned p q goes.2;
+  live = λ p q goes. (daily_keeps goes.0).live p q goes.2;
+  complete = λ p q goes. (daily_keeps goes.0).complete p q goes.2;
+}
 itself Replan all None = stays_keeps
 itself Replan all (Some b) = daily_keeps b.plan_end
 itself (AddCurrent key) all bounds = stays_keeps

@@ -11,11 +11,11 @@ use Rattle.planner_machine.specs.Days.{days}
 use Rattle.planner_machine.specs.Decision.{Decides, trial}
 use Rattle.planner_machine.specs.Jobs.{AnswersKept, kept, with_job}
 use Rattle.planner_machine.specs.Rerun.{AnswersAgree, RerunEndsAsEachRun, RerunEndsAsOneRun, job_number}
-use Rattle.planner_machine.specs.Shown.{list_pairs, list_rows}
+use Rattle.planner_machine.specs.Shown.{list_links, list_pairs, list_rows}
 use Rattle.planner_machine.specs.Statement.{Act, Add, AddCurrent, Answer, AreRead, Change, Create}
-use Rattle.planner_machine.specs.Statement.{DailyExtend, Days, Define, DefineJob, Delete, Extend, IsFaulty, Job}
-use Rattle.planner_machine.specs.Statement.{ListPairs, ListRows, ModifyAll, ModifyOne, Replan, Statement, Steps, Trial}
-use Rattle.planner_machine.specs.Statement.{Undefine, decision_of}
+use Rattle.planner_machine.specs.Statement.{DailyExtend, DailyExtendBy, Days, Define, DefineJob, Delete, Extend}
+use Rattle.planner_machine.specs.Statement.{IsFaulty, Job, ListLinks, ListPairs, ListRows, ModifyAll, ModifyOne}
+use Rattle.planner_machine.specs.Statement.{Replan, Statement, Steps, Trial, Undefine, decision_of}
 use Rattle.planner_machine.specs.Stream.{Runs}
 use Rattle.planner_machine.proofs.StepLemmas.{asks_nothing, faulty_once, read_or_faulty}
 use Rattle.planner_machine.proofs.StreamLemmas.{one_way}
@@ -33,6 +33,7 @@ jobs_stay (ModifyOne app) c (Ok reply) c' (none, does) = does.jobs
 jobs_stay (Add key) c (Ok reply) c' (none, does) = does.jobs
 jobs_stay (Delete key) c (Ok reply) c' (none, does) = does.jobs
 jobs_stay (DailyExtend to) c (Ok reply) c' (none, does) = does.jobs
+jobs_stay (DailyExtendBy n count) c (Ok reply) c' (none, does) = does.jobs
 jobs_stay Replan c (Ok reply) c' (none, does) = does.jobs
 jobs_stay (AddCurrent key) c (Ok reply) c' (none, does) = does.jobs
 jobs_stay (Act action key) c (Ok reply) c' (none, does) = does.jobs
@@ -106,6 +107,7 @@ step_known (Days app from to) c a c' h = tt
 step_known (Trial change) c a c' h = tt
 step_known (ListRows listed app) c a c' h = tt
 step_known (ListPairs app) c a c' h = tt
+step_known (ListLinks app) c a c' h = tt
 
 -- it stays known while kept jobs stay
 still_known : (s : Statement) (a : Answer) (c c' : Content) → JobsStay c c' → Knows s a c → Knows s a c'
@@ -117,6 +119,7 @@ still_known (Days app from to) a c c' stay h = tt
 still_known (Trial change) a c c' stay h = tt
 still_known (ListRows listed app) a c c' stay h = tt
 still_known (ListPairs app) a c c' stay h = tt
+still_known (ListLinks app) a c c' stay h = tt
 
 -- run again, it changes nothing, and with a number it is answered as it was
 abbrev AgainAs : Statement → Answer → Answer → Content → Content → Type 0
@@ -142,6 +145,8 @@ known_again (ListRows listed app) a c b c' known h =
     (asks_nothing (list_rows listed app) (λ c reply c' does. does.0) c b c' h, λ number has. absurd cc)
 known_again (ListPairs app) a c b c' known h =
     (asks_nothing (list_pairs app) (λ c reply c' does. does.0) c b c' h, λ number has. absurd cc)
+known_again (ListLinks app) a c b c' known h =
+    (asks_nothing (list_links app) (λ c reply c' does. does.0) c b c' h, λ number has. absurd cc)
 
 -- kept jobs stay over a step, and over a run
 same_jobs : (c c' : Content) → c' ≡ c → JobsStay c c'
@@ -160,6 +165,8 @@ step_stays (ListRows listed app) c a c' h =
     same_jobs c c' (asks_nothing (list_rows listed app) (λ c reply c' does. does.0) c a c' h)
 step_stays (ListPairs app) c a c' h =
     same_jobs c c' (asks_nothing (list_pairs app) (λ c reply c' does. does.0) c a c' h)
+step_stays (ListLinks app) c a c' h =
+    same_jobs c c' (asks_nothing (list_links app) (λ c reply c' does. does.0) c a c' h)
 
 run_stays : (stream : List Statement) (c : Content) (answers : List Answer) (c' : Content) → Runs stream c answers c'
     → JobsStay c c'

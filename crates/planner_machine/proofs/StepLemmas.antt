@@ -14,6 +14,10 @@ use Rattle.occurrences.specs.declared.refusal.Refusal.{Refusal}
 use Rattle.occurrences.specs.declared.refusal.Refusal.TheVariants.{FaultyData, JobWithAnotherText}
 use Rattle.occurrences.specs.declared.reply.Reply.{Reply}
 use Rattle.occurrences.specs.declared.reply.Reply.TheVariants.{Rows}
+use Rattle.external_dependencies.proofs.LexLemmas.{link_total}
+use Rattle.external_dependencies.proofs.RisingLemmas.{rising_unique}
+use Rattle.external_dependencies.specs.Link.{link_cmp}
+use Rattle.external_dependencies.specs.declared.links.Link.{Link}
 use Rattle.external_dependencies.specs.declared.rows.PlacedRow.{PlacedRow}
 use Rattle.run_cycles.specs.Occurrence.{IsEarlier}
 use Rattle.run_cycles.specs.declared.named.Named.{Named}
@@ -27,10 +31,10 @@ use Rattle.planner_machine.specs.Define.{define}
 use Rattle.planner_machine.specs.Fate.{Stays}
 use Rattle.planner_machine.specs.Jobs.{AnswersKept, kept, with_job}
 use Rattle.planner_machine.specs.Laws.{Follows, IsWellFormed}
-use Rattle.planner_machine.specs.Shown.{LinkedBefore, LinkedRows, Listed, list_pairs, list_rows}
+use Rattle.planner_machine.specs.Shown.{LinkedBefore, LinkedRows, Listed, list_links, list_pairs, list_rows}
 use Rattle.planner_machine.specs.Sound.{IsSound}
 use Rattle.planner_machine.specs.Statement.{AnswersDefine, Answer, AreRead, Change, Days, Define, DefineJob, IsFaulty}
-use Rattle.planner_machine.specs.Statement.{Job, ListPairs, ListRows, Statement, Steps, Trial, decision_of}
+use Rattle.planner_machine.specs.Statement.{Job, ListLinks, ListPairs, ListRows, Statement, Steps, Trial, decision_of}
 use Rattle.planner_machine.specs.Stream.{IsStatement, MakesAt, acting, change_made, fate_at, place_at}
 use Rattle.planner_machine.proofs.ChangeSoundLemmas.{change_sound}
 use Rattle.planner_machine.proofs.DecisionLemmas.{ShowsOne, decides_one, shows_one}
@@ -217,6 +221,19 @@ pairs_once app = decides_one IsSound (list_pairs app) (λ c reply reply' c' c'' 
   is ∙ sym is',
 )) (λ c q r sound h k same. absurd h)
 
+links_once : (app : Option (List ℕ)) → DecidesOne IsSound (list_links app)
+links_once app = decides_one IsSound (list_links app) (λ c reply reply' c' c'' sound (is, (shown, lists, r)) (
+  is',
+  (shown', lists', r'),
+). (
+  r ∙ ap (λ (l : List Link). Rows (length l)) (rising_unique link_cmp link_total shown shown' lists.rising lists'.rising
+      (λ z. (
+        (λ h. (lists'.exactly z).1 ((lists.exactly z).0 h)),
+        (λ h. (lists.exactly z).1 ((lists'.exactly z).0 h)),
+      ))) ∙ sym r',
+  is ∙ sym is',
+)) (λ c q r sound h k same. absurd h)
+
 -- a trial is answered as its statement would be
 pub trial_as : (d : Decision Content) (c : Content) (a : Answer) (c' : Content) → Decides (trial d) c a c'
     → (left : Content) × Decides d c a left × (c' ≡ c)
@@ -246,6 +263,7 @@ step_once (Trial change) c sound a a' c' c'' h k =
     trial_once (decision_of change) (change_once change) c a a' c' c'' sound h k
 step_once (ListRows listed app) c sound a a' c' c'' h k = list_once listed app c a a' c' c'' sound h k
 step_once (ListPairs app) c sound a a' c' c'' h k = pairs_once app c a a' c' c'' sound h k
+step_once (ListLinks app) c sound a a' c' c'' h k = links_once app c a a' c' c'' sound h k
 
 define_keeps : (number : ℕ) (text : List ℕ) (kind : Kind) (given : Option (List ℕ))
     → IsStatement (DefineJob number text kind given) → (c : Content) → IsSound c → (a : Answer) (c' : Content)
@@ -272,6 +290,8 @@ step_keeps (ListRows listed app) fine c sound a c' h =
     subst IsSound (sym (asks_nothing (list_rows listed app) (λ c reply c' does. does.0) c a c' h)) sound
 step_keeps (ListPairs app) fine c sound a c' h =
     subst IsSound (sym (asks_nothing (list_pairs app) (λ c reply c' does. does.0) c a c' h)) sound
+step_keeps (ListLinks app) fine c sound a c' h =
+    subst IsSound (sym (asks_nothing (list_links app) (λ c reply c' does. does.0) c a c' h)) sound
 
 define_follows : (number : ℕ) (text : List ℕ) (kind : Kind) (given : Option (List ℕ)) (c : Content) (a : Answer)
     (c' : Content) → AnswersDefine number text kind given c a c' → FollowsAt None c c'
@@ -299,3 +319,6 @@ step_follows (ListRows listed app) c sound a c' h =
 step_follows (ListPairs app) c sound a c' h =
     nothing_made c c' (ap (λ (x : Content). x.sets)
     (asks_nothing (list_pairs app) (λ c reply c' does. does.0) c a c' h))
+step_follows (ListLinks app) c sound a c' h =
+    nothing_made c c' (ap (λ (x : Content). x.sets)
+    (asks_nothing (list_links app) (λ c reply c' does. does.0) c a c' h))

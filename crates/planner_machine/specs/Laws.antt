@@ -1,10 +1,11 @@
 -- Laws of the machine, as statements: the contracts of this crate's functions say that they hold.
-use Rattle.std.specs.Prelude.{◌≡◌, ◌↔◌, ℕ, ◌+◌, List, length, Contains, Ok, Option, Some, slice_get}
+use Rattle.std.specs.Prelude.{◌≡◌, ◌↔◌, ℕ, ◌+◌, List, length, Contains, Ok, Option, Result, Some, slice_get}
 use Rattle.work_calendars.specs.Day.{IsDay}
 use Rattle.app_definitions.specs.Blocks.{ReadsAs}
 use Rattle.app_definitions.specs.Definitions.{names_given}
 use Rattle.app_definitions.specs.declared.kinds.Kind.{Kind}
 use Rattle.occurrences.specs.declared.place.Place.{Place}
+use Rattle.occurrences.specs.declared.refusal.Refusal.{Refusal}
 use Rattle.occurrences.specs.declared.reply.Reply.{Reply}
 use Rattle.external_dependencies.specs.declared.rows.PlacedRow.{PlacedRow}
 use Rattle.external_dependencies.specs.Loop.{OnRing}
@@ -12,14 +13,17 @@ use Rattle.external_dependencies.specs.declared.pairs.Pair.{Pair}
 use Rattle.app_definitions.specs.declared.definitions.Definitions.{Definitions}
 use Rattle.planner_machine.specs.declared.content.Bounds.{Bounds}
 use Rattle.planner_machine.specs.declared.content.Draft.{Draft}
+use Rattle.planner_machine.specs.declared.counts.Count.{Count}
 use Rattle.planner_machine.specs.Content.{Content, Sets, StandsAt}
 use Rattle.planner_machine.specs.Decision.{Decides, DecidesOne, KeepsSound, RefusalLeaves}
 use Rattle.planner_machine.specs.DailyPlan.{daily}
 use Rattle.planner_machine.specs.Fate.{DailyFate, Fate, IsGenerated}
 use Rattle.planner_machine.specs.Pairs.{IsClosedAt, IsCompleteAt, pair_of}
 use Rattle.planner_machine.specs.Moves.{numbered_row}
+use Rattle.planner_machine.specs.NewEnd.{IsNewEnd}
 use Rattle.planner_machine.specs.Sound.{IsShown, IsSound}
-use Rattle.planner_machine.specs.Statement.{Change, Create, Define, MakesDrafts, decision_of, fate_of, place_of_made}
+use Rattle.planner_machine.specs.Statement.{Change, Create, DailyExtend, DailyExtendBy, Define, MakesDrafts}
+use Rattle.planner_machine.specs.Statement.{decision_of, fate_of, place_of_made}
 
 -- each serial that stood somewhere stands where its fate puts it; and the new serials, from issued + 1 on, are those
 -- of the drafts in their order, each with its row in the place where it is made
@@ -71,6 +75,13 @@ abbrev pub DailyIsFates : Type 0
 DailyIsFates =
     (t : ℕ) (c : Content) → IsSound c → (serial : ℕ) (q : PlacedRow)
     → StandsAt (daily t c.sets) serial q ↔ ((p : PlacedRow) × StandsAt c.sets serial p × DailyFate t p q)
+
+-- a daily plan by days is the daily plan to the new end that they give: it is answered so, and leaves that content
+abbrev pub DailyByIsToEnd : Type 0
+DailyByIsToEnd =
+    (n : ℕ) (count : Count) (c : Content) (b : Bounds) (t : ℕ) → c.sets.bounds ≡ Some b
+    → IsNewEnd c.definitions b.plan_end n count t → (a : Result Reply Refusal) (c' : Content)
+    → Decides (decision_of (DailyExtendBy n count)) c a c' ↔ Decides (decision_of (DailyExtend t)) c a c'
 
 -- an accepted statement leaves the pairs as they are
 abbrev pub KeepsPairs : Change → Type 0

@@ -3,6 +3,7 @@ pub mod Add
 pub mod Content
 pub mod Create
 pub mod DailyExtend
+pub mod DailyExtendBy
 pub mod DailyPlan
 pub mod Days
 pub mod Decision
@@ -20,6 +21,7 @@ pub mod Modify
 pub mod ModifyAll
 pub mod ModifyOne
 pub mod Moves
+pub mod NewEnd
 pub mod Pairs
 pub mod Plans
 pub mod Replan

@@ -10,6 +10,9 @@ use Rattle.occurrences.specs.declared.reply.Reply.TheVariants.{Rows}
 use Rattle.occurrences.specs.declared.row.Row.{Row}
 use Rattle.occurrences.specs.declared.status.Status.{Status}
 use Rattle.occurrences.specs.declared.status.Status.TheVariants.{W, C, D}
+use Rattle.external_dependencies.specs.Link.{link_cmp}
+use Rattle.external_dependencies.specs.Rising.{IsRising}
+use Rattle.external_dependencies.specs.declared.links.Link.{Link}
 use Rattle.external_dependencies.specs.declared.pairs.Pair.{Pair}
 use Rattle.external_dependencies.specs.declared.rows.PlacedRow.{PlacedRow}
 use Rattle.planner_machine.specs.Content.{Content, Sets, StandsAt}
@@ -68,7 +71,18 @@ pub record ListsPairs (app : Option (List ℕ)) (c : Content) (shown : List Link
   pub rising : AllPairs LinkedBefore shown
   pub exactly : (l : LinkedRows) → Contains shown l ↔ IsLinked app c l
 
--- both refuse nothing, answer how many rows they show, and change nothing
+-- `list` of the lists in force
+
+-- a predecessor in the list of an application
+abbrev pub IsInForce : Option (List ℕ) → Content → Link → Type 0
+IsInForce app c link = Contains c.in_force link × IsOfApp app link.app
+
+-- by application, then by predecessor
+pub record ListsLinks (app : Option (List ℕ)) (c : Content) (shown : List Link) : Type 0 where
+  pub rising : IsRising link_cmp shown
+  pub exactly : (link : Link) → Contains shown link ↔ IsInForce app c link
+
+-- all refuse nothing, answer how many items they show, and change nothing
 
 abbrev pub list_rows : Listed → Option (List ℕ) → Decision Content
 list_rows listed app = record {
@@ -81,6 +95,12 @@ abbrev pub list_pairs : Option (List ℕ) → Decision Content
 list_pairs app = record {
   Refuses = λ c r. ⊥;
   Does = λ c reply c'. (c' ≡ c) × ((shown : List LinkedRows) × ListsPairs app c shown × (reply ≡ Rows (length shown)));
+}
+
+abbrev pub list_links : Option (List ℕ) → Decision Content
+list_links app = record {
+  Refuses = λ c r. ⊥;
+  Does = λ c reply c'. (c' ≡ c) × ((shown : List Link) × ListsLinks app c shown × (reply ≡ Rows (length shown)));
 }
 
 -- a trial of a planning statement: from the sets as they are to the sets as the statement would leave them

@@ -14,11 +14,13 @@ use Rattle.occurrences.specs.declared.status.Action.{Action}
 use Rattle.occurrences.specs.declared.status.Status.TheVariants.{W}
 use Rattle.planner_machine.specs.declared.content.Bounds.{Bounds}
 use Rattle.planner_machine.specs.declared.content.Draft.{Draft}
+use Rattle.planner_machine.specs.declared.counts.Count.{Count}
 use Rattle.planner_machine.specs.Act.{cp_action}
 use Rattle.planner_machine.specs.Add.{cp_add, ltp_add}
 use Rattle.planner_machine.specs.Content.{Content, Sets}
 use Rattle.planner_machine.specs.Create.{IsCreated, create}
 use Rattle.planner_machine.specs.DailyExtend.{dp_extend}
+use Rattle.planner_machine.specs.DailyExtendBy.{DailyFateBy, dp_extend_by}
 use Rattle.planner_machine.specs.Days.{days}
 use Rattle.planner_machine.specs.Decision.{Decides, Decision, trial}
 use Rattle.planner_machine.specs.Define.{define, undefine}
@@ -31,7 +33,7 @@ use Rattle.planner_machine.specs.Modify.{NamesAhead}
 use Rattle.planner_machine.specs.ModifyAll.{IsAnyApp, modify_all}
 use Rattle.planner_machine.specs.ModifyOne.{IsThatApp, modify_one}
 use Rattle.planner_machine.specs.Replan.{dp_replan}
-use Rattle.planner_machine.specs.Shown.{Listed, list_pairs, list_rows}
+use Rattle.planner_machine.specs.Shown.{Listed, list_links, list_pairs, list_rows}
 
 -- the statements that change something
 pub data Change : Type 0 where
@@ -44,6 +46,7 @@ pub data Change : Type 0 where
   Add : Key → Change
   Delete : Key → Change
   DailyExtend : (to : ℕ) → Change
+  DailyExtendBy : (n : ℕ) → Count → Change
   Replan : Change
   AddCurrent : Key → Change
   Act : Action → Key → Change
@@ -58,6 +61,7 @@ decision_of (ModifyOne app) = modify_one app
 decision_of (Add key) = ltp_add key
 decision_of (Delete key) = ltp_delete key
 decision_of (DailyExtend to) = dp_extend to
+decision_of (DailyExtendBy n count) = dp_extend_by n count
 decision_of Replan = dp_replan
 decision_of (AddCurrent key) = cp_add key
 decision_of (Act action key) = cp_action key action
@@ -73,6 +77,7 @@ fate_of ModifyAll all bounds = ModifyFate IsAnyApp all
 fate_of (ModifyOne app) all bounds = ModifyFate (IsThatApp app) all
 fate_of (Delete key) all bounds = DeletionFate key
 fate_of (DailyExtend to) all bounds = DailyFate to
+fate_of (DailyExtendBy n count) all bounds = DailyFateBy n count all bounds
 fate_of Replan all bounds = replan_fate bounds
 fate_of (Act action key) all bounds = ActionFate key action
 fate_of change all bounds = Stays
@@ -102,6 +107,7 @@ pub data Statement : Type 0 where
   Trial : Change → Statement
   ListRows : Listed → Option (List ℕ) → Statement
   ListPairs : Option (List ℕ) → Statement
+  ListLinks : Option (List ℕ) → Statement
 
 abbrev pub Answer : Type 0
 Answer = Result Reply Refusal
@@ -130,3 +136,4 @@ Steps (Days app from to) c answer c' = Decides (days app from to) c answer c'
 Steps (Trial change) c answer c' = Decides (trial (decision_of change)) c answer c'
 Steps (ListRows listed app) c answer c' = Decides (list_rows listed app) c answer c'
 Steps (ListPairs app) c answer c' = Decides (list_pairs app) c answer c'
+Steps (ListLinks app) c answer c' = Decides (list_links app) c answer c'

@@ -1,13 +1,14 @@
 // Laws of the machine: each function has no body, and its contract is the law.
 ghost use Rattle.std.specs.Prelude.{ℕ};
-ghost use Rattle.planner_machine.specs.Laws.{AnswersOnce, DailyIsFates, FollowsFate, IsWellFormed, KeepsItself};
-ghost use Rattle.planner_machine.specs.Laws.{KeepsPairs, LeavesRefused, PairsHaveNoLoop, PredecessorsAreComplete};
+ghost use Rattle.planner_machine.specs.Laws.{AnswersOnce, DailyByIsToEnd, DailyIsFates, FollowsFate, IsWellFormed};
+ghost use Rattle.planner_machine.specs.Laws.{KeepsItself, KeepsPairs, LeavesRefused, PairsHaveNoLoop, PredecessorsAreComplete};
 ghost use Rattle.planner_machine.specs.Laws.{StaysSound};
+ghost use Rattle.planner_machine.specs.declared.counts.Count.{Count};
 ghost use Rattle.planner_machine.specs.Content.{nothing_known};
 ghost use Rattle.planner_machine.specs.Fresh.{FreshIsExact, LeavesFresh, StaysFresh};
 ghost use Rattle.planner_machine.specs.Rerun.{RerunEndsAsEachRun, RerunEndsAsOneRun};
 ghost use Rattle.planner_machine.specs.Sound.{IsSound};
-ghost use Rattle.planner_machine.specs.Statement.{Change, Create, DailyExtend, ModifyAll, Replan};
+ghost use Rattle.planner_machine.specs.Statement.{Change, Create, DailyExtend, DailyExtendBy, ModifyAll, Replan};
 ghost use Rattle.planner_machine.specs.Stream.{RunsByFate, RunsOneWay, RunsSound};
 ghost use Rattle.planner_machine.specs.Trials.{TrialAnswersAsStatement, TrialLeaves};
 
@@ -42,10 +43,13 @@ pub fn occurrence_stays_itself()
     ensures { (change : Change) → KeepsItself change }
 {}
 
-/// Law: a daily plan on whole sets is the fates of all occurrences together, and changes no pair.
+/// Law: a daily plan on whole sets is the fates of all occurrences together, and changes no pair; and one by days is the
+/// daily plan to the new end that they give.
 pub fn daily_plans()
     ensures fates { DailyIsFates }
+    ensures by_days { DailyByIsToEnd }
     ensures extend_keeps_pairs { (t : ℕ) → KeepsPairs (DailyExtend t) }
+    ensures days_keep_pairs { (n : ℕ) (count : Count) → KeepsPairs (DailyExtendBy n count) }
     ensures replan_keeps_pairs { KeepsPairs Replan }
 {}
 

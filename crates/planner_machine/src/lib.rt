@@ -3,11 +3,13 @@
 #![tactic(auto)]
 
 mod content;
+mod counts;
 mod job;
 mod laws;
 mod limits;
 
 pub use content::{Bounds, Draft};
+pub use counts::Count;
 pub use job::{Answer, Job, JobText};
 pub use laws::{
     daily_plans, empty_content_is_sound, fate_is_followed, fresh_plans, occurrence_stays_itself,

@@ -1,7 +1,7 @@
 use occurrences::{Key, Origin, Row, Serial};
-use plan_listings::{marked_line, pair_line, row_line};
+use plan_listings::{link_line, marked_line, pair_line, row_line};
 use std::test::Fail;
-use work_calendars::{App, Day, Minute, Moment, Short};
+use work_calendars::{App, Day, Minute, Moment, Short, Within};
 
 /// A row with its input arrival and deadline on two days, at 08.00 and 18.00.
 fn row(number: u32, app: &str, days: [&str; 2], origin: Origin) -> Option<Row> {
@@ -35,6 +35,30 @@ fn rows_of_lists(rt: HostRuntime) -> Result<(), Fail> {
     assert!(rt;
         pair_line(&made, &added).as_slice()
             == b"000000003 A                2024-01-02 08.00 999999999 PAY4567890123456 2024-01-02 08.00".as_slice()
+    );
+    Ok(())
+}
+
+// No list of a stream has a limit.
+#[test]
+fn hours_of_a_limit_stand_right(rt: HostRuntime) -> Result<(), Fail> {
+    let app = App::from_text("B").ok_or("a name")?;
+    let predecessor = App::from_text("PAY4567890123456").ok_or("a name")?;
+    assert!(rt;
+        link_line(&app, &app, Within::from_hours(1)).as_slice()
+            == b"B                B                   1".as_slice()
+    );
+    assert!(rt;
+        link_line(&app, &app, Within::from_hours(25)).as_slice()
+            == b"B                B                  25".as_slice()
+    );
+    assert!(rt;
+        link_line(&predecessor, &app, None).as_slice()
+            == b"PAY4567890123456 B                    ".as_slice()
+    );
+    assert!(rt;
+        link_line(&app, &predecessor, Within::from_hours(9999)).as_slice()
+            == b"B                PAY4567890123456 9999".as_slice()
     );
     Ok(())
 }

@@ -10,15 +10,17 @@ use Rattle.statement_words.specs.Line.{is_line_byte, words_of}
 use Rattle.work_calendars.proofs.SpellingFacts.{SpellsDay-one_day, SpellsMoment-one_moment}
 use Rattle.work_calendars.specs.Spelling.{SpellsDay, SpellsMoment}
 use Rattle.statements.specs.Arguments.{HasArguments}
-use Rattle.statements.specs.Words.{function_text, kind_text, what_text}
+use Rattle.statements.specs.Words.{count_text, function_text, kind_text, what_text}
 use Rattle.statements.specs.Statement.{IsLineOf, IsWrittenIn, Reads, statement_of}
-use Rattle.statements.specs.Values.{HasApp, HasDay, HasFunction, HasJob, HasKind, HasWhat, HasMoment, HasName}
-use Rattle.statements.specs.Values.{HasText, Reading}
+use Rattle.statements.specs.Values.{HasApp, HasCount, HasDay, HasDays, HasFunction, HasJob, HasKind, HasMoment, HasName}
+use Rattle.statements.specs.Values.{HasText, HasWhat, Reading}
 use Rattle.statements.specs.Verb.{layout_for, verb_text}
 use Rattle.statements.specs.declared.arguments.Arguments.{Arguments}
 use Rattle.statements.specs.declared.statements.Statement.{Statement}
 use Rattle.statements.specs.declared.verbs.Verb.{Verb}
 use Rattle.statements.specs.declared.verbs.Verb.TheVariants as verb
+use Rattle.statements.specs.declared.words.CountWord.{CountWord}
+use Rattle.statements.specs.declared.words.CountWord.TheVariants as count
 use Rattle.statements.specs.declared.words.FunctionWord.{FunctionWord}
 use Rattle.statements.specs.declared.words.FunctionWord.TheVariants as function
 use Rattle.statements.specs.declared.words.KindWord.{KindWord}
@@ -115,12 +117,23 @@ same_function : (x y : FunctionWord) → function_text x ≡ function_text y →
 same_function x y e =
     let same : Some x ≡ Some y = sym (function_by-text x) ∙ ap function_by e ∙ function_by-text y in cc
 
+abbrev count_by : Text → Option CountWord
+count_by t = or_else (bytes_eq t (codes "A")) count.AllDays (or_else (bytes_eq t (codes "W")) count.WorkDays None)
+
+count_by-text : (x : CountWord) → count_by (count_text x) ≡ Some x
+count_by-text count.AllDays = refl
+count_by-text count.WorkDays = refl
+
+same_count : (x y : CountWord) → count_text x ≡ count_text y → x ≡ y
+same_count x y e = let same : Some x ≡ Some y = sym (count_by-text x) ∙ ap count_by e ∙ count_by-text y in cc
+
 abbrev what_by : Text → Option WhatWord
 what_by t = or_else (bytes_eq t (codes "ltp")) what.Ltp
     (or_else (bytes_eq t (codes "cp")) what.Cp
     (or_else (bytes_eq t (codes "history")) what.History
     (or_else (bytes_eq t (codes "deletions")) what.Deletions
-    (or_else (bytes_eq t (codes "dependencies")) what.Dependencies None))))
+    (or_else (bytes_eq t (codes "dependencies")) what.Dependencies
+    (or_else (bytes_eq t (codes "links")) what.Links None)))))
 
 what_by-text : (x : WhatWord) → what_by (what_text x) ≡ Some x
 what_by-text what.Ltp = refl
@@ -128,6 +141,7 @@ what_by-text what.Cp = refl
 what_by-text what.History = refl
 what_by-text what.Deletions = refl
 what_by-text what.Dependencies = refl
+what_by-text what.Links = refl
 
 same_what : (x y : WhatWord) → what_text x ≡ what_text y → x ≡ y
 same_what x y e = let same : Some x ≡ Some y = sym (what_by-text x) ∙ ap what_by e ∙ what_by-text y in cc
@@ -151,6 +165,15 @@ one_job us m n p q =
     let small : m < 2 ^ 64 = omega (arith, p.1) in
     let low : n < 2 ^ 64 = omega (arith, q.1) in
     decimal_injective m n small low (one_text us (codes "job") (decimal m) (decimal n) p.0 q.0)
+
+one_days : (us : List Use) (m n : ℕ) → HasDays us m → HasDays us n → m ≡ n
+one_days us m n p q =
+    let small : m < 2 ^ 64 = omega (arith, p.1) in
+    let low : n < 2 ^ 64 = omega (arith, q.1) in
+    decimal_injective m n small low (one_text us (codes "days") (decimal m) (decimal n) p.0 q.0)
+
+one_count : (us : List Use) (x y : CountWord) → HasCount us x → HasCount us y → x ≡ y
+one_count us x y p q = same_count x y (one_text us (codes "count") (count_text x) (count_text y) p q)
 
 one_app : (us : List Use) (a b : Text) → HasApp us a → HasApp us b → a ≡ b
 one_app us a b p q = one_text us (codes "app") a b p.0 q.0
@@ -185,6 +208,8 @@ one_arguments us a b p q i =
           one_reading (HasMoment us (codes "to")) (one_moment us (codes "to")) a.to_moment b.to_moment p.to_moment
           q.to_moment i;
       ia = one_reading (HasMoment us (codes "ia")) (one_moment us (codes "ia")) a.ia b.ia p.ia q.ia i;
+      days = one_reading (HasDays us) (one_days us) a.days b.days p.days q.days i;
+      count = one_reading (HasCount us) (one_count us) a.count b.count p.count q.count i;
       name = one_reading (HasName us) (one_name us) a.name b.name p.name q.name i;
       kind = one_reading (HasKind us) (one_kind us) a.kind b.kind p.kind q.kind i;
       function = one_reading (HasFunction us) (one_function us) a.function b.function p.function q.function i;
@@ -192,6 +217,8 @@ one_arguments us a b p q i =
       has_app = (p.has_app ∙ sym q.has_app) i;
       has_from = (p.has_from ∙ sym q.has_from) i;
       has_to = (p.has_to ∙ sym q.has_to) i;
+      has_days = (p.has_days ∙ sym q.has_days) i;
+      has_count = (p.has_count ∙ sym q.has_count) i;
     }
 
 -- the name, the values and the arguments of words that are a statement

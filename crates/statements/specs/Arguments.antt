@@ -1,8 +1,8 @@
 -- The values of a line's options, and of its word without one.
 use Rattle.std.specs.Prelude.{◌≡◌, List, is_some, codes}
 use Rattle.statement_words.specs.Grammar.{Use, value_in}
-use Rattle.statements.specs.Values.{HasApp, HasDay, HasFunction, HasJob, HasKind, HasWhat, HasMoment, HasName}
-use Rattle.statements.specs.Values.{Reading}
+use Rattle.statements.specs.Values.{HasApp, HasCount, HasDay, HasDays, HasFunction, HasJob, HasKind, HasMoment, HasName}
+use Rattle.statements.specs.Values.{HasWhat, Reading}
 use Rattle.statements.specs.declared.arguments.Arguments.{Arguments}
 
 -- these are the values that have the forms of their options
@@ -13,6 +13,8 @@ pub record HasArguments (us : List Use) (a : Arguments) : Type 0 where
   pub to : Reading (HasDay us (codes "to")) a.to
   pub to_moment : Reading (HasMoment us (codes "to")) a.to_moment
   pub ia : Reading (HasMoment us (codes "ia")) a.ia
+  pub days : Reading (HasDays us) a.days
+  pub count : Reading (HasCount us) a.count
   pub name : Reading (HasName us) a.name
   pub kind : Reading (HasKind us) a.kind
   pub function : Reading (HasFunction us) a.function
@@ -20,3 +22,5 @@ pub record HasArguments (us : List Use) (a : Arguments) : Type 0 where
   pub has_app : a.has_app ≡ is_some (value_in us (codes "app"))
   pub has_from : a.has_from ≡ is_some (value_in us (codes "from"))
   pub has_to : a.has_to ≡ is_some (value_in us (codes "to"))
+  pub has_days : a.has_days ≡ is_some (value_in us (codes "days"))
+  pub has_count : a.has_count ≡ is_some (value_in us (codes "count"))

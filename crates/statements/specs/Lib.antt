@@ -1,5 +1,6 @@
 pub mod Words
 pub mod JobNumber
+pub mod ExtensionDays
 pub mod Verb
 pub mod Values
 pub mod Arguments

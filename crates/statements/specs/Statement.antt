@@ -62,9 +62,11 @@ extend_of a = of_one plan.Extend a.to
 abbrev pub modify_one_of : Arguments → Option PlanFunction
 modify_one_of a = of_one plan.ModifyOne a.app
 
--- what a daily plan does
+-- what a daily plan does: it extends to a moment or by days, and not by both
 abbrev pub daily_extend_of : Arguments → Option DailyFunction
-daily_extend_of a = of_one daily.Extend a.to_moment
+daily_extend_of a = if a.has_days || a.has_count
+    then (if a.has_to then None else of_two daily.ExtendBy a.days a.count)
+    else of_one daily.Extend a.to_moment
 
 -- the occurrence that the values name
 abbrev pub key_of : (ia : ℕ) (app : Text) → Key
@@ -105,7 +107,7 @@ plan_trial_of a function.Replan = None
 
 abbrev pub daily_trial_of : Arguments → FunctionWord → Option DailyFunction
 daily_trial_of a function.Extend = daily_extend_of a
-daily_trial_of a function.Replan = if a.has_to then None else Some daily.Replan
+daily_trial_of a function.Replan = if a.has_to || a.has_days || a.has_count then None else Some daily.Replan
 daily_trial_of a _ = None
 
 abbrev pub list_of : Arguments → Option Statement

@@ -4,8 +4,10 @@ use Rattle.std.specs.Fmt.{decimal}
 use Rattle.statement_words.specs.Grammar.{Text, Use, value_in}
 use Rattle.work_calendars.specs.Name.{IsName}
 use Rattle.work_calendars.specs.Spelling.{SpellsDay, SpellsMoment}
+use Rattle.statements.specs.ExtensionDays.{AreExtensionDays}
 use Rattle.statements.specs.JobNumber.{IsJobNumber}
-use Rattle.statements.specs.Words.{function_text, kind_text, what_text}
+use Rattle.statements.specs.Words.{count_text, function_text, kind_text, what_text}
+use Rattle.statements.specs.declared.words.CountWord.{CountWord}
 use Rattle.statements.specs.declared.words.FunctionWord.{FunctionWord}
 use Rattle.statements.specs.declared.words.KindWord.{KindWord}
 use Rattle.statements.specs.declared.words.WhatWord.{WhatWord}
@@ -17,6 +19,14 @@ HasText us key text = value_in us key ≡ Some text
 -- the value of `--job` is this number, in decimal digits without a leading zero
 abbrev pub HasJob : List Use → ℕ → Type 0
 HasJob us n = HasText us (codes "job") (decimal n) × IsJobNumber n
+
+-- the value of `--days` is this number, in decimal digits without a leading zero
+abbrev pub HasDays : List Use → ℕ → Type 0
+HasDays us n = HasText us (codes "days") (decimal n) × AreExtensionDays n
+
+-- the value of `--count` is this word
+abbrev pub HasCount : List Use → CountWord → Type 0
+HasCount us count = HasText us (codes "count") (count_text count)
 
 -- the value of `--app` is this name of an application
 abbrev pub HasApp : List Use → Text → Type 0

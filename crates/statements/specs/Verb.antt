@@ -34,6 +34,13 @@ takes names word = record { options = map (λ name. (name, true)) names; word = 
 abbrev pub may_take : List Text → Option Text → Layout
 may_take names word = record { options = map (λ name. (name, false)) names; word = word }
 
+-- `--job`, and a moment or a number of days with the word of which are counted
+abbrev pub extension : Layout
+extension = record {
+  options = (codes "job", true) ∷ (codes "to", false) ∷ (codes "days", false) ∷ (codes "count", false) ∷ [];
+  word = None;
+}
+
 -- the words that name one occurrence
 abbrev pub occurrence_names : List Text
 occurrence_names = codes "app" ∷ codes "ia" ∷ codes "job" ∷ []
@@ -50,9 +57,9 @@ layout_for verb.LtpModifyOne = takes (codes "app" ∷ codes "job" ∷ []) None
 layout_for verb.LtpTrial = may_take (codes "from" ∷ codes "to" ∷ codes "app" ∷ []) (Some (codes "FUNCTION"))
 layout_for verb.LtpAdd = takes occurrence_names None
 layout_for verb.LtpDelete = takes occurrence_names None
-layout_for verb.DpExtend = takes (codes "to" ∷ codes "job" ∷ []) None
+layout_for verb.DpExtend = extension
 layout_for verb.DpReplan = takes (codes "job" ∷ []) None
-layout_for verb.DpTrial = may_take (codes "to" ∷ []) (Some (codes "FUNCTION"))
+layout_for verb.DpTrial = may_take (codes "to" ∷ codes "days" ∷ codes "count" ∷ []) (Some (codes "FUNCTION"))
 layout_for verb.CpAdd = takes occurrence_names None
 layout_for verb.CpStart = takes occurrence_names None
 layout_for verb.CpComplete = takes occurrence_names None

@@ -1,7 +1,9 @@
--- The words that stand without an option.
+-- The words that stand without an option, and the word of which days are counted.
 use Rattle.std.specs.Prelude.{ℕ, List, codes}
 use Rattle.statements.specs.declared.words.KindWord.{KindWord}
 use Rattle.statements.specs.declared.words.KindWord.TheVariants as kind
+use Rattle.statements.specs.declared.words.CountWord.{CountWord}
+use Rattle.statements.specs.declared.words.CountWord.TheVariants as count
 use Rattle.statements.specs.declared.words.FunctionWord.{FunctionWord}
 use Rattle.statements.specs.declared.words.FunctionWord.TheVariants as function
 use Rattle.statements.specs.declared.words.WhatWord.{WhatWord}
@@ -22,9 +24,14 @@ function_text function.ModifyAll = codes "modify-all"
 function_text function.ModifyOne = codes "modify-one"
 function_text function.Replan = codes "replan"
 
+abbrev pub count_text : CountWord → List ℕ
+count_text count.AllDays = codes "A"
+count_text count.WorkDays = codes "W"
+
 abbrev pub what_text : WhatWord → List ℕ
 what_text what.Ltp = codes "ltp"
 what_text what.Cp = codes "cp"
 what_text what.History = codes "history"
 what_text what.Deletions = codes "deletions"
 what_text what.Dependencies = codes "dependencies"
+what_text what.Links = codes "links"

@@ -1,5 +1,5 @@
 //! The values of a line's options, and of its word without one.
-use crate::{FunctionWord, JobNumber, KindWord, WhatWord};
+use crate::{CountWord, FunctionWord, JobNumber, KindWord, WhatWord};
 use work_calendars::{App, Day, Moment, Name};
 
 /// Each option that a statement may have, with its value where that has the option's form, and whether those options
@@ -12,6 +12,8 @@ pub(crate) struct Arguments {
     pub(crate) to: Option<Day>,
     pub(crate) to_moment: Option<Moment>,
     pub(crate) ia: Option<Moment>,
+    pub(crate) days: Option<u8>,
+    pub(crate) count: Option<CountWord>,
     pub(crate) name: Option<Name>,
     pub(crate) kind: Option<KindWord>,
     pub(crate) function: Option<FunctionWord>,
@@ -19,4 +21,6 @@ pub(crate) struct Arguments {
     pub(crate) has_app: bool,
     pub(crate) has_from: bool,
     pub(crate) has_to: bool,
+    pub(crate) has_days: bool,
+    pub(crate) has_count: bool,
 }

@@ -10,6 +10,7 @@
 #![tactic(auto)]
 
 mod arguments;
+mod extension_days;
 mod job_numbers;
 mod law;
 mod read;
@@ -23,4 +24,4 @@ pub use law::one_statement_per_line;
 pub use read::read_statement;
 pub use statements::{ChangeStatement, DailyFunction, PlanFunction, Statement};
 pub use verbs::Verb;
-pub use words::{FunctionWord, KindWord, WhatWord};
+pub use words::{CountWord, FunctionWord, KindWord, WhatWord};

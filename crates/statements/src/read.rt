@@ -148,10 +148,19 @@ fn modify_one_of(a: &Arguments) -> Option<PlanFunction>
     Some(PlanFunction::ModifyOne { app: a.app? })
 }
 
-/// `extend` of a daily plan, to a moment.
+/// `extend` of a daily plan, to a moment or by days.
 fn daily_extend_of(a: &Arguments) -> Option<DailyFunction>
     ensures { result ≡ daily_extend_of a.now }
 {
+    if a.has_days || a.has_count {
+        if a.has_to {
+            return None;
+        }
+        return Some(DailyFunction::ExtendBy {
+            days: a.days?,
+            count: a.count?,
+        });
+    }
     Some(DailyFunction::Extend { to: a.to_moment? })
 }
 
@@ -194,13 +203,15 @@ fn plan_trial_of(a: &Arguments, function: FunctionWord) -> Option<PlanFunction>
     }
 }
 
-/// The function of `dp-trial`, with the option that it takes.
+/// The function of `dp-trial`, with the options that it takes and no others.
 fn daily_trial_of(a: &Arguments, function: FunctionWord) -> Option<DailyFunction>
     ensures { result ≡ daily_trial_of a.now function }
 {
     match function {
         FunctionWord::Extend => daily_extend_of(a),
-        FunctionWord::Replan if !a.has_to => Some(DailyFunction::Replan),
+        FunctionWord::Replan if !(a.has_to || a.has_days || a.has_count) => {
+            Some(DailyFunction::Replan)
+        }
         FunctionWord::Create
         | FunctionWord::ModifyAll
         | FunctionWord::ModifyOne

@@ -1,5 +1,5 @@
 //! What a line can say, in the shape of what is asked: a change under its job number, a trial, or something to show.
-use crate::{JobNumber, KindWord, WhatWord};
+use crate::{CountWord, JobNumber, KindWord, WhatWord};
 use occurrences::{Action, Key};
 use work_calendars::{App, Day, Moment, Name};
 
@@ -21,6 +21,8 @@ pub enum PlanFunction {
 pub enum DailyFunction {
     /// `extend`: to extend the current plan to a moment.
     Extend { to: Moment },
+    /// `extend` by days: to extend it by that many, all days or work days, 1 to 21.
+    ExtendBy { days: u8, count: CountWord },
     /// `replan`: to make the current plan anew.
     Replan,
 }

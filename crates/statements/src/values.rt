@@ -1,12 +1,13 @@
 //! Values in words.
 ghost use Rattle.std.specs.Prelude.{◌≡◌, is_some};
 ghost use Rattle.statement_words.specs.Grammar.{value_in};
-ghost use Rattle.statements.specs.Values.{HasApp, HasDay, HasFunction, HasJob, HasKind, HasWhat};
-ghost use Rattle.statements.specs.Values.{HasMoment, HasName, Reading};
+ghost use Rattle.statements.specs.Values.{HasApp, HasCount, HasDay, HasDays, HasFunction, HasJob, HasKind};
+ghost use Rattle.statements.specs.Values.{HasMoment, HasName, HasWhat, Reading};
 ghost use Rattle.statements.specs.Arguments.{HasArguments};
 
 use crate::arguments::Arguments;
-use crate::{FunctionWord, JobNumber, KindWord, WhatWord};
+use crate::extension_days::days_from_text;
+use crate::{CountWord, FunctionWord, JobNumber, KindWord, WhatWord};
 use statement_words::Values;
 use work_calendars::{App, Day, Moment, Name};
 
@@ -21,6 +22,8 @@ pub(crate) fn arguments_in(values: &Values<'_>) -> Arguments
         to: day_in(values, "to"),
         to_moment: moment_in(values, "to"),
         ia: moment_in(values, "ia"),
+        days: days_in(values),
+        count: count_in(values),
         name: name_in(values),
         kind: kind_in(values),
         function: function_in(values),
@@ -28,6 +31,8 @@ pub(crate) fn arguments_in(values: &Values<'_>) -> Arguments
         has_app: is_given(values, "app"),
         has_from: is_given(values, "from"),
         has_to: is_given(values, "to"),
+        has_days: is_given(values, "days"),
+        has_count: is_given(values, "count"),
     }
 }
 
@@ -71,6 +76,20 @@ fn moment_in(values: &Values<'_>, name: &str) -> Option<Moment>
     ensures { Reading (HasMoment values.now name.now) result }
 {
     Moment::from_text(values.get(name)?)
+}
+
+/// The value of `--days`.
+fn days_in(values: &Values<'_>) -> Option<u8>
+    ensures { Reading (HasDays values.now) result }
+{
+    days_from_text(values.get("days")?)
+}
+
+/// The value of `--count`.
+fn count_in(values: &Values<'_>) -> Option<CountWord>
+    ensures { Reading (HasCount values.now) result }
+{
+    CountWord::from_text(values.get("count")?)
 }
 
 /// The word `KIND`.

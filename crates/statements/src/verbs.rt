@@ -106,9 +106,14 @@ impl Verb {
                 optional: &[],
                 word: None,
             },
-            Verb::LtpExtend | Verb::DpExtend => Form {
+            Verb::LtpExtend => Form {
                 required: TO_JOB.as_slice(),
                 optional: &[],
+                word: None,
+            },
+            Verb::DpExtend => Form {
+                required: JOB.as_slice(),
+                optional: TO_DAYS_COUNT.as_slice(),
                 word: None,
             },
             Verb::LtpModifyAll | Verb::DpReplan => Form {
@@ -128,7 +133,7 @@ impl Verb {
             },
             Verb::DpTrial => Form {
                 required: &[],
-                optional: TO.as_slice(),
+                optional: TO_DAYS_COUNT.as_slice(),
                 word: Some("FUNCTION"),
             },
             Verb::List => Form {
@@ -168,6 +173,6 @@ static JOB: [&str; 1] = ["job"];
 
 static NAME_JOB: [&str; 2] = ["name", "job"];
 
-static TO: [&str; 1] = ["to"];
+static TO_DAYS_COUNT: [&str; 3] = ["to", "days", "count"];
 
 static TO_JOB: [&str; 2] = ["to", "job"];

@@ -1,4 +1,4 @@
-//! Words without an option: kinds of definitions, functions of a trial, what is listed.
+//! Words without an option: kinds of definitions, functions of a trial, what is listed; and which days are counted.
 
 /// A kind of definitions, as a statement names it.
 #[derive(Clone, Copy, Debug, PartialEq, Eq)]
@@ -73,6 +73,32 @@ impl FunctionWord {
     }
 }
 
+/// Which days an extension counts.
+#[derive(Clone, Copy, Debug, PartialEq, Eq)]
+pub enum CountWord {
+    /// `A`: all days.
+    AllDays,
+    /// `W`: work days.
+    WorkDays,
+}
+
+impl CountWord {
+    ghost use Rattle.std.specs.Prelude.{◌≡◌, ◌≢◌, IfSome, IfNone};
+    ghost use Rattle.statements.specs.Words.{count_text};
+
+    /// The days that the word names.
+    pub fn from_text(text: &str) -> Option<CountWord>
+        ensures some { IfSome result (λ count. text.now ≡ count_text count) }
+        ensures none { IfNone result ((count : CountWord) → text.now ≢ count_text count) }
+    {
+        match text {
+            "A" => Some(CountWord::AllDays),
+            "W" => Some(CountWord::WorkDays),
+            _ => None,
+        }
+    }
+}
+
 /// What `list` lists.
 #[derive(Clone, Copy, Debug, PartialEq, Eq)]
 pub enum WhatWord {
@@ -86,6 +112,8 @@ pub enum WhatWord {
     Deletions,
     /// `dependencies`: pairs of a successor and its predecessor.
     Dependencies,
+    /// `links`: the predecessor lists in force.
+    Links,
 }
 
 impl WhatWord {
@@ -103,6 +131,7 @@ impl WhatWord {
             "history" => Some(WhatWord::History),
             "deletions" => Some(WhatWord::Deletions),
             "dependencies" => Some(WhatWord::Dependencies),
+            "links" => Some(WhatWord::Links),
             _ => None,
         }
     }

@@ -1,5 +1,5 @@
 -- The values of each kind of fact are of the kinds of the columns, and are shown as they are stored.
-use Rattle.std.proofs.Common.{◌≡◌, ℕ, ℤ, Bool, true, false, cond, List, Option, Some, None, option_map, refl}
+use Rattle.std.proofs.Common.{◌≡◌, ℕ, ℤ, pos, Bool, true, false, cond, List, Option, Some, None, option_map, refl}
 use Rattle.sqlite.specs.Kind.TheVariants.{Integer}
 use Rattle.sqlite.specs.declared.types.Value.{Value}
 use Rattle.sqlite.specs.declared.types.Value.TheVariants.{Null, Int, Text}
@@ -7,11 +7,13 @@ use Rattle.sqlite.specs.Ops.{unary}
 use Rattle.sqlite.specs.Cast.{cast, as_text}
 use Rattle.table_schema.specs.Rows.{AreOfKinds}
 use Rattle.table_schema.specs.declared.tables.Table.TheVariants as table
-use Rattle.table_facts.specs.Facts.{current_values, deletion_values, link_values, or_null, pair_values, row_values}
+use Rattle.table_facts.specs.Facts.{current_key, current_values, deletion_key, deletion_values, link_values, or_null}
+use Rattle.table_facts.specs.Facts.{pair_values, row_key, row_values}
 use Rattle.app_definitions.specs.declared.options.Options.{Options}
 use Rattle.planner_machine.specs.declared.content.Bounds.{Bounds}
 use Rattle.planner_machine.specs.declared.job.Job.{Job}
 use Rattle.table_facts.specs.Content.{job_values, meta_values}
+use Rattle.table_writing.specs.Taking.{AreKeysOf}
 use Rattle.table_writing.specs.Writing.{AreStorable, StandAlone}
 
 either : (b : Bool) (x : Value) → cond b x x ≡ x
@@ -65,6 +67,24 @@ pairs_alone key all = tt
 
 pub links_alone : StandAlone table.LinkInForce
 links_alone key all = tt
+
+pub ltp_keys : AreKeysOf table.LongTerm row_key
+ltp_keys row = (pos row.serial, refl)
+
+pub history_keys : AreKeysOf table.History row_key
+history_keys row = (pos row.serial, refl)
+
+pub cp_keys : AreKeysOf table.Current current_key
+cp_keys current = (pos current.row.serial, refl)
+
+pub deletions_keys : AreKeysOf table.Deletion deletion_key
+deletions_keys deletion = (pos deletion.row.serial, refl)
+
+pub pairs_keys : AreKeysOf table.Dependency pair_values
+pairs_keys pair = (pos pair.successor, pos pair.predecessor, refl)
+
+pub links_keys : AreKeysOf table.LinkInForce link_values
+links_keys link = (link.app, link.predecessor, refl)
 
 pub calendars_alone : StandAlone table.CalendarEntry
 calendars_alone key all = tt

@@ -1,3 +1,4 @@
 pub mod Turns
 pub mod KindLemmas
 pub mod AloneLemmas
+pub mod TakingLemmas

@@ -1,9 +1,10 @@
 -- Statements in turn.
-use Rattle.std.proofs.Common.{◌≡◌, ℕ, ◌+◌, ◌<◌, List, ◌∷◌, length, drop, fold, get_or, suc, sym, ap, ◌∙◌, add-one}
+use Rattle.std.proofs.Common.{◌≡◌, ℕ, ◌+◌, ◌<◌, ◌≤◌, List, ◌∷◌, length, drop, fold, get_or, suc, sym, ap, ◌∙◌, add-one}
 use Rattle.std.proofs.Common.{drop-cons, IsTrue, refl, Result, Ok, Err}
 use Rattle.std.proofs.Common.{Bool, true, false, inl, inr}
 use Rattle.std.proofs.Common.{subst}
 use Rattle.std.specs.List.{Contains}
+use Rattle.std.proofs.lemmas.List.{drop_all}
 use Rattle.std.proofs.lemmas.List.Elements.{Contains-get_or}
 use Rattle.std.specs.Prelude.{OnOk, OnErr}
 use Rattle.sqlite.specs.Steps.{FailsToCommit}
@@ -29,10 +30,22 @@ fold_on f items i item mid new goal low is step so_far =
     rw add-one (drop-cons items i item low ∙ ap (λ x. x ∷ drop (suc i) items) (sym is)) in
     ap (λ c. fold f c (drop (i + 1) items)) step ∙ sym (ap (λ l. fold f mid l) cut) ∙ so_far
 
+-- and where none is left, it is done
+pub fold_done : {A C : Type 0} (f : C → A → C) (items : List A) (i : ℕ) (now goal : C) → length items ≤ i
+    → fold f now (drop i items) ≡ goal → now ≡ goal
+fold_done f items i now goal high so_far =
+    subst (λ (xs : List _). fold f now xs ≡ goal) (drop_all i items high) so_far
+
 pub stands_on : (old mid new : State) (rows : Tables) → Stands old mid (tables_of mid.now.trees) → Stands mid new rows
     → Stands old new (tables_of new.now.trees)
 stands_on old mid new rows one two =
     record { plan = two.plan; rows_are = refl; committed = two.committed ∙ one.committed; mode = two.mode }
+
+-- what was to be done is done
+pub stands_done : (old now : State) (rows : Tables) → Stands old now (tables_of now.now.trees)
+    → tables_of now.now.trees ≡ rows → Stands old now rows
+stands_done old now rows one is =
+    record { plan = one.plan; rows_are = is; committed = one.committed; mode = one.mode }
 
 pub stands_then : (old mid new : State) (first : Tables) (f : Tables → Tables) → Stands old mid first
     → Stands mid new (f (tables_of mid.now.trees)) → Stands old new (f first)

@@ -2,9 +2,10 @@
 
 ghost use Rattle.sqlite.specs.Order.{Row as Values};
 ghost use Rattle.table_schema.specs.Rows.{AreOfKinds, IsAlone, with_cells, without_key};
-ghost use Rattle.table_schema.specs.Writes.{WritesWhere};
+ghost use Rattle.table_schema.specs.Takes.{LosesKey, TakesRow};
 ghost use Rattle.table_facts.specs.Facts.{row_values, current_values, deletion_values, pair_values, link_values};
 ghost use Rattle.table_facts.specs.Facts.{row_key, current_key, deletion_key};
+ghost use Rattle.table_writing.specs.Taking.{WritesTaking};
 
 use crate::cells::{number, origin};
 use external_dependencies::{Link, Pair};
@@ -23,12 +24,14 @@ pub(crate) trait Fact {
 
     /// Puts its row into the table.
     fn put<S: Alter>(&self, tx: &mut Transaction<'_, S>, table: Table) -> Result<(), Error>
-        ensures { WritesWhere (λ _. AreOfKinds table (values self.now)) S.Store tx.old tx.new result
+        ensures { WritesTaking (λ _. AreOfKinds table (values self.now))
+            (TakesRow table (values self.now)) S.Store tx.old tx.new result
             (with_cells table (values self.now)) };
 
     /// Takes its row out of the table.
     fn take<S: Alter>(&self, tx: &mut Transaction<'_, S>, table: Table) -> Result<(), Error>
-        ensures { WritesWhere (IsAlone table (key self.now)) S.Store tx.old tx.new result
+        ensures { WritesTaking (IsAlone table (key self.now)) (LosesKey table (key self.now))
+            S.Store tx.old tx.new result
             (without_key table (key self.now)) };
 }
 

@@ -1,12 +1,13 @@
 // A job, and how far the plans reach.
 
 ghost use Rattle.std.specs.Prelude.{◌<◌, ◌^◌, ◌∷◌, [], Some, None};
-ghost use Rattle.std.specs.Prelude.{◌≡◌};
-ghost use Rattle.table_facts.specs.Content.{answer_text, meta_values};
+ghost use Rattle.std.specs.Prelude.{◌≡◌, ⊤};
+ghost use Rattle.table_facts.specs.Content.{answer_text, job_values, meta_values};
 ghost use Rattle.table_facts.specs.Facts.{natural};
 ghost use Rattle.table_schema.specs.Rows.{AreOfKinds, with_cells, without_key};
-ghost use Rattle.table_schema.specs.Writes.{Writes, WritesWhere};
-ghost use Rattle.table_schema.specs.declared.tables.Table.TheVariants.{Meta};
+ghost use Rattle.table_schema.specs.Takes.{TakesRow};
+ghost use Rattle.table_schema.specs.declared.tables.Table.TheVariants.{Job as JobTable, Meta};
+ghost use Rattle.table_writing.specs.Taking.{TakesMeta, WritesTaking};
 ghost use Rattle.table_writing.specs.Writing.{job_put, meta_told, with_meta};
 
 use crate::cells::number;
@@ -25,7 +26,8 @@ pub(crate) fn put_job<'x, S: Alter>(
 ) -> Result<(), Error>
     requires number { job.now.number < 2 ^ 63 }
     requires line { line.now ≡ answer_text job.now.reply }
-    ensures { Writes S.Store tx.old tx.new result (job_put job.now) }
+    ensures { WritesTaking (λ _. ⊤) (TakesRow JobTable (job_values job.now)) S.Store tx.old tx.new
+        result (job_put job.now) }
 {
     insert(
         tx,
@@ -45,7 +47,8 @@ fn put_no_bounds<S: Alter>(
     issued: u32,
     options: &Options,
 ) -> Result<(), Error>
-    ensures { WritesWhere (λ _. AreOfKinds table (meta_values None issued options.now))
+    ensures { WritesTaking (λ _. AreOfKinds table (meta_values None issued options.now))
+        (TakesRow table (meta_values None issued options.now))
         S.Store tx.old tx.new result
         (with_cells table (meta_values None issued options.now)) }
 {
@@ -74,7 +77,8 @@ fn put_bounds<S: Alter>(
     issued: u32,
     options: &Options,
 ) -> Result<(), Error>
-    ensures { WritesWhere (λ _. AreOfKinds table (meta_values (Some bounds.now) issued options.now))
+    ensures { WritesTaking (λ _. AreOfKinds table (meta_values (Some bounds.now) issued options.now))
+        (TakesRow table (meta_values (Some bounds.now) issued options.now))
         S.Store tx.old tx.new result
         (with_cells table (meta_values (Some bounds.now) issued options.now)) }
 {
@@ -101,7 +105,8 @@ fn put_meta<S: Alter>(
     issued: u32,
     options: &Options,
 ) -> Result<(), Error>
-    ensures { WritesWhere (λ _. AreOfKinds Meta (meta_values bounds.now issued options.now))
+    ensures { WritesTaking (λ _. AreOfKinds Meta (meta_values bounds.now issued options.now))
+        (TakesRow Meta (meta_values bounds.now issued options.now))
         S.Store tx.old tx.new result
         (with_meta bounds.now issued options.now) }
 {
@@ -112,7 +117,8 @@ fn put_meta<S: Alter>(
 }
 
 fn take_meta<S: Alter>(tx: &mut Transaction<'_, S>) -> Result<(), Error>
-    ensures { Writes S.Store tx.old tx.new result (without_key Meta (natural 1 ∷ [])) }
+    ensures { WritesTaking (λ _. ⊤) (λ _. ⊤) S.Store tx.old tx.new result
+        (without_key Meta (natural 1 ∷ [])) }
 {
     delete(tx, Table::Meta, &[number(1)])
 }
@@ -124,7 +130,8 @@ pub(crate) fn write_meta<S: Alter>(
     issued: u32,
     options: &Options,
 ) -> Result<(), Error>
-    ensures { Writes S.Store tx.old tx.new result (meta_told bounds.now issued options.now) }
+    ensures { WritesTaking (λ _. ⊤) (TakesMeta bounds.now issued options.now) S.Store tx.old tx.new
+        result (meta_told bounds.now issued options.now) }
 {
     take_meta(tx)?;
     put_meta(tx, bounds, issued, options)

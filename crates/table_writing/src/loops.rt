@@ -1,6 +1,6 @@
 // Rows of many facts.
 
-ghost use Rattle.table_schema.specs.Writes.{WritesWhere};
+ghost use Rattle.table_writing.specs.Taking.{AreKeysOf, TakesEach, WritesTaking};
 ghost use Rattle.table_writing.specs.Writing.{AreStorable, StandAlone, with_each, without_each};
 
 use crate::facts::Fact;
@@ -13,7 +13,8 @@ pub(crate) fn put_each<R: Fact, S: Alter>(
     table: Table,
     facts: &[R],
 ) -> Result<(), Error>
-    ensures { WritesWhere (λ _. AreStorable table R.values) S.Store tx.old tx.new result
+    ensures { WritesTaking (λ _. AreStorable table R.values) (TakesEach table R.values facts.now)
+        S.Store tx.old tx.new result
         (with_each table R.values facts.now) }
 {
     for fact in facts {
@@ -28,7 +29,8 @@ pub(crate) fn take_each<R: Fact, S: Alter>(
     table: Table,
     facts: &[R],
 ) -> Result<(), Error>
-    ensures { WritesWhere (λ _. StandAlone table) S.Store tx.old tx.new result
+    ensures { WritesTaking (λ _. StandAlone table) (λ _. AreKeysOf table R.key × StandAlone table)
+        S.Store tx.old tx.new result
         (without_each table R.key facts.now) }
 {
     for fact in facts {

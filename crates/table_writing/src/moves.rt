@@ -1,11 +1,12 @@
 // What moves in the tables of occurrences, pairs and links.
 
-ghost use Rattle.std.specs.Prelude.{◌≡◌, IfOk};
+ghost use Rattle.std.specs.Prelude.{◌≡◌, IfOk, Some, ⊤};
 ghost use Rattle.external_dependencies.specs.Link.{link_cmp};
 ghost use Rattle.external_dependencies.specs.Rising.{IsRising};
 ghost use Rattle.external_dependencies.specs.declared.links.Link.{Link as LinkValue};
 ghost use Rattle.keyed_lists.specs.Keyed.{holds_key};
-ghost use Rattle.table_schema.specs.Writes.{Writes, WritesWhere};
+ghost use Rattle.table_writing.specs.Taking.{AreKeysOf, TakesLinks, TakesMoves, TakesPairs};
+ghost use Rattle.table_writing.specs.Taking.{TakesRows, WritesTaking};
 ghost use Rattle.table_writing.specs.Writing.{AreStorable, StandAlone, moved_in, rows_moved, pairs_moved};
 ghost use Rattle.table_writing.specs.Writing.{beside, links_moved, links_replaced};
 
@@ -23,7 +24,9 @@ fn write_moves<R: Fact, S: Alter>(
     table: Table,
     moves: &Moves<R>,
 ) -> Result<(), Error>
-    ensures { WritesWhere (λ _. AreStorable table R.values × StandAlone table)
+    ensures { WritesTaking (λ _. AreStorable table R.values × StandAlone table)
+        (λ all. (AreKeysOf table R.key × StandAlone table)
+        × TakesMoves table R.values R.key moves.now all)
         S.Store tx.old tx.new result
         (moved_in table R.values R.key moves.now) }
 {
@@ -39,7 +42,8 @@ pub(crate) fn write_rows<S: Alter>(
     tx: &mut Transaction<'_, S>,
     change: &Change,
 ) -> Result<(), Error>
-    ensures { Writes S.Store tx.old tx.new result (rows_moved change.now) }
+    ensures { WritesTaking (λ _. ⊤) (TakesRows change.now) S.Store tx.old tx.new result
+        (rows_moved change.now) }
 {
     write_moves(tx, Table::LongTerm, &change.ltp)?;
     write_moves(tx, Table::Current, &change.cp)?;
@@ -53,7 +57,8 @@ pub(crate) fn write_pairs<S: Alter>(
     tx: &mut Transaction<'_, S>,
     change: &PairChange,
 ) -> Result<(), Error>
-    ensures { Writes S.Store tx.old tx.new result (pairs_moved change.now) }
+    ensures { WritesTaking (λ _. ⊤) (TakesPairs change.now) S.Store tx.old tx.new result
+        (pairs_moved change.now) }
 {
     take_each(tx, Table::Dependency, change.removed.as_slice())?;
     take_each(tx, Table::Dependency, change.added.as_slice())?;
@@ -88,7 +93,8 @@ fn replace_links<S: Alter>(
     old: &Links,
     new: &Links,
 ) -> Result<(), Error>
-    ensures { Writes S.Store tx.old tx.new result (links_replaced old.now new.now) }
+    ensures { WritesTaking (λ _. ⊤) (TakesLinks old.now (Some new.now)) S.Store tx.old tx.new result
+        (links_replaced old.now new.now) }
 {
     let gone = links_beside(alloc, new, old)?;
     let come = links_beside(alloc, old, new)?;
@@ -103,7 +109,8 @@ pub(crate) fn write_links<S: Alter>(
     old: &Links,
     new: &Option<Links>,
 ) -> Result<(), Error>
-    ensures { Writes S.Store tx.old tx.new result (links_moved old.now new.now) }
+    ensures { WritesTaking (λ _. ⊤) (TakesLinks old.now new.now) S.Store tx.old tx.new result
+        (links_moved old.now new.now) }
 {
     match new {
         None => Ok(()),

@@ -1,12 +1,15 @@
 // Definitions in their tables.
 
+ghost use Rattle.std.specs.Prelude.{⊤};
 ghost use Rattle.table_schema.specs.Rows.{IsAlone, with_cells, without_key};
-ghost use Rattle.table_schema.specs.Writes.{Writes, WritesWhere};
+ghost use Rattle.table_schema.specs.Takes.{LosesKey, TakesRow};
 ghost use Rattle.table_definitions.specs.Storing.{IsStorable};
 ghost use Rattle.table_writing.specs.Redefining.{AreAlone, AreRowsFor, AreStorableMoves};
 ghost use Rattle.table_schema.specs.declared.tables.Table.TheVariants.{Offset, RunCycle};
 ghost use Rattle.table_writing.specs.Redefining.{cycles_gone, cycles_put, cycles_renewed, definitions_moved};
 ghost use Rattle.table_writing.specs.Redefining.{name_key, renewed, rows_of};
+ghost use Rattle.table_writing.specs.Taking.{AreKeysOf, TakesCycles, TakesEach, TakesKind};
+ghost use Rattle.table_writing.specs.Taking.{TakesNamed, WritesTaking};
 ghost use Rattle.table_writing.specs.Writing.{StandAlone, with_each, without_each};
 
 use crate::lone_rows::write_meta;
@@ -40,7 +43,8 @@ fn put_row<S: Alter>(
     table: Table,
     row: &Row,
 ) -> Result<(), Error>
-    ensures { WritesWhere (λ _. IsStorable table row.now) S.Store tx.old tx.new result
+    ensures { WritesTaking (λ _. IsStorable table row.now)
+        (λ all. IsStorable table row.now × TakesRow table row.now all) S.Store tx.old tx.new result
         (with_cells table row.now) }
 {
     let values = lend(alloc, row)?;
@@ -54,7 +58,9 @@ fn put_rows<S: Alter>(
     table: Table,
     rows: &[Row],
 ) -> Result<(), Error>
-    ensures { WritesWhere (λ _. AreRowsFor table rows.now) S.Store tx.old tx.new result
+    ensures { WritesTaking (λ _. AreRowsFor table rows.now)
+        (λ all. AreRowsFor table rows.now × TakesEach table rows_of rows.now all)
+        S.Store tx.old tx.new result
         (with_each table rows_of rows.now) }
 {
     for row in rows {
@@ -65,7 +71,8 @@ fn put_rows<S: Alter>(
 
 // Takes the rows of a name out of the table.
 fn take_name<S: Alter>(tx: &mut Transaction<'_, S>, table: Table, name: &Name) -> Result<(), Error>
-    ensures { WritesWhere (IsAlone table (name_key name.now)) S.Store tx.old tx.new result
+    ensures { WritesTaking (IsAlone table (name_key name.now)) (LosesKey table (name_key name.now))
+        S.Store tx.old tx.new result
         (without_key table (name_key name.now)) }
 {
     delete(tx, table, &[ValueRef::Text(name.as_bytes())])
@@ -77,7 +84,9 @@ fn take_names<S: Alter>(
     table: Table,
     names: &[Name],
 ) -> Result<(), Error>
-    ensures { WritesWhere (AreAlone table names.now) S.Store tx.old tx.new result
+    ensures { WritesTaking (AreAlone table names.now)
+        (λ all. AreKeysOf table name_key × AreAlone table names.now all)
+        S.Store tx.old tx.new result
         (without_each table name_key names.now) }
 {
     for name in names {
@@ -93,7 +102,10 @@ fn renew<S: Alter>(
     table: Table,
     moves: &DefinitionMoves,
 ) -> Result<(), Error>
-    ensures { WritesWhere (λ _. StandAlone table × AreRowsFor table moves.now.rows.items)
+    ensures { WritesTaking (λ _. StandAlone table × AreRowsFor table moves.now.rows.items)
+        (λ all. (AreKeysOf table name_key × StandAlone table)
+        × (AreRowsFor table moves.now.rows.items
+        × TakesNamed table moves.now.names.items moves.now.rows.items all))
         S.Store tx.old tx.new result
         (renewed table moves.now.names.items moves.now.rows.items) }
 {
@@ -103,7 +115,7 @@ fn renew<S: Alter>(
 
 // Takes the run cycles of these applications out of their table, after their offsets.
 fn take_cycles<S: Alter>(tx: &mut Transaction<'_, S>, apps: &[Name]) -> Result<(), Error>
-    ensures { Writes S.Store tx.old tx.new result (cycles_gone apps.now) }
+    ensures { WritesTaking (λ _. ⊤) (λ _. ⊤) S.Store tx.old tx.new result (cycles_gone apps.now) }
 {
     take_names(tx, Table::Offset, apps)?;
     take_names(tx, Table::RunCycle, apps)
@@ -116,7 +128,10 @@ fn put_cycles<S: Alter>(
     cycles: &[Row],
     offsets: &[Row],
 ) -> Result<(), Error>
-    ensures { WritesWhere (λ _. AreRowsFor RunCycle cycles.now × AreRowsFor Offset offsets.now)
+    ensures { WritesTaking (λ _. AreRowsFor RunCycle cycles.now × AreRowsFor Offset offsets.now)
+        (λ all. (AreRowsFor RunCycle cycles.now × TakesEach RunCycle rows_of cycles.now all)
+        × (AreRowsFor Offset offsets.now
+        × TakesEach Offset rows_of offsets.now (with_each RunCycle rows_of cycles.now all)))
         S.Store tx.old tx.new result
         (cycles_put cycles.now offsets.now) }
 {
@@ -130,8 +145,10 @@ fn renew_cycles<S: Alter>(
     alloc: Global,
     moves: &DefinitionMoves,
 ) -> Result<(), Error>
-    ensures { WritesWhere
+    ensures { WritesTaking
         (λ _. AreRowsFor RunCycle moves.now.rows.items × AreRowsFor Offset moves.now.offsets.items)
+        (λ all. (AreRowsFor RunCycle moves.now.rows.items
+        × AreRowsFor Offset moves.now.offsets.items) × TakesCycles moves.now all)
         S.Store tx.old tx.new result
         (cycles_renewed moves.now.names.items moves.now.rows.items moves.now.offsets.items) }
 {
@@ -147,7 +164,10 @@ pub(crate) fn write_definitions<S: Alter>(
     content: &Content,
     moves: &DefinitionMoves,
 ) -> Result<(), Error>
-    ensures { WritesWhere (λ _. AreStorableMoves moves.now) S.Store tx.old tx.new result
+    ensures { WritesTaking (λ _. AreStorableMoves moves.now)
+        (λ all. AreStorableMoves moves.now × TakesKind moves.now.kind content.now.bounds
+        content.now.issued content.now.definitions.options moves.now all)
+        S.Store tx.old tx.new result
         (definitions_moved content.now.bounds content.now.issued content.now.definitions.options
         moves.now) }
 {

@@ -1,15 +1,17 @@
 // A change is written.
 
-ghost use Rattle.std.specs.Prelude.{◌≡◌, ◌<◌, ◌^◌, false, OnOk, OnErr, IsTrue, IfSome};
+ghost use Rattle.std.specs.Prelude.{◌≡◌, ◌<◌, ◌^◌, false, OnOk, OnErr, IfErr, IsTrue, IfSome, ⊤};
 ghost use Rattle.sqlite.specs.State.{HasCleanDisk, Survives};
 ghost use Rattle.sqlite.specs.Held.{state};
-ghost use Rattle.table_schema.specs.Rows.{IsPlan, tables_of};
-ghost use Rattle.table_schema.specs.Writes.{Writes, WritesWhere};
+ghost use Rattle.table_schema.specs.Rows.{IsPlan, MayFail, tables_of};
+ghost use Rattle.table_schema.specs.Takes.{HasOwnIndexes};
 ghost use Rattle.planner_machine.specs.Moves.{or_else};
 ghost use Rattle.planner_machine.specs.declared.job.Job.{Job as JobValue};
 ghost use Rattle.plan_store.specs.Contents.{content_of};
 ghost use Rattle.table_facts.specs.Content.{answer_text};
 ghost use Rattle.table_writing.specs.Redefining.{AreStorableMoves, written};
+ghost use Rattle.table_writing.specs.Taking.{TakesChange, TakesJob, TakesNewMeta, TakesPlans};
+ghost use Rattle.table_writing.specs.Taking.{WritesTaking};
 ghost use Rattle.table_writing.specs.Writing.{job_kept, meta_moved, plans_written};
 
 use crate::lone_rows::{put_job, write_meta};
@@ -36,7 +38,8 @@ fn write_new_meta<S: Alter>(
     old: &Content,
     change: &Change,
 ) -> Result<(), Error>
-    ensures { Writes S.Store tx.old tx.new result
+    ensures { WritesTaking (λ _. ⊤) (TakesNewMeta change.now old.now.bounds old.now.issued
+        old.now.definitions.options) S.Store tx.old tx.new result
         (meta_moved change.now old.now.bounds old.now.issued old.now.definitions.options) }
 {
     if change.bounds.is_some() || change.issued.is_some() {
@@ -56,7 +59,8 @@ fn write_job<S: Alter>(
 ) -> Result<(), Error>
     requires number { IfSome job.now (λ (job : JobValue). job.number < 2 ^ 63) }
     requires line { IfSome job.now (λ (job : JobValue). line.now ≡ answer_text job.reply) }
-    ensures { Writes S.Store tx.old tx.new result (job_kept job.now) }
+    ensures { WritesTaking (λ _. ⊤) (TakesJob job.now) S.Store tx.old tx.new result
+        (job_kept job.now) }
 {
     match job {
         None => Ok(()),
@@ -74,7 +78,8 @@ fn write_plans<S: Alter>(
 ) -> Result<(), Error>
     requires number { IfSome change.now.job (λ (job : JobValue). job.number < 2 ^ 63) }
     requires line { IfSome change.now.job (λ (job : JobValue). line.now ≡ answer_text job.reply) }
-    ensures { Writes S.Store tx.old tx.new result (plans_written (content_of old.now) change.now) }
+    ensures { WritesTaking (λ _. ⊤) (TakesPlans (content_of old.now) change.now) S.Store tx.old
+        tx.new result (plans_written (content_of old.now) change.now) }
 {
     write_rows(tx, change)?;
     write_pairs(tx, &change.pairs)?;
@@ -95,7 +100,9 @@ pub(crate) fn write_change<S: Alter>(
 ) -> Result<(), Error>
     requires number { IfSome change.now.job (λ (job : JobValue). job.number < 2 ^ 63) }
     requires line { IfSome change.now.job (λ (job : JobValue). line.now ≡ answer_text job.reply) }
-    ensures { WritesWhere (λ _. AreStorableMoves moves.now) S.Store tx.old tx.new result
+    ensures { WritesTaking (λ _. AreStorableMoves moves.now)
+        (λ all. AreStorableMoves moves.now
+        × TakesChange (content_of content.now) moves.now change.now all) S.Store tx.old tx.new result
         (written (content_of content.now) moves.now change.now) }
 {
     write_definitions(tx, alloc, content, moves)?;
@@ -127,6 +134,11 @@ pub fn commit_change<S: Alter>(
         → IsTrue (state S.Store conn.new).is_open → OnErr result
         (((state S.Store conn.new).now ≡ (state S.Store conn.old).now)
         × ((state S.Store conn.new).committed ≡ (state S.Store conn.old).committed)) }
+    ensures fails { HasCleanDisk (state S.Store conn.new) → IsPlan (state S.Store conn.old)
+        → HasOwnIndexes (state S.Store conn.old).now.schema
+        → TakesChange (content_of content.now) moves.now change.now
+        (tables_of (state S.Store conn.old).now.trees)
+        → IfErr result (MayFail (state S.Store conn.old) (state S.Store conn.new)) }
     ensures ended { conn.new.in_transaction ≡ false }
     ensures stays_open { HasCleanDisk (state S.Store conn.new) → OnOk result (IsTrue
         (state S.Store conn.new).is_open) }
@@ -137,6 +149,7 @@ pub fn commit_change<S: Alter>(
 {
     let settled = conn.is_autocommit();
     prove!(settled);
+    let _ = conn.schema();
     let mut tx = conn.transaction();
     write_change(&mut tx, alloc, content, moves, change, line)?;
     tx.commit()?;

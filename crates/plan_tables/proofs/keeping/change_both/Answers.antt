@@ -1,7 +1,10 @@
-use Rattle.std.proofs.Common.{sym}
+use Rattle.std.proofs.Common.{arith, sym}
 use Rattle.sqlite.specs.Held.{state}
+use Rattle.sqlite.specs.State.{HasCleanDisk}
 use Rattle.sqlite.proofs.StateLemmas.{survives_then, survives_weaker}
 use Rattle.plan_store.specs.Contents.{content_of}
+use Rattle.table_schema.specs.Rows.{tables_of}
+use Rattle.plan_tables.proofs.CauseLemmas.{failed_so, taken_rest}
 use Rattle.plan_tables.proofs.StorableMoves.{storable_moves}
 use Rattle.plan_tables.proofs.StoredLemmas.{left_fits, tables_after}
 use Rattle.plan_tables.proofs.keeping.change_both.Goals as goal
@@ -39,9 +42,21 @@ returns-in-Ok-commit_change-clause-crash g c =
 pub returns-in-Err-commit_change-clause-crash : goal.returns-in-Err-commit_change-clause-crash
 returns-in-Err-commit_change-clause-crash g c =
     survives_then (state g.S.Store c.args.conn.now) (state g.S.Store c.commit_change.new.conn)
-    (state g.S.Store c.fault_of.new.conn) _ (λ _. ⊥) _
+    (state g.S.Store c.cause_of.new.conn) _ (λ _. ⊥) _
     (λ clean db h stored. tables_after (content_of c.args.lists.now) c.args.change c.args.moves.now c.requires.fits
     c.requires.moves c.requires.told c.in-Ok.underway.rest c.in-Ok.ensures.rest
     (state g.S.Store c.args.conn.now) db (content_of c.start.new.lists) c.in-Ok.ensures.ok stored (h stored.plan))
     (λ _ _ none. absurd none)
-    c.commit_change.ensures.crash c.fault_of.ensures.survives
+    c.commit_change.ensures.crash c.cause_of.ensures.survives
+
+pub returns-in-Err-commit_change-clause-blames : goal.returns-in-Err-commit_change-clause-blames
+returns-in-Err-commit_change-clause-blames g c clean stored can is =
+    let old = state g.S.Store c.args.conn.now in
+    let mid = state g.S.Store c.commit_change.new.conn in
+    let new = state g.S.Store c.cause_of.new.conn in
+    let calm : HasCleanDisk mid = omega (arith, c.cause_of.ensures.survives.clean, clean) in
+    let taken = taken_rest (content_of c.args.lists.now) c.args.change c.args.moves.now c.in-Ok.underway.rest
+    c.in-Ok.ensures.rest (content_of c.start.new.lists) c.in-Ok.ensures.ok (tables_of old.now.trees)
+    (can.1 c.args.moves.now c.requires.moves) in
+    failed_so old mid new _ _ _ stored.is_open calm c.commit_change.ensures.crash c.cause_of.ensures.survives
+    (c.in-Err-commit_change.ensures.fails calm stored.plan can.0 taken) (c.cause_of.ensures.shut clean is)

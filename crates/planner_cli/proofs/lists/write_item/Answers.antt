@@ -15,3 +15,8 @@ pub returns-in-Pair-clause-front : goal.returns-in-Pair-clause-front
 returns-in-Pair-clause-front g c =
     rw c.in-Pair.is (on_err c.write_line-in-Pair.result _ _ (λ h. (c.pair_line.result, c.pair_line.ensures, h))
     c.write_line-in-Pair.ensures.front)
+
+pub returns-in-Link-clause-front : goal.returns-in-Link-clause-front
+returns-in-Link-clause-front g c =
+    rw c.in-Link.is (on_err c.write_line-in-Link.result _ _ (λ h. (c.link_line.result, c.link_line.ensures, h))
+    c.write_line-in-Link.ensures.front)

@@ -4,6 +4,8 @@ use Rattle.sqlite.specs.Held.{state}
 use Rattle.sqlite.specs.Order.{Row as Values}
 use Rattle.sqlite.specs.declared.types.Value.TheVariants.{Text}
 use Rattle.table_schema.specs.Rows.{AreOfKinds, Stands, tables_of, with_cells}
+use Rattle.table_schema.specs.Takes.{TakesRow}
+use Rattle.table_schema.specs.Writes.{TakesWhere}
 use Rattle.table_facts.specs.Facts.{natural}
 use Rattle.table_writing.proofs.lone_rows.put_bounds.Goals as goal
 
@@ -23,4 +25,13 @@ returns g c = record {
       (c.insert.ensures.writes.ok clean plan mode) fits;
   kept = search rules;
   survives = search rules;
+  takes =
+      subst (λ (v : Values). TakesWhere (TakesRow c.args.table v) g.S.Store c.args.tx.now c.insert.new.tx
+      c.insert.result (with_cells c.args.table v))
+      (λ i. c.number.ensures i ∷ c.number-2.ensures i ∷ c.number-3.ensures i
+      ∷ (c.number-5.ensures ∙ ap natural c.number-4.ensures.value) i
+      ∷ (c.number-7.ensures ∙ ap natural c.number-6.ensures.value) i
+      ∷ (c.number-9.ensures ∙ ap natural c.number-8.ensures.value) i ∷ c.number-10.ensures i
+      ∷ Text (c.as_bytes.ensures.value i) ∷ (c.number-11.ensures ∙ ap natural c.from.ensures) i ∷ [])
+      c.insert.ensures.takes;
 }

@@ -2,6 +2,8 @@ use Rattle.std.proofs.Common.{◌≡◌, drop, IsTrue}
 use Rattle.sqlite.specs.State.{HasCleanDisk, KeepsCommit, Survives}
 use Rattle.sqlite.specs.Held.{state}
 use Rattle.table_schema.specs.Rows.{IsPlan, tables_of}
+use Rattle.table_schema.specs.Takes.{IsSoundPlan}
+use Rattle.table_writing.specs.Taking.{TakesEach}
 use Rattle.table_writing.specs.Writing.{AreStorable, IsOnWay, with_each}
 use Rattle.table_writing.proofs.loops.put_each.Given as goal
 
@@ -16,4 +18,9 @@ invariant-loop-fact g l =
       leaves : HasCleanDisk now → IsPlan old → IsTrue old.in_transaction → AreStorable l.table g.R.Fact.values
           → IsOnWay old now (with_each l.table g.R.Fact.values (drop l.fact-index l.facts))
           (with_each l.table g.R.Fact.values l.facts (tables_of old.now.trees));
+      takes : HasCleanDisk now → IsSoundPlan old → TakesEach l.table g.R.Fact.values l.facts (tables_of old.now.trees)
+          → IsSoundPlan now × (IsTrue old.is_open → IsTrue now.is_open)
+          × TakesEach l.table g.R.Fact.values (drop l.fact-index l.facts) (tables_of now.now.trees)
+          × (with_each l.table g.R.Fact.values (drop l.fact-index l.facts) (tables_of now.now.trees)
+          ≡ with_each l.table g.R.Fact.values l.facts (tables_of old.now.trees));
     }

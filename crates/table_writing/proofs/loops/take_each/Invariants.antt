@@ -2,6 +2,8 @@ use Rattle.std.proofs.Common.{◌≡◌, drop, IsTrue}
 use Rattle.sqlite.specs.State.{HasCleanDisk, KeepsCommit, Survives}
 use Rattle.sqlite.specs.Held.{state}
 use Rattle.table_schema.specs.Rows.{IsPlan, tables_of}
+use Rattle.table_schema.specs.Takes.{IsSoundPlan}
+use Rattle.table_writing.specs.Taking.{AreKeysOf}
 use Rattle.table_writing.specs.Writing.{IsOnWay, StandAlone, without_each}
 use Rattle.table_writing.proofs.loops.take_each.Given as goal
 
@@ -16,4 +18,8 @@ invariant-loop-fact g l =
       leaves : HasCleanDisk now → IsPlan old → IsTrue old.in_transaction → StandAlone l.table
           → IsOnWay old now (without_each l.table g.R.Fact.key (drop l.fact-index l.facts))
           (without_each l.table g.R.Fact.key l.facts (tables_of old.now.trees));
+      takes : HasCleanDisk now → IsSoundPlan old → AreKeysOf l.table g.R.Fact.key × StandAlone l.table
+          → IsSoundPlan now × (IsTrue old.is_open → IsTrue now.is_open)
+          × (without_each l.table g.R.Fact.key (drop l.fact-index l.facts) (tables_of now.now.trees)
+          ≡ without_each l.table g.R.Fact.key l.facts (tables_of old.now.trees));
     }

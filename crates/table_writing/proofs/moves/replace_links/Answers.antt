@@ -3,7 +3,8 @@ use Rattle.sqlite.specs.Held.{state}
 use Rattle.table_schema.specs.declared.tables.Table.TheVariants as table
 use Rattle.table_facts.specs.Facts.{link_values}
 use Rattle.table_writing.specs.Writing.{beside, with_each}
-use Rattle.table_writing.proofs.KindLemmas.{links_alone, links_storable}
+use Rattle.table_writing.proofs.KindLemmas.{links_alone, links_keys, links_storable}
+use Rattle.table_writing.proofs.TakingLemmas.{takes_no_more, takes_then, takes_weaker}
 use Rattle.table_writing.proofs.Turns.{then_ok}
 use Rattle.table_writing.proofs.moves.replace_links.Goals as goal
 
@@ -22,4 +23,16 @@ returns g c = record {
       links_storable));
   kept = search rules;
   survives = search rules;
+  takes =
+      takes_weaker g.S.Store _ _ _ _ _ _ (λ all t. ((links_keys, links_alone), t)) (takes_then g.S.Store _ _ _ _ _ _ _ _ _ c.take_each.ensures.survives c.put_each.ensures.survives (rw (c.deref.ensures.value, c.in_ok-gone.ensures) at c.in_ok-take_each.ensures.takes) (rw (c.deref-2.ensures.value, c.in_ok-come.ensures) at c.put_each.ensures.takes));
+}
+
+pub returns-in_err-take_each : goal.returns-in_err-take_each
+returns-in_err-take_each g c = record {
+  same_reference = search rules;
+  ok = search rules;
+  kept = search rules;
+  survives = search rules;
+  takes =
+      takes_no_more g.S.Store _ _ _ _ _ _ _ c.from_residual-in_err-take_each.result c.from_residual-in_err-take_each.ensures.1 (λ all t. (links_keys, links_alone)) (rw (c.deref.ensures.value, c.in_ok-gone.ensures) at c.in_err-take_each.ensures.takes);
 }

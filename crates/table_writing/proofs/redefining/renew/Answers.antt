@@ -4,6 +4,7 @@ use Rattle.table_schema.specs.Rows.{tables_of}
 use Rattle.table_writing.specs.Redefining.{AreRowsFor, rows_of}
 use Rattle.table_writing.specs.Writing.{with_each}
 use Rattle.table_writing.proofs.AloneLemmas.{names_alone}
+use Rattle.table_writing.proofs.TakingLemmas.{takes_no_more, takes_then, takes_weaker}
 use Rattle.table_writing.proofs.Turns.{then_ok}
 use Rattle.table_writing.proofs.redefining.renew.Goals as goal
 
@@ -24,4 +25,16 @@ returns g c = record {
       (rw c.deref-2.ensures.value at two);
   kept = search rules;
   survives = search rules;
+  takes =
+      takes_weaker g.S.Store _ _ _ _ _ _ (λ all t. ((t.0.0, names_alone c.args.table c.args.moves.now.names.items all t.0.1), t.1)) (takes_then g.S.Store _ _ _ _ _ _ _ _ _ c.take_names.ensures.survives c.put_rows.ensures.survives (rw c.deref.ensures.value at c.in_ok-take_names.ensures.takes) (rw c.deref-2.ensures.value at c.put_rows.ensures.takes));
+}
+
+pub returns-in_err-take_names : goal.returns-in_err-take_names
+returns-in_err-take_names g c = record {
+  same_reference = search rules;
+  ok = search rules;
+  kept = search rules;
+  survives = search rules;
+  takes =
+      takes_no_more g.S.Store _ _ _ _ _ _ _ c.from_residual.result c.from_residual.ensures.1 (λ all t. (t.0.0, names_alone c.args.table c.args.moves.now.names.items all t.0.1)) (rw c.deref.ensures.value at c.in_err-take_names.ensures.takes);
 }

@@ -2,6 +2,7 @@ use Rattle.std.proofs.Common.{arith, rules}
 use Rattle.sqlite.specs.Held.{state}
 use Rattle.table_schema.specs.declared.tables.Table.TheVariants as table
 use Rattle.table_writing.specs.Redefining.{AreRowsFor, cycles_put}
+use Rattle.table_writing.proofs.TakingLemmas.{takes_no_more, takes_then, takes_weaker}
 use Rattle.table_writing.proofs.Turns.{then_ok}
 use Rattle.table_writing.proofs.redefining.renew_cycles.Goals as goal
 
@@ -22,4 +23,16 @@ returns g c = record {
       (rw (c.deref-2.ensures.value, c.deref-3.ensures.value) at two);
   kept = search rules;
   survives = search rules;
+  takes =
+      takes_weaker g.S.Store _ _ _ _ _ _ (λ all t. (tt, ((t.0.0, t.1.0), (t.0.1, t.1.1)))) (takes_then g.S.Store _ _ _ _ _ _ _ _ _ c.take_cycles.ensures.survives c.put_cycles.ensures.survives (rw c.deref.ensures.value at c.in_ok-take_cycles.ensures.takes) (rw (c.deref-2.ensures.value, c.deref-3.ensures.value) at c.put_cycles.ensures.takes));
+}
+
+pub returns-in_err-take_cycles : goal.returns-in_err-take_cycles
+returns-in_err-take_cycles g c = record {
+  same_reference = search rules;
+  ok = search rules;
+  kept = search rules;
+  survives = search rules;
+  takes =
+      takes_no_more g.S.Store _ _ _ _ _ _ _ c.from_residual.result c.from_residual.ensures.1 (λ all t. tt) (rw c.deref.ensures.value at c.in_err-take_cycles.ensures.takes);
 }

@@ -1,10 +1,11 @@
-use Rattle.std.proofs.Common.{arith, subst, sym, rules}
+use Rattle.std.proofs.Common.{arith, refl, subst, sym, rules}
 use Rattle.sqlite.specs.Held.{state}
 use Rattle.table_schema.specs.Rows.{tables_of}
 use Rattle.table_schema.specs.declared.tables.Table.TheVariants as table
 use Rattle.table_writing.specs.Redefining.{AreAlone, name_key}
 use Rattle.table_writing.specs.Writing.{without_each}
 use Rattle.table_writing.proofs.AloneLemmas.{cycles_alone}
+use Rattle.table_writing.proofs.TakingLemmas.{takes_no_more, takes_then, takes_weaker}
 use Rattle.table_writing.proofs.Turns.{then_ok}
 use Rattle.table_writing.proofs.redefining.take_cycles.Goals as goal
 
@@ -23,4 +24,16 @@ returns g c = record {
       (cycles_alone apps (tables_of old.now.trees))));
   kept = search rules;
   survives = search rules;
+  takes =
+      takes_weaker g.S.Store _ _ _ _ _ _ (λ all t. (((λ name. (name, refl)), (λ name has. tt)), ((λ name. (name, refl)), cycles_alone c.args.apps.now all))) (takes_then g.S.Store _ _ _ _ _ _ _ _ _ c.take_names.ensures.survives c.take_names-2.ensures.survives c.in_ok-take_names.ensures.takes c.take_names-2.ensures.takes);
+}
+
+pub returns-in_err-take_names : goal.returns-in_err-take_names
+returns-in_err-take_names g c = record {
+  same_reference = search rules;
+  ok = search rules;
+  kept = search rules;
+  survives = search rules;
+  takes =
+      takes_no_more g.S.Store _ _ _ _ _ _ _ c.from_residual.result c.from_residual.ensures.1 (λ all t. ((λ name. (name, refl)), (λ name has. tt))) c.in_err-take_names.ensures.takes;
 }

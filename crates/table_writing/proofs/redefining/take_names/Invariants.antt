@@ -3,6 +3,8 @@ use Rattle.sqlite.specs.State.{HasCleanDisk, KeepsCommit, Survives}
 use Rattle.sqlite.specs.Held.{state}
 use Rattle.table_schema.specs.Rows.{IsPlan, tables_of}
 use Rattle.table_writing.specs.Redefining.{AreAlone, name_key}
+use Rattle.table_schema.specs.Takes.{IsSoundPlan}
+use Rattle.table_writing.specs.Taking.{AreKeysOf}
 use Rattle.table_writing.specs.Writing.{IsOnWay, without_each}
 use Rattle.table_writing.proofs.redefining.take_names.Given as goal
 
@@ -19,4 +21,10 @@ invariant-loop-name g l =
           → AreAlone l.table l.names (tables_of now.now.trees) × IsOnWay old now (without_each l.table name_key
           (drop l.name-index l.names))
           (without_each l.table name_key l.names (tables_of old.now.trees));
+      takes : HasCleanDisk now → IsSoundPlan old → AreKeysOf l.table name_key
+          → AreAlone l.table l.names (tables_of old.now.trees)
+          → IsSoundPlan now × (IsTrue old.is_open → IsTrue now.is_open)
+          × AreAlone l.table l.names (tables_of now.now.trees)
+          × (without_each l.table name_key (drop l.name-index l.names) (tables_of now.now.trees)
+          ≡ without_each l.table name_key l.names (tables_of old.now.trees));
     }

@@ -3,9 +3,11 @@ use Rattle.sqlite.specs.Held.{state}
 use Rattle.sqlite.specs.State.{HasCleanDisk, Survives}
 use Rattle.sqlite.specs.Tree.{Trees}
 use Rattle.sqlite.proofs.StateLemmas.{survives_then}
-use Rattle.table_schema.specs.Rows.{IsPlan, tables_of}
+use Rattle.table_schema.specs.Rows.{IsPlan, MayFail, tables_of}
 use Rattle.plan_store.specs.Contents.{content_of}
 use Rattle.table_writing.specs.Redefining.{written}
+use Rattle.table_writing.specs.Taking.{TakesChange}
+use Rattle.table_writing.proofs.TakingLemmas.{begins_sound, commit_may, if_told, may_since, may_until, plan_on}
 use Rattle.table_writing.proofs.writing.commit_change.Goals as goal
 
 pub returns-in_err-commit-clause-crash : goal.returns-in_err-commit-clause-crash
@@ -77,3 +79,65 @@ returns-clause-crash g c =
     (tables_of (state g.S.Store h).now.trees)) begun)
     one c.commit.ensures.survives in
     subst (λ h. Survives old (state g.S.Store h) goal_of) same both
+
+pub returns-clause-done : goal.returns-clause-done
+returns-clause-done g c clean plan =
+    let begun = c.transaction-tx.ensures.begun in
+    let mid = state g.S.Store c.write_change.new.tx.conn.now in
+    let end = c.commit.new.self.0 in
+    let same : end ≡ c.conn-2-1.given.0 = search rules in
+    let goes : IsTrue c.transaction-tx.result.conn.now.in_transaction = rw begun in
+    let starts : IsPlan (state g.S.Store c.transaction-tx.result.conn.now) = subst (λ h. IsPlan (state g.S.Store h))
+    (sym begun) (record { schema = plan.schema; rowids = plan.rowids }) in
+    let calm : HasCleanDisk (state g.S.Store end) = subst (λ h. HasCleanDisk (state g.S.Store h)) (sym same) clean in
+    let stands = c.in_ok-write_change.ensures.ok (omega (arith, c.commit.ensures.survives.clean, calm)) starts goes
+    c.requires.storable in
+    let rows = stands.rows_are ∙ ap (λ h. written (content_of c.args.content.now) c.args.moves.now c.args.change.now
+    (tables_of (state g.S.Store h).now.trees)) begun in
+    subst (λ h. IsPlan (state g.S.Store h) × (tables_of (state g.S.Store h).now.trees ≡ written
+    (content_of c.args.content.now) c.args.moves.now c.args.change.now
+    (tables_of (state g.S.Store c.args.conn.now).now.trees))) same
+    (plan_on mid (state g.S.Store end) _ (c.in_ok-commit.ensures.ok calm).1.now_is stands.plan rows)
+
+pub returns-in_err-write_change-clause-fails : goal.returns-in_err-write_change-clause-fails
+returns-in_err-write_change-clause-fails g c clean plan own takes =
+    let begun = c.transaction-tx.ensures.begun in
+    let old = state g.S.Store c.args.conn.now in
+    let mid = state g.S.Store c.write_change.new.tx.conn.now in
+    let end = c.drop-tx.new.self.0 in
+    let same : end ≡ c.conn-1.given.0 = search rules in
+    let calm : HasCleanDisk (state g.S.Store end) = subst (λ h. HasCleanDisk (state g.S.Store h)) (sym same) clean in
+    let starts = begins_sound g.S.Store c.args.conn.now c.transaction-tx.result.conn.now begun c.schema.ensures.live
+    plan own in
+    let taken = subst (λ h. TakesChange (content_of c.args.content.now) c.args.moves.now c.args.change.now
+    (tables_of (state g.S.Store h).now.trees)) (sym begun) takes in
+    let may = c.in_err-write_change.ensures.takes.fails (omega (arith, c.drop-tx.ensures.survives.clean, calm)) starts
+    (c.requires.storable, taken) in
+    let since : MayFail old mid c.in_err-write_change.field-0.0 = subst (λ h. MayFail (state g.S.Store h) mid
+    c.in_err-write_change.field-0.0) begun may in
+    if_told c.from_residual.result old (state g.S.Store c.conn-1.given.0) _ c.from_residual.ensures.1
+    (subst (λ h. MayFail old (state g.S.Store h) c.in_err-write_change.field-0.0) same (may_until old mid
+    (state g.S.Store end) _ c.drop-tx.ensures.survives.counts since))
+
+pub returns-in_err-commit-clause-fails : goal.returns-in_err-commit-clause-fails
+returns-in_err-commit-clause-fails g c clean plan own takes =
+    let begun = c.transaction-tx.ensures.begun in
+    let old = state g.S.Store c.args.conn.now in
+    let mid = state g.S.Store c.write_change.new.tx.conn.now in
+    let end = c.commit.new.self.0 in
+    let same : end ≡ c.conn-2-1.given.0 = search rules in
+    let calm : HasCleanDisk (state g.S.Store end) = subst (λ h. HasCleanDisk (state g.S.Store h)) (sym same) clean in
+    let starts = begins_sound g.S.Store c.args.conn.now c.transaction-tx.result.conn.now begun c.schema.ensures.live
+    plan own in
+    let taken = subst (λ h. TakesChange (content_of c.args.content.now) c.args.moves.now c.args.change.now
+    (tables_of (state g.S.Store h).now.trees)) (sym begun) takes in
+    let was = c.in_ok-write_change.ensures.takes.sound (omega (arith, c.commit.ensures.survives.clean, calm)) starts
+    (c.requires.storable, taken) in
+    let k = rw begun at c.write_change.ensures.survives in
+    let stays : IsTrue old.is_open → IsTrue mid.is_open = subst (λ h. IsTrue (state g.S.Store h).is_open
+    → IsTrue mid.is_open) begun was.1 in
+    if_told c.from_residual-in_err-commit.result old (state g.S.Store c.conn-2-1.given.0) _
+    c.from_residual-in_err-commit.ensures.1
+    (subst (λ h. MayFail old (state g.S.Store h) c.in_err-commit.field-0.0) same (may_since old mid
+    (state g.S.Store end) _ k.counts stays k.limit (commit_may mid (state g.S.Store end) _ was.0.mode
+    (c.in_err-commit.ensures.err calm))))

@@ -2,7 +2,8 @@ use Rattle.std.proofs.Common.{arith, rules}
 use Rattle.sqlite.specs.Held.{state}
 use Rattle.sqlite.specs.State.{HasCleanDisk}
 use Rattle.table_writing.specs.Writing.{job_kept, links_moved, meta_moved, pairs_moved}
-use Rattle.table_writing.proofs.Turns.{stands_then, then_ok}
+use Rattle.table_writing.proofs.TakingLemmas.{takes_no_more, takes_then, takes_weaker}
+use Rattle.table_writing.proofs.Turns.{stands_then, survives_both, then_ok}
 use Rattle.table_writing.proofs.writing.write_plans.Goals as goal
 
 pub returns : goal.returns
@@ -32,4 +33,46 @@ returns g c = record {
       (c.write_job.ensures.ok clean four.plan four.mode tt);
   kept = search rules;
   survives = search rules;
+  takes =
+      takes_weaker g.S.Store _ _ _ _ _ _ (λ all t. ((((t.0, t.1), t.2), t.3), t.4)) (takes_then g.S.Store _ _ _ _ _ _ _ _ _ (survives_both _ _ _ (survives_both _ _ _ (survives_both _ _ _ c.write_rows.ensures.survives c.write_pairs.ensures.survives) c.write_links.ensures.survives) c.write_new_meta.ensures.survives) c.write_job.ensures.survives (takes_then g.S.Store _ _ _ _ _ _ _ _ _ (survives_both _ _ _ (survives_both _ _ _ c.write_rows.ensures.survives c.write_pairs.ensures.survives) c.write_links.ensures.survives) c.write_new_meta.ensures.survives (takes_then g.S.Store _ _ _ _ _ _ _ _ _ (survives_both _ _ _ c.write_rows.ensures.survives c.write_pairs.ensures.survives) c.write_links.ensures.survives (takes_then g.S.Store _ _ _ _ _ _ _ _ _ c.write_rows.ensures.survives c.write_pairs.ensures.survives c.in_ok-write_rows.ensures.takes c.in_ok-write_pairs.ensures.takes) c.in_ok-write_links.ensures.takes) c.in_ok-write_new_meta.ensures.takes) c.write_job.ensures.takes);
+}
+
+pub returns-in_err-write_rows : goal.returns-in_err-write_rows
+returns-in_err-write_rows g c = record {
+  same_reference = search rules;
+  ok = search rules;
+  kept = search rules;
+  survives = search rules;
+  takes =
+      takes_no_more g.S.Store _ _ _ _ _ _ _ c.from_residual.result c.from_residual.ensures.1 (λ all t. t.0) c.in_err-write_rows.ensures.takes;
+}
+
+pub returns-in_err-write_pairs : goal.returns-in_err-write_pairs
+returns-in_err-write_pairs g c = record {
+  same_reference = search rules;
+  ok = search rules;
+  kept = search rules;
+  survives = search rules;
+  takes =
+      takes_no_more g.S.Store _ _ _ _ _ _ _ c.from_residual-in_err-write_pairs.result c.from_residual-in_err-write_pairs.ensures.1 (λ all t. (t.0, t.1)) (takes_then g.S.Store _ _ _ _ _ _ _ _ _ c.write_rows.ensures.survives c.write_pairs.ensures.survives c.in_ok-write_rows.ensures.takes c.in_err-write_pairs.ensures.takes);
+}
+
+pub returns-in_err-write_links : goal.returns-in_err-write_links
+returns-in_err-write_links g c = record {
+  same_reference = search rules;
+  ok = search rules;
+  kept = search rules;
+  survives = search rules;
+  takes =
+      takes_no_more g.S.Store _ _ _ _ _ _ _ c.from_residual-in_err-write_links.result c.from_residual-in_err-write_links.ensures.1 (λ all t. ((t.0, t.1), t.2)) (takes_then g.S.Store _ _ _ _ _ _ _ _ _ (survives_both _ _ _ c.write_rows.ensures.survives c.write_pairs.ensures.survives) c.write_links.ensures.survives (takes_then g.S.Store _ _ _ _ _ _ _ _ _ c.write_rows.ensures.survives c.write_pairs.ensures.survives c.in_ok-write_rows.ensures.takes c.in_ok-write_pairs.ensures.takes) c.in_err-write_links.ensures.takes);
+}
+
+pub returns-in_err-write_new_meta : goal.returns-in_err-write_new_meta
+returns-in_err-write_new_meta g c = record {
+  same_reference = search rules;
+  ok = search rules;
+  kept = search rules;
+  survives = search rules;
+  takes =
+      takes_no_more g.S.Store _ _ _ _ _ _ _ c.from_residual-in_err-write_new_meta.result c.from_residual-in_err-write_new_meta.ensures.1 (λ all t. (((t.0, t.1), t.2), t.3)) (takes_then g.S.Store _ _ _ _ _ _ _ _ _ (survives_both _ _ _ (survives_both _ _ _ c.write_rows.ensures.survives c.write_pairs.ensures.survives) c.write_links.ensures.survives) c.write_new_meta.ensures.survives (takes_then g.S.Store _ _ _ _ _ _ _ _ _ (survives_both _ _ _ c.write_rows.ensures.survives c.write_pairs.ensures.survives) c.write_links.ensures.survives (takes_then g.S.Store _ _ _ _ _ _ _ _ _ c.write_rows.ensures.survives c.write_pairs.ensures.survives c.in_ok-write_rows.ensures.takes c.in_ok-write_pairs.ensures.takes) c.in_ok-write_links.ensures.takes) c.in_err-write_new_meta.ensures.takes);
 }

@@ -9,9 +9,9 @@ use Rattle.occurrences.specs.declared.status.Status.TheVariants.{C}
 use Rattle.planner_machine.specs.Shown.{CurrentPlan, InDeletions, InHistory, LongTermPlan}
 use Rattle.keyed_lists.specs.Rows.{of_current, of_deletion, of_row}
 use Rattle.plan_store.specs.Contents.{content_of}
-use Rattle.plan_store.specs.Listed.{ShowsSet}
-use Rattle.plan_store.specs.Listings.{ShowRows}
-use Rattle.plan_store.proofs.ShownLemmas.{lists_links, pairs_all, pairs_part, shows_cp, shows_deletions, shows_history}
+use Rattle.plan_store.specs.Listed.{ShowsSet, links_at}
+use Rattle.plan_store.specs.Listings.{ShowLinks, ShowPairs, ShowRows, in_force_shown, link_shown}
+use Rattle.plan_store.proofs.ShownLemmas.{lists_links, shown_all, shown_part, shows_cp, shows_deletions, shows_history}
 use Rattle.plan_store.proofs.ShownLemmas.{shows_ltp, whole_all, whole_part}
 use Rattle.plan_store.proofs.contents.Content.rows_to.Goals as goal
 
@@ -103,14 +103,38 @@ pub returns-in-Dependencies-clause-all : goal.returns-in-Dependencies-clause-all
 returns-in-Dependencies-clause-all g c numbered =
     let kept = c.args.self.now in
     let app = option_copied c.args.app in
-    rw c.in-Dependencies.is (pairs_all g.K.RowSink.takes g.K.RowSink.refuses c.args.sink.now c.hand_pairs.new.sink
-    (content_of kept) app (lists_links (content_of kept) app numbered c.hand_pairs.ensures.rising)
-    c.hand_pairs.result (c.hand_pairs.ensures.all numbered))
+    let links = links_at (content_of kept).sets app kept.pairs in
+    rw c.in-Dependencies.is (shown_all g.K.RowSink.takes g.K.RowSink.refuses c.args.sink.now c.hand_pairs.new.sink
+    link_shown links (ShowPairs app (content_of kept))
+    (links, lists_links (content_of kept) app numbered c.hand_pairs.ensures.rising, refl) c.hand_pairs.result
+    (c.hand_pairs.ensures.all numbered))
 
 pub returns-in-Dependencies-clause-part : goal.returns-in-Dependencies-clause-part
 returns-in-Dependencies-clause-part g c numbered =
     let kept = c.args.self.now in
     let app = option_copied c.args.app in
-    rw c.in-Dependencies.is (pairs_part g.K.RowSink.takes g.K.RowSink.refuses c.args.sink.now c.hand_pairs.new.sink
-    (content_of kept) app (lists_links (content_of kept) app numbered c.hand_pairs.ensures.rising)
-    c.hand_pairs.result (c.hand_pairs.ensures.part numbered))
+    let links = links_at (content_of kept).sets app kept.pairs in
+    rw c.in-Dependencies.is (shown_part g.K.RowSink.takes g.K.RowSink.refuses c.args.sink.now c.hand_pairs.new.sink
+    link_shown links (ShowPairs app (content_of kept))
+    (links, lists_links (content_of kept) app numbered c.hand_pairs.ensures.rising, refl) c.hand_pairs.result
+    (c.hand_pairs.ensures.part numbered))
+
+pub returns-in-Links-clause-all : goal.returns-in-Links-clause-all
+returns-in-Links-clause-all g c numbered =
+    let kept = c.args.self.now in
+    let app = option_copied c.args.app in
+    let links = c.lists_of.result.now in
+    rw c.in-Links.is (shown_all g.K.RowSink.takes g.K.RowSink.refuses c.args.sink.now c.hand_lists.new.sink
+    in_force_shown links (ShowLinks app (content_of kept))
+    (links, record { rising = c.lists_of.ensures.rising; exactly = c.lists_of.ensures.all }, refl)
+    c.hand_lists.result c.hand_lists.ensures.all)
+
+pub returns-in-Links-clause-part : goal.returns-in-Links-clause-part
+returns-in-Links-clause-part g c numbered =
+    let kept = c.args.self.now in
+    let app = option_copied c.args.app in
+    let links = c.lists_of.result.now in
+    rw c.in-Links.is (shown_part g.K.RowSink.takes g.K.RowSink.refuses c.args.sink.now c.hand_lists.new.sink
+    in_force_shown links (ShowLinks app (content_of kept))
+    (links, record { rising = c.lists_of.ensures.rising; exactly = c.lists_of.ensures.all }, refl)
+    c.hand_lists.result c.hand_lists.ensures.part)

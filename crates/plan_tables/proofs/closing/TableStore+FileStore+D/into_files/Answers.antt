@@ -13,6 +13,6 @@ returns-clause-goes_on g c clean =
     (c.into_store.ensures.sound clean) c.into_store.ensures.left
 
 pub returns-clause-found_again : goal.returns-clause-found_again
-returns-clause-found_again g c none clean =
+returns-clause-found_again g c none sure clean =
     found_again c.into_store.result (content_of c.args.self.lists) c.tables_have_one_content.ensures
-    (c.into_store.ensures.numbered clean) (c.into_store.ensures.sound clean) (c.into_store.ensures.tells none clean)
+    (c.into_store.ensures.numbered clean) (c.into_store.ensures.sound clean) (c.into_store.ensures.tells none sure clean)

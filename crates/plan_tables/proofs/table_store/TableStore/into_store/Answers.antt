@@ -2,6 +2,7 @@ use Rattle.std.proofs.Common.{arith}
 use Rattle.sqlite.specs.Held.{state}
 use Rattle.sqlite.specs.State.{HasCleanDisk}
 use Rattle.plan_store.specs.Contents.{content_of}
+use Rattle.plan_tables.proofs.CauseLemmas.{certain}
 use Rattle.plan_tables.proofs.FoundLemmas.{tells_kept, told_left}
 use Rattle.plan_tables.proofs.table_store.TableStore.into_store.Goals as goal
 
@@ -13,10 +14,10 @@ returns-clause-plans g c clean db left =
     c.args.self.told before db (c.into_store.ensures.quiet.outcomes db left)
 
 pub returns-clause-tells : goal.returns-clause-tells
-returns-clause-tells g c none clean db left =
+returns-clause-tells g c none sure clean db left =
     let before : HasCleanDisk (state g.S.Store c.into_connection-conn.result) = omega
     (arith, c.into_store.ensures.quiet.clean, clean) in
     tells_kept g.S.Store g.met.S.Store.settled c.args.self.conn c.into_connection-conn.result
     (content_of c.args.self.lists) c.args.self.failures c.into_connection-conn.ensures
-    none c.args.self.stored before c.schema-schema.ensures.live db
+    none (certain c.args.self.in_doubt sure c.args.self.stored) before c.schema-schema.ensures.live db
     (c.into_store.ensures.quiet.outcomes db left)

@@ -1,9 +1,11 @@
-use Rattle.std.proofs.Common.{inl, inr}
+use Rattle.std.proofs.Common.{◌≡◌, ap, arith, inl, inr, subst}
 use Rattle.sqlite.specs.Held.{state}
 use Rattle.sqlite.specs.State.{HasCleanDisk}
 use Rattle.planner_machine.specs.Content.{Content}
+use Rattle.plan_store.specs.Changes.{after}
 use Rattle.plan_store.specs.Contents.{content_of}
 use Rattle.plan_tables.specs.Stored.{MayLeave}
+use Rattle.plan_tables.proofs.CauseLemmas.{can_still, caused_since, left_still, told_shut}
 use Rattle.plan_tables.proofs.StoredLemmas.{settled_so}
 use Rattle.plan_tables.proofs.ToldLemmas.{told_by_tables}
 use Rattle.plan_tables.proofs.table_store.TableStorePlanStore.apply.Goals as goal
@@ -24,7 +26,36 @@ returns-clause-settled g c honest =
 
 pub returns-clause-crash : goal.returns-clause-crash
 returns-clause-crash g c honest d (clean, may) =
+    let old = state g.S.Store c.args.self.now.conn in
+    let mid = state g.S.Store c.make_sure.new.self.conn in
+    let calm = c.change_so.ensures.honest clean in
     elim (c.change_so.ensures.crash clean d may) [
-      | inl was ↦ inl (c.change_so.ensures.honest clean, was)
-      | inr made ↦ inr (inr made)
+      | inl was ↦ inl (
+        omega (arith, c.make_sure.ensures.survives.clean, calm),
+        left_still old mid d c.make_sure.ensures.survives calm was,
+      )
+      | inr made ↦ inr (inr (subst (λ l. d ≡ after c.args.change (content_of l)) c.make_sure.ensures.lists made))
     ]
+
+pub returns-clause-caused : goal.returns-clause-caused
+returns-clause-caused g c none clean can =
+    let old = state g.S.Store c.args.self.now.conn in
+    let mid = state g.S.Store c.make_sure.new.self.conn in
+    let calm = c.change_so.ensures.honest clean in
+    caused_since c.change_so.result old mid (state g.S.Store c.change_so.new.self.conn) c.make_sure.ensures.survives
+    (c.change_so.ensures.caused clean (can_still old mid (content_of c.args.self.now.lists)
+    (content_of c.make_sure.new.self.lists) c.args.change (c.in_ok-make_sure.ensures.same calm)
+    (ap content_of c.make_sure.ensures.lists) can))
+
+pub returns-in_err-make_sure-clause-crash : goal.returns-in_err-make_sure-clause-crash
+returns-in_err-make_sure-clause-crash g c honest d (clean, may) = inl (
+  omega (arith, c.make_sure.ensures.survives.clean, clean),
+  left_still (state g.S.Store c.args.self.now.conn) (state g.S.Store c.make_sure.new.self.conn) d
+      c.make_sure.ensures.survives clean may,
+)
+
+pub returns-in_err-make_sure-clause-caused : goal.returns-in_err-make_sure-clause-caused
+returns-in_err-make_sure-clause-caused g c none clean can =
+    told_shut c.from_residual-in_err-make_sure.result c.in_err-make_sure.field-0.0
+    (state g.S.Store c.args.self.now.conn) (state g.S.Store c.make_sure.new.self.conn)
+    c.from_residual-in_err-make_sure.ensures.1 (c.in_err-make_sure.ensures.shut clean)

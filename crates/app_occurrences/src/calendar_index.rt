@@ -1,0 +1,105 @@
+// The index of work days of one calendar, beside what that calendar lists.
+
+ghost use Rattle.std.specs.Prelude.{◌≡◌, ◌↔◌, ℕ, IfOk, IsTrue, length};
+ghost use Rattle.std.specs.FinMap as map;
+ghost use Rattle.work_calendars.specs.Calendar.{is_work_day};
+ghost use Rattle.work_calendars.specs.WorkIndex.{is_work_in};
+ghost use Rattle.app_occurrences.specs.CalendarIndex.{IsIndexOf};
+ghost use Rattle.app_occurrences.specs.NamedOccurrences.{work_in};
+
+use app_definitions::Definitions;
+use std::alloc::{AllocError, Global};
+use std::marker::Model;
+use work_calendars::{Calendar, Day, DayStatus, Name, Weekday, WorkIndex};
+
+/// The index of the work days of one calendar, beside what that calendar lists, so that it serves as long as the same
+/// is listed. Contracts see the statuses of the days.
+#[derive(Drop)]
+pub struct CalendarIndex {
+    // what is listed for each weekday from Monday on
+    weekdays: [Option<DayStatus>; 7],
+    // the listed dates
+    dates: Vec<(Day, DayStatus)>,
+    index: WorkIndex,
+}
+
+impl Model for CalendarIndex {
+    ghost use Rattle.std.specs.Prelude.{Bool, List};
+    ghost use Rattle.app_occurrences.specs.CalendarIndex.{IsIndexOf};
+
+    ghost Value = { List Bool };
+
+    ghost view = { λ c. c.index };
+
+    ghost invariant = { λ c. IsIndexOf c.weekdays c.dates.items c.index };
+}
+
+impl CalendarIndex {
+    /// The index of the calendar of that name: the one that is kept, where the calendar lists what that one's did, or
+    /// one that is built.
+    pub fn of(
+        alloc: Global,
+        kept: Option<CalendarIndex>,
+        all: &Definitions,
+        name: &Name,
+    ) -> Result<CalendarIndex, AllocError>
+        ensures { IfOk result (λ index. (d : ℕ) → is_work_in index d ≡ work_in all.now name.now d) }
+    {
+        match all.calendars.get(name) {
+            Some(calendar) => index_of(alloc, kept, calendar),
+            None => index_of(alloc, kept, &Calendar::new(alloc)),
+        }
+    }
+
+    /// The index itself.
+    pub fn index(&self) -> &WorkIndex
+        ensures { result.now ≡ self.now }
+    {
+        &self.index
+    }
+
+    // Whether its calendar listed these weekdays and dates.
+    fn is_of(&self, weekdays: &[Option<DayStatus>; 7], dates: &[(Day, DayStatus)]) -> bool
+        ensures { IsTrue result → IsIndexOf weekdays.now dates.now self.now }
+    {
+        self.weekdays == *weekdays && self.dates.as_slice() == dates
+    }
+}
+
+// The kept index, where it is that of a calendar which lists the same, or one that is built.
+fn index_of(
+    alloc: Global,
+    kept: Option<CalendarIndex>,
+    calendar: &Calendar,
+) -> Result<CalendarIndex, AllocError>
+    ensures { IfOk result (λ index. (d : ℕ) → is_work_in index d ≡ is_work_day calendar.now d) }
+{
+    let weekdays = weekdays_of(calendar);
+    let dates = calendar.dates(alloc)?;
+    if let Some(kept) = kept
+        && kept.is_of(&weekdays, &dates)
+    {
+        return Ok(kept);
+    }
+    let index = WorkIndex::build(alloc, calendar)?;
+    Ok(CalendarIndex {
+        weekdays,
+        dates,
+        index,
+    })
+}
+
+// What is listed for each weekday, from Monday on.
+fn weekdays_of(calendar: &Calendar) -> [Option<DayStatus>; 7]
+    ensures { length calendar.now.weekdays ≡ 7 → result ≡ calendar.now.weekdays }
+{
+    [
+        calendar.weekday_status(Weekday::Monday),
+        calendar.weekday_status(Weekday::Tuesday),
+        calendar.weekday_status(Weekday::Wednesday),
+        calendar.weekday_status(Weekday::Thursday),
+        calendar.weekday_status(Weekday::Friday),
+        calendar.weekday_status(Weekday::Saturday),
+        calendar.weekday_status(Weekday::Sunday),
+    ]
+}

@@ -1,0 +1,177 @@
+-- Why a change is not made.
+use Rattle.std.proofs.Common.{◌≡◌, ◌⊎◌, ◌∙◌, ℕ, Bool, List, [], true, false, inl, inr, ap, subst, sym, true≢false, arith, IsSome, IsTrue, None, Some, Result, Ok, Err}
+use Rattle.std.proofs.Math.Logic.{∥∥₁_map}
+use Rattle.sqlite.specs.Order.{Row as Values}
+use Rattle.std.specs.Prelude.{IfErr, IsErrAnd}
+use Rattle.sqlite.specs.Effect.{Database}
+use Rattle.sqlite.specs.State.{HasCause, HasCleanDisk, IsNoStatement, IsNotRun, IsRolledBack, IsUnchanged, State, Survives, store_error}
+use Rattle.sqlite.specs.Tree.{Trees}
+use Rattle.sqlite.specs.declared.error.Error.{Error}
+use Rattle.sqlite_disk.specs.Disk.{MoreFaults}
+use Rattle.sqlite_trees.specs.declared.error.StoreError.{StoreError}
+use Rattle.sqlite_trees.specs.declared.error.StoreError.TheVariants.{OutOfMemory, Io, Corrupt, Full, Broken, Unstorable}
+use Rattle.planner_machine.specs.Content.{Content}
+use Rattle.plan_store.specs.declared.stores.StoreFault.{StoreFault}
+use Rattle.plan_store.specs.declared.stores.StoreFault.TheVariants.{Device, Memory}
+use Rattle.table_opening.specs.Opened.{IsStored}
+use Rattle.table_schema.specs.Rows.{MayFail, Tables, tables_of}
+use Rattle.table_schema.specs.Takes.{HasOwnIndexes}
+use Rattle.table_writing.specs.Taking.{TakesChange}
+use Rattle.table_writing.specs.declared.redefining.DefinitionMoves.{DefinitionMoves}
+use Rattle.plan_store.specs.Changes.{redefined}
+use Rattle.plan_store.specs.Room.{with_definitions, with_pairs_of}
+use Rattle.plan_store.specs.declared.changes.Change.{Change}
+use Rattle.plan_store.specs.declared.changes.DefinitionChange.TheVariants.{AsBefore}
+use Rattle.plan_tables.specs.Causes.{AreTaken, CanTake, fault_in, HasFailed}
+use Rattle.plan_tables.specs.Stored.{LeavesSound, MayLeave}
+use Rattle.plan_tables.proofs.StoredLemmas.{stored_still}
+
+-- ---- it is asked whether a connection is open
+
+-- what SQL refuses is neither
+refused : (s : State) (sql : List ℕ) (params : Values) (e : Error) → IsNoStatement s sql params e → fault_in e ≡ None
+refused s sql params e (inl (fault, is, at)) = ap fault_in at
+refused s sql params e (inr (c, is, inl (long, at))) = ap fault_in at
+refused s sql params e (inr (c, is, inr (inl (given, at)))) = ap fault_in at
+refused s sql params e (inr (c, is, inr (inr (formats, at)))) = ap fault_in at
+
+module _ (old new : State) where
+  neither : (cause : StoreError) → fault_in (store_error cause) ≡ None → HasCause old new ⊥ cause → ⊥
+  neither OutOfMemory is has = cc is
+  neither Io is has = cc is
+  neither Corrupt is has = cc is
+  neither Full is has = cc is
+  neither Broken is has = cc is
+  neither Unstorable is has = has
+
+  pub device : (cause : StoreError) → fault_in (store_error cause) ≡ Some Device → HasCause old new ⊥ cause
+      → MoreFaults old.faults new.faults ⊎ (old.is_open ≡ false)
+  device OutOfMemory is has = absurd (let none : ⊥ = cc is in none)
+  device Io is has = inl has
+  device Corrupt is has = inl has
+  device Full is has = inl has
+  device Broken is has = inr has
+  device Unstorable is has = absurd has
+
+  pub asked_open : (sql : List ℕ) (e : Error) → IsNotRun old new sql [] e → fault_in e ≡ None → IsUnchanged old new
+  unfolding IsNotRun
+  asked_open sql e (inl (none, same)) is = same
+  asked_open sql e (inr (cause, at, has, back, more)) is =
+      absurd (neither cause (subst (λ x. fault_in x ≡ None) at is) has)
+
+  pub asked_memory : (sql : List ℕ) (e : Error) → IsNotRun old new sql [] e → fault_in e ≡ Some Memory
+      → IsRolledBack old new
+  unfolding IsNotRun
+  asked_memory sql e (inl (none, same)) is =
+      absurd (let no : None ≡ Some Memory = sym (refused old sql [] e none) ∙ is in let h : ⊥ = cc no in h)
+  asked_memory sql e (inr (cause, at, has, back, more)) is = back
+
+  pub asked_shut : (sql : List ℕ) (e : Error) → IsNotRun old new sql [] e → fault_in e ≡ Some Device
+      → MoreFaults old.faults new.faults ⊎ (old.is_open ≡ false)
+  unfolding IsNotRun
+  asked_shut sql e (inl (none, same)) is =
+      absurd (let no : None ≡ Some Device = sym (refused old sql [] e none) ∙ is in let h : ⊥ = cc no in h)
+  asked_shut sql e (inr (cause, at, has, back, more)) is =
+      device cause (subst (λ x. fault_in x ≡ Some Device) at is) has
+
+-- ---- what is kept
+
+-- a content is kept where a call undid what was not committed, if the connection is open
+pub stored_back : (old mid new : State) (c : Content) → IsStored old c
+    → (IsTrue mid.is_open → (mid.now ≡ old.now) × (mid.committed ≡ old.committed)) → IsRolledBack mid new
+    → IsTrue new.is_open → IsStored new c
+stored_back old mid new c is kept back opens =
+    let same = kept (back.was_open opens) in
+    let undone = back.undone opens in
+    stored_still old new c is opens (undone.0 ∙ same.1 ∙ sym is.settled) (undone.1 ∙ same.1)
+
+-- a doubt that is not there asks nothing
+pub certain : {A B O C : Type 0} (doubt : Bool) → doubt ≡ false → ∥ (A → B → (IsTrue doubt → O) → C) ∥₁
+    → ∥ (A → B → C) ∥₁
+certain doubt sure h = ∥∥₁_map h (λ f a b. f a b (λ is. absurd (true≢false (sym is ∙ sure))))
+
+-- what a crash leaves of a connection that was asked is what it left before
+pub sound_still : (old new : State) → ∥ (HasCleanDisk old → LeavesSound old) ∥₁ → Survives old new (λ _. ⊥)
+    → ∥ (HasCleanDisk new → LeavesSound new) ∥₁
+sound_still old new told survives = ∥∥₁_map told (λ h clean db left. elim (survives.crash clean db left) [
+  | inl earlier ↦ h (omega (arith, survives.clean, clean)) db earlier
+  | inr none ↦ absurd none
+])
+
+-- ---- why a change is not made
+
+-- of a call that fails for the common causes alone, the device is told only where it failed, or a limit on steps is set
+pub failed_so : (old mid new : State) (e : Error) (P Q : Trees → Type 0) → IsTrue old.is_open → HasCleanDisk mid
+    → Survives old mid P → Survives mid new Q → MayFail old mid e
+    → (fault_in e ≡ Some Memory → ⊥) ⊎ MoreFaults mid.faults new.faults ⊎ (mid.is_open ≡ false) → HasFailed old new
+failed_so old mid new e P Q opens calm one two (inr h) why = inr h.1
+failed_so old mid new e P Q opens calm one two (inl (cause, is, has)) why = go cause is has
+  where
+    later : MoreFaults old.faults mid.faults → MoreFaults old.faults new.faults
+    later more = omega (arith, two.counts, more)
+
+    asked : (fault_in e ≡ Some Memory → ⊥) ⊎ MoreFaults mid.faults new.faults ⊎ (mid.is_open ≡ false)
+        → fault_in e ≡ Some Memory → MoreFaults old.faults new.faults
+    asked (inl other) is = absurd (other is)
+    asked (inr (inl more)) is = omega (arith, one.counts, more)
+    asked (inr (inr shut)) is = elim (one.closes calm opens) [
+      | inl still ↦ absurd (true≢false (sym still ∙ shut))
+      | inr more ↦ later more
+    ]
+
+    go : (cause : StoreError) → e ≡ store_error cause → HasCause old mid ⊥ cause → HasFailed old new
+    go OutOfMemory is has = inl (asked why (ap fault_in is))
+    go Io is has = inl (later has)
+    go Corrupt is has = inl (later has)
+    go Full is has = inl (later has)
+    go Broken is has = absurd (true≢false (sym opens ∙ has))
+    go Unstorable is has = absurd has
+
+-- so it is of what is left of the change, once the definitions are changed and the pairs are out of the lists
+pub taken_rest : (c : Content) (change : Change) (moves : DefinitionMoves) (left : Change)
+    → left ≡ record change { definitions = AsBefore } → (d : Content)
+    → d ≡ with_definitions (redefined change.definitions c.definitions) (with_pairs_of [] c) → (all : Tables)
+    → TakesChange (with_definitions (redefined change.definitions c.definitions) c) moves change all
+    → TakesChange d moves left all
+taken_rest c change moves left is_rest d is all takes =
+    subst (λ (k : Change). TakesChange d moves k all) (sym is_rest)
+    (subst (λ (k : Content). TakesChange k moves (record change { definitions = AsBefore }) all) (sym is) takes)
+
+-- ---- a store that asks before it changes
+
+-- what a crash leaves after it was asked it left before
+pub left_still : (old mid : State) (c : Content) → Survives old mid (λ _. ⊥) → HasCleanDisk mid → MayLeave mid c
+    → MayLeave old c
+left_still old mid c survives clean (db, left, is) = (
+  db,
+  elim (survives.crash clean db left) [ inl was ↦ was | inr none ↦ absurd none ],
+  is,
+)
+
+pub can_still : (old mid : State) (c d : Content) (change : Change) → mid.now ≡ old.now → d ≡ c → CanTake old c change
+    → CanTake mid d change
+can_still old mid c d change now is can =
+    subst (λ (k : Content). CanTake mid k change) (sym is)
+    (subst (λ (db : Database). HasOwnIndexes db.schema × AreTaken c change (tables_of db.trees)) (sym now) can)
+
+-- why it failed since it was asked is why it failed since before
+pub caused_since : {T : Type 0} (r : Result T StoreFault) (old mid new : State) → Survives old mid (λ _. ⊥)
+    → IfErr r (λ fault. fault ≡ Device → ∥ HasFailed mid new ∥₁)
+    → IfErr r (λ fault. fault ≡ Device → ∥ HasFailed old new ⊎ (old.is_open ≡ false) ∥₁)
+caused_since (Ok v) old mid new survives h = tt
+caused_since (Err fault) old mid new survives h = λ is. ∥∥₁_map (h is) since
+  where
+    since : HasFailed mid new → HasFailed old new ⊎ (old.is_open ≡ false)
+    since (inl more) = inl (inl (omega (arith, survives.counts, more)))
+    since (inr limit) = inl (inr (subst IsSome survives.limit limit))
+
+-- where it was shut when it was asked
+pub told_shut : {T : Type 0} (r : Result T StoreFault) (e : StoreFault) (old new : State) → IsErrAnd r (λ told. told ≡ e)
+    → (e ≡ Device → MoreFaults old.faults new.faults ⊎ (old.is_open ≡ false))
+    → IfErr r (λ fault. fault ≡ Device → ∥ HasFailed old new ⊎ (old.is_open ≡ false) ∥₁)
+told_shut (Ok v) e old new is h = tt
+told_shut (Err told) e old new is h = λ device. ∣ (go (h (sym is ∙ device))) ∣₁
+  where
+    go : MoreFaults old.faults new.faults ⊎ (old.is_open ≡ false) → HasFailed old new ⊎ (old.is_open ≡ false)
+    go (inl more) = inl (inl more)
+    go (inr shut) = inr shut

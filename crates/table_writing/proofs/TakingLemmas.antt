@@ -1,0 +1,159 @@
+-- What statements in turn take, and why they fail.
+use Rattle.std.proofs.Common.{◌≡◌, ◌≤◌, ◌<◌, ◌+◌, ◌∙◌, ℕ, suc, Bool, true, false, inl, inr, List, [], ◌∷◌, length, drop, fold}
+use Rattle.std.proofs.Common.{get_or, drop-cons, add-one, refl, sym, ap, subst, arith, true≢false, IsSome, IsTrue, Result, Ok, Err}
+use Rattle.std.specs.Prelude.{IfErr, IsErrAnd, OnOk}
+use Rattle.sqlite.specs.Order.{Row as Values}
+use Rattle.sqlite.specs.Effect.{Database}
+use Rattle.sqlite.specs.Held.{Held, state}
+use Rattle.sqlite.specs.State.{HasCause, HasCleanDisk, IsLive, State, Survives}
+use Rattle.sqlite.specs.Steps.{FailsToCommit}
+use Rattle.sqlite.specs.Store.{Ghosts}
+use Rattle.sqlite.specs.declared.error.Error.{Error}
+use Rattle.sqlite.specs.declared.transaction.Transaction.{Transaction}
+use Rattle.sqlite_trees.specs.declared.error.StoreError.{StoreError}
+use Rattle.sqlite_trees.specs.declared.error.StoreError.TheVariants.{OutOfMemory, Io, Corrupt, Full, Broken, Unstorable}
+use Rattle.table_schema.specs.Rows.{HaveRowids, IsPlan, MayFail, Tables, tables_of, with_cells}
+use Rattle.table_schema.specs.Schema.{HasTables}
+use Rattle.table_schema.specs.Takes.{HasOwnIndexes, IsSoundPlan, TakesRow}
+use Rattle.table_schema.specs.Writes.{TakesWhere, seen}
+use Rattle.table_schema.specs.declared.tables.Table.{Table}
+use Rattle.table_writing.specs.Taking.{TakesEach}
+
+-- what causes a failure after a statement caused it since that statement began
+pub may_since : (a b c : State) (e : Error) → a.faults ≤ b.faults → (IsTrue a.is_open → IsTrue b.is_open)
+    → b.step_limit ≡ a.step_limit → MayFail b c e → MayFail a c e
+may_since a b c e more stays limit (inl h) = inl (h.0, h.1, go h.0 h.2)
+  where
+    shut : (o : Bool) → a.is_open ≡ o → b.is_open ≡ false → a.is_open ≡ false
+    shut true is h = absurd (true≢false (sym (stays is) ∙ h))
+    shut false is h = is
+
+    go : (cause : StoreError) → HasCause b c ⊥ cause → HasCause a c ⊥ cause
+    go OutOfMemory h = tt
+    go Io h = omega (arith, more, h)
+    go Corrupt h = omega (arith, more, h)
+    go Full h = omega (arith, more, h)
+    go Broken h = shut a.is_open refl h
+    go Unstorable h = h
+may_since a b c e more stays limit (inr h) = inr (h.0, subst IsSome limit h.1)
+
+if_errs : {T : Type 0} (r : Result T Error) (P Q : Error → Type 0) → ((e : Error) → P e → Q e) → IfErr r P → IfErr r Q
+if_errs (Ok v) P Q f h = tt
+if_errs (Err e) P Q f h = f e h
+
+on_oks : {T : Type 0} (r : Result T Error) (P Q : Type 0) → (P → Q) → OnOk r P → OnOk r Q
+on_oks (Ok v) P Q f h = f h
+on_oks (Err e) P Q f h = tt
+
+-- what is told is the error
+pub if_told : {T : Type 0} (r : Result T Error) (old new : State) (e : Error) → IsErrAnd r (λ told. told ≡ e)
+    → MayFail old new e → IfErr r (MayFail old new)
+if_told (Ok v) old new e is h = absurd is
+if_told (Err told) old new e is h = subst (MayFail old new) (sym is) h
+
+-- a plan that is sound, and open where it was, whose tables are these
+abbrev pub Leaves : State → State → Tables → Type 0
+Leaves old new rows =
+    IsSoundPlan new × (IsTrue old.is_open → IsTrue new.is_open) × (tables_of new.now.trees ≡ rows)
+
+pub leaves_then : (a b c : State) (rows : Tables) (f : Tables → Tables) → Leaves a b rows
+    → Leaves b c (f (tables_of b.now.trees)) → Leaves a c (f rows)
+leaves_then a b c rows f one two = (two.0, (λ o. two.1 (one.1 o)), two.2 ∙ ap f one.2)
+
+module _ {S : Type 0} (g : Ghosts S) where
+  -- where less is asked
+  pub takes_weaker : {T : Type 0} (A B : Tables → Type 0) (f : Tables → Tables) (old new : Transaction S)
+      (r : Result T Error) → ((all : Tables) → B all → A all) → TakesWhere A g old new r f → TakesWhere B g old new r f
+  takes_weaker A B f old new r from it = record {
+    fails = λ clean sound takes. it.fails clean sound (from _ takes);
+    sound = λ clean sound takes. it.sound clean sound (from _ takes);
+  }
+
+  -- after one that was made comes another
+  pub takes_then : {T U : Type 0} (A B : Tables → Type 0) (f h : Tables → Tables) (old mid new : Transaction S) (v : T)
+      (r : Result U Error) → Survives (seen g old) (seen g mid) (λ _. ⊥)
+      → Survives (seen g mid) (seen g new) (λ _. ⊥)
+      → TakesWhere {S = S} {T = T} A g old mid (Ok v) f → TakesWhere {S = S} {T = U} B g mid new r h
+      → TakesWhere {S = S} {T = U} (λ all. A all × B (f all)) g old new r (λ all. h (f all))
+  takes_then A B f h old mid new v r one two first second = record {
+    fails = λ clean sound takes.
+        let it = first.sound (omega (arith, two.clean)) sound takes.0 in
+        if_errs r (MayFail (seen g mid) (seen g new)) (MayFail (seen g old) (seen g new))
+        (λ e. may_since (seen g old) (seen g mid) (seen g new) e one.counts it.1 one.limit)
+        (second.fails clean it.0 (subst B (sym it.2) takes.1));
+    sound = λ clean sound takes.
+        let it = first.sound (omega (arith, two.clean)) sound takes.0 in
+        on_oks r _ _ (leaves_then (seen g old) (seen g mid) (seen g new) _ h it)
+        (second.sound clean it.0 (subst B (sym it.2) takes.1));
+  }
+
+  -- where one is not made, the whole is not
+  pub takes_no_more : {T U : Type 0} (A B : Tables → Type 0) (f h : Tables → Tables) (old new : Transaction S)
+      (e : Error) (r : Result U Error) → IsErrAnd r (λ told. told ≡ e) → ((all : Tables) → B all → A all)
+      → TakesWhere {S = S} {T = T} A g old new (Err e) f → TakesWhere {S = S} {T = U} B g old new r h
+  takes_no_more A B f h old new e (Ok v) is from it = absurd is
+  takes_no_more A B f h old new e (Err told) is from it = record {
+    fails = λ clean sound takes. subst (MayFail (seen g old) (seen g new)) (sym is) (it.fails clean sound (from _ takes));
+    sound = λ clean sound takes. tt;
+  }
+
+  -- nothing is done
+  pub takes_nothing : {T : Type 0} (A : Tables → Type 0) (tx : Transaction S) (v : T)
+      → TakesWhere {S = S} {T = T} A g tx tx (Ok v) (λ all. all)
+  takes_nothing A tx v = record { fails = λ clean sound takes. tt; sound = λ clean sound takes. (sound, (λ o. o), refl) }
+
+-- ---- loops
+
+cut_at : {A : Type 0} (items : List A) (i : ℕ) (item : A) → i < length items → item ≡ get_or items i item
+    → drop i items ≡ item ∷ drop (i + 1) items
+cut_at items i item low is =
+    rw add-one (drop-cons items i item low ∙ ap (λ x. x ∷ drop (suc i) items) (sym is))
+
+-- the next item is taken, and then the rest
+pub each_on : {A : Type 0} (t : Table) (values_of : A → Values) (items : List A) (i : ℕ) (item : A) (all : Tables)
+    → i < length items → item ≡ get_or items i item → TakesEach t values_of (drop i items) all
+    → TakesRow t (values_of item) all × TakesEach t values_of (drop (i + 1) items) (with_cells t (values_of item) all)
+each_on t values_of items i item all low is h =
+    subst (λ xs. TakesEach t values_of xs all) (cut_at items i item low is) h
+
+-- ---- a transaction
+
+-- what caused a failure causes it still, however many faults follow
+pub may_until : (a b c : State) (e : Error) → b.faults ≤ c.faults → MayFail a b e → MayFail a c e
+may_until a b c e more (inl h) = inl (h.0, h.1, go h.0 h.2)
+  where
+    go : (cause : StoreError) → HasCause a b ⊥ cause → HasCause a c ⊥ cause
+    go OutOfMemory h = tt
+    go Io h = omega (arith, more, h)
+    go Corrupt h = omega (arith, more, h)
+    go Full h = omega (arith, more, h)
+    go Broken h = h
+    go Unstorable h = h
+may_until a b c e more (inr h) = inr h
+
+-- a commit in a transaction fails for these alone
+pub commit_may : (old new : State) (e : Error) → IsTrue old.in_transaction → FailsToCommit old new e → MayFail old new e
+commit_may old new e mode (inl fails) = inl (fails.0, fails.1, fails.2)
+commit_may old new e mode (inr late) = absurd (let k : true ≡ false = sym mode ∙ late.1 in true≢false k)
+
+-- a transaction begins with a plan that is sound
+pub begins_sound : {S : Type 0} (g : Ghosts S) (held begun : Held S) → begun ≡ record held { in_transaction = true }
+    → IsLive (state g held) → IsPlan (state g held) → HasOwnIndexes (state g held).now.schema
+    → IsSoundPlan (state g begun)
+begins_sound g held begun is live plan own = subst (λ h. IsSoundPlan (state g h)) (sym is) (record {
+  plan = record { schema = plan.schema; rowids = plan.rowids };
+  own = own;
+  sound = λ o. (live o).0;
+  mode = refl;
+})
+
+-- what is committed is a plan with these rows
+pub plan_on : (mid new : State) (rows : Tables) → new.now ≡ mid.now → IsPlan mid → tables_of mid.now.trees ≡ rows
+    → IsPlan new × (tables_of new.now.trees ≡ rows)
+plan_on mid new rows is plan rows_are = (
+  record {
+    schema = subst (λ (db : Database). HasTables db.schema) (sym is) plan.schema;
+    rowids = subst (λ (db : Database). (t : Table) → HaveRowids (tables_of db.trees t)) (sym is) plan.rowids;
+  },
+  ap (λ (db : Database). tables_of db.trees) is ∙ rows_are,
+)
