@@ -1,33 +1,23 @@
 -- What a daily plan changes.
-use Rattle.std.specs.Prelude.{◌≡◌, ℕ, Bool, None, Option, Some, not}
+use Rattle.std.specs.Prelude.{ℕ, Bool, None, Option, Some, not}
 use Rattle.occurrences.specs.declared.place.CurrentRow.{CurrentRow}
 use Rattle.occurrences.specs.declared.reply.Reply.{Reply}
 use Rattle.planner_machine.specs.declared.content.Bounds.{Bounds}
 use Rattle.planner_machine.specs.Content.{Content}
 use Rattle.planner_machine.specs.DailyExtend.{ExtendsDaily}
-use Rattle.planner_machine.specs.DailyPlan.{is_uncompleted, moved}
+use Rattle.planner_machine.specs.DailyPlan.{is_uncompleted}
 use Rattle.planner_machine.specs.InForce.{PutsNone}
 use Rattle.planner_machine.specs.Plans.{ChangesPlans}
 use Rattle.plan_store.specs.Changes.{Fits, LeadsOn, after}
-use Rattle.plan_store.specs.Views.{shown}
 use Rattle.plan_store.specs.declared.changes.Change.{Change}
 use Rattle.plan_store.specs.declared.stores.Need.{Need}
 use Rattle.plan_store.specs.declared.stores.Need.TheVariants.{Daily, Definitions}
-use Rattle.plan_store.specs.declared.views.View.{View}
 
 -- what `dp-replan` has to see where the plans reach so far: what a daily plan to the plan end asks, and the definitions
 -- alone where nothing is planned
 abbrev pub replan_need : Option Bounds → Need
 replan_need (Some b) = Daily b.plan_end
 replan_need None = Definitions
-
--- the window has what a daily plan to t looks at: the definitions, how far the plans reach, at least the rows of the
--- long-term plan that arrive before t, and the current plan
-pub record HasDailyRows (t : ℕ) (view : View) (c : Content) : Type 0 where
-  pub definitions : (shown view).definitions ≡ c.definitions
-  pub bounds : (shown view).sets.bounds ≡ c.sets.bounds
-  pub ltp : (serial : ℕ) → moved t ((shown view).sets.ltp serial) ≡ moved t (c.sets.ltp serial)
-  pub cp : (shown view).sets.cp ≡ c.sets.cp
 
 -- a row of the current plan that a daily plan takes from it
 abbrev pub is_finished : CurrentRow → Bool

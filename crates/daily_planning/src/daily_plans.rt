@@ -7,9 +7,9 @@ ghost use Rattle.planner_machine.specs.DailyExtendBy.{dp_extend_by};
 ghost use Rattle.planner_machine.specs.Replan.{dp_replan};
 ghost use Rattle.planner_machine.specs.Sound.{IsSound};
 ghost use Rattle.plan_store.specs.Verdicts.{VerdictIs};
-ghost use Rattle.plan_store.specs.Views.{Shows};
+ghost use Rattle.plan_store.specs.Views.{Shows, ShowsAtLeast};
 ghost use Rattle.plan_store.specs.declared.stores.Need.TheVariants.{Daily, LongTerm};
-ghost use Rattle.daily_planning.specs.DailyPlans.{DoesDaily, HasDailyRows, is_finished, replan_need};
+ghost use Rattle.daily_planning.specs.DailyPlans.{DoesDaily, is_finished, replan_need};
 
 use crate::new_ends::new_end;
 use occurrences::{CurrentRow, Deletion, Reason, Refusal, Reply, Row, Status};
@@ -27,9 +27,9 @@ pub fn extend(alloc: Global, view: &View<'_>, to: Moment) -> Result<Verdict, All
     extend_to(alloc, view, to)
 }
 
-// The same over any window that has the rows of a daily plan to the moment.
+// The same over any window that shows at least what it asks.
 fn extend_to(alloc: Global, view: &View<'_>, to: Moment) -> Result<Verdict, AllocError>
-    ensures { IfOk result (λ verdict. (c : Content) → HasDailyRows to view.now c → IsSound c →
+    ensures { IfOk result (λ verdict. (c : Content) → ShowsAtLeast (Daily to) view.now c → IsSound c →
         VerdictIs (dp_extend to) c verdict) }
 {
     let Some(bounds) = view.bounds() else {
@@ -105,7 +105,7 @@ fn daily_plan(
     bounds: &Bounds,
     to: Moment,
 ) -> Result<(Change, Reply), AllocError>
-    ensures { IfOk result (λ done. (c : Content) → HasDailyRows to view.now c → IsSound c →
+    ensures { IfOk result (λ done. (c : Content) → ShowsAtLeast (Daily to) view.now c → IsSound c →
         c.sets.bounds ≡ Some bounds.now → DoesDaily to c done.0 done.1) }
 {
     let moved = view.ltp_before(alloc, to)?;

@@ -13,9 +13,11 @@ use Rattle.keyed_lists.specs.declared.seats.Seat.{Seat}
 use Rattle.keyed_lists.proofs.KeyLemmas.{contains_filter, filter_contains}
 use Rattle.occurrences.specs.declared.place.CurrentRow.{CurrentRow}
 use Rattle.plan_store.specs.Contents.{content_of}
-use Rattle.plan_store.specs.Views.{IsAny, ListsSet, Shows, named, row_serial, shown, with_plans_alone}
+use Rattle.plan_store.specs.Views.{IsAny, ListsSet, Shows, ShowsAtLeast, named, row_serial, shown}
+use Rattle.plan_store.specs.Views.{with_plans_alone}
 use Rattle.plan_store.specs.declared.contents.Content.{Content as Kept}
-use Rattle.plan_store.specs.declared.stores.Need.TheVariants.{Daily}
+use Rattle.plan_store.specs.declared.stores.Need.{Need}
+use Rattle.plan_store.specs.declared.stores.Need.TheVariants.{Daily, Definitions, Key, LongTerm}
 use Rattle.plan_store.specs.declared.views.View.{View}
 use Rattle.plan_store.proofs.ViewLemmas.{filter_rows, lists_part, look_filter}
 
@@ -102,12 +104,27 @@ module _ (t : ℕ) (s s' : ℕ → Option Row) (same : (serial : ℕ) → moved 
     );
   }
 
--- a window for a daily plan to t
-module _ (t : ℕ) (view : View) (c : Content) (shows : Shows (Daily t) view c) where
+-- what a need names of what it names is that
+named_twice : (need : Need) (c : Content) → named need (named need c) ≡ named need c
+named_twice Definitions c = refl
+named_twice (Key key) c = refl
+named_twice LongTerm c = refl
+named_twice (Daily t) c =
+    λ i. with_plans_alone (λ serial. kept_twice (arrives_before t) (c.sets.ltp serial) i) c.sets.cp c
+
+-- a window that shows what a need names shows at least that
+pub shows_at_least : (need : Need) (view : View) (c : Content) → Shows need view c → ShowsAtLeast need view c
+shows_at_least need view c shows = ap (named need) shows ∙ named_twice need c
+
+-- and one that shows all shows at least what any need names
+pub whole_at_least : (need : Need) (view : View) (c : Content) → shown view ≡ c → ShowsAtLeast need view c
+whole_at_least need view c shows = ap (named need) shows
+
+-- a window that shows at least what a daily plan to t asks
+module _ (t : ℕ) (view : View) (c : Content) (shows : ShowsAtLeast (Daily t) view c) where
   -- has the rows of the long-term plan that arrive before t
   pub daily_same : (serial : ℕ) → moved t ((shown view).sets.ltp serial) ≡ moved t (c.sets.ltp serial)
-  daily_same serial = ap (λ (x : Content). moved t (x.sets.ltp serial)) shows
-      ∙ kept_twice (arrives_before t) (c.sets.ltp serial)
+  daily_same serial = ap (λ (x : Content). x.sets.ltp serial) shows
 
   -- and all rows of the current plan
   pub daily_cp : (rows : List CurrentRow) → ListsSet of_current (shown view).sets.cp IsAny rows

@@ -71,6 +71,10 @@ named (need.Daily t) c = with_plans_alone (λ serial. moved t (c.sets.ltp serial
 abbrev pub Shows : Need → View → Content → Type 0
 Shows need view c = shown view ≡ named need c
 
+-- the window shows at least what the need names of the content: what the need names of what is shown
+abbrev pub ShowsAtLeast : Need → View → Content → Type 0
+ShowsAtLeast need view c = named need (shown view) ≡ named need c
+
 -- what a window for the need shows that is no part of a list was made ready
 abbrev pub IsFilled : Need → Kept → Type 0
 IsFilled need.Definitions kept = Unit {0}

@@ -1,15 +1,13 @@
-use Rattle.std.proofs.Common.{◌≡◌, ◌∙◌, ℕ, rules, arith, length, refl, sym, ap, subst, Option, Some}
+use Rattle.std.proofs.Common.{◌≡◌, ◌∙◌, rules, arith, length, refl, sym, ap, Some}
 use Rattle.planner_machine.specs.DailyPlan.{waiting}
-use Rattle.keyed_lists.specs.Rows.{of_current}
-use Rattle.occurrences.specs.declared.place.CurrentRow.{CurrentRow}
-use Rattle.plan_store.specs.Views.{IsAny, ListsSet, shown}
-use Rattle.plan_store.proofs.WindowLemmas.{early_lists}
+use Rattle.plan_store.specs.Views.{shown}
+use Rattle.plan_store.proofs.WindowLemmas.{daily_cp, daily_same, early_lists}
 use Rattle.plan_store.specs.declared.changes.Change.{Change}
 use Rattle.daily_planning.proofs.DailyLemmas.{daily_replied}
 use Rattle.daily_planning.proofs.daily_plans.daily_plan.Goals as goal
 
 pub returns : goal.returns
-returns c c' has sound is =
+returns c c' shows sound is =
     let t = c.args.to in
     let b = c.args.bounds.now in
     let none = c.none-change.result in
@@ -23,10 +21,10 @@ returns c c' has sound is =
     } in
     let rows = c.cp-rows.result.now in
     let moved = c.in_ok-moved.moved.items in
-    let moved_list = early_lists t (shown c.args.view.now).sets.ltp c'.sets.ltp has.ltp moved c.in_ok-moved.ensures in
-    let current = subst (λ (cp : ℕ → Option CurrentRow). ListsSet of_current cp IsAny rows) has.cp c.cp-rows.ensures.rows
-    in
-    daily_replied t b c' sound is moved rows moved_list current change
+    let view = c.args.view.now in
+    let moved_list = early_lists t (shown view).sets.ltp c'.sets.ltp (daily_same t view c' shows) moved
+    c.in_ok-moved.ensures in
+    daily_replied t b c' sound is moved rows moved_list (daily_cp t view c' shows rows c.cp-rows.ensures.rows) change
     (record {
       definitions = nothing.definitions;
       bounds = refl;

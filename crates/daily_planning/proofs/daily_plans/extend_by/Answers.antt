@@ -2,7 +2,8 @@ use Rattle.std.proofs.Common.{◌∙◌, sym}
 use Rattle.definition_records.proofs.ByNameLemmas.{IfOk-map}
 use Rattle.plan_store.specs.Views.{shown}
 use Rattle.daily_planning.proofs.DailyByLemmas.{no_end, to_end}
-use Rattle.daily_planning.proofs.DailyWindowLemmas.{whole_has}
+use Rattle.plan_store.specs.declared.stores.Need.TheVariants.{Daily}
+use Rattle.plan_store.proofs.WindowLemmas.{whole_at_least}
 use Rattle.daily_planning.proofs.daily_plans.extend_by.Goals as goal
 
 pub returns-in-Some-2 : goal.returns-in-Some-2
@@ -11,7 +12,7 @@ returns-in-Some-2 c =
     to_end (shown c.args.view.now) c' shows c.in-Some.bounds (sym c.bounds.ensures ∙ c.in-Some.is)
     c.definitions.result.now c.definitions.ensures c.args.days c.args.count c.daily_plans.ensures.by_days c.in-Some-2.to
     (rw c.in-Some-2.is at c.in_ok-to.ensures.some) verdict
-    (h c' (whole_has c.args.view.now c' c.in-Some-2.to shows) sound)) c.extend_to.ensures
+    (h c' (whole_at_least (Daily c.in-Some-2.to) c.args.view.now c' shows) sound)) c.extend_to.ensures
 
 pub returns-in-None : goal.returns-in-None
 returns-in-None c = λ c' shows sound.
