@@ -38,10 +38,12 @@ def read(kind, data):
     if kind == "options":
         return read_options(data.removeprefix(BYTE_ORDER_MARK))
     block, names, take = Block(kind), *record_fields.KINDS[kind]
-    seen = {}
+    fewest, seen = record_fields.FEWEST.get(kind, len(names)), {}
     for begin, line, fields in records(data.removeprefix(BYTE_ORDER_MARK)):
         block.records += 1
         try:
+            ask_count(block, names, fewest, fields)
+            fewest, names = len(fields), names[: len(fields)]
             take_record(block, names, take, seen, fields, line)
         except Wrong as why:
             value = fields[names.index(why.field)].decode("utf-8", "backslashreplace") if why.field else ""
@@ -50,12 +52,18 @@ def read(kind, data):
     return block
 
 
+def ask_count(block, names, fewest, fields):
+    """Asks that a record has as many fields as its kind has, and as the first record of the block."""
+    count, most = len(fields), len(names)
+    if fewest <= count <= most:
+        return
+    more, wanted = "more" if count > most else "fewer", f"{most}" if fewest == most else f"{fewest} or {most}"
+    of = "the first record" if block.kind in record_fields.FEWEST and block.records > 1 else block.kind
+    raise Wrong("", f"it has {count} field{'s' if count != 1 else ''}, {more} than the {wanted} of {of}: {', '.join(names)}")
+
+
 def take_record(block, names, take, seen, fields, line):
     """Puts what one record defines into its block."""
-    if len(fields) != len(names):
-        more = "more" if len(fields) > len(names) else "fewer"
-        raise Wrong("", f"it has {len(fields)} field{'s' if len(fields) != 1 else ''}, {more} than the {len(names)} of "
-                        f"{block.kind}: {', '.join(names)}")
     texts = record_fields.Texts(dict(zip(names, fields)))
     key = take(block.defined, texts, seen)
     seen.setdefault(key, block.records)

@@ -109,7 +109,8 @@ class WorkDays:
 
 @dataclasses.dataclass
 class Definitions:
-    """All definitions by name; run cycles by application and name, predecessors as sorted names by application."""
+    """All definitions by name; run cycles by application and name; predecessors by application and name, each with
+    the hours of its limit or None."""
 
     calendars: dict = dataclasses.field(default_factory=dict)
     periods: dict = dataclasses.field(default_factory=dict)
@@ -178,8 +179,9 @@ def read_run_cycles(plan, found):
 
 
 def lists_of(plan, table):
-    """The lists of predecessors of one table, `predecessor` or `link_in_force`: sorted names by application."""
-    lists = {}
-    for row in plan.db.execute(f"SELECT app, pred FROM {table} ORDER BY app, pred"):
-        lists.setdefault(row["app"], []).append(row["pred"])
+    """The lists of predecessors of one table, `predecessor` or `link_in_force`: by application and name, in order, the
+    hours of a limit or None."""
+    lists, within = {}, "within" if plan.meta["version"] > 1 else "NULL"
+    for row in plan.db.execute(f"SELECT app, pred, {within} AS hours FROM {table} ORDER BY app, pred"):
+        lists.setdefault(row["app"], {})[row["pred"]] = row["hours"]
     return lists

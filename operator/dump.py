@@ -65,6 +65,8 @@ def stream_of(plan, first_job=None):
 def kinds_of(plan):
     """Each kind that the plan defines something of: its name, how many names it has in words, and its blocks."""
     found = definitions.of_plan(plan)
+    limits = [within for listed in found.predecessors.values() for within in listed.values()]
+    predecessor_records = without_limits if limits.count(None) == len(limits) else with_limits
     for kind, names, records_of in (
         ("calendars", found.calendars, calendar_records),
         ("periods", found.periods, period_records),
@@ -129,5 +131,9 @@ def run_cycle_record(app, cycle):
     return ",".join([app, cycle.name, cycle.kind, cycle.period, cycle.rule, offsets, *days, time, *due])
 
 
-def predecessor_records(app, listed):
+def without_limits(app, listed):
     return [f"{app},{predecessor}" for predecessor in listed]
+
+
+def with_limits(app, listed):
+    return [f"{app},{predecessor},{'' if within is None else within}" for predecessor, within in listed.items()]

@@ -137,13 +137,14 @@ def predecessors(now):
     """Predecessors that aren't defined, and those that arrive later in the same night."""
     found, arrivals = [], {}
     for app, listed in sorted(now.defined.predecessors.items()):
-        for other in listed:
+        for other, within in listed.items():
             line = now.line_of("predecessors", app, other)
             if other not in now.defined.applications:
                 text = f"{app} waits for {other}, which isn't defined, and so for nothing"
                 found.append(Finding("unknown", (app, other), line, text))
             elif other != app:
-                text = later_text(app, other, arrivals_of(now, app, arrivals), arrivals_of(now, other, arrivals))
+                both = (arrivals_of(now, name, arrivals) for name in (app, other))
+                text = later_text(app, other, within, *both)
                 found += [Finding("later", (app, other), line, text)] if text else []
     return found
 
@@ -169,14 +170,17 @@ def window(now):
     return range(first, min(LAST_DAY, first + WINDOW))
 
 
-def later_text(app, other, arrivals, others):
-    """What is to be said where a predecessor arrives later in the same night, or nothing."""
+def later_text(app, other, within, arrivals, others):
+    """What is to be said where a predecessor arrives later in the same night, or nothing. One that arrives more hours
+    before than its limit isn't waited for."""
     slips, moments = [], [moment for moment, _ in others]
     for arrival, deadline in arrivals:
         place = bisect.bisect_right(moments, arrival)
         if place == len(moments) or moments[place] >= deadline or moments[place] - arrival > NIGHT:
             continue
         before = moments[place - 1] if place else None
+        if before is not None and within is not None and arrival - before > within * 60:
+            before = None
         if before is None or moments[place] - arrival < arrival - before:
             slips.append((before is None, arrival, before, moments[place]))
     if not slips:

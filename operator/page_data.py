@@ -53,7 +53,8 @@ def cycle_words(cycle):
 
 
 def definition_columns(defined, lists, names, first, last):
-    """Applications with calendar and run cycles, their lists, and each calendar's work days from first to last."""
+    """Applications with calendar and run cycles, their lists with limits, and each calendar's work days from first to
+    last."""
     number = {name: place for place, name in enumerate(names)}
 
     def calendar_of(name):
@@ -70,8 +71,9 @@ def definition_columns(defined, lists, names, first, last):
         calendar = defined.calendars.get(name)
         work = (calendar is None or calendar.is_work(day) for day in range(first, last + 1))
         shown.append([name, calendar is not None, "".join("01"[is_work] for is_work in work)])
-    followed = [[number.get(other, other) for other in lists.get(name, [])] for name in names]
-    return {"apps": apps, "calendars": shown, "lists": followed}
+    followed = [[number.get(other, other) for other in lists.get(name, {})] for name in names]
+    limits = [list(lists.get(name, {}).values()) for name in names]
+    return {"apps": apps, "calendars": shown, "lists": followed, "limits": limits}
 
 
 def of_model(plan, rows, model, defined, lists, now, first, last):

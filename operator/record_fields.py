@@ -174,8 +174,9 @@ def take_run_cycle(found, texts, seen):
 
 def take_predecessor(found, texts, seen):
     app, predecessor = texts.name("application"), texts.name("predecessor")
+    within = texts.number("within", 1, 9999) if texts.fields.get("within") else None
     again(f"{app} and {predecessor}", seen, (app, predecessor))
-    found.setdefault(app, []).append(predecessor)
+    found.setdefault(app, {})[predecessor] = within
     return app, predecessor
 
 
@@ -185,5 +186,7 @@ KINDS = {
     "periods": (("period", "type", "origin", "second"), take_period),
     "applications": (("application", "status", "calendar"), take_application),
     "run-cycles": (tuple(CYCLE.split(",")), take_run_cycle),
-    "predecessors": (("application", "predecessor"), take_predecessor),
+    "predecessors": (("application", "predecessor", "within"), take_predecessor),
 }
+# how many fields a record has at least, where that is fewer than all; all of a block have as many as its first one
+FEWEST = {"predecessors": 2}

@@ -18,7 +18,8 @@ def or_null(rule):
 DAY, MOMENT, MINUTE = between(730, 37254), between(730 * 1440, 37255 * 1440), between(0, 1439)
 YES_OR_NO, NUMBER, TEXT = between(0, 1), between(1, 999_999_999), "typeof({0}) = 'text'"
 ROW = {"serial": NUMBER, "app": TEXT, "ia": MOMENT, "deadline": MOMENT, "run_cycle": or_null(TEXT)}
-# of each table what holds of a column of a plan
+LINK = {"app": TEXT, "pred": TEXT, "within": or_null(between(1, 9999))}
+# of each table what holds of a column of a plan; tables of version 1 have no limits
 RULES = {
     "plan_meta": {
         "created": YES_OR_NO,
@@ -55,8 +56,8 @@ RULES = {
         "deadline_time": or_null(MINUTE),
     },
     "run_cycle_offset": {"app": TEXT, "name": TEXT, "k": f"({between(-1999, 1999)} AND {{0}} <> 0)"},
-    "predecessor": {"app": TEXT, "pred": TEXT},
-    "link_in_force": {"app": TEXT, "pred": TEXT},
+    "predecessor": LINK,
+    "link_in_force": LINK,
     "ltp_row": ROW,
     "cp_row": {**ROW, "status": "{0} IN ('W', 'S', 'E', 'C', 'D')"},
     "history_row": ROW,
@@ -69,7 +70,10 @@ RULES = {
 def first_fault(db):
     """The table and column of a value that no plan can have there, or None. Rows are not compared with each other."""
     for table, columns in RULES.items():
+        there = {column["name"] for column in db.execute(f"PRAGMA table_info({table})")}
         for column, rule in columns.items():
+            if column not in there:
+                continue
             holds = rule.format(column)
             (is_bad,) = db.execute(f"SELECT EXISTS (SELECT 1 FROM {table} WHERE NOT coalesce({holds}, 0))").fetchone()
             if is_bad:

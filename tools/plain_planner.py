@@ -162,19 +162,21 @@ def take_run_cycle(found, fields):
 
 
 def take_predecessor(found, fields):
-    app, predecessor = fields
+    app, predecessor, hours = fields if len(fields) == 3 else (*fields, "")
     check(read_name(app, 16) and read_name(predecessor, 16))
-    listed = found.setdefault(app, set())
+    within = read_number(hours, 1, 9999) if hours else None
+    check(within is not None or hours == "")
+    listed = found.setdefault(app, {})
     check(predecessor not in listed)
-    listed.add(predecessor)
+    listed[predecessor] = within
 
 
 RECORDS = {
-    "calendars": (3, take_calendar),
-    "periods": (4, take_period),
-    "applications": (3, take_application),
-    "run-cycles": (11, take_run_cycle),
-    "predecessors": (2, take_predecessor),
+    "calendars": ([3], take_calendar),
+    "periods": ([4], take_period),
+    "applications": ([3], take_application),
+    "run-cycles": ([11], take_run_cycle),
+    "predecessors": ([2, 3], take_predecessor),
 }
 OPTIONS = {"default_calendar": "DEFAULT", "max_extension_hours": 504}
 
@@ -198,13 +200,14 @@ def read_block(kind, block):
     block = block.removeprefix(BYTE_ORDER_MARK)
     if kind == "options":
         return read_options(block)
-    width, take = RECORDS[kind]
+    widths, take = RECORDS[kind]
     found, number = {}, 0
     for fields in csv.reader(io.StringIO(block.decode("latin-1"), newline="")):
         if fields:
             number += 1
             try:
-                check(len(fields) == width)
+                check(len(fields) in widths)
+                widths = [len(fields)]
                 take(found, fields)
             except Faulty:
                 raise Refused(11, number) from None
@@ -364,16 +367,16 @@ class Planner:
         pairs = set()
         waiting = [row for row, status in self.current.values() if status == "W"]
         for serial, app, arrival, _, _ in list(self.planned.values()) + waiting:
-            for predecessor in self.in_force.get(app, ()):
+            for predecessor, within in self.in_force.get(app, {}).items():
                 listed = arrivals.get(predecessor, [])
                 before = bisect.bisect_left(listed, (arrival + (predecessor != app), 0))
-                if before:
+                if before and (within is None or arrival <= listed[before - 1][0] + within * 60):
                     pairs.add((serial, listed[before - 1][1]))
         closed = {serial for serial, (_, status) in self.current.items() if status in "SEC"} | set(self.history)
         self.pairs = pairs | {pair for pair in self.pairs if pair[0] in closed}
 
     def lists(self):
-        return {app: set(listed) for app, listed in self.defined["predecessors"].items() if listed}
+        return {app: dict(listed) for app, listed in self.defined["predecessors"].items() if listed}
 
     def ask_loop(self, lists):
         """The least application from which a way leads back over another one."""
@@ -586,15 +589,16 @@ class Planner:
                 for (day, time), (name, due) in sorted(self.named(app, first, last).items())]
 
     def list(self, what, app):
-        if what == "links":
-            return [f"{name:16} {predecessor:16} {'':4}" for name, listed in sorted(self.in_force.items())
-                    for predecessor in sorted(listed) if app in (None, name)]
         if what == "dependencies":
             rows = {**self.planned, **self.history}
             for held in (self.current, self.deleted):
                 rows.update((serial, row) for serial, (row, _) in held.items())
             pairs = [(rows[first], rows[last]) for first, last in sorted(self.pairs)]
             return [f"{end_text(first)} {end_text(last)}" for first, last in pairs if app in (None, first[1])]
+        if what == "links":
+            return [f"{own:16} {other:16} {'' if within is None else within:>4}"
+                    for own, listed in sorted(self.in_force.items()) if app in (None, own)
+                    for other, within in sorted(listed.items())]
         held = {
             "ltp": [(row, "") for row in self.planned.values()],
             "cp": [(row, " " + status) for row, status in self.current.values()],

@@ -5,7 +5,7 @@ use external_dependencies::{
 use occurrences::{Key, Origin, Place, Reason, Row, Serial, Status};
 use std::alloc::Global;
 use std::process::Abort;
-use work_calendars::{App, Moment};
+use work_calendars::{App, Moment, Within};
 
 // The minutes from the first to 2024-01-01/00.00.
 const FIRST: u32 = 19723 * 1440;
@@ -81,18 +81,34 @@ fn push<T: Drop>(rt: &impl Abort, items: &mut Vec<T>, item: T) {
     items.push(item).expect(rt, "memory");
 }
 
-// Each of sixteen links as it was, or one in so many changed.
+// A limit of some times eight hours, or none.
+fn limit(dice: &mut Dice) -> Option<Within> {
+    Within::from_hours(dice.below(10).wrapping_mul(8))
+}
+
+// Each of sixteen links as it was, or one in so many changed, in its limit too.
 fn turned_links(rt: &impl Abort, alloc: Global, dice: &mut Dice, was: &Links, count: u32) -> Links {
     let mut links = Vec::new(alloc);
     for number in 0..16u32 {
-        let link = Link {
-            app: app(rt, number / 4),
-            predecessor: app(rt, number % 4),
-        };
-        let stood = was.list(&link.app).contains(&link);
-        if stood != dice.one_in(count) {
-            push(rt, &mut links, link);
+        let app_of = app(rt, number / 4);
+        let predecessor = app(rt, number % 4);
+        let stood = was.list(&app_of).iter().find(|link| link.predecessor == predecessor);
+        if stood.is_some() == dice.one_in(count) {
+            continue;
         }
+        let within = match stood {
+            Some(link) if !dice.one_in(count) => link.within,
+            _ => limit(dice),
+        };
+        push(
+            rt,
+            &mut links,
+            Link {
+                app: app_of,
+                predecessor,
+                within,
+            },
+        );
     }
     Links::from_vec(links)
 }
@@ -262,7 +278,9 @@ impl Case {
         }
         for number in 0..4u32 {
             let app = app(rt, number);
-            if self.was_links.list(&app) != self.links.list(&app) {
+            let has = self.links.list(&app);
+            let stays = has.iter().all(|link| self.was_links.contains(link));
+            if !stays || self.was_links.list(&app).len() != has.len() {
                 push(rt, &mut touch.lists, app);
             }
         }
@@ -305,7 +323,7 @@ fn few_rows(rt: &impl Abort, alloc: Global, case: &Case, touch: &Touch) -> Rows 
         if reached(case, touch, placed) {
             push(rt, &mut few, *placed);
             for link in case.links.list(&placed.row.key.app) {
-                let near = nearest(&live, &placed.row.key, &link.predecessor);
+                let near = nearest(&live, &placed.row.key, &link.predecessor, None);
                 if let Some(found) = near.and_then(|serial| find(&case.now, serial)) {
                     push(rt, &mut few, *found);
                 }

@@ -17,6 +17,12 @@ function appLink(other) {
   return h('button', { class: 'in', on: () => showApp(other) }, D.apps[other][0]);
 }
 
+/** One that is waited for, with its limit: it is waited for where it arrives at most so many hours before. */
+function waitLink(other, hours) {
+  const limit = h('small', { class: 'quiet' }, 'within ' + hours + ' h ');
+  return hours === null ? appLink(other) : h('span', {}, appLink(other), limit);
+}
+
 function part(title, rows) {
   if (!rows.length) return '';
   const more = rows.length > 20 ? h('li', { class: 'quiet' }, 'and ' + (rows.length - 20) + ' more') : '';
@@ -42,7 +48,8 @@ function showApp(k) {
     part('Last', rows.filter(i => 'CH'.includes(state(i))).slice(-5).reverse()),
     part('Deleted or withdrawn', rows.filter(isGone)),
     h('h3', {}, 'Run cycles'), cycles.length ? cycles.map(cycleLine) : h('p', { class: 'quiet' }, 'none'),
-    D.lists[k].length ? [h('h3', {}, 'Waits for'), h('p', { class: 'apps' }, D.lists[k].map(appLink))] : '',
+    D.lists[k].length ? [h('h3', {}, 'Waits for'), h('p', { class: 'apps' },
+      D.lists[k].map((other, place) => waitLink(other, D.limits[k][place])))] : '',
     followers.length ? [h('h3', {}, 'Waits for it'), h('p', { class: 'apps' }, followers.map(appLink))] : '');
   if (isInCard) $('#card').focus({ preventScroll: true });
   say(title + ', ' + status);

@@ -1,5 +1,6 @@
 """./plan dump: its stream gives the definitions again, by tools/plain_planner.py and by the program."""
 
+import gzip
 import tempfile
 import unittest
 from pathlib import Path
@@ -77,6 +78,14 @@ class Dump(unittest.TestCase):
                 self.assertEqual(defined(again), defined(planner))
                 self.assertTrue(all(line.startswith("ok defined ") for line in answers), answers)
                 self.assertTrue(all(len(data) <= MOST_BYTES for _, data in blocks_of(stream)))
+
+    def test_plan_of_schema_1(self):
+        """One that an earlier program made, whose tables have no limits."""
+        file = Path(self.room.name) / "first.db"
+        file.write_bytes(gzip.decompress((plans.DATA / "schema-1.db.gz").read_bytes()))
+        again, _ = after(dumped(file))
+        planner, _ = after(plans.stream("two-hundred-statements"))
+        self.assertEqual(defined(again), defined(planner))
 
     def test_each_statement_has_the_next_job_number(self):
         for name in ("data-centre-year", "longest-block", "two-hundred-statements", "empty"):

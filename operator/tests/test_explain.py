@@ -27,7 +27,7 @@ GOOD = {
     "periods": ("P", "A", "2031-07-09", "7"),
     "applications": ("A", "A", ""),
     "run-cycles": ("A", "R", "N", "P", "E", "1", "2031-07-09", "", "08.00", "0", "18.00"),
-    "predecessors": ("A", "B"),
+    "predecessors": ("A", "B", "12"),
 }
 
 
@@ -250,7 +250,8 @@ class Fields(unittest.TestCase):
         at = fields.index(fault.field)
         seen[kind, fault.field] += 1
         records = [record for record in plain_records(item.data) if record]
-        record, good = records[fault.record - 1], GOOD[kind]
+        record = records[fault.record - 1]
+        good = GOOD[kind][: len(record)]
         if kind == "periods" and record[1] == "N":
             good = ("P", "N", "2031-07-09", "")
         text = item.data.removeprefix(plain.BYTE_ORDER_MARK).split(b"\n")[fault.line].decode("latin-1")
@@ -280,10 +281,11 @@ def plain_fault(item):
 
 def fault_of(kind, records):
     """The number of the first faulty one of some records, by the plain planner."""
-    found, (width, take) = {}, plain.RECORDS[kind]
+    found, (widths, take) = {}, plain.RECORDS[kind]
     for number, fields in enumerate(records, 1):
         try:
-            plain.check(len(fields) == width)
+            plain.check(len(fields) in widths)
+            widths = [len(fields)]
             take(found, fields)
         except plain.Faulty:
             return number

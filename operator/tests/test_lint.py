@@ -158,7 +158,7 @@ class Meaning(unittest.TestCase):
             if not defined["run-cycles"].get(app):
                 yield "idle", (app,)
         for app, listed in defined["predecessors"].items():
-            for other in listed - set(defined["applications"]):
+            for other in set(listed) - set(defined["applications"]):
                 yield "unknown", (app, other)
         for app, cycles in defined["run-cycles"].items():
             times = {cycle["time"] for cycle in cycles.values() if cycle["kind"] == "N"}
@@ -236,20 +236,20 @@ A,RC,N,DAY,3,1,2024-01-01,,{time},{days},{due}
 B,RC,N,DAY,3,1,2024-01-01,,{other},1,12.00
 /*
 define predecessors --job 4
-A,B
+A,B{limit}
 /*
 ltp-create --from 2024-01-01 --to 2024-01-20 --job 5
 """
 
     def test_by_their_pairs(self):
         answers = set()
-        for time, other, (days, due) in itertools.product(
+        for time, other, (days, due), limit in itertools.product(
             ("00.30", "08.00", "19.00", "23.00"), ("00.30", "05.00", "07.59", "08.00", "08.01", "20.00", "23.45"),
-            ((0, "23.59"), (1, "05.00"), (1, "12.00")),
+            ((0, "23.59"), (1, "05.00"), (1, "12.00")), ("", ",", ",4", ",20"),
         ):
-            text = self.TEXT.format(time=time, other=other, days=days, due=due)
+            text = self.TEXT.format(time=time, other=other, days=days, due=due, limit=limit)
             found = [one for one in findings(text) if one.kind == "later"]
-            with self.subTest(time=time, other=other, days=days, due=due):
+            with self.subTest(time=time, other=other, days=days, due=due, limit=limit):
                 slips = self.slips(plans.planner_of(text))
                 self.assertEqual(len(found), int(bool(slips)))
                 answers.add(bool(slips))

@@ -17,6 +17,14 @@ from page_reader import ask, parts_of
 NOW = moments.moment_of(centre.NOW)
 
 
+def lists_in(data):
+    """The lists in force that a page shows: by application and name the hours of a limit or None."""
+    names = [app[0] for app in data["apps"]]
+    each = zip(names, data["lists"], data["limits"], strict=True)
+    return {name: {names[other] if isinstance(other, int) else other: within
+                   for other, within in zip(listed, limits, strict=True)} for name, listed, limits in each if listed}
+
+
 class Centre(unittest.TestCase):
     """What the page says of a data centre's night."""
 
@@ -114,9 +122,7 @@ class Centre(unittest.TestCase):
         defined = self.planner.defined["applications"]
         self.assertEqual({name: active for name, active, *_ in self.data["apps"]},
                          {name: int(active) for name, (active, _) in defined.items()})
-        names = [app[0] for app in self.data["apps"]]
-        lists = {name: {names[other] for other in listed} for name, listed in zip(names, self.data["lists"]) if listed}
-        self.assertEqual(lists, self.planner.in_force)
+        self.assertEqual(lists_in(self.data), self.planner.in_force)
 
     def test_jobs_since_the_last_daily_plan(self):
         jobs = sorted(self.planner.jobs.items())
@@ -150,6 +156,16 @@ class Centre(unittest.TestCase):
             self.assertIn(f"{tag}-src 'sha256-{digest}'", policy)
         self.assertIn("default-src 'none'", policy)
 
+
+
+class Limits(unittest.TestCase):
+    """The hours of limits stand beside the names of the lists in force."""
+
+    def test_worked_streams(self):
+        for name in ("limits-to-the-minute", "limits-at-random", "limits-come-into-force", "no-limit"):
+            with self.subTest(name):
+                data = read.data_in(read.page_of(plans.of_worked(name), "--now", "2024-01-02/08.00"))
+                self.assertEqual(lists_in(data), plans.planner_of(plans.stream(name)).in_force)
 
 class Roots(unittest.TestCase):
     """Which of several roots is named, and what is at risk."""

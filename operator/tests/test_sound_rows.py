@@ -16,7 +16,8 @@ SOUND = ["two-hundred-statements", "data-centre-year", "each-list", "empty", "ed
 # changes of tools/plan-files after which a value can't be read
 CHANGES = ["a day past the last", "a moment past the plan", "hours past their limit", "a number past 64 bits with sign",
            "a weekday past Sunday", "a period without an interval", "a status that is none", "a reason that is none",
-           "a job without a number that it may have"]
+           "a job without a number that it may have", "a limit of no hours", "a limit of more hours than there may be",
+           "a limit in force past 64 bits with sign"]
 
 
 def plan_files():

@@ -21,8 +21,8 @@ use Rattle.app_definitions.specs.declared.kinds.Block.{Block}
 use Rattle.app_definitions.specs.declared.kinds.Block.TheVariants as block
 use Rattle.app_definitions.specs.declared.kinds.Kind.{Kind}
 use Rattle.app_definitions.specs.declared.kinds.Kind.TheVariants as kind
-use Rattle.definition_records.specs.declared.columns.TheConstants.{APPLICATION_FIELDS, CALENDAR_FIELDS, PERIOD_FIELDS}
-use Rattle.definition_records.specs.declared.columns.TheConstants.{PREDECESSOR_FIELDS, CYCLE_FIELDS}
+use Rattle.definition_records.specs.FieldCounts.{HasApplicationFields, HasCalendarFields, HasCycleFields}
+use Rattle.definition_records.specs.FieldCounts.{HasPeriodFields, HasPredecessorFields}
 use Rattle.csv.specs.Machine.{Read, next_record}
 use Rattle.csv.specs.Reading.{default_config, is_bom, records_from, records_next, strip_bom}
 use Rattle.csv.specs.declared.parser.Config.{Config}
@@ -97,11 +97,11 @@ given_few : {D : Type 0} (IsMadeOf : D → List (List (List ℕ)) → Type 0) (m
 given_few IsMadeOf m rows given =
     few_names rows m (λ name. given_absent IsMadeOf (finite.get m name) (records_of name rows) (given name))
 
-gives_few : {D : Type 0} (of : ByName D → Block) (fields : ℕ) (FitsName : List (List (List ℕ)) → List (List ℕ) → Type 0)
+gives_few : {D : Type 0} (of : ByName D → Block) (HasFields : ℕ → Type 0) (FitsName : List (List (List ℕ)) → List (List ℕ) → Type 0)
     (IsMadeOf : D → List (List (List ℕ)) → Type 0) (text : List ℕ) (b : Block)
     → ((m : ByName D) → names_given (of m) ≡ finite.len m)
-    → Gives of fields FitsName IsMadeOf (block_records text) b → names_given b ≤ length text + 1
-gives_few of fields FitsName IsMadeOf text b counts gives =
+    → Gives of HasFields FitsName IsMadeOf (block_records text) b → names_given b ≤ length text + 1
+gives_few of HasFields FitsName IsMadeOf text b counts gives =
     let names : names_given b ≡ finite.len gives.definitions =
     ap names_given gives.is ∙ counts gives.definitions in
     let few = given_few IsMadeOf gives.definitions (block_records text) gives.given in
@@ -111,12 +111,12 @@ gives_few of fields FitsName IsMadeOf text b counts gives =
 -- a block has no more names than its text has bytes, and one
 pub names_few : (k : Kind) (text : List ℕ) (b : Block) → ReadsAs k text b → names_given b ≤ length text + 1
 names_few kind.Applications text b h =
-    gives_few block.Applications APPLICATION_FIELDS FitsApplication IsApplicationOf text b (λ m. refl) h
+    gives_few block.Applications HasApplicationFields FitsApplication IsApplicationOf text b (λ m. refl) h
 names_few kind.Calendars text b h =
-    gives_few block.Calendars CALENDAR_FIELDS FitsCalendar IsCalendarOf text b (λ m. refl) h
-names_few kind.Periods text b h = gives_few block.Periods PERIOD_FIELDS FitsPeriod IsPeriodOf text b (λ m. refl) h
+    gives_few block.Calendars HasCalendarFields FitsCalendar IsCalendarOf text b (λ m. refl) h
+names_few kind.Periods text b h = gives_few block.Periods HasPeriodFields FitsPeriod IsPeriodOf text b (λ m. refl) h
 names_few kind.Predecessors text b h =
-    gives_few block.Predecessors PREDECESSOR_FIELDS FitsPredecessors ArePredecessorsOf text b (λ m. refl) h
+    gives_few block.Predecessors HasPredecessorFields FitsPredecessors ArePredecessorsOf text b (λ m. refl) h
 names_few kind.RunCycles text b h =
-    gives_few block.RunCycles CYCLE_FIELDS FitsRunCycle AreRunCyclesOf text b (λ m. refl) h
+    gives_few block.RunCycles HasCycleFields FitsRunCycle AreRunCyclesOf text b (λ m. refl) h
 names_few kind.Options text b h = let one : names_given b ≡ 1 = ap names_given h.1 in omega (arith, one)

@@ -37,6 +37,7 @@ use Rattle.definition_records.specs.CycleRecords.{AreRunCyclesOf, rule_text}
 use Rattle.definition_records.specs.Fields.{field, IsNumberUpTo}
 use Rattle.app_definitions.specs.Options.{AreOptionsOf, GivesCalendar, GivesHours}
 use Rattle.definition_records.specs.Periods.{FitsPeriod, IsPeriodOf, GivesEntry, GiveEntries}
+use Rattle.definition_records.specs.declared.predecessors.Predecessor.{Predecessor}
 use Rattle.definition_records.specs.Predecessors.{FitsPredecessors, ArePredecessorsOf}
 use Rattle.definition_records.specs.Records.{Record, Records, AllGood, FirstFaulty, block_records}
 use Rattle.definition_records.specs.declared.applications.Application.{Application}
@@ -54,8 +55,8 @@ use Rattle.definition_records.specs.declared.columns.TheConstants.{NAME, CALENDA
 use Rattle.definition_records.specs.declared.columns.TheConstants.{PERIOD_LENGTH, CYCLE_TYPE, CYCLE_RULE}
 use Rattle.definition_records.specs.declared.columns.TheConstants.{CYCLE_IN_EFFECT, CYCLE_OUT_EFFECT, CYCLE_IA}
 use Rattle.definition_records.specs.declared.columns.TheConstants.{CYCLE_DEADLINE_DAY, CYCLE_DEADLINE_TIME}
-use Rattle.definition_records.specs.declared.columns.TheConstants.{APPLICATION_FIELDS, CALENDAR_FIELDS, PERIOD_FIELDS}
-use Rattle.definition_records.specs.declared.columns.TheConstants.{PREDECESSOR_FIELDS, CYCLE_FIELDS}
+use Rattle.definition_records.specs.FieldCounts.{HasApplicationFields, HasCalendarFields, HasCycleFields}
+use Rattle.definition_records.specs.FieldCounts.{HasPeriodFields, HasPredecessorFields}
 
 -- ---- first faulty records
 
@@ -109,8 +110,8 @@ one_application a b rows p q =
 
 -- ---- predecessors
 
-one_list : (xs ys : List (List ℕ)) (rows : Records) → ArePredecessorsOf xs rows → ArePredecessorsOf ys rows → xs ≡ ys
-one_list xs ys rows p q = same_rising (λ n. n) xs ys p.rising q.rising
+one_list : (xs ys : List Predecessor) (rows : Records) → ArePredecessorsOf xs rows → ArePredecessorsOf ys rows → xs ≡ ys
+one_list xs ys rows p q = same_rising (λ p. p.name) xs ys p.rising q.rising
     (λ n has. (q.exactly n).1 ((p.exactly n).0 has)) (λ n has. (p.exactly n).1 ((q.exactly n).0 has))
 
 -- ---- options
@@ -313,7 +314,7 @@ abbrev AreApart : List ℕ → Record → Record → Type 0
 AreApart name r s = IsOf name r → IsOf name s → field r CALENDAR_ENTRY ≢ field s CALENDAR_ENTRY
 
 -- good records of one calendar have different entries
-rows_apart : (rows : Records) (name : List ℕ) → AllGood (FitsKind CALENDAR_FIELDS FitsCalendar) rows
+rows_apart : (rows : Records) (name : List ℕ) → AllGood (FitsKind HasCalendarFields FitsCalendar) rows
     → AllPairs (AreApart name) rows
 rows_apart rows name good i j d lt within of_first of_second same =
     let row = get_or rows j [] in
@@ -332,7 +333,7 @@ rows_apart rows name good i j d lt within of_first of_second same =
     (ap (λ r. field r CALENDAR_ENTRY) there ∙ same ∙ ap (λ r. field r CALENDAR_ENTRY) here)
 
 -- one record of a calendar is about an entry at most
-one_record : (rows : Records) (name : List ℕ) → AllGood (FitsKind CALENDAR_FIELDS FitsCalendar) rows → (r s : Record)
+one_record : (rows : Records) (name : List ℕ) → AllGood (FitsKind HasCalendarFields FitsCalendar) rows → (r s : Record)
     → Contains (records_of name rows) r → Contains (records_of name rows) s
     → field r CALENDAR_ENTRY ≡ field s CALENDAR_ENTRY → r ≡ s
 one_record rows name good r s (i, li, ei) (j, lj, ej) same = at (three i j)
@@ -367,7 +368,7 @@ one_listed (Some s) None IsAbout rows one p q = absurd (q p.0 p.1 p.2)
 one_listed (Some s) (Some t) IsAbout rows one p q =
     ap Some (p.3 ∙ ap (λ r. status_of (field r CALENDAR_STATUS)) (one p.0 q.0 p.1 q.1 p.2 q.2) ∙ sym q.3)
 
-one_calendar : (rows : Records) (name : List ℕ) → AllGood (FitsKind CALENDAR_FIELDS FitsCalendar) rows
+one_calendar : (rows : Records) (name : List ℕ) → AllGood (FitsKind HasCalendarFields FitsCalendar) rows
     → (c d : CalendarEntries)
     → IsCalendarOf c (records_of name rows) → IsCalendarOf d (records_of name rows) → c ≡ d
 one_calendar rows name good c d p q = ap (λ w. with_parts w c.dates) week ∙ ap (λ m. with_parts d.weekdays m) dates
@@ -415,33 +416,33 @@ one_given : {D : Type 0} (IsMadeOf : D → Records → Type 0) (rows : Records) 
 one_given IsMadeOf rows m n one a b = same_by_name m n
     (λ name. one_defined IsMadeOf (records_of name rows) (map.get m name) (map.get n name) (one name) (a name) (b name))
 
-one_gives : {D : Type 0} (of : Definitions D → Block) (fields : ℕ) (FitsName : Records → Record → Type 0)
+one_gives : {D : Type 0} (of : Definitions D → Block) (HasFields : ℕ → Type 0) (FitsName : Records → Record → Type 0)
     (IsMadeOf : D → Records → Type 0) (rows : Records) (a b : Block)
-    → (AllGood (FitsKind fields FitsName) rows → (name : List ℕ) (d e : D) → IsMadeOf d (records_of name rows)
+    → (AllGood (FitsKind HasFields FitsName) rows → (name : List ℕ) (d e : D) → IsMadeOf d (records_of name rows)
     → IsMadeOf e (records_of name rows) → d ≡ e)
-    → Gives of fields FitsName IsMadeOf rows a → Gives of fields FitsName IsMadeOf rows b → a ≡ b
-one_gives of fields FitsName IsMadeOf rows a b one p q =
+    → Gives of HasFields FitsName IsMadeOf rows a → Gives of HasFields FitsName IsMadeOf rows b → a ≡ b
+one_gives of HasFields FitsName IsMadeOf rows a b one p q =
     p.is ∙ ap of (one_given IsMadeOf rows p.definitions q.definitions (one p.good) p.given q.given) ∙ sym q.is
 
 pub one_block : (k : Kind) (text : List ℕ) (a b : Block) → ReadsAs k text a → ReadsAs k text b → a ≡ b
 one_block kind.Applications text a b p q =
     let rows = block_records text in
-    one_gives block.Applications APPLICATION_FIELDS FitsApplication IsApplicationOf rows a b
+    one_gives block.Applications HasApplicationFields FitsApplication IsApplicationOf rows a b
     (λ good name d e. one_application d e (records_of name rows)) p q
 one_block kind.Calendars text a b p q =
     let rows = block_records text in
-    one_gives block.Calendars CALENDAR_FIELDS FitsCalendar IsCalendarOf rows a b
+    one_gives block.Calendars HasCalendarFields FitsCalendar IsCalendarOf rows a b
     (λ good name d e. one_calendar rows name good d e) p q
 one_block kind.Periods text a b p q =
     let rows = block_records text in
-    one_gives block.Periods PERIOD_FIELDS FitsPeriod IsPeriodOf rows a b
+    one_gives block.Periods HasPeriodFields FitsPeriod IsPeriodOf rows a b
     (λ good name d e. one_period (records_of name rows) d e) p q
 one_block kind.Predecessors text a b p q =
     let rows = block_records text in
-    one_gives block.Predecessors PREDECESSOR_FIELDS FitsPredecessors ArePredecessorsOf rows a b
+    one_gives block.Predecessors HasPredecessorFields FitsPredecessors ArePredecessorsOf rows a b
     (λ good name d e. one_list d e (records_of name rows)) p q
 one_block kind.RunCycles text a b p q =
     let rows = block_records text in
-    one_gives block.RunCycles CYCLE_FIELDS FitsRunCycle AreRunCyclesOf rows a b
+    one_gives block.RunCycles HasCycleFields FitsRunCycle AreRunCyclesOf rows a b
     (λ good name d e. one_cycles d e (records_of name rows)) p q
 one_block kind.Options text a b p q = p.1 ∙ ap block.Options (one_options text p.0 q.0 p.2 q.2) ∙ sym q.1

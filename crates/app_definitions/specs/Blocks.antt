@@ -18,37 +18,37 @@ use Rattle.app_definitions.specs.declared.kinds.Kind.TheVariants as kind
 use Rattle.app_definitions.specs.declared.options.Options.{Options}
 use Rattle.definition_records.specs.declared.records.BlockFault.{BlockFault}
 use Rattle.definition_records.specs.declared.records.BlockFault.TheVariants.{Faulty, Memory}
-use Rattle.definition_records.specs.declared.columns.TheConstants.{APPLICATION_FIELDS, CALENDAR_FIELDS, PERIOD_FIELDS}
-use Rattle.definition_records.specs.declared.columns.TheConstants.{PREDECESSOR_FIELDS, CYCLE_FIELDS}
+use Rattle.definition_records.specs.FieldCounts.{HasApplicationFields, HasCalendarFields, HasCycleFields}
+use Rattle.definition_records.specs.FieldCounts.{HasPeriodFields, HasPredecessorFields}
 
 -- every record is good after those before it, and the block has the definitions that they give
-pub record Gives {D : Type 0} (of : map.FinMap (slice_cmp nat_cmp) D → Block) (fields : ℕ)
+pub record Gives {D : Type 0} (of : map.FinMap (slice_cmp nat_cmp) D → Block) (HasFields : ℕ → Type 0)
     (FitsName : Records → Record → Type 0) (IsMadeOf : D → Records → Type 0) (rows : Records) (b : Block) : Type 0 where
-  pub good : AllGood (FitsKind fields FitsName) rows
+  pub good : AllGood (FitsKind HasFields FitsName) rows
   pub definitions : map.FinMap (slice_cmp nat_cmp) D
   pub is : b ≡ of definitions
   pub given : AreGivenBy IsMadeOf definitions rows
 
 -- a text of that kind reads as the block
 abbrev pub ReadsAs : Kind → List ℕ → Block → Type 0
-ReadsAs kind.Applications text b = Gives block.Applications APPLICATION_FIELDS FitsApplication IsApplicationOf
+ReadsAs kind.Applications text b = Gives block.Applications HasApplicationFields FitsApplication IsApplicationOf
     (block_records text) b
-ReadsAs kind.Calendars text b = Gives block.Calendars CALENDAR_FIELDS FitsCalendar IsCalendarOf (block_records text) b
-ReadsAs kind.Periods text b = Gives block.Periods PERIOD_FIELDS FitsPeriod IsPeriodOf (block_records text) b
-ReadsAs kind.Predecessors text b = Gives block.Predecessors PREDECESSOR_FIELDS FitsPredecessors ArePredecessorsOf
+ReadsAs kind.Calendars text b = Gives block.Calendars HasCalendarFields FitsCalendar IsCalendarOf (block_records text) b
+ReadsAs kind.Periods text b = Gives block.Periods HasPeriodFields FitsPeriod IsPeriodOf (block_records text) b
+ReadsAs kind.Predecessors text b = Gives block.Predecessors HasPredecessorFields FitsPredecessors ArePredecessorsOf
     (block_records text) b
-ReadsAs kind.RunCycles text b = Gives block.RunCycles CYCLE_FIELDS FitsRunCycle AreRunCyclesOf (block_records text) b
+ReadsAs kind.RunCycles text b = Gives block.RunCycles HasCycleFields FitsRunCycle AreRunCyclesOf (block_records text) b
 ReadsAs kind.Options text b = (o : Options) × (b ≡ block.Options o) × AreOptionsOf o text
 
 -- the record of that number is the first faulty one of a text of that kind
 abbrev pub IsFaultyAt : Kind → List ℕ → ℕ → Type 0
 IsFaultyAt kind.Applications text number =
-    FirstFaulty (FitsKind APPLICATION_FIELDS FitsApplication) (block_records text) number
-IsFaultyAt kind.Calendars text number = FirstFaulty (FitsKind CALENDAR_FIELDS FitsCalendar) (block_records text) number
-IsFaultyAt kind.Periods text number = FirstFaulty (FitsKind PERIOD_FIELDS FitsPeriod) (block_records text) number
+    FirstFaulty (FitsKind HasApplicationFields FitsApplication) (block_records text) number
+IsFaultyAt kind.Calendars text number = FirstFaulty (FitsKind HasCalendarFields FitsCalendar) (block_records text) number
+IsFaultyAt kind.Periods text number = FirstFaulty (FitsKind HasPeriodFields FitsPeriod) (block_records text) number
 IsFaultyAt kind.Predecessors text number =
-    FirstFaulty (FitsKind PREDECESSOR_FIELDS FitsPredecessors) (block_records text) number
-IsFaultyAt kind.RunCycles text number = FirstFaulty (FitsKind CYCLE_FIELDS FitsRunCycle) (block_records text) number
+    FirstFaulty (FitsKind HasPredecessorFields FitsPredecessors) (block_records text) number
+IsFaultyAt kind.RunCycles text number = FirstFaulty (FitsKind HasCycleFields FitsRunCycle) (block_records text) number
 IsFaultyAt kind.Options text number = IsFaultyOptions text number
 
 -- a fault of a text of that kind: its first faulty record, or want of memory

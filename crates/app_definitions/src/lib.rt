@@ -23,7 +23,8 @@ pub use blocks::{
     read_applications, read_block, read_calendars, read_periods, read_predecessors, read_run_cycles,
 };
 pub use definition_records::{
-    Application, BlockFault, ByName, DefinedPeriod, LONGEST_BLOCK, Predecessors, RunCycles,
+    Application, BlockFault, ByName, DefinedPeriod, LONGEST_BLOCK, Predecessor, Predecessors,
+    RunCycles,
 };
 pub use definitions::Definitions;
 pub use kinds::{Block, Kind};

@@ -2,8 +2,14 @@
 use Rattle.std.specs.Prelude.{◌≡◌, ℕ, List, Contains, Some}
 use Rattle.std.specs.FinMap as map
 use Rattle.app_definitions.specs.declared.definitions.Definitions.{Definitions}
+use Rattle.definition_records.specs.declared.predecessors.Predecessor.{Predecessor}
 
--- the predecessor stands in the list that is defined for the application
-abbrev pub IsDefinedLink : Definitions → List ℕ → List ℕ → Type 0
-IsDefinedLink all app predecessor = (names : List (List ℕ)) × (map.get all.predecessors app ≡ Some names)
-    × Contains names predecessor
+-- the predecessor stands in the list that is defined for the application, with its limit
+abbrev pub IsDefinedLink : Definitions → List ℕ → Predecessor → Type 0
+IsDefinedLink all app predecessor = (listed : List Predecessor) × (map.get all.predecessors app ≡ Some listed)
+    × Contains listed predecessor
+
+-- no two of them are of one application and one name
+abbrev pub HaveOwnNames : List (List ℕ × Predecessor) → Type 0
+HaveOwnNames links = (app : List ℕ) (p q : Predecessor) → Contains links (app, p) → Contains links (app, q)
+    → p.name ≡ q.name → p ≡ q

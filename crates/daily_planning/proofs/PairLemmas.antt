@@ -6,7 +6,7 @@ use Rattle.occurrences.specs.declared.place.Place.{Place}
 use Rattle.occurrences.specs.declared.place.Place.TheVariants.{LongTerm, Current, History, Deleted}
 use Rattle.occurrences.specs.declared.row.Row.{Row}
 use Rattle.occurrences.specs.declared.status.Status.TheVariants.{W, S, E, C, D}
-use Rattle.external_dependencies.specs.Link.{Lists}
+use Rattle.external_dependencies.specs.Link.{ListsWithin}
 use Rattle.external_dependencies.specs.Nearest.{IsNearest, arrival_of}
 use Rattle.external_dependencies.specs.declared.links.Link.{Link}
 use Rattle.external_dependencies.specs.declared.live.Arrival.{Arrival}
@@ -23,8 +23,9 @@ use Rattle.planner_machine.proofs.SeatLemmas.{IsMove, after, going, stands_after
 
 -- the nearest among arrivals is that among the same arrivals
 same_nearest : (P Q : Arrival → Type 0) → ((x : Arrival) → P x → Q x) → ((x : Arrival) → Q x → P x)
-    → (row : Row) (app : List ℕ) (near : Arrival) → IsNearest P row.key app near → IsNearest Q row.key app near
-same_nearest P Q to from row app near is = record {
+    → (row : Row) (app : List ℕ) (within : Option ℕ) (near : Arrival)
+    → IsNearest P row.key app within near → IsNearest Q row.key app within near
+same_nearest P Q to from row app within near is = record {
   live = to near is.live;
   candidate = is.candidate;
   greatest = λ other live. is.greatest other (from other live);
@@ -77,9 +78,11 @@ module _ (move : Seat → Seat) (place : Row → Place → Place) (is : IsMove m
           stands = stands_after move go is c sound bounds pair.successor o.placed o.stands;
           waits = waits;
           app = o.app;
+          within = o.within;
           listed = o.listed;
           near = o.near;
-          nearest = same_nearest (LiveAt c) (LiveAt c') live_on live_back o.placed.row o.app o.near o.nearest;
+          nearest = same_nearest (LiveAt c) (LiveAt c') live_on live_back o.placed.row o.app o.within o.near
+              o.nearest;
           predecessor = o.predecessor;
         })
         | inr closed ↦ inr (record {
@@ -118,10 +121,11 @@ module _ (move : Seat → Seat) (place : Row → Place → Place) (is : IsMove m
           stands = was;
           waits = waited p.row p.place (subst (λ (y : PlacedRow). IsOpen y.place) (sym same) o.waits);
           app = o.app;
-          listed = subst (λ (r : Row). Lists links r.key.app o.app) row o.listed;
+          within = o.within;
+          listed = subst (λ (r : Row). ListsWithin links r.key.app o.app o.within) row o.listed;
           near = o.near;
-          nearest = subst (λ (r : Row). IsNearest (LiveAt c) r.key o.app o.near) row
-              (same_nearest (LiveAt c') (LiveAt c) live_back live_on o.placed.row o.app o.near o.nearest);
+          nearest = subst (λ (r : Row). IsNearest (LiveAt c) r.key o.app o.within o.near) row
+              (same_nearest (LiveAt c') (LiveAt c) live_back live_on o.placed.row o.app o.within o.near o.nearest);
           predecessor = o.predecessor;
         }
 

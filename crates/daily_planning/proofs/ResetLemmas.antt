@@ -208,9 +208,10 @@ module _ (c : Content) (sound : IsSound c) (changed : CurrentRow) (is : IsActedO
           stands = other_on pair.successor o.placed other o.stands;
           waits = o.waits;
           app = o.app;
+          within = o.within;
           listed = o.listed;
           near = o.near;
-          nearest = same_nearest (LiveAt c.sets) (LiveAt sets') live_on live_back o.placed.row.key o.app o.near
+          nearest = same_nearest (LiveAt c.sets) (LiveAt sets') live_on live_back o.placed.row.key o.app o.within o.near
               o.nearest;
           predecessor = o.predecessor;
         }
@@ -221,9 +222,10 @@ module _ (c : Content) (sound : IsSound c) (changed : CurrentRow) (is : IsActedO
           stands = other_back pair.successor o.placed other o.stands;
           waits = o.waits;
           app = o.app;
+          within = o.within;
           listed = o.listed;
           near = o.near;
-          nearest = same_nearest (LiveAt sets') (LiveAt c.sets) live_back live_on o.placed.row.key o.app o.near
+          nearest = same_nearest (LiveAt sets') (LiveAt c.sets) live_back live_on o.placed.row.key o.app o.within o.near
               o.nearest;
           predecessor = o.predecessor;
         }
@@ -234,9 +236,10 @@ module _ (c : Content) (sound : IsSound c) (changed : CurrentRow) (is : IsActedO
           stands = subst (λ n. StandsAt sets' n own) r.successor own_stands;
           waits = refl;
           app = r.app;
+          within = r.within;
           listed = r.listed;
           near = r.near;
-          nearest = same_nearest (LiveAt c.sets) (LiveAt sets') live_on live_back changed.row.key r.app r.near
+          nearest = same_nearest (LiveAt c.sets) (LiveAt sets') live_on live_back changed.row.key r.app r.within r.near
               r.nearest;
           predecessor = r.predecessor;
         }
@@ -249,11 +252,12 @@ module _ (c : Content) (sound : IsSound c) (changed : CurrentRow) (is : IsActedO
             record {
               successor = sym same;
               app = o.app;
-              listed = subst (λ (r : Row). Rattle.external_dependencies.specs.Link.Lists c.in_force r.key.app o.app) row
-                  o.listed;
+              within = o.within;
+              listed = subst (λ (r : Row). Rattle.external_dependencies.specs.Link.ListsWithin c.in_force r.key.app
+                  o.app o.within) row o.listed;
               near = o.near;
-              nearest = subst (λ (r : Row). IsNearest (LiveAt c.sets) r.key o.app o.near) row
-                  (same_nearest (LiveAt sets') (LiveAt c.sets) live_back live_on o.placed.row.key o.app o.near
+              nearest = subst (λ (r : Row). IsNearest (LiveAt c.sets) r.key o.app o.within o.near) row
+                  (same_nearest (LiveAt sets') (LiveAt c.sets) live_back live_on o.placed.row.key o.app o.within o.near
                   o.nearest);
               predecessor = o.predecessor;
             }

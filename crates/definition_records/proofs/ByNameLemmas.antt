@@ -18,7 +18,7 @@ use Rattle.std.proofs.lemmas.Map.Entries.{lookup_from_place, place_from_lookup}
 use Rattle.std.proofs.lemmas.Option.{get_or_from_slice_get, slice_get-get_or, slice_get_within}
 use Rattle.work_calendars.specs.Name.{IsName}
 use Rattle.definition_records.specs.Fields.{field}
-use Rattle.definition_records.specs.ByName.{records_of, AreEntriesOf, AreGivenBy, FitsKind, IsDefinedBy, Joins}
+use Rattle.definition_records.specs.ByName.{records_of, AreEntriesOf, AreGivenBy, FitsKind, IsAsLong, IsDefinedBy, Joins}
 use Rattle.definition_records.specs.ByName.{overlaid}
 use Rattle.definition_records.specs.Records.{Record, Records}
 use Rattle.definition_records.specs.declared.columns.TheConstants.{NAME}
@@ -199,32 +199,38 @@ get-appended old more q apart =
     ∙ cc (sym (get-view_of more q), sym (get-view_of old q), sym (get-overlaid (view_of old) (view_of more) q))
 
 -- a further record about a name is taken as the definition takes it
-pub joined : {D E : Type 0} (fields : ℕ) (FitsName : Records → Record → Type 0) (IsMadeOf : D → Records → Type 0)
+pub joined : {D E : Type 0} (HasFields : ℕ → Type 0) (FitsName : Records → Record → Type 0) (IsMadeOf : D → Records → Type 0)
     (m n : Definitions D) (k : List ℕ) (d v : D) (before : Records) (row : Record) (r : Result Bool E)
-    → k ≡ field row NAME → length row ≡ fields → IsName k → map.get m k ≡ Some d
+    → k ≡ field row NAME → HasFields (length row) → IsAsLong before row → IsName k → map.get m k ≡ Some d
     → ((q : List ℕ) → map.get n q ≡ cond (pointwise nat_eq k q) (Some v) (map.get m q))
     → AreGivenBy IsMadeOf m before
     → ((earlier : Records) → earlier ≢ [] → IsMadeOf d earlier → IfOk r (Joins FitsName IsMadeOf earlier row v))
-    → IfOk r (Joins (FitsKind fields FitsName) (AreGivenBy IsMadeOf) before row n)
-joined fields FitsName IsMadeOf m n k d v before row r e long named seen written given joins =
+    → IfOk r (Joins (FitsKind HasFields FitsName) (AreGivenBy IsMadeOf) before row n)
+joined HasFields FitsName IsMadeOf m n k d v before row r e complete long named seen written given joins =
     let was = defined-some IsMadeOf _ d (records_of k before) seen (given k) in
     IfOk-map r _ _ (λ taken told. record {
       fits = (
-        λ yes. record { complete = long; name = rw (← e) named; fits = rw (← e) (told.fits.0 yes) },
+        λ yes. record {
+          complete = complete;
+          as_long = long;
+          name = rw (← e) named;
+          fits = rw (← e) (told.fits.0 yes);
+        },
         λ good. told.fits.1 (rw e good.fits),
       );
       made = λ yes. AreGivenBy-more IsMadeOf m n k v before row e written given (rw (← e) (told.made yes));
     }) (joins (records_of k before) was.0 was.1)
 
 -- the first record about a name is good exactly where it begins a definition
-pub begun-taken : {D : Type 0} (fields : ℕ) (FitsName : Records → Record → Type 0) (IsMadeOf : D → Records → Type 0)
+pub begun-taken : {D : Type 0} (HasFields : ℕ → Type 0) (FitsName : Records → Record → Type 0) (IsMadeOf : D → Records → Type 0)
     (m : Definitions D) (k : List ℕ) (before : Records) (row : Record) (begun : Bool)
-    → k ≡ field row NAME → length row ≡ fields → IsName k → map.get m k ≡ None → AreGivenBy IsMadeOf m before
-    → (IsTrue begun ↔ FitsName [] row) → IsTrue begun ↔ FitsKind fields FitsName before row
-begun-taken fields FitsName IsMadeOf m k before row begun e long named none given told =
+    → k ≡ field row NAME → HasFields (length row) → IsAsLong before row → IsName k → map.get m k ≡ None
+    → AreGivenBy IsMadeOf m before → (IsTrue begun ↔ FitsName [] row)
+    → IsTrue begun ↔ FitsKind HasFields FitsName before row
+begun-taken HasFields FitsName IsMadeOf m k before row begun e complete long named none given told =
     let first : records_of (field row NAME) before ≡ [] =
     rw (← e) (defined-none IsMadeOf _ (records_of k before) none (given k)) in (
-      λ yes. record { complete = long; name = rw (← e) named; fits = rw first (told.0 yes) },
+      λ yes. record { complete = complete; as_long = long; name = rw (← e) named; fits = rw first (told.0 yes) },
       λ good. told.1 (rw first at good.fits),
     )
 

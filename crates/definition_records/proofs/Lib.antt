@@ -1,4 +1,5 @@
-pub mod RecordLemmas
+pub mod LengthLemmas
+mod RecordLemmas
 pub mod RisingLemmas
 pub mod ByNameLemmas
 pub mod EntryLemmas

@@ -1,63 +1,89 @@
 -- The predecessors of an application, with one record more.
-use Rattle.std.proofs.Common.{◌≡◌, ◌∙◌, refl, sym, subst, inl, inr, ℕ, ◌<◌, List, [], ◌∷◌, ◌++◌, length}
-use Rattle.std.specs.Prelude.{Contains}
+use Rattle.std.proofs.Common.{◌≡◌, ◌∙◌, refl, sym, ap, subst, inl, inr, ℕ, ◌<◌, List, [], ◌∷◌, ◌++◌, length, get_or, arith}
+use Rattle.std.proofs.Common.{Some}
+use Rattle.std.specs.Prelude.{◌↔◌, Contains, IsSome, IfSome}
 use Rattle.std.specs.List.{HoldsAt, insert}
-use Rattle.std.proofs.lemmas.List.Elements.{Contains-append_left, Contains-push, Contains-push_cases}
+use Rattle.std.proofs.lemmas.List.Elements.{Contains-append_left, Contains-get_or, Contains-push, Contains-push_cases}
 use Rattle.work_calendars.specs.Name.{IsName}
-use Rattle.definition_records.specs.Fields.{field}
-use Rattle.definition_records.specs.Predecessors.{predecessors_of, FitsPredecessors, ArePredecessorsOf}
+use Rattle.work_calendars.specs.Within.{IsWithinHours}
+use Rattle.definition_records.specs.Fields.{field, IsEmptyOr, number_value}
+use Rattle.definition_records.specs.Predecessors.{predecessor_of, predecessors_of, named_by, FitsPredecessors}
+use Rattle.definition_records.specs.Predecessors.{ArePredecessorsOf, IsPredecessorRecord, IsWithinText, within_of}
 use Rattle.definition_records.specs.Rising.{IsPlaceFor}
+use Rattle.definition_records.specs.declared.predecessors.Predecessor.{Predecessor}
 use Rattle.definition_records.proofs.RisingLemmas.{none_named, rising-insert, Contains-insert_cases}
 use Rattle.definition_records.proofs.RisingLemmas.{Contains-insert_new}
 use Rattle.definition_records.proofs.RisingLemmas.{Contains-insert_old, Contains-map, Contains-map_back}
 use Rattle.definition_records.specs.Records.{Record, Records}
-use Rattle.definition_records.specs.declared.columns.TheConstants.{PREDECESSOR}
+use Rattle.definition_records.specs.declared.columns.TheConstants.{PREDECESSOR, PREDECESSOR_WITHIN}
 
--- the predecessor that a record gives
-abbrev given : Record → List ℕ
-given row = field row PREDECESSOR
+-- the name that a record gives
+abbrev named : Record → List ℕ
+named row = field row PREDECESSOR
 
--- a further name at its place
-pub predecessors-more : (names : List (List ℕ)) (before : Records) (name : List ℕ) (row : Record) (place : ℕ)
-    → name ≡ field row PREDECESSOR → IsPlaceFor (λ n. n) names name place → ArePredecessorsOf names before
-    → ArePredecessorsOf (insert names place name) (before ++ row ∷ [])
-predecessors-more names before name row place of free are =
+abbrev name_of : Predecessor → List ℕ
+name_of p = p.name
+
+-- a further predecessor at its place
+pub predecessors-more : (listed : List Predecessor) (before : Records) (p : Predecessor) (row : Record) (place : ℕ)
+    → p ≡ predecessor_of row → IsPlaceFor name_of listed p.name place → ArePredecessorsOf listed before
+    → ArePredecessorsOf (insert listed place p) (before ++ row ∷ [])
+predecessors-more listed before p row place of free are =
     record {
-      rising = rising-insert (λ n. n) names name place free are.rising;
-      exactly = λ n. (
-        λ has. elim (Contains-insert_cases names place name n has) [
-          | inl old ↦ let (r, there, same) = Contains-map_back given before n ((are.exactly n).0 old) in
+      rising = rising-insert name_of listed p place free are.rising;
+      exactly = λ q. (
+        λ has. elim (Contains-insert_cases listed place p q has) [
+          | inl old ↦ let (r, there, same) = Contains-map_back predecessor_of before q ((are.exactly q).0 old) in
               subst (Contains (predecessors_of (before ++ row ∷ []))) same
-              (Contains-map given (before ++ row ∷ []) r (Contains-append_left before (row ∷ []) r there))
+              (Contains-map predecessor_of (before ++ row ∷ []) r (Contains-append_left before (row ∷ []) r there))
           | inr new ↦ subst (Contains (predecessors_of (before ++ row ∷ []))) (sym of ∙ sym new)
-              (Contains-map given (before ++ row ∷ []) row (Contains-push before row))
+              (Contains-map predecessor_of (before ++ row ∷ []) row (Contains-push before row))
         ],
-        λ has. from n (Contains-map_back given (before ++ row ∷ []) n has),
+        λ has. from q (Contains-map_back predecessor_of (before ++ row ∷ []) q has),
       );
     }
   where
-    from : (n : List ℕ) → ((r : Record) × Contains (before ++ row ∷ []) r × (given r ≡ n))
-        → Contains (insert names place name) n
-    from n (r, there, same) = elim (Contains-push_cases before row r there) [
-      | inl old ↦ Contains-insert_old names place name n
-          ((are.exactly n).1 (subst (Contains (predecessors_of before)) same (Contains-map given before r old)))
-      | inr new ↦ subst (Contains (insert names place name)) (of ∙ subst (λ x. given row ≡ given x) new refl ∙ same)
-          (Contains-insert_new names place name)
+    from : (q : Predecessor) → ((r : Record) × Contains (before ++ row ∷ []) r × (predecessor_of r ≡ q))
+        → Contains (insert listed place p) q
+    from q (r, there, same) = elim (Contains-push_cases before row r there) [
+      | inl old ↦ Contains-insert_old listed place p q ((are.exactly q).1
+          (subst (Contains (predecessors_of before)) same (Contains-map predecessor_of before r old)))
+      | inr new ↦ subst (Contains (insert listed place p)) (of ∙ ap predecessor_of new ∙ same)
+          (Contains-insert_new listed place p)
     ]
 
+-- the first record
+pub predecessors-one : (p : Predecessor) (row : Record) → p ≡ predecessor_of row
+    → ArePredecessorsOf (p ∷ []) (row ∷ [])
+predecessors-one p row of = record {
+  rising = λ i j d lt within. absurd (omega (arith, lt, within));
+  exactly = λ q. ((λ has. subst (λ x. Contains (x ∷ []) q) of has), λ has. subst (λ x. Contains (x ∷ []) q) (sym of) has);
+}
+
 -- a record with a new name is good
-pub predecessors-fit : (names : List (List ℕ)) (before : Records) (name : List ℕ) (row : Record) (place : ℕ)
-    → IsName (field row PREDECESSOR) → name ≡ field row PREDECESSOR → IsPlaceFor (λ n. n) names name place
-    → ArePredecessorsOf names before → FitsPredecessors before row
-predecessors-fit names before name row place named of free are = (
-  named,
-  λ has. none_named (λ n. n) names name place free
-      (let (k, lt, is) = (are.exactly (field row PREDECESSOR)).1 has in (k, field row PREDECESSOR, lt, is, sym of)),
-)
+pub predecessors-fit : (listed : List Predecessor) (before : Records) (p : Predecessor) (row : Record) (place : ℕ)
+    → IsPredecessorRecord row → p ≡ predecessor_of row → IsPlaceFor name_of listed p.name place
+    → ArePredecessorsOf listed before → FitsPredecessors before row
+predecessors-fit listed before p row place is of free are = record {
+  is = is;
+  new = λ has.
+      let (r, there, same) = Contains-map_back named before (named row) has in
+      let (k, lt, at) = (are.exactly (predecessor_of r)).1 (Contains-map predecessor_of before r there) in
+      none_named name_of listed p.name place free (k, predecessor_of r, lt, at, same ∙ sym (ap name_of of));
+}
 
 -- one with a name that is there is not
-pub predecessors-no_fit : (names : List (List ℕ)) (before : Records) (name : List ℕ) (row : Record) (k : ℕ)
-    → name ≡ field row PREDECESSOR → k < length names → HoldsAt (λ n. n ≡ name) names k
-    → ArePredecessorsOf names before → FitsPredecessors before row → ⊥
-predecessors-no_fit names before name row k of lt at are fits =
-    fits.1 ((are.exactly (field row PREDECESSOR)).0 (k, lt, at (field row PREDECESSOR) ∙ of))
+pub predecessors-no_fit : (listed : List Predecessor) (before : Records) (p : Predecessor) (row : Record) (k : ℕ)
+    → p ≡ predecessor_of row → k < length listed → HoldsAt (λ q. q.name ≡ p.name) listed k
+    → ArePredecessorsOf listed before → FitsPredecessors before row → ⊥
+predecessors-no_fit listed before p row k of lt at are fits =
+    let q = get_or listed k p in
+    let (r, there, same) = Contains-map_back predecessor_of before q ((are.exactly q).0 (Contains-get_or listed k p lt)) in
+    fits.new (subst (Contains (named_by before)) (ap name_of same ∙ at p ∙ ap name_of of)
+    (Contains-map named before r there))
+
+-- the limit that bytes spell
+pub some_text : (bytes : List ℕ) (value : ℕ) → (bytes ≡ [] → ⊥) → value ≡ number_value bytes
+    → Some value ≡ within_of bytes
+some_text [] value some is = absurd (some refl)
+some_text (b ∷ bytes) value some is = ap Some is

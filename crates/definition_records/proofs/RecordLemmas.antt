@@ -256,19 +256,19 @@ few-records text rows s y limit h le =
 -- an error at the record after good ones tells it as the first faulty one, or is want of memory
 pub error-faulty : {R : Type 0} (rem : R → Option (List ℕ)) (a b : Reader R) (why : ErrorKind) (xs y : List ℕ)
     (rows : Records)
-    (Fits : Records → Record → Type 0) (fields number : ℕ)
-    → ((before : Records) (row : Record) → Fits before row → length row ≡ fields)
+    (Fits : Records → Record → Type 0) (number : ℕ)
+    → ((row : Record) → Fits rows row → IfSome a.expected (λ n. length row ≡ n))
     → a.config ≡ default_config → source_of rem a ≡ Some y → Reached default_config st.StartRecord xs rows a.state y
-    → IfSome a.expected (λ n. n ≡ fields) → AllGood Fits rows → number ≡ length rows + 1
+    → AllGood Fits rows → number ≡ length rows + 1
     → ExplainsRead rem a b false why
     → IsFirstFaulty Fits (records default_config xs) (fault_of_kind why number)
-error-faulty rem a b (kind.UnequalLengths pos wanted len) xs y rows Fits fields number fixed ec ex h same good n e =
+error-faulty rem a b (kind.UnequalLengths pos wanted len) xs y rows Fits number fixed ec ex h good n e =
     let took = reader-took rem a b e.3 default_config xs y rows ec ex h e.4 in
-    let wants : wanted ≡ fields = rw e.1 at same in
-    let bad : ¬ (Fits rows e.3) = λ t. e.2 (wants ∙ sym (fixed rows e.3 t) ∙ e.5) in
+    let long : (row : Record) → Fits rows row → length row ≡ wanted = rw e.1 at fixed in
+    let bad : ¬ (Fits rows e.3) = λ t. e.2 (sym (long e.3 t) ∙ e.5) in
     first_faulty-at Fits _ rows e.3 took.0 number took.1 good bad n
-error-faulty rem a b (kind.Io x) xs y rows Fits fields number fixed ec ex h same good n e = tt
-error-faulty rem a b (kind.Utf8 pos err) xs y rows Fits fields number fixed ec ex h same good n e = tt
-error-faulty rem a b kind.OutOfMemory xs y rows Fits fields number fixed ec ex h same good n e = tt
-error-faulty rem a b (kind.Serialize text) xs y rows Fits fields number fixed ec ex h same good n e = tt
-error-faulty rem a b (kind.Deserialize pos err) xs y rows Fits fields number fixed ec ex h same good n e = tt
+error-faulty rem a b (kind.Io x) xs y rows Fits number fixed ec ex h good n e = tt
+error-faulty rem a b (kind.Utf8 pos err) xs y rows Fits number fixed ec ex h good n e = tt
+error-faulty rem a b kind.OutOfMemory xs y rows Fits number fixed ec ex h good n e = tt
+error-faulty rem a b (kind.Serialize text) xs y rows Fits number fixed ec ex h good n e = tt
+error-faulty rem a b (kind.Deserialize pos err) xs y rows Fits number fixed ec ex h good n e = tt

@@ -16,10 +16,17 @@ use Rattle.definition_records.specs.declared.columns.TheConstants.{NAME}
 abbrev pub records_of : List ℕ → Records → Records
 records_of name rows = filter (λ row. pointwise nat_eq (field row NAME) name) rows
 
--- a record of a kind whose records have that many fields is good after the records before it: it has so many, the first
--- is a name, and the rest is good after the earlier records about that name
-pub record FitsKind (fields : ℕ) (FitsName : Records → Record → Type 0) (before : Records) (row : Record) : Type 0 where
-  pub complete : length row ≡ fields
+-- the record has as many fields as the first of the records before it, where there are any
+abbrev pub IsAsLong : Records → Record → Type 0
+IsAsLong [] row = Unit {0}
+IsAsLong (first ∷ rest) row = length row ≡ length first
+
+-- a record of a kind is good after the records before it: a record of the kind may have so many fields, and the first
+-- record has as many; its first field is a name, and the rest is good after the earlier records about that name
+pub record FitsKind (HasFields : ℕ → Type 0) (FitsName : Records → Record → Type 0) (before : Records) (row : Record)
+    : Type 0 where
+  pub complete : HasFields (length row)
+  pub as_long : IsAsLong before row
   pub name : IsName (field row NAME)
   pub fits : FitsName (records_of (field row NAME) before) row
 

@@ -2,12 +2,14 @@
 use Rattle.std.specs.Prelude.{◌≡◌, [], ◌∷◌, refl}
 use Rattle.definition_records.specs.declared.columns.TheConstants.{NAME, APPLICATION_STATUS, APPLICATION_CALENDAR}
 use Rattle.definition_records.specs.declared.columns.TheConstants.{CALENDAR_ENTRY, CALENDAR_STATUS, PREDECESSOR}
+use Rattle.definition_records.specs.declared.columns.TheConstants.{PREDECESSOR_WITHIN}
 use Rattle.definition_records.specs.declared.columns.TheConstants.{PERIOD_TYPE, PERIOD_ORIGIN, PERIOD_LENGTH}
 use Rattle.definition_records.specs.declared.columns.TheConstants.{CYCLE_NAME, CYCLE_TYPE, CYCLE_PERIOD, CYCLE_RULE}
 use Rattle.definition_records.specs.declared.columns.TheConstants.{CYCLE_OFFSETS, CYCLE_IN_EFFECT, CYCLE_OUT_EFFECT}
 use Rattle.definition_records.specs.declared.columns.TheConstants.{CYCLE_IA, CYCLE_DEADLINE_DAY, CYCLE_DEADLINE_TIME}
 use Rattle.definition_records.specs.declared.columns.TheConstants.{APPLICATION_FIELDS, CALENDAR_FIELDS, PERIOD_FIELDS}
 use Rattle.definition_records.specs.declared.columns.TheConstants.{PREDECESSOR_FIELDS, CYCLE_FIELDS}
+use Rattle.definition_records.specs.declared.columns.TheConstants.{LIMITED_PREDECESSOR_FIELDS}
 
 -- application, status, calendar
 pub application : (NAME ∷ APPLICATION_STATUS ∷ APPLICATION_CALENDAR ∷ []) ≡ (0 ∷ 1 ∷ 2 ∷ [])
@@ -21,8 +23,8 @@ calendar = refl
 pub period : (NAME ∷ PERIOD_TYPE ∷ PERIOD_ORIGIN ∷ PERIOD_LENGTH ∷ []) ≡ (0 ∷ 1 ∷ 2 ∷ 3 ∷ [])
 period = refl
 
--- application, predecessor
-pub predecessor : (NAME ∷ PREDECESSOR ∷ []) ≡ (0 ∷ 1 ∷ [])
+-- application, predecessor, limit
+pub predecessor : (NAME ∷ PREDECESSOR ∷ PREDECESSOR_WITHIN ∷ []) ≡ (0 ∷ 1 ∷ 2 ∷ [])
 predecessor = refl
 
 -- application, name, type, period, rule, offsets
@@ -39,3 +41,7 @@ cycle_ends = refl
 pub fields : (APPLICATION_FIELDS ∷ CALENDAR_FIELDS ∷ PERIOD_FIELDS ∷ PREDECESSOR_FIELDS ∷ CYCLE_FIELDS ∷ []) ≡
     (3 ∷ 3 ∷ 4 ∷ 2 ∷ 11 ∷ [])
 fields = refl
+
+-- the fields of a predecessor's record with a limit
+pub limited : LIMITED_PREDECESSOR_FIELDS ≡ 3
+limited = refl

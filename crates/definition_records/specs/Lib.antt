@@ -3,6 +3,7 @@ pub mod ByName
 pub mod Calendars
 pub mod Columns
 pub mod CycleRecords
+pub mod FieldCounts
 pub mod Fields
 pub mod Limits
 pub mod Periods

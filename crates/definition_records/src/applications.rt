@@ -3,7 +3,7 @@
 ghost use Rattle.csv.specs.Records.{fields_of};
 ghost use Rattle.definition_records.specs.Applications.{FitsApplication, IsApplicationOf};
 ghost use Rattle.definition_records.specs.ByName.{Begins};
-ghost use Rattle.definition_records.specs.declared.columns.TheConstants.{APPLICATION_FIELDS};
+ghost use Rattle.definition_records.specs.FieldCounts.{HasApplicationFields};
 
 use crate::by_name::Definition;
 use crate::columns::{APPLICATION_CALENDAR, APPLICATION_FIELDS, APPLICATION_STATUS};
@@ -35,13 +35,15 @@ fn application_of(row: &ByteRecord) -> Option<Application>
 }
 
 impl Definition for Application {
-    ghost FIELDS = { APPLICATION_FIELDS };
+    ghost HasFields = { HasApplicationFields };
 
     ghost FitsName = { FitsApplication };
 
     ghost IsMadeOf = { IsApplicationOf };
 
-    const FIELDS: usize = APPLICATION_FIELDS;
+    fn has_fields(count: usize) -> bool {
+        count == APPLICATION_FIELDS
+    }
 
     fn begin(_alloc: Global, row: &ByteRecord) -> Result<Option<Application>, AllocError> {
         Ok(application_of(row))

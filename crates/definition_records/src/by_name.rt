@@ -6,7 +6,7 @@ ghost use Rattle.std.specs.Option.{option_copied};
 ghost use Rattle.std.specs.FinMap as map;
 ghost use Rattle.csv.specs.Records.{fields_of};
 ghost use Rattle.definition_records.specs.ByName.{AreEntriesOf, AreGivenBy, AreNamesOf, Begins, FitsKind, HaveOwnNames};
-ghost use Rattle.definition_records.specs.ByName.{Joins, overlaid};
+ghost use Rattle.definition_records.specs.ByName.{IsAsLong, Joins, overlaid};
 ghost use Rattle.definition_records.specs.Rising.{AreRising};
 ghost use Rattle.definition_records.specs.Records.{Record, Records};
 
@@ -21,10 +21,8 @@ use work_calendars::Name;
 
 /// A definition of one name, which one record begins and further ones may join.
 pub trait Definition: Drop {
-    /// How many fields a record of this kind has.
-    ghost FIELDS: { ℕ };
-
-    const FIELDS: usize;
+    /// A record of this kind may have so many fields.
+    ghost HasFields: { ℕ → Type 0 };
 
     /// A record is good after the earlier records about its name.
     ghost FitsName: { Records → Record → Type 0 };
@@ -32,9 +30,13 @@ pub trait Definition: Drop {
     /// The definition is the one that these records make.
     ghost IsMadeOf: { Self → Records → Type 0 };
 
+    /// Whether a record may have so many fields.
+    fn has_fields(count: usize) -> bool
+        ensures { IsTrue result ↔ HasFields count };
+
     /// The definition that the first record about a name begins, or none where the record is faulty.
     fn begin(alloc: Global, row: &ByteRecord) -> Result<Option<Self>, AllocError>
-        requires { length (fields_of row.now) ≡ FIELDS }
+        requires { HasFields (length (fields_of row.now)) }
         ensures { IfOk result (Begins FitsName IsMadeOf (fields_of row.now)) };
 
     /// An owned copy.
@@ -43,7 +45,7 @@ pub trait Definition: Drop {
 
     /// Takes a further record about the name, or answers that it is faulty.
     fn join(&mut self, row: &ByteRecord) -> Result<bool, AllocError>
-        requires { length (fields_of row.now) ≡ FIELDS }
+        requires { HasFields (length (fields_of row.now)) }
         ensures { (before : Records) → before ≢ [] → IsMadeOf self.old before
             → IfOk result (Joins FitsName IsMadeOf before (fields_of row.now) self.new) };
 }
@@ -185,12 +187,13 @@ impl<D: Definition> Clone for ByName<D> {
 }
 
 impl<D: Definition> ByName<D> {
-    /// Takes the next record of a block in, or answers that it is faulty.
+    /// Takes the next record of a block in, which is as long as the first one, or answers that it is faulty.
     pub(crate) fn gather(&mut self, alloc: Global, row: &ByteRecord) -> Result<bool, AllocError>
-        ensures { (before : Records) → AreGivenBy D.IsMadeOf self.old before → IfOk result
-            (Joins (FitsKind D.FIELDS D.FitsName) (AreGivenBy D.IsMadeOf) before (fields_of row.now) self.new) }
+        ensures { (before : Records) → AreGivenBy D.IsMadeOf self.old before
+            → IsAsLong before (fields_of row.now) → IfOk result
+            (Joins (FitsKind D.HasFields D.FitsName) (AreGivenBy D.IsMadeOf) before (fields_of row.now) self.new) }
     {
-        if row.len() != D::FIELDS {
+        if !D::has_fields(row.len()) {
             return Ok(false);
         }
         let Some(name) = name_of(field_at(row, NAME)) else {

@@ -7,7 +7,7 @@ ghost use Rattle.definition_records.specs.ByName.{Joins};
 ghost use Rattle.definition_records.specs.Calendars.{FitsCalendar, IsCalendarOf, IsWeekdayText, IsStatusText};
 ghost use Rattle.definition_records.specs.Calendars.{status_of};
 ghost use Rattle.definition_records.specs.Records.{Records};
-ghost use Rattle.definition_records.specs.declared.columns.TheConstants.{CALENDAR_FIELDS};
+ghost use Rattle.definition_records.specs.FieldCounts.{HasCalendarFields};
 
 use crate::by_name::Definition;
 use crate::columns::{CALENDAR_ENTRY, CALENDAR_FIELDS, CALENDAR_STATUS};
@@ -72,13 +72,15 @@ fn add_entry(calendar: &mut Calendar, row: &ByteRecord) -> Result<bool, AllocErr
 }
 
 impl Definition for Calendar {
-    ghost FIELDS = { CALENDAR_FIELDS };
+    ghost HasFields = { HasCalendarFields };
 
     ghost FitsName = { FitsCalendar };
 
     ghost IsMadeOf = { IsCalendarOf };
 
-    const FIELDS: usize = CALENDAR_FIELDS;
+    fn has_fields(count: usize) -> bool {
+        count == CALENDAR_FIELDS
+    }
 
     fn begin(alloc: Global, row: &ByteRecord) -> Result<Option<Calendar>, AllocError> {
         let mut calendar = Calendar::new(alloc);

@@ -28,8 +28,12 @@ pub const PERIOD_FIELDS: usize = 4;
 
 /// The predecessor's name.
 pub const PREDECESSOR: usize = 1;
-/// The fields of a predecessor's record.
+/// Hours, or empty for no limit.
+pub const PREDECESSOR_WITHIN: usize = 2;
+/// The fields of a predecessor's record without a limit.
 pub const PREDECESSOR_FIELDS: usize = 2;
+/// The fields of a predecessor's record where those of the block have a limit or are left empty there.
+pub const LIMITED_PREDECESSOR_FIELDS: usize = 3;
 
 /// The run cycle's own name.
 pub const CYCLE_NAME: usize = 1;

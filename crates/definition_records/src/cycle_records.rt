@@ -13,7 +13,8 @@ ghost use Rattle.definition_records.specs.CycleRecords.{rule_text, IsDistanceTex
 ghost use Rattle.definition_records.specs.CycleRecords.{pieces_of, SpellsOffsets, SpellsDeadline, SpellsType};
 ghost use Rattle.definition_records.specs.CycleRecords.{SpellsRunCycle, IsRunCycleText, FitsRunCycle, AreRunCyclesOf};
 ghost use Rattle.definition_records.specs.Rising.{AreRising, IsPlaceFor};
-ghost use Rattle.definition_records.specs.declared.columns.TheConstants.{CYCLE_OFFSETS, CYCLE_FIELDS};
+ghost use Rattle.definition_records.specs.declared.columns.TheConstants.{CYCLE_OFFSETS};
+ghost use Rattle.definition_records.specs.FieldCounts.{HasCycleFields};
 
 use crate::by_name::Definition;
 use crate::columns::{
@@ -234,13 +235,15 @@ fn place_of(cycles: &[RunCycle], name: &Short) -> Result<usize, usize>
 }
 
 impl Definition for RunCycles {
-    ghost FIELDS = { CYCLE_FIELDS };
+    ghost HasFields = { HasCycleFields };
 
     ghost FitsName = { FitsRunCycle };
 
     ghost IsMadeOf = { AreRunCyclesOf };
 
-    const FIELDS: usize = CYCLE_FIELDS;
+    fn has_fields(count: usize) -> bool {
+        count == CYCLE_FIELDS
+    }
 
     fn begin(alloc: Global, row: &ByteRecord) -> Result<Option<RunCycles>, AllocError> {
         let Some(cycle) = run_cycle_of(alloc, row)? else {

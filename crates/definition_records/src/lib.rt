@@ -24,5 +24,5 @@ pub use applications::Application;
 pub use by_name::{ByName, Definition};
 pub use cycle_records::RunCycles;
 pub use periods::DefinedPeriod;
-pub use predecessors::Predecessors;
+pub use predecessors::{Predecessor, Predecessors};
 pub use records::{BlockFault, LONGEST_BLOCK, gather_all};

@@ -8,7 +8,8 @@ ghost use Rattle.plan_periods.specs.Period.{Entry, IsSoundPeriod};
 ghost use Rattle.work_calendars.specs.Spelling.{SpellsDay};
 ghost use Rattle.definition_records.specs.Fields.{field, number_value, IsDayText};
 ghost use Rattle.definition_records.specs.Periods.{FitsPeriod, IsPeriodOf, GivesEntry, HasInterval, IsLater};
-ghost use Rattle.definition_records.specs.declared.columns.TheConstants.{PERIOD_ORIGIN, PERIOD_LENGTH, PERIOD_FIELDS};
+ghost use Rattle.definition_records.specs.FieldCounts.{HasPeriodFields};
+ghost use Rattle.definition_records.specs.declared.columns.TheConstants.{PERIOD_ORIGIN, PERIOD_LENGTH};
 
 use crate::by_name::Definition;
 use crate::columns::{NAME, PERIOD_FIELDS, PERIOD_LENGTH, PERIOD_ORIGIN, PERIOD_TYPE};
@@ -118,13 +119,15 @@ fn entry_of(row: &ByteRecord) -> Option<(Day, Option<Day>)>
 }
 
 impl Definition for DefinedPeriod {
-    ghost FIELDS = { PERIOD_FIELDS };
+    ghost HasFields = { HasPeriodFields };
 
     ghost FitsName = { FitsPeriod };
 
     ghost IsMadeOf = { IsPeriodOf };
 
-    const FIELDS: usize = PERIOD_FIELDS;
+    fn has_fields(count: usize) -> bool {
+        count == PERIOD_FIELDS
+    }
 
     fn begin(alloc: Global, row: &ByteRecord) -> Result<Option<DefinedPeriod>, AllocError> {
         if short_of(field_at(row, NAME)).is_none() {

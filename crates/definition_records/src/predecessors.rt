@@ -1,62 +1,77 @@
 // The predecessors of applications.
 
-ghost use Rattle.std.specs.Prelude.{◌≡◌, ◌↔◌, ◌<◌, ℕ, List, length, IsTrue, IsSome, IfSome, IfOk};
+ghost use Rattle.std.specs.Prelude.{◌≡◌, ◌↔◌, ◌<◌, [], ◌∷◌, length, IsTrue, IsSome, IfSome, IfOk};
 ghost use Rattle.std.specs.Prelude.{IfErr};
 ghost use Rattle.std.specs.List.{HoldsAt};
-ghost use Rattle.definition_records.specs.Predecessors.{FitsPredecessors, ArePredecessorsOf};
+ghost use Rattle.csv.specs.Records.{fields_of};
+ghost use Rattle.definition_records.specs.FieldCounts.{HasPredecessorFields};
+ghost use Rattle.definition_records.specs.Fields.{IsEmptyOr};
+ghost use Rattle.definition_records.specs.Predecessors.{ArePredecessorsOf, FitsPredecessors, IsPredecessorRecord};
+ghost use Rattle.definition_records.specs.Predecessors.{IsWithinText, predecessor_of, within_of};
 ghost use Rattle.definition_records.specs.Rising.{AreRising, IsPlaceFor};
-ghost use Rattle.definition_records.specs.declared.columns.TheConstants.{PREDECESSOR_FIELDS};
 
 use crate::by_name::Definition;
-use crate::columns::{PREDECESSOR, PREDECESSOR_FIELDS};
-use crate::fields::{field_at, name_of};
+use crate::columns::{
+    LIMITED_PREDECESSOR_FIELDS, PREDECESSOR, PREDECESSOR_FIELDS, PREDECESSOR_WITHIN,
+};
+use crate::fields::{field_at, name_of, number_of};
 use csv::ByteRecord;
 use std::alloc::{AllocError, Global};
 use std::marker::Model;
-use work_calendars::Name;
+use work_calendars::{MAX_WITHIN, Name, Within};
 
-/// The predecessors of an application, in byte order, each once. Contracts see the list of their names.
+/// A predecessor in the list of an application.
+#[derive(Clone, Copy, Debug, PartialEq, Eq, Hash)]
+pub struct Predecessor {
+    /// The application that the list names.
+    pub name: Name,
+    /// The most hours from its arrival to that of the occurrence that follows it; `None` where there is no limit.
+    pub within: Option<Within>,
+}
+
+/// The predecessors of an application in byte order of their names, no two of one name. Contracts see the list.
 #[derive(Drop)]
 pub struct Predecessors {
-    names: Vec<Name>,
+    listed: Vec<Predecessor>,
 }
 
 impl Model for Predecessors {
-    ghost use Rattle.std.specs.Prelude.{ℕ, List};
+    ghost use Rattle.std.specs.Prelude.{List};
     ghost use Rattle.definition_records.specs.Rising.{AreRising};
+    ghost use Rattle.definition_records.specs.declared.predecessors.Predecessor.{Predecessor as PredecessorValue};
 
-    ghost Value = { List (List ℕ) };
+    ghost Value = { List PredecessorValue };
 
-    ghost view = { λ p. p.names.items };
+    ghost view = { λ p. p.listed.items };
 
-    ghost invariant = { λ p. AreRising (λ name. name) p.names.items };
+    ghost invariant = { λ p. AreRising (λ listed. listed.name) p.listed.items };
 }
 
 impl Predecessors {
-    /// The predecessors of these names, or none where they aren't in byte order, each once.
-    pub fn from_vec(names: Vec<Name>) -> Option<Predecessors>
-        ensures valid { IsSome result ↔ AreRising (λ name. name) names.items }
-        ensures value { IfSome result (λ p. p ≡ names.items) }
+    /// These predecessors, or none where they aren't in byte order of their names, no two of one name.
+    pub fn from_vec(listed: Vec<Predecessor>) -> Option<Predecessors>
+        ensures valid { IsSome result ↔ AreRising (λ p. p.name) listed.items }
+        ensures value { IfSome result (λ p. p ≡ listed.items) }
     {
-        if !is_rising(&names) {
+        if !is_rising(&listed) {
             return None;
         }
-        Some(Predecessors { names })
+        Some(Predecessors { listed })
     }
 
-    /// The names as a vector.
-    pub fn into_vec(self) -> Vec<Name>
+    /// The predecessors as a vector.
+    pub fn into_vec(self) -> Vec<Predecessor>
         ensures { result.items ≡ self }
     {
-        self.names
+        self.listed
     }
 
-    /// The names, in byte order, each once.
-    pub fn as_slice(&self) -> &[Name]
+    /// The predecessors, in byte order of their names, no two of one name.
+    pub fn as_slice(&self) -> &[Predecessor]
         ensures value { result.now ≡ self.now }
-        ensures rising { AreRising (λ name. name) result.now }
+        ensures rising { AreRising (λ p. p.name) result.now }
     {
-        &self.names
+        &self.listed
     }
 }
 
@@ -65,17 +80,17 @@ impl Clone for Predecessors {
 
     fn clone(&self) -> Result<Predecessors, AllocError> {
         Ok(Predecessors {
-            names: self.names.clone()?,
+            listed: self.listed.clone()?,
         })
     }
 }
 
 // Whether the names are in byte order, each once.
-fn is_rising(names: &[Name]) -> bool
-    ensures { IsTrue result ↔ AreRising (λ name. name) names.now }
+fn is_rising(listed: &[Predecessor]) -> bool
+    ensures { IsTrue result ↔ AreRising (λ p. p.name) listed.now }
 {
-    for i in 1..names.len() {
-        if names[i - 1] >= names[i] {
+    for i in 1..listed.len() {
+        if listed[i - 1].name >= listed[i].name {
             return false;
         }
     }
@@ -83,30 +98,60 @@ fn is_rising(names: &[Name]) -> bool
 }
 
 // Where this name stands, or else the place where it would stand.
-fn place_of(names: &[Name], name: &Name) -> Result<usize, usize>
-    requires { AreRising (λ n. n) names.now }
-    ensures found { IfOk result (λ k. (k < length names.now) × HoldsAt (λ n. n ≡ name.now) names.now k) }
-    ensures free { IfErr result (IsPlaceFor (λ n. n) names.now name.now) }
+fn place_of(listed: &[Predecessor], name: &Name) -> Result<usize, usize>
+    requires { AreRising (λ p. p.name) listed.now }
+    ensures found { IfOk result (λ k. (k < length listed.now) × HoldsAt (λ p. p.name ≡ name.now) listed.now k) }
+    ensures free { IfErr result (IsPlaceFor (λ p. p.name) listed.now name.now) }
 {
-    names.binary_search(name)
+    listed.binary_search_by_key(name, |listed| listed.name)
+}
+
+// The limit that these bytes spell, or no limit where there are none.
+fn limit_of(bytes: &[u8]) -> Option<Option<Within>>
+    ensures valid { IsSome result ↔ IsEmptyOr IsWithinText bytes.now }
+    ensures value { IfSome result (λ o. o ≡ within_of bytes.now) }
+{
+    if bytes.is_empty() {
+        return Some(None);
+    }
+    let hours = number_of(bytes, MAX_WITHIN)?;
+    Some(Some(Within::from_hours(hours as u32)?))
+}
+
+// The predecessor that a record gives, or none where its name or its limit is faulty.
+fn predecessor_of(row: &ByteRecord) -> Option<Predecessor>
+    ensures valid { IsSome result ↔ IsPredecessorRecord (fields_of row.now) }
+    ensures value { IfSome result (λ p. p ≡ predecessor_of (fields_of row.now)) }
+{
+    let name = name_of(field_at(row, PREDECESSOR))?;
+    let within = limit_of(field_at(row, PREDECESSOR_WITHIN))?;
+    Some(Predecessor { name, within })
+}
+
+// The one predecessor.
+fn only(alloc: Global, predecessor: Predecessor) -> Result<Predecessors, AllocError>
+    ensures { IfOk result (λ p. p ≡ predecessor ∷ []) }
+{
+    let listed = vec![in alloc; predecessor]?;
+    Ok(Predecessors { listed })
 }
 
 impl Definition for Predecessors {
-    ghost FIELDS = { PREDECESSOR_FIELDS };
+    ghost HasFields = { HasPredecessorFields };
 
     ghost FitsName = { FitsPredecessors };
 
     ghost IsMadeOf = { ArePredecessorsOf };
 
-    const FIELDS: usize = PREDECESSOR_FIELDS;
+    fn has_fields(count: usize) -> bool {
+        count == PREDECESSOR_FIELDS || count == LIMITED_PREDECESSOR_FIELDS
+    }
 
     fn begin(alloc: Global, row: &ByteRecord) -> Result<Option<Predecessors>, AllocError> {
-        let Some(name) = name_of(field_at(row, PREDECESSOR)) else {
-            return Ok(None);
-        };
-        let mut names = Vec::new(alloc);
-        names.push(name)?;
-        Ok(Some(Predecessors { names }))
+        match predecessor_of(row) {
+            Some(predecessor) => Ok(Some(only(alloc, predecessor)?)),
+            None => Ok(None),
+        }
     }
 
     fn copy(&self) -> Result<Predecessors, AllocError> {
@@ -114,13 +159,13 @@ impl Definition for Predecessors {
     }
 
     fn join(&mut self, row: &ByteRecord) -> Result<bool, AllocError> {
-        let Some(name) = name_of(field_at(row, PREDECESSOR)) else {
+        let Some(predecessor) = predecessor_of(row) else {
             return Ok(false);
         };
-        match place_of(&self.names, &name) {
+        match place_of(&self.listed, &predecessor.name) {
             Ok(_) => Ok(false),
             Err(place) => {
-                self.names.insert(place, name)?;
+                self.listed.insert(place, predecessor)?;
                 Ok(true)
             }
         }

@@ -18,7 +18,9 @@ use Rattle.definition_records.specs.Calendars.{status_of}
 use Rattle.definition_records.specs.Calendars.{weekday_letters}
 use Rattle.definition_records.specs.Fields.{IsDayText, field}
 use Rattle.definition_records.specs.Records.{Record, Records}
-use Rattle.definition_records.specs.declared.columns.TheConstants.{CALENDAR_ENTRY, CALENDAR_FIELDS}
+use Rattle.definition_records.specs.declared.columns.TheConstants.{CALENDAR_FIELDS}
+use Rattle.definition_records.specs.FieldCounts.{HasCalendarFields}
+use Rattle.definition_records.specs.declared.columns.TheConstants.{CALENDAR_ENTRY}
 use Rattle.definition_records.proofs.CalendarLemmas.{one_weekday, weekday-no_day}
 use Rattle.definition_records.proofs.RisingLemmas.{Contains-map, Contains-map_back}
 use Rattle.definition_soundness.specs.Given.{IsGiven}
@@ -187,16 +189,16 @@ module _ (c : CalendarEntries) where
         }
 
     -- so all are good
-    all_fit : (n : ℕ) → AreFitting name CALENDAR_FIELDS FitsCalendar IsCalendarOf c (entries n)
+    all_fit : (n : ℕ) → AreFitting name HasCalendarFields CALENDAR_FIELDS refl FitsCalendar IsCalendarOf c (entries n)
     unfolding entries entry_by entry
-    all_fit zero = fitting_none name CALENDAR_FIELDS FitsCalendar IsCalendarOf c
+    all_fit zero = fitting_none name HasCalendarFields CALENDAR_FIELDS refl FitsCalendar IsCalendarOf c
     all_fit (suc n) =
         elim (listed_at n) as (λ o. listed_at n ≡ o
-        → AreFitting name CALENDAR_FIELDS FitsCalendar IsCalendarOf c (entries n ++ entry_by n o)) [
-          | None ↦ λ is. subst (AreFitting name CALENDAR_FIELDS FitsCalendar IsCalendarOf c)
+        → AreFitting name HasCalendarFields CALENDAR_FIELDS refl FitsCalendar IsCalendarOf c (entries n ++ entry_by n o)) [
+          | None ↦ λ is. subst (AreFitting name HasCalendarFields CALENDAR_FIELDS refl FitsCalendar IsCalendarOf c)
               (sym (append-nil (entries n))) (all_fit n)
           | Some status ↦ λ is.
-              fitting_more name CALENDAR_FIELDS FitsCalendar IsCalendarOf c (entries n) (entry n status) (all_fit n)
+              fitting_more name HasCalendarFields CALENDAR_FIELDS refl FitsCalendar IsCalendarOf c (entries n) (entry n status) (all_fit n)
               refl
               (fits_after n status is)
         ] refl
@@ -282,10 +284,10 @@ module _ (c : CalendarEntries) where
         (are_entries places (entry k status) (k, below, status, is, refl))) in
         omega (arith, lt)
 
-    pub calendar_given : IsCalendarValue name c → IsGiven CALENDAR_FIELDS FitsCalendar IsCalendarOf name c
+    pub calendar_given : IsCalendarValue name c → IsGiven HasCalendarFields FitsCalendar IsCalendarOf name c
     calendar_given is =
         let (k, below, some) = some_place is.some in
-        given name CALENDAR_FIELDS FitsCalendar IsCalendarOf c is.named (entries places)
+        given name HasCalendarFields CALENDAR_FIELDS refl FitsCalendar IsCalendarOf c is.named (entries places)
         (some_entry k below (listed_at k) refl some) (all_fit name days places) are_listed
 
   listed_some : (o : Option DayStatus) (P : List ℕ → Type 0) (all : Records) (row : Record) → IsListedBy o P all
@@ -293,10 +295,10 @@ module _ (c : CalendarEntries) where
   listed_some None P all row none there own = absurd (none row there own)
   listed_some (Some status) P all row listed there own = refl
 
-  pub calendar_value : (name : List ℕ) → IsGiven CALENDAR_FIELDS FitsCalendar IsCalendarOf name c
+  pub calendar_value : (name : List ℕ) → IsGiven HasCalendarFields FitsCalendar IsCalendarOf name c
       → IsCalendarValue name c
   calendar_value name is =
-      let begins = begun name CALENDAR_FIELDS FitsCalendar IsCalendarOf c is in
+      let begins = begun name HasCalendarFields CALENDAR_FIELDS refl FitsCalendar IsCalendarOf c is in
       record {
         named = begins.named;
         some = elim begins.fits.entry [

@@ -21,7 +21,9 @@ use Rattle.definition_records.specs.CycleRecords.{offset_value, pieces_of, rule_
 use Rattle.definition_records.specs.Fields.{field, number_value}
 use Rattle.definition_records.specs.Records.{Record}
 use Rattle.definition_records.specs.Rising.{AreRising, IsBelow}
-use Rattle.definition_records.specs.declared.columns.TheConstants.{CYCLE_FIELDS, CYCLE_OUT_EFFECT}
+use Rattle.definition_records.specs.declared.columns.TheConstants.{CYCLE_FIELDS}
+use Rattle.definition_records.specs.FieldCounts.{HasCycleFields}
+use Rattle.definition_records.specs.declared.columns.TheConstants.{CYCLE_OUT_EFFECT}
 use Rattle.definition_records.proofs.RisingLemmas.{Contains-map_back, not_itself}
 use Rattle.definition_soundness.specs.Given.{IsGiven}
 use Rattle.definition_soundness.specs.Values.{AreCycleValues, HasDeadline, IsCycleValue, IsDeadlineValue}
@@ -222,19 +224,19 @@ module _ (name : List ℕ) (cycles : List RunCycle) where
     none_of [] none = refl
     none_of (x ∷ xs) none = absurd (omega (arith, none))
 
-    pub cycles_given : IsName name → cycles ≢ [] → IsGiven CYCLE_FIELDS FitsRunCycle AreRunCyclesOf name cycles
+    pub cycles_given : IsName name → cycles ≢ [] → IsGiven HasCycleFields FitsRunCycle AreRunCyclesOf name cycles
     unfolding rests
     cycles_given named some =
-        given name CYCLE_FIELDS FitsRunCycle AreRunCyclesOf cycles named rests
+        given name HasCycleFields CYCLE_FIELDS refl FitsRunCycle AreRunCyclesOf cycles named rests
         (λ none. let empty : length (rows_of name rests) ≡ 0 = ap length none in
         some (none_of cycles
         (omega (arith, empty, length-map rests (about name), length-map cycles cycle_rest))))
         (λ k lt. fits_at k (first_of cycles some) (omega (arith, length-map cycles cycle_rest)))
         made_of
 
-  pub cycles_value : IsGiven CYCLE_FIELDS FitsRunCycle AreRunCyclesOf name cycles → AreCycleValues name cycles
+  pub cycles_value : IsGiven HasCycleFields FitsRunCycle AreRunCyclesOf name cycles → AreCycleValues name cycles
   cycles_value is =
-      let begins = begun name CYCLE_FIELDS FitsRunCycle AreRunCyclesOf cycles is in
+      let begins = begun name HasCycleFields CYCLE_FIELDS refl FitsRunCycle AreRunCyclesOf cycles is in
       let spelled = All-contains (λ row. Any (SpellsRunCycle row) cycles) begins.rows begins.row begins.made.all
       begins.there in
       record {

@@ -1,13 +1,10 @@
 -- What is known of a definition that some good records give.
-use Rattle.std.proofs.Common.{◌≡◌, ◌≢◌, ℕ, zero, suc, ◌+◌, ◌-◌, ◌<◌, ◌≤◌, Bool, true, false, cond, List, [], ◌∷◌, length}
+use Rattle.std.proofs.Common.{◌≡◌, ◌≢◌, ℕ, zero, suc, ◌+◌, ◌-◌, ◌<◌, Bool, true, false, cond, List, [], ◌∷◌, length}
 use Rattle.std.proofs.Common.{get_or, take, filter, refl, sym, ap, subst, ◌∙◌, inl, inr, arith, Option, None, Some}
-use Rattle.std.specs.Prelude.{IfSome, codes, nat_eq}
-use Rattle.std.specs.Cmp.Lexicographic.{pointwise, slice_cmp}
-use Rattle.std.specs.Ordering.{nat_cmp}
+use Rattle.std.specs.Prelude.{nat_eq}
+use Rattle.std.specs.Cmp.Lexicographic.{pointwise}
 use Rattle.std.specs.FinMap as map
-use Rattle.std.specs.List.{Contains}
 use Rattle.std.proofs.lemmas.List.{get_or-take, get_or_default, length-take-le}
-use Rattle.std.proofs.lemmas.List.Elements.{All-contains}
 use Rattle.work_calendars.specs.Calendar.{CalendarEntries}
 use Rattle.work_calendars.specs.Day.{IsDay}
 use Rattle.work_calendars.specs.Spelling.{SpellsDay}
@@ -17,16 +14,17 @@ use Rattle.plan_periods.specs.Period.{EndsFromOrigin, Entry, IsSoundPeriod}
 use Rattle.plan_periods.specs.declared.periods.Period.{Period}
 use Rattle.plan_periods.specs.declared.periods.Period.TheVariants.{All as AllDays, Work, Listed}
 use Rattle.run_cycles.specs.declared.cycles.RunCycle.{RunCycle}
-use Rattle.definition_records.specs.ByName.{FitsKind, IsDefinedBy, records_of}
+use Rattle.definition_records.specs.ByName.{records_of}
 use Rattle.definition_records.specs.Calendars.{FitsCalendar, IsCalendarOf, IsListedBy}
 use Rattle.definition_records.specs.CycleRecords.{AreRunCyclesOf, FitsRunCycle}
 use Rattle.definition_records.specs.Fields.{field}
-use Rattle.definition_records.specs.Periods.{BeginsPeriod, FitsPeriod, GivesEntry, GoesOnPeriod, HasInterval, IsPeriodOf}
+use Rattle.definition_records.specs.Periods.{BeginsPeriod, FitsPeriod, GoesOnPeriod, HasInterval, IsPeriodOf}
 use Rattle.definition_records.specs.Periods.{GiveEntries}
-use Rattle.definition_records.specs.Records.{AllGood, Record, Records}
+use Rattle.definition_records.specs.Records.{Record, Records}
 use Rattle.definition_records.specs.Rising.{AreRising}
-use Rattle.definition_records.specs.declared.columns.TheConstants.{CALENDAR_FIELDS, CYCLE_FIELDS, NAME, PERIOD_FIELDS}
-use Rattle.definition_records.specs.declared.columns.TheConstants.{PERIOD_LENGTH, PERIOD_ORIGIN, PERIOD_TYPE}
+use Rattle.definition_records.specs.FieldCounts.{HasCalendarFields, HasCycleFields, HasPeriodFields}
+use Rattle.definition_records.specs.declared.columns.TheConstants.{NAME}
+use Rattle.definition_records.specs.declared.columns.TheConstants.{PERIOD_ORIGIN, PERIOD_TYPE}
 use Rattle.definition_records.proofs.ByNameLemmas.{same_name}
 use Rattle.definition_soundness.specs.Given.{IsGiven}
 
@@ -60,7 +58,7 @@ stands p (r ∷ rows) k lt = elim (p r) as (λ b. p r ≡ b → k < length (cond
       | false ↦ λ is more. passed p r rows (stands p rows) k is more
     ] refl lt
 
-module _ {D : Type 0} (fields : ℕ) (Fits : Records → Record → Type 0) (IsMadeOf : D → Records → Type 0) where
+module _ {D : Type 0} (HasFields : ℕ → Type 0) (Fits : Records → Record → Type 0) (IsMadeOf : D → Records → Type 0) where
   -- records about one name, each good after those before it, and what they make
   pub record Made (d : D) : Type 0 where
     pub rows : Records
@@ -68,7 +66,7 @@ module _ {D : Type 0} (fields : ℕ) (Fits : Records → Record → Type 0) (IsM
     pub made : IsMadeOf d rows
     pub fits : (k : ℕ) → k < length rows → Fits (take k rows) (get_or rows k [])
 
-  pub made_of : (name : List ℕ) (d : D) → IsGiven fields Fits IsMadeOf name d → Made d
+  pub made_of : (name : List ℕ) (d : D) → IsGiven HasFields Fits IsMadeOf name d → Made d
   made_of name d (rows, good, by) = record {
     rows = records_of name rows;
     some = by.0;
@@ -90,20 +88,20 @@ dated None status day rows is listed = cc
 dated (Some status) other day rows is (row, there, spells, same) = spells.in_range
 
 module _ (name : List ℕ) (c : CalendarEntries)
-    (is : IsGiven CALENDAR_FIELDS FitsCalendar IsCalendarOf name c) where
+    (is : IsGiven HasCalendarFields FitsCalendar IsCalendarOf name c) where
   pub calendar_week : length c.weekdays ≡ 7
-  calendar_week = (made_of CALENDAR_FIELDS FitsCalendar IsCalendarOf name c is).made.week
+  calendar_week = (made_of HasCalendarFields FitsCalendar IsCalendarOf name c is).made.week
 
   pub calendar_days : (day : ℕ) (status : DayStatus) → map.get c.dates day ≡ Some status → IsDay day
   calendar_days day status at =
-      let made = made_of CALENDAR_FIELDS FitsCalendar IsCalendarOf name c is in
+      let made = made_of HasCalendarFields FitsCalendar IsCalendarOf name c is in
       dated (map.get c.dates day) status day made.rows at (made.made.dates day)
 
 -- ---- run cycles
 
-pub cycles_rise : (name : List ℕ) (cycles : List RunCycle) → IsGiven CYCLE_FIELDS FitsRunCycle AreRunCyclesOf name cycles
+pub cycles_rise : (name : List ℕ) (cycles : List RunCycle) → IsGiven HasCycleFields FitsRunCycle AreRunCyclesOf name cycles
     → AreRising (λ cycle. cycle.name) cycles
-cycles_rise name cycles is = (made_of CYCLE_FIELDS FitsRunCycle AreRunCyclesOf name cycles is).made.rising
+cycles_rise name cycles is = (made_of HasCycleFields FitsRunCycle AreRunCyclesOf name cycles is).made.rising
 
 -- ---- periods
 
@@ -157,9 +155,9 @@ module _ (entries : List Entry) (rows : Records) (give : GiveEntries rows entrie
       (get_or entries (k + 1) d).0 gives.0 (origin_at (k + 1) d (omega arith)) in
       omega (arith, below, same)
 
-pub period_sound : (name : List ℕ) (p : Period) → IsGiven PERIOD_FIELDS FitsPeriod IsPeriodOf name p → IsSoundPeriod p
+pub period_sound : (name : List ℕ) (p : Period) → IsGiven HasPeriodFields FitsPeriod IsPeriodOf name p → IsSoundPeriod p
 period_sound name p is =
-    let made = made_of PERIOD_FIELDS FitsPeriod IsPeriodOf name p is in
+    let made = made_of HasPeriodFields FitsPeriod IsPeriodOf name p is in
     sound p made.rows made.some made.made made.fits
   where
     sound : (p : Period) (rows : Records) → rows ≢ [] → IsPeriodOf p rows

@@ -28,19 +28,19 @@ module _ {D : Type 0} (Test : List ℕ → D → Type 0) (definitions : map.FinM
       (All-contains_itself names)
 
 -- definitions are definable where each is given
-module _ {D : Type 0} (fields : ℕ) (Fits : Records → Record → Type 0) (IsMadeOf : D → Records → Type 0)
+module _ {D : Type 0} (HasFields : ℕ → Type 0) (Fits : Records → Record → Type 0) (IsMadeOf : D → Records → Type 0)
     (definitions : map.FinMap (slice_cmp nat_cmp) D) where
-  pub definable_to : AllGiven (IsGiven fields Fits IsMadeOf) definitions
-      → AreDefinable fields Fits IsMadeOf (map.get definitions)
+  pub definable_to : AllGiven (IsGiven HasFields Fits IsMadeOf) definitions
+      → AreDefinable HasFields Fits IsMadeOf (map.get definitions)
   definable_to all name =
       elim (map.get definitions name) as (λ o. map.get definitions name ≡ o → (rows : Records)
-      × AllGood (FitsKind fields Fits) rows × IsDefinedBy IsMadeOf o (records_of name rows)) [
+      × AllGood (FitsKind HasFields Fits) rows × IsDefinedBy IsMadeOf o (records_of name rows)) [
         | None ↦ λ is. ([], (λ k lt. absurd (omega (arith, lt))), refl)
         | Some d ↦ λ is. all name d is
       ] refl
 
-  pub definable_from : AreDefinable fields Fits IsMadeOf (map.get definitions)
-      → AllGiven (IsGiven fields Fits IsMadeOf) definitions
+  pub definable_from : AreDefinable HasFields Fits IsMadeOf (map.get definitions)
+      → AllGiven (IsGiven HasFields Fits IsMadeOf) definitions
   definable_from definable name d is =
       let (rows, good, by) = definable name in
       (rows, good, subst (λ o. IsDefinedBy IsMadeOf o (records_of name rows)) is by)

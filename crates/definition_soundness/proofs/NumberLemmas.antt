@@ -73,7 +73,7 @@ four n above below = record {
   value = omega arith;
 }
 
-spelled : (n : ℕ) → (text : List ℕ) × (n ≤ 1999 → SpellsNumber text n)
+spelled : (n : ℕ) → (text : List ℕ) × (n ≤ 9999 → SpellsNumber text n)
 spelled n = elim (cases_lt n 10) [
   | inl below ↦ ((48 + n) ∷ [], λ within. one n below)
   | inr above ↦ elim (cases_lt n 100) [
@@ -92,9 +92,12 @@ spelled n = elim (cases_lt n 10) [
 pub number_text : ℕ → List ℕ
 number_text n = (spelled n).0
 
-pub number_spelled : (n : ℕ) → n ≤ 1999 → SpellsNumber (number_text n) n
+pub hours_spelled : (n : ℕ) → n ≤ 9999 → SpellsNumber (number_text n) n
 unfolding number_text
-number_spelled n within = (spelled n).1 within
+hours_spelled n within = (spelled n).1 within
+
+pub number_spelled : (n : ℕ) → n ≤ 1999 → SpellsNumber (number_text n) n
+number_spelled n within = hours_spelled n (omega (arith, within))
 
 -- offsets
 

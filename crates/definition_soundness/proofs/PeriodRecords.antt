@@ -16,7 +16,9 @@ use Rattle.definition_records.specs.Fields.{IsNumberUpTo, SpellsOptionalDay, fie
 use Rattle.definition_records.specs.Periods.{BeginsPeriod, FitsPeriod, GivesEntry, GoesOnPeriod, HasInterval}
 use Rattle.definition_records.specs.Periods.{IsPeriodOf}
 use Rattle.definition_records.specs.Records.{Record, Records}
-use Rattle.definition_records.specs.declared.columns.TheConstants.{PERIOD_FIELDS, PERIOD_LENGTH, PERIOD_ORIGIN}
+use Rattle.definition_records.specs.declared.columns.TheConstants.{PERIOD_FIELDS}
+use Rattle.definition_records.specs.FieldCounts.{HasPeriodFields}
+use Rattle.definition_records.specs.declared.columns.TheConstants.{PERIOD_LENGTH, PERIOD_ORIGIN}
 use Rattle.definition_records.specs.declared.columns.TheConstants.{PERIOD_TYPE}
 use Rattle.definition_soundness.specs.Given.{IsGiven}
 use Rattle.definition_soundness.specs.Values.{HasDays, IsEntryValue, IsPeriodValue}
@@ -50,9 +52,9 @@ end_days text (Some day) is = is.in_range
 -- one record
 module _ (name : List ℕ) (p : Period) (rest : List (List ℕ)) where
   pub one_given : IsName name → length rest + 1 ≡ PERIOD_FIELDS → BeginsPeriod (about name rest)
-      → IsPeriodOf p (about name rest ∷ []) → IsGiven PERIOD_FIELDS FitsPeriod IsPeriodOf name p
+      → IsPeriodOf p (about name rest ∷ []) → IsGiven HasPeriodFields FitsPeriod IsPeriodOf name p
   one_given named long begins made =
-      given name PERIOD_FIELDS FitsPeriod IsPeriodOf p named (rest ∷ []) (λ none. cc) (λ k lt. at k lt) made
+      given name HasPeriodFields PERIOD_FIELDS refl FitsPeriod IsPeriodOf p named (rest ∷ []) (λ none. cc) (λ k lt. at k lt) made
     where
       at : (k : ℕ) → k < 1 → (length (get_or (rest ∷ []) k []) + 1 ≡ PERIOD_FIELDS)
           × FitsPeriod (rows_of name (take k (rest ∷ []))) (about name (get_or (rest ∷ []) k []))
@@ -162,11 +164,11 @@ module _ (name : List ℕ) where
     long_at k lt =
         let same = ap (λ (r : List (List ℕ)). length r) (row_at k (0, None) lt) in omega (arith, same)
 
-    pub listed_given : 0 < length entries → IsGiven PERIOD_FIELDS FitsPeriod IsPeriodOf name (Listed entries)
+    pub listed_given : 0 < length entries → IsGiven HasPeriodFields FitsPeriod IsPeriodOf name (Listed entries)
     unfolding before rests
     listed_given some =
         let e = same_length in
-        given name PERIOD_FIELDS FitsPeriod IsPeriodOf (Listed entries) (short_named name short) rests
+        given name HasPeriodFields PERIOD_FIELDS refl FitsPeriod IsPeriodOf (Listed entries) (short_named name short) rests
         (λ none. let long : length (rows_of name rests) ≡ 0 = ap length none in
         omega (arith, long, length-map rests (about name)))
         (λ k lt. (long_at k (omega arith), fits_at k (omega arith))) (
@@ -187,7 +189,7 @@ module _ (name : List ℕ) where
 
   -- a period without a fault is given where its name is short and its days are days
   pub period_given : (p : Period) → IsSoundPeriod p → IsPeriodValue name p
-      → IsGiven PERIOD_FIELDS FitsPeriod IsPeriodOf name p
+      → IsGiven HasPeriodFields FitsPeriod IsPeriodOf name p
   unfolding number_rest
   period_given (AllDays origin interval) sound is =
       let rest = number_rest (codes "A") origin interval in
@@ -212,7 +214,7 @@ module _ (name : List ℕ) where
       (gives.0.in_range, end_days (field (get_or rows k []) PERIOD_LENGTH) (get_or entries k (0, None)).1 gives.1) in
       subst IsEntryValue (get_or_default entries k (0, None) d lt) value
 
-  pub period_value : (p : Period) → IsGiven PERIOD_FIELDS FitsPeriod IsPeriodOf name p → IsPeriodValue name p
+  pub period_value : (p : Period) → IsGiven HasPeriodFields FitsPeriod IsPeriodOf name p → IsPeriodValue name p
   period_value p is =
-      let begins = begun name PERIOD_FIELDS FitsPeriod IsPeriodOf p is in
+      let begins = begun name HasPeriodFields PERIOD_FIELDS refl FitsPeriod IsPeriodOf p is in
       record { named = subst IsShort begins.of_name begins.fits.0; days = days_of p begins.rows begins.made }

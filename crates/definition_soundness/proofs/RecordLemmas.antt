@@ -11,7 +11,7 @@ use Rattle.std.proofs.lemmas.List.{take-append-le, take-map}
 use Rattle.std.proofs.Math.Seq.{take-append_seam}
 use Rattle.std.proofs.lemmas.Bool.{cases_lt}
 use Rattle.work_calendars.specs.Name.{IsName}
-use Rattle.definition_records.specs.ByName.{FitsKind, records_of}
+use Rattle.definition_records.specs.ByName.{FitsKind, IsAsLong, records_of}
 use Rattle.definition_records.specs.Fields.{field}
 use Rattle.definition_records.specs.Records.{Record, Records}
 use Rattle.definition_records.specs.declared.columns.TheConstants.{NAME}
@@ -50,10 +50,19 @@ module _ (name : List ℕ) where
       (name_itself name)
       ∙ ap (λ (l : Records). about rest ∷ l) (all_about rests)
 
-  module _ {D : Type 0} (fields : ℕ) (Fits : Records → Record → Type 0) (IsMadeOf : D → Records → Type 0) (d : D) where
+  -- a record is as long as the first, where all have that many fields
+  as_long_of : (count : ℕ) (rests : List (List (List ℕ))) (k : ℕ) (row : Record) → length row ≡ count
+      → ((j : ℕ) → j < length rests → length (get_or rests j []) + 1 ≡ count) → IsAsLong (take k (rows_of rests)) row
+  as_long_of count [] zero row long all = tt
+  as_long_of count [] (suc k) row long all = tt
+  as_long_of count (r ∷ rests) zero row long all = tt
+  as_long_of count (r ∷ rests) (suc k) row long all = let first = all zero (omega arith) in omega arith
+
+  module _ {D : Type 0} (HasFields : ℕ → Type 0) (count : ℕ) (has : HasFields count)
+      (Fits : Records → Record → Type 0) (IsMadeOf : D → Records → Type 0) (d : D) where
     -- each record is good after those before it
     abbrev pub AreFitting : List (List (List ℕ)) → Type 0
-    AreFitting rests = (k : ℕ) → k < length rests → (length (get_or rests k []) + 1 ≡ fields)
+    AreFitting rests = (k : ℕ) → k < length rests → (length (get_or rests k []) + 1 ≡ count)
         × Fits (rows_of (take k rests)) (about (get_or rests k []))
 
     pub fitting_none : AreFitting []
@@ -61,7 +70,7 @@ module _ (name : List ℕ) where
 
     -- one record more
     pub fitting_more : (rests : List (List (List ℕ))) (rest : List (List ℕ)) → AreFitting rests
-        → length rest + 1 ≡ fields → Fits (rows_of rests) (about rest) → AreFitting (rests ++ rest ∷ [])
+        → length rest + 1 ≡ count → Fits (rows_of rests) (about rest) → AreFitting (rests ++ rest ∷ [])
     fitting_more rests rest before long fits k lt = elim (cases_lt k (length rests)) [
       | inl old ↦
           let here : get_or (rests ++ rest ∷ []) k [] ≡ get_or rests k [] =
@@ -85,7 +94,7 @@ module _ (name : List ℕ) where
     ]
 
     pub given : IsName name → (rests : List (List (List ℕ))) → rows_of rests ≢ [] → AreFitting rests
-        → IsMadeOf d (rows_of rests) → IsGiven fields Fits IsMadeOf name d
+        → IsMadeOf d (rows_of rests) → IsGiven HasFields Fits IsMadeOf name d
     given named rests some fitting made =
         let same = all_about rests in (
           rows_of rests,
@@ -95,8 +104,10 @@ module _ (name : List ℕ) where
               let fits = fitting k (omega (arith, length-map rests about)) in
               let before : records_of name (take k (rows_of rests)) ≡ rows_of (take k rests) =
               ap (records_of name) (take-map about k rests) ∙ all_about (take k rests) in
-              subst (FitsKind fields Fits (take k (rows_of rests))) (sym here) (record {
-                complete = omega (arith, fits.0);
+              subst (FitsKind HasFields Fits (take k (rows_of rests))) (sym here) (record {
+                complete = subst HasFields (omega (arith, fits.0)) has;
+                as_long = as_long_of count rests k (about (get_or rests k [])) (omega (arith, fits.0))
+                    (λ j below. (fitting j below).0);
                 name = named;
                 fits = subst (λ (l : Records). Fits l (about (get_or rests k []))) (sym before) fits.1;
               })),
@@ -136,7 +147,7 @@ module _ (name : List ℕ) where
               )
         ] refl some
 
-    pub begun : IsGiven fields Fits IsMadeOf name d → Begun
+    pub begun : IsGiven HasFields Fits IsMadeOf name d → Begun
     begun (rows, good, by) =
         let (k, lt, of_name, before, there) = first_about rows by.0 in
         let fits = good k lt in

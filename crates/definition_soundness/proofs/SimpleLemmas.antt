@@ -3,21 +3,26 @@ use Rattle.std.proofs.Common.{◌≡◌, ◌↔◌, ◌⊎◌, ℕ, zero, suc, �
 use Rattle.std.proofs.Common.{take}
 use Rattle.std.proofs.Common.{map, refl, sym, ap, subst, ◌∙◌, inl, inr, arith, Option, None, Some}
 use Rattle.std.specs.Prelude.{IfSome, IsTrue, codes}
-use Rattle.std.specs.List.{Contains}
+use Rattle.std.specs.List.{All, Contains}
 use Rattle.std.proofs.lemmas.List.{get_or-map, get_or_default, length-map, take-map}
 use Rattle.std.proofs.lemmas.List.Elements.{All-contains_itself, All-weaker, Contains-get_or}
 use Rattle.work_calendars.specs.Name.{IsName}
+use Rattle.work_calendars.specs.Within.{IsWithinHours}
 use Rattle.definition_records.specs.Applications.{FitsApplication, IsApplicationOf}
-use Rattle.definition_records.specs.Fields.{IsEmptyOr, field, some_unless_empty}
-use Rattle.definition_records.specs.Predecessors.{ArePredecessorsOf, FitsPredecessors, predecessors_of}
-use Rattle.definition_records.specs.Records.{Record}
+use Rattle.definition_records.specs.Fields.{IsEmptyOr, field, number_value, some_unless_empty}
+use Rattle.definition_records.specs.Predecessors.{ArePredecessorsOf, FitsPredecessors, IsWithinText, named_by}
+use Rattle.definition_records.specs.Predecessors.{predecessor_of, predecessors_of, within_of}
+use Rattle.definition_records.specs.declared.predecessors.Predecessor.{Predecessor}
 use Rattle.definition_records.specs.Rising.{AreRising, IsBelow}
 use Rattle.definition_records.specs.declared.applications.Application.{Application}
-use Rattle.definition_records.specs.declared.columns.TheConstants.{APPLICATION_CALENDAR, APPLICATION_FIELDS}
-use Rattle.definition_records.specs.declared.columns.TheConstants.{PREDECESSOR, PREDECESSOR_FIELDS}
+use Rattle.definition_records.specs.declared.columns.TheConstants.{APPLICATION_FIELDS, LIMITED_PREDECESSOR_FIELDS}
+use Rattle.definition_records.specs.FieldCounts.{HasApplicationFields, HasPredecessorFields}
+use Rattle.definition_records.specs.declared.columns.TheConstants.{APPLICATION_CALENDAR}
+use Rattle.definition_records.specs.declared.columns.TheConstants.{PREDECESSOR_WITHIN}
 use Rattle.definition_records.proofs.RisingLemmas.{Contains-map, Contains-map_back, not_itself}
 use Rattle.definition_soundness.specs.Given.{IsGiven}
 use Rattle.definition_soundness.specs.Values.{ArePredecessorValues, IsApplicationValue}
+use Rattle.definition_soundness.proofs.NumberLemmas.{hours_spelled, number_text}
 use Rattle.definition_soundness.proofs.RecordLemmas.{about, begun, given, rows_of}
 
 -- applications
@@ -63,9 +68,9 @@ calendar_named (b ∷ text) o form is = elim form [
 ]
 
 module _ (name : List ℕ) (a : Application) where
-  pub application_given : IsApplicationValue name a → IsGiven APPLICATION_FIELDS FitsApplication IsApplicationOf name a
+  pub application_given : IsApplicationValue name a → IsGiven HasApplicationFields FitsApplication IsApplicationOf name a
   application_given is =
-      given name APPLICATION_FIELDS FitsApplication IsApplicationOf a is.named
+      given name HasApplicationFields APPLICATION_FIELDS refl FitsApplication IsApplicationOf a is.named
       ((status_text a.active ∷ calendar_text a.calendar ∷ []) ∷ []) (λ none. cc)
       (λ k lt. first k lt)
       (record { active = status_is a.active; calendar = calendar_is a.calendar is.calendar })
@@ -80,9 +85,9 @@ module _ (name : List ℕ) (a : Application) where
       )
       first (suc k) lt = absurd (omega arith)
 
-  pub application_value : IsGiven APPLICATION_FIELDS FitsApplication IsApplicationOf name a → IsApplicationValue name a
+  pub application_value : IsGiven HasApplicationFields FitsApplication IsApplicationOf name a → IsApplicationValue name a
   application_value is =
-      let begins = begun name APPLICATION_FIELDS FitsApplication IsApplicationOf a is in
+      let begins = begun name HasApplicationFields APPLICATION_FIELDS refl FitsApplication IsApplicationOf a is in
       let (k, lt, at) = begins.there in
       let (before, fits) = begins.each (get_or begins.rows 0 []) (Contains-get_or begins.rows 0 [] (omega arith)) in
       record {
@@ -93,72 +98,147 @@ module _ (name : List ℕ) (a : Application) where
 
 -- predecessors
 
-single : List ℕ → List (List ℕ)
-single predecessor = predecessor ∷ []
+limit_text : Option ℕ → List ℕ
+limit_text None = []
+limit_text (Some hours) = number_text hours
 
-module _ (name : List ℕ) (names : List (List ℕ)) where
-  named_of : (xs : List (List ℕ)) → predecessors_of (rows_of name (map single xs)) ≡ xs
+some_within : (text : List ℕ) → 0 < length text → within_of text ≡ Some (number_value text)
+some_within [] some = absurd (omega arith)
+some_within (b ∷ text) some = refl
+
+limit_is : (o : Option ℕ) → IfSome o IsWithinHours → within_of (limit_text o) ≡ o
+unfolding limit_text
+limit_is None is = refl
+limit_is (Some hours) is =
+    let spells = hours_spelled hours is.1 in
+    some_within (number_text hours) spells.number.not_empty ∙ ap Some spells.value
+
+limit_fits : (o : Option ℕ) → IfSome o IsWithinHours → IsEmptyOr IsWithinText (limit_text o)
+unfolding limit_text
+limit_fits None is = inl refl
+limit_fits (Some hours) is =
+    let spells = hours_spelled hours is.1 in inr (spells.number, subst IsWithinHours (sym spells.value) is)
+
+limit_value : (text : List ℕ) → IsEmptyOr IsWithinText text → IfSome (within_of text) IsWithinHours
+limit_value [] form = tt
+limit_value (b ∷ text) form = elim form [
+  | inl empty ↦ let e : suc (length text) ≡ 0 = ap length empty in absurd (omega arith)
+  | inr is ↦ is.1
+]
+
+single : Predecessor → List (List ℕ)
+single p = p.name ∷ limit_text p.within ∷ []
+
+abbrev name_of : Predecessor → List ℕ
+name_of p = p.name
+
+nobody : Predecessor
+nobody = record { name = []; within = None }
+
+-- no name of a rising list stands before its place
+not_before : (names : List (List ℕ)) → AreRising (λ n. n) names → (k : ℕ) → k < length names
+    → Contains (take k names) (get_or names k []) → ⊥
+not_before names rising k lt (j, below, at) =
+    let (under, same) = taken names k j (get_or names k []) below lt in
+    not_itself (get_or names k [])
+    (subst (λ x. IsBelow x (get_or names k [])) (sym same ∙ at)
+    (subst (λ x. IsBelow (get_or names j (get_or names k [])) x) (get_or_default names k (get_or names k []) [] lt)
+    (rising j k (get_or names k []) under lt)))
+  where
+    taken : (xs : List (List ℕ)) (i j : ℕ) (d : List ℕ) → j < length (take i xs) → i < length xs
+        → (j < i) × (get_or (take i xs) j d ≡ get_or xs j d)
+    taken [] i j d below lt = absurd (omega (arith, lt))
+    taken (x ∷ xs) zero j d below lt = absurd (omega (arith, below))
+    taken (x ∷ xs) (suc i) zero d below lt = (omega arith, refl)
+    taken (x ∷ xs) (suc i) (suc j) d below lt =
+        let rest = taken xs i j d (omega (arith, below)) (omega (arith, lt)) in (omega (arith, rest.0), rest.1)
+
+module _ (name : List ℕ) where
+  listed_of : (xs : List Predecessor) → All (λ p. IfSome p.within IsWithinHours) xs
+      → predecessors_of (rows_of name (map single xs)) ≡ xs
   unfolding single
-  named_of [] = refl
-  named_of (x ∷ xs) = ap (λ (l : List (List ℕ)). x ∷ l) (named_of xs)
+  listed_of [] limits = refl
+  listed_of (x ∷ xs) limits =
+      let within = limit_is x.within (limits zero x (omega arith)) in
+      let first : predecessor_of (about name (single x)) ≡ x = λ i. record { name = x.name; within = within i } in
+      ap (λ (p : Predecessor). p ∷ predecessors_of (rows_of name (map single xs))) first
+      ∙ ap (λ (l : List Predecessor). x ∷ l) (listed_of xs (λ k d lt. limits (suc k) d (omega (arith, lt))))
 
-  -- no name of a rising list stands before its place
-  not_before : AreRising (λ n. n) names → (k : ℕ) → k < length names → Contains (take k names) (get_or names k []) → ⊥
-  not_before rising k lt (j, below, at) =
-      let (under, same) = taken names k j (get_or names k []) below lt in
-      not_itself (get_or names k [])
-      (subst (λ x. IsBelow x (get_or names k [])) (sym same ∙ at)
-      (subst (λ x. IsBelow (get_or names j (get_or names k [])) x) (get_or_default names k (get_or names k []) [] lt)
-      (rising j k (get_or names k []) under lt)))
-    where
-      taken : (xs : List (List ℕ)) (i j : ℕ) (d : List ℕ) → j < length (take i xs) → i < length xs
-          → (j < i) × (get_or (take i xs) j d ≡ get_or xs j d)
-      taken [] i j d below lt = absurd (omega (arith, lt))
-      taken (x ∷ xs) zero j d below lt = absurd (omega (arith, below))
-      taken (x ∷ xs) (suc i) zero d below lt = (omega arith, refl)
-      taken (x ∷ xs) (suc i) (suc j) d below lt =
-          let rest = taken xs i j d (omega (arith, below)) (omega (arith, lt)) in (omega (arith, rest.0), rest.1)
+  names_of : (xs : List Predecessor) → named_by (rows_of name (map single xs)) ≡ map name_of xs
+  unfolding single
+  names_of [] = refl
+  names_of (x ∷ xs) = ap (λ (l : List (List ℕ)). x.name ∷ l) (names_of xs)
 
-  pub predecessors_given : AreRising (λ n. n) names → ArePredecessorValues name names
-      → IsGiven PREDECESSOR_FIELDS FitsPredecessors ArePredecessorsOf name names
+module _ (name : List ℕ) (listed : List Predecessor) where
+  names_rise : AreRising name_of listed → AreRising (λ n. n) (map name_of listed)
+  names_rise rising i j d lt within =
+      let in_range : j < length listed = omega (arith, within, length-map listed name_of) in
+      let at_i = get_or-map name_of listed i nobody d (omega (arith, lt, in_range)) in
+      let at_j = get_or-map name_of listed j nobody d in_range in
+      rw (at_i, at_j) (rising i j nobody lt in_range)
+
+  new_name : AreRising name_of listed → (k : ℕ) → k < length listed
+      → Contains (named_by (rows_of name (map single (take k listed)))) (get_or listed k nobody).name → ⊥
+  new_name rising k lt has =
+      let names = map name_of listed in
+      let in_range : k < length names = omega (arith, lt, length-map listed name_of) in
+      let front : named_by (rows_of name (map single (take k listed))) ≡ take k names =
+      names_of name (take k listed) ∙ sym (take-map name_of k listed) in
+      let here : (get_or listed k nobody).name ≡ get_or names k [] = sym (get_or-map name_of listed k nobody [] lt) in
+      not_before names (names_rise rising) k in_range
+      (subst (λ l. Contains l (get_or names k [])) front
+      (subst (Contains (named_by (rows_of name (map single (take k listed))))) here has))
+
+  pub predecessors_given : AreRising name_of listed → ArePredecessorValues name listed
+      → IsGiven HasPredecessorFields FitsPredecessors ArePredecessorsOf name listed
   unfolding single
   predecessors_given rising are =
-      given name PREDECESSOR_FIELDS FitsPredecessors ArePredecessorsOf names are.named (map single names)
-      (λ none. are.some (sym (named_of names) ∙ ap predecessors_of none))
+      given name HasPredecessorFields LIMITED_PREDECESSOR_FIELDS (inr refl) FitsPredecessors ArePredecessorsOf listed
+      are.named (map single listed)
+      (λ none. are.some (sym (listed_of name listed are.limits) ∙ ap predecessors_of none))
       (λ k lt.
-      let within : k < length names = omega (arith, length-map names single) in
-      let here : get_or (map single names) k [] ≡ single (get_or names k []) =
-      get_or-map single names k [] [] within in
-      let before : take k (map single names) ≡ map single (take k names) = take-map single k names in (
+      let within : k < length listed = omega (arith, length-map listed single) in
+      let here : get_or (map single listed) k [] ≡ single (get_or listed k nobody) =
+      get_or-map single listed k nobody [] within in
+      let before : take k (map single listed) ≡ map single (take k listed) = take-map single k listed in (
         omega (arith, ap length here),
-        subst (λ (r : List (List ℕ)). FitsPredecessors (rows_of name (take k (map single names))) (about name r))
+        subst (λ (r : List (List ℕ)). FitsPredecessors (rows_of name (take k (map single listed))) (about name r))
             (sym here)
             (subst (λ (l : List (List (List ℕ))).
-            FitsPredecessors (rows_of name l) (about name (single (get_or names k []))))
-            (sym before) (
-              are.names k [] within,
-              λ has. not_before rising k within (subst (λ (l : List (List ℕ)). Contains l (get_or names k []))
-                  (named_of (take k names)) has),
-            )),
+            FitsPredecessors (rows_of name l) (about name (single (get_or listed k nobody))))
+            (sym before) (record {
+              is = record {
+                named = are.names k nobody within;
+                within = limit_fits (get_or listed k nobody).within (are.limits k nobody within);
+              };
+              new = new_name rising k within;
+            })),
       ))
       (record {
         rising = rising;
-        exactly = λ n. subst (λ (l : List (List ℕ)). Contains names n ↔ Contains l n) (sym (named_of names))
-            ((λ has. has), λ has. has);
+        exactly = λ p. subst (λ (l : List Predecessor). Contains listed p ↔ Contains l p)
+            (sym (listed_of name listed are.limits)) ((λ has. has), λ has. has);
       })
 
-  pub predecessors_value : IsGiven PREDECESSOR_FIELDS FitsPredecessors ArePredecessorsOf name names
-      → ArePredecessorValues name names
+  pub predecessors_value : IsGiven HasPredecessorFields FitsPredecessors ArePredecessorsOf name listed
+      → ArePredecessorValues name listed
   predecessors_value is =
-      let begins = begun name PREDECESSOR_FIELDS FitsPredecessors ArePredecessorsOf names is in
-      let pred : Record → List ℕ = λ row. field row PREDECESSOR in
+      let begins = begun name HasPredecessorFields LIMITED_PREDECESSOR_FIELDS (inr refl) FitsPredecessors
+      ArePredecessorsOf listed is in
       record {
         named = begins.named;
         some = λ none.
-            let (k, lt, at) = subst (λ (l : List (List ℕ)). Contains l (pred begins.row)) none
-            ((begins.made.exactly (pred begins.row)).1 (Contains-map pred begins.rows begins.row begins.there)) in
+            let (k, lt, at) = subst (λ (l : List Predecessor). Contains l (predecessor_of begins.row)) none
+            ((begins.made.exactly (predecessor_of begins.row)).1
+            (Contains-map predecessor_of begins.rows begins.row begins.there)) in
             omega (arith, lt);
-        names = All-weaker (Contains names) IsName (λ n has.
-            let (row, there, same) = Contains-map_back pred begins.rows n ((begins.made.exactly n).0 has) in
-            let (before, fits) = begins.each row there in subst IsName same fits.0) names (All-contains_itself names);
+        names = All-weaker (Contains listed) (λ p. IsName p.name) (λ p has.
+            let (row, there, same) = Contains-map_back predecessor_of begins.rows p ((begins.made.exactly p).0 has) in
+            let (before, fits) = begins.each row there in
+            subst (λ (q : Predecessor). IsName q.name) same fits.is.named) listed (All-contains_itself listed);
+        limits = All-weaker (Contains listed) (λ p. IfSome p.within IsWithinHours) (λ p has.
+            let (row, there, same) = Contains-map_back predecessor_of begins.rows p ((begins.made.exactly p).0 has) in
+            let (before, fits) = begins.each row there in
+            subst (λ (q : Predecessor). IfSome q.within IsWithinHours) same
+            (limit_value (field row PREDECESSOR_WITHIN) fits.is.within)) listed (All-contains_itself listed);
       }

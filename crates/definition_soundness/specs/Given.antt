@@ -7,9 +7,9 @@ use Rattle.definition_records.specs.ByName.{FitsKind, IsDefinedBy, records_of}
 use Rattle.definition_records.specs.Records.{AllGood, Record, Records}
 
 -- some good records make the definition of the name
-abbrev pub IsGiven : {D : Type 0} → ℕ → (Records → Record → Type 0) → (D → Records → Type 0) → List ℕ → D → Type 0
-IsGiven fields FitsName IsMadeOf name d =
-    (rows : Records) × AllGood (FitsKind fields FitsName) rows × IsDefinedBy IsMadeOf (Some d) (records_of name rows)
+abbrev pub IsGiven : {D : Type 0} → (ℕ → Type 0) → (Records → Record → Type 0) → (D → Records → Type 0) → List ℕ → D → Type 0
+IsGiven HasFields FitsName IsMadeOf name d =
+    (rows : Records) × AllGood (FitsKind HasFields FitsName) rows × IsDefinedBy IsMadeOf (Some d) (records_of name rows)
 
 -- so it is of each definition
 abbrev pub AllGiven : {D : Type 0} → (List ℕ → D → Type 0) → map.FinMap (slice_cmp nat_cmp) D → Type 0

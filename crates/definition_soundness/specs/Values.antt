@@ -16,6 +16,8 @@ use Rattle.run_cycles.specs.declared.cycles.Deadline.{Deadline}
 use Rattle.run_cycles.specs.declared.cycles.RunCycle.{RunCycle}
 use Rattle.run_cycles.specs.declared.cycles.TheConstants.{MAX_DEADLINE_DAYS}
 use Rattle.definition_records.specs.declared.applications.Application.{Application}
+use Rattle.definition_records.specs.declared.predecessors.Predecessor.{Predecessor}
+use Rattle.work_calendars.specs.Within.{IsWithinHours}
 
 -- an application's name, and that of its calendar
 pub record IsApplicationValue (name : List ℕ) (a : Application) : Type 0 where
@@ -49,11 +51,12 @@ pub record IsPeriodValue (name : List ℕ) (p : Period) : Type 0 where
   pub named : IsShort name
   pub days : HasDays p
 
--- an application's name, and those of predecessors
-pub record ArePredecessorValues (name : List ℕ) (listed : List (List ℕ)) : Type 0 where
+-- an application's name, those of predecessors, and their limits
+pub record ArePredecessorValues (name : List ℕ) (listed : List Predecessor) : Type 0 where
   pub named : IsName name
   pub some : listed ≢ []
-  pub names : All IsName listed
+  pub names : All (λ p. IsName p.name) listed
+  pub limits : All (λ p. IfSome p.within IsWithinHours) listed
 
 pub record IsDeadlineValue (deadline : Deadline) : Type 0 where
   pub days : deadline.days ≤ MAX_DEADLINE_DAYS

@@ -2,7 +2,7 @@
 
 ghost use Rattle.std.specs.Prelude.{◌↔◌, IsTrue, IfSome};
 ghost use Rattle.definition_records.specs.Applications.{FitsApplication, IsApplicationOf};
-ghost use Rattle.definition_records.specs.declared.columns.TheConstants.{APPLICATION_FIELDS};
+ghost use Rattle.definition_records.specs.FieldCounts.{HasApplicationFields};
 ghost use Rattle.definition_soundness.specs.Given.{IsGiven};
 ghost use Rattle.definition_soundness.specs.Values.{IsApplicationValue};
 ghost use Rattle.work_calendars.specs.Name.{IsName};
@@ -30,7 +30,7 @@ fn is_application(name: &Name, application: &Application) -> bool
 }
 
 impl Given for Application {
-    ghost IsGiven = { IsGiven APPLICATION_FIELDS FitsApplication IsApplicationOf };
+    ghost IsGiven = { IsGiven HasApplicationFields FitsApplication IsApplicationOf };
 
     fn is_given(&self, _alloc: Global, name: &Name) -> Result<bool, AllocError> {
         Ok(is_application(name, self))

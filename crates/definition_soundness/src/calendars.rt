@@ -2,7 +2,7 @@
 
 ghost use Rattle.std.specs.Prelude.{◌≢◌, ◌↔◌, ◌⊎◌, [], IsTrue};
 ghost use Rattle.definition_records.specs.Calendars.{FitsCalendar, IsCalendarOf};
-ghost use Rattle.definition_records.specs.declared.columns.TheConstants.{CALENDAR_FIELDS};
+ghost use Rattle.definition_records.specs.FieldCounts.{HasCalendarFields};
 ghost use Rattle.definition_soundness.specs.Given.{IsGiven};
 ghost use Rattle.definition_soundness.specs.Values.{ListsWeekday};
 ghost use Rattle.work_calendars.specs.Name.{IsName};
@@ -33,7 +33,7 @@ fn is_calendar(name: &Name, calendar: &Calendar, dates: &[(Day, DayStatus)]) -> 
 }
 
 impl Given for Calendar {
-    ghost IsGiven = { IsGiven CALENDAR_FIELDS FitsCalendar IsCalendarOf };
+    ghost IsGiven = { IsGiven HasCalendarFields FitsCalendar IsCalendarOf };
 
     fn is_given(&self, alloc: Global, name: &Name) -> Result<bool, AllocError> {
         let dates = self.dates(alloc)?;

@@ -3,7 +3,7 @@
 ghost use Rattle.std.specs.Prelude.{◌↔◌, IsTrue};
 ghost use Rattle.std.specs.List.{All};
 ghost use Rattle.definition_records.specs.CycleRecords.{AreRunCyclesOf, FitsRunCycle};
-ghost use Rattle.definition_records.specs.declared.columns.TheConstants.{CYCLE_FIELDS};
+ghost use Rattle.definition_records.specs.FieldCounts.{HasCycleFields};
 ghost use Rattle.run_cycles.specs.Offset.{IsOffsets};
 ghost use Rattle.definition_soundness.specs.Given.{IsGiven};
 ghost use Rattle.definition_soundness.specs.Values.{AreCycleValues, HasDeadline, IsCycleValue, IsDeadlineValue};
@@ -71,7 +71,7 @@ fn are_run_cycles(name: &Name, cycles: &[RunCycle]) -> bool
 }
 
 impl Given for RunCycles {
-    ghost IsGiven = { IsGiven CYCLE_FIELDS FitsRunCycle AreRunCyclesOf };
+    ghost IsGiven = { IsGiven HasCycleFields FitsRunCycle AreRunCyclesOf };
 
     fn is_given(&self, _alloc: Global, name: &Name) -> Result<bool, AllocError> {
         Ok(are_run_cycles(name, self.as_slice()))

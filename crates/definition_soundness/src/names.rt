@@ -5,8 +5,10 @@ ghost use Rattle.std.specs.List.{All};
 ghost use Rattle.work_calendars.specs.Day.{IsDay};
 ghost use Rattle.work_calendars.specs.Minute.{IsMinute};
 ghost use Rattle.work_calendars.specs.Name.{IsName, IsShort};
+ghost use Rattle.work_calendars.specs.Within.{IsWithinHours};
 
-use work_calendars::{Day, LONGEST_SHORT_NAME, Minute, Name, Short};
+use app_definitions::Predecessor;
+use work_calendars::{Day, LONGEST_SHORT_NAME, Minute, Name, Short, Within};
 
 pub(crate) fn is_name(name: &Name) -> bool
     ensures { IsTrue result ↔ IsName name.now }
@@ -14,16 +16,37 @@ pub(crate) fn is_name(name: &Name) -> bool
     !name.as_bytes().is_empty()
 }
 
-// Whether all are names.
-pub(crate) fn all_names(names: &[Name]) -> bool
-    ensures { IsTrue result ↔ All IsName names.now }
+// Whether all are named.
+pub(crate) fn all_named(listed: &[Predecessor]) -> bool
+    ensures { IsTrue result ↔ All (λ p. IsName p.name) listed.now }
 {
-    for name in names {
-        if !is_name(name) {
+    for predecessor in listed {
+        if !is_name(&predecessor.name) {
             return false;
         }
     }
     true
+}
+
+// Whether all limits are such, where there are any.
+pub(crate) fn all_limits(listed: &[Predecessor]) -> bool
+    ensures { IsTrue result ↔ All (λ p. IfSome p.within IsWithinHours) listed.now }
+{
+    for predecessor in listed {
+        if !is_limit(&predecessor.within) {
+            return false;
+        }
+    }
+    true
+}
+
+fn is_limit(within: &Option<Within>) -> bool
+    ensures { IsTrue result ↔ IfSome within.now IsWithinHours }
+{
+    match within {
+        Some(within) => within.hours() >= 1,
+        None => true,
+    }
 }
 
 // Whether the name is short enough for a period.

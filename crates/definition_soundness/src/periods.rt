@@ -3,7 +3,7 @@
 ghost use Rattle.std.specs.Prelude.{◌↔◌, IsTrue};
 ghost use Rattle.std.specs.List.{All};
 ghost use Rattle.definition_records.specs.Periods.{FitsPeriod, IsPeriodOf};
-ghost use Rattle.definition_records.specs.declared.columns.TheConstants.{PERIOD_FIELDS};
+ghost use Rattle.definition_records.specs.FieldCounts.{HasPeriodFields};
 ghost use Rattle.definition_soundness.specs.Given.{IsGiven};
 ghost use Rattle.definition_soundness.specs.Values.{HasDays, IsEntryValue, IsPeriodValue};
 
@@ -49,7 +49,7 @@ fn is_period(name: &Name, period: &Period) -> bool
 }
 
 impl Given for DefinedPeriod {
-    ghost IsGiven = { IsGiven PERIOD_FIELDS FitsPeriod IsPeriodOf };
+    ghost IsGiven = { IsGiven HasPeriodFields FitsPeriod IsPeriodOf };
 
     fn is_given(&self, _alloc: Global, name: &Name) -> Result<bool, AllocError> {
         Ok(is_period(name, self.period()))

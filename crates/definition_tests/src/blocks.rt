@@ -1,7 +1,13 @@
 // Blocks that no line feed ends, accepted and refused: in a stream each block has one. What they give comes from the
 // format's own words.
-use app_definitions::{BlockFault, Kind, LONGEST_BLOCK, read_block};
+use app_definitions::{
+    Block, BlockFault, ByName, Kind, LONGEST_BLOCK, Predecessor, Predecessors, read_block,
+    read_predecessors,
+};
 use std::alloc::Global;
+use std::fmt::Write;
+use std::process::Abort;
+use work_calendars::Name;
 
 // 0 where the block is accepted, the number of the faulty record where it isn't, 99 for want of memory, and 98 for a
 // block that no caller may hand in.
@@ -49,6 +55,19 @@ fn blocks_without_a_last_line_feed(rt: HostRuntime) {
         L0:ABCDEFGHIJKLMNOP,ABCDEFGHIJKLMNOP|\
         L0:\xEF\xBB\xBF\"A\",\"B\"\nA,\"C|\
         L2:A,B\rA,B\r|\
+        L0:A,B,1\nA,C,9999\nA,D,\nD,A,24|\
+        L0:A,B,\nA,C,1|\
+        L1:A,B,0|\
+        L1:A,B,10000|\
+        L1:A,B,01|\
+        L1:A,B,+1|\
+        L1:A|\
+        L1:A,B,1,1|\
+        L2:A,B,1\nB,C|\
+        L2:A,B,\nB,C|\
+        L2:A,B\nB,C,1|\
+        L2:A,B,1\nA,B,2|\
+        L3:A,B,1\nA,C,\nA,D,10000|\
         C0:ABCDEFGHIJKLMNOP,2024-02-29,FREE|\
         P0:ABCDEFGH,W,2071-12-31,999|\
         R0:ABCDEFGHIJKLMNOP,R,N,P,E,1,2024-01-01,2071-12-31,08.00,0,17.00|\
@@ -61,5 +80,55 @@ fn blocks_without_a_last_line_feed(rt: HostRuntime) {
         assert_eq!(rt; found, want, "{row:?}");
         rows = rows.wrapping_add(1);
     }
-    assert_eq!(rt; rows, 14);
+    assert_eq!(rt; rows, 27);
+}
+
+// The lists that a block gives, or none where it is refused.
+fn lists(alloc: Global, text: &[u8]) -> Option<ByName<Predecessors>> {
+    if text.len() > LONGEST_BLOCK {
+        return None;
+    }
+    match read_predecessors(alloc, text) {
+        Ok(Block::Predecessors(lists)) => Some(lists),
+        _ => None,
+    }
+}
+
+// The predecessors, as `NAME;`, or `NAME/HOURS;` where there is a limit.
+fn shown(rt: &impl Abort, alloc: Global, listed: &[Predecessor]) -> String {
+    let mut text = String::new(alloc);
+    for predecessor in listed {
+        let name = predecessor.name.as_str();
+        match predecessor.within {
+            Some(within) => {
+                let hours = within.hours();
+                write!(text, "{name}/{hours};").expect(rt, "memory");
+            }
+            None => write!(text, "{name};").expect(rt, "memory"),
+        }
+    }
+    text
+}
+
+// The list of an application, of a block.
+fn list_text(rt: &impl Abort, alloc: Global, text: &[u8], app: &str) -> String {
+    let lists = lists(alloc, text).expect(rt, "a good block");
+    let app = Name::from_text(app).expect(rt, "a name");
+    match lists.get(&app) {
+        Some(list) => shown(rt, alloc, list.as_slice()),
+        None => String::new(alloc),
+    }
+}
+
+#[test]
+fn limits_of_predecessors(rt: HostRuntime) {
+    let limited = b"A,D,\nA,C,9999\nD,A,24\nA,B,1";
+    assert_eq!(rt;
+        list_text(&rt, rt.alloc(), limited, "A").as_str(),
+        "B/1;C/9999;D;"
+    );
+    assert_eq!(rt; list_text(&rt, rt.alloc(), limited, "D").as_str(), "A/24;");
+    assert_eq!(rt; list_text(&rt, rt.alloc(), limited, "B").as_str(), "");
+    let unlimited = b"A,C\nA,B";
+    assert_eq!(rt; list_text(&rt, rt.alloc(), unlimited, "A").as_str(), "B;C;");
 }

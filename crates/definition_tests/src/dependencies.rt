@@ -7,7 +7,7 @@ use occurrences::{Key, Origin, Place, Reason, Row, Serial, Status};
 use std::alloc::Global;
 use std::fmt::Write;
 use std::process::Abort;
-use work_calendars::{App, Moment};
+use work_calendars::{App, Moment, Within};
 
 fn app(rt: &impl Abort, name: &str) -> App {
     App::from_text(name).expect(rt, "a name")
@@ -17,16 +17,27 @@ fn serial(rt: &impl Abort, number: u32) -> Serial {
     Serial::new(number).expect(rt, "a serial")
 }
 
-// One list of predecessors: an application, and the names in its list.
+// An entry of a list: a name, or a name, `/` and the hours of a limit.
+fn entry(text: &str) -> Option<(App, Option<Within>)> {
+    let mut parts = text.split('/');
+    let name = App::from_text(parts.next()?)?;
+    match parts.next() {
+        Some(hours) => Some((name, Some(Within::from_hours(hours.parse().ok()?)?))),
+        None => Some((name, None)),
+    }
+}
+
+// One list of predecessors: an application, and the entries of its list.
 fn push_list(rt: &impl Abort, links: &mut Vec<Link>, text: &str) {
-    let mut names = text.split_whitespace();
-    let owner = app(rt, names.next().expect(rt, "a list"));
-    for name in names {
-        let predecessor = app(rt, name);
+    let mut words = text.split_whitespace();
+    let owner = app(rt, words.next().expect(rt, "a list"));
+    for word in words {
+        let (predecessor, within) = entry(word).expect(rt, "an entry");
         links
             .push(Link {
                 app: owner,
                 predecessor,
+                within,
             })
             .expect(rt, "memory");
     }
@@ -58,7 +69,13 @@ fn chain(rt: &impl Abort, alloc: Global) -> Links {
     for number in 0..200_000u32 {
         let app = numbered(rt, alloc, number);
         let predecessor = numbered(rt, alloc, number.wrapping_add(1));
-        links.push(Link { app, predecessor }).expect(rt, "memory");
+        links
+            .push(Link {
+                app,
+                predecessor,
+                within: None,
+            })
+            .expect(rt, "memory");
     }
     Links::from_vec(links)
 }
@@ -103,6 +120,25 @@ fn naming_text(rt: &impl Abort, alloc: Global, name: &str) -> String {
     let links = lists(rt, alloc, "B C A; A B; D A");
     let naming = links.naming(alloc, &app(rt, name)).expect(rt, "memory");
     shown_links(rt, alloc, naming.as_slice())
+}
+
+// A link is one of these with its own limit, and no other.
+#[test]
+fn links_are_told_with_their_limits(rt: HostRuntime) {
+    let links = lists(&rt, rt.alloc(), "A B/24 C");
+    for (text, is) in [
+        ("A B/24", true),
+        ("A B/23", false),
+        ("A B", false),
+        ("A C", true),
+        ("A C/1", false),
+        ("A D", false),
+    ] {
+        let asked = lists(&rt, rt.alloc(), text);
+        for link in asked.as_slice() {
+            assert_eq!(rt; links.contains(link), is, "of {text}");
+        }
+    }
 }
 
 #[test]
@@ -188,7 +224,7 @@ fn resolved(rt: &impl Abort, alloc: Global, row_text: &str, list_text: &str) -> 
 }
 
 // Rows, lists and the pairs that they make: two days of two applications, a predecessor in history, a predecessor
-// before it is deleted, after, and with another added; who is open; and a ring of nine.
+// before it is deleted, after, and with another added; limits; who is open; and a ring of nine.
 #[test]
 fn pairs_from_scratch(rt: HostRuntime) {
     for (rows, lists, pairs) in [
@@ -217,6 +253,12 @@ fn pairs_from_scratch(rt: HostRuntime) {
             "A A; B A",
             "2-5;3-5;4-3;",
         ),
+        (
+            "1 A 480 L; 2 B 540 L; 3 B 541 L; 4 B 542 S",
+            "B A/1",
+            "2-1;",
+        ),
+        ("1 A 480 L; 2 B 541 L", "B A", "2-1;"),
         (
             "1 A 480 H; 2 B 480 S; 3 B 481 E; 4 B 482 C; 5 B 483 D; 6 B 484 H; 7 B 485 P; 8 B 486 W",
             "B A NONE",
@@ -262,12 +304,12 @@ fn laws_may_be_called(_rt: HostRuntime) {
     arrival_order();
 }
 
-// The nearest predecessor of an application's occurrence in another; 0 where there is none.
+// The nearest predecessor of an application's occurrence in another, with a limit or without; 0 where there is none.
 fn nearest_of(live: &Live, text: &str) -> Option<u32> {
     let mut words = text.split_whitespace();
     let key = key(words.next()?, words.next()?)?;
-    let app = App::from_text(words.next()?)?;
-    Some(nearest(live, &key, &app).map_or(0, |serial| serial.get()))
+    let (app, within) = entry(words.next()?)?;
+    Some(nearest(live, &key, &app, within).map_or(0, |serial| serial.get()))
 }
 
 #[test]
@@ -283,6 +325,11 @@ fn nearest_by_place_and_arrival(rt: HostRuntime) {
         ("A 1920 A", 1),
         ("A 1921 A", 3),
         ("A 480 A", 0),
+        ("B 1920 A/1", 3),
+        ("B 1919 A/24", 1),
+        ("B 1919 A/23", 0),
+        ("A 1920 A/24", 1),
+        ("A 1920 A/23", 0),
         ("B 1440 C", 0),
         ("B 1440 AB", 5),
         ("B 1440 B", 0),

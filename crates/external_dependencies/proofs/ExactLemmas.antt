@@ -1,13 +1,14 @@
 -- What is found anew where a change reaches leads exactly from the pairs before to those after.
-use Rattle.std.proofs.Common.{◌≡◌, ◌↔◌, ◌⊎◌, ℕ, List, refl, sym, ap, subst, ◌∙◌, inl, inr, arith}
+use Rattle.std.proofs.Common.{◌≡◌, ◌↔◌, ◌⊎◌, ℕ, List, Option, refl, sym, ap, subst, ◌∙◌, inl, inr, arith}
 use Rattle.std.specs.List.{Contains}
 use Rattle.occurrences.specs.Place.{IsLive, IsOpen}
 use Rattle.external_dependencies.specs.declared.change.PairChange.{PairChange}
 use Rattle.external_dependencies.specs.declared.links.Link.{Link}
+use Rattle.external_dependencies.specs.declared.live.Arrival.{Arrival}
 use Rattle.external_dependencies.specs.declared.pairs.Pair.{Pair}
 use Rattle.external_dependencies.specs.declared.rows.PlacedRow.{PlacedRow}
 use Rattle.external_dependencies.specs.Change.{Leads}
-use Rattle.external_dependencies.specs.Link.{Lists}
+use Rattle.external_dependencies.specs.Link.{ListsWithin}
 use Rattle.external_dependencies.specs.Nearest.{IsLiveIn, IsNearest}
 use Rattle.external_dependencies.specs.Pair.{IsPairAmong, IsPairOf}
 use Rattle.external_dependencies.specs.declared.touch.Touch.{Touch}
@@ -15,6 +16,7 @@ use Rattle.external_dependencies.specs.Change.{LeadsExactly}
 use Rattle.external_dependencies.specs.Reached.{AreAsked, HasSerialOf, HoldsReached, IsReachedIn}
 use Rattle.external_dependencies.specs.Settled.{AreSettled, IsKeptIn, IsSettledPair}
 use Rattle.external_dependencies.specs.Touch.{MayReach, Touches}
+use Rattle.external_dependencies.proofs.NearestLemmas.{limited_alike}
 use Rattle.external_dependencies.proofs.ToldLemmas.{decide_open, decide_pairs, decide_reaches, member, open_lives}
 use Rattle.external_dependencies.proofs.UnreachedLemmas.{pairs_stay}
 
@@ -36,6 +38,13 @@ module _ (touch : Touch) (was now : List PlacedRow) (was_links links : List Link
   IsNew : Pair → Type 0
   IsNew = IsSettledPair old now links
 
+  -- with a limit too, the rows have whatever is nearest
+  alike : (q : PlacedRow) → Contains now q → IsOpen q.place → MayReach touch links q.row → (app : List ℕ)
+      (within : Option ℕ) → ListsWithin links q.row.key.app app within → (near : Arrival)
+      → IsNearest (IsLiveIn rows) q.row.key app within near ↔ IsNearest (IsLiveIn now) q.row.key app within near
+  alike q stands waits reach app within listed near = limited_alike (IsLiveIn rows) (IsLiveIn now) q.row.key app within
+      near (holds.nearest q stands waits reach app (within, listed) near)
+
   found_new : (pair : Pair) → Contains found pair → IsPairOf now links pair
   found_new pair there =
       let is = (are_found pair).0 there in
@@ -47,9 +56,10 @@ module _ (touch : Touch) (was now : List PlacedRow) (was_links links : List Link
         waits = is.waits;
         successor = is.successor;
         app = is.app;
+        within = is.within;
         listed = is.listed;
         near = is.near;
-        nearest = (holds.nearest is.placed stands is.waits asks.1.1 is.app is.listed is.near).0 is.nearest;
+        nearest = (alike is.placed stands is.waits asks.1.1 is.app is.within is.listed is.near).0 is.nearest;
         predecessor = is.predecessor;
       }
 
@@ -66,9 +76,10 @@ module _ (touch : Touch) (was now : List PlacedRow) (was_links links : List Link
         waits = is.waits;
         successor = is.successor;
         app = is.app;
+        within = is.within;
         listed = is.listed;
         near = is.near;
-        nearest = (holds.nearest is.placed is.stands is.waits reached' is.app is.listed is.near).1 is.nearest;
+        nearest = (alike is.placed is.stands is.waits reached' is.app is.within is.listed is.near).1 is.nearest;
         predecessor = is.predecessor;
       })
   new_found pair (q, stands, serial, is_open, reached) (inr kept) =

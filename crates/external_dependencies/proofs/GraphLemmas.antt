@@ -10,11 +10,11 @@ use Rattle.external_dependencies.specs.Link.{Lists}
 use Rattle.external_dependencies.specs.Places.{ArePlaces, IsGraphOf}
 use Rattle.external_dependencies.specs.Walk.{Edge, IsGraph}
 
--- a link is its two parts
+-- a link is its parts
 pub link_is : (link : Link) (app predecessor : List ℕ) → link.app ≡ app → link.predecessor ≡ predecessor
-    → link ≡ record { app = app; predecessor = predecessor }
+    → link ≡ record { app = app; predecessor = predecessor; within = link.within }
 link_is link app predecessor same_app same_predecessor =
-    λ i. record { app = same_app i; predecessor = same_predecessor i }
+    λ i. record { app = same_app i; predecessor = same_predecessor i; within = link.within }
 
 -- before the first application
 pub graph_none : (links : List Link) (names : List (List ℕ)) → IsGraphOf links names 0 []
@@ -37,14 +37,17 @@ graph_more links names done graph so_far name named list is_list found places = 
         let link = facts.1.0 in
         let listed = (is_list link).0 facts.1.1 in (
           facts.0,
-          subst (Contains links) (link_is link (get_or names done []) (get_or names to [])
-              (listed.1 ∙ named) facts.1.2) listed.0,
+          (
+            link.within,
+            subst (Contains links) (link_is link (get_or names done []) (get_or names to [])
+                (listed.1 ∙ named) facts.1.2) listed.0,
+          ),
         )
 
     backward : (to : ℕ) → (to < length names) × Lists links (get_or names done []) (get_or names to [])
         → Contains found to
-    backward to (lt, here) =
-        let link : Link = record { app = get_or names done []; predecessor = get_or names to [] } in
+    backward to (lt, (within, here)) =
+        let link : Link = record { app = get_or names done []; predecessor = get_or names to []; within = within } in
         (places to).1 (lt, (link, (is_list link).1 (here, sym named), refl))
 
     edges : (from to : ℕ) → from < done + 1 → Edge (graph ++ found ∷ []) from to

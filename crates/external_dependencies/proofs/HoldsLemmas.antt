@@ -31,14 +31,14 @@ no_later_on a b c ab bc =
     }
 
 nearest_bound : (LiveAt : Arrival → Type 0) (key : Key) (app : List ℕ) (near other : Arrival)
-    → IsNearest LiveAt key app near → LiveAt other → IsCandidate key app other → IsNoLater other near
+    → IsNearest LiveAt key app None near → LiveAt other → IsCandidate key app None other → IsNoLater other near
 nearest_bound LiveAt key app near other is live may =
     record { moment = is.greatest other live may; serial = λ same. is.last other live may same }
 
 -- each candidate among all rows has one among the rows handed in that is no earlier
 pub Dominates : (rows now : List PlacedRow) → Key → List ℕ → Type 0
-Dominates rows now key app = (other : Arrival) → IsLiveIn now other → IsCandidate key app other
-    → (k : Arrival) × IsLiveIn rows k × (IsCandidate key app k × IsNoLater other k)
+Dominates rows now key app = (other : Arrival) → IsLiveIn now other → IsCandidate key app None other
+    → (k : Arrival) × IsLiveIn rows k × (IsCandidate key app None k × IsNoLater other k)
 
 module _ (rows now : List PlacedRow) (part : (q : PlacedRow) → Contains rows q → Contains now q) (key : Key)
     (app : List ℕ) (dominates : Dominates rows now key app) where
@@ -46,11 +46,11 @@ module _ (rows now : List PlacedRow) (part : (q : PlacedRow) → Contains rows q
   live_part a (p, there, live, arrives) = (p, part p there, live, arrives)
 
   pub same_nearest : (near : Arrival)
-      → IsNearest (IsLiveIn rows) key app near ↔ IsNearest (IsLiveIn now) key app near
+      → IsNearest (IsLiveIn rows) key app None near ↔ IsNearest (IsLiveIn now) key app None near
   unfolding Dominates
   same_nearest near = (forward, backward)
     where
-      forward : IsNearest (IsLiveIn rows) key app near → IsNearest (IsLiveIn now) key app near
+      forward : IsNearest (IsLiveIn rows) key app None near → IsNearest (IsLiveIn now) key app None near
       forward is = record {
         live = live_part near is.live;
         candidate = is.candidate;
@@ -58,12 +58,12 @@ module _ (rows now : List PlacedRow) (part : (q : PlacedRow) → Contains rows q
         last = λ other here may. (bound other here may).serial;
       }
         where
-          bound : (other : Arrival) → IsLiveIn now other → IsCandidate key app other → IsNoLater other near
+          bound : (other : Arrival) → IsLiveIn now other → IsCandidate key app None other → IsNoLater other near
           bound other here may =
               let k = dominates other here may in
               no_later_on other k.0 near k.2.1 (nearest_bound (IsLiveIn rows) key app near k.0 is k.1 k.2.0)
 
-      backward : IsNearest (IsLiveIn now) key app near → IsNearest (IsLiveIn rows) key app near
+      backward : IsNearest (IsLiveIn now) key app None near → IsNearest (IsLiveIn rows) key app None near
       backward is =
           let k = dominates near is.live is.candidate in
           let up = k.2.1 in
@@ -85,8 +85,8 @@ module _ (rows now : List PlacedRow) (part : (q : PlacedRow) → Contains rows q
 
 -- the arrival that is nearest among some, or that there is none
 pub IsAnswer : (Arrival → Type 0) → Key → List ℕ → Option Arrival → Type 0
-IsAnswer LiveAt key app None = (other : Arrival) → LiveAt other → IsCandidate key app other → ⊥
-IsAnswer LiveAt key app (Some near) = IsNearest LiveAt key app near
+IsAnswer LiveAt key app None = (other : Arrival) → LiveAt other → IsCandidate key app None other → ⊥
+IsAnswer LiveAt key app (Some near) = IsNearest LiveAt key app None near
 
 -- it is among the rows handed in, if there is one
 pub IsHeld : List PlacedRow → Option Arrival → Type 0

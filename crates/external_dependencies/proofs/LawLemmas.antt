@@ -20,10 +20,10 @@ use Rattle.external_dependencies.proofs.LoopLemmas.{decide_names}
 use Rattle.external_dependencies.proofs.NearestLemmas.{nearest_once, nearest_same}
 
 pub nearest_unique : NearestIsUnique
-nearest_unique rows key app x y = nearest_once (IsLiveIn rows) key app x y
+nearest_unique rows key app within x y = nearest_once (IsLiveIn rows) key app within x y
 
 pub nearest_last : NearestArrivesLast
-nearest_last rows differ key app near other is live may = elim (cases_lt other.ia near.ia) [
+nearest_last rows differ key app within near other is live may = elim (cases_lt other.ia near.ia) [
   | inl before ↦ inr before
   | inr after ↦
       let upto : other.ia ≤ near.ia = is.greatest other live may in
@@ -59,10 +59,12 @@ pair_same rows rows' links links' same_rows same_links pair is = record {
   waits = is.waits;
   successor = is.successor;
   app = is.app;
-  listed = (same_links (record { app = is.placed.row.key.app; predecessor = is.app })).0 is.listed;
+  within = is.within;
+  listed = (same_links (record { app = is.placed.row.key.app; predecessor = is.app; within = is.within })).0
+      is.listed;
   near = is.near;
   nearest = nearest_same (IsLiveIn rows) (IsLiveIn rows')
-      (live_same rows rows' same_rows) is.placed.row.key is.app is.near is.nearest;
+      (live_same rows rows' same_rows) is.placed.row.key is.app is.within is.near is.nearest;
   predecessor = is.predecessor;
 }
 
@@ -113,7 +115,7 @@ module _ (rows : List PlacedRow) (links : List Link) (differ : SerialsDiffer row
         together = λ same. (
           [],
           (
-            subst (Lists links is.placed.row.key.app) (sym may.of_app) is.listed,
+            subst (Lists links is.placed.row.key.app) (sym may.of_app) (is.within, is.listed),
             λ own. let before = may.before_own (sym (own ∙ may.of_app)) in absurd (omega arith),
           ),
         );

@@ -9,8 +9,8 @@ use Rattle.occurrences.specs.Order.{IsStrictOrder, Ranks}
 use Rattle.occurrences.proofs.KeyLemmas.{byte_less, byte_ranks}
 use Rattle.occurrences.proofs.OrderLemmas.{ranked_strict}
 use Rattle.external_dependencies.specs.Arrival.{arrival_cmp, ArrivalBefore}
-use Rattle.external_dependencies.specs.Laws.{IsOrderBy}
-use Rattle.external_dependencies.specs.Link.{link_cmp, LinkBefore}
+use Rattle.external_dependencies.specs.Laws.{IsOrderBy, IsOrderOfNames}
+use Rattle.external_dependencies.specs.Link.{link_cmp, HaveSameNames, LinkBefore}
 use Rattle.external_dependencies.specs.Pair.{follower_cmp, pair_cmp, PairBefore}
 use Rattle.external_dependencies.specs.declared.followers.Follower.{Follower}
 use Rattle.external_dependencies.specs.declared.links.Link.{Link}
@@ -90,14 +90,24 @@ pairs_ordered = record {
       (λ x y a b i. record { successor = a i; predecessor = b i });
 }
 
-pub links_ordered : IsOrderBy link_cmp LinkBefore
+-- links that tie have the same names
+names_step : (a b : Link) (o p : Ordering) → MatchOrdering o (ByteBefore a.app b.app) (a.app ≡ b.app)
+    (ByteBefore b.app a.app)
+    → MatchOrdering p (ByteBefore a.predecessor b.predecessor) (a.predecessor ≡ b.predecessor)
+    (ByteBefore b.predecessor a.predecessor)
+    → MatchOrdering (ordering_then o p) (LinkBefore a b) (HaveSameNames a b) (LinkBefore b a)
+names_step a b Less p h k = inl h
+names_step a b Greater p h k = inl h
+names_step a b Equal Less h k = inr (h, k)
+names_step a b Equal Equal h k = (h, k)
+names_step a b Equal Greater h k = inr (sym h, k)
+
+pub links_ordered : IsOrderOfNames
 links_ordered = record {
   strict = lex_strict (λ (l : Link). l.app) (λ (l : Link). l.predecessor) ByteBefore ByteBefore byte_strict byte_strict;
   total = link_total;
-  ranks =
-      lex_ranks (λ (l : Link). l.app) (λ (l : Link). l.predecessor) ByteBefore ByteBefore (slice_cmp nat_cmp)
-      (slice_cmp nat_cmp) byte_ranks byte_ranks
-      (λ x y a b i. record { app = a i; predecessor = b i });
+  ranks = λ a b. names_step a b (slice_cmp nat_cmp a.app b.app) (slice_cmp nat_cmp a.predecessor b.predecessor)
+      (byte_ranks a.app b.app) (byte_ranks a.predecessor b.predecessor);
 }
 
 -- by input arrival, then by serial

@@ -1,6 +1,6 @@
 -- Loops of lists and walks through the graph of the lists.
 use Rattle.std.proofs.Common.{◌≡◌, ◌≢◌, ◌↔◌, ℕ, ◌<◌, ◌⊎◌, List, [], ◌∷◌, length, get_or, map, refl, sym, ap, subst}
-use Rattle.std.proofs.Common.{◌∙◌, inl, inr, arith, Some}
+use Rattle.std.proofs.Common.{◌∙◌, inl, inr, arith, Some, None}
 use Rattle.std.specs.declared.cmp.Ordering.TheVariants.{Less, Equal, Greater}
 use Rattle.std.specs.List.{Contains}
 use Rattle.std.specs.Cmp.Lexicographic.{slice_cmp}
@@ -151,9 +151,11 @@ applications_are links apps names mapped rising same = record {
   rising = rising;
   all = λ app predecessor here. (same app).1
       (subst (λ xs. Contains xs app) (sym mapped)
-      (mapped_here links (record { app = app; predecessor = predecessor }) here));
-  only = λ app here. let link = mapped_from links app (subst (λ xs. Contains xs app) mapped ((same app).0 here)) in
-      (link.0.predecessor, subst (Contains links) (link_is link.0 app link.0.predecessor link.2 refl) link.1);
+      (mapped_here links (record { app = app; predecessor = predecessor; within = here.0 }) here.1));
+  only = λ app here. let link = mapped_from links app (subst (λ xs. Contains xs app) mapped ((same app).0 here)) in (
+    link.0.predecessor,
+    (link.0.within, subst (Contains links) (link_is link.0 app link.0.predecessor link.2 refl) link.1),
+  );
 }
   where
     mapped_here : (links : List Link) (link : Link) → Contains links link
@@ -168,7 +170,7 @@ applications_are links apps names mapped rising same = record {
         × Contains links link × (link.app ≡ app)
     mapped_from links app (k, lt, at) =
         let in_range : k < length links = omega (arith, length-map links (λ (l : Link). l.app)) in
-        let none : Link = record { app = []; predecessor = [] } in (
+        let none : Link = record { app = []; predecessor = []; within = None } in (
           get_or links k none,
           Contains-get_or links k none in_range,
           sym (get_or-map (λ (l : Link). l.app) links k none app in_range) ∙ at,

@@ -1,6 +1,6 @@
 -- The nearest predecessor among arrivals in rising order.
-use Rattle.std.proofs.Common.{◌≡◌, ◌↔◌, ℕ, ◌+◌, ◌-◌, ◌<◌, ◌≤◌, Bool, true, false, List, length, get_or, refl, sym, ap}
-use Rattle.std.proofs.Common.{subst, ◌∙◌, inl, inr, arith, Ordering, Some, None}
+use Rattle.std.proofs.Common.{◌≡◌, ◌↔◌, ◌⊎◌, ℕ, ◌+◌, ◌-◌, ◌<◌, ◌≤◌, Bool, true, false, List, length, get_or, refl, sym, ap}
+use Rattle.std.proofs.Common.{subst, ◌∙◌, inl, inr, arith, Ordering, Option, Some, None}
 use Rattle.std.specs.declared.cmp.Ordering.TheVariants.{Less, Equal, Greater}
 use Rattle.std.specs.Prelude.{nat_eq}
 use Rattle.std.specs.List.{Contains}
@@ -16,7 +16,7 @@ use Rattle.occurrences.specs.declared.key.Key.{Key}
 use Rattle.external_dependencies.specs.declared.live.Arrival.{Arrival}
 use Rattle.external_dependencies.specs.Arrival.{arrival_cmp}
 use Rattle.external_dependencies.specs.Rising.{IsRising}
-use Rattle.external_dependencies.specs.Nearest.{IsCandidate, IsNearest, IsNearestAnswer}
+use Rattle.external_dependencies.specs.Nearest.{ArrivesWithin, IsCandidate, IsNearest, IsNearestAnswer, IsNearestArrival}
 use Rattle.external_dependencies.proofs.OrderLemmas.{AtMost, less_after, rising_at_most, name_ties, then_less}
 use Rattle.external_dependencies.proofs.OrderLemmas.{then_equal, less_not_equal}
 
@@ -150,7 +150,7 @@ module _ (live : List Arrival) (rising : IsRising arrival_cmp live) (app : List 
       ↔ ((a.ia ≤ key.ia) × (app ≡ key.app → a.ia < key.ia))) (count : ℕ)
       (point : IsPartitionPoint (λ a. is_before a ≡ true) (λ a. is_before a ≡ false) live count) where
     -- a candidate comes before the point
-    candidate_before : (other : Arrival) → (here : Contains live other) → IsCandidate key app other → here.0 < count
+    candidate_before : (other : Arrival) → (here : Contains live other) → IsCandidate key app None other → here.0 < count
     candidate_before other here may = elim (cases_lt here.0 count) [
       | inl before ↦ before
       | inr after ↦
@@ -162,7 +162,7 @@ module _ (live : List Arrival) (rising : IsRising arrival_cmp live) (app : List 
     ]
 
     -- with nothing before the point there is none
-    pub none_before : count ≡ 0 → IsNearestAnswer (Contains live) key app None
+    pub none_before : count ≡ 0 → IsNearestArrival (Contains live) key app None None
     none_before none other here may = let before = candidate_before other here may in omega arith
 
     module _ (some : 0 < count) (within : count ≤ length live) (near : Arrival)
@@ -174,7 +174,7 @@ module _ (live : List Arrival) (rising : IsRising arrival_cmp live) (app : List 
       passes_near = subst (λ a. is_before a ≡ true) (sym at) (point.0 (count - 1) near (omega arith) (omega arith))
 
       -- a candidate is in order with the last before the point
-      before_near : (other : Arrival) → Contains live other → IsCandidate key app other → Ordered other near
+      before_near : (other : Arrival) → Contains live other → IsCandidate key app None other → Ordered other near
       before_near other here may =
           let before = candidate_before other here may in
           let in_order : AtMost arrival_total (get_or live here.0 other) (get_or live (count - 1) other) =
@@ -185,21 +185,18 @@ module _ (live : List Arrival) (rising : IsRising arrival_cmp live) (app : List 
           (subst (λ a. AtMost arrival_total (get_or live here.0 other) a) last_is in_order))
 
       -- the last before the point, where it is of the application
-      pub nearest_is : near.app ≡ app → IsNearestAnswer (Contains live) key app (Some near.serial)
+      pub nearest_is : near.app ≡ app → IsNearestArrival (Contains live) key app None (Some near)
       nearest_is same =
-          let in_limit = (exact near same).0 (before_then near same passes_near) in (
-            near,
-            record {
-              live = here_near;
-              candidate = record { of_app = same; in_time = in_limit.0; before_own = in_limit.1 };
-              greatest = λ other here may. (before_near other here may).moment (may.of_app ∙ sym same);
-              last = λ other here may together. (before_near other here may).serial (may.of_app ∙ sym same) together;
-            },
-            refl,
-          )
+          let in_limit = (exact near same).0 (before_then near same passes_near) in
+          record {
+            live = here_near;
+            candidate = record { of_app = same; in_time = in_limit.0; before_own = in_limit.1; close = tt };
+            greatest = λ other here may. (before_near other here may).moment (may.of_app ∙ sym same);
+            last = λ other here may together. (before_near other here may).serial (may.of_app ∙ sym same) together;
+          }
 
       -- where it is not, there is none
-      pub none_of_app : (near.app ≡ app → ⊥) → IsNearestAnswer (Contains live) key app None
+      pub none_of_app : (near.app ≡ app → ⊥) → IsNearestArrival (Contains live) key app None None
       none_of_app differ other here may =
           let below = subst (λ x. AtMost nat_list_cmp_total x near.app) may.of_app (before_near other here may).app in
           let above = before_app near passes_near in
@@ -242,9 +239,9 @@ names_differ x y is same = false≢true (sym is
     ∙ subst (λ z. pointwise nat_eq x z ≡ true) same (nat_list_eq_equiv.refl x))
 
 -- a nearest predecessor is one only
-pub nearest_once : (IsLive : Arrival → Type 0) (key : Key) (app : List ℕ) (x y : Arrival) → IsNearest IsLive key app x
-    → IsNearest IsLive key app y → x ≡ y
-nearest_once IsLive key app x y is_x is_y =
+pub nearest_once : (IsLive : Arrival → Type 0) (key : Key) (app : List ℕ) (within : Option ℕ) (x y : Arrival)
+    → IsNearest IsLive key app within x → IsNearest IsLive key app within y → x ≡ y
+nearest_once IsLive key app within x y is_x is_y =
     let x_le : x.ia ≤ y.ia = is_y.greatest x is_x.live is_x.candidate in
     let y_le : y.ia ≤ x.ia = is_x.greatest y is_y.live is_y.candidate in
     let moments : x.ia ≡ y.ia = omega arith in
@@ -256,10 +253,94 @@ nearest_once IsLive key app x y is_x is_y =
 
 -- the nearest depends on the set of live arrivals alone
 pub nearest_same : (P Q : Arrival → Type 0) → ((a : Arrival) → P a ↔ Q a)
-    → (key : Key) (app : List ℕ) (near : Arrival) → IsNearest P key app near → IsNearest Q key app near
-nearest_same P Q same key app near is = record {
+    → (key : Key) (app : List ℕ) (within : Option ℕ) (near : Arrival)
+    → IsNearest P key app within near → IsNearest Q key app within near
+nearest_same P Q same key app within near is = record {
   live = (same near).0 is.live;
   candidate = is.candidate;
   greatest = λ other here. is.greatest other ((same other).1 here);
   last = λ other here. is.last other ((same other).1 here);
 }
+
+-- what arrives later is no farther
+pub closer : (within : Option ℕ) (ia first later : ℕ) → first ≤ later → ArrivesWithin within ia first
+    → ArrivesWithin within ia later
+closer None ia first later le close = tt
+closer (Some hours) ia first later le close = omega arith
+
+-- a candidate without the limit
+pub unlimited : (key : Key) (app : List ℕ) (within : Option ℕ) (a : Arrival) → IsCandidate key app within a
+    → IsCandidate key app None a
+unlimited key app within a may =
+    record { of_app = may.of_app; in_time = may.in_time; before_own = may.before_own; close = tt }
+
+pub limited : (key : Key) (app : List ℕ) (within : Option ℕ) (a : Arrival) → IsCandidate key app None a
+    → ArrivesWithin within key.ia a.ia → IsCandidate key app within a
+limited key app within a may close =
+    record { of_app = may.of_app; in_time = may.in_time; before_own = may.before_own; close = close }
+
+module _ (IsLive : Arrival → Type 0) (key : Key) (app : List ℕ) (within : Option ℕ) (near : Arrival) where
+  -- the nearest without a limit is the nearest, where it is close enough
+  pub nearest_close : IsNearest IsLive key app None near → ArrivesWithin within key.ia near.ia
+      → IsNearest IsLive key app within near
+  nearest_close is close = record {
+    live = is.live;
+    candidate = limited key app within near is.candidate close;
+    greatest = λ other here may. is.greatest other here (unlimited key app within other may);
+    last = λ other here may. is.last other here (unlimited key app within other may);
+  }
+
+  -- and no other is
+  pub nearest_far : IsNearest IsLive key app None near → (ArrivesWithin within key.ia near.ia → ⊥)
+      → (other : Arrival) → IsLive other → IsCandidate key app within other → ⊥
+  nearest_far is far other here may =
+      far (closer within key.ia other.ia near.ia (is.greatest other here (unlimited key app within other may)) may.close)
+
+  pub nearest_unlimited : IsNearest IsLive key app within near → IsNearest IsLive key app None near
+  nearest_unlimited is = record {
+    live = is.live;
+    candidate = unlimited key app within near is.candidate;
+    greatest = λ other here may. upto other here may (cases_lt near.ia other.ia);
+    last = λ other here may together. is.last other here (limited key app within other may
+        (subst (ArrivesWithin within key.ia) (sym together) is.candidate.close)) together;
+  }
+    where
+      upto : (other : Arrival) → IsLive other → IsCandidate key app None other
+          → (near.ia < other.ia) ⊎ (other.ia ≤ near.ia) → other.ia ≤ near.ia
+      upto other here may (inr le) = le
+      upto other here may (inl later) = is.greatest other here (limited key app within other may
+          (closer within key.ia near.ia other.ia (omega arith) is.candidate.close))
+
+-- the nearest with a limit is that without one, where it is close enough
+pub nearest_limited : (IsLive : Arrival → Type 0) (key : Key) (app : List ℕ) (within : Option ℕ) (near : Arrival)
+    → IsNearest IsLive key app within near
+    ↔ (IsNearest IsLive key app None near × ArrivesWithin within key.ia near.ia)
+nearest_limited IsLive key app within near = (
+  (λ is. (nearest_unlimited IsLive key app within near is, is.candidate.close)),
+  λ both. nearest_close IsLive key app within near both.0 both.1,
+)
+
+-- what is nearest without a limit among two sets alike is so with one
+pub limited_alike : (P Q : Arrival → Type 0) (key : Key) (app : List ℕ) (within : Option ℕ) (near : Arrival)
+    → (IsNearest P key app None near ↔ IsNearest Q key app None near)
+    → IsNearest P key app within near ↔ IsNearest Q key app within near
+limited_alike P Q key app within near same = (
+  (λ is. nearest_close Q key app within near (same.0 (nearest_unlimited P key app within near is)) is.candidate.close),
+  λ is. nearest_close P key app within near (same.1 (nearest_unlimited Q key app within near is)) is.candidate.close,
+)
+
+-- the answer by the nearest without a limit
+pub answer_close : (IsLive : Arrival → Type 0) (key : Key) (app : List ℕ) (within : Option ℕ) (near : Arrival)
+    → IsNearest IsLive key app None near → ArrivesWithin within key.ia near.ia
+    → IsNearestAnswer IsLive key app within (Some near.serial)
+answer_close IsLive key app within near is close = (near, nearest_close IsLive key app within near is close, refl)
+
+pub answer_far : (IsLive : Arrival → Type 0) (key : Key) (app : List ℕ) (within : Option ℕ) (near : Arrival)
+    → IsNearest IsLive key app None near → (ArrivesWithin within key.ia near.ia → ⊥)
+    → IsNearestAnswer IsLive key app within None
+answer_far IsLive key app within near is far = nearest_far IsLive key app within near is far
+
+pub answer_none : (IsLive : Arrival → Type 0) (key : Key) (app : List ℕ) (within : Option ℕ)
+    → ((other : Arrival) → IsLive other → IsCandidate key app None other → ⊥)
+    → IsNearestAnswer IsLive key app within None
+answer_none IsLive key app within none other here may = none other here (unlimited key app within other may)

@@ -1,6 +1,6 @@
 -- Orders of names and links, and lists in rising order.
 use Rattle.std.proofs.Common.{◌≡◌, ◌↔◌, ℕ, ◌+◌, ◌-◌, ◌<◌, ◌≤◌, ◌⊎◌, Bool, true, false, List, length, get_or, take}
-use Rattle.std.proofs.Common.{drop, refl, sym, ap, subst, ◌∙◌, inl, inr, arith, Ordering}
+use Rattle.std.proofs.Common.{drop, refl, sym, ap, subst, ◌∙◌, inl, inr, arith, None, Ordering}
 use Rattle.std.specs.declared.cmp.Ordering.TheVariants.{Less, Equal, Greater}
 use Rattle.std.specs.List.{Contains}
 use Rattle.std.specs.List.Sorted.{IsPartitionPoint, IsNonDecreasingBy}
@@ -8,12 +8,13 @@ use Rattle.std.specs.Cmp.{IsTotalOrder}
 use Rattle.std.specs.Cmp.Lexicographic.{slice_cmp}
 use Rattle.std.specs.Ordering.{nat_cmp, ordering_then, ordering_index, is_lt, is_le, ordering_reverse}
 use Rattle.std.specs.FinMap.{IsAntisymmetric, nat_cmp-IsAntisymmetric, slice_cmp-IsAntisymmetric}
-use Rattle.std.proofs.lemmas.Cmp.{tied_itself, alike_right}
-use Rattle.std.proofs.lemmas.List.{get_or-take, get_or-drop, length-drop, length-take-le}
+use Rattle.std.proofs.lemmas.Cmp.{nat_list_cmp_total, tied_itself, alike_right}
+use Rattle.std.proofs.lemmas.List.{get_or_default, get_or-take, get_or-drop, length-drop, length-take-le}
 use Rattle.std.proofs.lemmas.List.Sorted.{searchable_from_sorted}
 use Rattle.std.proofs.lemmas.Bool.{cases_lt, cases_order, false≢true}
-use Rattle.external_dependencies.specs.Link.{link_cmp}
+use Rattle.external_dependencies.specs.Link.{link_cmp, AreNamedOnce, HaveSameNames, KeepsNames}
 use Rattle.external_dependencies.specs.Rising.{IsRising}
+use Rattle.external_dependencies.specs.declared.links.Link.{Link}
 
 -- only equal names tie
 pub name_ties : IsAntisymmetric (slice_cmp nat_cmp)
@@ -41,12 +42,60 @@ then_less Less p is = inl refl
 then_less Equal p is = inr (refl, is)
 then_less Greater p is = cc
 
-pub link_ties : IsAntisymmetric link_cmp
+-- links that tie have the same names
+pub link_ties : (x y : Link) → link_cmp x y ≡ Equal → HaveSameNames x y
 link_ties x y is =
     let both = then_equal _ _ is in
-    let apps : x.app ≡ y.app = name_ties x.app y.app both.0 in
-    let predecessors : x.predecessor ≡ y.predecessor = name_ties x.predecessor y.predecessor both.1 in
-    λ i. record { app = apps i; predecessor = predecessors i }
+    (name_ties x.app y.app both.0, name_ties x.predecessor y.predecessor both.1)
+
+-- and links of the same names tie
+pub names_tie : (x y : Link) → HaveSameNames x y → link_cmp x y ≡ Equal
+names_tie x y (apps, predecessors) =
+    let first : slice_cmp nat_cmp x.app y.app ≡ Equal =
+    subst (λ n. slice_cmp nat_cmp x.app n ≡ Equal) apps (tied_itself nat_list_cmp_total x.app) in
+    let second : slice_cmp nat_cmp x.predecessor y.predecessor ≡ Equal =
+    subst (λ n. slice_cmp nat_cmp x.predecessor n ≡ Equal) predecessors
+    (tied_itself nat_list_cmp_total x.predecessor) in
+    ap (λ o. ordering_then o (slice_cmp nat_cmp x.predecessor y.predecessor)) first ∙ second
+
+-- no two links of a rising list have the same names
+pub named_once : (links : List Link) → IsRising link_cmp links → AreNamedOnce links
+named_once links rising a b (i, lt_i, at_a) (j, lt_j, at_b) same = elim (cases_order i j) [
+  | inl one ↦ sym at_a ∙ ap (λ n. get_or links n a) one ∙ get_or_default links j a b lt_j ∙ at_b
+  | inr (inl below) ↦
+      let less : link_cmp a b ≡ Less = subst (λ l. link_cmp l b ≡ Less) at_a
+      (subst (λ l. link_cmp (get_or links i a) l ≡ Less) (get_or_default links j a b lt_j ∙ at_b)
+      (rising i j a below lt_j)) in
+      absurd (less_not_equal (sym less ∙ names_tie a b same))
+  | inr (inr above) ↦
+      let less : link_cmp b a ≡ Less = subst (λ l. link_cmp l a ≡ Less) at_b
+      (subst (λ l. link_cmp (get_or links j b) l ≡ Less) (get_or_default links i b a lt_i ∙ at_a)
+      (rising j i b above lt_i)) in
+      absurd (less_not_equal (sym less ∙ names_tie b a (sym same.0, sym same.1)))
+]
+
+-- links without a limit are told by their names
+pub unlimited_once : (links : List Link) → ((link : Link) → Contains links link → link.within ≡ None)
+    → AreNamedOnce links
+unlimited_once links none a b at_a at_b same =
+    let withins : a.within ≡ b.within = none a at_a ∙ sym (none b at_b) in
+    λ i. record { app = same.0 i; predecessor = same.1 i; within = withins i }
+
+pub names_kept : (links kept : List Link) → ((link : Link) → Contains kept link → Contains links link)
+    → ((link : Link) → Contains links link → (stays : Link) × Contains kept stays × (link_cmp link stays ≡ Equal))
+    → KeepsNames links kept
+names_kept links kept only all = record {
+  only = only;
+  all = λ link here. let stays = all link here in (stays.0, stays.1, link_ties link stays.0 stays.2);
+}
+
+-- where no two have the same names, all stay
+pub keeps_all : (links kept : List Link) → AreNamedOnce links → KeepsNames links kept → (link : Link)
+    → Contains kept link ↔ Contains links link
+keeps_all links kept once keeps link = (keeps.only link, λ here. there here (keeps.all link here))
+  where
+    there : Contains links link → (stays : Link) × Contains kept stays × HaveSameNames link stays → Contains kept link
+    there here (stays, in_kept, same) = subst (Contains kept) (sym (once link stays here (keeps.only stays in_kept) same)) in_kept
 
 module _ {K : Type 0} {R : K → K → Ordering} (o : IsTotalOrder R) where
   -- at most
@@ -105,6 +154,24 @@ module _ {K : Type 0} {R : K → K → Ordering} (o : IsTotalOrder R) where
     where
       apart : Less ≡ Equal → ⊥
       apart is = cc
+
+-- a link at the place where a search found one of its names: it is there exactly with the limit that stands there
+module _ (total : IsTotalOrder link_cmp) (links : List Link) (rising : IsRising link_cmp links) (link : Link) (place : ℕ)
+    (lt : place < length links) (tied : link_cmp (get_or links place link) link ≡ Equal) where
+  pub found_link : (get_or links place link).within ≡ link.within → Contains links link
+  found_link same =
+      let names = link_ties (get_or links place link) link tied in
+      (place, lt, λ i. record { app = names.0 i; predecessor = names.1 i; within = same i })
+
+  pub found_limit : Contains links link → (get_or links place link).within ≡ link.within
+  found_limit (k, in_range, is) = elim (cases_order k place) [
+    | inl same ↦ ap (λ (l : Link). l.within) (ap (λ n. get_or links n link) (sym same) ∙ is)
+    | inr (inl below) ↦ absurd (less_not_equal (sym (rising k place link below lt)
+        ∙ ap (λ l. link_cmp l (get_or links place link)) is
+        ∙ total.antisymm link (get_or links place link) ∙ ap ordering_reverse tied))
+    | inr (inr above) ↦ absurd (less_not_equal (sym (rising place k link above in_range)
+        ∙ ap (λ l. link_cmp (get_or links place link) l) is ∙ tied))
+  ]
 
 -- the part of a list between two tests, where each rules a front of the list
 pub between_is : {X : Type 0} (xs : List X) (below upto : X → Bool) (start count : ℕ) → start ≤ length xs

@@ -14,7 +14,7 @@ use Rattle.external_dependencies.specs.declared.links.Link.{Link}
 use Rattle.external_dependencies.specs.declared.live.Arrival.{Arrival}
 use Rattle.external_dependencies.specs.declared.rows.PlacedRow.{PlacedRow}
 use Rattle.external_dependencies.specs.declared.pairs.Pair.{Pair}
-use Rattle.external_dependencies.specs.Link.{Lists}
+use Rattle.external_dependencies.specs.Link.{ListsWithin}
 use Rattle.external_dependencies.specs.Nearest.{arrival_of, IsLiveIn, IsNearest, IsNearestAnswer}
 use Rattle.external_dependencies.specs.Pair.{pair_cmp, follower_of, pair_of, IsPairAmong, IsPairFrom}
 use Rattle.external_dependencies.specs.declared.followers.Follower.{Follower}
@@ -99,7 +99,7 @@ module _ (live : List Arrival) (row : Row) (list : List Link) (old now : List Pa
     predecessor = is.predecessor;
   }
 
-  pub pairs_more : (serial : ℕ) → IsNearestAnswer (Contains live) row.key link.predecessor (Some serial)
+  pub pairs_more : (serial : ℕ) → IsNearestAnswer (Contains live) row.key link.predecessor link.within (Some serial)
       → ArePairs live row (list ++ link ∷ []) old (now ++ record { successor = row.serial; predecessor = serial } ∷ [])
   pairs_more serial found pair = (forward, backward)
     where
@@ -142,10 +142,11 @@ module _ (live : List Arrival) (row : Row) (list : List Link) (old now : List Pa
                 predecessor = from.predecessor;
               })))
           | inr same ↦
-              let here : IsNearest (Contains live) row.key link.predecessor from.near =
-              subst (λ (l : Link). IsNearest (Contains live) row.key l.predecessor from.near)
+              let here : IsNearest (Contains live) row.key link.predecessor link.within from.near =
+              subst (λ (l : Link). IsNearest (Contains live) row.key l.predecessor l.within from.near)
               (sym same) from.nearest in
-              let near_same = nearest_once (Contains live) row.key link.predecessor found.0 from.near found.1 here in
+              let near_same = nearest_once (Contains live) row.key link.predecessor link.within found.0 from.near
+              found.1 here in
               let serials : serial ≡ pair.predecessor =
               sym found.2 ∙ ap (λ (a : Arrival). a.serial) near_same ∙ from.predecessor in
               subst (Contains (now ++ record { successor = row.serial; predecessor = serial } ∷ []))
@@ -154,7 +155,7 @@ module _ (live : List Arrival) (row : Row) (list : List Link) (old now : List Pa
         ]
       ]
 
-  pub pairs_skip : IsNearestAnswer (Contains live) row.key link.predecessor None
+  pub pairs_skip : IsNearestAnswer (Contains live) row.key link.predecessor link.within None
       → ArePairs live row (list ++ link ∷ []) old now
   pairs_skip none pair = (forward, backward)
     where
@@ -174,8 +175,8 @@ module _ (live : List Arrival) (row : Row) (list : List Link) (old now : List Pa
             predecessor = from.predecessor;
           }))
           | inr same ↦
-              let here : IsNearest (Contains live) row.key link.predecessor from.near =
-              subst (λ (l : Link). IsNearest (Contains live) row.key l.predecessor from.near)
+              let here : IsNearest (Contains live) row.key link.predecessor link.within from.near =
+              subst (λ (l : Link). IsNearest (Contains live) row.key l.predecessor l.within from.near)
               (sym same) from.nearest in
               absurd (none from.near here.live here.candidate)
         ]
@@ -198,6 +199,7 @@ module _ (all rows : List PlacedRow) (links : List Link) (pairs : List Pair)
     successor =
         is.successor;
     app = is.app;
+    within = is.within;
     listed = is.listed;
     near = is.near;
     nearest = is.nearest;
@@ -216,6 +218,7 @@ module _ (all rows : List PlacedRow) (links : List Link) (pairs : List Pair)
           waits = is.waits;
           successor = is.successor;
           app = is.app;
+          within = is.within;
           listed = is.listed;
           near = is.near;
           nearest =
@@ -243,11 +246,12 @@ module _ (all rows : List PlacedRow) (links : List Link) (pairs : List Pair)
                 waits = is_open;
                 successor = from.successor;
                 app = from.link.predecessor;
+                within = from.link.within;
                 listed = subst (Contains links)
                     (link_is from.link placed.row.key.app from.link.predecessor listed.1 refl) listed.0;
                 near = from.near;
-                nearest = nearest_same (Contains live)
-                    (IsLiveIn all) is_live placed.row.key from.link.predecessor from.near from.nearest;
+                nearest = nearest_same (Contains live) (IsLiveIn all) is_live placed.row.key from.link.predecessor
+                    from.link.within from.near from.nearest;
                 predecessor = from.predecessor;
               }
         ]
@@ -261,17 +265,19 @@ module _ (all rows : List PlacedRow) (links : List Link) (pairs : List Pair)
                 waits = is.waits;
                 successor = is.successor;
                 app = is.app;
+                within = is.within;
                 listed = is.listed;
                 near = is.near;
                 nearest = is.nearest;
                 predecessor = is.predecessor;
               })))
           | inr same ↦
-              let link : Link = record { app = placed.row.key.app; predecessor = is.app } in
-              let listed : Contains links link = subst (λ (p : PlacedRow). Lists links p.row.key.app is.app)
-              (sym same) is.listed in
-              let nearest : IsNearest (IsLiveIn all) placed.row.key is.app is.near =
-              subst (λ (p : PlacedRow). IsNearest (IsLiveIn all) p.row.key is.app is.near) (sym same) is.nearest in
+              let link : Link = record { app = placed.row.key.app; predecessor = is.app; within = is.within } in
+              let listed : Contains links link =
+              subst (λ (p : PlacedRow). ListsWithin links p.row.key.app is.app is.within) (sym same) is.listed in
+              let nearest : IsNearest (IsLiveIn all) placed.row.key is.app is.within is.near =
+              subst (λ (p : PlacedRow). IsNearest (IsLiveIn all) p.row.key is.app is.within is.near)
+              (sym same) is.nearest in
               let successor : placed.row.serial ≡ pair.successor =
               subst (λ (p : PlacedRow). p.row.serial ≡ pair.successor) (sym same) is.successor in
               (are pair).1 (inr (record {
@@ -280,7 +286,7 @@ module _ (all rows : List PlacedRow) (links : List Link) (pairs : List Pair)
                 listed = (is_list link).1 (listed, refl);
                 near = is.near;
                 nearest = nearest_same (IsLiveIn all) (Contains live)
-                    (λ a. ((is_live a).1, (is_live a).0)) placed.row.key is.app is.near nearest;
+                    (λ a. ((is_live a).1, (is_live a).0)) placed.row.key is.app is.within is.near nearest;
                 predecessor = is.predecessor;
               }))
         ]

@@ -93,9 +93,9 @@ module _ (names : List (List ℕ)) (rising : IsRising (slice_cmp nat_cmp) names)
       ]
 
 -- a binary search of a list in rising order tells whether it has an element
-module _ {X : Type 0} {R : X → X → Ordering} (total : IsTotalOrder R) (ties : IsAntisymmetric R) (xs : List X)
-    (rising : IsRising R xs) (x : X) where
-  search_absent : (at : ℕ) → IsBinarySearchResult (λ y. R y x) xs (Err at) → Contains xs x → ⊥
+module _ {X : Type 0} {R : X → X → Ordering} (total : IsTotalOrder R) (xs : List X) (rising : IsRising R xs)
+    (x : X) where
+  pub search_absent : (at : ℕ) → IsBinarySearchResult (λ y. R y x) xs (Err at) → Contains xs x → ⊥
   search_absent at parted (place, lt, is) =
       let point = parted (rising_searchable total xs rising x) in
       let tied : R (get_or xs place x) x ≡ Equal = subst (λ y. R y x ≡ Equal) (sym is) (tied_itself total x) in
@@ -104,7 +104,10 @@ module _ {X : Type 0} {R : X → X → Ordering} (total : IsTotalOrder R) (ties 
         | inr above ↦ equal_not_greater (sym tied ∙ point.1 place x above lt)
       ]
 
+module _ {X : Type 0} {R : X → X → Ordering} (total : IsTotalOrder R) (ties : IsAntisymmetric R) (xs : List X)
+    (rising : IsRising R xs) (x : X) where
   pub search_tells : (r : Result ℕ ℕ) → IsSearchInRange r (length xs) → IsBinarySearchResult (λ y. R y x) xs r
       → IsTrue (is_ok r) ↔ Contains xs x
   search_tells (Ok at) bound is = ((λ _. (at, bound, ties (get_or xs at x) x (is x))), λ _. refl)
-  search_tells (Err at) bound parted = ((λ no. absurd (false≢true no)), λ here. absurd (search_absent at parted here))
+  search_tells (Err at) bound parted =
+      ((λ no. absurd (false≢true no)), λ here. absurd (search_absent total xs rising x at parted here))

@@ -8,19 +8,20 @@ use Rattle.external_dependencies.specs.declared.rows.PlacedRow.{PlacedRow}
 use Rattle.external_dependencies.specs.Nearest.{IsCandidate, IsLiveIn, IsNearest}
 use Rattle.external_dependencies.specs.declared.touch.Stretch.{Stretch}
 use Rattle.external_dependencies.specs.Touch.{Covers, IsBorder, IsMarked, IsWithin}
+use Rattle.external_dependencies.proofs.NearestLemmas.{closer}
 
 -- what stands at the border of a marked candidate, where no stretch of the application holds the key: a candidate
 -- that stands before and after, and arrives later
-record Stays (was now : List PlacedRow) (key : Key) (app : List ℕ) (a : Arrival) : Type 0 where
+record Stays (was now : List PlacedRow) (key : Key) (app : List ℕ) (within : Option ℕ) (a : Arrival) : Type 0 where
   n : Arrival
   before : IsLiveIn was n
   after : IsLiveIn now n
-  candidate : IsCandidate key app n
+  candidate : IsCandidate key app within n
   later : a.ia < n.ia
 
 module _ (stretches : List Stretch) (was now : List PlacedRow) (key : Key) (app : List ℕ)
-    (clear : Covers stretches app key.ia → ⊥) where
-  border : (a : Arrival) → IsCandidate key app a → IsMarked stretches was now a → Stays was now key app a
+    (within : Option ℕ) (clear : Covers stretches app key.ia → ⊥) where
+  border : (a : Arrival) → IsCandidate key app within a → IsMarked stretches was now a → Stays was now key app within a
   border a may marked = at_end marked.stretch.last refl
     where
       same_app : marked.stretch.app ≡ app
@@ -29,7 +30,7 @@ module _ (stretches : List Stretch) (was now : List PlacedRow) (key : Key) (app 
       begun : marked.stretch.first ≤ key.ia
       begun = let from = marked.begun in let upto = may.in_time in omega arith
 
-      at_end : (last : Option ℕ) → marked.stretch.last ≡ last → Stays was now key app a
+      at_end : (last : Option ℕ) → marked.stretch.last ≡ last → Stays was now key app within a
       at_end None is = absurd (clear (
         marked.stretch,
         marked.listed,
@@ -53,6 +54,8 @@ module _ (stretches : List Stretch) (was now : List PlacedRow) (key : Key) (app 
                 of_app = n.3 ∙ may.of_app;
                 in_time = let at = n.4 in omega arith;
                 before_own = λ _. let at = n.4 in omega arith;
+                close = let at = n.4 in let le = n.5 in
+                    closer within key.ia a.ia n.0.ia (omega arith) may.close;
               };
               later = let at = n.4 in let le = n.5 in omega arith;
             }
@@ -73,7 +76,7 @@ module _ (stretches : List Stretch) (was now : List PlacedRow) (key : Key) (app 
   -- the nearest stays the nearest
   pub nearest_stays : ((a : Arrival) → IsLiveIn was a → IsLiveIn now a ⊎ IsMarked stretches was now a)
       → ((a : Arrival) → IsLiveIn now a → IsLiveIn was a ⊎ IsMarked stretches was now a)
-      → (near : Arrival) → IsNearest (IsLiveIn was) key app near → IsNearest (IsLiveIn now) key app near
+      → (near : Arrival) → IsNearest (IsLiveIn was) key app within near → IsNearest (IsLiveIn now) key app within near
   nearest_stays went came near is = record {
     live = lives (went near is.live);
     candidate = is.candidate;
@@ -89,7 +92,7 @@ module _ (stretches : List Stretch) (was now : List PlacedRow) (key : Key) (app 
           let lt = n.later in
           absurd (omega arith)
 
-      below : (other : Arrival) → IsCandidate key app other
+      below : (other : Arrival) → IsCandidate key app within other
           → IsLiveIn was other ⊎ IsMarked stretches was now other → other.ia ≤ near.ia
       below other may (inl there) = is.greatest other there may
       below other may (inr marked) =
@@ -98,7 +101,7 @@ module _ (stretches : List Stretch) (was now : List PlacedRow) (key : Key) (app 
           let lt = n.later in
           omega arith
 
-      serials : (other : Arrival) → IsCandidate key app other → other.ia ≡ near.ia
+      serials : (other : Arrival) → IsCandidate key app within other → other.ia ≡ near.ia
           → IsLiveIn was other ⊎ IsMarked stretches was now other → other.serial ≤ near.serial
       serials other may together (inl there) = is.last other there may together
       serials other may together (inr marked) =

@@ -9,12 +9,11 @@ use Rattle.occurrences.specs.declared.row.Row.{Row}
 use Rattle.external_dependencies.specs.declared.links.Link.{Link}
 use Rattle.external_dependencies.specs.declared.live.Arrival.{Arrival}
 use Rattle.external_dependencies.specs.declared.rows.PlacedRow.{PlacedRow}
-use Rattle.external_dependencies.specs.Link.{Lists}
 use Rattle.external_dependencies.specs.Nearest.{IsLiveIn, arrival_of}
 use Rattle.external_dependencies.specs.declared.touch.Stretch.{Stretch}
 use Rattle.external_dependencies.specs.declared.touch.Touch.{Touch}
 use Rattle.external_dependencies.specs.Settled.{IsOnce}
-use Rattle.external_dependencies.specs.Touch.{IsAnew, IsBorder, IsMarked, IsOpenIn, LivesIn, Touches}
+use Rattle.external_dependencies.specs.Touch.{HasSameList, IsAnew, IsBorder, IsMarked, IsOpenIn, LivesIn, Touches}
 
 -- a row that lives under the serial and key of another arrives as that one
 lives_so : (rows : List PlacedRow) (row : Row) → LivesIn rows row → IsLiveIn rows (arrival_of row)
@@ -39,8 +38,7 @@ pub record TouchesRows (touch : Touch) (was now : List PlacedRow) (was_links lin
   pub closed : (p : PlacedRow) → Contains was p → IsOpen p.place
       → IsOpenIn now p.row
       ⊎ (Contains touch.withdrawn.items p.row.serial ⊎ Contains touch.closed.items p.row.serial)
-  pub lists : (app : List ℕ) → ((predecessor : List ℕ) → Lists was_links app predecessor ↔ Lists links app predecessor)
-      ⊎ Contains touch.lists.items app
+  pub lists : (app : List ℕ) → HasSameList was_links links app ⊎ Contains touch.lists.items app
 
 pub touches_of_rows : (touch : Touch) (was now : List PlacedRow) (was_links links : List Link)
     → TouchesRows touch was now was_links links → Touches touch was now was_links links
@@ -74,8 +72,8 @@ marked_at : (stretches : List Stretch) (was now : List PlacedRow) (row : Row) (l
 marked_at stretches was now row last listed border =
     record { stretch = stretch_at row last; listed = listed; of_app = refl; begun = omega arith; border = border }
 
-same_links : (links : List Link) (app predecessor : List ℕ) → Lists links app predecessor ↔ Lists links app predecessor
-same_links links app predecessor = ((λ is. is), λ is. is)
+same_links : (links : List Link) (app : List ℕ) → HasSameList links links app
+same_links links app predecessor within = ((λ is. is), λ is. is)
 
 lives_itself : (rows : List PlacedRow) (p : PlacedRow) → Contains rows p → IsLive p.place → LivesIn rows p.row
 lives_itself rows p there live = (p, there, live, refl, refl)
@@ -246,8 +244,7 @@ pub record IsAhead (stretches : List Stretch) (row : Row) : Type 0 where
 pub rows_come : (touch : Touch) (was_links links : List Link) (rows made more : List PlacedRow)
     → IsWithAll rows made more → ((n : ℕ) → Contains touch.withdrawn.items n → ⊥)
     → ((q : PlacedRow) → Contains made q → IsAnew touch q.row.serial × IsAhead touch.stretches.items q.row)
-    → ((app : List ℕ) → ((predecessor : List ℕ) → Lists was_links app predecessor ↔ Lists links app predecessor)
-    ⊎ Contains touch.lists.items app)
+    → ((app : List ℕ) → HasSameList was_links links app ⊎ Contains touch.lists.items app)
     → Touches touch rows more was_links links
 rows_come touch was_links links rows made more is none_withdrawn named lists = touches_of_rows touch rows more was_links links
     (record {

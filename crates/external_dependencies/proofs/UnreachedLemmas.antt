@@ -7,13 +7,13 @@ use Rattle.external_dependencies.specs.declared.links.Link.{Link}
 use Rattle.external_dependencies.specs.declared.live.Arrival.{Arrival}
 use Rattle.external_dependencies.specs.declared.pairs.Pair.{Pair}
 use Rattle.external_dependencies.specs.declared.rows.PlacedRow.{PlacedRow}
-use Rattle.external_dependencies.specs.Link.{Lists}
+use Rattle.external_dependencies.specs.Link.{Lists, ListsWithin}
 use Rattle.external_dependencies.specs.Nearest.{IsLiveIn, IsNearest}
 use Rattle.external_dependencies.specs.Pair.{IsPairOf}
 use Rattle.external_dependencies.specs.declared.touch.Stretch.{Stretch}
 use Rattle.external_dependencies.specs.declared.touch.Touch.{Touch}
 use Rattle.external_dependencies.specs.Settled.{AreSettled, IsKeptIn, IsSettledPair}
-use Rattle.external_dependencies.specs.Touch.{Covers, IsBorder, IsMarked, IsOpenIn, MayReach, Touches}
+use Rattle.external_dependencies.specs.Touch.{Covers, HasSameList, IsBorder, IsMarked, IsOpenIn, MayReach, Touches}
 use Rattle.external_dependencies.proofs.StayLemmas.{nearest_stays}
 
 -- a border is one in both directions
@@ -48,22 +48,25 @@ module _ (touch : Touch) (was now : List PlacedRow) (was_links links : List Link
     | inr anew ↦ absurd (unreached (inl anew))
   ]
 
-  same_lists : (app : List ℕ) → Lists was_links q.row.key.app app ↔ Lists links q.row.key.app app
+  same_lists : HasSameList was_links links q.row.key.app
   same_lists = elim (turn.lists q.row.key.app) [
     | inl same ↦ same
     | inr changed ↦ absurd (unreached (inr (inl changed)))
   ]
 
   clear : (app : List ℕ) → Lists links q.row.key.app app → Covers touch.stretches.items app q.row.key.ia → ⊥
-  clear app listed covers =
-      unreached (inr (inr (record { app = q.row.key.app; predecessor = app }, listed, (refl, covers))))
+  clear app (within, listed) covers = unreached (inr (inr (
+    record { app = q.row.key.app; predecessor = app; within = within },
+    listed,
+    (refl, covers),
+  )))
 
   -- its nearest predecessors are those before
-  pub nearest_on : (app : List ℕ) → Lists links q.row.key.app app → (near : Arrival)
-      → IsNearest (IsLiveIn was) q.row.key app near ↔ IsNearest (IsLiveIn now) q.row.key app near
-  nearest_on app listed near = (
-    nearest_stays touch.stretches.items was now q.row.key app (clear app listed) turn.went turn.came near,
-    nearest_stays touch.stretches.items now was q.row.key app (clear app listed)
+  pub nearest_on : (app : List ℕ) (within : Option ℕ) → Lists links q.row.key.app app → (near : Arrival)
+      → IsNearest (IsLiveIn was) q.row.key app within near ↔ IsNearest (IsLiveIn now) q.row.key app within near
+  nearest_on app within listed near = (
+    nearest_stays touch.stretches.items was now q.row.key app within (clear app listed) turn.went turn.came near,
+    nearest_stays touch.stretches.items now was q.row.key app within (clear app listed)
         (λ a here. turned touch.stretches.items was now a (turn.came a here))
         (λ a here. turned touch.stretches.items was now a (turn.went a here)) near,
   )
@@ -83,18 +86,19 @@ module _ (touch : Touch) (was now : List PlacedRow) (was_links links : List Link
       forward there = elim ((settled pair).0 there) [
         | inl is ↦
             let keys : is.placed.row.key ≡ q.row.key = key_before is.placed is.stands (is.successor ∙ sym same) in
-            let listed : Lists links q.row.key.app is.app =
-            (same_lists is.app).0 (subst (λ (k : Key). Lists was_links k.app is.app) keys is.listed) in
+            let listed : ListsWithin links q.row.key.app is.app is.within = (same_lists is.app is.within).0
+            (subst (λ (k : Key). ListsWithin was_links k.app is.app is.within) keys is.listed) in
             inl (record {
               placed = q;
               stands = stands;
               waits = is_open;
               successor = same;
               app = is.app;
+              within = is.within;
               listed = listed;
               near = is.near;
-              nearest = (nearest_on is.app listed is.near).0
-                  (subst (λ (k : Key). IsNearest (IsLiveIn was) k is.app is.near) keys is.nearest);
+              nearest = (nearest_on is.app is.within (is.within, listed) is.near).0
+                  (subst (λ (k : Key). IsNearest (IsLiveIn was) k is.app is.within is.near) keys is.nearest);
               predecessor = is.predecessor;
             })
         | inr kept ↦ absurd (kept.closed (subst (λ (p : PlacedRow). IsOpen p.place)
@@ -105,10 +109,10 @@ module _ (touch : Touch) (was now : List PlacedRow) (was_links links : List Link
       backward (inr kept) = kept.had
       backward (inl is) =
           let one : is.placed ≡ q = turn.once_after is.placed q is.stands stands (is.successor ∙ sym same) in
-          let listed : Lists links q.row.key.app is.app =
-          subst (λ (p : PlacedRow). Lists links p.row.key.app is.app) one is.listed in
-          let nearest : IsNearest (IsLiveIn now) q.row.key is.app is.near =
-          subst (λ (p : PlacedRow). IsNearest (IsLiveIn now) p.row.key is.app is.near) one is.nearest in
+          let listed : ListsWithin links q.row.key.app is.app is.within =
+          subst (λ (p : PlacedRow). ListsWithin links p.row.key.app is.app is.within) one is.listed in
+          let nearest : IsNearest (IsLiveIn now) q.row.key is.app is.within is.near =
+          subst (λ (p : PlacedRow). IsNearest (IsLiveIn now) p.row.key is.app is.within is.near) one is.nearest in
           let keys : q.row.key ≡ before.0.row.key = sym before.4 in
           (settled pair).1 (inl (record {
             placed = before.0;
@@ -116,9 +120,11 @@ module _ (touch : Touch) (was now : List PlacedRow) (was_links links : List Link
             waits = before.2;
             successor = before.3 ∙ same;
             app = is.app;
-            listed = subst (λ (k : Key). Lists was_links k.app is.app) keys ((same_lists is.app).1 listed);
+            within = is.within;
+            listed = subst (λ (k : Key). ListsWithin was_links k.app is.app is.within) keys
+                ((same_lists is.app is.within).1 listed);
             near = is.near;
-            nearest = subst (λ (k : Key). IsNearest (IsLiveIn was) k is.app is.near) keys
-                ((nearest_on is.app listed is.near).1 nearest);
+            nearest = subst (λ (k : Key). IsNearest (IsLiveIn was) k is.app is.within is.near) keys
+                ((nearest_on is.app is.within (is.within, listed) is.near).1 nearest);
             predecessor = is.predecessor;
           }))

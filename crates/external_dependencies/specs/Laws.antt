@@ -1,7 +1,8 @@
 -- What the definitions of predecessors and pairs imply.
-use Rattle.std.specs.Prelude.{◌≡◌, ◌<◌, ◌⊎◌, ◌↔◌, ℕ, List, Contains}
+use Rattle.std.specs.Prelude.{◌≡◌, ◌<◌, ◌⊎◌, ◌↔◌, ℕ, List, Contains, Option}
 use Rattle.std.specs.Cmp.{IsTotalOrder}
 use Rattle.std.specs.declared.cmp.Ordering.{Ordering}
+use Rattle.std.specs.Ordering.{MatchOrdering}
 use Rattle.occurrences.specs.declared.key.Key.{Key}
 use Rattle.occurrences.specs.Order.{IsStrictOrder, Ranks}
 use Rattle.occurrences.specs.Place.{IsLive}
@@ -9,6 +10,7 @@ use Rattle.external_dependencies.specs.declared.links.Link.{Link}
 use Rattle.external_dependencies.specs.declared.live.Arrival.{Arrival}
 use Rattle.external_dependencies.specs.declared.rows.PlacedRow.{PlacedRow}
 use Rattle.external_dependencies.specs.declared.pairs.Pair.{Pair}
+use Rattle.external_dependencies.specs.Link.{HaveSameNames, LinkBefore, link_cmp}
 use Rattle.external_dependencies.specs.Loop.{OnRing, OnLoop}
 use Rattle.external_dependencies.specs.Nearest.{IsLiveIn, IsCandidate, IsNearest}
 use Rattle.external_dependencies.specs.Pair.{IsPairOf}
@@ -32,13 +34,14 @@ PairEdge rows links successor predecessor =
 
 abbrev pub NearestIsUnique : Type 0
 NearestIsUnique =
-    (rows : List PlacedRow) (key : Key) (app : List ℕ) (x y : Arrival) → IsNearest (IsLiveIn rows) key app x
-    → IsNearest (IsLiveIn rows) key app y → x ≡ y
+    (rows : List PlacedRow) (key : Key) (app : List ℕ) (within : Option ℕ) (x y : Arrival)
+    → IsNearest (IsLiveIn rows) key app within x → IsNearest (IsLiveIn rows) key app within y → x ≡ y
 
 abbrev pub NearestArrivesLast : Type 0
 NearestArrivesLast =
-    (rows : List PlacedRow) → LiveKeysDiffer rows → (key : Key) (app : List ℕ) (near other : Arrival)
-    → IsNearest (IsLiveIn rows) key app near → IsLiveIn rows other → IsCandidate key app other
+    (rows : List PlacedRow) → LiveKeysDiffer rows → (key : Key) (app : List ℕ) (within : Option ℕ)
+    (near other : Arrival) → IsNearest (IsLiveIn rows) key app within near → IsLiveIn rows other
+    → IsCandidate key app within other
     → (other ≡ near) ⊎ (other.ia < near.ia)
 
 abbrev pub PairsDependOnSet : Type 0
@@ -61,3 +64,9 @@ pub record IsOrderBy {X : Type 0} (cmp : X → X → Ordering) (Before : X → X
   pub strict : IsStrictOrder Before
   pub total : IsTotalOrder cmp
   pub ranks : Ranks cmp Before
+
+-- links compare by their names: an order that a relation tells, in which links of the same names tie, and no others
+pub record IsOrderOfNames : Type 0 where
+  pub strict : IsStrictOrder LinkBefore
+  pub total : IsTotalOrder link_cmp
+  pub ranks : (a b : Link) → MatchOrdering (link_cmp a b) (LinkBefore a b) (HaveSameNames a b) (LinkBefore b a)

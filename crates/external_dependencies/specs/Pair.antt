@@ -1,5 +1,5 @@
 -- Pairs of occurrences: a successor and its predecessor.
-use Rattle.std.specs.Prelude.{◌≡◌, ◌<◌, ◌⊎◌, ◌↔◌, ℕ, List, Contains}
+use Rattle.std.specs.Prelude.{◌≡◌, ◌<◌, ◌⊎◌, ◌↔◌, ℕ, List, Contains, Option}
 use Rattle.std.specs.declared.cmp.Ordering.{Ordering}
 use Rattle.std.specs.Ordering.{nat_cmp, ordering_then}
 use Rattle.occurrences.specs.declared.row.Row.{Row}
@@ -9,7 +9,7 @@ use Rattle.external_dependencies.specs.declared.links.Link.{Link}
 use Rattle.external_dependencies.specs.declared.live.Arrival.{Arrival}
 use Rattle.external_dependencies.specs.declared.rows.PlacedRow.{PlacedRow}
 use Rattle.external_dependencies.specs.declared.pairs.Pair.{Pair}
-use Rattle.external_dependencies.specs.Link.{Lists}
+use Rattle.external_dependencies.specs.Link.{ListsWithin}
 use Rattle.external_dependencies.specs.Nearest.{IsLiveIn, IsNearest}
 
 -- by successor, then by predecessor
@@ -31,16 +31,18 @@ follower_cmp a b = ordering_then (nat_cmp a.predecessor b.predecessor) (nat_cmp 
 abbrev pub PairBefore : Pair → Pair → Type 0
 PairBefore a b = (a.successor < b.successor) ⊎ ((a.successor ≡ b.successor) × (a.predecessor < b.predecessor))
 
--- an open one of the rows, and its nearest predecessor among all rows in an application of its list
+-- an open one of the rows, and its nearest predecessor among all rows in an application of its list, within the limit
+-- that the list gives
 pub record IsPairAmong (all rows : List PlacedRow) (links : List Link) (pair : Pair) : Type 0 where
   pub placed : PlacedRow
   pub stands : Contains rows placed
   pub waits : IsOpen placed.place
   pub successor : placed.row.serial ≡ pair.successor
   pub app : List ℕ
-  pub listed : Lists links placed.row.key.app app
+  pub within : Option ℕ
+  pub listed : ListsWithin links placed.row.key.app app within
   pub near : Arrival
-  pub nearest : IsNearest (IsLiveIn all) placed.row.key app near
+  pub nearest : IsNearest (IsLiveIn all) placed.row.key app within near
   pub predecessor : near.serial ≡ pair.predecessor
 
 -- a pair from scratch
@@ -53,7 +55,7 @@ pub record IsPairFrom (live : List Arrival) (row : Row) (list : List Link) (pair
   pub link : Link
   pub listed : Contains list link
   pub near : Arrival
-  pub nearest : IsNearest (Contains live) row.key link.predecessor near
+  pub nearest : IsNearest (Contains live) row.key link.predecessor link.within near
   pub predecessor : near.serial ≡ pair.predecessor
 
 -- exactly the pairs from scratch

@@ -1,5 +1,5 @@
 -- The rows and pairs that hold what a change reaches.
-use Rattle.std.specs.Prelude.{◌≡◌, ◌⊎◌, ◌↔◌, ℕ, List, Contains}
+use Rattle.std.specs.Prelude.{◌≡◌, ◌⊎◌, ◌↔◌, ℕ, List, Contains, None}
 use Rattle.occurrences.specs.Place.{IsOpen}
 use Rattle.external_dependencies.specs.declared.links.Link.{Link}
 use Rattle.external_dependencies.specs.declared.live.Arrival.{Arrival}
@@ -25,7 +25,7 @@ AreAsked touch links rows asked =
     (q : PlacedRow) → Contains asked q ↔ (Contains rows q × (IsOpen q.place × MayReach touch links q.row))
 
 -- the rows and the pairs hold what the change reaches. Of all rows after it: each open one that it may reach, with
--- whatever is nearest to it in each application of its list. Of all pairs before it: those of these rows, and those of
+-- whatever is nearest to it in each application of its list, were there no limit. Of all pairs before it: those of these rows, and those of
 -- what was withdrawn
 pub record HoldsReached (touch : Touch) (links : List Link) (now : List PlacedRow) (old : List Pair)
     (rows : List PlacedRow) (pairs : List Pair) : Type 0 where
@@ -33,7 +33,7 @@ pub record HoldsReached (touch : Touch) (links : List Link) (now : List PlacedRo
   pub reached : (q : PlacedRow) → Contains now q → IsOpen q.place → MayReach touch links q.row → Contains rows q
   pub nearest : (q : PlacedRow) → Contains now q → IsOpen q.place → MayReach touch links q.row → (app : List ℕ)
       → Lists links q.row.key.app app → (near : Arrival)
-      → IsNearest (IsLiveIn rows) q.row.key app near ↔ IsNearest (IsLiveIn now) q.row.key app near
+      → IsNearest (IsLiveIn rows) q.row.key app None near ↔ IsNearest (IsLiveIn now) q.row.key app None near
   pub pairs_stood : (pair : Pair) → Contains pairs pair → Contains old pair
   pub had : (pair : Pair) → Contains old pair
       → IsReachedIn touch links now pair.successor ⊎ Contains touch.withdrawn.items pair.successor

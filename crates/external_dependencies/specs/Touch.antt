@@ -7,7 +7,7 @@ use Rattle.external_dependencies.specs.declared.live.Arrival.{Arrival}
 use Rattle.external_dependencies.specs.declared.rows.PlacedRow.{PlacedRow}
 use Rattle.external_dependencies.specs.declared.touch.Stretch.{Stretch}
 use Rattle.external_dependencies.specs.declared.touch.Touch.{Touch}
-use Rattle.external_dependencies.specs.Link.{Lists}
+use Rattle.external_dependencies.specs.Link.{ListsWithin}
 use Rattle.external_dependencies.specs.Nearest.{IsLiveIn}
 use Rattle.external_dependencies.specs.Settled.{IsOnce}
 
@@ -61,6 +61,11 @@ abbrev pub IsOpenIn : List PlacedRow → Row → Type 0
 IsOpenIn rows row =
     (p : PlacedRow) × Contains rows p × IsOpen p.place × (p.row.serial ≡ row.serial) × (p.row.key ≡ row.key)
 
+-- the application has the same list before and after, with the same limits
+abbrev pub HasSameList : List Link → List Link → List ℕ → Type 0
+HasSameList was_links links app = (predecessor : List ℕ) (within : Option ℕ)
+    → ListsWithin was_links app predecessor within ↔ ListsWithin links app predecessor within
+
 -- `touch` names all that a change touches that leads from the one rows and lists to the other
 pub record Touches (touch : Touch) (was now : List PlacedRow) (was_links links : List Link) : Type 0 where
   pub once_before : IsOnce was
@@ -79,5 +84,4 @@ pub record Touches (touch : Touch) (was now : List PlacedRow) (was_links links :
   pub went : (a : Arrival) → IsLiveIn was a → IsLiveIn now a ⊎ IsMarked touch.stretches.items was now a
   pub came : (a : Arrival) → IsLiveIn now a → IsLiveIn was a ⊎ IsMarked touch.stretches.items was now a
   -- a list is as it was, or is named
-  pub lists : (app : List ℕ) → ((predecessor : List ℕ) → Lists was_links app predecessor ↔ Lists links app predecessor)
-      ⊎ Contains touch.lists.items app
+  pub lists : (app : List ℕ) → HasSameList was_links links app ⊎ Contains touch.lists.items app

@@ -2,9 +2,9 @@
 
 ghost use Rattle.std.specs.Prelude.{◌≡◌, ◌↔◌, true};
 ghost use Rattle.external_dependencies.specs.Laws.{NearestIsUnique, NearestArrivesLast, PairsDependOnSet};
-ghost use Rattle.external_dependencies.specs.Laws.{PairsHaveNoLoop, NoRowPrecedesItself, IsOrderBy};
+ghost use Rattle.external_dependencies.specs.Laws.{PairsHaveNoLoop, NoRowPrecedesItself, IsOrderBy, IsOrderOfNames};
 ghost use Rattle.external_dependencies.specs.Arrival.{arrival_cmp, ArrivalBefore};
-ghost use Rattle.external_dependencies.specs.Link.{link_cmp, LinkBefore};
+ghost use Rattle.external_dependencies.specs.Link.{link_cmp, HaveSameNames};
 ghost use Rattle.external_dependencies.specs.Pair.{pair_cmp, PairBefore};
 ghost use Rattle.external_dependencies.specs.Rising.{RisingIsUnique};
 
@@ -48,12 +48,12 @@ pub fn pair_order()
     ensures equal { (a b : Pair) → (⟦<Pair as PartialEq>⟧.eq a b ≡ true) ↔ (a ≡ b) }
 {}
 
-/// Links are ordered by application, then by predecessor, in byte order: a strict order, by which they compare and
-/// test as equal.
+/// Links are ordered by application, then by predecessor, in byte order: a strict order of names, by which they compare
+/// and test as equal. Their limits are not looked at.
 pub fn link_order()
-    ensures order { IsOrderBy link_cmp LinkBefore }
+    ensures order { IsOrderOfNames }
     ensures compared { (a b : Link) → ⟦<Link as Ord>⟧.cmp a b ≡ link_cmp a b }
-    ensures equal { (a b : Link) → (⟦<Link as PartialEq>⟧.eq a b ≡ true) ↔ (a ≡ b) }
+    ensures equal { (a b : Link) → (⟦<Link as PartialEq>⟧.eq a b ≡ true) ↔ HaveSameNames a b }
 {}
 
 /// Arrivals are ordered by application in byte order, then by input arrival, then by serial: a strict order, by which

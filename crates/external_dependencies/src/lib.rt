@@ -5,7 +5,7 @@
 //! predecessors:
 //!
 //! ```text
-//! let links = Links::from_vec(vec![in alloc; Link { app: a, predecessor: b }]?);
+//! let links = Links::from_vec(vec![in alloc; Link { app: a, predecessor: b, within: None }]?);
 //! let pairs = resolve_all(alloc, &rows, &links)?;
 //! assert_eq!(rt; pairs.of_successor(fourth), [Pair { successor: fourth, predecessor: third }].as_slice());
 //! ```
@@ -37,7 +37,7 @@ pub use laws::{
     pairs_depend_on_set, pairs_have_no_loop, rising_is_unique,
 };
 pub use links::{Link, Links};
-pub use live::{Arrival, Live, nearest};
+pub use live::{Arrival, Live, arrives_within, nearest};
 pub use loops::find_loop;
 pub use pairs::{Pair, Pairs, resolve_all, resolve_some};
 pub use repair::resolve_touched;

@@ -1,25 +1,76 @@
-ghost use Rattle.std.specs.Prelude.{◌≡◌, [], ◌↔◌, Contains, IfOk, filter};
+ghost use Rattle.std.specs.Prelude.{◌≡◌, ◌==◌, [], ◌↔◌, Contains, IfOk, IsTrue, filter};
 ghost use Rattle.std.specs.Str.{bytes_eq};
+ghost use Rattle.std.specs.Cmp.{partial_order_from_own_ties};
+ghost use Rattle.std.specs.Cmp.Lexicographic.{pointwise, slice_cmp};
+ghost use Rattle.std.specs.Cmp.Rules.{comparing};
+ghost use Rattle.std.specs.Ordering.{as_partial_cmp, eq_of_both, nat_cmp, on, then_cmp};
+ghost use Rattle.std.proofs.Common.{rules};
 ghost use Rattle.external_dependencies.specs.Rising.{IsRising};
-ghost use Rattle.external_dependencies.specs.Link.{link_cmp};
+ghost use Rattle.external_dependencies.specs.Link.{link_cmp, KeepsNames};
 ghost use Rattle.external_dependencies.specs.declared.links.Link.{Link};
 
-use crate::rising::into_rising;
+use crate::rising::into_ordered;
 use std::alloc::{AllocError, Global};
+use std::cmp::Ordering;
 use std::marker::Model;
-use work_calendars::App;
+use work_calendars::{App, Within};
 
-/// One entry of a predecessor list: an application, and a predecessor in its list.
-/// Links are ordered by application, then by predecessor, in byte order.
-#[derive(Clone, Copy, Debug, PartialEq, Eq, PartialOrd, Ord, Hash)]
+/// One entry of a predecessor list: an application, a predecessor in its list, and how long before an occurrence the
+/// predecessor may arrive. Links are ordered by application, then by predecessor, in byte order, and those of the same
+/// names are equal: the limit is not looked at.
+#[derive(Clone, Copy, Debug)]
 pub struct Link {
     /// The application whose list it is.
     pub app: App,
     /// The application that the list names.
     pub predecessor: App,
+    /// The most hours from the arrival of the predecessor to that of the occurrence; `None` where there is no limit.
+    pub within: Option<Within>,
 }
 
-/// Lists of predecessors by application. Contracts see the links of all lists, in rising order, each once.
+impl PartialEq for Link {
+    ghost eq = { eq_of_both (on (λ l. l.app) (pointwise ◌==◌)) (on (λ l. l.predecessor) (pointwise ◌==◌)) };
+
+    ghost laws = { Prim.search (comparing, rules) };
+
+    fn eq(&self, other: &Link) -> bool {
+        self.app == other.app && self.predecessor == other.predecessor
+    }
+}
+
+impl Eq for Link {
+    ghost laws = { Prim.search (comparing, rules) };
+}
+
+impl Ord for Link {
+    ghost cmp = { then_cmp (on (λ l. l.app) (slice_cmp nat_cmp)) (on (λ l. l.predecessor) (slice_cmp nat_cmp)) };
+
+    ghost total = { Prim.search (comparing, rules) };
+
+    ghost matches_partial_cmp = { Prim.search (comparing, rules) };
+
+    ghost matches_eq = { Prim.search (comparing, rules) };
+
+    fn cmp(&self, other: &Link) -> Ordering {
+        self.app
+            .cmp(&other.app)
+            .then(self.predecessor.cmp(&other.predecessor))
+    }
+}
+
+impl PartialOrd for Link {
+    ghost partial_cmp = { as_partial_cmp (then_cmp (on (λ l. l.app) (slice_cmp nat_cmp))
+        (on (λ l. l.predecessor) (slice_cmp nat_cmp))) };
+
+    ghost laws = { partial_order_from_own_ties (Prim.search (comparing, rules)) (Prim.search (comparing, rules)) };
+
+    fn partial_cmp(&self, other: &Link) -> Option<Ordering> {
+        Some(self.cmp(other))
+    }
+}
+
+/// Lists of predecessors by application. Contracts see the links of all lists, in rising order, each pair of names
+/// once.
 #[derive(Drop)]
 pub struct Links {
     links: Vec<Link>,
@@ -59,13 +110,13 @@ impl Links {
         }
     }
 
-    /// The lists that these links make, given in any order.
+    /// The lists that these links make, given in any order. Of several links of the same names one stays.
     pub fn from_vec(links: Vec<Link>) -> Links
         ensures rising { IsRising link_cmp result }
-        ensures same { (link : Link) → Contains result link ↔ Contains links.items link }
+        ensures kept { KeepsNames links.items result }
     {
         Links {
-            links: into_rising(links),
+            links: into_ordered(links),
         }
     }
 
@@ -86,6 +137,16 @@ impl Links {
         links
     }
 
+    /// Whether the link is one of these, with the same limit.
+    pub fn contains(&self, link: &Link) -> bool
+        ensures { IsTrue result ↔ Contains self.now link.now }
+    {
+        match self.links.binary_search(link) {
+            Ok(place) => is_same_limit(self.links[place].within, link.within),
+            Err(_) => false,
+        }
+    }
+
     /// The list of an application.
     pub fn list(&self, app: &App) -> &[Link]
         ensures rising { IsRising link_cmp result.now }
@@ -104,6 +165,17 @@ impl Links {
             Contains found.items link ↔ (Contains self.now link × (link.predecessor ≡ predecessor.now))) }
     {
         links_naming(alloc, self.links.as_slice(), predecessor)
+    }
+}
+
+// Whether both are the same limit, or both are none.
+fn is_same_limit(a: Option<Within>, b: Option<Within>) -> bool
+    ensures { IsTrue result ↔ (a ≡ b) }
+{
+    match (a, b) {
+        (None, None) => true,
+        (Some(a), Some(b)) => a.hours() == b.hours(),
+        _ => false,
     }
 }
 

@@ -1,7 +1,7 @@
-ghost use Rattle.std.specs.Prelude.{◌≡◌, ◌↔◌, Contains, IfOk};
+ghost use Rattle.std.specs.Prelude.{◌≡◌, ◌↔◌, Contains, IfOk, IsTrue, None};
 ghost use Rattle.external_dependencies.specs.Rising.{IsRising};
 ghost use Rattle.external_dependencies.specs.Arrival.{arrival_cmp};
-ghost use Rattle.external_dependencies.specs.Nearest.{IsLiveIn, IsNearestAnswer};
+ghost use Rattle.external_dependencies.specs.Nearest.{ArrivesWithin, IsLiveIn, IsNearestAnswer, IsNearestArrival};
 ghost use Rattle.external_dependencies.specs.declared.live.Arrival.{Arrival};
 
 use crate::rising::into_rising;
@@ -9,7 +9,7 @@ use crate::rows::Rows;
 use occurrences::{Key, Serial};
 use std::alloc::{AllocError, Global};
 use std::marker::Model;
-use work_calendars::{App, Moment};
+use work_calendars::{App, Moment, Within};
 
 /// What the search for predecessors knows of a live occurrence.
 /// Arrivals are ordered by application, then by input arrival, then by serial.
@@ -75,10 +75,35 @@ impl Live {
 
 /// The nearest predecessor, in an application, of the occurrence with that key: of the live occurrences of the
 /// application that arrive at or before it, the one that arrives last; in its own application only those that arrive
-/// before it count. Of several that arrive last together, which no plan has, it is the one of the greatest serial.
-/// `None` if there is no such occurrence.
-pub fn nearest(live: &Live, key: &Key, app: &App) -> Option<Serial>
-    ensures { IsNearestAnswer (Contains live.now) key.now app.now result }
+/// before it count, and where there is a limit none that arrives more than so many hours before it. Of several that
+/// arrive last together, which no plan has, it is the one of the greatest serial. `None` if there is no such
+/// occurrence.
+pub fn nearest(live: &Live, key: &Key, app: &App, within: Option<Within>) -> Option<Serial>
+    ensures { IsNearestAnswer (Contains live.now) key.now app.now within result }
+{
+    let Some(last) = last_arrival(live, key, app) else {
+        return None;
+    };
+    if arrives_within(within, key.ia, last.ia) {
+        Some(last.serial)
+    } else {
+        None
+    }
+}
+
+/// Whether the moment is at most as many hours after the first as the limit says; where there is none, it is.
+pub fn arrives_within(within: Option<Within>, ia: Moment, first: Moment) -> bool
+    ensures { IsTrue result ↔ ArrivesWithin within ia first }
+{
+    match within {
+        None => true,
+        Some(within) => ia.number() <= first.number() + within.hours() * 60,
+    }
+}
+
+// The nearest predecessor, were there no limit.
+fn last_arrival(live: &Live, key: &Key, app: &App) -> Option<Arrival>
+    ensures { IsNearestArrival (Contains live.now) key.now app.now None result }
 {
     let arrival = key.ia.number();
     let limit = if *app == key.app {
@@ -93,9 +118,5 @@ pub fn nearest(live: &Live, key: &Key, app: &App) -> Option<Serial>
         return None;
     }
     let last = live.arrivals[count - 1];
-    if last.app == *app {
-        Some(last.serial)
-    } else {
-        None
-    }
+    if last.app == *app { Some(last) } else { None }
 }

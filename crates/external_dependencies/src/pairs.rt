@@ -171,7 +171,7 @@ fn push_pairs(
     ensures { OnOk result (AddsPairsOf live.now row.now list.now pairs.old.items pairs.new.items) }
 {
     for link in list {
-        if let Some(predecessor) = nearest(live, &row.key, &link.predecessor) {
+        if let Some(predecessor) = nearest(live, &row.key, &link.predecessor, link.within) {
             pairs.push(Pair {
                 successor: row.serial,
                 predecessor,

@@ -1,7 +1,7 @@
 -- The rows of the applications that a statement looks at: of no others any goes or changes; and the rows of some
 -- applications, one application after another.
-use Rattle.std.proofs.Common.{◌≡◌, ◌↔◌, ◌⊎◌, ℕ, Bool, true, false, List, [], ◌∷◌, ◌++◌, filter, refl, sym, ap, subst, ◌∙◌}
-use Rattle.std.proofs.Common.{inl, inr, Option, None, Some}
+use Rattle.std.proofs.Common.{◌≡◌, ◌⊎◌, ℕ, Bool, true, false, List, [], ◌∷◌, ◌++◌, filter, refl, sym, ap, subst, ◌∙◌}
+use Rattle.std.proofs.Common.{inl, inr, Option, Some}
 use Rattle.std.specs.Prelude.{◌&&◌, is_none, option_map, if◌then◌else◌}
 use Rattle.std.specs.List.{Contains, filter_map}
 use Rattle.std.specs.Ordering.{on}

@@ -1,6 +1,6 @@
 -- The live occurrences before and after a statement that makes rows of the long-term plan and withdraws others.
-use Rattle.std.proofs.Common.{◌≡◌, ◌≢◌, ◌↔◌, ◌⊎◌, ℕ, ◌≤◌, ◌++◌, List, [], refl, sym, subst, ◌∙◌, inl, inr, arith, Option, None, Some}
-use Rattle.std.proofs.Common.{true, filter, ap}
+use Rattle.std.proofs.Common.{◌≡◌, ◌≢◌, ◌⊎◌, ℕ, ◌++◌, List, [], refl, sym, subst, ◌∙◌, inl, inr, arith, Option, None, Some}
+use Rattle.std.proofs.Common.{ap}
 use Rattle.std.specs.Prelude.{is_none}
 use Rattle.std.specs.List.{Contains}
 use Rattle.occurrences.specs.declared.place.CurrentRow.{CurrentRow}

@@ -1,14 +1,15 @@
 -- Predecessor lists as links.
 use Rattle.std.specs.Prelude.{ℕ, Bool, List, not}
+use Rattle.definition_records.specs.declared.predecessors.Predecessor.{Predecessor}
 use Rattle.external_dependencies.specs.declared.links.Link.{Link}
 use Rattle.planner_machine.specs.ModifyOne.{is_that_app}
 
--- the link of an application and a predecessor in its list
-abbrev pub link_of : List ℕ × List ℕ → Link
-link_of listed = record { app = listed.0; predecessor = listed.1 }
+-- the link of an application and a predecessor in its list, with its limit
+abbrev pub link_to : List ℕ → Predecessor → Link
+link_to app p = record { app = app; predecessor = p.name; within = p.within }
 
-abbrev pub link_to : List ℕ → List ℕ → Link
-link_to app name = record { app = app; predecessor = name }
+abbrev pub link_of : List ℕ × Predecessor → Link
+link_of listed = link_to listed.0 listed.1
 
 -- the link is of another application
 abbrev pub is_of_other : List ℕ → Link → Bool

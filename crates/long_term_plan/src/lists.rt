@@ -1,14 +1,15 @@
 ghost use Rattle.std.specs.Prelude.{◌≡◌, ◌↔◌, Contains, IfOk, filter, map};
+ghost use Rattle.external_dependencies.specs.Link.{AreNamedOnce};
 ghost use Rattle.external_dependencies.specs.declared.links.Link.{Link as LinkValue};
 ghost use Rattle.planner_machine.specs.InForce.{AreLinks, IsDefinedLink, PutsOne};
 ghost use Rattle.long_term_plan.specs.Lists.{is_of_other, link_of, link_to};
 
 use crate::parting::looks;
-use app_definitions::Definitions;
+use app_definitions::{Definitions, Predecessor};
 use app_occurrences::defined_links;
 use external_dependencies::{Link, Links};
 use std::alloc::{AllocError, Global};
-use work_calendars::{App, Name};
+use work_calendars::App;
 
 // All lists that are defined.
 pub(crate) fn defined_lists(alloc: Global, all: &Definitions) -> Result<Links, AllocError>
@@ -20,14 +21,15 @@ pub(crate) fn defined_lists(alloc: Global, all: &Definitions) -> Result<Links, A
 }
 
 // The links of applications and their predecessors.
-fn links_of(alloc: Global, listed: &[(App, App)]) -> Result<Vec<Link>, AllocError>
+fn links_of(alloc: Global, listed: &[(App, Predecessor)]) -> Result<Vec<Link>, AllocError>
     ensures { IfOk result (λ links. links.items ≡ map link_of listed.now) }
 {
     listed
         .iter()
         .map(|(app, predecessor)| Link {
             app: *app,
-            predecessor: *predecessor,
+            predecessor: predecessor.name,
+            within: predecessor.within,
         })
         .collect(alloc)
 }
@@ -49,24 +51,26 @@ pub(crate) fn lists_of_one(
 
 // The links of the list that is defined for the application.
 fn own_links(alloc: Global, all: &Definitions, app: &App) -> Result<Vec<Link>, AllocError>
-    ensures { IfOk result (λ links. (link : LinkValue)
+    ensures exactly { IfOk result (λ links. (link : LinkValue)
         → Contains links.items link ↔ ((link.app ≡ app.now) × IsDefinedLink all.now link)) }
+    ensures once { IfOk result (λ links. AreNamedOnce links.items) }
 {
     match all.predecessors.get(app) {
-        Some(names) => links_to(alloc, app, names.as_slice()),
+        Some(listed) => links_to(alloc, app, listed.as_slice()),
         None => Ok(Vec::new(alloc)),
     }
 }
 
 // The links of the application to these predecessors.
-fn links_to(alloc: Global, app: &App, names: &[Name]) -> Result<Vec<Link>, AllocError>
-    ensures { IfOk result (λ links. links.items ≡ map (link_to app.now) names.now) }
+fn links_to(alloc: Global, app: &App, listed: &[Predecessor]) -> Result<Vec<Link>, AllocError>
+    ensures { IfOk result (λ links. links.items ≡ map (link_to app.now) listed.now) }
 {
-    names
+    listed
         .iter()
-        .map(|name| Link {
+        .map(|predecessor| Link {
             app: *app,
-            predecessor: *name,
+            predecessor: predecessor.name,
+            within: predecessor.within,
         })
         .collect(alloc)
 }

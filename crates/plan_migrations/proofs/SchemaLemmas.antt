@@ -1,5 +1,5 @@
 -- Schemas that have the same tables and indexes, and nothing else.
-use Rattle.std.proofs.Common.{◌≡◌, ◌↔◌, ◌∙◌, ℕ, List, [], ◌∷◌, ◌++◌, append-nil, drop, length, refl, sym, ap, subst}
+use Rattle.std.proofs.Common.{◌≡◌, ◌↔◌, ◌∙◌, ℕ, List, [], ◌++◌, append-nil, drop, length, refl, sym, ap, subst}
 use Rattle.std.proofs.Math.Seq.{drop-length}
 use Rattle.std.proofs.lemmas.List.Elements.{All-nil}
 use Rattle.sqlite_schema.specs.declared.schema.Schema.{Schema}

@@ -1,15 +1,16 @@
 -- The content that the rows of the tables of schema 1 stand for.
-use Rattle.std.specs.Prelude.{◌≡◌, ◌↔◌, ℕ, List, [], ◌∷◌, map, Option, Contains}
+use Rattle.std.specs.Prelude.{◌≡◌, ◌↔◌, ℕ, List, [], ◌∷◌, map, Option, None, Contains}
 use Rattle.sqlite.specs.Order.{Row as Values}
 use Rattle.sqlite.specs.declared.types.Value.TheVariants.{Text}
 use Rattle.app_definitions.specs.declared.options.Options.{Options}
+use Rattle.definition_records.specs.declared.predecessors.Predecessor.{Predecessor}
 use Rattle.external_dependencies.specs.declared.links.Link.{Link}
 use Rattle.planner_machine.specs.Content.{Content}
 use Rattle.planner_machine.specs.declared.content.Bounds.{Bounds}
 use Rattle.table_schema.specs.Rows.{Tables}
 use Rattle.table_schema.specs.declared.tables.Table.{Table}
 use Rattle.table_schema.specs.declared.tables.Table.TheVariants as table
-use Rattle.table_facts.specs.Content.{IsFact, IsOfList, IsOfSome, IsTellable, bounds_values}
+use Rattle.table_facts.specs.Content.{AreEach, IsFact, IsOfList, IsOfSome, IsTellable, bounds_values}
 use Rattle.table_facts.specs.Facts.{natural}
 use Rattle.table_remaking.specs.FirstSchema.{first_shown}
 use Rattle.plan_migrations.specs.declared.versions.TheConstants.{FIRST_VERSION}
@@ -21,10 +22,13 @@ first_meta_values bounds issued options = natural 1 ∷ natural FIRST_VERSION
 abbrev pub first_link_values : Link → Values
 first_link_values link = Text link.app ∷ Text link.predecessor ∷ []
 
+abbrev pub first_predecessor_values : List ℕ → Predecessor → Values
+first_predecessor_values app p = Text app ∷ Text p.name ∷ []
+
 -- of an application's list of predecessors: each of them
-abbrev pub IsFirstPredecessorRow : List ℕ → List (List ℕ) → Values → Type 0
-IsFirstPredecessorRow app names values =
-    (name : List ℕ) × Contains names name × (values ≡ Text app ∷ Text name ∷ [])
+abbrev pub IsFirstPredecessorRow : List ℕ → List Predecessor → Values → Type 0
+IsFirstPredecessorRow app all values =
+    (p : Predecessor) × Contains all p × (values ≡ first_predecessor_values app p)
 
 -- a fact of the content that belongs to the table: as in the current schema, but for the version and the limits
 abbrev pub IsFirstFact : Table → Content → Values → Type 0
@@ -33,7 +37,14 @@ IsFirstFact table.Predecessor c values = IsOfSome IsFirstPredecessorRow c.defini
 IsFirstFact table.LinkInForce c values = IsOfList first_link_values c.in_force values
 IsFirstFact t c values = IsFact t c values
 
--- the content of the tables: one row for each fact, and no others
+-- no list of predecessors has a limit, neither as it is defined nor in force
+pub record HasNoLimits (c : Content) : Type 0 where
+  pub defined : AreEach (λ (all : List Predecessor). (p : Predecessor) → Contains all p → p.within ≡ None)
+      c.definitions.predecessors
+  pub in_force : (link : Link) → Contains c.in_force link → link.within ≡ None
+
+-- the content of the tables: lists of predecessors without limits, one row for each fact, and no others
 pub record IsFirstContentOf (all : Tables) (c : Content) : Type 0 where
   pub tellable : IsTellable c
+  pub unlimited : HasNoLimits c
   pub facts : (t : Table) (values : Values) → Contains (map (first_shown t) (all t)) values ↔ IsFirstFact t c values

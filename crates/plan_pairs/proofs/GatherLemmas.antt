@@ -81,13 +81,13 @@ module _ (s : Sets) where
       let (near, (p, there, alive, arrives), nearest) = holds other live may in
       (near, (p, adds.stay p there, alive, arrives), nearest)
 
-  pub nearest_none : (rows : List PlacedRow) (key : Key) (app : List ℕ) → IsNearestAnswer (LiveAt s) key app None
+  pub nearest_none : (rows : List PlacedRow) (key : Key) (app : List ℕ) → IsNearestAnswer (LiveAt s) key app None None
       → AddsLive s rows rows × HoldsNearest s rows key app
   nearest_none rows key app none = (adds_none rows, λ other live may. absurd (none other live may))
 
   module _ (numbered : AreNumbered s) where
     -- what is nearest stands where its serial says
-    module _ (key : Key) (app : List ℕ) (serial : ℕ) (answer : IsNearestAnswer (LiveAt s) key app (Some serial)) where
+    module _ (key : Key) (app : List ℕ) (serial : ℕ) (answer : IsNearestAnswer (LiveAt s) key app None (Some serial)) where
       near_stands : (q : PlacedRow) × StandsAt s serial q × IsLive q.place × (arrival_of q.row ≡ answer.0)
       near_stands =
           let (n, q, at, live, arrives) = answer.1.live in
@@ -166,9 +166,9 @@ module _ (c : Content) where
       → ((link : Link) → Contains list link ↔ (Contains c.in_force link × (link.app ≡ row.key.app)))
       → ((link : Link) → Contains list link → HoldsNearest c.sets rows row.key link.predecessor)
       → HoldsList c rows row
-  by_list rows row list is holds app listed =
-      holds (record { app = row.key.app; predecessor = app })
-      ((is (record { app = row.key.app; predecessor = app })).1 (listed, refl))
+  by_list rows row list is holds app (within, listed) =
+      let link : Link = record { app = row.key.app; predecessor = app; within = within } in
+      holds link ((is link).1 (listed, refl))
 
   module _ (row : Row) (last : Option ℕ) where
     -- all links that name the row's application
@@ -180,8 +180,10 @@ module _ (c : Content) where
         → HoldsReachedRows c row last rows
     by_naming rows naming is live holds = record {
       live = live;
-      reached = λ p at. holds (record { app = p.row.key.app; predecessor = row.key.app })
-          ((is (record { app = p.row.key.app; predecessor = row.key.app })).1 (at.listed, refl)) p at.waits;
+      reached = λ p at.
+          let (within, listed) = at.listed in
+          let link : Link = record { app = p.row.key.app; predecessor = row.key.app; within = within } in
+          holds link ((is link).1 (listed, refl)) p at.waits;
     }
 
     pub gathers : (reached rows : List PlacedRow) → HoldsReachedRows c row last reached → AddsLive c.sets reached rows

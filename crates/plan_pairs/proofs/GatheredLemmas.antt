@@ -1,6 +1,6 @@
 -- The rows that are handed over hold what a change reaches: all of them, or those of the applications that it reaches
 -- and of those that their lists name.
-use Rattle.std.proofs.Common.{◌≡◌, ◌↔◌, ◌⊎◌, ℕ, List, [], ◌∷◌, ◌++◌, refl, sym, ap, subst, ◌∙◌, inl, inr}
+use Rattle.std.proofs.Common.{◌≡◌, ◌↔◌, ◌⊎◌, ℕ, None, List, [], ◌∷◌, ◌++◌, refl, sym, ap, subst, ◌∙◌, inl, inr}
 use Rattle.std.specs.List.{Contains}
 use Rattle.std.proofs.lemmas.List.Elements.{Contains-append_left, Contains-append_right, Contains-push}
 use Rattle.std.proofs.lemmas.List.Elements.{Contains-push_cases}
@@ -45,7 +45,7 @@ module _ (touch : Touch) (links : List Link) (now rows : List PlacedRow) (old : 
       (p, (are p).1 (there, subst Passes (sym same) passes), live, arrives)
 
   same_nearest : (key : Key) (app : List ℕ) → Passes app → (near : Arrival)
-      → IsNearest (IsLiveIn rows) key app near ↔ IsNearest (IsLiveIn now) key app near
+      → IsNearest (IsLiveIn rows) key app None near ↔ IsNearest (IsLiveIn now) key app None near
   same_nearest key app passes near = (
     (λ is. record {
       live = live_now near is.live;
@@ -105,8 +105,10 @@ module _ (touch : Touch) (was_links links : List Link) (gone made stay : List Ro
   of_reached q there (inl anew) = of_made q there anew
   of_reached q there (inr (inl changed)) = has.changed q.row.key.app changed
   of_reached q there (inr (inr (link, in_links, (of_app, (s, in_stretches, (app, holds)))))) =
-      let lists : Lists links q.row.key.app s.app =
-      subst (Contains links) (λ i. record { app = of_app i; predecessor = sym app i }) in_links in
+      let lists : Lists links q.row.key.app s.app = (
+        link.within,
+        subst (Contains links) (λ i. record { app = of_app i; predecessor = sym app i; within = link.within }) in_links,
+      ) in
       has.naming s q.row.key.app in_stretches lists
 
   pub gathered_hold : (old : List Pair) (planned : List Row) (rows : List PlacedRow)

@@ -8,6 +8,7 @@ use Rattle.std.proofs.lemmas.List.Elements.{Contains-append_left, Contains-push,
 use Rattle.occurrences.specs.Place.{IsOpen}
 use Rattle.occurrences.specs.declared.key.Key.{Key}
 use Rattle.occurrences.specs.declared.row.Row.{Row}
+use Rattle.external_dependencies.specs.Link.{Lists}
 use Rattle.external_dependencies.specs.Nearest.{IsCandidate, IsLiveIn, IsNearest, arrival_of}
 use Rattle.external_dependencies.specs.Reached.{HoldsReached}
 use Rattle.external_dependencies.specs.Touch.{IsBorder, IsCoveredByList, IsWithin, MayReach}
@@ -44,24 +45,24 @@ next_borders s row was now lives (Some next) is =
     (is.arrival, both.0, both.1, is.of_app, is.at, is.later)
 
 -- what is nearest is not before any other that may precede
-no_later : (s : Sets) (key : Key) (app : List ℕ) (near other : Arrival) → IsNearest (LiveAt s) key app near
-    → LiveAt s other → IsCandidate key app other → IsNoLater other near
+no_later : (s : Sets) (key : Key) (app : List ℕ) (near other : Arrival) → IsNearest (LiveAt s) key app None near
+    → LiveAt s other → IsCandidate key app None other → IsNoLater other near
 no_later s key app near other is live may =
     record { moment = is.greatest other live may; serial = λ same. is.last other live may same }
 
 -- each candidate among all rows has one among the rows handed in that is no earlier
 abbrev Dominates : (rows now : List PlacedRow) → Key → List ℕ → Type 0
-Dominates rows now key app = (other : Arrival) → IsLiveIn now other → IsCandidate key app other
-    → (k : Arrival) × IsLiveIn rows k × (IsCandidate key app k × IsNoLater other k)
+Dominates rows now key app = (other : Arrival) → IsLiveIn now other → IsCandidate key app None other
+    → (k : Arrival) × IsLiveIn rows k × (IsCandidate key app None k × IsNoLater other k)
 
 -- so both have the same nearest
 module _ (rows now : List PlacedRow) (part : (q : PlacedRow) → Contains rows q → Contains now q) (key : Key)
-    (app : List ℕ) (dominates : (other : Arrival) → IsLiveIn now other → IsCandidate key app other
-    → (k : Arrival) × IsLiveIn rows k × (IsCandidate key app k × IsNoLater other k)) (near : Arrival) where
+    (app : List ℕ) (dominates : (other : Arrival) → IsLiveIn now other → IsCandidate key app None other
+    → (k : Arrival) × IsLiveIn rows k × (IsCandidate key app None k × IsNoLater other k)) (near : Arrival) where
   live_part : (a : Arrival) → IsLiveIn rows a → IsLiveIn now a
   live_part a (p, there, live, arrives) = (p, part p there, live, arrives)
 
-  nearest_on : IsNearest (IsLiveIn rows) key app near → IsNearest (IsLiveIn now) key app near
+  nearest_on : IsNearest (IsLiveIn rows) key app None near → IsNearest (IsLiveIn now) key app None near
   nearest_on is = record {
     live = live_part near is.live;
     candidate = is.candidate;
@@ -69,14 +70,14 @@ module _ (rows now : List PlacedRow) (part : (q : PlacedRow) → Contains rows q
     last = λ other here may. (bound other here may).serial;
   }
     where
-      bound : (other : Arrival) → IsLiveIn now other → IsCandidate key app other → IsNoLater other near
+      bound : (other : Arrival) → IsLiveIn now other → IsCandidate key app None other → IsNoLater other near
       bound other here may =
           let (k, there, (candidate, before)) = dominates other here may in
           let upto = is.greatest k there candidate in
           let serial = is.last k there candidate in
           no_later_on other k near before (record { moment = upto; serial = serial })
 
-  nearest_back : IsNearest (IsLiveIn now) key app near → IsNearest (IsLiveIn rows) key app near
+  nearest_back : IsNearest (IsLiveIn now) key app None near → IsNearest (IsLiveIn rows) key app None near
   nearest_back is =
       let (k, there, (candidate, before)) = dominates near is.live is.candidate in
       let up = before.moment in
@@ -94,7 +95,7 @@ module _ (rows now : List PlacedRow) (part : (q : PlacedRow) → Contains rows q
         last = λ other here. is.last other (live_part other here);
       }
 
-  same_nearest : IsNearest (IsLiveIn rows) key app near ↔ IsNearest (IsLiveIn now) key app near
+  same_nearest : IsNearest (IsLiveIn rows) key app None near ↔ IsNearest (IsLiveIn now) key app None near
   same_nearest = (nearest_on, nearest_back)
 
 -- what a stretch of the row covers is reached
@@ -105,10 +106,10 @@ covered c row last stretches is q stands waits (link, listed, (of_app, (s, there
     let one : stretch_at row last ≡ s =
     only_one (stretch_at row last) s (subst (λ (xs : List Stretch). Contains xs s) is there) in
     let predecessor : link.predecessor ≡ row.key.app = sym app ∙ ap (λ (x : Stretch). x.app) (sym one) in
-    let whole : link ≡ record { app = q.row.key.app; predecessor = row.key.app } =
-    λ i. record { app = of_app i; predecessor = predecessor i } in
+    let whole : link ≡ record { app = q.row.key.app; predecessor = row.key.app; within = link.within } =
+    λ i. record { app = of_app i; predecessor = predecessor i; within = link.within } in
     record {
-      listed = subst (Contains c.in_force) whole listed;
+      listed = (link.within, subst (Contains c.in_force) whole listed);
       waits = record {
         stands = stands;
         waits = waits;
@@ -202,8 +203,7 @@ module _ (c : Content) (sound : IsSound c) (plan : Plan) (row : Row) (able : IsA
           (dominates q.row.key app (elim (Contains-push_cases before new q there) [
             | inl old ↦ (holds.gathers.reached q (is_reached q old waits may)).1 app listed
             | inr same ↦
-                let own_list = subst (λ (x : PlacedRow). Contains c.in_force
-                (record { app = x.row.key.app; predecessor = app })) (sym same) listed in
+                let own_list = subst (λ (x : PlacedRow). Lists c.in_force x.row.key.app app) (sym same) listed in
                 subst (λ (x : PlacedRow). HoldsNearest c.sets holds.gathered x.row.key app) same
                 (holds.own app own_list)
           ])) near;
@@ -253,17 +253,18 @@ module _ (c : Content) (sound : IsSound c) (s' : Sets) (row : Row) (loses : Lose
         (were.only q (filter_has others before q there).0).0 waits may
 
     -- where the row itself was nearest, what stands before it in its own application is
-    module _ (key : Key) (app : List ℕ) (near : Arrival) (nearest : IsNearest (LiveAt c.sets) key app near)
-        (was : arrival_of row ≡ near) (other : Arrival) (lives : LiveAt c.sets other) (may : IsCandidate key app other)
+    module _ (key : Key) (app : List ℕ) (near : Arrival) (nearest : IsNearest (LiveAt c.sets) key app None near)
+        (was : arrival_of row ≡ near) (other : Arrival) (lives : LiveAt c.sets other) (may : IsCandidate key app None other)
         (earlier : other.ia < row.key.ia) where
-      before_row : (k : Arrival) × IsLiveIn rows k × (IsCandidate key app k × IsNoLater other k)
+      before_row : (k : Arrival) × IsLiveIn rows k × (IsCandidate key app None k × IsNoLater other k)
       before_row =
           let own : app ≡ row.key.app = sym nearest.candidate.of_app ∙ ap (λ (a : Arrival). a.app) (sym was) in
           let moments : row.key.ia ≡ near.ia = ap (λ (a : Arrival). a.ia) was in
-          let may_row : IsCandidate row.key row.key.app other = record {
+          let may_row : IsCandidate row.key row.key.app None other = record {
             of_app = may.of_app ∙ own;
             in_time = omega arith;
             before_own = λ _. earlier;
+            close = tt;
           } in
           let (k, (p, there, alive, so), is_nearest) = holds.before other lives may_row in
           let early : k.ia < row.key.ia = is_nearest.candidate.before_own refl in
@@ -280,6 +281,7 @@ module _ (c : Content) (sound : IsSound c) (s' : Sets) (row : Row) (loses : Lose
                 of_app = is_nearest.candidate.of_app ∙ sym own;
                 in_time = omega arith;
                 before_own = λ same. let less = nearest.candidate.before_own same in omega arith;
+                close = tt;
               },
               no_later c.sets row.key row.key.app k other is_nearest lives may_row,
             ),

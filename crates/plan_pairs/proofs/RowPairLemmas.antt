@@ -1,6 +1,6 @@
 -- The pairs of one row, link by link.
 use Rattle.std.proofs.Common.{◌≡◌, ◌↔◌, ◌⊎◌, ℕ, List, [], ◌∷◌, ◌++◌, refl, sym, ap, subst, ◌∙◌, inl, inr, arith}
-use Rattle.std.proofs.Common.{Some, None}
+use Rattle.std.proofs.Common.{Option, Some, None}
 use Rattle.std.specs.List.{Contains}
 use Rattle.std.proofs.lemmas.List.Elements.{Contains-append_left, Contains-push, Contains-push_cases}
 use Rattle.occurrences.specs.declared.key.Key.{Key}
@@ -15,9 +15,9 @@ use Rattle.plan_pairs.specs.RowPairs.{IsRowPair}
 use Rattle.plan_pairs.proofs.ListLemmas.{none}
 
 -- there is one nearest
-nearest_once : (Live : Arrival → Type 0) (key : Key) (app : List ℕ) (a b : Arrival) → IsNearest Live key app a
-    → IsNearest Live key app b → a.serial ≡ b.serial
-nearest_once Live key app a b near near' =
+nearest_once : (Live : Arrival → Type 0) (key : Key) (app : List ℕ) (within : Option ℕ) (a b : Arrival)
+    → IsNearest Live key app within a → IsNearest Live key app within b → a.serial ≡ b.serial
+nearest_once Live key app within a b near near' =
     let below = near'.greatest a near.live near.candidate in
     let above = near.greatest b near'.live near'.candidate in
     let same : a.ia ≡ b.ia = omega (arith, below, above) in
@@ -31,7 +31,7 @@ pub record IsPairBy (s : Sets) (row : Row) (list : List Link) (pair : Pair) : Ty
   pub link : Link
   pub listed : Contains list link
   pub near : Arrival
-  pub nearest : IsNearest (LiveAt s) row.key link.predecessor near
+  pub nearest : IsNearest (LiveAt s) row.key link.predecessor link.within near
   pub predecessor : near.serial ≡ pair.predecessor
 
 abbrev pub ArePairsBy : Sets → Row → List Link → List Pair → Type 0
@@ -53,7 +53,7 @@ module _ (s : Sets) (row : Row) where
     }
 
     narrower : (pair : Pair) (is : IsPairBy s row (list ++ link ∷ []) pair)
-        → IsPairBy s row list pair ⊎ IsNearest (LiveAt s) row.key link.predecessor is.near
+        → IsPairBy s row list pair ⊎ IsNearest (LiveAt s) row.key link.predecessor link.within is.near
     narrower pair is = elim (Contains-push_cases list link is.link is.listed) [
       | inl before ↦ inl (record {
         successor = is.successor;
@@ -63,10 +63,10 @@ module _ (s : Sets) (row : Row) where
         nearest = is.nearest;
         predecessor = is.predecessor;
       })
-      | inr same ↦ inr (subst (λ (l : Link). IsNearest (LiveAt s) row.key l.predecessor is.near) (sym same) is.nearest)
+      | inr same ↦ inr (subst (λ (l : Link). IsNearest (LiveAt s) row.key l.predecessor l.within is.near) (sym same) is.nearest)
     ]
 
-    pub by_more : (serial : ℕ) → IsNearestAnswer (LiveAt s) row.key link.predecessor (Some serial)
+    pub by_more : (serial : ℕ) → IsNearestAnswer (LiveAt s) row.key link.predecessor link.within (Some serial)
         → ArePairsBy s row (list ++ link ∷ []) (now ++ (record { successor = row.serial; predecessor = serial }) ∷ [])
     by_more serial (near, nearest, same) pair = (forward, backward)
       where
@@ -93,7 +93,7 @@ module _ (s : Sets) (row : Row) where
         backward is = elim (narrower pair is) [
           | inl old ↦ Contains-append_left now _ pair ((so_far pair).1 old)
           | inr at ↦
-              let one = nearest_once (LiveAt s) row.key link.predecessor near is.near nearest at in
+              let one = nearest_once (LiveAt s) row.key link.predecessor link.within near is.near nearest at in
               let serials : serial ≡ pair.predecessor = sym same ∙ one ∙ is.predecessor in
               let successors : row.serial ≡ pair.successor = is.successor in
               let whole : record { successor = row.serial; predecessor = serial } ≡ pair =
@@ -102,7 +102,7 @@ module _ (s : Sets) (row : Row) where
               (Contains-push now (record { successor = row.serial; predecessor = serial }))
         ]
 
-    pub by_skip : IsNearestAnswer (LiveAt s) row.key link.predecessor None → ArePairsBy s row (list ++ link ∷ []) now
+    pub by_skip : IsNearestAnswer (LiveAt s) row.key link.predecessor link.within None → ArePairsBy s row (list ++ link ∷ []) now
     by_skip nothing pair = (
       (λ there. wider pair ((so_far pair).0 there)),
       λ is. elim (narrower pair is) [
@@ -120,11 +120,13 @@ module _ (s : Sets) (row : Row) where
       forward : IsPairBy s row list pair → IsRowPair links s row pair
       forward is =
           let both = (list_is is.link).0 is.listed in
-          let own : is.link ≡ record { app = row.key.app; predecessor = is.link.predecessor } =
-          λ i. record { app = both.1 i; predecessor = is.link.predecessor } in
+          let own : is.link
+          ≡ record { app = row.key.app; predecessor = is.link.predecessor; within = is.link.within } =
+          λ i. record { app = both.1 i; predecessor = is.link.predecessor; within = is.link.within } in
           record {
             successor = is.successor;
             app = is.link.predecessor;
+            within = is.link.within;
             listed = subst (Contains links) own both.0;
             near = is.near;
             nearest = is.nearest;
@@ -134,8 +136,8 @@ module _ (s : Sets) (row : Row) where
       backward : IsRowPair links s row pair → IsPairBy s row list pair
       backward is = record {
         successor = is.successor;
-        link = record { app = row.key.app; predecessor = is.app };
-        listed = (list_is (record { app = row.key.app; predecessor = is.app })).1 (is.listed, refl);
+        link = record { app = row.key.app; predecessor = is.app; within = is.within };
+        listed = (list_is (record { app = row.key.app; predecessor = is.app; within = is.within })).1 (is.listed, refl);
         near = is.near;
         nearest = is.nearest;
         predecessor = is.predecessor;

@@ -1,5 +1,5 @@
 -- Pairs from scratch, and those that stay.
-use Rattle.std.proofs.Common.{◌≡◌, ◌↔◌, ◌⊎◌, ℕ, List, [], ◌∷◌, ◌++◌, sym, ap, subst, ◌∙◌, inl, inr}
+use Rattle.std.proofs.Common.{◌≡◌, ◌↔◌, ◌⊎◌, ℕ, Option, List, [], ◌∷◌, ◌++◌, sym, ap, subst, ◌∙◌, inl, inr}
 use Rattle.std.specs.List.{Contains}
 use Rattle.std.proofs.lemmas.List.Elements.{Contains-append_cases, Contains-append_left, Contains-append_right}
 use Rattle.std.proofs.lemmas.List.Elements.{Contains-push, Contains-push_cases}
@@ -106,8 +106,9 @@ module _ (all : List PlacedRow) (links : List Link) (before : List Pair) where
 
 -- the nearest among arrivals is that among the same arrivals
 pub same_nearest : (P Q : Arrival → Type 0) → ((x : Arrival) → P x → Q x) → ((x : Arrival) → Q x → P x)
-    → (key : Key) (app : List ℕ) (near : Arrival) → IsNearest P key app near → IsNearest Q key app near
-same_nearest P Q to from key app near is = record {
+    → (key : Key) (app : List ℕ) (within : Option ℕ) (near : Arrival)
+    → IsNearest P key app within near → IsNearest Q key app within near
+same_nearest P Q to from key app within near is = record {
   live = to near is.live;
   candidate = is.candidate;
   greatest = λ other live. is.greatest other (from other live);
@@ -139,9 +140,10 @@ module _ (s : Sets) (rows : List PlacedRow) (are : AreLiveRows s rows) where
           stands = subst (λ n. StandsAt s n is.placed) is.successor (are.only is.placed is.stands).0;
           waits = is.waits;
           app = is.app;
+          within = is.within;
           listed = is.listed;
           near = is.near;
-          nearest = same_nearest (IsLiveIn rows) (LiveAt s) live_from live_to is.placed.row.key is.app is.near
+          nearest = same_nearest (IsLiveIn rows) (LiveAt s) live_from live_to is.placed.row.key is.app is.within is.near
               is.nearest;
           predecessor = is.predecessor;
         })
@@ -163,9 +165,10 @@ module _ (s : Sets) (rows : List PlacedRow) (are : AreLiveRows s rows) where
               waits = is.waits;
               successor = in_list.1;
               app = is.app;
+              within = is.within;
               listed = is.listed;
               near = is.near;
-              nearest = same_nearest (LiveAt s) (IsLiveIn rows) live_to live_from is.placed.row.key is.app is.near
+              nearest = same_nearest (LiveAt s) (IsLiveIn rows) live_to live_from is.placed.row.key is.app is.within is.near
                   is.nearest;
               predecessor = is.predecessor;
             })

@@ -41,10 +41,11 @@ module _ (s : Sets) (rows : List PlacedRow) (are : AreLiveRows s rows) where
       stands = subst (λ n. StandsAt s n is.placed) is.successor (are.only is.placed is.stands).0;
       waits = is.waits;
       app = is.app;
+      within = is.within;
       listed = is.listed;
       near = is.near;
       nearest = same_nearest (IsLiveIn rows) (LiveAt s) (live_from s rows are) (live_to s rows are)
-          is.placed.row.key is.app is.near is.nearest;
+          is.placed.row.key is.app is.within is.near is.nearest;
       predecessor = is.predecessor;
     })
     settled_to pair (inr kept) = inr (record {
@@ -64,10 +65,11 @@ module _ (s : Sets) (rows : List PlacedRow) (are : AreLiveRows s rows) where
           waits = is.waits;
           successor = here.1;
           app = is.app;
+          within = is.within;
           listed = is.listed;
           near = is.near;
           nearest = same_nearest (LiveAt s) (IsLiveIn rows) (live_to s rows are) (live_from s rows are)
-              is.placed.row.key is.app is.near is.nearest;
+              is.placed.row.key is.app is.within is.near is.nearest;
           predecessor = is.predecessor;
         })
     settled_from pair (inr kept) =

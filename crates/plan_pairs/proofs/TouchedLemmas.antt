@@ -20,7 +20,8 @@ use Rattle.external_dependencies.specs.declared.live.Arrival.{Arrival}
 use Rattle.external_dependencies.specs.declared.touch.Stretch.{Stretch}
 use Rattle.external_dependencies.proofs.OrderLemmas.{name_ties}
 use Rattle.keyed_lists.proofs.KeyLemmas.{missed, missed_all}
-use Rattle.plan_pairs.specs.Turns.{HasSameList, IsBegun}
+use Rattle.external_dependencies.specs.Touch.{HasSameList}
+use Rattle.plan_pairs.specs.Turns.{IsBegun}
 use Rattle.plan_pairs.proofs.ListLemmas.{first_or_later, further, here, none}
 
 -- a search in a rising list tells whether it has the item
@@ -71,12 +72,12 @@ pub lists_told : (was links : List Link) (apps : List (List ℕ))
     → (app : List ℕ) → HasSameList was links app ⊎ Contains apps app
 lists_told was links apps on back app = elim (among_or_not apps app) [
   | inl named ↦ inr named
-  | inr never ↦ inl (λ predecessor. (
-    (λ there. elim (on (record { app = app; predecessor = predecessor }) there) [
+  | inr never ↦ inl (λ predecessor within. (
+    (λ there. elim (on (record { app = app; predecessor = predecessor; within = within }) there) [
       | inl stays ↦ stays
       | inr named ↦ absurd (never named)
     ]),
-    λ there. elim (back (record { app = app; predecessor = predecessor }) there) [
+    λ there. elim (back (record { app = app; predecessor = predecessor; within = within }) there) [
       | inl stood ↦ stood
       | inr named ↦ absurd (never named)
     ],

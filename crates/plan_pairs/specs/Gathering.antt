@@ -1,5 +1,5 @@
 -- Rows that hold what a change of one occurrence reaches.
-use Rattle.std.specs.Prelude.{◌≡◌, ◌⊎◌, ℕ, List, [], ◌∷◌, ◌++◌, Contains, Option, filter, nat_eq, not}
+use Rattle.std.specs.Prelude.{◌≡◌, ◌⊎◌, ℕ, List, [], ◌∷◌, ◌++◌, Contains, Option, None, filter, nat_eq, not}
 use Rattle.occurrences.specs.Place.{IsLive, IsOpen}
 use Rattle.occurrences.specs.declared.key.Key.{Key}
 use Rattle.occurrences.specs.declared.row.Row.{Row}
@@ -22,10 +22,10 @@ pub record AddsLive (s : Sets) (old new : List PlacedRow) : Type 0 where
   pub stay : (p : PlacedRow) → Contains old p → Contains new p
   pub come : (p : PlacedRow) → Contains new p → Contains old p ⊎ StandsLive s p
 
--- where anything may precede the key in the application, the rows have what is nearest to it
+-- where anything may precede the key in the application, were there no limit, the rows have what is nearest to it
 abbrev pub HoldsNearest : Sets → List PlacedRow → Key → List ℕ → Type 0
-HoldsNearest s rows key app = (other : Arrival) → LiveAt s other → IsCandidate key app other
-    → (near : Arrival) × IsLiveIn rows near × IsNearest (LiveAt s) key app near
+HoldsNearest s rows key app = (other : Arrival) → LiveAt s other → IsCandidate key app None other
+    → (near : Arrival) × IsLiveIn rows near × IsNearest (LiveAt s) key app None near
 
 -- so in each application of the row's list
 abbrev pub HoldsList : Content → List PlacedRow → Row → Type 0

@@ -1,7 +1,7 @@
 -- The pairs of one row.
-use Rattle.std.specs.Prelude.{◌≡◌, ℕ, List}
+use Rattle.std.specs.Prelude.{◌≡◌, ℕ, List, Option}
 use Rattle.occurrences.specs.declared.row.Row.{Row}
-use Rattle.external_dependencies.specs.Link.{Lists}
+use Rattle.external_dependencies.specs.Link.{ListsWithin}
 use Rattle.external_dependencies.specs.Nearest.{IsNearest}
 use Rattle.external_dependencies.specs.declared.links.Link.{Link}
 use Rattle.external_dependencies.specs.declared.live.Arrival.{Arrival}
@@ -9,11 +9,13 @@ use Rattle.external_dependencies.specs.declared.pairs.Pair.{Pair}
 use Rattle.planner_machine.specs.Content.{Sets}
 use Rattle.planner_machine.specs.Pairs.{LiveAt}
 
--- the successor is the row, and the predecessor is its nearest one in an application of its list
+-- the successor is the row, and the predecessor is its nearest one in an application of its list, within the limit that
+-- the list gives
 pub record IsRowPair (links : List Link) (s : Sets) (row : Row) (pair : Pair) : Type 0 where
   pub successor : row.serial ≡ pair.successor
   pub app : List ℕ
-  pub listed : Lists links row.key.app app
+  pub within : Option ℕ
+  pub listed : ListsWithin links row.key.app app within
   pub near : Arrival
-  pub nearest : IsNearest (LiveAt s) row.key app near
+  pub nearest : IsNearest (LiveAt s) row.key app within near
   pub predecessor : near.serial ≡ pair.predecessor

@@ -4,9 +4,8 @@ use Rattle.std.specs.Prelude.{◌≡◌, ◌≢◌, ◌⊎◌, ◌↔◌, ℕ, �
 use Rattle.occurrences.specs.declared.place.CurrentRow.{CurrentRow}
 use Rattle.occurrences.specs.declared.place.Place.TheVariants.{LongTerm, History}
 use Rattle.occurrences.specs.declared.row.Row.{Row}
-use Rattle.external_dependencies.specs.Link.{Lists}
 use Rattle.external_dependencies.specs.Nearest.{arrival_of}
-use Rattle.external_dependencies.specs.Touch.{Touches}
+use Rattle.external_dependencies.specs.Touch.{HasSameList, Touches}
 use Rattle.external_dependencies.specs.declared.links.Link.{Link}
 use Rattle.external_dependencies.specs.declared.live.Arrival.{Arrival}
 use Rattle.external_dependencies.specs.declared.rows.PlacedRow.{PlacedRow}
@@ -26,10 +25,6 @@ pub record IsBegun (stretches : List Stretch) (a : Arrival) : Type 0 where
   pub of_app : stretch.app ≡ a.app
   pub begun : stretch.first ≤ a.ia
   pub endless : stretch.last ≡ None
-
--- the application has the same list among both links
-abbrev pub HasSameList : List Link → List Link → List ℕ → Type 0
-HasSameList was_links links app = (predecessor : List ℕ) → Lists was_links app predecessor ↔ Lists links app predecessor
 
 -- the touch names the rows that go, those that are made, the application of each where they begin, and each application
 -- whose list changes; what it may reach has no end

@@ -105,7 +105,7 @@ pub(crate) fn push_list(
     Ok(())
 }
 
-/// Adds what is nearest to the key in the application, if anything is.
+/// Adds what is nearest to the key in the application, if anything is, were there no limit.
 pub(crate) fn push_nearest(
     view: &View<'_>,
     key: &Key,
@@ -116,7 +116,7 @@ pub(crate) fn push_nearest(
         → AddsLive (shown view.now).sets rows.old.items rows.new.items
         × HoldsNearest (shown view.now).sets rows.new.items key.now app.now) }
 {
-    let Some(serial) = view.nearest(key, app) else {
+    let Some(serial) = view.nearest(key, app, None) else {
         return Ok(());
     };
     let Some(placed) = view.placed(serial) else {

@@ -9,15 +9,15 @@ use occurrences::Row;
 use plan_store::View;
 use std::alloc::{AllocError, Global};
 
-/// The pairs of one row, were it open: with its nearest predecessor in each application of its list, where there is
-/// one. No pair of another row is looked at.
+/// The pairs of one row, were it open: with its nearest predecessor in each application of its list, within its limit,
+/// where there is one. No pair of another row is looked at.
 pub fn row_pairs_of(alloc: Global, view: &View<'_>, row: &Row) -> Result<Pairs, AllocError>
     ensures { IfOk result (λ own. AreNumbered (shown view.now).sets → (pair : PairValue)
         → Contains own pair ↔ IsRowPair (shown view.now).in_force (shown view.now).sets row.now pair) }
 {
     let mut own = Vec::new(alloc);
     for link in view.in_force().list(&row.key.app) {
-        if let Some(predecessor) = view.nearest(&row.key, &link.predecessor) {
+        if let Some(predecessor) = view.nearest(&row.key, &link.predecessor, link.within) {
             own.push(Pair {
                 successor: row.serial,
                 predecessor,

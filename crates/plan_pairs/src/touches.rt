@@ -1,13 +1,12 @@
 ghost use Rattle.std.specs.Prelude.{◌≡◌, ◌↔◌, ◌⊎◌, ℕ, List, Contains, IfOk, IsTrue, map};
 ghost use Rattle.occurrences.specs.declared.row.Row.{Row as RowValue};
-ghost use Rattle.external_dependencies.specs.Link.{link_cmp};
 ghost use Rattle.external_dependencies.specs.Nearest.{arrival_of};
-ghost use Rattle.external_dependencies.specs.Rising.{IsRising};
+ghost use Rattle.external_dependencies.specs.Touch.{HasSameList};
 ghost use Rattle.external_dependencies.specs.declared.links.Link.{Link as LinkValue};
 ghost use Rattle.external_dependencies.specs.declared.live.Arrival.{Arrival as ArrivalValue};
-ghost use Rattle.plan_pairs.specs.Turns.{HasSameList, IsBegun, IsTouchOf};
+ghost use Rattle.plan_pairs.specs.Turns.{IsBegun, IsTouchOf};
 
-use external_dependencies::{Arrival, Link, Links, Stretch, Touch};
+use external_dependencies::{Arrival, Links, Stretch, Touch};
 use occurrences::{Row, Serial};
 use std::alloc::{AllocError, Global};
 use work_calendars::App;
@@ -47,33 +46,24 @@ fn changed_lists(alloc: Global, before: &Links, links: &Links) -> Result<Vec<App
     ensures { IfOk result (λ apps. (app : List ℕ) → HasSameList before.now links.now app
         ⊎ Contains apps.items app) }
 {
-    let was = before.as_slice();
-    let now = links.as_slice();
-    let mut apps = lists_beside(alloc, was, now)?;
-    let more = lists_beside(alloc, now, was)?;
+    let mut apps = lists_beside(alloc, before, links)?;
+    let more = lists_beside(alloc, links, before)?;
     apps.extend_from_slice(&more)?;
     Ok(apps)
 }
 
-// The applications of those links that are not among the others, which rise.
-fn lists_beside(alloc: Global, links: &[Link], others: &[Link]) -> Result<Vec<App>, AllocError>
-    ensures { IsRising link_cmp others.now → IfOk result (λ apps. (link : LinkValue)
+// The applications of those links that are not among the others with the same limit.
+fn lists_beside(alloc: Global, links: &Links, others: &Links) -> Result<Vec<App>, AllocError>
+    ensures { IfOk result (λ apps. (link : LinkValue)
         → Contains links.now link → Contains others.now link ⊎ Contains apps.items link.app) }
 {
     let mut apps = Vec::new(alloc);
-    for link in links {
-        if !has_link(others, link) {
+    for link in links.as_slice() {
+        if !others.contains(link) {
             apps.push(link.app)?;
         }
     }
     Ok(apps)
-}
-
-// Whether the link is one of these, which rise.
-fn has_link(links: &[Link], link: &Link) -> bool
-    ensures { IsRising link_cmp links.now → IsTrue result ↔ Contains links.now link.now }
-{
-    links.binary_search(link).is_ok()
 }
 
 // A stretch without end for each application of these rows, from its first arrival on.

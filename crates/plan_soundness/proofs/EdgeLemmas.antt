@@ -1,17 +1,18 @@
 -- Rings of pairs, and loops of links between the names of their serials.
 use Rattle.std.proofs.Common.{◌≡◌, ◌≢◌, ◌↔◌, ◌⊎◌, ℕ, List, [], ◌∷◌, refl, sym, ap, subst, ◌∙◌, inl, inr, ◌<◌, get_or}
-use Rattle.std.proofs.Common.{arith}
+use Rattle.std.proofs.Common.{arith, None}
 use Rattle.std.specs.Prelude.{map}
 use Rattle.std.specs.List.{All, Contains}
 use Rattle.std.proofs.lemmas.List.Elements.{All-contains}
 use Rattle.std.specs.Prelude.{nat_eq, true, false}
 use Rattle.std.specs.Cmp.Lexicographic.{bytes_decides, pointwise}
 use Rattle.std.proofs.lemmas.Bool.{cases_eq, false≢true}
-use Rattle.external_dependencies.specs.Link.{Lists}
+use Rattle.external_dependencies.specs.Link.{KeepsNames, Lists}
 use Rattle.external_dependencies.specs.Loop.{OnLoop, OnRing}
 use Rattle.external_dependencies.specs.Walk.{IsWalk, Reaches, Step}
 use Rattle.external_dependencies.specs.declared.links.Link.{Link}
 use Rattle.external_dependencies.specs.declared.pairs.Pair.{Pair}
+use Rattle.external_dependencies.proofs.OrderLemmas.{keeps_all, unlimited_once}
 use Rattle.external_dependencies.proofs.RingLemmas.{on_ring, returns_on_ring}
 use Rattle.planner_machine.specs.Pairs.{pair_of}
 use Rattle.plan_soundness.specs.Closed.{FallsBy, IsWithoutRing, link_of, node_name}
@@ -28,13 +29,24 @@ decide_names x y = elim (pointwise nat_eq x y) as (λ b. pointwise nat_eq x y �
 abbrev pub HaveLinks : List Pair → List Link → Type 0
 HaveLinks pairs links = (link : Link) → Contains links link ↔ Contains (map link_of pairs) link
 
+-- they have no limits, so that none is lost where they are put in order
+pub links_kept : (pairs : List Pair) (links kept : List Link) → links ≡ map link_of pairs → KeepsNames links kept
+    → HaveLinks pairs kept
+links_kept pairs links kept is keeps link = subst (λ (l : List Link). Contains kept link ↔ Contains l link) is
+    (keeps_all links kept (unlimited_once links no_limit) keeps link)
+  where
+    no_limit : (l : Link) → Contains links l → l.within ≡ None
+    no_limit l there =
+        let (pair, in_pairs, same) = contains_map link_of pairs l (subst (λ ls. Contains ls l) is there) in
+        ap (λ (x : Link). x.within) (sym same)
+
 module _ (pairs : List Pair) (links : List Link) (are : HaveLinks pairs links) where
   abbrev Edge : ℕ → ℕ → Type 0
   Edge m n = Contains pairs (pair_of m n)
 
   -- an edge is a link between the names of its ends
   named : (m n : ℕ) → Edge m n → Lists links (node_name m) (node_name n)
-  named m n edge = (are _).1 (map_contains link_of pairs (pair_of m n) edge)
+  named m n edge = (None, (are _).1 (map_contains link_of pairs (pair_of m n) edge))
 
   -- and a link is one between the names of the ends of an edge
   record IsNamed (app predecessor : List ℕ) : Type 0 where
@@ -45,7 +57,7 @@ module _ (pairs : List Pair) (links : List Link) (are : HaveLinks pairs links) w
     predecessor_is : node_name to ≡ predecessor
 
   has_edge : (app predecessor : List ℕ) → Lists links app predecessor → IsNamed app predecessor
-  has_edge app predecessor listed =
+  has_edge app predecessor (within, listed) =
       let (pair, there, same) = contains_map link_of pairs _ ((are _).0 listed) in
       record {
         from = pair.successor;

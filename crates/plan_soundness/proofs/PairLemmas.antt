@@ -66,7 +66,7 @@ module _ (s : Sets) (pair : Pair) where
       let h = fits (closed_is a p (one_place s pair.successor a p at stands) (live, waits)) in (
         (b, at', h.0),
         λ x y at_x at_y.
-            let P : PlacedRow → PlacedRow → Type 0 = λ v w. IsCandidate v.row.key w.row.key.app (arrival_of w.row) in
+            let P : PlacedRow → PlacedRow → Type 0 = λ v w. IsCandidate v.row.key w.row.key.app None (arrival_of w.row) in
             subst (λ v. P v y) (one_place s pair.successor a x at at_x)
             (subst (λ w. P a w) (one_place s pair.predecessor b y at' at_y) h.1),
       )

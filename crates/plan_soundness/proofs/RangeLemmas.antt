@@ -4,11 +4,11 @@ use Rattle.std.specs.List.{All, Contains}
 use Rattle.std.proofs.lemmas.List.Elements.{All-contains, All-contains_itself, All-weaker}
 use Rattle.external_dependencies.specs.declared.links.Link.{Link}
 use Rattle.external_dependencies.specs.declared.rows.PlacedRow.{PlacedRow}
-use Rattle.planner_machine.specs.Sound.{AreNumbered, IsRow}
+use Rattle.planner_machine.specs.Sound.{AreNumbered, IsLink, IsRow}
 use Rattle.plan_store.specs.Contents.{content_of}
 use Rattle.plan_store.specs.declared.contents.Content.{Content as Kept}
 use Rattle.plan_soundness.specs.Listing.{placed_list}
-use Rattle.plan_soundness.specs.Ranges.{HaveRanges, IsLinkValue}
+use Rattle.plan_soundness.specs.Ranges.{HaveRanges}
 use Rattle.plan_soundness.proofs.NumberedLemmas.{HasRows, listed_stands, stands_listed}
 
 module _ (kept : Kept) (rows : HasRows kept) where
@@ -26,8 +26,8 @@ module _ (kept : Kept) (rows : HasRows kept) where
       (All-contains_itself (placed_list kept))
 
 module _ (links : List Link) where
-  pub links_from : All IsLinkValue links → (link : Link) → Contains links link → IsLinkValue link
-  links_from are link there = All-contains IsLinkValue links link are there
+  pub links_from : All IsLink links → (link : Link) → Contains links link → IsLink link
+  links_from are link there = All-contains IsLink links link are there
 
-  pub links_to : ((link : Link) → Contains links link → IsLinkValue link) → All IsLinkValue links
-  links_to are = All-weaker (Contains links) IsLinkValue are links (All-contains_itself links)
+  pub links_to : ((link : Link) → Contains links link → IsLink link) → All IsLink links
+  links_to are = All-weaker (Contains links) IsLink are links (All-contains_itself links)

@@ -57,7 +57,11 @@ node_name n =
 
 -- a pair as a link between the names of its serials
 abbrev pub link_of : Pair → Link
-link_of pair = record { app = node_name pair.successor; predecessor = node_name pair.predecessor }
+link_of pair = record {
+  app = node_name pair.successor;
+  predecessor = node_name pair.predecessor;
+  within = None;
+}
 
 abbrev pub closed_pairs : List (Option PlacedRow) → List Pair → List Pair
 closed_pairs table pairs = filter (is_closed_pair table) pairs

@@ -18,11 +18,11 @@ at_serial table (suc k) = slice_index_or table k None
 abbrev pub IsClosedPlace : Place → Type 0
 IsClosedPlace place = IsLive place × (IsOpen place → ⊥)
 
--- there is a predecessor, it is complete, and it arrives as one may
+-- there is a predecessor, it is complete, and it arrives as one may, whatever the limit
 abbrev pub HasComplete : PlacedRow → Option PlacedRow → Type 0
 HasComplete successor None = ⊥
 HasComplete successor (Some predecessor) = IsComplete predecessor.place
-    × IsCandidate successor.row.key predecessor.row.key.app (arrival_of predecessor.row)
+    × IsCandidate successor.row.key predecessor.row.key.app None (arrival_of predecessor.row)
 
 -- so it is where the successor is live and no longer open
 abbrev pub FitsRows : Option PlacedRow → Option PlacedRow → Type 0
@@ -33,7 +33,7 @@ FitsRows (Some successor) predecessor = IsClosedPlace successor.place → HasCom
 abbrev pub FitsAt : Sets → Pair → Type 0
 FitsAt s pair = IsClosedAt s pair.successor → IsCompleteAt s pair.predecessor
     × ((p q : PlacedRow) → StandsAt s pair.successor p → StandsAt s pair.predecessor q
-    → IsCandidate p.row.key q.row.key.app (arrival_of q.row))
+    → IsCandidate p.row.key q.row.key.app None (arrival_of q.row))
 
 -- what is live and no longer open has at most one predecessor of each application
 abbrev pub HaveOneEach : Sets → List Pair → Type 0

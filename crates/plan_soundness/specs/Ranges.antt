@@ -2,16 +2,10 @@
 use Rattle.std.specs.Prelude.{◌≡◌, ℕ, Some}
 use Rattle.work_calendars.specs.Day.{IsDay}
 use Rattle.work_calendars.specs.Moment.{IsMoment}
-use Rattle.work_calendars.specs.Name.{IsName}
-use Rattle.external_dependencies.specs.declared.links.Link.{Link}
 use Rattle.external_dependencies.specs.declared.rows.PlacedRow.{PlacedRow}
 use Rattle.planner_machine.specs.Content.{Sets, StandsAt}
 use Rattle.planner_machine.specs.Sound.{IsRow}
 use Rattle.planner_machine.specs.declared.content.Bounds.{Bounds}
-
--- two names
-abbrev pub IsLinkValue : Link → Type 0
-IsLinkValue link = IsName link.app × IsName link.predecessor
 
 -- days and a moment of the range
 abbrev pub IsBoundsValue : Bounds → Type 0

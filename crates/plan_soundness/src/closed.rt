@@ -139,6 +139,7 @@ fn link_of(pair: &Pair) -> Link
     Link {
         app: node_name(pair.successor),
         predecessor: node_name(pair.predecessor),
+        within: None,
     }
 }
 

@@ -63,7 +63,8 @@ pub(crate) fn is_closed(place: Place) -> bool
 
 // Whether a row arrives as a predecessor of another may.
 fn arrives_in_time(successor: &Row, predecessor: &Row) -> bool
-    ensures { IsTrue result ↔ IsCandidate successor.now.key predecessor.now.key.app (arrival_of predecessor.now) }
+    ensures { IsTrue result ↔ IsCandidate successor.now.key predecessor.now.key.app None
+        (arrival_of predecessor.now) }
 {
     let own = successor.key.ia.number();
     let earlier = predecessor.key.ia.number();

@@ -1,15 +1,16 @@
 // Ranges and forms of values. All but those of definitions hold by the types.
 
-ghost use Rattle.std.specs.Prelude.{◌≡◌, ◌↔◌, IsTrue, IfOk, Some};
+ghost use Rattle.std.specs.Prelude.{◌≡◌, ◌↔◌, IsTrue, IfOk, IfSome, Some};
 ghost use Rattle.std.specs.List.{All};
 ghost use Rattle.work_calendars.specs.Day.{IsDay};
 ghost use Rattle.work_calendars.specs.Moment.{IsMoment};
 ghost use Rattle.work_calendars.specs.Name.{IsName, IsShort};
+ghost use Rattle.work_calendars.specs.Within.{IsWithinHours};
 ghost use Rattle.external_dependencies.specs.declared.links.Link.{Link as LinkValue};
 ghost use Rattle.external_dependencies.specs.declared.rows.PlacedRow.{PlacedRow as PlacedValue};
-ghost use Rattle.planner_machine.specs.Sound.{AreNumbered, HasRanges, IsOrigin, IsRow};
+ghost use Rattle.planner_machine.specs.Sound.{AreNumbered, HasRanges, IsLink, IsOrigin, IsRow};
 ghost use Rattle.plan_store.specs.Contents.{content_of};
-ghost use Rattle.plan_soundness.specs.Ranges.{HasDays, HaveRanges, IsBoundsValue, IsLinkValue};
+ghost use Rattle.plan_soundness.specs.Ranges.{HasDays, HaveRanges, IsBoundsValue};
 
 use crate::jobs::is_name;
 use crate::listing::placed_rows;
@@ -19,7 +20,7 @@ use occurrences::{Origin, Row};
 use plan_store::Content;
 use planner_machine::Bounds;
 use std::alloc::{AllocError, Global};
-use work_calendars::{Day, Moment, Short};
+use work_calendars::{Day, Moment, Short, Within};
 
 fn is_short(name: &Short) -> bool
     ensures { IsTrue result ↔ IsShort name.now }
@@ -69,15 +70,24 @@ fn are_rows(all: &[PlacedRow]) -> bool
     true
 }
 
-fn is_link(link: &Link) -> bool
-    ensures { IsTrue result ↔ IsLinkValue link.now }
+fn is_limit(within: &Option<Within>) -> bool
+    ensures { IsTrue result ↔ IfSome within.now IsWithinHours }
 {
-    is_name(&link.app) && is_name(&link.predecessor)
+    if let Some(within) = within {
+        return within.hours() >= 1;
+    }
+    true
+}
+
+fn is_link(link: &Link) -> bool
+    ensures { IsTrue result ↔ IsLink link.now }
+{
+    is_name(&link.app) && is_name(&link.predecessor) && is_limit(&link.within)
 }
 
 // Whether all links are such.
 fn are_links(links: &[Link]) -> bool
-    ensures { IsTrue result ↔ All IsLinkValue links.now }
+    ensures { IsTrue result ↔ All IsLink links.now }
 {
     for link in links {
         if !is_link(link) {

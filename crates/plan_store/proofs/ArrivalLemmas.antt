@@ -17,14 +17,14 @@ use Rattle.occurrences.specs.declared.place.Place.TheVariants.{LongTerm, Current
 use Rattle.occurrences.specs.declared.row.Row.{Row}
 use Rattle.occurrences.specs.declared.status.Status.TheVariants.{D}
 use Rattle.external_dependencies.specs.Arrival.{arrival_cmp}
-use Rattle.external_dependencies.specs.Nearest.{IsCandidate, IsNearestAnswer, arrival_of}
+use Rattle.external_dependencies.specs.Nearest.{IsCandidate, IsNearest, IsNearestAnswer, arrival_of}
 use Rattle.external_dependencies.specs.declared.live.Arrival.{Arrival}
 use Rattle.planner_machine.specs.Content.{Seat, Sets, alone, seat}
 use Rattle.planner_machine.specs.Pairs.{LiveAt}
 use Rattle.planner_machine.specs.Sound.{AreNumbered}
 use Rattle.keyed_lists.specs.Keyed.{IsKeyed}
 use Rattle.keyed_lists.specs.Rows.{AreRows, look_up, of_current, of_row}
-use Rattle.external_dependencies.proofs.NearestLemmas.{arrival_ties}
+use Rattle.external_dependencies.proofs.NearestLemmas.{answer_none, arrival_ties}
 use Rattle.plan_store.specs.Arrivals.{IsGreatestOf, arrives, arrives_live, later_of}
 use Rattle.plan_store.specs.Slices.{HaveOneApp}
 use Rattle.plan_store.specs.Views.{IsLastBefore}
@@ -309,43 +309,42 @@ other_name a b e same = false≢true (sym e ∙ (bytes_decides a b).1 same)
 -- the nearest, from the last before a limit: in its own application the arrival itself, else the minute after it
 module _ (s : Sets) (key : Key) (app : List ℕ) (limit : ℕ) (is_limit : ((app ≡ key.app) × (limit ≡ key.ia))
     ⊎ ((app ≢ key.app) × (limit ≡ key.ia + 1))) where
-  within : (a : Arrival) → a.app ≡ app → a.ia < limit → IsCandidate key app a
+  within : (a : Arrival) → a.app ≡ app → a.ia < limit → IsCandidate key app None a
   within a of_app early = elim is_limit [
     | inl own ↦ let at : limit ≡ key.ia = own.1 in record {
       of_app = of_app;
       in_time = omega arith;
       before_own =
           λ _. omega arith;
+      close = tt;
     }
     | inr other ↦ let at : limit ≡ key.ia + 1 = other.1 in record {
       of_app = of_app;
       in_time = omega arith;
       before_own =
           λ same. absurd (other.0 same);
+      close = tt;
     }
   ]
 
-  reaches : (a : Arrival) → IsCandidate key app a → a.ia < limit
+  reaches : (a : Arrival) → IsCandidate key app None a → a.ia < limit
   reaches a candidate = elim is_limit [
     | inl own ↦ let at : limit ≡ key.ia = own.1 in let lt : a.ia < key.ia = candidate.before_own own.0 in omega arith
     | inr other ↦ let at : limit ≡ key.ia + 1 = other.1 in let le : a.ia ≤ key.ia = candidate.in_time in omega arith
   ]
 
-  pub nearest_none : IsLastBefore s app limit None → IsNearestAnswer (LiveAt s) key app None
-  nearest_none none other live candidate =
+  -- where nothing arrives before it, nothing is nearest, whatever the limit
+  pub nearest_none : (hours : Option ℕ) → IsLastBefore s app limit None → IsNearestAnswer (LiveAt s) key app hours None
+  nearest_none hours none = answer_none (LiveAt s) key app hours (λ other live candidate.
       let late : limit ≤ other.ia = none other live candidate.of_app in
       let early : other.ia < limit = reaches other candidate in
-      absurd (omega arith)
+      absurd (omega arith))
 
-  pub nearest_some : (near : Arrival) → IsLastBefore s app limit (Some near) → IsNearestAnswer (LiveAt s) key app
-      (Some near.serial)
-  nearest_some near is = (
-    near,
-    record {
-      live = is.live;
-      candidate = within near is.of_app is.in_time;
-      greatest = λ other live candidate. is.greatest other live candidate.of_app (reaches other candidate);
-      last = λ other live candidate same. is.last other live candidate.of_app same;
-    },
-    refl,
-  )
+  -- the last that arrives before it is nearest, were there no limit
+  pub nearest_some : (near : Arrival) → IsLastBefore s app limit (Some near) → IsNearest (LiveAt s) key app None near
+  nearest_some near is = record {
+    live = is.live;
+    candidate = within near is.of_app is.in_time;
+    greatest = λ other live candidate. is.greatest other live candidate.of_app (reaches other candidate);
+    last = λ other live candidate same. is.last other live candidate.of_app same;
+  }

@@ -19,7 +19,7 @@ use Rattle.plan_store.specs.declared.listings.What.{What}
 use Rattle.plan_store.specs.declared.listings.What.TheVariants as Whats
 
 -- what an item shows: a row alone, a row and its letter, a successor and its predecessor, or an application and a
--- predecessor in its list
+-- predecessor in its list with its limit
 pub data Shown : Type 0 where
   Plain : Row → Shown
   Marked : Row → ℕ → Shown

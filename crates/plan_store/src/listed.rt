@@ -235,7 +235,7 @@ fn lists_of<'a>(links: &'a Links, app: Option<&App>) -> &'a [Link]
     }
 }
 
-// Hands the sink what stands in lists, in its order. No list has a limit.
+// Hands the sink what stands in lists, in its order, each with its limit.
 fn hand_lists<K: RowSink>(links: &[Link], sink: &mut K) -> Result<usize, ListFault>
     ensures all { IfOk result (λ count. (count ≡ length links.now)
         × TakesAll K.takes sink.old (map in_force_shown links.now) sink.new) }

@@ -31,7 +31,7 @@ pub enum Item<'a> {
     Marked(&'a Row, u8),
     /// A successor and its predecessor.
     Pair(&'a Row, &'a Row),
-    /// An application and a predecessor in its list.
+    /// An application and a predecessor in its list, with its limit.
     Link(&'a Link),
 }
 

@@ -14,11 +14,11 @@ use crate::slices::{
     arriving_before, before, first_live, first_of, has_operator, of_app, of_key, of_serial,
 };
 use app_definitions::Definitions;
-use external_dependencies::{Arrival, Links, Pair, Pairs, PlacedRow};
+use external_dependencies::{Arrival, Links, Pair, Pairs, PlacedRow, arrives_within};
 use occurrences::{CurrentRow, Key, Place, Row, Serial};
 use planner_machine::Bounds;
 use std::alloc::{AllocError, Global};
-use work_calendars::{App, Moment};
+use work_calendars::{App, Moment, Within};
 
 // Those of the pairs that have the predecessor.
 fn pairs_before(alloc: Global, pairs: &[Pair], predecessor: Serial) -> Result<Vec<Pair>, AllocError>
@@ -250,10 +250,10 @@ impl<'a> View<'a> {
 
     /// The nearest predecessor, in an application, of the occurrence with that key: of the live occurrences of the
     /// application that arrive at or before it, the one that arrives last; in its own application only those that
-    /// arrive before it count.
-    pub fn nearest(&self, key: &Key, app: &App) -> Option<Serial>
+    /// arrive before it count, and where there is a limit none that arrives more than so many hours before it.
+    pub fn nearest(&self, key: &Key, app: &App, within: Option<Within>) -> Option<Serial>
         ensures { AreNumbered (shown self.now).sets → IsNearestAnswer (LiveAt (shown self.now).sets) key.now app.now
-            result }
+            within result }
     {
         let arrival = key.ia.number();
         let limit = if *app == key.app {
@@ -261,9 +261,13 @@ impl<'a> View<'a> {
         } else {
             arrival + 1
         };
-        match self.last_before(app, limit) {
-            Some(near) => Some(near.serial),
-            None => None,
+        let Some(near) = self.last_before(app, limit) else {
+            return None;
+        };
+        if arrives_within(within, key.ia, near.ia) {
+            Some(near.serial)
+        } else {
+            None
         }
     }
 }

@@ -20,18 +20,18 @@ use Rattle.external_dependencies.specs.Pair.{pair_cmp}
 use Rattle.keyed_lists.specs.Keyed.{holds_key}
 use Rattle.external_dependencies.proofs.PairLemmas.{pair_ties}
 use Rattle.keyed_lists.proofs.KeyLemmas.{contains_filter, contains_first, filter_contains, holds_lacks}
-use Rattle.external_dependencies.specs.Link.{link_cmp}
-use Rattle.external_dependencies.proofs.LexLemmas.{link_total}
-use Rattle.external_dependencies.proofs.OrderLemmas.{link_ties}
+use Rattle.external_dependencies.specs.Link.{link_cmp, HaveSameNames}
+use Rattle.external_dependencies.specs.Rising.{IsRising}
+use Rattle.external_dependencies.proofs.OrderLemmas.{named_once}
 use Rattle.std.specs.Prelude.{not}
-use Rattle.std.specs.Ordering.{is_eq}
-use Rattle.std.proofs.lemmas.List.Folds.{Any-from_list_any}
 use Rattle.sqlite.specs.declared.types.Value.TheVariants.{Text}
 use Rattle.plan_store.proofs.PairLemmas.{held_pair, itself, pair_total, pairs_after_contains}
 use Rattle.table_facts.specs.Facts.{link_key, link_values, natural, pair_values}
 use Rattle.table_facts.specs.Content.{IsOfList, IsOfSet, job_values, meta_values}
-use Rattle.table_writing.specs.Writing.{beside, job_put, links_replaced, meta_told, pairs_moved, without_each}
-use Rattle.plan_tables.proofs.Held.{equal_from, Shows, matched, natural_itself, one_natural, one_text, same_cell}
+use Rattle.table_writing.specs.Writing.{beside, holds_link, job_put, links_replaced, meta_told, pairs_moved}
+use Rattle.table_writing.specs.Writing.{without_each}
+use Rattle.table_writing.proofs.LinkLemmas.{holds_link-Decides}
+use Rattle.plan_tables.proofs.Held.{Shows, matched, natural_itself, one_natural, one_text, same_cell}
 use Rattle.plan_tables.proofs.Held.{text_itself}
 use Rattle.plan_tables.proofs.SetMoves.{shows_cells, shows_with, shows_without}
 use Rattle.table_facts.proofs.Told.{is_some as same_some, none_some}
@@ -139,41 +139,33 @@ link_shows : (l : Link) (rows : List Values)
     → shown table.LinkInForce (with_rowid Chosen rows (stored table.LinkInForce (link_values l))) ≡ link_values l
 link_shows l rows = refl
 
-links_told : (l m : Link) → matched table.LinkInForce (link_key l) (link_values m) ≡ true → l ≡ m
+-- a key tells the names, and not the limit
+links_told : (l m : Link) → matched table.LinkInForce (link_key l) (link_values m) ≡ true → HaveSameNames l m
 links_told l m h =
     let k = and_both (same_cell (Text m.app) (Text l.app)) _ h in
     let n = and_both (same_cell (Text m.predecessor) (Text l.predecessor)) _ k.1 in
     let a : l.app ≡ m.app = sym (one_text m.app l.app k.0) in
     let b : l.predecessor ≡ m.predecessor = sym (one_text m.predecessor l.predecessor n.0) in
-    λ i. record { app = a i; predecessor = b i }
-
-abbrev alike : Link → Link
-alike l = l
-
-held_link : (links : List Link) (l : Link) → holds_key link_cmp alike links l ≡ true → Contains links l
-held_link links l is =
-    let (k, m, lt, at, same) = Any-from_list_any (λ (m : Link). is_eq (link_cmp m l)) links is in
-    subst (Contains links) (link_ties m l (equal_from (link_cmp m l) same)) (k, lt, at)
-
--- it is one of the links, or one of those that these lack
-link_among : (links : List Link) (l : Link) → Contains links l ⊎ (not (holds_key link_cmp alike links l) ≡ true)
-link_among links l = go (holds_key link_cmp alike links l) refl
-  where
-    go : (b : Bool) → holds_key link_cmp alike links l ≡ b
-        → Contains links l ⊎ (not (holds_key link_cmp alike links l) ≡ true)
-    go true e = inl (held_link links l e)
-    go false e = inr (ap not e)
-
-link_lacks : (links : List Link) (l : Link) → not (holds_key link_cmp alike links l) ≡ true → Contains links l → ⊥
-link_lacks links l e has = holds_lacks link_total link_ties alike links l (not-true _ e) l has refl
+    (a, b)
 
 abbrev lacked_by : List Link → Link → Bool
-lacked_by links l = not (holds_key link_cmp alike links l)
+lacked_by links l = not (holds_link links l)
 
-pub links_shown : (old new : List Link) (all : Tables)
+-- it is one of the links with its limit, or one of those that these lack
+link_among : (links : List Link) (l : Link) → Contains links l ⊎ (lacked_by links l ≡ true)
+link_among links l = go (holds_link links l) refl
+  where
+    go : (b : Bool) → holds_link links l ≡ b → Contains links l ⊎ (lacked_by links l ≡ true)
+    go true e = inl ((holds_link-Decides links l).0 e)
+    go false e = inr (ap not e)
+
+link_lacks : (links : List Link) (l : Link) → lacked_by links l ≡ true → Contains links l → ⊥
+link_lacks links l e has = false≢true (sym (not-true _ e) ∙ (holds_link-Decides links l).1 has)
+
+pub links_shown : (old new : List Link) → IsRising link_cmp old → (all : Tables)
     → ((v : Values) → Shows table.LinkInForce (all table.LinkInForce) v ↔ IsOfList link_values old v) → (v : Values)
     → Shows table.LinkInForce (links_replaced old new all table.LinkInForce) v ↔ IsOfList link_values new v
-links_shown old new all held v = (
+links_shown old new rising all held v = (
   (λ there. elim ((shows_with table.LinkInForce link_values link_shows (beside old new) _ v).0 there) [
     | inl come ↦ (come.0, (contains_filter (lacked_by old) new come.0 come.1).0, come.2)
     | inr stood ↦
@@ -187,9 +179,10 @@ links_shown old new all held v = (
         | inl stood ↦ inr ((shows_without table.LinkInForce link_key (beside new old) all v).1 (
           (held v).1 (l, stood, is),
           λ m gone. apart _ (λ hit.
-              let same : m ≡ l = links_told m l (subst (λ w. matched table.LinkInForce (link_key m) w ≡ true) is hit)
-              in
-              link_lacks new m (contains_filter (lacked_by new) old m gone).1 (subst (Contains new) (sym same) has)),
+              let was = contains_filter (lacked_by new) old m gone in
+              let same : m ≡ l = named_once old rising m l was.0 stood
+              (links_told m l (subst (λ w. matched table.LinkInForce (link_key m) w ≡ true) is hit)) in
+              link_lacks new m was.1 (subst (Contains new) (sym same) has)),
         ))
         | inr lacks ↦ inl (l, filter_contains (lacked_by old) new l has lacks, is)
       ]),

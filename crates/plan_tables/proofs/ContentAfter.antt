@@ -36,6 +36,7 @@ use Rattle.table_facts.specs.Content.{AreEach, HasEntry, IsContentOf, IsFact, Is
 use Rattle.table_facts.specs.Content.{IsTellable}
 use Rattle.table_facts.specs.Content.{IsTold, IsUnderOwn, job_values, meta_values}
 use Rattle.run_cycles.specs.declared.cycles.RunCycle.{RunCycle}
+use Rattle.definition_records.specs.declared.predecessors.Predecessor.{Predecessor}
 use Rattle.table_writing.specs.Writing.{IsTellableChange, job_kept, links_moved, meta_moved, meta_told, pairs_moved}
 use Rattle.table_writing.specs.Writing.{beside, rows_moved, plans_written}
 use Rattle.plan_tables.proofs.ChangeLemmas.{and_both, and_true, job_shown, links_shown, meta_key, meta_shown}
@@ -251,7 +252,7 @@ module _ (c : Content) (change : Change) (all : Tables) where
         (rows_moved change all)) table.LinkInForce) v
         ↔ IsOfList link_values (unwrap_or new c.in_force) v
     link_facts_by None v = still table.LinkInForce (pairs_moved change.pairs (rows_moved change all)) link_rows v
-    link_facts_by (Some new) v = links_shown c.in_force new (pairs_moved change.pairs (rows_moved change all))
+    link_facts_by (Some new) v = links_shown c.in_force new is.tellable.in_force (pairs_moved change.pairs (rows_moved change all))
         (still table.LinkInForce (pairs_moved change.pairs (rows_moved change all)) link_rows) v
 
     link_facts : (v : Values) → ShowsAs table.LinkInForce (plans_written c change all table.LinkInForce) v
@@ -380,7 +381,7 @@ module _ (c : Content) (change : Change) (all : Tables) where
       periods = subst (λ (d : Definitions). AreEach HasEntry d.periods) (sym definitions) is.tellable.periods;
       run_cycles = subst (λ (d : Definitions). AreEach (IsNamed (λ (x : RunCycle). x.name)) d.run_cycles)
           (sym definitions) is.tellable.run_cycles;
-      predecessors = subst (λ (d : Definitions). AreEach (IsNamed (λ x. x)) d.predecessors)
+      predecessors = subst (λ (d : Definitions). AreEach (IsNamed (λ (p : Predecessor). p.name)) d.predecessors)
           (sym definitions) is.tellable.predecessors;
       ltp = moved_own of_row change.ltp c.sets.ltp fits.ltp is.tellable.ltp;
       cp = moved_own of_current change.cp c.sets.cp fits.cp is.tellable.cp;

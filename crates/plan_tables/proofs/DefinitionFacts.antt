@@ -7,6 +7,7 @@ use Rattle.plan_periods.specs.declared.periods.Period.{Period}
 use Rattle.run_cycles.specs.declared.cycles.RunCycle.{RunCycle}
 use Rattle.definition_records.specs.ByName.{overlaid}
 use Rattle.definition_records.specs.declared.applications.Application.{Application}
+use Rattle.definition_records.specs.declared.predecessors.Predecessor.{Predecessor}
 use Rattle.app_definitions.specs.declared.definitions.Definitions.{Definitions}
 use Rattle.app_definitions.specs.declared.kinds.Block.{Block}
 use Rattle.app_definitions.specs.declared.kinds.Block.TheVariants as block
@@ -180,7 +181,7 @@ module _ (c : Content) (all : Tables) (is : IsContentOf all c) where
   period_facts m new other shown table.Period v = shown v
   period_facts m new other shown t v = still t new (other t refl) v
 
-  predecessor_facts : (m : ByName (List (List ℕ))) (new : Tables)
+  predecessor_facts : (m : ByName (List Predecessor)) (new : Tables)
       → ((u : Table) → IsApart u table.Predecessor → new u ≡ all u)
       → ((v : Values) → Shows table.Predecessor (new table.Predecessor) v ↔ IsOfSome IsPredecessorRow m v)
       → ShowAll new (record defs { predecessors = m })
@@ -206,7 +207,7 @@ module _ (c : Content) (all : Tables) (is : IsContentOf all c) where
 
   -- what tables can tell of the rest stays
   tellable_with : (d : Definitions) → AreEach IsTold d.calendars → AreEach HasEntry d.periods
-      → AreEach (IsNamed (λ (x : RunCycle). x.name)) d.run_cycles → AreEach (IsNamed (λ x. x)) d.predecessors
+      → AreEach (IsNamed (λ (x : RunCycle). x.name)) d.run_cycles → AreEach (IsNamed (λ (p : Predecessor). p.name)) d.predecessors
       → IsTellable (with_definitions d c)
   tellable_with d calendars periods run_cycles predecessors = record {
     calendars = calendars;
@@ -264,7 +265,7 @@ module _ (c : Content) (all : Tables) (is : IsContentOf all c) where
   block_content (block.Predecessors more) moves are told = record {
     tellable = tellable_with (redefined (Merged
         (block.Predecessors more)) defs) is.tellable.calendars is.tellable.periods is.tellable.run_cycles
-        (each_overlaid (IsNamed (λ x. x)) defs.predecessors more is.tellable.predecessors told);
+        (each_overlaid (IsNamed (λ (p : Predecessor). p.name)) defs.predecessors more is.tellable.predecessors told);
     facts = predecessor_facts (overlaid defs.predecessors more)
         (renewed table.Predecessor moves.names.items moves.rows.items all)
         (λ u apart. renewed_other table.Predecessor u apart moves.names.items moves.rows.items all)
@@ -329,7 +330,7 @@ module _ (c : Content) (all : Tables) (is : IsContentOf all c) where
   removed_content kind.Predecessors name moves one none no_offsets = record {
     tellable = tellable_with (redefined
         (Removed kind.Predecessors name) defs) is.tellable.calendars is.tellable.periods is.tellable.run_cycles
-        (each_removed (IsNamed (λ x. x)) defs.predecessors name is.tellable.predecessors);
+        (each_removed (IsNamed (λ (p : Predecessor). p.name)) defs.predecessors name is.tellable.predecessors);
     facts = predecessor_facts (maps.remove defs.predecessors name)
         (renewed table.Predecessor moves.names.items moves.rows.items all)
         (λ u apart. renewed_other table.Predecessor u apart moves.names.items moves.rows.items all)

@@ -6,6 +6,7 @@ use Rattle.plan_periods.specs.declared.periods.Period.{Period}
 use Rattle.plan_periods.specs.declared.periods.Period.TheVariants as period
 use Rattle.run_cycles.specs.declared.cycles.RunCycle.{RunCycle}
 use Rattle.definition_records.specs.declared.applications.Application.{Application}
+use Rattle.definition_records.specs.declared.predecessors.Predecessor.{Predecessor}
 use Rattle.table_schema.specs.declared.tables.Table.{Table}
 use Rattle.table_schema.specs.declared.tables.Table.TheVariants as table
 use Rattle.table_facts.specs.Content.{IsApplicationRow}
@@ -55,9 +56,9 @@ offset_named name d v (cycle, has, place, k, at, is) = (_, is)
 pub offset_shown : (name : List ℕ) (d : List RunCycle) (v : Values) → IsOffsetRow name d v → IsShown table.Offset v
 offset_shown name d v (cycle, has, place, k, at, is) = shown_as table.Offset v _ is (λ rows. refl)
 
-pub predecessor_named : (name : List ℕ) (d : List (List ℕ)) (v : Values) → IsPredecessorRow name d v → HasName name v
+pub predecessor_named : (name : List ℕ) (d : List Predecessor) (v : Values) → IsPredecessorRow name d v → HasName name v
 predecessor_named name d v (other, has, is) = (_, is)
 
-pub predecessor_shown : (name : List ℕ) (d : List (List ℕ)) (v : Values) → IsPredecessorRow name d v
+pub predecessor_shown : (name : List ℕ) (d : List Predecessor) (v : Values) → IsPredecessorRow name d v
     → IsShown table.Predecessor v
 predecessor_shown name d v (other, has, is) = shown_as table.Predecessor v _ is (λ rows. refl)

@@ -19,8 +19,8 @@ use Rattle.definition_records.specs.Calendars.{FitsCalendar, IsCalendarOf}
 use Rattle.definition_records.specs.CycleRecords.{AreRunCyclesOf, FitsRunCycle}
 use Rattle.definition_records.specs.Periods.{FitsPeriod, IsPeriodOf}
 use Rattle.definition_records.specs.Predecessors.{ArePredecessorsOf, FitsPredecessors}
-use Rattle.definition_records.specs.declared.columns.TheConstants.{CALENDAR_FIELDS, CYCLE_FIELDS, PERIOD_FIELDS}
-use Rattle.definition_records.specs.declared.columns.TheConstants.{PREDECESSOR_FIELDS}
+use Rattle.definition_records.specs.FieldCounts.{HasCalendarFields, HasCycleFields, HasPeriodFields}
+use Rattle.definition_records.specs.FieldCounts.{HasPredecessorFields}
 use Rattle.app_definitions.specs.Definitions.{merged}
 use Rattle.app_definitions.specs.declared.definitions.Definitions.{Definitions}
 use Rattle.app_definitions.specs.declared.kinds.Block.{Block}
@@ -79,23 +79,23 @@ has_entry (Listed origins) sound = λ none. let some = sound.0 in absurd (omega 
 pub told_block : (all : Definitions) (b : Block) → AreDefinitions (merged all b) → IsTellableBlock b
 told_block all (block.Applications more) are = tt
 told_block all (block.Calendars more) are = λ name c at.
-    let is = definable_from CALENDAR_FIELDS FitsCalendar IsCalendarOf (overlaid all.calendars more) are.calendars name c
+    let is = definable_from HasCalendarFields FitsCalendar IsCalendarOf (overlaid all.calendars more) are.calendars name c
     (given_after all.calendars more name c at) in
     let week = calendar_week name c is in
     record { week = week; some = calendar_row c week (calendar_value c name is).some }
 told_block all (block.Periods more) are = λ name p at.
-    let is = definable_from PERIOD_FIELDS FitsPeriod IsPeriodOf (overlaid all.periods more) are.periods name p
+    let is = definable_from HasPeriodFields FitsPeriod IsPeriodOf (overlaid all.periods more) are.periods name p
     (given_after all.periods more name p at) in
     has_entry p (period_sound name p is)
-told_block all (block.Predecessors more) are = λ name names at.
-    let is = definable_from PREDECESSOR_FIELDS FitsPredecessors ArePredecessorsOf (overlaid all.predecessors more)
-    are.predecessors name names (given_after all.predecessors more name names at) in
+told_block all (block.Predecessors more) are = λ name listed at.
+    let is = definable_from HasPredecessorFields FitsPredecessors ArePredecessorsOf (overlaid all.predecessors more)
+    are.predecessors name listed (given_after all.predecessors more name listed at) in
     record {
-      rising = (made_of PREDECESSOR_FIELDS FitsPredecessors ArePredecessorsOf name names is).made.rising;
-      some = (predecessors_value name names is).some;
+      rising = (made_of HasPredecessorFields FitsPredecessors ArePredecessorsOf name listed is).made.rising;
+      some = (predecessors_value name listed is).some;
     }
 told_block all (block.RunCycles more) are = λ name cycles at.
-    let is = definable_from CYCLE_FIELDS FitsRunCycle AreRunCyclesOf (overlaid all.run_cycles more) are.run_cycles name
+    let is = definable_from HasCycleFields FitsRunCycle AreRunCyclesOf (overlaid all.run_cycles more) are.run_cycles name
     cycles (given_after all.run_cycles more name cycles at) in
     record { rising = cycles_rise name cycles is; some = (cycles_value name cycles is).some }
 told_block all (block.Options given) are = tt

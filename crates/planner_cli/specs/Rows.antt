@@ -1,5 +1,5 @@
 -- The rows that a list or a trial prints.
-use Rattle.std.specs.Prelude.{◌≡◌, ℕ, List, [], ◌∷◌, None}
+use Rattle.std.specs.Prelude.{◌≡◌, ℕ, List, [], ◌∷◌}
 use Rattle.std.specs.Str.{byte}
 use Rattle.occurrences.specs.declared.reply.Reply.{Reply}
 use Rattle.run_cycles.specs.declared.named.Named.{Named}
@@ -67,4 +67,4 @@ abbrev pub IsShownText : Shown → List ℕ → Type 0
 IsShownText (Plain row) line = IsRowText row line
 IsShownText (Marked row letter) line = IsMarkedText row letter line
 IsShownText (Linked successor predecessor) line = IsPairText successor predecessor line
-IsShownText (InForce link) line = line ≡ link_text link.app link.predecessor None
+IsShownText (InForce link) line = line ≡ link_text link.app link.predecessor link.within

@@ -56,7 +56,10 @@ fn write_item<W: Write>(writer: &mut W, item: Item<'_>) -> Result<(), Cause>
             writer,
             &pair_line(successor, predecessor),
         ),
-        Item::Link(link) => write_line(writer, &link_line(&link.app, &link.predecessor, None)),
+        Item::Link(link) => write_line(
+            writer,
+            &link_line(&link.app, &link.predecessor, link.within),
+        ),
     }
 }
 

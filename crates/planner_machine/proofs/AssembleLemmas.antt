@@ -4,7 +4,6 @@ use Rattle.std.proofs.Common.{Some}
 use Rattle.std.specs.Prelude.{Contains}
 use Rattle.work_calendars.specs.Day.{IsDay}
 use Rattle.work_calendars.specs.Moment.{IsMoment}
-use Rattle.work_calendars.specs.Name.{IsName}
 use Rattle.occurrences.specs.Place.{IsLive, IsOpen}
 use Rattle.occurrences.specs.declared.place.Deletion.{Deletion}
 use Rattle.occurrences.specs.declared.place.Place.{Place}
@@ -21,7 +20,7 @@ use Rattle.planner_machine.specs.Content.{Content, Seat, Sets, StandsAt, alone}
 use Rattle.planner_machine.specs.Fate.{Fate, IsGenerated}
 use Rattle.planner_machine.specs.Laws.{Follows}
 use Rattle.planner_machine.specs.Pairs.{ArePairs}
-use Rattle.planner_machine.specs.Sound.{AreDefinitions, ArrivesIn, HaveSizes, IsJob, IsRow, IsSound}
+use Rattle.planner_machine.specs.Sound.{AreDefinitions, ArrivesIn, HaveSizes, IsJob, IsLink, IsRow, IsSound}
 use Rattle.planner_machine.proofs.ClosedLemmas.{Starts, pairs_sound}
 use Rattle.planner_machine.proofs.DeleteLemmas.{stands_in_ltp}
 use Rattle.planner_machine.proofs.FollowLemmas.{FateKeeps, IsMadeAt, came}
@@ -76,7 +75,7 @@ pub record Owes (place : Place) (fate : Fate) (drafts : List Draft) (c c' : Cont
   pub by_operator : (p q : PlacedRow) → fate p q → q.place ≡ Deleted Operator → (p.place ≡ Deleted Operator)
       ⊎ ((p.place ≡ LongTerm) × (drafts ≡ []))
   pub sizes : HaveSizes c'.sets
-  pub links : (link : Link) → Contains c'.in_force link → IsName link.app × IsName link.predecessor
+  pub links : (link : Link) → Contains c'.in_force link → IsLink link
   pub no_loop : (app : List ℕ) → OnLoop c'.in_force app → ⊥
 
 module _ (place : Place) (fate : Fate) (drafts : List Draft) (c c' : Content) (sound : IsSound c)

@@ -1,6 +1,6 @@
 -- Pairs of what is no longer open, after a statement.
 use Rattle.std.proofs.Common.{◌≡◌, ◌≢◌, ℕ, zero, suc, ◌+◌, ◌-◌, ◌⊎◌, List, length, get_or, sym, ap, subst, ◌∙◌, inl}
-use Rattle.std.proofs.Common.{inr, arith}
+use Rattle.std.proofs.Common.{inr, arith, Option, None}
 use Rattle.std.specs.Prelude.{Contains}
 use Rattle.std.proofs.lemmas.List.Elements.{Contains-get_or}
 use Rattle.occurrences.specs.Place.{IsComplete, IsLive, IsOpen}
@@ -13,6 +13,7 @@ use Rattle.external_dependencies.specs.Nearest.{IsCandidate, IsNearest, arrival_
 use Rattle.external_dependencies.specs.declared.live.Arrival.{Arrival}
 use Rattle.external_dependencies.specs.declared.rows.PlacedRow.{PlacedRow}
 use Rattle.planner_machine.specs.declared.content.Draft.{Draft}
+use Rattle.external_dependencies.proofs.NearestLemmas.{nearest_unlimited, unlimited}
 use Rattle.planner_machine.specs.Content.{Content, Sets, StandsAt}
 use Rattle.planner_machine.specs.Fate.{Fate}
 use Rattle.planner_machine.specs.Laws.{Follows}
@@ -138,10 +139,12 @@ module _ (place : Place) (fate : Fate) (drafts : List Draft) (c c' : Content) (s
       ap (λ (x : PlacedRow). arrival_of x.row)
       (one_place c.sets n q p there (subst (λ k. StandsAt c.sets k p) same stands)) ∙ is
 
-  -- two nearest predecessors in one application are one
-  one_near : (key : Key) (app : List ℕ) (x y : Arrival) → IsNearest (LiveAt c.sets) key app x
-      → IsNearest (LiveAt c.sets) key app y → x.serial ≡ y.serial
-  one_near key app x y a b =
+  -- two nearest predecessors in one application are one, whatever their limits
+  one_near : (key : Key) (app : List ℕ) (within within' : Option ℕ) (x y : Arrival)
+      → IsNearest (LiveAt c.sets) key app within x → IsNearest (LiveAt c.sets) key app within' y → x.serial ≡ y.serial
+  one_near key app within within' x y limited limited' =
+      let a = nearest_unlimited (LiveAt c.sets) key app within x limited in
+      let b = nearest_unlimited (LiveAt c.sets) key app within' y limited' in
       let up = a.greatest y b.live b.candidate in let down = b.greatest x a.live a.candidate in
       let same : y.ia ≡ x.ia = omega arith in
       let first = a.last y b.live b.candidate same in let second = b.last x a.live a.candidate (sym same) in
@@ -157,21 +160,23 @@ module _ (place : Place) (fate : Fate) (drafts : List Draft) (c c' : Content) (s
       ∙ sym (ap (λ (x : Arrival). x.app) (near_is successor n q o' there')) ∙ sym apps
       ∙ ap (λ (x : Arrival). x.app) (near_is successor m p o there) ∙ o.nearest.candidate.of_app in
       let key = ap (λ (x : PlacedRow). x.row.key) placed in
-      let moved : IsNearest (LiveAt c.sets) o.placed.row.key o.app o'.near =
-      subst (λ k. IsNearest (LiveAt c.sets) k o.app o'.near) key
-      (subst (λ a. IsNearest (LiveAt c.sets) o'.placed.row.key a o'.near) app o'.nearest) in
-      sym o.predecessor ∙ one_near o.placed.row.key o.app o.near o'.near o.nearest moved ∙ o'.predecessor
+      let moved : IsNearest (LiveAt c.sets) o.placed.row.key o.app o'.within o'.near =
+      subst (λ k. IsNearest (LiveAt c.sets) k o.app o'.within o'.near) key
+      (subst (λ a. IsNearest (LiveAt c.sets) o'.placed.row.key a o'.within o'.near) app o'.nearest) in
+      sym o.predecessor
+      ∙ one_near o.placed.row.key o.app o.within o'.within o.near o'.near o.nearest moved ∙ o'.predecessor
 
   in_time_open : (successor n : ℕ) (p q : PlacedRow) → Starts c successor → Contains c.pairs (pair_of successor n)
-      → StandsAt c.sets successor p → StandsAt c.sets n q → IsCandidate p.row.key q.row.key.app (arrival_of q.row)
+      → StandsAt c.sets successor p → StandsAt c.sets n q → IsCandidate p.row.key q.row.key.app None (arrival_of q.row)
   in_time_open successor n p q starts at there there' =
       let o = open_pair successor n at starts in
       let near = near_is successor n q o there' in
       let placed = one_place c.sets successor o.placed p o.stands there in
       let app : o.app ≡ q.row.key.app = sym o.nearest.candidate.of_app ∙ sym (ap (λ (x : Arrival). x.app) near) in
-      subst (λ x. IsCandidate p.row.key q.row.key.app x) (sym near)
-      (subst (λ a. IsCandidate p.row.key a o.near) app
-      (subst (λ (x : PlacedRow). IsCandidate x.row.key o.app o.near) placed o.nearest.candidate))
+      subst (λ x. IsCandidate p.row.key q.row.key.app None x) (sym near)
+      (subst (λ a. IsCandidate p.row.key a None o.near) app
+      (subst (λ (x : PlacedRow). IsCandidate x.row.key o.app None o.near) placed
+      (unlimited o.placed.row.key o.app o.within o.near o.nearest.candidate)))
 
   -- on a ring of what is closed nothing starts
   no_start : (ring : List ℕ) → IsRing (IsClosedPair c'.sets c'.pairs) ring → (v : ℕ) → Contains ring v → Starts c v → ⊥
@@ -210,7 +215,7 @@ module _ (place : Place) (fate : Fate) (drafts : List Draft) (c c' : Content) (s
     in_time = λ pair p q there closed at_p at_q.
         let (o, was, done) = were_complete pair.successor pair.predecessor there closed in
         let arrives : (x : PlacedRow) → StandsAt c.sets pair.successor x
-        → IsCandidate x.row.key o.row.key.app (arrival_of o.row) =
+        → IsCandidate x.row.key o.row.key.app None (arrival_of o.row) =
         λ x at_x. elim (was_closed pair.successor closed) [
           | inl before ↦ sound.pairs.in_time pair x o
               (was_pair pair.successor pair.predecessor there closed) before at_x was
@@ -235,11 +240,11 @@ module _ (place : Place) (fate : Fate) (drafts : List Draft) (c c' : Content) (s
           ap (λ (x : PlacedRow). x.row.serial) (one_place c'.sets n q o now at) ∙ keeps.serial p o goes
 
       moved : (x o p q : PlacedRow) → p.row.key ≡ x.row.key → q.row.key ≡ o.row.key → q.row.serial ≡ o.row.serial
-          → IsCandidate x.row.key o.row.key.app (arrival_of o.row)
-          → IsCandidate p.row.key q.row.key.app (arrival_of q.row)
+          → IsCandidate x.row.key o.row.key.app None (arrival_of o.row)
+          → IsCandidate p.row.key q.row.key.app None (arrival_of q.row)
       moved x o p q key key' serial is =
           let arrives : arrival_of o.row ≡ arrival_of q.row =
           λ i. record { app = (sym key' i).app; ia = (sym key' i).ia; serial = sym serial i } in
-          subst (λ k. IsCandidate k q.row.key.app (arrival_of q.row)) (sym key)
-          (subst (λ (k : Key). IsCandidate x.row.key k.app (arrival_of q.row)) (sym key')
-          (subst (λ a. IsCandidate x.row.key o.row.key.app a) arrives is))
+          subst (λ k. IsCandidate k q.row.key.app None (arrival_of q.row)) (sym key)
+          (subst (λ (k : Key). IsCandidate x.row.key k.app None (arrival_of q.row)) (sym key')
+          (subst (λ a. IsCandidate x.row.key o.row.key.app None a) arrives is))

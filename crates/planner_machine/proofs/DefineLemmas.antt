@@ -25,19 +25,19 @@ use Rattle.app_definitions.specs.declared.kinds.Kind.{Kind}
 use Rattle.app_definitions.specs.declared.kinds.Kind.TheVariants as kind
 use Rattle.planner_machine.specs.Content.{Content}
 use Rattle.planner_machine.specs.Sound.{AreDefinable, AreDefinitions, IsSound}
-use Rattle.definition_records.specs.declared.columns.TheConstants.{APPLICATION_FIELDS, CALENDAR_FIELDS, PERIOD_FIELDS}
-use Rattle.definition_records.specs.declared.columns.TheConstants.{PREDECESSOR_FIELDS, CYCLE_FIELDS}
+use Rattle.definition_records.specs.FieldCounts.{HasApplicationFields, HasCalendarFields, HasCycleFields}
+use Rattle.definition_records.specs.FieldCounts.{HasPeriodFields, HasPredecessorFields}
 
-module _ {D : Type 0} (fields : ℕ) (Fits : Records → Record → Type 0) (IsMadeOf : D
+module _ {D : Type 0} (HasFields : ℕ → Type 0) (Fits : Records → Record → Type 0) (IsMadeOf : D
     → Records → Type 0) where
   -- what a block gives goes over what was there
   overlaid_definable : (old more : map.FinMap (slice_cmp nat_cmp) D) (rows : Records)
-      → AreDefinable fields Fits IsMadeOf (map.get old) → AllGood (FitsKind fields Fits) rows
-      → AreGivenBy IsMadeOf more rows → AreDefinable fields Fits IsMadeOf (map.get (overlaid old more))
+      → AreDefinable HasFields Fits IsMadeOf (map.get old) → AllGood (FitsKind HasFields Fits) rows
+      → AreGivenBy IsMadeOf more rows → AreDefinable HasFields Fits IsMadeOf (map.get (overlaid old more))
   overlaid_definable old more rows were good given name = at (map.get more name) refl
     where
       at : (o : Option D) → map.get more name ≡ o → (rows' : Records)
-          × AllGood (FitsKind fields Fits) rows'
+          × AllGood (FitsKind HasFields Fits) rows'
           × IsDefinedBy IsMadeOf (map.get (overlaid old more) name) (records_of name rows')
       at None is =
           let same : map.get old name ≡ map.get (overlaid old more) name =
@@ -51,12 +51,12 @@ module _ {D : Type 0} (fields : ℕ) (Fits : Records → Record → Type 0) (IsM
 
   -- a name is taken away
   removed_definable : (old : map.FinMap (slice_cmp nat_cmp) D) (gone : List ℕ)
-      → AreDefinable fields Fits IsMadeOf (map.get old)
-      → AreDefinable fields Fits IsMadeOf (map.get (map.remove old gone))
+      → AreDefinable HasFields Fits IsMadeOf (map.get old)
+      → AreDefinable HasFields Fits IsMadeOf (map.get (map.remove old gone))
   removed_definable old gone were name = at (pointwise nat_eq gone name) refl
     where
       at : (b : Bool) → pointwise nat_eq gone name ≡ b → (rows : Records)
-          × AllGood (FitsKind fields Fits) rows
+          × AllGood (FitsKind HasFields Fits) rows
           × IsDefinedBy IsMadeOf (map.get (map.remove old gone) name) (records_of name rows)
       at true is =
           let none : None ≡ map.get (map.remove old gone) name =
@@ -77,7 +77,7 @@ pub define_are : (k : Kind) (text : List ℕ) (block : Block) (all : Definitions
     → ReadsAs k text block → AreDefinitions (merged all block)
 define_are kind.Applications text block all are gives =
     subst (λ (b : Block). AreDefinitions (merged all b)) (sym gives.is) (record {
-      applications = overlaid_definable APPLICATION_FIELDS FitsApplication IsApplicationOf all.applications
+      applications = overlaid_definable HasApplicationFields FitsApplication IsApplicationOf all.applications
           gives.definitions (block_records text) are.applications gives.good gives.given;
       calendars = are.calendars;
       periods = are.periods;
@@ -88,7 +88,7 @@ define_are kind.Applications text block all are gives =
 define_are kind.Calendars text block all are gives =
     subst (λ (b : Block). AreDefinitions (merged all b)) (sym gives.is) (record {
       applications = are.applications;
-      calendars = overlaid_definable CALENDAR_FIELDS FitsCalendar IsCalendarOf all.calendars gives.definitions
+      calendars = overlaid_definable HasCalendarFields FitsCalendar IsCalendarOf all.calendars gives.definitions
           (block_records text) are.calendars gives.good gives.given;
       periods = are.periods;
       predecessors = are.predecessors;
@@ -99,7 +99,7 @@ define_are kind.Periods text block all are gives =
     subst (λ (b : Block). AreDefinitions (merged all b)) (sym gives.is) (record {
       applications = are.applications;
       calendars = are.calendars;
-      periods = overlaid_definable PERIOD_FIELDS FitsPeriod IsPeriodOf all.periods gives.definitions
+      periods = overlaid_definable HasPeriodFields FitsPeriod IsPeriodOf all.periods gives.definitions
           (block_records text) are.periods gives.good gives.given;
       predecessors = are.predecessors;
       run_cycles = are.run_cycles;
@@ -110,7 +110,7 @@ define_are kind.Predecessors text block all are gives =
       applications = are.applications;
       calendars = are.calendars;
       periods = are.periods;
-      predecessors = overlaid_definable PREDECESSOR_FIELDS FitsPredecessors ArePredecessorsOf all.predecessors
+      predecessors = overlaid_definable HasPredecessorFields FitsPredecessors ArePredecessorsOf all.predecessors
           gives.definitions (block_records text) are.predecessors gives.good gives.given;
       run_cycles = are.run_cycles;
       default_calendar = are.default_calendar;
@@ -121,7 +121,7 @@ define_are kind.RunCycles text block all are gives =
       calendars = are.calendars;
       periods = are.periods;
       predecessors = are.predecessors;
-      run_cycles = overlaid_definable CYCLE_FIELDS FitsRunCycle AreRunCyclesOf all.run_cycles gives.definitions
+      run_cycles = overlaid_definable HasCycleFields FitsRunCycle AreRunCyclesOf all.run_cycles gives.definitions
           (block_records text) are.run_cycles gives.good gives.given;
       default_calendar = are.default_calendar;
     })
@@ -141,7 +141,7 @@ pub undefine_are : (k : Kind) (name : List ℕ) (all : Definitions) → AreDefin
     → AreDefinitions (without all k name)
 undefine_are kind.Applications name all are =
     record {
-      applications = removed_definable APPLICATION_FIELDS FitsApplication IsApplicationOf all.applications name
+      applications = removed_definable HasApplicationFields FitsApplication IsApplicationOf all.applications name
           are.applications;
       calendars = are.calendars;
       periods = are.periods;
@@ -153,7 +153,7 @@ undefine_are kind.Applications name all are =
 undefine_are kind.Calendars name all are =
     record {
       applications = are.applications;
-      calendars = removed_definable CALENDAR_FIELDS FitsCalendar IsCalendarOf all.calendars name are.calendars;
+      calendars = removed_definable HasCalendarFields FitsCalendar IsCalendarOf all.calendars name are.calendars;
       periods = are.periods;
       predecessors = are.predecessors;
       run_cycles = are.run_cycles;
@@ -163,7 +163,7 @@ undefine_are kind.Periods name all are =
     record {
       applications = are.applications;
       calendars = are.calendars;
-      periods = removed_definable PERIOD_FIELDS FitsPeriod IsPeriodOf all.periods name are.periods;
+      periods = removed_definable HasPeriodFields FitsPeriod IsPeriodOf all.periods name are.periods;
       predecessors = are.predecessors;
       run_cycles = are.run_cycles;
       default_calendar = are.default_calendar;
@@ -173,7 +173,7 @@ undefine_are kind.Predecessors name all are =
       applications = are.applications;
       calendars = are.calendars;
       periods = are.periods;
-      predecessors = removed_definable PREDECESSOR_FIELDS FitsPredecessors ArePredecessorsOf all.predecessors name
+      predecessors = removed_definable HasPredecessorFields FitsPredecessors ArePredecessorsOf all.predecessors name
           are.predecessors;
       run_cycles = are.run_cycles;
       default_calendar = are.default_calendar;
@@ -185,7 +185,7 @@ undefine_are kind.RunCycles name all are =
       periods = are.periods;
       predecessors = are.predecessors;
       run_cycles =
-          removed_definable CYCLE_FIELDS FitsRunCycle AreRunCyclesOf all.run_cycles name are.run_cycles;
+          removed_definable HasCycleFields FitsRunCycle AreRunCyclesOf all.run_cycles name are.run_cycles;
       default_calendar =
           are.default_calendar;
     }

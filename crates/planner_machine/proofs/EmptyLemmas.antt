@@ -17,8 +17,8 @@ use Rattle.planner_machine.specs.Content.{StandsAt, nothing_known}
 use Rattle.planner_machine.specs.Sound.{AreDefinable, IsSound}
 use Rattle.planner_machine.proofs.SeatLemmas.{not_empty}
 use Rattle.definition_records.specs.Records.{Record, Records}
-use Rattle.definition_records.specs.declared.columns.TheConstants.{APPLICATION_FIELDS, CALENDAR_FIELDS, PERIOD_FIELDS}
-use Rattle.definition_records.specs.declared.columns.TheConstants.{PREDECESSOR_FIELDS, CYCLE_FIELDS}
+use Rattle.definition_records.specs.FieldCounts.{HasApplicationFields, HasCalendarFields, HasCycleFields}
+use Rattle.definition_records.specs.FieldCounts.{HasPeriodFields, HasPredecessorFields}
 
 nowhere : (serial : ℕ) (p : PlacedRow) → StandsAt nothing_known.sets serial p → ⊥
 nowhere serial p there = not_empty nothing_known.sets serial p there refl
@@ -29,10 +29,10 @@ none_in x (k, lt, is) = omega (arith, lt)
 abbrev no_map : (D : Type 0) → map.FinMap (slice_cmp nat_cmp) D
 no_map D = map.empty
 
-nothing_definable : {D : Type 0} (fields : ℕ) (Fits : Records → Record → Type 0)
+nothing_definable : {D : Type 0} (HasFields : ℕ → Type 0) (Fits : Records → Record → Type 0)
     (IsMadeOf : D → Records → Type 0)
-    → AreDefinable fields Fits IsMadeOf (map.get (no_map D))
-nothing_definable {D} fields Fits IsMadeOf name = (
+    → AreDefinable HasFields Fits IsMadeOf (map.get (no_map D))
+nothing_definable {D} HasFields Fits IsMadeOf name = (
   [],
   (λ k lt. absurd (omega (arith, lt))),
   subst (λ (o : Option D). IsDefinedBy IsMadeOf o []) (sym (get-empty (slice_cmp nat_cmp) name)) refl,
@@ -42,11 +42,11 @@ pub nothing_sound : IsSound nothing_known
 nothing_sound = record {
   ranges = record {
     definitions = record {
-      applications = nothing_definable APPLICATION_FIELDS FitsApplication IsApplicationOf;
-      calendars = nothing_definable CALENDAR_FIELDS FitsCalendar IsCalendarOf;
-      periods = nothing_definable PERIOD_FIELDS FitsPeriod IsPeriodOf;
-      predecessors = nothing_definable PREDECESSOR_FIELDS FitsPredecessors ArePredecessorsOf;
-      run_cycles = nothing_definable CYCLE_FIELDS FitsRunCycle AreRunCyclesOf;
+      applications = nothing_definable HasApplicationFields FitsApplication IsApplicationOf;
+      calendars = nothing_definable HasCalendarFields FitsCalendar IsCalendarOf;
+      periods = nothing_definable HasPeriodFields FitsPeriod IsPeriodOf;
+      predecessors = nothing_definable HasPredecessorFields FitsPredecessors ArePredecessorsOf;
+      run_cycles = nothing_definable HasCycleFields FitsRunCycle AreRunCyclesOf;
       default_calendar = IsName-default;
     };
     rows = λ serial p there. absurd (nowhere serial p there);
@@ -68,7 +68,7 @@ nothing_sound = record {
     not_deleted = λ serial row is. cc;
   };
   sizes = record { planned = omega arith; issued = omega arith };
-  lists = λ app (ring, is, at). none_in _ (is.closes app);
+  lists = λ app (ring, is, at). none_in _ (is.closes app).1;
   pairs = record {
     settled = record {
       rising = λ i j d lt within. absurd (omega (arith, within));

@@ -18,11 +18,11 @@ use Rattle.planner_machine.specs.Moves.{bit, size}
 use Rattle.planner_machine.specs.Pairs.{pair_of}
 use Rattle.app_occurrences.specs.Active.{HasNoCalendar, HasNoPeriod}
 use Rattle.planner_machine.specs.Plans.{WouldLoop}
-use Rattle.planner_machine.specs.Sound.{IsJob, IsShown, IsSound}
+use Rattle.planner_machine.specs.Sound.{IsJob, IsLink, IsShown, IsSound}
 use Rattle.planner_machine.proofs.LoopLemmas.{on_loop_listed}
 use Rattle.planner_machine.proofs.RangeLemmas.{defined_name}
 use Rattle.planner_machine.proofs.SeatLemmas.{cases_issued, not_empty}
-use Rattle.definition_records.specs.declared.columns.TheConstants.{APPLICATION_FIELDS}
+use Rattle.definition_records.specs.FieldCounts.{HasApplicationFields}
 
 -- a set has no more of the first n serials than n
 bit_small : {X : Type 0} (o : Option X) → bit o ≤ 1
@@ -47,20 +47,20 @@ is_serial c sound serial p there = elim (cases_issued c.sets.issued serial) [
 -- the applications of refusals have names
 pub no_calendar_name : (c : Content) → IsSound c → (app : List ℕ) → HasNoCalendar c.definitions app → IsName app
 no_calendar_name c sound app (a, active, lacks) =
-    defined_name APPLICATION_FIELDS FitsApplication IsApplicationOf
+    defined_name HasApplicationFields FitsApplication IsApplicationOf
     (map.get c.definitions.applications) sound.ranges.definitions.applications app a active.0
 
 pub no_period_name : (c : Content) → IsSound c → (app : List ℕ) → HasNoPeriod c.definitions app → IsName app
 no_period_name c sound app (a, active, lacks) =
-    defined_name APPLICATION_FIELDS FitsApplication IsApplicationOf
+    defined_name HasApplicationFields FitsApplication IsApplicationOf
     (map.get c.definitions.applications) sound.ranges.definitions.applications app a active.0
 
 pub loop_name : (Puts : PutsLists) (c : Content)
     → ((after : List Link) → Puts c.definitions c.in_force after → (link : Link) → Contains after link
-    → IsName link.app × IsName link.predecessor) → (app : List ℕ) → WouldLoop Puts c app → IsName app
+    → IsLink link) → (app : List ℕ) → WouldLoop Puts c app → IsName app
 loop_name Puts c names app (lists, puts, least) =
     let (predecessor, listed) = on_loop_listed lists app least.0 in
-    (names lists puts (record { app = app; predecessor = predecessor }) listed).0
+    (names lists puts (record { app = app; predecessor = predecessor; within = listed.0 }) listed.1).0
 
 -- a predecessor of a pair has a serial
 pub predecessor_serial : (c : Content) → IsSound c → (successor n : ℕ) → Contains c.pairs (pair_of successor n)

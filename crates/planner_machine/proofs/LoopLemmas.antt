@@ -69,10 +69,10 @@ module _ (P : List ℕ → Type 0) (none : (app : List ℕ) → IsLeastApp P app
 -- an application on a loop has a list
 has_list : (links : List Link) (app predecessor : List ℕ) → Lists links app predecessor
     → Contains (map (λ (l : Link). l.app) links) app
-has_list links app predecessor (k, lt, is) = (
+has_list links app predecessor (within, (k, lt, is)) = (
   k,
   omega (arith, length-map links (λ (l : Link). l.app)),
-  get_or-map (λ (l : Link). l.app) links k (record { app = app; predecessor = predecessor }) app lt
+  get_or-map (λ (l : Link). l.app) links k (record { app = app; predecessor = predecessor; within = within }) app lt
       ∙ ap (λ (l : Link). l.app) is,
 )
 

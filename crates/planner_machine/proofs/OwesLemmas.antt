@@ -5,7 +5,6 @@ use Rattle.std.specs.Prelude.{Bool, Contains, option_map}
 use Rattle.std.proofs.lemmas.Bool.{cases_lt}
 use Rattle.std.specs.FinMap as map
 use Rattle.work_calendars.specs.Day.{IsDay, last_kept_day, first_day}
-use Rattle.work_calendars.specs.Name.{IsName}
 use Rattle.occurrences.specs.Place.{IsLive, IsOpen}
 use Rattle.occurrences.specs.declared.key.Key.{Key}
 use Rattle.occurrences.specs.declared.place.Place.{Place}
@@ -38,7 +37,7 @@ use Rattle.planner_machine.specs.Laws.{Follows}
 use Rattle.planner_machine.specs.Modify.{Modifies, NamesAhead}
 use Rattle.planner_machine.specs.Pairs.{ArePairs, IsCompleteAt, pair_of}
 use Rattle.planner_machine.specs.Plans.{ChangesPlans, WouldHoldTooMany}
-use Rattle.planner_machine.specs.Sound.{ArrivesIn, IsRow, IsSound}
+use Rattle.planner_machine.specs.Sound.{ArrivesIn, IsLink, IsRow, IsSound}
 use Rattle.planner_machine.proofs.ActionLemmas.{action_follows, action_sound}
 use Rattle.planner_machine.proofs.AddLemmas.{add_sound, not_outside, only_one}
 use Rattle.planner_machine.proofs.AssembleLemmas.{Owes}
@@ -143,7 +142,7 @@ extend_owes to c c' reply sound none d =
 module _ (looks : List ℕ → Bool) (Looks : List ℕ → Type 0) (tests : Tests looks Looks) (Puts : PutsLists) where
   pub modify_owes : (c c' : Content) (reply : Reply) → IsSound c → (c.sets.bounds ≡ None → ⊥)
       → (WouldHoldTooMany (Modifies looks Looks) c → ⊥) → (d : ChangesPlans (Modifies looks Looks) Puts c reply c')
-      → ((link : Link) → Contains c'.in_force link → IsName link.app × IsName link.predecessor)
+      → ((link : Link) → Contains c'.in_force link → IsLink link)
       → ((app : List ℕ) → OnLoop c'.in_force app → ⊥) → Owes LongTerm (ModifyFate Looks c.definitions) d.rows.new c c'
   unfolding between
   modify_owes c c' reply sound there few d links loops =

@@ -10,7 +10,7 @@ use Rattle.occurrences.specs.declared.place.Place.{Place}
 use Rattle.occurrences.specs.declared.place.Place.TheVariants.{LongTerm, Current, History, Deleted}
 use Rattle.occurrences.specs.declared.row.Row.{Row}
 use Rattle.occurrences.specs.declared.status.Status.TheVariants.{W, S, E, C, D}
-use Rattle.external_dependencies.specs.Link.{Lists}
+use Rattle.external_dependencies.specs.Link.{ListsWithin}
 use Rattle.external_dependencies.specs.Nearest.{IsNearest, arrival_of}
 use Rattle.external_dependencies.specs.Pair.{pair_cmp}
 use Rattle.external_dependencies.specs.declared.links.Link.{Link}
@@ -111,8 +111,9 @@ same_live a b same is = (live_kind b).1 (λ now. (live_kind a).0 is (same ∙ no
 
 -- the nearest among arrivals is that among the same arrivals
 same_nearest : (P Q : Arrival → Type 0) → ((x : Arrival) → P x → Q x) → ((x : Arrival) → Q x → P x)
-    → (key : Key) (app : List ℕ) (near : Arrival) → IsNearest P key app near → IsNearest Q key app near
-same_nearest P Q to from key app near is =
+    → (key : Key) (app : List ℕ) (within : Option ℕ) (near : Arrival)
+    → IsNearest P key app within near → IsNearest Q key app within near
+same_nearest P Q to from key app within near is =
     record {
       live = to near is.live;
       candidate = is.candidate;
@@ -154,11 +155,13 @@ module _ (move : Seat → Seat) (go : PlacedRow → PlacedRow) (is : IsMove move
       stands = stands_after move go is c sound bounds pair.successor p a.stands;
       waits = same_open p.place (go p).place (sym (kinds p)) a.waits;
       app = a.app;
-      listed = let P : Row → Type 0 = λ r. Lists links r.key.app a.app in subst P (sym (rows p)) a.listed;
+      within = a.within;
+      listed = let P : Row → Type 0 = λ r. ListsWithin links r.key.app a.app a.within in
+          subst P (sym (rows p)) a.listed;
       near = a.near;
-      nearest = let P : Row → Type 0 = λ r. IsNearest (LiveAt c') r.key a.app a.near in
+      nearest = let P : Row → Type 0 = λ r. IsNearest (LiveAt c') r.key a.app a.within a.near in
           subst P (sym (rows p)) (same_nearest (LiveAt c)
-          (LiveAt c') live_on live_back p.row.key a.app a.near a.nearest);
+          (LiveAt c') live_on live_back p.row.key a.app a.within a.near a.nearest);
       predecessor = a.predecessor;
     }
 
@@ -172,11 +175,12 @@ module _ (move : Seat → Seat) (go : PlacedRow → PlacedRow) (is : IsMove move
           waits = same_open (go p).place p.place (kinds p)
               (subst (λ (y : PlacedRow). IsOpen y.place) (sym same) a.waits);
           app = a.app;
-          listed = let P : Row → Type 0 = λ r. Lists links r.key.app a.app in subst P row a.listed;
+          within = a.within;
+          listed = let P : Row → Type 0 = λ r. ListsWithin links r.key.app a.app a.within in subst P row a.listed;
           near = a.near;
-          nearest = let P : Row → Type 0 = λ r. IsNearest (LiveAt c) r.key a.app a.near in
+          nearest = let P : Row → Type 0 = λ r. IsNearest (LiveAt c) r.key a.app a.within a.near in
               subst P row (same_nearest (LiveAt c')
-              (LiveAt c) live_back live_on a.placed.row.key a.app a.near a.nearest);
+              (LiveAt c) live_back live_on a.placed.row.key a.app a.within a.near a.nearest);
           predecessor = a.predecessor;
         }
 

@@ -1,7 +1,7 @@
 -- What the definitions name has its ranges and forms.
-use Rattle.std.proofs.Common.{◌≡◌, ◌≢◌, ℕ, zero, ◌+◌, ◌<◌, ◌≤◌, List, [], ◌∷◌, length, get_or, refl, sym, ap}
-use Rattle.std.proofs.Common.{subst, ◌∙◌, arith, Option, None, Some, true}
-use Rattle.std.specs.Prelude.{Any, Contains, nat_eq, take, unwrap_or}
+use Rattle.std.proofs.Common.{◌≡◌, ◌≢◌, ℕ, zero, ◌+◌, ◌<◌, ◌≤◌, List, [], ◌∷◌, length, get_or, refl, sym, ap, suc}
+use Rattle.std.proofs.Common.{subst, ◌∙◌, arith, Option, None, Some, true, inl, inr}
+use Rattle.std.specs.Prelude.{Any, Contains, IfSome, nat_eq, take, unwrap_or}
 use Rattle.std.specs.Cmp.Lexicographic.{pointwise}
 use Rattle.std.specs.FinMap as map
 use Rattle.std.proofs.lemmas.List.{get_or-map, get_or_default, length-map}
@@ -11,6 +11,7 @@ use Rattle.work_calendars.specs.Day.{last_kept_day, first_day, last_day}
 use Rattle.work_calendars.specs.Minute.{IsMinute}
 use Rattle.work_calendars.specs.Moment.{IsMoment}
 use Rattle.work_calendars.specs.Name.{IsName, IsShort}
+use Rattle.work_calendars.specs.Within.{IsWithinHours}
 use Rattle.run_cycles.specs.Occurrence.{HasDeadline}
 use Rattle.run_cycles.specs.declared.cycles.CycleType.{CycleType}
 use Rattle.run_cycles.specs.declared.cycles.CycleType.TheVariants.{Negative, Normal}
@@ -20,8 +21,10 @@ use Rattle.definition_records.proofs.ByNameLemmas.{same_name}
 use Rattle.definition_records.specs.Applications.{FitsApplication, IsApplicationOf}
 use Rattle.definition_records.specs.ByName.{FitsKind, IsDefinedBy, records_of}
 use Rattle.definition_records.specs.CycleRecords.{AreRunCyclesOf, FitsRunCycle, SpellsType, SpellsRunCycle}
-use Rattle.definition_records.specs.Fields.{field}
-use Rattle.definition_records.specs.Predecessors.{ArePredecessorsOf, FitsPredecessors, predecessors_of}
+use Rattle.definition_records.specs.Fields.{IsEmptyOr, field, number_value}
+use Rattle.definition_records.specs.Predecessors.{ArePredecessorsOf, FitsPredecessors, IsWithinText}
+use Rattle.definition_records.specs.Predecessors.{predecessor_of, predecessors_of, within_of}
+use Rattle.definition_records.specs.declared.predecessors.Predecessor.{Predecessor}
 use Rattle.definition_records.specs.Records.{AllGood, Record, Records}
 use Rattle.app_definitions.specs.declared.definitions.Definitions.{Definitions}
 use Rattle.external_dependencies.specs.declared.links.Link.{Link}
@@ -29,10 +32,10 @@ use Rattle.planner_machine.specs.declared.content.Draft.{Draft}
 use Rattle.planner_machine.specs.Drafts.{NamesDraft, draft_of}
 use Rattle.planner_machine.specs.InForce.{IsDefinedLink}
 use Rattle.planner_machine.specs.Moves.{numbered_row}
-use Rattle.planner_machine.specs.Sound.{AreDefinable, AreDefinitions, IsOrigin, IsRow}
-use Rattle.definition_records.specs.declared.columns.TheConstants.{NAME, PREDECESSOR, CYCLE_TYPE, CYCLE_DEADLINE_DAY}
-use Rattle.definition_records.specs.declared.columns.TheConstants.{CYCLE_DEADLINE_TIME, APPLICATION_FIELDS}
-use Rattle.definition_records.specs.declared.columns.TheConstants.{PREDECESSOR_FIELDS, CYCLE_FIELDS}
+use Rattle.planner_machine.specs.Sound.{AreDefinable, AreDefinitions, IsLink, IsOrigin, IsRow}
+use Rattle.definition_records.specs.declared.columns.TheConstants.{NAME, PREDECESSOR_WITHIN, CYCLE_TYPE, CYCLE_DEADLINE_DAY}
+use Rattle.definition_records.specs.FieldCounts.{HasApplicationFields, HasCycleFields, HasPredecessorFields}
+use Rattle.definition_records.specs.declared.columns.TheConstants.{CYCLE_DEADLINE_TIME}
 use Rattle.planner_machine.specs.Content.{midnight}
 
 -- a record among good ones is good after some
@@ -57,11 +60,11 @@ some_element [] some = absurd (some refl)
 some_element (x ∷ xs) some = (x, (zero, omega arith, refl))
 
 -- a name that is defined has the form of a name
-module _ {D : Type 0} (fields : ℕ) (FitsName : Records → Record → Type 0) (IsMadeOf : D
+module _ {D : Type 0} (HasFields : ℕ → Type 0) (FitsName : Records → Record → Type 0) (IsMadeOf : D
     → Records → Type 0) (definition_of : List ℕ
-    → Option D) (are : AreDefinable fields FitsName IsMadeOf definition_of) where
+    → Option D) (are : AreDefinable HasFields FitsName IsMadeOf definition_of) where
   made_of : (name : List ℕ) (d : D) → definition_of name ≡ Some d → (rows : Records)
-      × AllGood (FitsKind fields FitsName) rows × (records_of name rows ≢ []) × IsMadeOf d (records_of name rows)
+      × AllGood (FitsKind HasFields FitsName) rows × (records_of name rows ≢ []) × IsMadeOf d (records_of name rows)
   made_of name d is =
       let (rows, good, defined) = are name in
       let whole : IsDefinedBy IsMadeOf (Some d) (records_of name rows) =
@@ -73,32 +76,46 @@ module _ {D : Type 0} (fields : ℕ) (FitsName : Records → Record → Type 0) 
       let (rows, good, some, made) = made_of name d is in
       let (row, there) = some_element (records_of name rows) some in
       let at = record_in name rows row there in
-      let (before, fits) = good_row (FitsKind fields FitsName) rows row good at.0 in
+      let (before, fits) = good_row (FitsKind HasFields FitsName) rows row good at.0 in
       subst IsName at.1 fits.name
 
--- the links of defined lists are of names
-pub link_names : (all : Definitions) → AreDefinitions all → (link : Link) → IsDefinedLink all link → IsName link.app
-    × IsName link.predecessor
-link_names all are link (names, is, listed) =
+-- a limit that a record spells is such
+pub limit_value : (text : List ℕ) → IsEmptyOr IsWithinText text → IfSome (within_of text) IsWithinHours
+limit_value [] form = tt
+limit_value (b ∷ text) form = elim form [
+  | inl empty ↦ let e : suc (length text) ≡ 0 = ap length empty in absurd (omega arith)
+  | inr is ↦ is.1
+]
+
+-- the links of defined lists are of names, and their limits are such
+pub link_names : (all : Definitions) → AreDefinitions all → (link : Link) → IsDefinedLink all link → IsLink link
+link_names all are link (listed, is, there) =
     let (rows, good, some, made) =
-    made_of PREDECESSOR_FIELDS FitsPredecessors ArePredecessorsOf
-    (map.get all.predecessors) are.predecessors link.app names is in (
-      defined_name PREDECESSOR_FIELDS FitsPredecessors ArePredecessorsOf
-          (map.get all.predecessors) are.predecessors link.app names is,
-      in_records rows good link.predecessor (records_of link.app rows)
-          (λ row there. (record_in link.app rows row there).0) ((made.exactly link.predecessor).0 listed),
+    made_of HasPredecessorFields FitsPredecessors ArePredecessorsOf
+    (map.get all.predecessors) are.predecessors link.app listed is in
+    let p : Predecessor = record { name = link.predecessor; within = link.within } in
+    let parts = in_records rows good p (records_of link.app rows)
+    (λ row there. (record_in link.app rows row there).0) ((made.exactly p).0 there) in (
+      defined_name HasPredecessorFields FitsPredecessors ArePredecessorsOf
+          (map.get all.predecessors) are.predecessors link.app listed is,
+      parts.0,
+      parts.1,
     )
   where
-    in_records : (rows : Records) → AllGood (FitsKind PREDECESSOR_FIELDS FitsPredecessors) rows
-        → (name : List ℕ) (some : Records)
-        → ((row : Record) → Contains some row → Contains rows row) → Contains (predecessors_of some) name
-        → IsName name
-    in_records rows good name some all_in (k, lt, is) =
-        let within : k < length some = omega (arith, length-map some (λ (row : Record). field row PREDECESSOR)) in
+    in_records : (rows : Records) → AllGood (FitsKind HasPredecessorFields FitsPredecessors) rows
+        → (p : Predecessor) (some : Records)
+        → ((row : Record) → Contains some row → Contains rows row) → Contains (predecessors_of some) p
+        → IsName p.name × IfSome p.within IsWithinHours
+    in_records rows good p some all_in (k, lt, is) =
+        let within : k < length some = omega (arith, length-map some predecessor_of) in
         let row : List (List ℕ) = get_or some k [] in
-        let (before, fits) = good_row (FitsKind PREDECESSOR_FIELDS FitsPredecessors) rows (get_or some k []) good
+        let (before, fits) = good_row (FitsKind HasPredecessorFields FitsPredecessors) rows (get_or some k []) good
         (all_in (get_or some k []) (Contains-get_or some k [] within)) in
-        subst IsName (sym (get_or-map (λ (row : Record). field row PREDECESSOR) some k [] name within) ∙ is) fits.fits.0
+        let same : predecessor_of row ≡ p = sym (get_or-map predecessor_of some k [] p within) ∙ is in (
+          subst (λ (q : Predecessor). IsName q.name) same fits.fits.is.named,
+          subst (λ (q : Predecessor). IfSome q.within IsWithinHours) same
+              (limit_value (field row PREDECESSOR_WITHIN) fits.fits.is.within),
+        )
 
 -- the run cycles of an application have their ranges
 pub record CycleRanges (cycle : RunCycle) : Type 0 where
@@ -118,7 +135,7 @@ pub cycle_ranges : (all : Definitions) → AreDefinitions all → (app : List �
 cycle_ranges all are app None is cycle (k, lt, at) = absurd (omega (arith, lt))
 cycle_ranges all are app (Some cycles) is cycle there =
     let (rows, good, some, made) =
-    made_of CYCLE_FIELDS FitsRunCycle AreRunCyclesOf (map.get all.run_cycles) are.run_cycles app cycles is in
+    made_of HasCycleFields FitsRunCycle AreRunCyclesOf (map.get all.run_cycles) are.run_cycles app cycles is in
     let (k, row, within, at, spells) =
     All-contains (λ c. Any (λ r. SpellsRunCycle r c) (records_of app rows)) cycles cycle made.each there in
     record {
@@ -153,7 +170,7 @@ named_ranges all are draft (app, x, named, is) from to =
     let days = limits.0 in let clock = limits.1 in
     let time : cycle.ia ≡ x.time = gives.1.0 in let minute = ranges.ia in
     subst DraftRanges (sym is) (record {
-      app = defined_name APPLICATION_FIELDS FitsApplication IsApplicationOf
+      app = defined_name HasApplicationFields FitsApplication IsApplicationOf
           (map.get all.applications) are.applications app a active.0;
       ia = is_moment _ (omega arith) (omega arith);
       deadline = subst IsMoment (sym due) (is_moment _ (omega arith) (omega arith));

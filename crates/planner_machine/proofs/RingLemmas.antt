@@ -78,7 +78,7 @@ module _ (c : Content) (sound : IsSound c) where
           live = (o.placed, o.stands, open_live o.placed.place o.waits);
           live' = (p, stands', live);
           listed = subst (λ a. Lists c.in_force a (key_at c.sets v).app) app_u
-              (subst (λ a. Lists c.in_force o.placed.row.key.app a) app_v o.listed);
+              (subst (λ a. Lists c.in_force o.placed.row.key.app a) app_v (o.within, o.listed));
           in_time = omega arith;
           before_own = λ one. let less = o.nearest.candidate.before_own (app_v ∙ one ∙ sym app_u) in omega arith;
         })

@@ -4,7 +4,6 @@ use Rattle.std.proofs.Common.{inr, arith, Option, None, Some}
 use Rattle.std.specs.Prelude.{Bool, Contains, if◌then◌else◌, nat_lt}
 use Rattle.std.specs.FinMap as map
 use Rattle.work_calendars.specs.Day.{last_kept_day, first_day}
-use Rattle.work_calendars.specs.Name.{IsName}
 use Rattle.definition_records.specs.Applications.{FitsApplication, IsApplicationOf}
 use Rattle.definition_records.specs.declared.applications.Application.{Application}
 use Rattle.app_definitions.specs.declared.definitions.Definitions.{Definitions}
@@ -29,13 +28,13 @@ use Rattle.planner_machine.specs.Fate.{ModifyFate, Stays, place_after_action, pl
 use Rattle.planner_machine.specs.Fate.{place_after_deletion}
 use Rattle.planner_machine.specs.InForce.{PutsAll, PutsLists, PutsNone, PutsOne}
 use Rattle.planner_machine.specs.Plans.{IsPlannedApp, MakesOfRows, WouldHoldTooMany, WouldLoop}
-use Rattle.planner_machine.specs.Sound.{AreDefinitions, ArrivesIn, HaveSizes, IsRow, IsSound}
+use Rattle.planner_machine.specs.Sound.{AreDefinitions, ArrivesIn, HaveSizes, IsLink, IsRow, IsSound}
 use Rattle.planner_machine.proofs.FollowLemmas.{by_modify}
 use Rattle.planner_machine.proofs.LoopLemmas.{no_loop_from}
 use Rattle.planner_machine.proofs.PlannedLemmas.{within_sizes}
 use Rattle.planner_machine.proofs.RangeLemmas.{DraftRanges, defined_name, is_moment, link_names, named_ranges}
 use Rattle.planner_machine.proofs.SeatLemmas.{not_empty}
-use Rattle.definition_records.specs.declared.columns.TheConstants.{APPLICATION_FIELDS}
+use Rattle.definition_records.specs.FieldCounts.{HasApplicationFields}
 
 -- what the statements on the plans share
 
@@ -48,17 +47,16 @@ plan_of c there = some_bounds c.sets.bounds there
 
 -- lists in force have names, and no loop
 pub links_none : (c : Content) → IsSound c → (after : List Link) → PutsNone c.definitions c.in_force after
-    → (link : Link) → Contains after link → IsName link.app × IsName link.predecessor
+    → (link : Link) → Contains after link → IsLink link
 links_none c sound after puts link there = sound.ranges.links link (subst (λ l. Contains l link) puts there)
 
 pub links_all : (c : Content) → IsSound c → (after : List Link) → PutsAll c.definitions c.in_force after
-    → (link : Link) → Contains after link → IsName link.app × IsName link.predecessor
+    → (link : Link) → Contains after link → IsLink link
 links_all c sound after puts link there =
     link_names c.definitions sound.ranges.definitions link ((puts.exactly link).0 there)
 
 pub links_one : (app : List ℕ) (c : Content) → IsSound c → (after : List Link)
-    → PutsOne app c.definitions c.in_force after → (link : Link) → Contains after link → IsName link.app
-    × IsName link.predecessor
+    → PutsOne app c.definitions c.in_force after → (link : Link) → Contains after link → IsLink link
 links_one app c sound after puts link there = elim ((puts.exactly link).0 there) [
   | inl own ↦ link_names c.definitions sound.ranges.definitions link own.1
   | inr other ↦ sound.ranges.links link other.1
@@ -235,7 +233,7 @@ pub added_ranges : (c : Content) → IsSound c → (key : Key) → IsPlannedApp 
     → midnight first_day ≤ key.ia
     → key.ia < midnight (last_kept_day + 1) → DraftRanges (added key)
 added_ranges c sound key (a, active) low high = record {
-  app = defined_name APPLICATION_FIELDS FitsApplication IsApplicationOf
+  app = defined_name HasApplicationFields FitsApplication IsApplicationOf
       (map.get c.definitions.applications) sound.ranges.definitions.applications key.app a active.0;
   ia = is_moment key.ia low (omega arith);
   deadline = is_moment _ (omega arith) (omega arith);

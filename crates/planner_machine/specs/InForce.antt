@@ -2,14 +2,15 @@
 use Rattle.std.specs.Prelude.{◌≡◌, ◌≢◌, ◌↔◌, ◌⊎◌, ℕ, List, Contains, Some}
 use Rattle.std.specs.FinMap as map
 use Rattle.app_definitions.specs.declared.definitions.Definitions.{Definitions}
+use Rattle.definition_records.specs.declared.predecessors.Predecessor.{Predecessor}
 use Rattle.external_dependencies.specs.Link.{link_cmp}
 use Rattle.external_dependencies.specs.Rising.{IsRising}
 use Rattle.external_dependencies.specs.declared.links.Link.{Link}
 
--- the predecessor stands in the list that is defined for the application
+-- the predecessor stands in the list that is defined for the application, with this limit
 abbrev pub IsDefinedLink : Definitions → Link → Type 0
-IsDefinedLink all link = (names : List (List ℕ)) × (map.get all.predecessors link.app ≡ Some names)
-    × Contains names link.predecessor
+IsDefinedLink all link = (listed : List Predecessor) × (map.get all.predecessors link.app ≡ Some listed)
+    × Contains listed (record { name = link.predecessor; within = link.within })
 
 -- exactly these links, in order
 pub record AreLinks (Is : Link → Type 0) (links : List Link) : Type 0 where

@@ -1,7 +1,7 @@
 -- The pairs after a statement, from those before it.
-use Rattle.std.specs.Prelude.{◌≡◌, ◌⊎◌, ◌↔◌, ℕ, List, Contains}
+use Rattle.std.specs.Prelude.{◌≡◌, ◌⊎◌, ◌↔◌, ℕ, List, Contains, Option}
 use Rattle.occurrences.specs.Place.{IsComplete, IsLive, IsOpen}
-use Rattle.external_dependencies.specs.Link.{Lists}
+use Rattle.external_dependencies.specs.Link.{ListsWithin}
 use Rattle.external_dependencies.specs.Nearest.{IsNearest, arrival_of}
 use Rattle.external_dependencies.specs.Pair.{pair_cmp}
 use Rattle.external_dependencies.specs.Rising.{IsRising}
@@ -18,15 +18,17 @@ pair_of successor predecessor = record { successor = successor; predecessor = pr
 abbrev pub LiveAt : Sets → Arrival → Type 0
 LiveAt s arrival = (serial : ℕ) × (p : PlacedRow) × StandsAt s serial p × IsLive p.place × (arrival_of p.row ≡ arrival)
 
--- the successor is open, and the predecessor is its nearest one in an application of its list
+-- the successor is open, and the predecessor is its nearest one in an application of its list, within the limit that
+-- the list gives
 pub record IsOpenPair (links : List Link) (s : Sets) (pair : Pair) : Type 0 where
   pub placed : PlacedRow
   pub stands : StandsAt s pair.successor placed
   pub waits : IsOpen placed.place
   pub app : List ℕ
-  pub listed : Lists links placed.row.key.app app
+  pub within : Option ℕ
+  pub listed : ListsWithin links placed.row.key.app app within
   pub near : Arrival
-  pub nearest : IsNearest (LiveAt s) placed.row.key app near
+  pub nearest : IsNearest (LiveAt s) placed.row.key app within near
   pub predecessor : near.serial ≡ pair.predecessor
 
 -- the successor is live and no longer open, and had the pair before

@@ -1,9 +1,11 @@
 -- Sound content.
 use Rattle.std.specs.Prelude.{◌≡◌, ◌≢◌, ◌⊎◌, ℕ, ◌+◌, ◌<◌, ◌≤◌, Contains, List, [], Option, Some, None, Result, Ok, Err}
+use Rattle.std.specs.Prelude.{IfSome}
 use Rattle.std.specs.FinMap as map
 use Rattle.work_calendars.specs.Day.{IsDay, last_kept_day}
 use Rattle.work_calendars.specs.Moment.{IsMoment}
 use Rattle.work_calendars.specs.Name.{IsName, IsShort}
+use Rattle.work_calendars.specs.Within.{IsWithinHours}
 use Rattle.definition_records.specs.Applications.{FitsApplication, IsApplicationOf}
 use Rattle.definition_records.specs.ByName.{FitsKind, IsDefinedBy, records_of}
 use Rattle.definition_records.specs.Calendars.{FitsCalendar, IsCalendarOf}
@@ -40,25 +42,25 @@ use Rattle.planner_machine.specs.Content.{Content, Sets, StandsAt, empty_seat, m
 use Rattle.planner_machine.specs.Fate.{IsGenerated}
 use Rattle.planner_machine.specs.Pairs.{ArePairs, IsClosedAt, IsClosedPair, IsCompleteAt}
 use Rattle.planner_machine.specs.Plans.{planned}
-use Rattle.definition_records.specs.declared.columns.TheConstants.{APPLICATION_FIELDS, CALENDAR_FIELDS, PERIOD_FIELDS}
-use Rattle.definition_records.specs.declared.columns.TheConstants.{PREDECESSOR_FIELDS, CYCLE_FIELDS}
+use Rattle.definition_records.specs.FieldCounts.{HasApplicationFields, HasCalendarFields, HasCycleFields}
+use Rattle.definition_records.specs.FieldCounts.{HasPeriodFields, HasPredecessorFields}
 
 -- 1. Ranges and forms
 
 -- each name is defined as some good records about it would define it, or not at all
-abbrev pub AreDefinable : {D : Type 0} → ℕ → (Records → Record → Type 0)
+abbrev pub AreDefinable : {D : Type 0} → (ℕ → Type 0) → (Records → Record → Type 0)
     → (D → Records → Type 0) → (List ℕ → Option D) → Type 0
-AreDefinable fields FitsName IsMadeOf definition_of =
-    (name : List ℕ) → (rows : Records) × AllGood (FitsKind fields FitsName) rows
+AreDefinable HasFields FitsName IsMadeOf definition_of =
+    (name : List ℕ) → (rows : Records) × AllGood (FitsKind HasFields FitsName) rows
     × IsDefinedBy IsMadeOf (definition_of name) (records_of name rows)
 
 -- the definitions are such as data blocks give
 pub record AreDefinitions (all : Definitions) : Type 0 where
-  pub applications : AreDefinable APPLICATION_FIELDS FitsApplication IsApplicationOf (map.get all.applications)
-  pub calendars : AreDefinable CALENDAR_FIELDS FitsCalendar IsCalendarOf (map.get all.calendars)
-  pub periods : AreDefinable PERIOD_FIELDS FitsPeriod IsPeriodOf (map.get all.periods)
-  pub predecessors : AreDefinable PREDECESSOR_FIELDS FitsPredecessors ArePredecessorsOf (map.get all.predecessors)
-  pub run_cycles : AreDefinable CYCLE_FIELDS FitsRunCycle AreRunCyclesOf (map.get all.run_cycles)
+  pub applications : AreDefinable HasApplicationFields FitsApplication IsApplicationOf (map.get all.applications)
+  pub calendars : AreDefinable HasCalendarFields FitsCalendar IsCalendarOf (map.get all.calendars)
+  pub periods : AreDefinable HasPeriodFields FitsPeriod IsPeriodOf (map.get all.periods)
+  pub predecessors : AreDefinable HasPredecessorFields FitsPredecessors ArePredecessorsOf (map.get all.predecessors)
+  pub run_cycles : AreDefinable HasCycleFields FitsRunCycle AreRunCyclesOf (map.get all.run_cycles)
   pub default_calendar : IsName all.options.default_calendar
 
 abbrev pub IsOrigin : Origin → Type 0
@@ -71,11 +73,15 @@ pub record IsRow (row : Row) : Type 0 where
   pub deadline : IsMoment row.deadline
   pub origin : IsOrigin row.origin
 
+-- the names of a link, and its limit where it has one
+abbrev pub IsLink : Link → Type 0
+IsLink link = IsName link.app × IsName link.predecessor × IfSome link.within IsWithinHours
+
 pub record HasRanges (c : Content) : Type 0 where
   pub definitions : AreDefinitions c.definitions
   pub rows : (serial : ℕ) (p : PlacedRow) → StandsAt c.sets serial p → IsRow p.row
   pub days : (b : Bounds) → c.sets.bounds ≡ Some b → IsDay b.first_day × IsDay b.last_day × IsMoment b.plan_end
-  pub links : (link : Link) → Contains c.in_force link → IsName link.app × IsName link.predecessor
+  pub links : (link : Link) → Contains c.in_force link → IsLink link
 
 -- 2. Bounds
 
@@ -153,10 +159,10 @@ pub record HasPairs (c : Content) : Type 0 where
       → Contains c.pairs (record { successor = successor; predecessor = m })
       → Contains c.pairs (record { successor = successor; predecessor = n })
       → StandsAt c.sets m p → StandsAt c.sets n q → p.row.key.app ≡ q.row.key.app → m ≡ n
-  -- which arrives at or before the successor, or before it where it is of the same application
+  -- which arrives at or before the successor, or before it where it is of the same application; no limit is asked for
   pub in_time : (pair : Pair) (p q : PlacedRow) → Contains c.pairs pair → IsClosedAt c.sets pair.successor
       → StandsAt c.sets pair.successor p → StandsAt c.sets pair.predecessor q
-      → IsCandidate p.row.key q.row.key.app (arrival_of q.row)
+      → IsCandidate p.row.key q.row.key.app None (arrival_of q.row)
   -- pairs among what is no longer open have no loop
   pub no_loop : (serial : ℕ) → OnRing (IsClosedPair c.sets c.pairs) serial → ⊥
 

@@ -18,6 +18,8 @@ pub enum Stores {
     Both,
     /// These, and files that stop.
     Stops,
+    /// These, and files that stop in a migration.
+    Migrated,
 }
 
 /// A line of the list.
@@ -40,8 +42,9 @@ pub fn is_remark(line: &str) -> bool {
 }
 
 impl<'a> Listed<'a> {
-    /// Reads `NAME STATUS own` or `NAME STATUS both`, with `lists` behind it where the stream is tried over lists alone, or
-    /// `stops` where it is tried over files that stop as well; `None` where the line is none of these.
+    /// Reads `NAME STATUS own` or `NAME STATUS both`, with `lists` behind it where the stream is tried over lists alone,
+    /// `stops` where it is tried over files that stop as well, or `migrated` where its plan is migrated over such files,
+    /// too; `None` where the line is none of these.
     pub fn from_line(line: &'a str) -> Option<Listed<'a>> {
         let mut words = line.split_whitespace();
         let name = words.next()?;
@@ -55,6 +58,7 @@ impl<'a> Listed<'a> {
             None => Stores::Both,
             Some("lists") => Stores::Lists,
             Some("stops") => Stores::Stops,
+            Some("migrated") => Stores::Migrated,
             Some(_) => return None,
         };
         match words.next() {

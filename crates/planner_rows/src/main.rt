@@ -1,19 +1,24 @@
 //! Tries worked job streams: each is run over lists in memory, and over tables in memory which are let go and taken up
 //! again in its midst. All that it prints, and the exit status, is compared with what its files say; the definitions,
 //! plans and jobs that the tables hold at its end are compared with those of the lists. Some are run over files that stop
-//! at each call in turn, and then again over what a crash left. A line tells of each stream whether it holds.
+//! at each call in turn, and then again over what a crash left; and the plan that some leave, as tables of schema 1, is
+//! migrated over such files. A line tells of each stream whether it holds.
 #![tactic(auto)]
 
 mod definitions;
 mod differences;
+mod disks;
+mod first_tables;
 mod items;
 mod listed;
+mod migrated;
 mod pieces;
 mod stops;
 mod tables;
 mod trials;
 
 use listed::{Listed, Stores};
+use migrated::try_migrations;
 use std::process::ExitCode;
 use std::rt::Files;
 use std::{fs, io};
@@ -59,6 +64,9 @@ fn try_one<R: AllocGlobal + Files + Print>(rt: &R, stream: &Listed<'_>) -> io::R
     };
     match try_stream(alloc, &text, stream, &expected)? {
         None if stream.stores == Stores::Stops => stop_one(rt, name, &text, &replies),
+        None if stream.stores == Stores::Migrated => {
+            Ok(stop_one(rt, name, &text, &replies)? && migrate_one(rt, name, &text, &replies)?)
+        }
         None => {
             println!(rt; "{name} holds")?;
             Ok(true)
@@ -86,6 +94,29 @@ fn stop_one<R: AllocGlobal + Print>(
         }
         Some(part) => {
             println!(rt; "{name} GOES WRONG, over files of which one stops, at stop {tried}")?;
+            println!(rt; "  its {part} is not as it should be")?;
+            Ok(false)
+        }
+    }
+}
+
+/// Migrates the plan that a stream leaves over files that stop at each call, and prints the line that tells whether it
+/// holds.
+fn migrate_one<R: AllocGlobal + Print>(
+    rt: &R,
+    name: &str,
+    text: &[u8],
+    replies: &[u8],
+) -> io::Result<bool> {
+    let stops = try_migrations(rt.alloc(), text, replies)?;
+    let (stayed, went) = (stops.stayed, stops.went);
+    match stops.wrong {
+        None => {
+            println!(rt; "{name} holds, migrated: {stayed} stops left schema 1, {went} the current one")?;
+            Ok(true)
+        }
+        Some(part) => {
+            println!(rt; "{name} GOES WRONG, migrated, after {stayed} stops that left schema 1 and {went} others")?;
             println!(rt; "  its {part} is not as it should be")?;
             Ok(false)
         }

@@ -3,35 +3,14 @@ ghost use Rattle.std.specs.Prelude.{IfOk};
 ghost use Rattle.planner_machine.specs.Sound.{IsSound};
 ghost use Rattle.plan_store.specs.Contents.{content_of};
 
+use crate::disks::{Disks, MOST_CALLS, Stopping, Tables, Wrong, crashed, let_go, new_disks, open_store};
 use crate::items::{Placed, statements_of};
 use crate::tables::{lists_after, unlike};
-use plan_tables::TableStore;
 use planner_cli::{Part, RunFault, Tally, run};
-use sqlite::{Connection, FileStore, Files, Options};
-use sqlite_disk::{Crash, Disk, Fuse, Memory};
 use std::alloc::{AllocError, Global};
-
-/// More calls than a run makes of a file.
-const MOST_CALLS: u64 = 100_000;
 
 /// What is written last where the store failed.
 const DEVICE_LINE: &[u8] = b"fault 41\n";
-
-/// The log and the database file, in memory; one of them stops after some calls.
-type Disks = Files<Fuse<Memory>>;
-
-/// A store over the two files.
-type Tables = TableStore<FileStore<Fuse<Memory>>>;
-
-/// What is not as it should be.
-type Wrong = &'static str;
-
-/// Which of the two files stops.
-#[derive(Clone, Copy, Debug, PartialEq, Eq)]
-enum Stopping {
-    Log,
-    Database,
-}
 
 /// How far a run came.
 #[derive(Clone, Copy, Debug, PartialEq, Eq)]
@@ -48,9 +27,9 @@ enum Reached {
 
 /// A stream that is stopped.
 #[derive(Drop)]
-struct Stream<'a> {
+pub struct Stream<'a> {
     /// Its text.
-    text: &'a [u8],
+    pub text: &'a [u8],
     /// The statements in it.
     statements: Vec<Placed>,
     /// All that one whole run prints.
@@ -66,7 +45,16 @@ pub struct Stops {
     pub wrong: Option<Wrong>,
 }
 
-impl Stream<'_> {
+impl<'a> Stream<'a> {
+    /// A stream that prints these replies.
+    pub fn new(alloc: Global, text: &'a [u8], replies: &'a [u8]) -> Result<Stream<'a>, AllocError> {
+        Ok(Stream {
+            text,
+            statements: statements_of(alloc, text)?,
+            replies,
+        })
+    }
+
     /// The text of the first so many statements, if there are as many.
     fn beginning(&self, count: usize) -> Option<&[u8]> {
         match count.checked_sub(1) {
@@ -76,57 +64,11 @@ impl Stream<'_> {
     }
 }
 
-/// Files that hold nothing, one of which stops after so many calls.
-fn new_disks(alloc: Global, stopping: Stopping, calls: u64) -> Disks {
-    let (log, db) = match stopping {
-        Stopping::Log => (calls, u64::MAX),
-        Stopping::Database => (u64::MAX, calls),
-    };
-    Files {
-        log: Fuse::new(Memory::new(alloc), log),
-        db: Fuse::new(Memory::new(alloc), db),
-    }
-}
-
-/// A store over the files; they come back where they are not opened, or don't get their tables.
-fn open_store(alloc: Global, disks: Disks) -> Result<Tables, Disks>
-    ensures { IfOk result (λ store. IsSound (content_of store.lists)) }
-{
-    if !disks.may_be_used() {
-        return Err(disks);
-    }
-    match Connection::open_files(alloc, disks, Options::new(1)) {
-        Ok(conn) => adopt(alloc, conn),
-        Err((_, left)) => Err(left.into_files()),
-    }
-}
-
-/// A store over the connection; its files come back where it is not adopted.
-fn adopt(alloc: Global, conn: Connection<FileStore<Fuse<Memory>>>) -> Result<Tables, Disks>
-    ensures { IfOk result (λ store. IsSound (content_of store.lists)) }
-{
-    if !conn.is_autocommit() {
-        return Err(conn.into_store().close());
-    }
-    match TableStore::adopt(alloc, conn) {
-        Ok(store) => Ok(store),
-        Err((_, conn)) => Err(conn.into_store().close()),
-    }
-}
-
-/// The files of a store, which is let go.
-fn let_go(store: Tables) -> Disks {
-    store.into_connection().into_store().close()
-}
-
 /// Opens what a crash left of the files.
 fn open_again(alloc: Global, disks: Disks) -> Result<Tables, Wrong>
     ensures { IfOk result (λ store. IsSound (content_of store.lists)) }
 {
-    let mut disks = disks;
-    disks.log.crash();
-    disks.db.crash();
-    match open_store(alloc, disks) {
+    match open_store(alloc, crashed(disks)) {
         Ok(store) => Ok(store),
         Err(_) => Err("opening"),
     }
@@ -197,7 +139,7 @@ fn are_same_answers(stream: &Stream<'_>, written: &[u8]) -> bool {
 }
 
 /// Runs the whole stream over what a first run left.
-fn run_again(alloc: Global, store: &mut Tables, stream: &Stream<'_>) -> Result<(), Wrong>
+pub fn run_again(alloc: Global, store: &mut Tables, stream: &Stream<'_>) -> Result<(), Wrong>
     requires { IsSound (content_of store.old.lists) }
 {
     let mut left = stream.text;
@@ -210,7 +152,7 @@ fn run_again(alloc: Global, store: &mut Tables, stream: &Stream<'_>) -> Result<(
 }
 
 /// What the store has otherwise than a run of the text over lists leaves.
-fn unlike_lists(alloc: Global, store: &Tables, text: &[u8]) -> Result<Option<Wrong>, AllocError> {
+pub fn unlike_lists(alloc: Global, store: &Tables, text: &[u8]) -> Result<Option<Wrong>, AllocError> {
     let lists = lists_after(alloc, text);
     unlike(alloc, store.content(), lists.content())
 }
@@ -248,7 +190,7 @@ fn unlike_reached(
 }
 
 /// Nothing where nothing is otherwise.
-fn as_wanted(unlike: Result<Option<Wrong>, AllocError>) -> Result<(), Wrong> {
+pub fn as_wanted(unlike: Result<Option<Wrong>, AllocError>) -> Result<(), Wrong> {
     match unlike {
         Ok(None) => Ok(()),
         Ok(Some(part)) => Err(part),
@@ -303,11 +245,7 @@ fn try_stops_of(alloc: Global, stream: &Stream<'_>, stopping: Stopping) -> Stops
 /// Runs a stream over files of which one stops at each call in turn, first the log and then the database file. After
 /// each stop a crash loses what was not made safe, the files are opened again, and the whole stream is run again.
 pub fn try_stops(alloc: Global, text: &[u8], replies: &[u8]) -> Result<Stops, AllocError> {
-    let stream = Stream {
-        text,
-        statements: statements_of(alloc, text)?,
-        replies,
-    };
+    let stream = Stream::new(alloc, text, replies)?;
     let in_log = try_stops_of(alloc, &stream, Stopping::Log);
     if in_log.wrong.is_some() {
         return Ok(in_log);

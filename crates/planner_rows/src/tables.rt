@@ -4,6 +4,7 @@ ghost use Rattle.std.specs.Prelude.{◌≡◌, false, IfOk};
 use crate::definitions::unlike_definitions;
 use crate::items::middle_of;
 use crate::trials::Answered;
+use external_dependencies::Links;
 use plan_store::{Content, ListStore};
 use plan_tables::TableStore;
 use planner_cli::{exit_status, run};
@@ -31,6 +32,12 @@ fn are_same_jobs(kept: &Content, wanted: &Content) -> bool {
         })
 }
 
+/// Whether the lists are the same, with their limits, which `==` doesn't look at.
+fn are_same_links(kept: &Links, wanted: &Links) -> bool {
+    kept.as_slice().len() == wanted.as_slice().len()
+        && kept.as_slice().iter().all(|link| wanted.contains(link))
+}
+
 /// The first part of the content beside the definitions that is otherwise than it should be.
 fn unlike_plans(kept: &Content, wanted: &Content) -> Option<&'static str> {
     let parts = [
@@ -38,7 +45,7 @@ fn unlike_plans(kept: &Content, wanted: &Content) -> Option<&'static str> {
         ("serials issued", kept.issued == wanted.issued),
         (
             "lists in force",
-            kept.in_force.as_slice() == wanted.in_force.as_slice(),
+            are_same_links(&kept.in_force, &wanted.in_force),
         ),
         (
             "long-term plan",

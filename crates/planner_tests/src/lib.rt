@@ -6,6 +6,8 @@
 #[cfg(test)]
 mod additions;
 #[cfg(test)]
+mod limits;
+#[cfg(test)]
 mod listings;
 #[cfg(test)]
 mod soundness;

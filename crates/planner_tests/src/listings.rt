@@ -39,7 +39,7 @@ fn rows_of_lists(rt: HostRuntime) -> Result<(), Fail> {
     Ok(())
 }
 
-// No list of a stream has a limit.
+// A limit of each length, and none.
 #[test]
 fn hours_of_a_limit_stand_right(rt: HostRuntime) -> Result<(), Fail> {
     let app = App::from_text("B").ok_or("a name")?;

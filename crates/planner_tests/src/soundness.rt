@@ -23,7 +23,7 @@ fn some_definitions(alloc: Global) -> Result<Definitions, Fail> {
             Kind::RunCycles,
             b"PAY,RC,N,WEEK,E,1 -999 10,2024-01-01,,08.00,99,18.00\nPAY,OFF,X,MON,4,3,2024-01-01,2024-02-01,08.00,,\n",
         ),
-        (Kind::Predecessors, b"PAY,BILL\nPAY,PAY\n"),
+        (Kind::Predecessors, b"PAY,BILL,9999\nPAY,PAY,\n"),
     ];
     for (kind, block) in blocks.iter() {
         all.merge(read_block(alloc, *kind, block).ok().ok_or("a block")?)?;

@@ -9,7 +9,7 @@ fn lacks_key(view: &View<'_>, key: &Key) -> bool {
     view.ltp_row(key).is_none()
         && view.cp_row(key).is_none()
         && view.live_row(key).is_none()
-        && view.nearest(key, &key.app).is_none()
+        && view.nearest(key, &key.app, None).is_none()
         && view.last_arrival(&key.app, key.ia).is_none()
         && !view.is_deleted_by_operator(key)
 }

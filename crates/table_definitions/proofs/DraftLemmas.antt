@@ -1,24 +1,19 @@
 -- What rows of one name have told so far, kind by kind.
 use Rattle.std.proofs.Common.{◌≡◌, ◌⊎◌, inl, inr, ℕ, zero, suc, ◌<◌, List, [], ◌∷◌, Option, Some, None}
-use Rattle.std.proofs.Common.{Bool, true, false, cond, nat_eq, length, get_or, refl, sym, ap, ◌∙◌, subst, arith}
+use Rattle.std.proofs.Common.{cond, nat_eq, length, get_or, refl, sym, ap, ◌∙◌, subst, arith}
 use Rattle.std.specs.Prelude.{slice_get, IsSome}
 use Rattle.std.specs.FinMap as map
 use Rattle.sqlite.specs.Order.{Row as Values, column}
-use Rattle.sqlite.specs.declared.types.Value.TheVariants.{Text}
 use Rattle.definition_records.specs.declared.applications.Application.{Application}
 use Rattle.table_facts.specs.Facts.{application_values}
 use Rattle.table_facts.proofs.Decoded.{nat_in, one_application}
-use Rattle.table_facts.specs.Facts.{IsCalendarRow, IsPredecessorRow, is_work, predecessor_values}
-use Rattle.table_facts.specs.Content.{ByName}
-use Rattle.definition_records.specs.ByName.{AreNamesOf}
-use Rattle.definition_records.proofs.ByNameLemmas.{get-inserted, name_itself, same_name}
-use Rattle.std.specs.Cmp.Lexicographic.{pointwise, slice_cmp}
+use Rattle.table_facts.specs.Facts.{IsCalendarRow, is_work}
 use Rattle.table_facts.specs.Facts.IsCalendarRow.{Weekday, Date}
 use Rattle.std.specs.Cmp.{nat_cmp_total, unsigned_ties}
 use Rattle.std.specs.FinMap.{get-empty, get-insert}
 use Rattle.std.specs.Ordering.{nat_cmp}
 use Rattle.std.proofs.Math.Dec.{eqb}
-use Rattle.std.proofs.lemmas.Bool.{cases_eq, eq-eqb, false≢true, ne_eqb}
+use Rattle.std.proofs.lemmas.Bool.{cases_eq, eq-eqb, ne_eqb}
 use Rattle.std.proofs.lemmas.List.{get_or-set_same, get_or-set_other}
 use Rattle.std.proofs.lemmas.Option.{get_or_from_slice_get}
 use Rattle.sqlite.specs.declared.types.Value.{Value}
@@ -27,7 +22,7 @@ use Rattle.work_calendars.specs.Day.{IsDay}
 use Rattle.work_calendars.specs.declared.statuses.DayStatus.{DayStatus}
 use Rattle.work_calendars.specs.declared.statuses.DayStatus.TheVariants.{Work, Free}
 use Rattle.table_definitions.proofs.AddLemmas.{under_get}
-use Rattle.table_definitions.specs.Drafted.{IsReadApplication, IsReadPredecessor, IsSoundCalendar, TellsEntry}
+use Rattle.table_definitions.specs.Drafted.{IsReadApplication, IsSoundCalendar, TellsEntry}
 use Rattle.table_definitions.specs.Drafted.{calendar_values}
 use Rattle.table_definitions.specs.Gathering.{Alike, Joins, Within}
 
@@ -253,47 +248,6 @@ no_entry name v is = let (k, d, s, it, tells) = entry_of name no_entries v is in
     none_listed (suc (suc (suc (suc (suc zero))))) s e = let h : ⊥ = cc in h
     none_listed (suc (suc (suc (suc (suc (suc zero)))))) s e = let h : ⊥ = cc in h
     none_listed (suc (suc (suc (suc (suc (suc (suc n))))))) s e = let h : ⊥ = cc in h
-
--- ---- predecessors
-
-pub predecessor_joins : (app : List ℕ) (old new : ByName (Unit {0})) (n : List ℕ) (row : Values)
-    → row ≡ predecessor_values app n → new ≡ map.insert old n tt
-    → Joins (IsReadPredecessor app old) row (IsReadPredecessor app new)
-predecessor_joins app old new n row at put v = (
-  λ (m, has, is). elim (pointwise nat_eq n m) as (λ b. pointwise nat_eq n m ≡ b
-      → IsReadPredecessor app old v ⊎ (v ≡ row)) [
-        | true ↦ λ e. inr (is ∙ ap (predecessor_values app) (sym (same_name n m e)) ∙ sym at)
-        | false ↦ λ e. inl (m, subst IsSome (got m ∙ ap (λ b. cond b (Some tt) (map.get old m)) e) has, is)
-      ] refl,
-  λ some. elim some [
-    | inl (m, has, is) ↦ (m, subst IsSome (sym (got m)) (either_some (pointwise nat_eq n m) (map.get old m) has), is)
-    | inr is ↦ (
-      n,
-      subst IsSome (sym (got n ∙ ap (λ b. cond b (Some tt) (map.get old n)) (name_itself n))) refl,
-      is ∙
-          at,
-    )
-  ],
-)
-  where
-    got : (m : List ℕ) → map.get new m ≡ cond (pointwise nat_eq n m) (Some tt) (map.get old m)
-    got m = ap (λ l. map.get l m) put ∙ get-inserted old n tt m
-
-    either_some : (b : Bool) (o : Option (Unit {0})) → IsSome o → IsSome (cond b (Some tt) o)
-    either_some true o has = refl
-    either_some false o has = has
-
-pub no_predecessor : (app : List ℕ) (read : ByName (Unit {0})) (v : Values) → read ≡ map.empty
-    → IsReadPredecessor app read v → ⊥
-no_predecessor app read v empty (name, has, is) = false≢true (subst IsSome (ap (λ m. map.get m name) empty
-    ∙ get-empty (slice_cmp nat_cmp) name) has)
-
-pub predecessors_alike : (app : List ℕ) (read : ByName (Unit {0})) (names : List (List ℕ)) → AreNamesOf names read
-    → Alike (IsPredecessorRow app names) (IsReadPredecessor app read)
-predecessors_alike app read names are v = (
-  λ (name, has, is). (name, (are.exactly name).0 has, is),
-  λ (name, some, is). (name, (are.exactly name).1 some, is),
-)
 
 -- the entry of a sound calendar is in its week, or a day
 pub entry_in_range : (name : List ℕ) (c : CalendarEntries) (kind day : ℕ) (status : DayStatus)

@@ -5,6 +5,7 @@ pub mod TellLemmas
 pub mod StoredLemmas
 pub mod GatherLemmas
 pub mod DraftLemmas
+pub mod PredecessorLemmas
 pub mod PlaceLemmas
 pub mod PeriodLemmas
 pub mod CycleLemmas

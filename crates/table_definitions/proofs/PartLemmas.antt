@@ -14,6 +14,7 @@ use Rattle.work_calendars.specs.declared.statuses.DayStatus.{DayStatus}
 use Rattle.plan_periods.specs.Period.{Entry}
 use Rattle.plan_periods.specs.declared.periods.Period.TheVariants.{Listed}
 use Rattle.run_cycles.specs.declared.cycles.RunCycle.{RunCycle}
+use Rattle.definition_records.specs.declared.predecessors.Predecessor.{Predecessor}
 use Rattle.table_facts.specs.Facts.{IsCalendarRow, IsCycleRow, IsOffsetRow, IsPeriodRow, IsPredecessorRow}
 use Rattle.table_facts.specs.Facts.IsCalendarRow.{Weekday, Date}
 use Rattle.table_definitions.specs.Adding.{Adds, IsOfPlace, IsUpTo}
@@ -21,10 +22,10 @@ use Rattle.table_definitions.specs.Parts.{IsDateRow, IsLinkRow, IsListedRow, IsO
 use Rattle.table_definitions.specs.Parts.{IsWeekdayRow}
 use Rattle.table_definitions.proofs.AddLemmas.{adds_as, adds_both, of_list, of_places, under_get}
 
-pub predecessors_added : (app : List ℕ) (names : List (List ℕ)) (a b : List Values)
-    → Adds (IsOfPlace (λ _. IsLinkRow app) names (length names)) a b → Adds (IsPredecessorRow app names) a b
-predecessors_added app names a b = adds_as (IsOfPlace (λ _. IsLinkRow app) names (length names))
-    (IsPredecessorRow app names) a b (of_list (IsLinkRow app) names)
+pub predecessors_added : (app : List ℕ) (listed : List Predecessor) (a b : List Values)
+    → Adds (IsOfPlace (λ _. IsLinkRow app) listed (length listed)) a b → Adds (IsPredecessorRow app listed) a b
+predecessors_added app listed a b = adds_as (IsOfPlace (λ _. IsLinkRow app) listed (length listed))
+    (IsPredecessorRow app listed) a b (of_list (IsLinkRow app) listed)
 
 pub listed_added : (name : List ℕ) (entries : List Entry) (a b : List Values)
     → Adds (IsOfPlace (IsListedRow name) entries (length entries)) a b → Adds (IsPeriodRow name (Listed entries)) a b

@@ -16,6 +16,7 @@ use Rattle.run_cycles.specs.declared.cycles.CycleType.{CycleType}
 use Rattle.run_cycles.specs.declared.cycles.CycleType.TheVariants.{Normal, Negative}
 use Rattle.run_cycles.specs.declared.cycles.RunCycle.{RunCycle}
 use Rattle.definition_records.specs.declared.applications.Application.{Application}
+use Rattle.definition_records.specs.declared.predecessors.Predecessor.{Predecessor}
 use Rattle.table_schema.specs.declared.tables.Table.TheVariants as table
 use Rattle.table_facts.specs.Content.{ByName, IsApplicationRow, IsOfSome}
 use Rattle.table_facts.specs.Facts.{IsCalendarRow, IsCycleRow, IsOffsetRow, IsPeriodRow, IsPredecessorRow}
@@ -73,8 +74,10 @@ cycle_storable app name period (Negative (Some deadline)) cycle (Some day) =
 offset_storable : (app name : List ℕ) (place : ℕ) (k : ℤ) → IsStorable table.Offset (offset_values app name place k)
 offset_storable app name place k = record { kinds = simp (cast-Int, cast-Null); bound = refl }
 
-link_storable : (app name : List ℕ) → IsStorable table.Predecessor (predecessor_values app name)
-link_storable app name = record { kinds = simp cast-Null; bound = refl }
+link_storable : (app name : List ℕ) (within : Option ℕ)
+    → IsStorable table.Predecessor (predecessor_values app (record { name = name; within = within }))
+link_storable app name None = record { kinds = simp cast-Null; bound = refl }
+link_storable app name (Some hours) = record { kinds = simp (cast-Int, cast-Null); bound = refl }
 
 -- ---- of all definitions
 
@@ -112,7 +115,7 @@ pub offsets_storable : (all : ByName (List RunCycle)) (v : Values) → IsOfSome 
 offsets_storable all v (app, cycles, got, (cycle, has, place, k, at, is)) =
     subst (IsStorable table.Offset) (sym is) (offset_storable app cycle.name place k)
 
-pub predecessors_storable : (all : ByName (List (List ℕ))) (v : Values) → IsOfSome IsPredecessorRow all v
+pub predecessors_storable : (all : ByName (List Predecessor)) (v : Values) → IsOfSome IsPredecessorRow all v
     → IsStorable table.Predecessor v
-predecessors_storable all v (app, names, got, (name, has, is)) =
-    subst (IsStorable table.Predecessor) (sym is) (link_storable app name)
+predecessors_storable all v (app, listed, got, (p, has, is)) =
+    subst (IsStorable table.Predecessor) (sym is) (link_storable app p.name p.within)

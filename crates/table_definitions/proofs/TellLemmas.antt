@@ -10,6 +10,7 @@ use Rattle.plan_periods.specs.declared.periods.Period.{Period}
 use Rattle.plan_periods.specs.declared.periods.Period.TheVariants as period
 use Rattle.definition_records.specs.ByName.{AreNamesOf}
 use Rattle.definition_records.specs.Rising.{AreRising}
+use Rattle.definition_records.specs.declared.predecessors.Predecessor.{Predecessor}
 use Rattle.table_facts.specs.Content.{AreEach, ByName, HasEntry, IsTold}
 use Rattle.table_facts.specs.Facts.{IsCalendarRow, IsPeriodRow, IsPredecessorRow}
 use Rattle.table_facts.specs.Facts.IsCalendarRow.{Weekday, Date}
@@ -71,7 +72,7 @@ period_told name (period.Listed origins) v (place, entry, at, is) = λ none. non
 none_within : {X : Type 0} (xs : List X) (x : X) → Contains xs x → xs ≢ []
 none_within xs x has none = let (k, under, at) = subst (λ l. Contains l x) none has in absurd (omega (arith, under))
 
-pub predecessors_told : (app : List ℕ) (names : List (List ℕ)) (v : Values) → AreRising (λ name. name) names
-    → IsPredecessorRow app names v → ArePredecessors names
-predecessors_told app names v rising (name, has, is) =
-    record { rising = rising; some = none_within names name has }
+pub predecessors_told : (app : List ℕ) (listed : List Predecessor) (v : Values)
+    → AreRising (λ (p : Predecessor). p.name) listed → IsPredecessorRow app listed v → ArePredecessors listed
+predecessors_told app listed v rising (p, has, is) =
+    record { rising = rising; some = none_within listed p has }

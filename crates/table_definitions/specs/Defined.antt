@@ -1,6 +1,6 @@
 -- Definitions as the program has them.
 use Rattle.app_definitions.specs.declared.definitions.Definitions.{Definitions}
-use Rattle.table_definitions.specs.Drafted.{ArePredecessorNames, IsSoundApplication, IsSoundCalendar}
+use Rattle.table_definitions.specs.Drafted.{AreSoundPredecessors, IsSoundApplication, IsSoundCalendar}
 use Rattle.table_definitions.specs.DraftedPeriods.{IsSoundPeriodOfDays}
 use Rattle.table_definitions.specs.Gathering.{AreSound}
 use Rattle.table_definitions.specs.WholeCycles.{AreSoundCycles}
@@ -11,4 +11,4 @@ pub record AreSoundDefinitions (all : Definitions) : Type 0 where
   pub calendars : AreSound IsSoundCalendar all.calendars
   pub periods : AreSound IsSoundPeriodOfDays all.periods
   pub run_cycles : AreSound AreSoundCycles all.run_cycles
-  pub predecessors : AreSound ArePredecessorNames all.predecessors
+  pub predecessors : AreSound AreSoundPredecessors all.predecessors

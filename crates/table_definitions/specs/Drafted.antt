@@ -1,5 +1,5 @@
 -- What rows of one name have told so far, kind by kind, and definitions that rows can tell.
-use Rattle.std.specs.Prelude.{◌≡◌, ◌⊎◌, ℕ, List, [], ◌∷◌, Option, Some, None, length, Contains, IfSome, IsSome}
+use Rattle.std.specs.Prelude.{◌≡◌, ◌⊎◌, ℕ, List, [], ◌∷◌, Option, Some, None, length, Contains, IfSome}
 use Rattle.std.specs.FinMap as map
 use Rattle.std.specs.List.{slice_index_or}
 use Rattle.std.proofs.Common.{ap}
@@ -8,8 +8,11 @@ use Rattle.sqlite.specs.declared.types.Value.TheVariants.{Text}
 use Rattle.work_calendars.specs.Calendar.{CalendarEntries}
 use Rattle.work_calendars.specs.Day.{IsDay}
 use Rattle.work_calendars.specs.Name.{IsName}
+use Rattle.work_calendars.specs.Within.{IsWithinHours}
 use Rattle.work_calendars.specs.declared.statuses.DayStatus.{DayStatus}
+use Rattle.definition_records.specs.Rising.{AreRising}
 use Rattle.definition_records.specs.declared.applications.Application.{Application}
+use Rattle.definition_records.specs.declared.predecessors.Predecessor.{Predecessor}
 use Rattle.table_facts.specs.Content.{ByName}
 use Rattle.table_facts.specs.Facts.{IsCalendarRow, IsPredecessorRow, application_values, is_work, natural}
 use Rattle.table_facts.specs.Facts.{predecessor_values}
@@ -52,18 +55,33 @@ pub record IsSoundCalendar (name : List ℕ) (c : CalendarEntries) : Type 0 wher
 
 -- ---- predecessors
 
-abbrev pub IsReadPredecessor : List ℕ → ByName (Unit {0}) → Values → Type 0
-IsReadPredecessor app names values =
-    (name : List ℕ) × IsSome (map.get names name) × (values ≡ predecessor_values app name)
+-- a row of a predecessor that was read with this limit, or with none
+abbrev pub IsReadPredecessor : List ℕ → ByName (Option ℕ) → Values → Type 0
+IsReadPredecessor app limits values =
+    (p : Predecessor) × (map.get limits p.name ≡ Some p.within) × (values ≡ predecessor_values app p)
 
--- they are names
-abbrev pub ArePredecessorNames : List ℕ → List (List ℕ) → Type 0
-ArePredecessorNames app names = (name : List ℕ) → Contains names name → IsName name
+abbrev pub limit_in : Option (Option ℕ) → Option ℕ
+limit_in None = None
+limit_in (Some within) = within
 
-pub predecessors_named : (app : List ℕ) (names : List (List ℕ)) (v : Values) → IsPredecessorRow app names v
+-- the predecessor of this name, with the limit that was read with it
+abbrev pub predecessor_of : ByName (Option ℕ) → List ℕ → Predecessor
+predecessor_of limits name = record { name = name; within = limit_in (map.get limits name) }
+
+-- its name is a name, and its limit is of 1 to 9999 hours
+pub record IsSoundPredecessor (p : Predecessor) : Type 0 where
+  pub name : IsName p.name
+  pub within : IfSome p.within IsWithinHours
+
+-- such are the predecessors of each application, in byte order of their names, each once
+pub record AreSoundPredecessors (app : List ℕ) (listed : List Predecessor) : Type 0 where
+  pub rising : AreRising (λ (p : Predecessor). p.name) listed
+  pub each : (p : Predecessor) → Contains listed p → IsSoundPredecessor p
+
+pub predecessors_named : (app : List ℕ) (listed : List Predecessor) (v : Values) → IsPredecessorRow app listed v
     → column v 0 ≡ Text app
-predecessors_named app names v (name, has, is) = ap (λ (r : Values). column r 0) is
+predecessors_named app listed v (p, has, is) = ap (λ (r : Values). column r 0) is
 
-pub read_predecessor_named : (app : List ℕ) (names : ByName (Unit {0})) (v : Values) → IsReadPredecessor app names v
+pub read_predecessor_named : (app : List ℕ) (limits : ByName (Option ℕ)) (v : Values) → IsReadPredecessor app limits v
     → column v 0 ≡ Text app
-read_predecessor_named app names v (name, has, is) = ap (λ (r : Values). column r 0) is
+read_predecessor_named app limits v (p, got, is) = ap (λ (r : Values). column r 0) is

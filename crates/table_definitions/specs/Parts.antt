@@ -8,6 +8,7 @@ use Rattle.work_calendars.specs.Calendar.{CalendarEntries}
 use Rattle.work_calendars.specs.declared.statuses.DayStatus.{DayStatus}
 use Rattle.plan_periods.specs.Period.{Entry}
 use Rattle.run_cycles.specs.declared.cycles.RunCycle.{RunCycle}
+use Rattle.definition_records.specs.declared.predecessors.Predecessor.{Predecessor}
 use Rattle.table_facts.specs.Facts.{cycle_values, entry_values, is_work, natural, offset_values, predecessor_values}
 
 -- what a calendar lists for this weekday, if it lists it
@@ -38,5 +39,5 @@ IsOffsetOf app cycle values = (place : ℕ) × (k : ℤ) × (slice_get cycle.off
     × IsOffsetAt app cycle.name place k values
 
 -- one predecessor of an application
-abbrev pub IsLinkRow : List ℕ → List ℕ → Values → Type 0
-IsLinkRow app name values = values ≡ predecessor_values app name
+abbrev pub IsLinkRow : List ℕ → Predecessor → Values → Type 0
+IsLinkRow app p values = values ≡ predecessor_values app p

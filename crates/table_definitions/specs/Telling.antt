@@ -2,6 +2,7 @@
 use Rattle.std.specs.Prelude.{◌≡◌, ℕ, List, Some, ⊤}
 use Rattle.std.specs.FinMap as map
 use Rattle.run_cycles.specs.declared.cycles.RunCycle.{RunCycle}
+use Rattle.definition_records.specs.declared.predecessors.Predecessor.{Predecessor}
 use Rattle.app_definitions.specs.declared.definitions.Definitions.{Definitions}
 use Rattle.app_definitions.specs.declared.kinds.Block.{Block}
 use Rattle.app_definitions.specs.declared.kinds.Block.TheVariants as block
@@ -10,8 +11,8 @@ use Rattle.table_facts.specs.Content.{AreEach, ByName, HasEntry, IsNamed, IsTold
 abbrev pub AreCycles : List RunCycle → Type 0
 AreCycles = IsNamed (λ (cycle : RunCycle). cycle.name)
 
-abbrev pub ArePredecessors : List (List ℕ) → Type 0
-ArePredecessors = IsNamed (λ name. name)
+abbrev pub ArePredecessors : List Predecessor → Type 0
+ArePredecessors = IsNamed (λ (p : Predecessor). p.name)
 
 -- each definition has a row at least; weeks have seven days, and lists are in byte order of their names
 pub record AreTellable (all : Definitions) : Type 0 where

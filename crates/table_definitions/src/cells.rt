@@ -8,7 +8,7 @@ ghost use Rattle.table_facts.specs.Facts.{flag, is_work, natural, or_null};
 use sqlite::types::ValueRef;
 use sqlite_value::row::Row;
 use std::alloc::{AllocError, Global};
-use work_calendars::{Day, DayStatus, Name};
+use work_calendars::{Day, DayStatus, Name, Within};
 
 /// A row of these values.
 pub(crate) fn row_of(alloc: Global, values: &[ValueRef<'_>]) -> Result<Row, AllocError>
@@ -44,6 +44,16 @@ pub(crate) fn optional_day(day: &Option<Day>) -> ValueRef<'static>
 {
     match day {
         Some(day) => number(day.number()),
+        None => ValueRef::Null,
+    }
+}
+
+/// The hours of the limit, or NULL where there is none.
+pub(crate) fn optional_limit(within: &Option<Within>) -> ValueRef<'static>
+    ensures { owned result ≡ or_null (option_map natural within.now) }
+{
+    match within {
+        Some(within) => number(within.hours()),
         None => ValueRef::Null,
     }
 }

@@ -7,12 +7,13 @@ ghost use Rattle.sqlite.specs.declared.types.Value.TheVariants.{Int, Null, Text}
 ghost use Rattle.work_calendars.specs.Day.{IsDay};
 ghost use Rattle.work_calendars.specs.Minute.{IsMinute};
 ghost use Rattle.work_calendars.specs.Name.{IsName, IsNameWithin};
+ghost use Rattle.work_calendars.specs.Within.{IsWithinHours};
 ghost use Rattle.work_calendars.specs.declared.statuses.DayStatus.{DayStatus as Status};
 ghost use Rattle.table_facts.specs.Facts.{flag, is_work, natural, or_null};
 
 use sqlite::types::ValueRef;
 use sqlite_value::row::Row;
-use work_calendars::{Day, DayStatus, Minute, Name, NameWithin};
+use work_calendars::{Day, DayStatus, Minute, Name, NameWithin, Within};
 
 // The name that these bytes spell.
 fn name_of<const LONGEST: usize>(bytes: &[u8]) -> Option<NameWithin<LONGEST>>
@@ -84,6 +85,15 @@ pub(crate) fn minute_at(row: &Row, at: usize) -> Option<Minute>
     Minute::from_number(number_at(row, at)?)
 }
 
+/// The limit of the hours in the column.
+fn limit_at(row: &Row, at: usize) -> Option<Within>
+    ensures value { IfSome result (λ hours. column row.now at ≡ natural hours) }
+    ensures found { (hours : ℕ) → IsWithinHours hours → column row.now at ≡ natural hours
+        → result ≡ Some hours }
+{
+    Within::from_hours(number_at(row, at)?)
+}
+
 /// Whether the column says yes.
 pub(crate) fn flag_at(row: &Row, at: usize) -> Option<bool>
     ensures value { IfSome result (λ yes. column row.now at ≡ flag yes) }
@@ -143,6 +153,22 @@ pub(crate) fn optional_day_at(row: &Row, at: usize) -> Option<Option<Day>>
     }
     match day_at(row, at) {
         Some(day) => Some(Some(day)),
+        None => None,
+    }
+}
+
+/// The limit of the hours in the column, or no limit where it has NULL.
+pub(crate) fn optional_limit_at(row: &Row, at: usize) -> Option<Option<Within>>
+    ensures value { IfSome result (λ hours. column row.now at ≡ or_null (option_map natural hours)) }
+    ensures found { (hours : Option ℕ) → IfSome hours IsWithinHours
+        → column row.now at ≡ or_null (option_map natural hours)
+        → result ≡ Some hours }
+{
+    if is_null_at(row, at) {
+        return Some(None);
+    }
+    match limit_at(row, at) {
+        Some(within) => Some(Some(within)),
         None => None,
     }
 }

@@ -1,39 +1,42 @@
 // Rows of predecessors.
 
-ghost use Rattle.std.specs.Prelude.{◌≡◌, ◌↔◌, length, IfOk, IfSome, OnOk, ℕ, List, IsSome};
+ghost use Rattle.std.specs.Prelude.{◌≡◌, ◌↔◌, length, map, IfOk, IfSome, OnOk, ℕ, List, IsSome, IsTrue};
+ghost use Rattle.std.specs.FinMap as maps;
 ghost use Rattle.sqlite.specs.declared.types.Value.TheVariants.{Text};
 ghost use Rattle.table_facts.specs.Facts.{IsPredecessorRow, predecessor_values};
 ghost use Rattle.table_definitions.specs.Adding.{Adds, IsOfPlace};
 ghost use Rattle.table_definitions.specs.Parts.{IsLinkRow};
 ghost use Rattle.sqlite.specs.Order.{column};
 ghost use Rattle.work_calendars.specs.Name.{IsName};
+ghost use Rattle.work_calendars.specs.Within.{IsWithinHours};
+ghost use Rattle.definition_records.specs.declared.predecessors.Predecessor.{Predecessor as PredecessorValue};
 ghost use Rattle.table_facts.specs.Content.{AreEach, ByName as Defined};
-ghost use Rattle.table_definitions.specs.Drafted.{ArePredecessorNames, IsReadPredecessor, predecessors_named};
-ghost use Rattle.table_definitions.specs.Drafted.{read_predecessor_named};
+ghost use Rattle.table_definitions.specs.Drafted.{AreSoundPredecessors, IsReadPredecessor, predecessor_of};
+ghost use Rattle.table_definitions.specs.Drafted.{predecessors_named, read_predecessor_named};
 ghost use Rattle.table_definitions.specs.Gathering.{AreSound};
 ghost use Rattle.table_definitions.specs.Storing.{AreRowsOf};
 ghost use Rattle.table_definitions.specs.Telling.{ArePredecessors};
 
-use crate::cells::{optional_number, row_of};
-use crate::columns::{is_null_at, name_at};
+use crate::cells::{optional_limit, row_of};
+use crate::columns::{name_at, optional_limit_at};
 use crate::encoding::{Encoding, rows_of};
 use crate::gathering::{Draft, gathered};
-use app_definitions::{ByName, Predecessors};
+use app_definitions::{ByName, Predecessor, Predecessors};
 use sqlite::types::ValueRef;
 use sqlite_value::row::Row;
 use std::alloc::{AllocError, Global};
-use work_calendars::Name;
+use work_calendars::{Name, Within};
 
 // The row of one predecessor of an application.
-fn link_row(alloc: Global, app: &Name, name: &Name) -> Result<Row, AllocError>
-    ensures { IfOk result (λ row. row ≡ predecessor_values app.now name.now) }
+fn link_row(alloc: Global, app: &Name, predecessor: &Predecessor) -> Result<Row, AllocError>
+    ensures { IfOk result (λ row. row ≡ predecessor_values app.now predecessor.now) }
 {
     row_of(
         alloc,
         &[
             ValueRef::Text(app.as_bytes()),
-            ValueRef::Text(name.as_bytes()),
-            optional_number(None),
+            ValueRef::Text(predecessor.name.as_bytes()),
+            optional_limit(&predecessor.within),
         ],
     )
 }
@@ -43,13 +46,13 @@ fn push_links(
     alloc: Global,
     rows: &mut Vec<Row>,
     app: &Name,
-    names: &[Name],
+    listed: &[Predecessor],
 ) -> Result<(), AllocError>
-    ensures { OnOk result (Adds (IsOfPlace (λ _. IsLinkRow app.now) names.now (length names.now))
+    ensures { OnOk result (Adds (IsOfPlace (λ _. IsLinkRow app.now) listed.now (length listed.now))
         rows.old.items rows.new.items) }
 {
-    for name in names {
-        let row = link_row(alloc, app, name)?;
+    for predecessor in listed {
+        let row = link_row(alloc, app, predecessor)?;
         rows.push(row)?;
     }
     Ok(())
@@ -82,23 +85,72 @@ pub fn predecessor_rows(
     rows_of::<PredecessorRows>(alloc, predecessors)
 }
 
-// The predecessor that a row of this application tells, which has no limit.
-fn predecessor_at(row: &Row, app: &Name) -> Option<Name>
+// The predecessor that a row of this application tells, with its limit.
+fn predecessor_at(row: &Row, app: &Name) -> Option<Predecessor>
     requires { column row.now 0 ≡ Text app.now }
-    ensures value { IfSome result (λ name. row.now ≡ predecessor_values app.now name) }
-    ensures found { (name : List ℕ) → IsName name → row.now ≡ predecessor_values app.now name
-        → result ≡ Some name }
+    ensures value { IfSome result (λ p. row.now ≡ predecessor_values app.now p) }
+    ensures found { (p : PredecessorValue) → IsName p.name → IfSome p.within IsWithinHours
+        → row.now ≡ predecessor_values app.now p
+        → result ≡ Some p }
 {
-    if row.len() != 3 || !is_null_at(row, 2) {
+    if row.len() != 3 {
         return None;
     }
-    name_at(row, 1)
+    let name = name_at(row, 1)?;
+    let within = optional_limit_at(row, 2)?;
+    Some(Predecessor { name, within })
 }
 
-// The predecessors that the rows told.
+// Whether both are the same limit, or both are none.
+fn is_same_limit(within: Option<Within>, other: Option<Within>) -> bool
+    ensures { IsTrue result ↔ (within ≡ other) }
+{
+    match (within, other) {
+        (Some(within), Some(other)) => within.hours() == other.hours(),
+        (None, None) => true,
+        _ => false,
+    }
+}
+
+// The limit, or the lack of one, that was read with the name, or none where the name was not read.
+fn limit_of(limits: &ByName<Option<Within>>, name: &Name) -> Option<Option<Within>>
+    ensures { result ≡ maps.get limits.now name.now }
+{
+    limits.get(name).copied()
+}
+
+// The predecessor of this name, with the limit that was read with it.
+fn predecessor_of(limits: &ByName<Option<Within>>, name: &Name) -> Predecessor
+    ensures { result ≡ predecessor_of limits.now name.now }
+{
+    let within = match limit_of(limits, name) {
+        Some(within) => within,
+        None => None,
+    };
+    Predecessor {
+        name: *name,
+        within,
+    }
+}
+
+// The predecessors of these names.
+fn predecessors_of(
+    alloc: Global,
+    limits: &ByName<Option<Within>>,
+    names: &[Name],
+) -> Result<Vec<Predecessor>, AllocError>
+    ensures { IfOk result (λ listed. listed.items ≡ map (predecessor_of limits.now) names.now) }
+{
+    names
+        .iter()
+        .map(|name| predecessor_of(limits, name))
+        .collect(alloc)
+}
+
+// The predecessors that the rows told: of each name its limit.
 #[derive(Drop)]
 struct PredecessorDraft {
-    names: ByName<()>,
+    limits: ByName<Option<Within>>,
 }
 
 impl Draft for PredecessorDraft {
@@ -106,15 +158,15 @@ impl Draft for PredecessorDraft {
 
     ghost IsRow = { IsPredecessorRow };
 
-    ghost IsSound = { ArePredecessorNames };
+    ghost IsSound = { AreSoundPredecessors };
 
     ghost IsTold = { ArePredecessors };
 
-    ghost IsRead = { λ name x. IsReadPredecessor name x.names };
+    ghost IsRead = { λ name x. IsReadPredecessor name x.limits };
 
     fn begin(alloc: Global) -> PredecessorDraft {
         PredecessorDraft {
-            names: ByName::new(alloc),
+            limits: ByName::new(alloc),
         }
     }
 
@@ -122,18 +174,24 @@ impl Draft for PredecessorDraft {
         let Some(read) = predecessor_at(row, name) else {
             return Ok(false);
         };
-        self.names.insert(read, ())?;
-        Ok(true)
+        match limit_of(&self.limits, &read.name) {
+            Some(within) => Ok(is_same_limit(within, read.within)),
+            None => {
+                self.limits.insert(read.name, read.within)?;
+                Ok(true)
+            }
+        }
     }
 
     fn finish(&self, alloc: Global, _name: &Name) -> Result<Option<Predecessors>, AllocError> {
-        let names = self.names.names(alloc)?;
-        Ok(Predecessors::from_vec(names))
+        let names = self.limits.names(alloc)?;
+        let listed = predecessors_of(alloc, &self.limits, &names)?;
+        Ok(Predecessors::from_vec(listed))
     }
 
     ghost named = { predecessors_named };
 
-    ghost read_named = { λ name x v is. read_predecessor_named name x.names v is };
+    ghost read_named = { λ name x v is. read_predecessor_named name x.limits v is };
 }
 
 /// The lists of predecessors that have exactly these rows, or none where no sound ones have.
@@ -143,8 +201,8 @@ pub(crate) fn read_predecessors(
 ) -> Result<Option<ByName<Predecessors>>, AllocError>
     ensures made { IfOk result (λ found. IfSome found (AreRowsOf IsPredecessorRow rows.now)) }
     ensures told { IfOk result (λ found. IfSome found (AreEach ArePredecessors)) }
-    ensures found { IfOk result (λ found. (all : Defined (List (List ℕ)))
-        → AreSound ArePredecessorNames all
+    ensures found { IfOk result (λ found. (all : Defined (List PredecessorValue))
+        → AreSound AreSoundPredecessors all
         → AreRowsOf IsPredecessorRow rows.now all → IsSome found) }
 {
     gathered::<PredecessorDraft>(alloc, rows)

@@ -3,12 +3,13 @@
 ghost use Rattle.std.specs.Prelude.{◌≡◌, ℕ, List, IfOk, IfSome, IsSome};
 ghost use Rattle.work_calendars.specs.Calendar.{CalendarEntries};
 ghost use Rattle.definition_records.specs.declared.applications.Application.{Application as ApplicationValue};
+ghost use Rattle.definition_records.specs.declared.predecessors.Predecessor.{Predecessor as PredecessorValue};
 ghost use Rattle.app_definitions.specs.declared.definitions.Definitions.{Definitions as DefinitionsValue};
 ghost use Rattle.run_cycles.specs.declared.cycles.RunCycle.{RunCycle as RunCycleValue};
 ghost use Rattle.table_definitions.specs.Storing.{AreRowsOf, HaveRows};
 ghost use Rattle.table_facts.specs.Content.{AreEach, ByName as Defined, HasEntry, IsApplicationRow, IsTold};
 ghost use Rattle.table_definitions.specs.Defined.{AreSoundDefinitions};
-ghost use Rattle.table_definitions.specs.Drafted.{ArePredecessorNames, IsSoundApplication, IsSoundCalendar};
+ghost use Rattle.table_definitions.specs.Drafted.{AreSoundPredecessors, IsSoundApplication, IsSoundCalendar};
 ghost use Rattle.table_definitions.specs.DraftedPeriods.{IsSoundPeriodOfDays};
 ghost use Rattle.table_definitions.specs.Gathering.{AreSound};
 ghost use Rattle.table_definitions.specs.Telling.{AreCycles, ArePredecessors};
@@ -97,8 +98,8 @@ pub fn predecessors_of_rows(
 ) -> Result<Option<ByName<Predecessors>>, AllocError>
     ensures made { IfOk result (λ found. IfSome found (AreRowsOf IsPredecessorRow shown.now)) }
     ensures told { IfOk result (λ found. IfSome found (AreEach ArePredecessors)) }
-    ensures found { IfOk result (λ found. (all : Defined (List (List ℕ)))
-        → AreSound ArePredecessorNames all
+    ensures found { IfOk result (λ found. (all : Defined (List PredecessorValue))
+        → AreSound AreSoundPredecessors all
         → AreRowsOf IsPredecessorRow shown.now all → IsSome found) }
 {
     let rows = copied_rows(alloc, shown)?;
@@ -170,8 +171,8 @@ fn listed_of_rows(alloc: Global, stored: &StoredRows) -> Result<Option<Listed>, 
     ensures told { IfOk result (λ found. IfSome found (λ listed.
         AreEach ArePredecessors listed.predecessors)) }
     ensures found { IfOk result (λ found. (applications : Defined ApplicationValue)
-        (predecessors : Defined (List (List ℕ)))
-        → AreSound IsSoundApplication applications → AreSound ArePredecessorNames predecessors
+        (predecessors : Defined (List PredecessorValue))
+        → AreSound IsSoundApplication applications → AreSound AreSoundPredecessors predecessors
         → AreRowsOf IsApplicationRow stored.now.applications.items applications
         → AreRowsOf IsPredecessorRow stored.now.predecessors.items predecessors → IsSome found) }
 {

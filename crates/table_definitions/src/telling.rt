@@ -59,10 +59,10 @@ impl Told for RunCycles {
     }
 }
 
-fn are_predecessors(names: &Predecessors) -> bool
-    ensures { IsTrue result ↔ ArePredecessors names.now }
+fn are_predecessors(listed: &Predecessors) -> bool
+    ensures { IsTrue result ↔ ArePredecessors listed.now }
 {
-    !names.as_slice().is_empty()
+    !listed.as_slice().is_empty()
 }
 
 impl Told for Predecessors {

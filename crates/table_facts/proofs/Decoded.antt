@@ -135,12 +135,22 @@ one_pair a b e = ap (λ (v : Values). let p : Pair = record {
       (column v 1);
 } in p) e
 
-pub one_link : (a b : Link) → link_values a ≡ link_values b → a ≡ b
-one_link a b e = ap (λ (v : Values). let l : Link = record {
+pub nat_back : (o : Option ℕ) → or_nat (or_null (option_map natural o)) ≡ o
+nat_back None = refl
+nat_back (Some t) = refl
+
+abbrev link_of : Values → Link
+link_of v = record {
   app = text_in (column v 0);
-  predecessor = text_in
-      (column v 1);
-} in l) e
+  predecessor = text_in (column v 1);
+  within = or_nat (column v 2);
+}
+
+link_back : (link : Link) → link_of (link_values link) ≡ link
+link_back link = λ i. record link { within = nat_back link.within i }
+
+pub one_link : (a b : Link) → link_values a ≡ link_values b → a ≡ b
+one_link a b e = sym (link_back a) ∙ ap link_of e ∙ link_back b
 
 bool_back : (b : Bool) → bool_in (flag b) ≡ b
 bool_back true = refl
@@ -149,10 +159,6 @@ bool_back false = refl
 text_back : (o : Option (List ℕ)) → or_text (or_null (option_map Text o)) ≡ o
 text_back None = refl
 text_back (Some t) = refl
-
-pub nat_back : (o : Option ℕ) → or_nat (or_null (option_map natural o)) ≡ o
-nat_back None = refl
-nat_back (Some t) = refl
 
 abbrev application_of : Values → Application
 application_of v = record { active = bool_in (column v 1); calendar = or_text (column v 2) }

@@ -23,10 +23,12 @@ use Rattle.run_cycles.specs.declared.cycles.RunCycle.{RunCycle}
 use Rattle.run_cycles.specs.declared.rules.Rule.{Rule}
 use Rattle.run_cycles.specs.declared.rules.Rule.TheVariants as rule
 use Rattle.definition_records.specs.CycleRecords.{rule_text}
+use Rattle.definition_records.specs.declared.predecessors.Predecessor.{Predecessor}
+use Rattle.definition_records.specs.Rising.{AreRising}
 use Rattle.definition_records.proofs.RisingLemmas.{first_of_list, own_names, same_rising}
 use Rattle.table_facts.specs.Facts.{IsCalendarRow, IsCycleRow, IsOffsetRow, IsPeriodRow, IsPredecessorRow}
 use Rattle.table_facts.specs.Facts.IsCalendarRow.{Weekday, Date}
-use Rattle.table_facts.specs.Facts.{cycle_values, entry_values, is_work, natural, offset_values}
+use Rattle.table_facts.specs.Facts.{cycle_values, entry_values, is_work, natural, offset_values, predecessor_values}
 use Rattle.table_facts.specs.Content.{HasEntry, IsNamed, IsTold}
 use Rattle.table_facts.proofs.Decoded.{int_in, letter_in, nat_back, nat_in, or_nat, text_in}
 use Rattle.table_facts.proofs.Told.{is_some, none_some, same_options}
@@ -42,6 +44,26 @@ same_places (x ∷ xs) (y ∷ ys) h k =
     let rest : xs ≡ ys = same_places xs ys (λ i z e. h (suc i) z e) (λ i z e. k (suc i) z e) in
     λ i. sym first i ∷ rest i
 
+-- of one name there is one
+pub same_named : {X : Type 0} (called : X → List ℕ) (xs : List X) → AreRising called xs → (x y : X) → Contains xs x
+    → Contains xs y → called x ≡ called y → x ≡ y
+same_named {X} called xs rising x y (i, lt, is) (j, under, are) e = elim (cases_lt i j) [
+  | inl less ↦ absurd (own_names called xs rising i j x less under (ap called is ∙ e ∙ sym (at x)))
+  | inr more ↦ elim (cases_lt j i) [
+    | inl less ↦ absurd (own_names called xs rising j i y less lt (ap called are ∙ sym e ∙ sym (to y)))
+    | inr other ↦ let one : i ≡ j = omega (arith, more, other) in sym is ∙ ap (λ k. get_or xs k x) one ∙ reads x
+  ]
+]
+  where
+    reads : (d : X) → get_or xs j d ≡ y
+    reads d = get_or_default xs j d y under ∙ are
+
+    at : (d : X) → called (get_or xs j d) ≡ called y
+    at d = ap called (reads d)
+
+    to : (d : X) → called (get_or xs i d) ≡ called x
+    to d = ap called (get_or_default xs i d x lt ∙ is)
+
 -- ---- predecessors
 
 abbrev pub name_of : Values → List ℕ
@@ -50,24 +72,38 @@ name_of v = text_in (column v 0)
 abbrev second_name : Values → List ℕ
 second_name v = text_in (column v 1)
 
-pub predecessor_named : (name : List ℕ) (d : List (List ℕ)) (v : Values) → IsPredecessorRow name d v → name_of v ≡ name
+abbrev ArePredecessors : List Predecessor → Type 0
+ArePredecessors = IsNamed (λ (p : Predecessor). p.name)
+
+pub predecessor_named : (name : List ℕ) (d : List Predecessor) (v : Values) → IsPredecessorRow name d v
+    → name_of v ≡ name
 predecessor_named name d v (p, has, is) = ap name_of is
 
-pub predecessor_some : (name : List ℕ) (d : List (List ℕ)) → IsNamed (λ n. n) d
+pub predecessor_some : (name : List ℕ) (d : List Predecessor) → ArePredecessors d
     → (v : Values) × IsPredecessorRow name d v
 predecessor_some name [] good = absurd (good.some refl)
 predecessor_some name (p ∷ ps) good = (_, (p, first_of_list p ps, refl))
 
-predecessors_go : (name : List ℕ) (d e : List (List ℕ)) → ((v : Values) → IsPredecessorRow name d v
-    → IsPredecessorRow name e v)
-    → (p : List ℕ) → Contains d p → Contains e p
-predecessors_go name d e into p has = let (q, there, is) = into _ (p, has, refl) in
-    let same : p ≡ q = ap second_name is in subst (Contains e) (sym same) there
+-- the name and the limit that a row tells
+abbrev predecessor_of : Values → Predecessor
+predecessor_of v = record { name = second_name v; within = or_nat (column v 2) }
 
-pub one_predecessors : (name : List ℕ) (d e : List (List ℕ)) → IsNamed (λ n. n) d → IsNamed (λ n. n) e
+predecessor_back : (app : List ℕ) (p : Predecessor) → predecessor_of (predecessor_values app p) ≡ p
+predecessor_back app p = λ i. record p { within = nat_back p.within i }
+
+pub one_predecessor : (app : List ℕ) (p q : Predecessor) → predecessor_values app p ≡ predecessor_values app q → p ≡ q
+one_predecessor app p q e = sym (predecessor_back app p) ∙ ap predecessor_of e ∙ predecessor_back app q
+
+predecessors_go : (name : List ℕ) (d e : List Predecessor) → ((v : Values) → IsPredecessorRow name d v
+    → IsPredecessorRow name e v)
+    → (p : Predecessor) → Contains d p → Contains e p
+predecessors_go name d e into p has = let (q, there, is) = into _ (p, has, refl) in
+    subst (Contains e) (sym (one_predecessor name p q is)) there
+
+pub one_predecessors : (name : List ℕ) (d e : List Predecessor) → ArePredecessors d → ArePredecessors e
     → ((v : Values) → IsPredecessorRow name d v → IsPredecessorRow name e v)
     → ((v : Values) → IsPredecessorRow name e v → IsPredecessorRow name d v) → d ≡ e
-one_predecessors name d e good fine into back = same_rising (λ n. n) d e good.rising fine.rising
+one_predecessors name d e good fine into back = same_rising (λ (p : Predecessor). p.name) d e good.rising fine.rising
     (predecessors_go name d e into)
     (predecessors_go name e d back)
 
@@ -239,28 +275,6 @@ cycle_back app x = λ i. record x {
 one_cycle : (app : List ℕ) (x y : RunCycle) → x.offsets ≡ y.offsets → cycle_values app x ≡ cycle_values app y → x ≡ y
 one_cycle app x y same e = sym (cycle_back app x) ∙ (λ i. cycle_of (same i) (e i)) ∙ cycle_back app y
 
--- of one name there is one
-same_named : (xs : List RunCycle) → IsCycles xs → (x y : RunCycle) → Contains xs x → Contains xs y
-    → x.name ≡ y.name → x ≡ y
-same_named xs good x y (i, lt, is) (j, under, are) e = elim (cases_lt i j) [
-  | inl less ↦ absurd (own_names (λ (c : RunCycle). c.name) xs good.rising i j x less under (ap (λ
-      (c : RunCycle). c.name) is ∙ e ∙ sym (at x)))
-  | inr more ↦ elim (cases_lt j i) [
-    | inl less ↦ absurd (own_names (λ (c : RunCycle). c.name) xs good.rising j i y less lt (ap (λ
-        (c : RunCycle). c.name) are ∙ sym e ∙ sym (to y)))
-    | inr other ↦ let one : i ≡ j = omega (arith, more, other) in sym is ∙ ap (λ k. get_or xs k x) one ∙ reads x
-  ]
-]
-  where
-    reads : (d : RunCycle) → get_or xs j d ≡ y
-    reads d = get_or_default xs j d y under ∙ are
-
-    at : (d : RunCycle) → (get_or xs j d).name ≡ y.name
-    at d = ap (λ (c : RunCycle). c.name) (reads d)
-
-    to : (d : RunCycle) → (get_or xs i d).name ≡ x.name
-    to d = ap (λ (c : RunCycle). c.name) (get_or_default xs i d x lt ∙ is)
-
 offsets_go : (app : List ℕ) (d e : List RunCycle) → IsCycles e → ((w : Values ⊎ Values) → IsEitherRow app d w
     → IsEitherRow app e w)
     → (x y : RunCycle) → Contains d x → Contains e y → x.name ≡ y.name
@@ -268,7 +282,7 @@ offsets_go : (app : List ℕ) (d e : List RunCycle) → IsCycles e → ((w : Val
 offsets_go app d e fine into x y has there named i k at =
     let (z, found, place, l, got, is) = into (inr (offset_values app x.name i k)) (x, has, i, k, at, refl) in
     let name : x.name ≡ z.name = ap second_name is in
-    let same : z ≡ y = same_named e fine z y found there (sym name ∙ named) in
+    let same : z ≡ y = same_named (λ (c : RunCycle). c.name) e fine.rising z y found there (sym name ∙ named) in
     let same_place : i ≡ place = ap (λ (v : Values). nat_in (column v 2)) is in
     let same_offset : k ≡ l = ap (λ (v : Values). int_in (column v 3)) is in
     ap (slice_get y.offsets) same_place ∙ ap (λ (c : RunCycle). slice_get c.offsets place) (sym same) ∙ got

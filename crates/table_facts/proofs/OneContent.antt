@@ -10,6 +10,7 @@ use Rattle.occurrences.specs.declared.row.Row.{Row}
 use Rattle.run_cycles.specs.declared.cycles.RunCycle.{RunCycle}
 use Rattle.app_definitions.specs.declared.options.Options.{Options}
 use Rattle.app_definitions.specs.declared.options.TheConstants.{MAX_EXTENSION_HOURS}
+use Rattle.definition_records.specs.declared.predecessors.Predecessor.{Predecessor}
 use Rattle.external_dependencies.specs.Link.{link_cmp}
 use Rattle.external_dependencies.specs.Pair.{pair_cmp}
 use Rattle.external_dependencies.specs.Rising.{RisingIsUnique}
@@ -129,8 +130,8 @@ module _ (pairs_by : RisingIsUnique pair_cmp) (links_by : RisingIsUnique link_cm
       one_by_name IsEitherRow either_name cycle_named (IsNamed (λ (x : RunCycle). x.name)) cycle_some one_cycles _ _
       m.run_cycles n.run_cycles (either_goes all c d ic id) (either_goes all d c id ic) in
       let predecessors : c.definitions.predecessors ≡ d.definitions.predecessors =
-      one_by_name IsPredecessorRow name_of predecessor_named (IsNamed (λ x. x)) predecessor_some one_predecessors _ _
-      m.predecessors n.predecessors (into table.Predecessor) (back table.Predecessor) in
+      one_by_name IsPredecessorRow name_of predecessor_named (IsNamed (λ (p : Predecessor). p.name)) predecessor_some
+      one_predecessors _ _ m.predecessors n.predecessors (into table.Predecessor) (back table.Predecessor) in
       let options : c.definitions.options ≡ d.definitions.options =
       same_options c.definitions.options d.definitions.options
       (sym (calendar_back c.sets.bounds c.sets.issued c.definitions.options)

@@ -20,6 +20,7 @@ use Rattle.run_cycles.specs.declared.cycles.RunCycle.{RunCycle}
 use Rattle.definition_records.specs.Rising.{AreRising}
 use Rattle.definition_records.specs.declared.applications.Application.{Application}
 use Rattle.app_definitions.specs.declared.options.Options.{Options}
+use Rattle.definition_records.specs.declared.predecessors.Predecessor.{Predecessor}
 use Rattle.external_dependencies.specs.Link.{link_cmp}
 use Rattle.external_dependencies.specs.Pair.{pair_cmp}
 use Rattle.external_dependencies.specs.Rising.{IsRising}
@@ -134,7 +135,7 @@ pub record IsTellable (c : Content) : Type 0 where
   pub calendars : AreEach IsTold c.definitions.calendars
   pub periods : AreEach HasEntry c.definitions.periods
   pub run_cycles : AreEach (IsNamed (λ (cycle : RunCycle). cycle.name)) c.definitions.run_cycles
-  pub predecessors : AreEach (IsNamed (λ name. name)) c.definitions.predecessors
+  pub predecessors : AreEach (IsNamed (λ (p : Predecessor). p.name)) c.definitions.predecessors
   pub ltp : IsUnderOwn (λ (row : Row). row.serial) c.sets.ltp
   pub cp : IsUnderOwn (λ (current : CurrentRow). current.row.serial) c.sets.cp
   pub history : IsUnderOwn (λ (row : Row). row.serial) c.sets.history

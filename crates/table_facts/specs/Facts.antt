@@ -22,6 +22,7 @@ use Rattle.run_cycles.specs.declared.cycles.Deadline.{Deadline}
 use Rattle.run_cycles.specs.declared.cycles.RunCycle.{RunCycle}
 use Rattle.definition_records.specs.CycleRecords.{rule_text}
 use Rattle.definition_records.specs.declared.applications.Application.{Application}
+use Rattle.definition_records.specs.declared.predecessors.Predecessor.{Predecessor}
 use Rattle.external_dependencies.specs.declared.links.Link.{Link}
 use Rattle.external_dependencies.specs.declared.pairs.Pair.{Pair}
 
@@ -65,9 +66,9 @@ deletion_key deletion = natural deletion.row.serial ∷ []
 abbrev pub pair_values : Pair → Values
 pair_values pair = natural pair.successor ∷ natural pair.predecessor ∷ []
 
--- of a link without a limit, which each is
+-- the hours of a limit, and null without one
 abbrev pub link_values : Link → Values
-link_values link = Text link.app ∷ Text link.predecessor ∷ Null ∷ []
+link_values link = Text link.app ∷ Text link.predecessor ∷ or_null (option_map natural link.within) ∷ []
 
 abbrev pub link_key : Link → Values
 link_key link = Text link.app ∷ Text link.predecessor ∷ []
@@ -129,10 +130,10 @@ abbrev pub IsOffsetRow : List ℕ → List RunCycle → Values → Type 0
 IsOffsetRow app cycles values = (cycle : RunCycle) × Contains cycles cycle × (place : ℕ) × (k : ℤ)
     × (slice_get cycle.offsets place ≡ Some k) × (values ≡ offset_values app cycle.name place k)
 
--- one predecessor of an application, without a limit
-abbrev pub predecessor_values : List ℕ → List ℕ → Values
-predecessor_values app name = Text app ∷ Text name ∷ Null ∷ []
+-- one predecessor of an application: its name, and the hours of its limit or null
+abbrev pub predecessor_values : List ℕ → Predecessor → Values
+predecessor_values app p = Text app ∷ Text p.name ∷ or_null (option_map natural p.within) ∷ []
 
 -- of an application's list of predecessors: each of them
-abbrev pub IsPredecessorRow : List ℕ → List (List ℕ) → Values → Type 0
-IsPredecessorRow app names values = (name : List ℕ) × Contains names name × (values ≡ predecessor_values app name)
+abbrev pub IsPredecessorRow : List ℕ → List Predecessor → Values → Type 0
+IsPredecessorRow app all values = (p : Predecessor) × Contains all p × (values ≡ predecessor_values app p)

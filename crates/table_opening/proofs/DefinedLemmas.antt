@@ -1,8 +1,6 @@
 -- Definitions that keep the rule of definitions are such as rows are read for.
-use Rattle.std.proofs.Common.{◌≡◌, ℕ, ◌<◌, ◌≤◌, ◌^◌, List, arith, subst, Option, None, Some}
+use Rattle.std.proofs.Common.{arith, subst, None, Some}
 use Rattle.std.specs.Prelude.{IfSome}
-use Rattle.std.specs.FinMap as map
-use Rattle.std.specs.List.{All, Contains}
 use Rattle.std.proofs.lemmas.List.Elements.{All-contains}
 use Rattle.std.proofs.lemmas.Option.{get_or_from_slice_get, slice_get_within}
 use Rattle.definition_records.specs.Applications.{FitsApplication, IsApplicationOf}
@@ -10,12 +8,12 @@ use Rattle.definition_records.specs.Calendars.{FitsCalendar, IsCalendarOf}
 use Rattle.definition_records.specs.CycleRecords.{AreRunCyclesOf, FitsRunCycle}
 use Rattle.definition_records.specs.Periods.{FitsPeriod, IsPeriodOf}
 use Rattle.definition_records.specs.Predecessors.{ArePredecessorsOf, FitsPredecessors}
-use Rattle.definition_records.specs.Records.{Record, Records}
-use Rattle.definition_records.specs.declared.columns.TheConstants.{APPLICATION_FIELDS, CALENDAR_FIELDS, CYCLE_FIELDS}
-use Rattle.definition_records.specs.declared.columns.TheConstants.{PERIOD_FIELDS, PREDECESSOR_FIELDS}
+use Rattle.definition_records.specs.FieldCounts.{HasApplicationFields, HasCalendarFields, HasCycleFields}
+use Rattle.definition_records.specs.FieldCounts.{HasPeriodFields, HasPredecessorFields}
+use Rattle.definition_records.specs.declared.predecessors.Predecessor.{Predecessor}
 use Rattle.app_definitions.specs.declared.definitions.Definitions.{Definitions}
 use Rattle.work_calendars.specs.Name.{IsName}
-use Rattle.plan_periods.specs.Period.{Entry}
+use Rattle.work_calendars.specs.Within.{IsWithinHours}
 use Rattle.plan_periods.specs.declared.periods.Period.{Period}
 use Rattle.plan_periods.specs.declared.periods.Period.TheVariants.{All as AllDays, Work, Listed}
 use Rattle.run_cycles.specs.declared.cycles.CycleType.{CycleType}
@@ -28,11 +26,10 @@ use Rattle.table_definitions.specs.Defined.{AreSoundDefinitions}
 use Rattle.table_definitions.specs.DraftedCycles.{IsDeadline}
 use Rattle.table_definitions.specs.DraftedPeriods.{IsOfDays}
 use Rattle.table_definitions.specs.WholeCycles.{IsSoundCycle}
-use Rattle.definition_soundness.specs.Given.{IsGiven}
 use Rattle.definition_soundness.specs.Values.{HasDays, HasDeadline, IsCycleValue, IsDeadlineValue, IsEntryValue}
 use Rattle.definition_soundness.proofs.CalendarRecords.{calendar_value}
 use Rattle.definition_soundness.proofs.CycleRecords.{cycles_value}
-use Rattle.definition_soundness.proofs.DefinedLemmas.{calendar_days, calendar_week, cycles_rise, period_sound}
+use Rattle.definition_soundness.proofs.DefinedLemmas.{calendar_days, calendar_week, cycles_rise, made_of, period_sound}
 use Rattle.definition_soundness.proofs.GivenLemmas.{definable_from}
 use Rattle.definition_soundness.proofs.PeriodRecords.{period_value, short_named}
 use Rattle.definition_soundness.proofs.SimpleLemmas.{application_value, predecessors_value}
@@ -68,19 +65,19 @@ cycle_sound cycle is = record {
 pub sound_definitions : (all : Definitions) → AreDefinitions all → AreSoundDefinitions all
 sound_definitions all are = record {
   applications = λ name a at.
-      let value = application_value name a (definable_from APPLICATION_FIELDS FitsApplication IsApplicationOf
+      let value = application_value name a (definable_from HasApplicationFields FitsApplication IsApplicationOf
       all.applications are.applications name a at) in
       (value.named, value.calendar);
   calendars = λ name c at.
-      let is = definable_from CALENDAR_FIELDS FitsCalendar IsCalendarOf all.calendars are.calendars name c at in
+      let is = definable_from HasCalendarFields FitsCalendar IsCalendarOf all.calendars are.calendars name c at in
       let value = calendar_value c name is in
       (value.named, record { week = calendar_week name c is; days = calendar_days name c is });
   periods = λ name p at.
-      let is = definable_from PERIOD_FIELDS FitsPeriod IsPeriodOf all.periods are.periods name p at in
+      let is = definable_from HasPeriodFields FitsPeriod IsPeriodOf all.periods are.periods name p at in
       let value = period_value name p is in
       (short_named name value.named, record { sound = period_sound name p is; days = days_of p value.days });
   run_cycles = λ app cycles at.
-      let is = definable_from CYCLE_FIELDS FitsRunCycle AreRunCyclesOf all.run_cycles are.run_cycles app cycles at in
+      let is = definable_from HasCycleFields FitsRunCycle AreRunCyclesOf all.run_cycles are.run_cycles app cycles at in
       let value = cycles_value app cycles is in (
         value.named,
         record {
@@ -88,8 +85,17 @@ sound_definitions all are = record {
           each = λ c has. cycle_sound c (All-contains IsCycleValue cycles c value.cycles has);
         },
       );
-  predecessors = λ app names at.
-      let value = predecessors_value app names (definable_from PREDECESSOR_FIELDS FitsPredecessors ArePredecessorsOf
-      all.predecessors are.predecessors app names at) in
-      (value.named, λ name has. All-contains IsName names name value.names has);
+  predecessors = λ app listed at.
+      let is = definable_from HasPredecessorFields FitsPredecessors ArePredecessorsOf all.predecessors are.predecessors
+      app listed at in
+      let value = predecessors_value app listed is in (
+        value.named,
+        record {
+          rising = (made_of HasPredecessorFields FitsPredecessors ArePredecessorsOf app listed is).made.rising;
+          each = λ p has. record {
+            name = All-contains (λ (q : Predecessor). IsName q.name) listed p value.names has;
+            within = All-contains (λ (q : Predecessor). IfSome q.within IsWithinHours) listed p value.limits has;
+          };
+        },
+      );
 }

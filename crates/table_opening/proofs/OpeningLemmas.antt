@@ -1,5 +1,5 @@
 -- Why a database is not opened, asked by what is there or by what is told.
-use Rattle.std.proofs.Common.{◌≡◌, ◌⊎◌, inl, inr, subst, sym}
+use Rattle.std.proofs.Common.{◌≡◌, inl, inr, subst, sym}
 use Rattle.sqlite.specs.State.{State}
 use Rattle.table_reading.specs.Reading.{HasPlan}
 use Rattle.table_opening.specs.Foreign.{IsForeign}
@@ -7,7 +7,7 @@ use Rattle.table_opening.specs.Held.{HasVersion, HoldsPlan}
 use Rattle.table_opening.specs.Opened.{IsBlank, IsCaused, IsUnmade}
 use Rattle.table_opening.specs.Opening.{IsUnopened}
 use Rattle.table_opening.specs.declared.faults.OpenFault.{OpenFault}
-use Rattle.table_opening.specs.declared.faults.OpenFault.TheVariants.{Memory, Rows, Unopened}
+use Rattle.table_opening.specs.declared.faults.OpenFault.TheVariants.{Rows, Unopened}
 use Rattle.table_opening.proofs.SchemaLemmas.{blank_has_none}
 
 -- it is told for its rows

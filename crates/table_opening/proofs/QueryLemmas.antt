@@ -31,7 +31,7 @@ use Rattle.sqlite.specs.declared.error.ErrorCode.TheVariants.{NoClock}
 use Rattle.sqlite.proofs.StateLemmas.{survives_weaker}
 use Rattle.table_opening.specs.Faults.{fault_for}
 use Rattle.table_opening.specs.Queries.{IsQuery, IsReadAsQuery, IsReading}
-use Rattle.table_opening.specs.declared.faults.OpenFault.TheVariants.{Device, Memory, Unopened}
+use Rattle.table_opening.specs.declared.faults.OpenFault.TheVariants.{Device, Unopened}
 
 -- what is found has the property
 abbrev Finds : {A : Type 0} → (A → Type 0) → Checked A → Type 0

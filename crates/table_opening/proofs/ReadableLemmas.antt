@@ -13,7 +13,9 @@ use Rattle.sqlite_value.proofs.OrderLemmas.{value_cmp_total}
 use Rattle.keyed_lists.proofs.KeyLemmas.{contains_first, contains_later, nothing}
 use Rattle.app_definitions.specs.declared.definitions.Definitions.{Definitions}
 use Rattle.app_definitions.specs.declared.options.Options.{Options}
+use Rattle.external_dependencies.specs.declared.links.Link.{Link}
 use Rattle.external_dependencies.specs.declared.live.Arrival.{Arrival}
+use Rattle.external_dependencies.proofs.OrderLemmas.{named_once}
 use Rattle.external_dependencies.specs.declared.pairs.Pair.{Pair}
 use Rattle.external_dependencies.specs.declared.rows.PlacedRow.{PlacedRow}
 use Rattle.occurrences.specs.Serial.{IsSerial}
@@ -28,14 +30,15 @@ use Rattle.planner_machine.specs.declared.content.Bounds.{Bounds}
 use Rattle.planner_machine.proofs.SeatLemmas.{cases_issued, not_empty}
 use Rattle.table_schema.specs.declared.tables.TheConstants.{SCHEMA_VERSION}
 use Rattle.table_facts.specs.Content.{meta_values}
-use Rattle.table_facts.specs.Facts.{natural}
+use Rattle.table_facts.specs.Facts.{link_values, natural}
+use Rattle.table_facts.proofs.Decoded.{one_link}
 use Rattle.table_schema.specs.Rows.{HaveRowids, Tables, shown}
 use Rattle.table_schema.specs.declared.tables.Table.TheVariants as table
 use Rattle.table_definitions.specs.Defined.{AreSoundDefinitions}
 use Rattle.table_definitions.specs.Storing.{HaveRows}
 use Rattle.table_definitions.specs.declared.stored.StoredRows.{StoredRows}
 use Rattle.table_reading.specs.Cells.{AreDays, IsNumberedRow, IsPair}
-use Rattle.table_reading.specs.Readable.{ArePlansReadable, ShowsMeta}
+use Rattle.table_reading.specs.Readable.{ArePlansReadable, ShowsLink, ShowsMeta}
 use Rattle.table_opening.specs.Held.{AreKnown, HoldSound}
 use Rattle.table_opening.proofs.DefinedLemmas.{sound_definitions}
 use Rattle.table_opening.specs.Stored.{TellStored}
@@ -177,6 +180,11 @@ module _ (all : Tables) (hold : HoldSound all) where
     predecessor_serial pair there,
   )
 
+  shown_in_force : (link : Link) → ShowsLink all link → Contains c.in_force link
+  shown_in_force link there =
+      let fact = (hold.told.facts table.LinkInForce (link_values link)).0 there in
+      subst (Contains c.in_force) (one_link fact.0 link (sym fact.2)) fact.1
+
   meta_form : ShowsMeta all
   meta_form = record {
     meta = record { bounds = c.sets.bounds; issued = c.sets.issued; options = c.definitions.options };
@@ -224,9 +232,13 @@ module _ (all : Tables) (hold : HoldSound all) where
       rowids = hold.rowids table.Deletion;
     };
     links = record {
-      each = λ v there.
-          let fact = (hold.told.facts table.LinkInForce v).0 there in
-          (fact.0, hold.sound.ranges.links fact.0 fact.1, sym fact.2);
+      shows = record {
+        each = λ v there.
+            let fact = (hold.told.facts table.LinkInForce v).0 there in
+            (fact.0, hold.sound.ranges.links fact.0 fact.1, sym fact.2);
+      };
+      once = λ a b at_a at_b.
+          named_once c.in_force hold.told.tellable.in_force a b (shown_in_force a at_a) (shown_in_force b at_b);
     };
     pairs = record {
       each = λ v there.

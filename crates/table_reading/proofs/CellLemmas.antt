@@ -1,8 +1,8 @@
 -- Rows of so many cells.
 use Rattle.std.proofs.Common.{◌≡◌, [], ◌∷◌, length, refl, sym, ap, subst, ◌∙◌, arith}
-use Rattle.std.specs.Prelude.{ℕ, Option, Some, None}
+use Rattle.std.specs.Prelude.{ℕ, Option, Some, None, option_map}
 use Rattle.sqlite.specs.Order.{Row as Values, column}
-use Rattle.sqlite.specs.declared.types.Value.TheVariants.{Blob, Null, Text}
+use Rattle.sqlite.specs.declared.types.Value.TheVariants.{Blob, Text}
 use Rattle.occurrences.specs.Place.{reason_letter}
 use Rattle.occurrences.specs.Status.{status_letter}
 use Rattle.occurrences.specs.declared.place.CurrentRow.{CurrentRow}
@@ -15,7 +15,7 @@ use Rattle.app_definitions.specs.declared.options.Options.{Options}
 use Rattle.planner_machine.specs.declared.content.Bounds.{Bounds}
 use Rattle.table_schema.specs.declared.tables.TheConstants.{SCHEMA_VERSION}
 use Rattle.table_facts.specs.Content.{answer_text, job_values, meta_values}
-use Rattle.table_facts.specs.Facts.{current_values, deletion_values, link_values, natural, pair_values, row_values}
+use Rattle.table_facts.specs.Facts.{current_values, deletion_values, link_values, natural, or_null, pair_values, row_values}
 use Rattle.table_reading.specs.Cells.{HasBounds, HasOptions, Leads}
 
 pub two : (cells : Values) → length cells ≡ 2 → column cells 0 ∷ column cells 1 ∷ [] ≡ cells
@@ -95,13 +95,16 @@ pair_is pair cells is = subst (λ l. (length l ≡ 2) × (column l 0 ≡ natural
     × (column l 1 ≡ natural pair.predecessor)) is (refl, refl, refl)
 
 pub link_from : (link : Link) (cells : Values) → length cells ≡ 3 → column cells 0 ≡ Text link.app
-    → column cells 1 ≡ Text link.predecessor → column cells 2 ≡ Null → link_values link ≡ cells
-link_from link cells len one other none = (λ i. sym one i ∷ sym other i ∷ sym none i ∷ []) ∙ three cells len
+    → column cells 1 ≡ Text link.predecessor → column cells 2 ≡ or_null (option_map natural link.within)
+    → link_values link ≡ cells
+link_from link cells len one other limit = (λ i. sym one i ∷ sym other i ∷ sym limit i ∷ []) ∙ three cells len
 
 pub link_is : (link : Link) (cells : Values) → link_values link ≡ cells → (length cells ≡ 3)
-    × (column cells 0 ≡ Text link.app) × (column cells 1 ≡ Text link.predecessor) × (column cells 2 ≡ Null)
+    × (column cells 0 ≡ Text link.app) × (column cells 1 ≡ Text link.predecessor)
+    × (column cells 2 ≡ or_null (option_map natural link.within))
 link_is link cells is = subst (λ l. (length l ≡ 3) × (column l 0 ≡ Text link.app)
-    × (column l 1 ≡ Text link.predecessor) × (column l 2 ≡ Null)) is (refl, refl, refl, refl)
+    × (column l 1 ≡ Text link.predecessor) × (column l 2 ≡ or_null (option_map natural link.within))) is
+    (refl, refl, refl, refl)
 
 pub job_from : (job : Job) (cells : Values) → length cells ≡ 3 → column cells 0 ≡ natural job.number
     → column cells 1 ≡ Blob job.text → column cells 2 ≡ Text (answer_text job.reply) → job_values job ≡ cells

@@ -4,6 +4,7 @@ use Rattle.std.specs.List.{Contains}
 use Rattle.sqlite.specs.Order.{Row as Values}
 use Rattle.run_cycles.specs.declared.cycles.RunCycle.{RunCycle}
 use Rattle.definition_records.proofs.RisingLemmas.{Contains-map, Contains-map_back}
+use Rattle.definition_records.specs.declared.predecessors.Predecessor.{Predecessor}
 use Rattle.app_definitions.specs.declared.definitions.Definitions.{Definitions}
 use Rattle.external_dependencies.specs.Rising.{HaveSame}
 use Rattle.planner_machine.specs.Content.{Content}
@@ -47,6 +48,9 @@ module _ {X : Type 0} (values_of : X → Values) where
   own : (number_of : X → ℕ) (xs : List X) (set : ℕ → Option X) → HoldsEach number_of xs set → IsUnderOwn number_of set
   own number_of xs set holds n x is = ((holds n x).0 is).1
 
+have_same : {X : Type 0} (xs ys : List X) → ys ≡ xs → HaveSame ys xs
+have_same xs ys is x = (subst (λ l. Contains l x) is, subst (λ l. Contains l x) (sym is))
+
 both : {A B C : Type 0} → A ↔ B → B ↔ C → A ↔ C
 both f g = ((λ a. g.0 (f.0 a)), λ c. f.1 (g.1 c))
 
@@ -83,7 +87,7 @@ module _ (all : Tables) (definitions : Definitions) (lists : PlanLists) (c : Con
   facts_of table.Offset v = defined table.Offset define.offset_rows.exactly v
   facts_of table.Predecessor v = defined table.Predecessor define.predecessor_rows.exactly v
   facts_of table.LinkInForce v = both (tell.links.exactly v)
-      (of_list link_values lists.links.items c.in_force has.in_force v)
+      (of_list link_values lists.links c.in_force (have_same lists.links c.in_force has.in_force) v)
   facts_of table.LongTerm v = both (tell.placed.in_ltp.exactly v)
       (of_set row_values row_number lists.rows.ltp.items c.sets.ltp has.placed.ltp v)
   facts_of table.Current v = both (tell.placed.in_cp.exactly v)
@@ -106,8 +110,8 @@ module _ (all : Tables) (definitions : Definitions) (lists : PlanLists) (c : Con
     periods = subst (λ (d : Definitions). AreEach HasEntry d.periods) (sym has.defined) define.periods;
     run_cycles = subst (λ (d : Definitions). AreEach (IsNamed (λ (cycle : RunCycle). cycle.name)) d.run_cycles)
         (sym has.defined) define.run_cycles;
-    predecessors = subst (λ (d : Definitions). AreEach (IsNamed (λ name. name)) d.predecessors) (sym has.defined)
-        define.predecessors;
+    predecessors = subst (λ (d : Definitions). AreEach (IsNamed (λ (p : Predecessor). p.name)) d.predecessors)
+        (sym has.defined) define.predecessors;
     ltp = own row_values row_number lists.rows.ltp.items c.sets.ltp has.placed.ltp;
     cp = own current_values current_number lists.rows.cp.items c.sets.cp has.placed.cp;
     history = own row_values row_number lists.rows.history.items c.sets.history has.placed.history;

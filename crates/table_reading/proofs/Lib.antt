@@ -7,3 +7,4 @@ pub mod TableLemmas
 pub mod OrderLemmas
 pub mod LineLemmas
 pub mod AnswerLemmas
+pub mod LinkLemmas

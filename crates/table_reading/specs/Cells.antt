@@ -9,7 +9,6 @@ use Rattle.app_definitions.specs.declared.options.Options.{Options}
 use Rattle.occurrences.specs.Row.{run_cycle_of}
 use Rattle.occurrences.specs.Serial.{IsSerial}
 use Rattle.occurrences.specs.declared.row.Row.{Row}
-use Rattle.external_dependencies.specs.declared.links.Link.{Link}
 use Rattle.external_dependencies.specs.declared.pairs.Pair.{Pair}
 use Rattle.planner_machine.specs.Sound.{IsKeptReply, IsRow}
 use Rattle.planner_machine.specs.declared.content.Bounds.{Bounds}
@@ -55,6 +54,3 @@ IsNumberedRow row = IsRow row × IsSerial row.serial
 
 abbrev pub IsPair : Pair → Type 0
 IsPair pair = IsSerial pair.successor × IsSerial pair.predecessor
-
-abbrev pub IsLink : Link → Type 0
-IsLink link = IsName link.app × IsName link.predecessor

@@ -48,7 +48,7 @@ pub record HasLists (definitions : Definitions) (lists : PlanLists) (c : Content
   pub bounds : c.sets.bounds ≡ lists.meta.bounds
   pub issued : c.sets.issued ≡ lists.meta.issued
   pub placed : HasRows lists.rows c.sets
-  pub in_force : HaveSame c.in_force lists.links.items
+  pub in_force : c.in_force ≡ lists.links
   pub links_rise : IsRising link_cmp c.in_force
   pub paired : HaveSame c.pairs lists.pairs.items
   pub pairs_rise : IsRising pair_cmp c.pairs

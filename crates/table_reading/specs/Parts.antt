@@ -39,6 +39,6 @@ TellRowParts all p =
 
 abbrev pub TellRest : Tables → Rest → Type 0
 TellRest all p =
-    (ShowsOnly all table.LinkInForce (IsOneOf link_values p.0.0.links.items)
+    (ShowsOnly all table.LinkInForce (IsOneOf link_values p.0.0.links)
     × ShowsOnly all table.Dependency (IsOneOf pair_values p.0.1.pairs.items))
     × (TellsMeta all p.1.0 × ShowsOnly all table.Job (IsOneOf job_values p.1.1.jobs.items))

@@ -7,9 +7,12 @@ use Rattle.table_schema.specs.declared.tables.Table.{Table}
 use Rattle.table_schema.specs.declared.tables.Table.TheVariants as table
 use Rattle.occurrences.specs.declared.place.CurrentRow.{CurrentRow}
 use Rattle.occurrences.specs.declared.place.Deletion.{Deletion}
+use Rattle.external_dependencies.specs.Link.{HaveSameNames}
+use Rattle.external_dependencies.specs.declared.links.Link.{Link}
+use Rattle.planner_machine.specs.Sound.{IsLink}
 use Rattle.table_facts.specs.Content.{job_values}
 use Rattle.table_facts.specs.Facts.{current_values, deletion_values, link_values, natural, pair_values, row_values}
-use Rattle.table_reading.specs.Cells.{IsLink, IsMeta, IsNumberedRow, IsPair, IsReadJob}
+use Rattle.table_reading.specs.Cells.{IsMeta, IsNumberedRow, IsPair, IsReadJob}
 use Rattle.table_reading.specs.Tables.{TellsMeta}
 use Rattle.table_reading.specs.declared.meta.Meta.{Meta}
 
@@ -35,13 +38,22 @@ pub record ShowsMeta (all : Tables) : Type 0 where
   pub tells : TellsMeta all meta
   pub rowids : HaveRowids (all table.Meta)
 
+-- `link_in_force` shows a row of the link
+abbrev pub ShowsLink : Tables → Link → Type 0
+ShowsLink all link = Contains (map (shown table.LinkInForce) (all table.LinkInForce)) (link_values link)
+
+-- each row that `link_in_force` shows is that of a link, and no two that differ have the same names
+pub record ShowsLinks (all : Tables) : Type 0 where
+  pub shows : ShowsEach all table.LinkInForce link_values IsLink
+  pub once : (a b : Link) → ShowsLink all a → ShowsLink all b → HaveSameNames a b → a ≡ b
+
 -- all rows of the tables of the plans can be read
 pub record ArePlansReadable (all : Tables) : Type 0 where
   pub ltp : ShowsEachOnce all table.LongTerm row_values IsNumberedRow
   pub cp : ShowsEachOnce all table.Current current_values (λ (current : CurrentRow). IsNumberedRow current.row)
   pub history : ShowsEachOnce all table.History row_values IsNumberedRow
   pub deletions : ShowsEachOnce all table.Deletion deletion_values (λ (gone : Deletion). IsNumberedRow gone.row)
-  pub links : ShowsEach all table.LinkInForce link_values IsLink
+  pub links : ShowsLinks all
   pub pairs : ShowsEach all table.Dependency pair_values IsPair
   pub meta : ShowsMeta all
   pub jobs : ShowsEachOnce all table.Job job_values IsReadJob

@@ -2,6 +2,7 @@
 use Rattle.std.specs.Prelude.{◌≡◌, ◌↔◌, List, Contains, map}
 use Rattle.sqlite.specs.Order.{Row as Values}
 use Rattle.run_cycles.specs.declared.cycles.RunCycle.{RunCycle}
+use Rattle.definition_records.specs.declared.predecessors.Predecessor.{Predecessor}
 use Rattle.app_definitions.specs.declared.definitions.Definitions.{Definitions}
 use Rattle.table_schema.specs.Rows.{Tables, shown}
 use Rattle.table_schema.specs.declared.tables.Table.{Table}
@@ -36,7 +37,7 @@ TellsMeta all m = ShowsOnly all table.Meta (λ v. v ≡ meta_values m.bounds m.i
 -- the tables of the plans tell what is listed
 pub record TellPlans (all : Tables) (lists : PlanLists) : Type 0 where
   pub meta : TellsMeta all lists.meta
-  pub links : ShowsOnly all table.LinkInForce (IsOneOf link_values lists.links.items)
+  pub links : ShowsOnly all table.LinkInForce (IsOneOf link_values lists.links)
   pub placed : TellRows all lists.rows
   pub pairs : ShowsOnly all table.Dependency (IsOneOf pair_values lists.pairs.items)
   pub jobs : ShowsOnly all table.Job (IsOneOf job_values lists.jobs.items)
@@ -52,4 +53,4 @@ pub record TellDefinitions (all : Tables) (d : Definitions) : Type 0 where
   pub calendars : AreEach IsTold d.calendars
   pub periods : AreEach HasEntry d.periods
   pub run_cycles : AreEach (IsNamed (λ (cycle : RunCycle). cycle.name)) d.run_cycles
-  pub predecessors : AreEach (IsNamed (λ name. name)) d.predecessors
+  pub predecessors : AreEach (IsNamed (λ (p : Predecessor). p.name)) d.predecessors

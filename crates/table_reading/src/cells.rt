@@ -1,12 +1,13 @@
 // Cells of a row.
 
-ghost use Rattle.std.specs.Prelude.{◌≡◌, ◌<◌, ◌^◌, ◌↔◌, ◌∷◌, [], ℕ, List, None, IfSome, IsTrue, option_map};
+ghost use Rattle.std.specs.Prelude.{◌≡◌, ◌<◌, ◌^◌, ◌↔◌, ◌∷◌, [], ℕ, List, Option, None, IfSome, IsTrue, option_map};
 ghost use Rattle.std.specs.Str.{IsUtf8};
 ghost use Rattle.sqlite.specs.Order.{column};
 ghost use Rattle.sqlite.specs.declared.types.Value.TheVariants.{Null, Text};
 ghost use Rattle.work_calendars.specs.Moment.{IsMoment};
 ghost use Rattle.work_calendars.specs.Day.{IsDay};
 ghost use Rattle.work_calendars.specs.Name.{IsNameWithin};
+ghost use Rattle.work_calendars.specs.Within.{IsWithinHours};
 ghost use Rattle.occurrences.specs.Serial.{IsSerial};
 ghost use Rattle.occurrences.specs.Row.{run_cycle_of};
 ghost use Rattle.occurrences.specs.declared.row.Origin.{Origin as OriginValue};
@@ -16,7 +17,7 @@ ghost use Rattle.table_facts.specs.Facts.{natural, or_null};
 use occurrences::{Origin, Serial};
 use sqlite::Row as Cells;
 use sqlite::types::ValueRef;
-use work_calendars::{Day, Moment, NameWithin};
+use work_calendars::{Day, Moment, NameWithin, Within};
 
 /// The number in the cell, if it holds one.
 pub(crate) fn number_at(cells: &Cells, at: usize) -> Option<u32>
@@ -116,6 +117,31 @@ pub(crate) fn origin_at(cells: &Cells, at: usize) -> Option<Origin>
     } else {
         match name_at(cells, at) {
             Some(name) => Some(Origin::Generated(name)),
+            None => None,
+        }
+    }
+}
+
+// The hours of a limit in the cell, if it holds such.
+fn hours_at(cells: &Cells, at: usize) -> Option<Within>
+    ensures value { IfSome result (λ hours. column cells.now at ≡ natural hours) }
+    ensures none { result ≡ None → (hours : ℕ) → IsWithinHours hours → column cells.now at ≡ natural hours
+        → ⊥ }
+{
+    Within::from_hours(number_at(cells, at)?)
+}
+
+/// The limit in the cell: its hours, or none.
+pub(crate) fn limit_at(cells: &Cells, at: usize) -> Option<Option<Within>>
+    ensures value { IfSome result (λ within. column cells.now at ≡ or_null (option_map natural within)) }
+    ensures none { result ≡ None → (within : Option ℕ) → IfSome within IsWithinHours
+        → column cells.now at ≡ or_null (option_map natural within) → ⊥ }
+{
+    if is_null(cells, at) {
+        Some(None)
+    } else {
+        match hours_at(cells, at) {
+            Some(hours) => Some(Some(hours)),
             None => None,
         }
     }

@@ -15,7 +15,7 @@ ghost use Rattle.table_reading.specs.Order.{AreInOrder, job_number};
 use crate::jobs::answers_are_small;
 use crate::lists::{PlanLists, PlanRows};
 use app_definitions::Definitions;
-use external_dependencies::{Link, Links, Pair, Pairs};
+use external_dependencies::{Links, Pair, Pairs};
 use plan_store::{Change, Content};
 use planner_machine::{Bounds, Job};
 use std::alloc::{AllocError, Global};
@@ -73,14 +73,12 @@ fn replace_links(old: &mut Links, new: Links)
     *old = new;
 }
 
-fn put_links(content: &mut Content, links: Vec<Link>)
-    ensures kept { content_of content.new ≡ with_links content.new.in_force
-        (content_of content.old) }
-    ensures same { HaveSame content.new.in_force links.items }
-    ensures rising { IsRising link_cmp content.new.in_force }
+fn put_links(content: &mut Content, links: Links)
+    ensures kept { content_of content.new ≡ with_links links (content_of content.old) }
+    ensures rising { IsRising link_cmp links }
 {
-    replace_links(&mut content.in_force, Links::from_vec(links));
-    let _rising = content.in_force.as_slice();
+    let _rising = links.as_slice();
+    replace_links(&mut content.in_force, links);
 }
 
 fn replace_pairs(old: &mut Pairs, new: Pairs)

@@ -5,6 +5,7 @@ mod answers;
 mod cells;
 mod contents;
 mod jobs;
+mod links;
 mod lists;
 mod loops;
 mod meta;

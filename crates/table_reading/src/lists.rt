@@ -3,7 +3,7 @@
 ghost use Rattle.table_reading.specs.Order.{AreInOrder, row_number, current_number, deletion_number, job_number};
 
 use crate::meta::Meta;
-use external_dependencies::{Link, Pair};
+use external_dependencies::{Links, Pair};
 use occurrences::{CurrentRow, Deletion, Row};
 use planner_machine::Job;
 
@@ -32,7 +32,7 @@ pub struct PlanLists {
     /// The rows.
     pub rows: PlanRows,
     /// The lists in force.
-    pub links: Vec<Link>,
+    pub links: Links,
     /// The pairs.
     pub pairs: Vec<Pair>,
     /// The kept jobs, in the order of their numbers.

@@ -6,21 +6,24 @@ ghost use Rattle.sqlite.specs.Held.{state};
 ghost use Rattle.table_schema.specs.Rows.{MayFail, Tables, tables_of};
 ghost use Rattle.table_schema.specs.declared.tables.Table.TheVariants.{LongTerm, Current, History, Deletion as Gone};
 ghost use Rattle.table_schema.specs.declared.tables.Table.TheVariants.{LinkInForce, Dependency, Job as Kept};
+ghost use Rattle.external_dependencies.specs.Link.{AreNamedOnce};
+ghost use Rattle.external_dependencies.specs.Rising.{HaveSame};
 ghost use Rattle.table_facts.specs.Content.{job_values};
 ghost use Rattle.table_facts.specs.Facts.{row_values, current_values, deletion_values, pair_values, link_values};
 ghost use Rattle.table_reading.specs.Order.{AreInOrder, row_number, current_number, deletion_number, job_number};
-ghost use Rattle.table_reading.specs.Cells.{IsLink, IsNumberedRow, IsPair, IsReadJob};
-ghost use Rattle.table_reading.specs.Readable.{ShowsEach, ShowsEachOnce, ShowsMeta};
+ghost use Rattle.table_reading.specs.Cells.{IsNumberedRow, IsPair, IsReadJob};
+ghost use Rattle.table_reading.specs.Readable.{ShowsEach, ShowsEachOnce, ShowsLinks, ShowsMeta};
 ghost use Rattle.table_reading.specs.Reading.{HasPlan, Looks};
 ghost use Rattle.table_reading.specs.Tables.{IsOneOf, ShowsOnly, TellsMeta};
 
+use crate::links::lists_of_links;
 use crate::meta::Meta;
 use crate::tables::{read_in_order, read_table};
-use external_dependencies::{Link, Pair};
+use external_dependencies::{Link, Links, Pair};
 use occurrences::{CurrentRow, Deletion, Row};
 use planner_machine::Job;
 use sqlite::{Alter, Connection, Error};
-use std::alloc::Global;
+use std::alloc::{AllocError, Global};
 use table_schema::Table;
 
 /// What is read from one table or from several.
@@ -178,23 +181,34 @@ impl Part for DeletionRows {
 /// The lists in force.
 #[derive(Drop)]
 pub(crate) struct LinkRows {
-    /// Their links.
-    pub links: Vec<Link>,
+    /// The lists.
+    pub links: Links,
 }
 
 impl Part for LinkRows {
-    ghost tells = { λ all part. ShowsOnly all LinkInForce (IsOneOf link_values part.links.items) };
+    ghost tells = { λ all part. ShowsOnly all LinkInForce (IsOneOf link_values part.links) };
 
     ghost in_order = { λ _. Unit {0} };
 
-    ghost readable = { λ all. ShowsEach all LinkInForce link_values IsLink };
+    ghost readable = { ShowsLinks };
 
     fn read<S: Alter>(alloc: Global, conn: &mut Connection<S>) -> Result<Option<LinkRows>, Error> {
         match read_table(alloc, conn, Table::LinkInForce) {
-            Ok(Some(links)) => Ok(Some(LinkRows { links })),
+            Ok(Some(links)) => Ok(link_rows(links)?),
             Ok(None) => Ok(None),
             Err(error) => Err(error),
         }
+    }
+}
+
+// The lists that the links make, if no two that differ have the same names.
+fn link_rows(links: Vec<Link>) -> Result<Option<LinkRows>, AllocError>
+    ensures same { IfOk result (λ found. IfSome found (λ part. HaveSame part.links links.items)) }
+    ensures none { IfOk result (λ found. found ≡ None → AreNamedOnce links.items → ⊥) }
+{
+    match lists_of_links(links)? {
+        Some(links) => Ok(Some(LinkRows { links })),
+        None => Ok(None),
     }
 }
 

@@ -8,11 +8,11 @@ ghost use Rattle.occurrences.specs.declared.place.CurrentRow.{CurrentRow as Curr
 ghost use Rattle.occurrences.specs.declared.place.Deletion.{Deletion as DeletionValue};
 ghost use Rattle.external_dependencies.specs.declared.pairs.Pair.{Pair as PairValue};
 ghost use Rattle.external_dependencies.specs.declared.links.Link.{Link as LinkValue};
-ghost use Rattle.planner_machine.specs.Sound.{IsRow};
+ghost use Rattle.planner_machine.specs.Sound.{IsLink, IsRow};
 ghost use Rattle.table_facts.specs.Facts.{row_values, current_values, deletion_values, pair_values, link_values};
-ghost use Rattle.table_reading.specs.Cells.{IsLink, IsNumberedRow, IsPair, Leads};
+ghost use Rattle.table_reading.specs.Cells.{IsNumberedRow, IsPair, Leads};
 
-use crate::cells::{is_null, letter_at, moment_at, name_at, origin_at, serial_at};
+use crate::cells::{letter_at, limit_at, moment_at, name_at, origin_at, serial_at};
 use external_dependencies::{Link, Pair};
 use occurrences::{CurrentRow, Deletion, Key, Reason, Row, Status};
 use sqlite::Row as Cells;
@@ -117,12 +117,17 @@ fn told_link(cells: &Cells) -> Option<Link>
     ensures none { result ≡ None → (link : LinkValue) → IsLink link → link_values link ≡ cells.now
         → ⊥ }
 {
-    if cells.column_count() != 3 || !is_null(cells, 2) {
+    if cells.column_count() != 3 {
         return None;
     }
     let app = name_at(cells, 0)?;
     let predecessor = name_at(cells, 1)?;
-    Some(Link { app, predecessor })
+    let within = limit_at(cells, 2)?;
+    Some(Link {
+        app,
+        predecessor,
+        within,
+    })
 }
 
 impl Told for Row {

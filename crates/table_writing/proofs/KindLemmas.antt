@@ -8,7 +8,7 @@ use Rattle.sqlite.specs.Cast.{cast, as_text}
 use Rattle.table_schema.specs.Rows.{AreOfKinds}
 use Rattle.table_schema.specs.declared.tables.Table.TheVariants as table
 use Rattle.table_facts.specs.Facts.{current_key, current_values, deletion_key, deletion_values, link_key, link_values}
-use Rattle.table_facts.specs.Facts.{or_null, pair_values, row_key, row_values}
+use Rattle.table_facts.specs.Facts.{natural, or_null, pair_values, row_key, row_values}
 use Rattle.app_definitions.specs.declared.options.Options.{Options}
 use Rattle.planner_machine.specs.declared.content.Bounds.{Bounds}
 use Rattle.planner_machine.specs.declared.job.Job.{Job}
@@ -32,6 +32,10 @@ cast-text : (o : Option (List ℕ)) → as_text (or_null (option_map Text o)) �
 cast-text None = refl
 cast-text (Some t) = refl
 
+cast-hours : (o : Option ℕ) → cast Integer (or_null (option_map natural o)) ≡ or_null (option_map natural o)
+cast-hours None = cast-Null
+cast-hours (Some n) = cast-Int (pos n)
+
 pub ltp_storable : AreStorable table.LongTerm row_values
 ltp_storable row = simp (cast-Int, cast-Null, cast-text)
 
@@ -48,7 +52,7 @@ pub pairs_storable : AreStorable table.Dependency pair_values
 pairs_storable pair = simp (cast-Int, cast-Null)
 
 pub links_storable : AreStorable table.LinkInForce link_values
-links_storable link = simp (cast-Null)
+links_storable link = simp (cast-Null, cast-hours)
 
 pub ltp_alone : StandAlone table.LongTerm
 ltp_alone key all = tt

@@ -5,13 +5,15 @@ use Rattle.sqlite.specs.State.{State}
 use Rattle.table_schema.specs.Rows.{AreOfKinds, IsAlone, Stands, Tables, tables_of, with_cells, without_key}
 use Rattle.table_schema.specs.declared.tables.Table.{Table}
 use Rattle.table_schema.specs.declared.tables.Table.TheVariants as table
-use Rattle.std.specs.Prelude.{ℕ, Option, Some, None, filter, not}
+use Rattle.std.specs.Prelude.{ℕ, ◌&&◌, Bool, Option, Some, None, filter, nat_eq, not}
+use Rattle.std.specs.List.{list_any}
+use Rattle.std.specs.Option.{option_eq}
+use Rattle.std.specs.Str.{bytes_eq}
 use Rattle.app_definitions.specs.declared.options.Options.{Options}
 use Rattle.external_dependencies.specs.declared.change.PairChange.{PairChange}
 use Rattle.external_dependencies.specs.declared.links.Link.{Link}
 use Rattle.planner_machine.specs.declared.content.Bounds.{Bounds}
 use Rattle.planner_machine.specs.declared.job.Job.{Job}
-use Rattle.keyed_lists.specs.Keyed.{holds_key}
 use Rattle.plan_store.specs.declared.changes.Change.{Change}
 use Rattle.plan_store.specs.declared.changes.Moves.{Moves}
 use Rattle.table_facts.specs.Facts.{current_key, current_values, deletion_key, deletion_values, link_values, natural}
@@ -68,11 +70,21 @@ pairs_moved change all =
     (without_each table.Dependency pair_values change.added
     (without_each table.Dependency pair_values change.removed all))
 
--- those of the links that the others lack
-abbrev pub beside : List Link → List Link → List Link
-beside others links = filter (λ (l : Link). not (holds_key link_cmp (λ (m : Link). m) others l)) links
+-- whether the two links have the same names and the same limit
+abbrev pub is_same_link : Link → Link → Bool
+is_same_link l m =
+    bytes_eq l.app m.app && (bytes_eq l.predecessor m.predecessor && option_eq nat_eq l.within m.within)
 
--- the lists in force: what the new ones lack goes, and what the old ones lack comes
+-- whether the link is one of these, with the same limit
+abbrev pub holds_link : List Link → Link → Bool
+holds_link links l = list_any (is_same_link l) links
+
+-- those of the links that the others lack; a link with another limit is another
+abbrev pub beside : List Link → List Link → List Link
+beside others links = filter (λ (l : Link). not (holds_link others l)) links
+
+-- the lists in force: what the new ones lack goes, and then what the old ones lack comes, so that a link whose limit
+-- changed goes with the old limit and comes with the new one
 abbrev pub links_replaced : List Link → List Link → Tables → Tables
 links_replaced old new all =
     with_each table.LinkInForce link_values (beside old new)

@@ -3,12 +3,13 @@
 ghost use Rattle.std.specs.Prelude.{◌≡◌, option_map};
 ghost use Rattle.sqlite.specs.Values.{bound_value};
 ghost use Rattle.sqlite.specs.Value.{owned};
-ghost use Rattle.sqlite.specs.declared.types.Value.TheVariants.{Null, Text};
+ghost use Rattle.sqlite.specs.declared.types.Value.TheVariants.{Text};
 ghost use Rattle.occurrences.specs.Row.{run_cycle_of};
 ghost use Rattle.table_facts.specs.Facts.{natural, or_null};
 
 use occurrences::Origin;
 use sqlite::types::ValueRef;
+use work_calendars::Within;
 
 /// A number.
 pub(crate) fn number(n: u32) -> ValueRef<'static>
@@ -17,11 +18,14 @@ pub(crate) fn number(n: u32) -> ValueRef<'static>
     ValueRef::Int(i64::from(n))
 }
 
-/// No limit, as each link has.
-pub(crate) fn no_limit() -> ValueRef<'static>
-    ensures { bound_value (owned result) ≡ Null }
+/// The hours of a limit, or NULL where there is none.
+pub(crate) fn limit(within: Option<Within>) -> ValueRef<'static>
+    ensures { bound_value (owned result) ≡ or_null (option_map natural within) }
 {
-    ValueRef::Null
+    match within {
+        Some(within) => number(within.hours()),
+        None => ValueRef::Null,
+    }
 }
 
 /// The run cycle that named an occurrence, or NULL where it was added.

@@ -7,7 +7,7 @@ ghost use Rattle.table_facts.specs.Facts.{row_values, current_values, deletion_v
 ghost use Rattle.table_facts.specs.Facts.{row_key, current_key, deletion_key, link_key};
 ghost use Rattle.table_writing.specs.Taking.{WritesTaking};
 
-use crate::cells::{no_limit, number, origin};
+use crate::cells::{limit, number, origin};
 use external_dependencies::{Link, Pair};
 use occurrences::{CurrentRow, Deletion, Row};
 use sqlite::types::ValueRef;
@@ -143,7 +143,7 @@ impl Fact for Link {
             &[
                 ValueRef::Text(self.app.as_bytes()),
                 ValueRef::Text(self.predecessor.as_bytes()),
-                no_limit(),
+                limit(self.within),
             ],
         )
     }

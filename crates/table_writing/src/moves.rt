@@ -1,14 +1,10 @@
 // What moves in the tables of occurrences, pairs and links.
 
 ghost use Rattle.std.specs.Prelude.{◌≡◌, IfOk, Some, ⊤};
-ghost use Rattle.external_dependencies.specs.Link.{link_cmp};
-ghost use Rattle.external_dependencies.specs.Rising.{IsRising};
-ghost use Rattle.external_dependencies.specs.declared.links.Link.{Link as LinkValue};
-ghost use Rattle.keyed_lists.specs.Keyed.{holds_key};
 ghost use Rattle.table_writing.specs.Taking.{AreKeysOf, TakesLinks, TakesMoves, TakesPairs};
 ghost use Rattle.table_writing.specs.Taking.{TakesRows, WritesTaking};
 ghost use Rattle.table_writing.specs.Writing.{AreStorable, StandAlone, moved_in, rows_moved, pairs_moved};
-ghost use Rattle.table_writing.specs.Writing.{beside, links_moved, links_replaced};
+ghost use Rattle.table_writing.specs.Writing.{beside, holds_link, links_moved, links_replaced};
 
 use crate::facts::Fact;
 use crate::loops::{put_each, take_each};
@@ -65,19 +61,17 @@ pub(crate) fn write_pairs<S: Alter>(
     put_each(tx, Table::Dependency, change.added.as_slice())
 }
 
-// Whether the link is one of these.
-fn has_link(links: &[Link], link: &Link) -> bool
-    ensures { IsRising link_cmp links.now
-        → result ≡ holds_key link_cmp (λ (l : LinkValue). l) links.now link.now }
+// Whether the link is one of these, with the same limit.
+fn has_link(links: &Links, link: &Link) -> bool
+    ensures { result ≡ holds_link links.now link.now }
 {
-    links.binary_search(link).is_ok()
+    links.contains(link)
 }
 
-// Those of the links that the others lack.
+// Those of the links that the others lack; a link with another limit is another.
 fn links_beside(alloc: Global, others: &Links, links: &Links) -> Result<Vec<Link>, AllocError>
     ensures { IfOk result (λ found. found.items ≡ beside others.now links.now) }
 {
-    let others = others.as_slice();
     links
         .as_slice()
         .iter()
@@ -86,7 +80,8 @@ fn links_beside(alloc: Global, others: &Links, links: &Links) -> Result<Vec<Link
         .collect(alloc)
 }
 
-// Puts lists in force in place of others: takes out those that are no longer there, and puts in the new ones.
+// Puts lists in force in place of others: takes out those that are no longer there, and puts in the new ones. A link
+// whose limit changed is taken out before it is put in, since the table has one row of its names at most.
 fn replace_links<S: Alter>(
     tx: &mut Transaction<'_, S>,
     alloc: Global,

@@ -1,6 +1,7 @@
 use Rattle.std.proofs.Common.{◌≡◌, ◌++◌, take, map, ℕ, List}
+use Rattle.definition_records.specs.declared.predecessors.Predecessor.{Predecessor}
 use Rattle.app_occurrences.proofs.links.push_links.Given as goal
 
-abbrev pub invariant-loop-name : goal.invariant-loop-name
-invariant-loop-name l = l.links.items ≡ l.initial.links.items ++ map (λ (name : List ℕ). (l.app, name))
-    (take l.name-index l.names)
+abbrev pub invariant-loop-predecessor : goal.invariant-loop-predecessor
+invariant-loop-predecessor l = l.links.items ≡ l.initial.links.items
+    ++ map (λ (predecessor : Predecessor). (l.app, predecessor)) (take l.predecessor-index l.listed)

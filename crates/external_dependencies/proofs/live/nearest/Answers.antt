@@ -1,98 +1,26 @@
-use Rattle.std.proofs.Common.{◌≡◌, ◌+◌, ◌<◌, ◌≤◌, length, true, false, sym, ap, subst, arith, ◌∙◌, rules, Some, None}
+use Rattle.std.proofs.Common.{◌∙◌, sym, subst, None}
 use Rattle.std.specs.List.{Contains}
-use Rattle.std.specs.List.Sorted.{IsPartitionedBy, IsPartitionPoint}
-use Rattle.std.specs.Cmp.Lexicographic.{slice_cmp}
-use Rattle.std.specs.Ordering.{nat_cmp, ordering_then, is_lt}
-use Rattle.std.proofs.lemmas.List.Sorted.{IsPartitionPoint-from_clause}
-use Rattle.external_dependencies.specs.declared.live.Arrival.{Arrival}
-use Rattle.external_dependencies.specs.Nearest.{IsNearestAnswer}
-use Rattle.external_dependencies.proofs.NearestLemmas.{parted, none_before, nearest_is, none_of_app, IsLimit}
-use Rattle.external_dependencies.proofs.NearestLemmas.{own_limit, other_limit, names_equal, names_differ}
+use Rattle.std.proofs.lemmas.Bool.{false≢true}
+use Rattle.external_dependencies.specs.Nearest.{IsNearest, IsNearestArrival}
+use Rattle.external_dependencies.proofs.NearestLemmas.{answer_close, answer_far}
 use Rattle.external_dependencies.proofs.live.nearest.Goals as goal
-use Rattle.external_dependencies.proofs.live.nearest.Goals.{then-eq, else-eq}
 
--- nothing arrives before the limit
-pub returns-then-count-eq0 : goal.returns-then-count-eq0
-returns-then-count-eq0 c =
-    let live = c.live.inside.arrivals.items in
+pub returns-then-arrives_within : goal.returns-then-arrives_within
+returns-then-arrives_within c =
+    let live = c.args.live.now in
     let key = c.args.key.now in
     let app = c.args.app.now in
-    let limit = c.if-eq.limit in
-    let count = c.partition_point-count.result in
-    let before = λ (a : Arrival). is_lt (ordering_then (slice_cmp nat_cmp a.app app) (nat_cmp a.ia limit)) in
-    let exact : IsLimit key app limit = elim c.if-eq.branch [
-      | then-eq w ↦ own_limit key app limit (names_equal app key.app (sym c.eq.ensures ∙ w.if-eq.true))
-          (w.limit-is ∙ c.number-arrival.ensures.value)
-      | else-eq w ↦ other_limit key app limit (names_differ app key.app (sym c.eq.ensures ∙ w.if-eq.false))
-          (w.limit-is ∙ ap (λ n. n + 1) c.number-arrival.ensures.value)
-    ] in
-    let divided : IsPartitionedBy before c.deref.result.now =
-    subst (IsPartitionedBy before) (sym c.deref.ensures.value) (parted live c.live.invariant app limit) in
-    let point = IsPartitionPoint-from_clause before _ _ c.partition_point-count.ensures.partitioned divided
-    (λ a r q k. search rules) in
-    let here : IsPartitionPoint (λ a. before a ≡ true) (λ a. before a ≡ false) live count =
-    subst (λ ls. IsPartitionPoint (λ a. before a ≡ true)
-    (λ a. before a ≡ false) ls count) c.deref.ensures.value point in
-    subst (λ ls. IsNearestAnswer (Contains ls) key app None) c.live.view_is
-    (none_before live c.live.invariant app limit key exact count here c.if-count-eq0.true)
+    let is : IsNearest (Contains live) key app None c.in-Some.last =
+    subst (IsNearestArrival (Contains live) key app None) c.in-Some.is c.last_arrival.ensures in
+    answer_close (Contains live) key app c.args.within c.in-Some.last is
+    (c.arrives_within.ensures.0 c.if-arrives_within.true)
 
--- the last arrival before the limit is of the application
-pub returns-then-eq-2 : goal.returns-then-eq-2
-returns-then-eq-2 c =
-    let live = c.live.inside.arrivals.items in
+pub returns-else-arrives_within : goal.returns-else-arrives_within
+returns-else-arrives_within c =
+    let live = c.args.live.now in
     let key = c.args.key.now in
     let app = c.args.app.now in
-    let limit = c.if-eq.limit in
-    let count = c.partition_point-count.result in
-    let before = λ (a : Arrival). is_lt (ordering_then (slice_cmp nat_cmp a.app app) (nat_cmp a.ia limit)) in
-    let exact : IsLimit key app limit = elim c.if-eq.branch [
-      | then-eq w ↦ own_limit key app limit (names_equal app key.app (sym c.eq.ensures ∙ w.if-eq.true))
-          (w.limit-is ∙ c.number-arrival.ensures.value)
-      | else-eq w ↦ other_limit key app limit (names_differ app key.app (sym c.eq.ensures ∙ w.if-eq.false))
-          (w.limit-is ∙ ap (λ n. n + 1) c.number-arrival.ensures.value)
-    ] in
-    let divided : IsPartitionedBy before c.deref.result.now =
-    subst (IsPartitionedBy before) (sym c.deref.ensures.value) (parted live c.live.invariant app limit) in
-    let point = IsPartitionPoint-from_clause before _ _ c.partition_point-count.ensures.partitioned divided
-    (λ a r q k. search rules) in
-    let here : IsPartitionPoint (λ a. before a ≡ true) (λ a. before a ≡ false) live count =
-    subst (λ ls. IsPartitionPoint (λ a. before a ≡ true)
-    (λ a. before a ≡ false) ls count) c.deref.ensures.value point in
-    let some : 0 < count = omega arith in
-    let within : count ≤ length live = omega
-    (arith, c.partition_point-count.ensures.bound, ap length c.deref.ensures.value) in
-    let same : c.index.result.now.app ≡ app =
-    names_equal c.index.result.now.app app (sym c.eq-2.ensures ∙ c.if-eq-2.true) in
-    subst (λ ls. IsNearestAnswer (Contains ls) key app (Some c.index.result.now.serial)) c.live.view_is
-    (nearest_is live c.live.invariant app limit key exact count here some within c.index.result.now c.index.ensures
-    same)
-
--- it is of another
-pub returns-else-eq-2 : goal.returns-else-eq-2
-returns-else-eq-2 c =
-    let live = c.live.inside.arrivals.items in
-    let key = c.args.key.now in
-    let app = c.args.app.now in
-    let limit = c.if-eq.limit in
-    let count = c.partition_point-count.result in
-    let before = λ (a : Arrival). is_lt (ordering_then (slice_cmp nat_cmp a.app app) (nat_cmp a.ia limit)) in
-    let exact : IsLimit key app limit = elim c.if-eq.branch [
-      | then-eq w ↦ own_limit key app limit (names_equal app key.app (sym c.eq.ensures ∙ w.if-eq.true))
-          (w.limit-is ∙ c.number-arrival.ensures.value)
-      | else-eq w ↦ other_limit key app limit (names_differ app key.app (sym c.eq.ensures ∙ w.if-eq.false))
-          (w.limit-is ∙ ap (λ n. n + 1) c.number-arrival.ensures.value)
-    ] in
-    let divided : IsPartitionedBy before c.deref.result.now =
-    subst (IsPartitionedBy before) (sym c.deref.ensures.value) (parted live c.live.invariant app limit) in
-    let point = IsPartitionPoint-from_clause before _ _ c.partition_point-count.ensures.partitioned divided
-    (λ a r q k. search rules) in
-    let here : IsPartitionPoint (λ a. before a ≡ true) (λ a. before a ≡ false) live count =
-    subst (λ ls. IsPartitionPoint (λ a. before a ≡ true)
-    (λ a. before a ≡ false) ls count) c.deref.ensures.value point in
-    let some : 0 < count = omega arith in
-    let within : count ≤ length live = omega
-    (arith, c.partition_point-count.ensures.bound, ap length c.deref.ensures.value) in
-    let differ = names_differ c.index.result.now.app app (sym c.eq-2.ensures ∙ c.if-eq-2.false) in
-    subst (λ ls. IsNearestAnswer (Contains ls) key app None) c.live.view_is
-    (none_of_app live c.live.invariant app limit key exact count here some within c.index.result.now c.index.ensures
-    differ)
+    let is : IsNearest (Contains live) key app None c.in-Some.last =
+    subst (IsNearestArrival (Contains live) key app None) c.in-Some.is c.last_arrival.ensures in
+    answer_far (Contains live) key app c.args.within c.in-Some.last is
+    (λ close. false≢true (sym c.if-arrives_within.false ∙ c.arrives_within.ensures.1 close))

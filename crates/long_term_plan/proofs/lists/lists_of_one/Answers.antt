@@ -1,7 +1,8 @@
-use Rattle.std.proofs.Common.{◌≡◌, ◌++◌, ◌∙◌, ap, filter, subst, sym}
-use Rattle.std.specs.List.{Contains}
+use Rattle.std.proofs.Common.{◌≡◌, ◌++◌, ◌∙◌, ap, filter, subst}
+use Rattle.external_dependencies.specs.Link.{AreNamedOnce, KeepsNames}
+use Rattle.external_dependencies.proofs.OrderLemmas.{keeps_all}
 use Rattle.long_term_plan.specs.Lists.{is_of_other}
-use Rattle.long_term_plan.proofs.OneListLemmas.{one_list}
+use Rattle.long_term_plan.proofs.OneListLemmas.{one_list, one_list_once}
 use Rattle.long_term_plan.proofs.lists.lists_of_one.Goals as goal
 
 pub returns : goal.returns
@@ -11,11 +12,16 @@ returns c =
     let others : c.as_slice-2.result.now ≡ filter (is_of_other app) c.args.before.now =
     c.as_slice-2.ensures.value ∙ c.in_ok-others.ensures ∙ ap (filter (is_of_other app)) c.as_slice.ensures.all in
     let items = c.in_ok-extend_from_slice.ensures.items ∙ ap (λ l. own ++ l) others in
+    let all = own ++ filter (is_of_other app) c.args.before.now in
+    let once : AreNamedOnce all = one_list_once c.args.all.now app c.args.before.now own
+    c.in_ok-links.ensures.exactly c.in_ok-links.ensures.once c.as_slice.ensures.rising in
+    let kept = keeps_all all c.from_vec.result once
+    (subst (λ ls. KeepsNames ls c.from_vec.result) items c.from_vec.ensures.kept) in
     record {
       rising = c.from_vec.ensures.rising;
       exactly = λ link.
-          let are = one_list c.args.all.now app c.args.before.now own c.in_ok-links.ensures link in (
-            (λ there. are.0 (subst (λ l. Contains l link) items ((c.from_vec.ensures.same link).0 there))),
-            λ is. (c.from_vec.ensures.same link).1 (subst (λ l. Contains l link) (sym items) (are.1 is)),
+          let are = one_list c.args.all.now app c.args.before.now own c.in_ok-links.ensures.exactly link in (
+            (λ there. are.0 ((kept link).0 there)),
+            λ is. (kept link).1 (are.1 is),
           );
     }

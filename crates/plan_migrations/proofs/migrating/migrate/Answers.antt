@@ -1,9 +1,7 @@
 use Rattle.std.proofs.Common.{arith}
 use Rattle.sqlite.specs.Held.{state}
-use Rattle.sqlite.specs.State.{HasCleanDisk}
 use Rattle.sqlite.proofs.StateLemmas.{survives_then}
 use Rattle.plan_migrations.specs.Migrating.{MayRenew}
-use Rattle.plan_migrations.specs.Schemas.{IsKnownVersion, ShowsVersion}
 use Rattle.plan_migrations.proofs.ReadLemmas.{current_migrated, current_unmigrated, first_migrated, first_unmigrated}
 use Rattle.plan_migrations.proofs.ReadLemmas.{renews_since}
 use Rattle.plan_migrations.proofs.TurnLemmas.{kept_since, same_if_version, told_some}

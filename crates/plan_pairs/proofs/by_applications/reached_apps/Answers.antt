@@ -59,12 +59,12 @@ returns c = record { touched = in_stretch; changed = in_lists; naming = in_namin
     with_list app there = (
       (c.in_order.ensures.same app).1 (subst (λ xs. Contains xs app) (sym whole)
           (Contains-append_right named reached app there)),
-      λ predecessor listed. (c.in_order.ensures.same predecessor).1 (subst (λ xs. Contains xs predecessor) (sym whole)
+      λ predecessor (within, listed). (c.in_order.ensures.same predecessor).1 (subst (λ xs. Contains xs predecessor) (sym whole)
           (Contains-append_left named reached predecessor
           (c.in_ok-apps.ensures
           (subst (IsRising (slice_cmp nat_cmp)) (sym c.deref-5.ensures.value) c.in_order-reached.ensures.rising)
-          (record { app = app; predecessor = predecessor })
-          (subst (λ ls. Contains ls (record { app = app; predecessor = predecessor })) (sym c.as_slice-2.ensures.all)
+          (record { app = app; predecessor = predecessor; within = within })
+          (subst (λ ls. Contains ls (record { app = app; predecessor = predecessor; within = within })) (sym c.as_slice-2.ensures.all)
           listed)
           (subst (λ xs. Contains xs app) (sym c.deref-5.ensures.value) there)))),
     )
@@ -90,11 +90,11 @@ returns c = record { touched = in_stretch; changed = in_lists; naming = in_namin
 
     in_naming : (s : Stretch) (app : List ℕ) → Contains stretches s → Lists links app s.app
         → HasWithList links apps app
-    in_naming s app there listed = with_list app (to_reached app
+    in_naming s app there (within, listed) = with_list app (to_reached app
         (Contains-append_left (naming ++ touched) c.args.touch.now.lists.items app
         (Contains-append_left naming touched app
         (c.in_ok-reached.ensures
         (subst (IsRising (slice_cmp nat_cmp)) (sym c.deref-2.ensures.value) c.in_order-touched.ensures.rising)
-        (record { app = app; predecessor = s.app })
-        (subst (λ ls. Contains ls (record { app = app; predecessor = s.app })) (sym c.as_slice.ensures.all) listed)
+        (record { app = app; predecessor = s.app; within = within })
+        (subst (λ ls. Contains ls (record { app = app; predecessor = s.app; within = within })) (sym c.as_slice.ensures.all) listed)
         (subst (λ xs. Contains xs s.app) (sym c.deref-2.ensures.value) (is_touched s there))))))

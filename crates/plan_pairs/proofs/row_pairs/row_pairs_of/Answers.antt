@@ -30,11 +30,11 @@ loop-link-preserved c sound =
           let pushed : w.push.new.self.items ≡ now
           ++ (record { successor = row.serial; predecessor = w.in-Some.predecessor }) ∷ [] =
           w.in_ok-push.ensures.items in
-          let found = subst (IsNearestAnswer (LiveAt s) row.key link.predecessor) w.in-Some.is answer in
+          let found = subst (IsNearestAnswer (LiveAt s) row.key link.predecessor link.within) w.in-Some.is answer in
           rw (w.own-is, pushed) (by_more s row (take index list) now (c.loop-link.invariant sound) link
           w.in-Some.predecessor found)
       | in_default w ↦
-          let found = subst (IsNearestAnswer (LiveAt s) row.key link.predecessor) w.in_default.is answer in
+          let found = subst (IsNearestAnswer (LiveAt s) row.key link.predecessor link.within) w.in_default.is answer in
           rw w.own-is (by_skip s row (take index list) now (c.loop-link.invariant sound) link found)
     ] in
     subst (λ ls. ArePairsBy s row ls c.match-nearest.own.items) (sym front) more

@@ -1,8 +1,6 @@
 use Rattle.std.proofs.Common.{◌≡◌, ◌⊎◌, ◌++◌, ◌∙◌, ℕ, List, ap, inl, inr, subst, sym}
 use Rattle.std.specs.List.{Contains}
 use Rattle.std.proofs.lemmas.List.Elements.{Contains-append_left, Contains-append_right}
-use Rattle.external_dependencies.specs.Link.{link_cmp}
-use Rattle.external_dependencies.specs.Rising.{IsRising}
 use Rattle.external_dependencies.specs.declared.links.Link.{Link}
 use Rattle.plan_pairs.proofs.TouchedLemmas.{lists_told}
 use Rattle.plan_pairs.proofs.touches.changed_lists.Goals as goal
@@ -25,23 +23,11 @@ returns c = lists_told before links c.extend_from_slice.new.self.items on back
     whole : c.extend_from_slice.new.self.items ≡ first ++ more
     whole = c.in_ok-extend_from_slice.ensures.items ∙ ap (λ xs. first ++ xs) c.deref.ensures.value
 
-    was : c.as_slice-was.result.now ≡ before
-    was = c.as_slice-was.ensures.all
-
-    now : c.as_slice-now.result.now ≡ links
-    now = c.as_slice-now.ensures.all
-
     told : (link : Link) → Contains before link → Contains links link ⊎ Contains first link.app
-    told = subst (λ ls. (link : Link) → Contains before link → Contains ls link ⊎ Contains first link.app) now
-        (subst (λ ls. (link : Link) → Contains ls link → Contains c.as_slice-now.result.now link
-        ⊎ Contains first link.app) was
-        (c.in_ok-apps.ensures (subst (IsRising link_cmp) (sym now) c.as_slice-now.ensures.rising)))
+    told = c.in_ok-apps.ensures
 
     told_back : (link : Link) → Contains links link → Contains before link ⊎ Contains more link.app
-    told_back = subst (λ ls. (link : Link) → Contains links link → Contains ls link ⊎ Contains more link.app) was
-        (subst (λ ls. (link : Link) → Contains ls link → Contains c.as_slice-was.result.now link
-        ⊎ Contains more link.app) now
-        (c.in_ok-more.ensures (subst (IsRising link_cmp) (sym was) c.as_slice-was.ensures.rising)))
+    told_back = c.in_ok-more.ensures
 
     on : (link : Link) → Contains before link
         → Contains links link ⊎ Contains c.extend_from_slice.new.self.items link.app

@@ -5,7 +5,8 @@ use Rattle.std.proofs.lemmas.Bool.{false≢true}
 use Rattle.std.proofs.lemmas.Result.{IfOk-weaker}
 use Rattle.external_dependencies.specs.declared.links.Link.{Link}
 use Rattle.plan_store.specs.Contents.{content_of}
-use Rattle.plan_soundness.specs.Ranges.{HaveRanges, IsLinkValue}
+use Rattle.planner_machine.specs.Sound.{IsLink}
+use Rattle.plan_soundness.specs.Ranges.{HaveRanges}
 use Rattle.plan_soundness.proofs.RangeLemmas.{links_from, links_to}
 use Rattle.plan_soundness.proofs.ranges.has_ranges.Goals as goal
 
@@ -25,7 +26,7 @@ pub returns-then-not-are_links : goal.returns-then-not-are_links
 returns-then-not-are_links c numbered = (
   (λ yes. absurd (false≢true yes)),
   λ ranges. absurd (false≢true (sym c.if-not-are_links.true ∙ c.are_links.ensures.1
-      (subst (λ (l : List Link). All IsLinkValue l) (sym c.as_slice.ensures.all)
+      (subst (λ (l : List Link). All IsLink l) (sym c.as_slice.ensures.all)
       (links_to c.args.content.now.in_force ranges.links)))),
 )
 
@@ -38,7 +39,7 @@ returns c numbered =
         definitions = c.in_ok-definitions.ensures.0 c.if-not-definitions.false;
         rows = tells.0 yes;
         days = c.has_days.ensures.0 c.if-not-has_days.false;
-        links = links_from kept.in_force (subst (λ (l : List Link). All IsLinkValue l) c.as_slice.ensures.all
+        links = links_from kept.in_force (subst (λ (l : List Link). All IsLink l) c.as_slice.ensures.all
             (c.are_links.ensures.0 c.if-not-are_links.false));
       }),
       λ ranges. tells.1 ranges.rows,

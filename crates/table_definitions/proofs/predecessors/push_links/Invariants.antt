@@ -2,5 +2,5 @@ use Rattle.table_definitions.specs.Adding.{Adds, IsOfPlace}
 use Rattle.table_definitions.specs.Parts.{IsLinkRow}
 use Rattle.table_definitions.proofs.predecessors.push_links.Given as goal
 
-abbrev pub invariant-loop-name : goal.invariant-loop-name
-invariant-loop-name l = Adds (IsOfPlace (λ _. IsLinkRow l.app) l.names l.name-index) l.fn.rows.items l.rows.items
+abbrev pub invariant-loop-predecessor : goal.invariant-loop-predecessor
+invariant-loop-predecessor l = Adds (IsOfPlace (λ _. IsLinkRow l.app) l.listed l.predecessor-index) l.fn.rows.items l.rows.items

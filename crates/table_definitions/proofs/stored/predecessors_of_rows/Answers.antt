@@ -1,8 +1,9 @@
-use Rattle.std.proofs.Common.{List, ℕ, subst, ◌∙◌}
+use Rattle.std.proofs.Common.{List, subst, ◌∙◌}
 use Rattle.std.specs.Prelude.{IfOk, IfSome, IsSome}
+use Rattle.definition_records.specs.declared.predecessors.Predecessor.{Predecessor}
 use Rattle.table_facts.specs.Facts.{IsPredecessorRow}
 use Rattle.table_facts.specs.Content.{ByName}
-use Rattle.table_definitions.specs.Drafted.{ArePredecessorNames}
+use Rattle.table_definitions.specs.Drafted.{AreSoundPredecessors}
 use Rattle.table_definitions.specs.Gathering.{AreSound}
 use Rattle.table_definitions.specs.Storing.{AreRowsOf}
 use Rattle.table_definitions.proofs.stored.predecessors_of_rows.Goals as goal
@@ -13,6 +14,6 @@ returns-clause-made c = subst (λ l. IfOk c.read_predecessors.result (λ found. 
     (c.deref.ensures.value ∙ c.in_ok-rows.ensures) c.read_predecessors.ensures.made
 
 pub returns-clause-found : goal.returns-clause-found
-returns-clause-found c = subst (λ l. IfOk c.read_predecessors.result (λ found. (all : ByName (List (List ℕ)))
-    → AreSound ArePredecessorNames all → AreRowsOf IsPredecessorRow l all → IsSome found))
+returns-clause-found c = subst (λ l. IfOk c.read_predecessors.result (λ found. (all : ByName (List Predecessor))
+    → AreSound AreSoundPredecessors all → AreRowsOf IsPredecessorRow l all → IsSome found))
     (c.deref.ensures.value ∙ c.in_ok-rows.ensures) c.read_predecessors.ensures.found

@@ -1,11 +1,15 @@
 use Rattle.std.proofs.Common.{◌≡◌, ◌≢◌, ◌+◌, ◌∙◌, ◌⊎◌, ap, inl, inr, sym}
+use Rattle.std.proofs.lemmas.Bool.{false≢true}
+use Rattle.external_dependencies.proofs.NearestLemmas.{answer_close, answer_far}
+use Rattle.planner_machine.specs.Pairs.{LiveAt}
 use Rattle.plan_store.specs.Contents.{content_of}
 use Rattle.plan_store.proofs.ArrivalLemmas.{other_name, nearest_none, nearest_some, same_name}
 use Rattle.plan_store.proofs.views.View.nearest.Goals as goal
 use Rattle.plan_store.proofs.views.View.nearest.Goals.{then-eq, else-eq}
 
-pub returns-in-Some : goal.returns-in-Some
-returns-in-Some c numbered =
+-- nothing arrives before it
+pub returns-in_default : goal.returns-in_default
+returns-in_default c numbered =
     let s = (content_of c.args.self.now.content.now).sets in
     let key = c.args.key.now in
     let app = c.args.app.now in
@@ -23,10 +27,11 @@ returns-in-Some c numbered =
             ∙ ap (λ n. n + 1) c.number-arrival.ensures.value,
       )
     ] in
-    nearest_some s key app limit is_limit c.in-Some.near (c.in-Some.ensures numbered)
+    nearest_none s key app limit is_limit c.args.within (c.in_default.ensures numbered)
 
-pub returns-in-None : goal.returns-in-None
-returns-in-None c numbered =
+-- the last that does is close enough
+pub returns-then-arrives_within : goal.returns-then-arrives_within
+returns-then-arrives_within c numbered =
     let s = (content_of c.args.self.now.content.now).sets in
     let key = c.args.key.now in
     let app = c.args.app.now in
@@ -44,4 +49,30 @@ returns-in-None c numbered =
             ∙ ap (λ n. n + 1) c.number-arrival.ensures.value,
       )
     ] in
-    nearest_none s key app limit is_limit (c.in-None.ensures numbered)
+    answer_close (LiveAt s) key app c.args.within c.in-Some.near
+    (nearest_some s key app limit is_limit c.in-Some.near (c.in-Some.ensures numbered))
+    (c.arrives_within.ensures.0 c.if-arrives_within.true)
+
+-- or too far
+pub returns-else-arrives_within : goal.returns-else-arrives_within
+returns-else-arrives_within c numbered =
+    let s = (content_of c.args.self.now.content.now).sets in
+    let key = c.args.key.now in
+    let app = c.args.app.now in
+    let limit = c.if-eq.limit in
+    let is_limit : ((app ≡ key.app) × (limit ≡ key.ia)) ⊎ ((app ≢ key.app) × (limit ≡ key.ia + 1)) =
+    elim c.if-eq.branch [
+      | then-eq w ↦ inl (
+        same_name app key.app (sym w.if-eq.ensures),
+        w.limit-is
+            ∙ c.number-arrival.ensures.value,
+      )
+      | else-eq w ↦ inr (
+        other_name app key.app (sym w.if-eq.ensures),
+        w.limit-is
+            ∙ ap (λ n. n + 1) c.number-arrival.ensures.value,
+      )
+    ] in
+    answer_far (LiveAt s) key app c.args.within c.in-Some.near
+    (nearest_some s key app limit is_limit c.in-Some.near (c.in-Some.ensures numbered))
+    (λ close. false≢true (sym c.if-arrives_within.false ∙ c.arrives_within.ensures.1 close))

@@ -1,4 +1,4 @@
-use Rattle.table_definitions.proofs.DraftLemmas.{no_predecessor}
+use Rattle.table_definitions.proofs.PredecessorLemmas.{no_predecessor}
 use Rattle.table_definitions.proofs.predecessors.PredecessorDraftDraft.begin.Goals as goal
 
 pub returns : goal.returns
