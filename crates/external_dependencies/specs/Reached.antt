@@ -25,8 +25,8 @@ AreAsked touch links rows asked =
     (q : PlacedRow) → Contains asked q ↔ (Contains rows q × (IsOpen q.place × MayReach touch links q.row))
 
 -- the rows and the pairs hold what the change reaches. Of all rows after it: each open one that it may reach, with
--- whatever is nearest to it in each application of its list, were there no limit. Of all pairs before it: those of these rows, and those of
--- what was withdrawn
+-- whatever is nearest to it in each application of its list, were there no limit. Of all pairs before it: those of
+-- these rows, and those of what was withdrawn
 pub record HoldsReached (touch : Touch) (links : List Link) (now : List PlacedRow) (old : List Pair)
     (rows : List PlacedRow) (pairs : List Pair) : Type 0 where
   pub rows_stand : (q : PlacedRow) → Contains rows q → Contains now q

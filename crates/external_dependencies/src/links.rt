@@ -142,7 +142,7 @@ impl Links {
         ensures { IsTrue result ↔ Contains self.now link.now }
     {
         match self.links.binary_search(link) {
-            Ok(place) => is_same_limit(self.links[place].within, link.within),
+            Ok(place) => self.links[place].within == link.within,
             Err(_) => false,
         }
     }
@@ -165,17 +165,6 @@ impl Links {
             Contains found.items link ↔ (Contains self.now link × (link.predecessor ≡ predecessor.now))) }
     {
         links_naming(alloc, self.links.as_slice(), predecessor)
-    }
-}
-
-// Whether both are the same limit, or both are none.
-fn is_same_limit(a: Option<Within>, b: Option<Within>) -> bool
-    ensures { IsTrue result ↔ (a ≡ b) }
-{
-    match (a, b) {
-        (None, None) => true,
-        (Some(a), Some(b)) => a.hours() == b.hours(),
-        _ => false,
     }
 }
 

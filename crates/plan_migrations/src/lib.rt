@@ -12,4 +12,5 @@ mod versions;
 
 pub use faults::{MigrateFault, migrate_fault_number};
 pub use migrating::migrate;
+pub use tables::TABLES;
 pub use versions::{FIRST_VERSION, version};

@@ -12,8 +12,8 @@ use sqlite::{Alter, Connection};
 use table_remaking::are_typed;
 use table_schema::{Table, select_text};
 
-/// All tables of a plan.
-pub(crate) const TABLES: [Table; 14] = [
+/// All tables of a plan, those that others refer to before them.
+pub const TABLES: [Table; 14] = [
     Table::Meta,
     Table::CalendarEntry,
     Table::Period,

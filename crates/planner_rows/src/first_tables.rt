@@ -2,7 +2,7 @@
 ghost use Rattle.std.specs.Prelude.{◌≡◌, false};
 
 use crate::disks::{Disks, Opened, Stopping, Wrong, connect, new_disks};
-use plan_migrations::FIRST_VERSION;
+use plan_migrations::{FIRST_VERSION, TABLES};
 use plan_tables::TableStore;
 use planner_cli::run;
 use sqlite::types::ValueRef;
@@ -10,24 +10,6 @@ use sqlite::{Alter, Connection, Error, MemStore, Row, Transaction};
 use std::alloc::{AllocError, Global};
 use table_remaking::make_first_tables;
 use table_schema::{Table, insert, select};
-
-/// All tables of a plan, those that others refer to before them.
-const TABLES: [Table; 14] = [
-    Table::Meta,
-    Table::CalendarEntry,
-    Table::Period,
-    Table::Application,
-    Table::RunCycle,
-    Table::Offset,
-    Table::Predecessor,
-    Table::LinkInForce,
-    Table::LongTerm,
-    Table::Current,
-    Table::History,
-    Table::Deletion,
-    Table::Dependency,
-    Table::Job,
-];
 
 /// The rows of a table.
 #[derive(Drop)]

@@ -112,11 +112,15 @@ fn migrate_one<R: AllocGlobal + Print>(
     let (stayed, went) = (stops.stayed, stops.went);
     match stops.wrong {
         None => {
-            println!(rt; "{name} holds, migrated: {stayed} stops left schema 1, {went} the current one")?;
+            println!(rt;
+                "{name} holds, migrated: {stayed} stops left schema 1, {went} the current one"
+            )?;
             Ok(true)
         }
         Some(part) => {
-            println!(rt; "{name} GOES WRONG, migrated, after {stayed} stops that left schema 1 and {went} others")?;
+            println!(rt;
+                "{name} GOES WRONG, migrated, after {stayed} stops that left schema 1 and {went} others"
+            )?;
             println!(rt; "  its {part} is not as it should be")?;
             Ok(false)
         }

@@ -153,7 +153,11 @@ fn try_stops_of(
 /// Makes of what a run of the stream leaves a plan of schema 1, and migrates it over files of which one stops at each
 /// call in turn, first the log and then the database file. After each stop a crash loses what was not made safe, and
 /// the files are opened again: the plan is of one of both versions, and migrated, adopted and asked it is the same.
-pub fn try_migrations(alloc: Global, text: &[u8], replies: &[u8]) -> Result<Migrations, AllocError> {
+pub fn try_migrations(
+    alloc: Global,
+    text: &[u8],
+    replies: &[u8],
+) -> Result<Migrations, AllocError> {
     let stream = Stream::new(alloc, text, replies)?;
     let files = match first_files(alloc, text) {
         Ok(files) => files,

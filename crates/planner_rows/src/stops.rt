@@ -3,7 +3,9 @@ ghost use Rattle.std.specs.Prelude.{IfOk};
 ghost use Rattle.planner_machine.specs.Sound.{IsSound};
 ghost use Rattle.plan_store.specs.Contents.{content_of};
 
-use crate::disks::{Disks, MOST_CALLS, Stopping, Tables, Wrong, crashed, let_go, new_disks, open_store};
+use crate::disks::{
+    Disks, MOST_CALLS, Stopping, Tables, Wrong, crashed, let_go, new_disks, open_store,
+};
 use crate::items::{Placed, statements_of};
 use crate::tables::{lists_after, unlike};
 use planner_cli::{Part, RunFault, Tally, run};
@@ -152,7 +154,11 @@ pub fn run_again(alloc: Global, store: &mut Tables, stream: &Stream<'_>) -> Resu
 }
 
 /// What the store has otherwise than a run of the text over lists leaves.
-pub fn unlike_lists(alloc: Global, store: &Tables, text: &[u8]) -> Result<Option<Wrong>, AllocError> {
+pub fn unlike_lists(
+    alloc: Global,
+    store: &Tables,
+    text: &[u8],
+) -> Result<Option<Wrong>, AllocError> {
     let lists = lists_after(alloc, text);
     unlike(alloc, store.content(), lists.content())
 }

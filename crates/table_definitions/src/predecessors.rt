@@ -101,17 +101,6 @@ fn predecessor_at(row: &Row, app: &Name) -> Option<Predecessor>
     Some(Predecessor { name, within })
 }
 
-// Whether both are the same limit, or both are none.
-fn is_same_limit(within: Option<Within>, other: Option<Within>) -> bool
-    ensures { IsTrue result ↔ (within ≡ other) }
-{
-    match (within, other) {
-        (Some(within), Some(other)) => within.hours() == other.hours(),
-        (None, None) => true,
-        _ => false,
-    }
-}
-
 // The limit, or the lack of one, that was read with the name, or none where the name was not read.
 fn limit_of(limits: &ByName<Option<Within>>, name: &Name) -> Option<Option<Within>>
     ensures { result ≡ maps.get limits.now name.now }
@@ -175,7 +164,7 @@ impl Draft for PredecessorDraft {
             return Ok(false);
         };
         match limit_of(&self.limits, &read.name) {
-            Some(within) => Ok(is_same_limit(within, read.within)),
+            Some(within) => Ok(within == read.within),
             None => {
                 self.limits.insert(read.name, read.within)?;
                 Ok(true)

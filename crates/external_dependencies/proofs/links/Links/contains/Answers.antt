@@ -1,4 +1,5 @@
-use Rattle.std.proofs.Common.{◌≡◌, ◌↔◌, ◌∙◌, ◌<◌, length, get_or, sym, ap, subst, arith, false, Ok, Err}
+use Rattle.std.proofs.Common.{◌≡◌, ◌↔◌, ◌∙◌, ◌<◌, length, get_or, sym, ap, subst, arith, rules, false, Ok, Err}
+use Rattle.std.specs.Cmp.Rules.{comparing}
 use Rattle.std.specs.Bool.{IsTrue}
 use Rattle.std.specs.List.{Contains}
 use Rattle.std.specs.List.Sorted.{IsBinarySearchResult}
@@ -26,13 +27,14 @@ returns-in-Ok c =
     let here : get_or links place link ≡ c.index.result.now =
     get_or_default links place link c.index.result.now in_range ∙ sym c.index.ensures in
     let limit = ap (λ (l : Link). l.within) here in
-    let is : IsTrue c.is_same_limit.result ↔ Contains links link = (
+    let same : IsTrue c.eq.result ↔ (c.index.result.now.within ≡ link.within) = search (comparing, rules) in
+    let is : IsTrue c.eq.result ↔ Contains links link = (
       (λ yes. found_link link_total links c.self.invariant link place in_range (position link)
-          (limit ∙ c.is_same_limit.ensures.0 yes)),
-      λ there. c.is_same_limit.ensures.1 (sym limit
+          (limit ∙ same.0 yes)),
+      λ there. same.1 (sym limit
           ∙ found_limit link_total links c.self.invariant link place in_range (position link) there),
     ) in
-    subst (λ xs. IsTrue c.is_same_limit.result ↔ Contains xs link) c.self.view_is is
+    subst (λ xs. IsTrue c.eq.result ↔ Contains xs link) c.self.view_is is
 
 pub returns-in-Err : goal.returns-in-Err
 returns-in-Err c =
