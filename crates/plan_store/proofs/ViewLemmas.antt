@@ -249,29 +249,3 @@ module _ {X : Type 0} (row_of : X → Row) (p : X → Bool) (xs : List X) (rows 
     where
       both : (b : Bool) → b ≡ false → b ≡ true → ⊥
       both b f t = cc
-
-pub early_rows : (t : ℕ) (xs : List Row) → AreRows of_row xs → (answer : Result (Vec Row Global) AllocError)
-    → IfOk answer (λ found. found.items ≡ filter (arrives_before t) xs)
-    → IfOk answer (λ found. ListsSet of_row (look_up (λ (row : Row). row.serial) xs) (λ row. row.key.ia < t)
-    found.items)
-early_rows t xs rows (Err e) is = tt
-early_rows t xs rows (Ok found) is = subst (λ l. ListsSet of_row (look_up (λ (row : Row). row.serial) xs)
-    (λ row. row.key.ia < t) l) (sym is)
-    (lists_part of_row (λ row. row.key.ia < t) xs (filter (arrives_before t) xs) rows
-    (filter_rows of_row (arrives_before t) xs rows).keyed (λ row. (
-      (λ there. let from = contains_filter (arrives_before t) xs row there in (from.0, ltb-true row.key.ia t from.1)),
-      λ both. filter_contains (arrives_before t) xs row both.0 (lt-ltb row.key.ia t both.1),
-    )))
-
-pub early_count : (t : ℕ) (xs : List Row) → AreRows of_row xs → (s : Sets) → AreNumbered s
-    → ((serial : ℕ) → look_up (λ (row : Row). row.serial) xs serial ≡ s.ltp serial)
-    → (answer : Result (Vec Row Global) AllocError) → IfOk answer (λ found. found.items ≡ filter (arrives_before t) xs)
-    → IfOk answer (λ found. length found.items ≡ size (λ serial. moved t (s.ltp serial)) s.issued)
-early_count t xs rows s numbered same (Err e) is = tt
-early_count t xs rows s numbered same (Ok found) is =
-    let early = filter_rows of_row (arrives_before t) xs rows in
-    ap length is
-    ∙ size_listed of_row s.issued (filter (arrives_before t) xs) (once_from_rows of_row (filter (arrives_before t) xs)
-    early) (λ row there. within_ltp s numbered xs rows same row (contains_filter (arrives_before t) xs row there).0)
-    ∙ size_same (look_up (λ (row : Row). row.serial) (filter (arrives_before t) xs)) (λ serial. moved t (s.ltp serial))
-    s.issued (λ serial _. look_filter of_row (arrives_before t) xs rows serial ∙ ap (moved t) (same serial))

@@ -240,11 +240,14 @@ impl<S: Alter + Drop> PlanStore for TableStore<S> {
         }
     }
 
-    fn read_window<'a>(&'a mut self, _need: Need) -> Result<View<'a>, StoreFault> {
+    fn read_window<'a>(&'a mut self, need: Need) -> Result<View<'a>, StoreFault> {
         if self.failures > 0 {
             return Err(StoreFault::Device);
         }
-        Ok(self.lists.view())
+        match self.lists.fill_window(&need) {
+            Ok(()) => Ok(self.lists.window(&need)),
+            Err(_) => Err(StoreFault::Memory),
+        }
     }
 
     fn job<'a>(&'a mut self, number: u64) -> Result<Option<&'a Job>, StoreFault> {
