@@ -25,10 +25,10 @@ fn planned(alloc: Global) -> Result<ListStore, Fail> {
     let mut store = ListStore::new(alloc);
     let mut reader = KEPT_PAIRS;
     let mut replies = Vec::new(alloc);
-    run(alloc, &mut store, &mut reader, &mut replies)
-        .ok()
-        .ok_or("a run")?;
-    Ok(store)
+    match run(alloc, &mut store, &mut reader, &mut replies) {
+        Ok(_) => Ok(store),
+        Err(_) => Err("a run".into()),
+    }
 }
 
 // Whether these are the rows of the long-term plan that the window shows.
@@ -56,14 +56,18 @@ fn shows_no_more(view: &View<'_>) -> bool {
     view.history().is_empty() && view.pairs().as_slice().is_empty()
 }
 
-// Whether a window for a daily plan to the moment shows these rows alone.
+// Whether the window shows these rows of the plans alone.
+fn shows_alone(view: &View<'_>, ltp: &[u32], cp: &[u32]) -> bool {
+    plans(view, ltp) && runs(view, cp) && shows_no_more(view)
+}
+
+// Whether one for a daily plan to the moment does, over that plan.
 fn daily_shows(alloc: Global, to: Moment, ltp: &[u32], cp: &[u32]) -> Result<bool, Fail> {
     let mut store = planned(alloc)?;
-    let view = store
-        .read_window(Need::Daily(to))
-        .ok()
-        .ok_or("a window")?;
-    Ok(plans(&view, ltp) && runs(&view, cp) && shows_no_more(&view))
+    match store.read_window(Need::Daily(to)) {
+        Ok(view) => Ok(shows_alone(&view, ltp, cp)),
+        Err(_) => Err("a window".into()),
+    }
 }
 
 #[test]
@@ -80,15 +84,19 @@ fn a_daily_window_ends_before_its_moment(rt: HostRuntime) -> Result<(), Fail> {
     Ok(())
 }
 
-// Whether a window for definitions shows the calendar and no row.
+// Whether the window shows the calendar and the number issued, and no row.
+fn shows_definitions(view: &View<'_>) -> bool {
+    let defined = view.definitions().calendars.len() == 1 && view.issued() == 4;
+    defined && shows_alone(view, &[], &[])
+}
+
+// Whether one for definitions does, over that plan.
 fn definitions_alone(alloc: Global) -> Result<bool, Fail> {
     let mut store = planned(alloc)?;
-    let view = store
-        .read_window(Need::Definitions)
-        .ok()
-        .ok_or("a window")?;
-    let defined = view.definitions().calendars.len() == 1 && view.issued() == 4;
-    Ok(defined && plans(&view, &[]) && runs(&view, &[]) && shows_no_more(&view))
+    match store.read_window(Need::Definitions) {
+        Ok(view) => Ok(shows_definitions(&view)),
+        Err(_) => Err("a window".into()),
+    }
 }
 
 #[test]
@@ -97,19 +105,22 @@ fn a_window_for_definitions_shows_no_row(rt: HostRuntime) -> Result<(), Fail> {
     Ok(())
 }
 
-// Whether a window on the key, after one for a daily plan, shows all rows and pairs.
+// Whether the window shows all rows and pairs of that plan.
+fn shows_all(view: &View<'_>) -> bool {
+    let pairs = view.pairs().as_slice().len();
+    plans(view, &[3, 4]) && runs(view, &[2]) && view.history().len() == 1 && pairs == 3
+}
+
+// Whether one on the key does, after one for a daily plan.
 fn key_shows_all(alloc: Global, to: Moment, key: &Key) -> Result<bool, Fail> {
     let mut store = planned(alloc)?;
-    store
-        .read_window(Need::Daily(to))
-        .ok()
-        .ok_or("a window")?;
-    let view = store
-        .read_window(Need::Key(*key))
-        .ok()
-        .ok_or("a window")?;
-    let pairs = view.pairs().as_slice().len();
-    Ok(plans(&view, &[3, 4]) && runs(&view, &[2]) && view.history().len() == 1 && pairs == 3)
+    if store.read_window(Need::Daily(to)).is_err() {
+        return Err("a window".into());
+    }
+    match store.read_window(Need::Key(*key)) {
+        Ok(view) => Ok(shows_all(&view)),
+        Err(_) => Err("a window".into()),
+    }
 }
 
 #[test]
