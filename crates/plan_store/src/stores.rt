@@ -19,8 +19,8 @@ use std::alloc::Global;
 use thiserror::Error;
 use work_calendars::{App, Moment};
 
-/// What a decision has to see. Each window shows the definitions, the bounds, how many serials are issued, and the lists
-/// in force.
+/// What a decision has to see. Each window shows the definitions, the bounds, how many serials are issued, and the
+/// lists in force.
 #[derive(Clone, Copy, Debug, PartialEq, Eq)]
 pub enum Need {
     /// What a statement asks that looks at definitions alone: no row and no pair.

@@ -1,5 +1,4 @@
-use Rattle.std.proofs.Common.{◌≡◌, ◌∙◌, filter, subst, sym}
-use Rattle.planner_machine.specs.DailyPlan.{arrives_before}
+use Rattle.std.proofs.Common.{◌∙◌, subst, sym}
 use Rattle.plan_store.specs.Contents.{content_of}
 use Rattle.plan_store.specs.Views.{Shows}
 use Rattle.plan_store.proofs.WindowLemmas.{early_named, early_rows, early_seats}
