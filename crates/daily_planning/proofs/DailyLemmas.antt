@@ -233,7 +233,8 @@ module _ (t : ℕ) (b : Bounds) (c : Content) (sound : IsSound c) (is : c.sets.b
       job = λ job at. let none = d.job in cc;
     }
 
-    replies : (m k n l : ℕ) → m ≡ length ltp → k ≡ length (filter is_open cp) → n ≡ length (map row_only (filter is_done cp))
+    replies : (m k n l : ℕ) → m ≡ length ltp → k ≡ length (filter is_open cp)
+        → n ≡ length (map row_only (filter is_done cp))
         → l ≡ length (map deleted_in_plan (filter is_dropped cp)) → Moved m k n l ≡ daily_reply t c.sets
     replies m k n l is_m is_k is_n is_l =
         let e_m = is_m ∙ ltp_count in
@@ -258,6 +259,7 @@ module _ (t : ℕ) (b : Bounds) (c : Content) (sound : IsSound c) (is : c.sets.b
       leads_nowhere change.pairs c.pairs d.removed d.added,
     )
 
-    pub daily_replied : (m k n l : ℕ) → m ≡ length ltp → k ≡ length (filter is_open cp) → n ≡ length (map row_only (filter is_done cp))
+    pub daily_replied : (m k n l : ℕ) → m ≡ length ltp → k ≡ length (filter is_open cp)
+        → n ≡ length (map row_only (filter is_done cp))
         → l ≡ length (map deleted_in_plan (filter is_dropped cp)) → DoesDaily t c change (Moved m k n l)
     daily_replied m k n l is_m is_k is_n is_l = does_daily (Moved m k n l) (replies m k n l is_m is_k is_n is_l)

@@ -64,8 +64,8 @@ pub fn extend_by(
     }
 }
 
-/// What `dp-replan` has to see where the plans reach so far: what a daily plan to the plan end asks, and the definitions
-/// alone where nothing is planned.
+/// What `dp-replan` has to see where the plans reach so far: what a daily plan to the plan end asks, and the
+/// definitions alone where nothing is planned.
 pub fn replan_need(bounds: Option<Bounds>) -> Need
     ensures { result ≡ replan_need bounds }
 {

@@ -79,8 +79,8 @@ fn decide_change(
     view: &View<'_>,
     change: &ChangeStatement,
 ) -> Result<Verdict, AllocError>
-    ensures { IfOk result (λ verdict. (c : Content) → Shows (need_of_change c.sets.bounds change.now) view.now c → IsSound c
-        → VerdictIs (decision_of (change_of change.now)) c verdict) }
+    ensures { IfOk result (λ verdict. (c : Content) → Shows (need_of_change c.sets.bounds change.now) view.now c
+        → IsSound c → VerdictIs (decision_of (change_of change.now)) c verdict) }
 {
     match change {
         ChangeStatement::Undefine { kind, name } => {
@@ -120,8 +120,8 @@ pub(crate) fn decide_daily(
     view: &View<'_>,
     function: &DailyFunction,
 ) -> Result<Verdict, AllocError>
-    ensures { IfOk result (λ verdict. (c : Content) → Shows (need_of_daily c.sets.bounds function.now) view.now c → IsSound c
-        → VerdictIs (decision_of (daily_change function.now)) c verdict) }
+    ensures { IfOk result (λ verdict. (c : Content) → Shows (need_of_daily c.sets.bounds function.now) view.now c
+        → IsSound c → VerdictIs (decision_of (daily_change function.now)) c verdict) }
 {
     match function {
         DailyFunction::Extend { to } => daily_planning::extend(alloc, view, *to),

@@ -1,5 +1,5 @@
 //! `define` and `undefine`: the definitions change, and the plans stay.
-ghost use Rattle.std.specs.Prelude.{◌≡◌, ◌↔◌, IsTrue};
+ghost use Rattle.std.specs.Prelude.{◌↔◌, IsTrue};
 ghost use Rattle.app_definitions.specs.Definitions.{IsDefined};
 ghost use Rattle.planner_machine.specs.Content.{Content};
 ghost use Rattle.planner_machine.specs.Define as decided;

@@ -30,7 +30,8 @@ settle-requires-clause-sound g c honest =
     let first = c.requires.sound (reads.honest honest) in
     let decided = c.in-Ok.ensures (g.S.PlanStore.content c.args.store.now) shows first in
     subst (λ x. IsSound (job_left c.args.number c.args.text c.in-Ok.verdict x)) (sym (reads.same honest))
-    (left_sound c.streams.ensures.sound c.args.number c.args.text change c.in-Ok.verdict _ c.requires.numbered c.requires.well_formed decided
+    (left_sound c.streams.ensures.sound c.args.number c.args.text change c.in-Ok.verdict _ c.requires.numbered
+    c.requires.well_formed decided
     (c.requires.new (reads.honest honest)) first)
 
 pub returns : goal.returns
