@@ -87,6 +87,13 @@ module _ (s : Sets) (sound : RowsSound s) where
   planned_numbered serial row is = sound.numbered serial (record { row = row; place = LongTerm })
       (stands_in_ltp s sound serial row is)
 
+  pub planned_issued : (serial : ℕ) (row : Row) → s.ltp serial ≡ Some row → (1 ≤ serial) × (serial ≤ s.issued)
+  planned_issued serial row is = elim (cases_issued s.issued serial) [
+    | inl within ↦ within
+    | inr past ↦ absurd (not_empty s serial (record { row = row; place = LongTerm })
+        (stands_in_ltp s sound serial row is) (sound.unissued serial past))
+  ]
+
   pub current_numbered : (serial : ℕ) (current : CurrentRow) → s.cp serial ≡ Some current
       → current.row.serial ≡ serial
   current_numbered serial current is = sound.numbered serial

@@ -28,10 +28,11 @@ use Rattle.plan_store.specs.Views.{IsAny, ListsSet}
 use Rattle.plan_store.specs.declared.changes.Change.{Change}
 use Rattle.plan_store.specs.declared.changes.DefinitionChange.TheVariants.{AsBefore}
 use Rattle.plan_store.proofs.PairLemmas.{leads_nowhere}
-use Rattle.plan_store.proofs.ViewLemmas.{once_from_rows}
+use Rattle.plan_store.proofs.ViewLemmas.{once_from_rows, size_listed, size_same}
 use Rattle.daily_planning.specs.DailyPlans.{DoesDaily, is_finished}
 use Rattle.daily_planning.proofs.ChangeLemmas.{after_moves, current_alone, current_issued, current_numbered, fits_moves}
-use Rattle.daily_planning.proofs.ChangeLemmas.{moved_is, no_pairs_move, planned_alone, planned_numbered}
+use Rattle.daily_planning.proofs.ChangeLemmas.{moved_is, no_pairs_move, planned_alone, planned_issued}
+use Rattle.daily_planning.proofs.ChangeLemmas.{planned_numbered}
 use Rattle.daily_planning.proofs.PairLemmas.{daily_pairs}
 use Rattle.daily_planning.proofs.SetLemmas.{contains_filter, contains_map, count_filter, filter_lists, look_filter}
 use Rattle.daily_planning.proofs.SetLemmas.{look_listed, look_map, once_map, once_nothing}
@@ -115,6 +116,13 @@ module _ (t : ℕ) (b : Bounds) (c : Content) (sound : IsSound c) (is : c.sets.b
   cp_count : (p : CurrentRow → Bool) → length (filter p cp) ≡ size (λ serial. keep p (c.sets.cp serial)) c.sets.issued
   cp_count p = count_filter of_current c.sets.cp p cp cp_lists (current_numbered c.sets rows) c.sets.issued
       (current_issued c.sets rows)
+
+  ltp_count : length ltp ≡ size (λ serial. moved t (c.sets.ltp serial)) c.sets.issued
+  ltp_count =
+      size_listed of_row c.sets.issued ltp (once_from_rows of_row ltp ltp_lists.rows)
+      (λ row there. planned_issued c.sets rows row.serial row ((ltp_lists.exactly row).0 there).0)
+      ∙ size_same (look_up (λ (x : Row). x.serial) ltp) (λ serial. moved t (c.sets.ltp serial)) c.sets.issued
+      (λ serial _. ltp_look serial)
 
   waiting_apart : (serial : ℕ) (x : CurrentRow) → c.sets.cp serial ≡ Some x
       → option_map waiting (moved t (c.sets.ltp serial)) ≡ None
@@ -225,14 +233,15 @@ module _ (t : ℕ) (b : Bounds) (c : Content) (sound : IsSound c) (is : c.sets.b
       job = λ job at. let none = d.job in cc;
     }
 
-    replies : (m k n l : ℕ) → m ≡ size (λ serial. moved t (c.sets.ltp serial)) c.sets.issued
-        → k ≡ length (filter is_open cp) → n ≡ length (map row_only (filter is_done cp))
+    replies : (m k n l : ℕ) → m ≡ length ltp → k ≡ length (filter is_open cp)
+        → n ≡ length (map row_only (filter is_done cp))
         → l ≡ length (map deleted_in_plan (filter is_dropped cp)) → Moved m k n l ≡ daily_reply t c.sets
     replies m k n l is_m is_k is_n is_l =
+        let e_m = is_m ∙ ltp_count in
         let e_k = is_k ∙ cp_count is_open in
         let e_n = is_n ∙ length-map (filter is_done cp) row_only ∙ cp_count is_done in
         let e_l = is_l ∙ length-map (filter is_dropped cp) deleted_in_plan ∙ cp_count is_dropped in
-        λ i. Moved (is_m i) (e_k i) (e_n i) (e_l i)
+        λ i. Moved (e_m i) (e_k i) (e_n i) (e_l i)
 
     pub does_daily : (reply : Reply) → reply ≡ daily_reply t c.sets → DoesDaily t c change reply
     does_daily reply replied = (
@@ -250,7 +259,7 @@ module _ (t : ℕ) (b : Bounds) (c : Content) (sound : IsSound c) (is : c.sets.b
       leads_nowhere change.pairs c.pairs d.removed d.added,
     )
 
-    pub daily_replied : (m k n l : ℕ) → m ≡ size (λ serial. moved t (c.sets.ltp serial)) c.sets.issued
-        → k ≡ length (filter is_open cp) → n ≡ length (map row_only (filter is_done cp))
+    pub daily_replied : (m k n l : ℕ) → m ≡ length ltp → k ≡ length (filter is_open cp)
+        → n ≡ length (map row_only (filter is_done cp))
         → l ≡ length (map deleted_in_plan (filter is_dropped cp)) → DoesDaily t c change (Moved m k n l)
     daily_replied m k n l is_m is_k is_n is_l = does_daily (Moved m k n l) (replies m k n l is_m is_k is_n is_l)

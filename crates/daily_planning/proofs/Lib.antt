@@ -8,3 +8,4 @@ pub mod ResetLemmas
 pub mod WaitLemmas
 pub mod NewEndLemmas
 pub mod DailyByLemmas
+pub mod DailyWindowLemmas

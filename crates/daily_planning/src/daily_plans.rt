@@ -1,4 +1,4 @@
-ghost use Rattle.std.specs.Prelude.{◌≡◌, ℕ, ◌↔◌, IsTrue, IfOk, map};
+ghost use Rattle.std.specs.Prelude.{◌≡◌, ◌↔◌, IsTrue, IfOk, Some, map};
 ghost use Rattle.std.specs.List.{filter};
 ghost use Rattle.planner_machine.specs.Content.{Content};
 ghost use Rattle.planner_machine.specs.DailyPlan.{deleted_in_plan, is_completed, is_deleted, is_uncompleted, waiting};
@@ -7,13 +7,13 @@ ghost use Rattle.planner_machine.specs.DailyExtendBy.{dp_extend_by};
 ghost use Rattle.planner_machine.specs.Replan.{dp_replan};
 ghost use Rattle.planner_machine.specs.Sound.{IsSound};
 ghost use Rattle.plan_store.specs.Verdicts.{VerdictIs};
-ghost use Rattle.plan_store.specs.Views.{Shows};
+ghost use Rattle.plan_store.specs.Views.{Shows, ShowsAtLeast};
 ghost use Rattle.plan_store.specs.declared.stores.Need.TheVariants.{Daily, LongTerm};
-ghost use Rattle.daily_planning.specs.DailyPlans.{DoesDaily, is_finished};
+ghost use Rattle.daily_planning.specs.DailyPlans.{DoesDaily, is_finished, replan_need};
 
 use crate::new_ends::new_end;
 use occurrences::{CurrentRow, Deletion, Reason, Refusal, Reply, Row, Status};
-use plan_store::{Change, Verdict, View};
+use plan_store::{Change, Need, Verdict, View};
 use planner_machine::{Bounds, Count, daily_plans};
 use std::alloc::{AllocError, Global};
 use work_calendars::Moment;
@@ -22,6 +22,14 @@ use work_calendars::Moment;
 /// after the plan end, past the end of the last day, or more hours on than the options allow (32).
 pub fn extend(alloc: Global, view: &View<'_>, to: Moment) -> Result<Verdict, AllocError>
     ensures { IfOk result (λ verdict. (c : Content) → Shows (Daily to) view.now c → IsSound c →
+        VerdictIs (dp_extend to) c verdict) }
+{
+    extend_to(alloc, view, to)
+}
+
+// The same over any window that shows at least what it asks.
+fn extend_to(alloc: Global, view: &View<'_>, to: Moment) -> Result<Verdict, AllocError>
+    ensures { IfOk result (λ verdict. (c : Content) → ShowsAtLeast (Daily to) view.now c → IsSound c →
         VerdictIs (dp_extend to) c verdict) }
 {
     let Some(bounds) = view.bounds() else {
@@ -51,15 +59,26 @@ pub fn extend_by(
         return Ok(Verdict::Refused(Refusal::NoPlan));
     };
     match new_end(alloc, view.definitions(), bounds.plan_end, days, count)? {
-        Some(to) => extend(alloc, view, to),
+        Some(to) => extend_to(alloc, view, to),
         None => Ok(Verdict::Refused(Refusal::PlanEndOutOfRange)),
+    }
+}
+
+/// What `dp-replan` has to see where the plans reach so far: what a daily plan to the plan end asks, and the
+/// definitions alone where nothing is planned.
+pub fn replan_need(bounds: Option<Bounds>) -> Need
+    ensures { result ≡ replan_need bounds }
+{
+    match bounds {
+        Some(bounds) => Need::Daily(bounds.plan_end),
+        None => Need::Definitions,
     }
 }
 
 /// `dp-replan`: a daily plan to the plan end as it is, which takes nothing from the long-term plan. It is refused
 /// where nothing is planned (20).
 pub fn replan(alloc: Global, view: &View<'_>) -> Result<Verdict, AllocError>
-    ensures { IfOk result (λ verdict. (moment : ℕ) (c : Content) → Shows (Daily moment) view.now c → IsSound c →
+    ensures { IfOk result (λ verdict. (c : Content) → Shows (replan_need c.sets.bounds) view.now c → IsSound c →
         VerdictIs dp_replan c verdict) }
 {
     let Some(bounds) = view.bounds() else {
@@ -79,8 +98,6 @@ fn is_bad_end(bounds: &Bounds, hours: u16, to: Moment) -> bool
     to <= end || last < to || end + u64::from(hours) * 60 < to
 }
 
-ghost use Rattle.plan_store.specs.Views.{shown};
-
 // A daily plan to the moment: what it changes, and its reply.
 fn daily_plan(
     alloc: Global,
@@ -88,8 +105,8 @@ fn daily_plan(
     bounds: &Bounds,
     to: Moment,
 ) -> Result<(Change, Reply), AllocError>
-    ensures { IfOk result (λ done. IsSound (shown view.now) → (shown view.now).sets.bounds ≡ Some bounds.now →
-        DoesDaily to (shown view.now) done.0 done.1) }
+    ensures { IfOk result (λ done. (c : Content) → ShowsAtLeast (Daily to) view.now c → IsSound c →
+        c.sets.bounds ≡ Some bounds.now → DoesDaily to c done.0 done.1) }
 {
     let moved = view.ltp_before(alloc, to)?;
     let rows = view.cp();

@@ -15,3 +15,4 @@ mod ShownLemmas
 mod SliceLemmas
 mod SomeListing
 pub mod ViewLemmas
+pub mod WindowLemmas

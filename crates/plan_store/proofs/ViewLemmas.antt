@@ -1,12 +1,10 @@
 -- Lists of rows as parts of a set.
 use Rattle.std.proofs.Common.{◌≡◌, ◌≢◌, ◌↔◌, ℕ, zero, suc, ◌+◌, ◌<◌, ◌≤◌, true, false, Bool, List, [], ◌∷◌, length}
-use Rattle.std.proofs.Common.{get_or, refl, sym, ap, ap₂, subst, ◌∙◌, inl, inr, arith, Some, None, Option, Result, Ok}
-use Rattle.std.proofs.Common.{Err, IfOk, Vec, Global}
+use Rattle.std.proofs.Common.{get_or, refl, sym, ap, ap₂, subst, ◌∙◌, inl, inr, arith, Some, None, Option}
 use Rattle.std.specs.Prelude.{nat_eq, if◌then◌else◌, filter, IsTrue, MatchOption}
 use Rattle.std.specs.List.{Contains}
-use Rattle.std.specs.declared.alloc.AllocError.{AllocError}
 use Rattle.std.specs.declared.cmp.Ordering.TheVariants.{Less, Equal}
-use Rattle.std.proofs.lemmas.Bool.{cases_lt, cases_eq, eq-eqb, ne_eqb, ltb-true, lt-ltb}
+use Rattle.std.proofs.lemmas.Bool.{cases_lt, cases_eq, eq-eqb, ne_eqb}
 use Rattle.std.proofs.lemmas.Cmp.{tied_itself}
 use Rattle.std.proofs.lemmas.List.Kept.{AllPairs-filter}
 use Rattle.keyed_lists.proofs.KeyLemmas.{contains_filter, filter_contains}
@@ -14,7 +12,6 @@ use Rattle.occurrences.specs.declared.key.Key.{Key}
 use Rattle.occurrences.specs.declared.place.Deletion.{Deletion}
 use Rattle.occurrences.specs.declared.place.Reason.TheVariants.{Operator}
 use Rattle.occurrences.specs.declared.status.Status.TheVariants.{D}
-use Rattle.planner_machine.specs.DailyPlan.{arrives_before, moved}
 use Rattle.std.proofs.lemmas.List.Elements.{Contains-get_or}
 use Rattle.occurrences.specs.declared.row.Row.{Row}
 use Rattle.external_dependencies.specs.Arrival.{arrival_cmp}
@@ -249,29 +246,3 @@ module _ {X : Type 0} (row_of : X → Row) (p : X → Bool) (xs : List X) (rows 
     where
       both : (b : Bool) → b ≡ false → b ≡ true → ⊥
       both b f t = cc
-
-pub early_rows : (t : ℕ) (xs : List Row) → AreRows of_row xs → (answer : Result (Vec Row Global) AllocError)
-    → IfOk answer (λ found. found.items ≡ filter (arrives_before t) xs)
-    → IfOk answer (λ found. ListsSet of_row (look_up (λ (row : Row). row.serial) xs) (λ row. row.key.ia < t)
-    found.items)
-early_rows t xs rows (Err e) is = tt
-early_rows t xs rows (Ok found) is = subst (λ l. ListsSet of_row (look_up (λ (row : Row). row.serial) xs)
-    (λ row. row.key.ia < t) l) (sym is)
-    (lists_part of_row (λ row. row.key.ia < t) xs (filter (arrives_before t) xs) rows
-    (filter_rows of_row (arrives_before t) xs rows).keyed (λ row. (
-      (λ there. let from = contains_filter (arrives_before t) xs row there in (from.0, ltb-true row.key.ia t from.1)),
-      λ both. filter_contains (arrives_before t) xs row both.0 (lt-ltb row.key.ia t both.1),
-    )))
-
-pub early_count : (t : ℕ) (xs : List Row) → AreRows of_row xs → (s : Sets) → AreNumbered s
-    → ((serial : ℕ) → look_up (λ (row : Row). row.serial) xs serial ≡ s.ltp serial)
-    → (answer : Result (Vec Row Global) AllocError) → IfOk answer (λ found. found.items ≡ filter (arrives_before t) xs)
-    → IfOk answer (λ found. length found.items ≡ size (λ serial. moved t (s.ltp serial)) s.issued)
-early_count t xs rows s numbered same (Err e) is = tt
-early_count t xs rows s numbered same (Ok found) is =
-    let early = filter_rows of_row (arrives_before t) xs rows in
-    ap length is
-    ∙ size_listed of_row s.issued (filter (arrives_before t) xs) (once_from_rows of_row (filter (arrives_before t) xs)
-    early) (λ row there. within_ltp s numbered xs rows same row (contains_filter (arrives_before t) xs row there).0)
-    ∙ size_same (look_up (λ (row : Row). row.serial) (filter (arrives_before t) xs)) (λ serial. moved t (s.ltp serial))
-    s.issued (λ serial _. look_filter of_row (arrives_before t) xs rows serial ∙ ap (moved t) (same serial))

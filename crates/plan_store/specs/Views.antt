@@ -1,5 +1,5 @@
 -- What a window shows, and what its calls answer.
-use Rattle.std.specs.Prelude.{◌≡◌, ◌≢◌, ◌↔◌, ℕ, ◌≤◌, ◌<◌, List, Contains, Option, Some, None}
+use Rattle.std.specs.Prelude.{◌≡◌, ◌≢◌, ◌↔◌, ℕ, ◌≤◌, ◌<◌, List, [], Contains, Option, Some, None, filter}
 use Rattle.occurrences.specs.Place.{IsLive}
 use Rattle.occurrences.specs.declared.key.Key.{Key}
 use Rattle.occurrences.specs.declared.place.Deletion.{Deletion}
@@ -11,18 +11,76 @@ use Rattle.external_dependencies.specs.declared.rows.PlacedRow.{PlacedRow}
 use Rattle.planner_machine.specs.Content.{Content, Sets, StandsAt}
 use Rattle.planner_machine.specs.Pairs.{LiveAt}
 use Rattle.occurrences.specs.declared.place.CurrentRow.{CurrentRow}
-use Rattle.plan_store.specs.Contents.{content_of}
-use Rattle.keyed_lists.specs.Rows.{AreRows}
+use Rattle.planner_machine.specs.DailyPlan.{arrives_before, moved}
+use Rattle.planner_machine.specs.declared.job.Job.{Job}
+use Rattle.keyed_lists.specs.Rows.{AreRows, look_up}
+use Rattle.plan_store.specs.declared.contents.Content.{Content as Kept}
 use Rattle.plan_store.specs.declared.stores.Need.{Need}
+use Rattle.plan_store.specs.declared.stores.Need.TheVariants as need
 use Rattle.plan_store.specs.declared.views.View.{View}
 
--- what the window shows, as a content
-abbrev pub shown : View → Content
-shown view = content_of view.content.now
+abbrev pub row_serial : Row → ℕ
+row_serial row = row.serial
 
--- the window agrees with the content on all that the need names: as yet it shows the whole content, whatever the need
+abbrev pub current_serial : CurrentRow → ℕ
+current_serial current = current.row.serial
+
+-- what the window shows, as a content; of the jobs none of its calls tells anything
+abbrev pub shown : View → Content
+shown view = record {
+  definitions = view.content.now.definitions;
+  sets = record {
+    bounds = view.content.now.bounds;
+    issued = view.content.now.issued;
+    ltp = look_up row_serial view.ltp.now;
+    cp = look_up current_serial view.cp.now;
+    history = look_up row_serial view.history.now;
+    deletions = look_up (λ (deletion : Deletion). deletion.row.serial) view.deletions.now;
+  };
+  in_force = view.content.now.in_force;
+  pairs = view.pairs.now;
+  jobs = look_up (λ (job : Job). job.number) view.content.now.jobs.items;
+}
+
+-- the content with these rows in the two plans, nothing in history or in the deletions, and no pair
+abbrev pub with_plans_alone : (ℕ → Option Row) → (ℕ → Option CurrentRow) → Content → Content
+with_plans_alone ltp cp c = record {
+  definitions = c.definitions;
+  sets = record {
+    bounds = c.sets.bounds;
+    issued = c.sets.issued;
+    ltp = ltp;
+    cp = cp;
+    history = λ _. None;
+    deletions = λ _. None;
+  };
+  in_force = c.in_force;
+  pairs = [];
+  jobs = c.jobs;
+}
+
+-- what a need names of a content: of a daily plan the rows of the current plan, and those of the long-term plan that
+-- arrive before its moment. What is on one key or on the long-term plan names all as yet
+abbrev pub named : Need → Content → Content
+named need.Definitions c = with_plans_alone (λ _. None) (λ _. None) c
+named (need.Key key) c = c
+named need.LongTerm c = c
+named (need.Daily t) c = with_plans_alone (λ serial. moved t (c.sets.ltp serial)) c.sets.cp c
+
+-- the window shows what the need names of the content, and no more
 abbrev pub Shows : Need → View → Content → Type 0
-Shows need view c = shown view ≡ c
+Shows need view c = shown view ≡ named need c
+
+-- the window shows at least what the need names of the content: what the need names of what is shown
+abbrev pub ShowsAtLeast : Need → View → Content → Type 0
+ShowsAtLeast need view c = named need (shown view) ≡ named need c
+
+-- what a window for the need shows that is no part of a list was made ready
+abbrev pub IsFilled : Need → Kept → Type 0
+IsFilled need.Definitions kept = Unit {0}
+IsFilled (need.Key key) kept = Unit {0}
+IsFilled need.LongTerm kept = Unit {0}
+IsFilled (need.Daily t) kept = kept.buffer.early.items ≡ filter (arrives_before t) kept.ltp.items
 
 -- the list has exactly the rows of the set that pass, by application, input arrival and serial
 pub record ListsSet {X : Type 0} (row_of : X → Row) (set : ℕ → Option X) (Passes : X → Type 0) (xs : List X) : Type 0

@@ -1,10 +1,13 @@
 ghost use Rattle.std.specs.Prelude.{◌≡◌, [], Contains, OnOk, OnErr, IfOk, option_copied, unwrap_or};
 
+use crate::buffers::Buffer;
 use crate::changes::{Change, DefinitionChange};
 use crate::jobs::{find_job, keep_job};
 use crate::moving::move_rows;
 use crate::pairs::change_pairs;
 use crate::room::{Room, grow};
+use crate::slices::arriving_before;
+use crate::stores::Need;
 use crate::views::View;
 use app_definitions::Definitions;
 use external_dependencies::{Links, Pairs};
@@ -39,6 +42,8 @@ pub struct Content {
     pub jobs: Vec<Job>,
     // under which key each serial stands; there may be more of them than rows
     pub(crate) seats: Vec<Seat>,
+    // what windows show that is no part of a list
+    pub(crate) buffer: Buffer,
     ghost ltp_rows: { AreRows of_row ltp.items },
     ghost cp_rows: { AreRows of_current cp.items },
     ghost history_rows: { AreRows of_row history.items },
@@ -65,7 +70,8 @@ impl Content {
     ghost use Rattle.plan_store.specs.Changes.{Fits, after};
     ghost use Rattle.planner_machine.specs.Content.{nothing_known};
     ghost use Rattle.plan_store.specs.Contents.{content_of};
-    ghost use Rattle.plan_store.specs.Views.{shown};
+    ghost use Rattle.keyed_lists.specs.Rows.{look_up};
+    ghost use Rattle.plan_store.specs.Views.{IsFilled, Shows, current_serial, row_serial, shown, with_plans_alone};
     ghost use Rattle.plan_store.specs.Room.{HasPutSeats, HasRoom, HasRowRoom, HasSame, with_definitions, with_pairs_of};
     ghost use Rattle.plan_store.specs.declared.changes.DefinitionChange.TheVariants.{AsBefore};
 
@@ -85,14 +91,65 @@ impl Content {
             pairs: Pairs::new(alloc),
             jobs: Vec::new(alloc),
             seats: Vec::new(alloc),
+            buffer: Buffer::new(alloc),
         }
     }
 
-    /// What a decision sees of it.
-    pub fn view(&self) -> View<'_>
+    /// Makes ready what a window for the need shows that is no part of a list: for a daily plan the rows of the
+    /// long-term plan that arrive before its end. The content stays as it is.
+    pub fn fill_window(&mut self, need: &Need) -> Result<(), AllocError>
+        ensures same { content_of self.new ≡ content_of self.old }
+        ensures filled { OnOk result (IsFilled need.now self.new) }
+    {
+        match need {
+            Need::Daily(moment) => arriving_before(&mut self.buffer.early, &self.ltp, *moment),
+            Need::Definitions | Need::Key(_) | Need::LongTerm => Ok(()),
+        }
+    }
+
+    /// Lends a window that shows what the need names, which was made ready by `fill_window`.
+    pub fn window(&self, need: &Need) -> View<'_>
+        requires { IsFilled need.now self.now }
+        ensures { Shows need.now result (content_of self.now) }
+    {
+        match need {
+            Need::Definitions => self.window_of_plans(&[], &[]),
+            Need::Daily(_) => self.window_of_plans(&self.buffer.early, &self.cp),
+            Need::Key(_) | Need::LongTerm => self.whole_window(),
+        }
+    }
+
+    // A window of these rows of the two plans, and no other row or pair.
+    fn window_of_plans<'a>(&'a self, ltp: &'a [Row], cp: &'a [CurrentRow]) -> View<'a>
+        requires ltp_rows { AreRows of_row ltp.now }
+        requires ltp_seats { HasSeats of_row ltp.now self.now.seats.items }
+        requires cp_rows { AreRows of_current cp.now }
+        requires cp_seats { HasSeats of_current cp.now self.now.seats.items }
+        ensures { shown result ≡ with_plans_alone (look_up row_serial ltp.now) (look_up current_serial cp.now)
+            (content_of self.now) }
+    {
+        View {
+            content: self,
+            ltp,
+            cp,
+            history: &[],
+            deletions: &[],
+            pairs: &self.buffer.no_pairs,
+        }
+    }
+
+    // A window of all rows and pairs.
+    fn whole_window(&self) -> View<'_>
         ensures { shown result ≡ content_of self.now }
     {
-        View { content: self }
+        View {
+            content: self,
+            ltp: &self.ltp,
+            cp: &self.cp,
+            history: &self.history,
+            deletions: &self.deletions,
+            pairs: &self.pairs,
+        }
     }
 
     /// The job that is kept under the number.

@@ -10,6 +10,7 @@
 #![tactic(auto)]
 
 mod arrivals;
+mod buffers;
 mod changes;
 mod contents;
 mod jobs;

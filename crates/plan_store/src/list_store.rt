@@ -16,11 +16,12 @@ pub struct ListStore {
 }
 
 impl ListStore {
-    ghost use Rattle.std.specs.Prelude.{◌≡◌, option_copied};
+    ghost use Rattle.std.specs.Prelude.{◌≡◌, IfErr, OnOk, option_copied};
     ghost use Rattle.planner_machine.specs.Sound.{IsSound};
     ghost use Rattle.planner_machine.specs.Content.{nothing_known};
     ghost use Rattle.plan_store.specs.Contents.{content_of};
     ghost use Rattle.plan_store.specs.Lists.{listed};
+    ghost use Rattle.plan_store.specs.Views.{IsFilled};
 
     /// A store of what a planner knows that was told nothing.
     pub fn new(alloc: Global) -> ListStore
@@ -45,6 +46,17 @@ impl ListStore {
         ensures { content_of result.now ≡ listed self.now }
     {
         &self.content
+    }
+
+    fn fill_window(&mut self, need: &Need) -> Result<(), StoreFault>
+        ensures same { listed self.new ≡ listed self.old }
+        ensures filled { OnOk result (IsFilled need.now self.new.content) }
+        ensures memory { IfErr result (λ fault. fault ≡ StoreFault.Memory) }
+    {
+        match self.content.fill_window(need) {
+            Ok(()) => Ok(()),
+            Err(_) => Err(StoreFault::Memory),
+        }
     }
 
     fn kept_job(&self, number: u64) -> Option<&Job>
@@ -84,8 +96,9 @@ impl PlanStore for ListStore {
         }
     }
 
-    fn read_window<'a>(&'a mut self, _need: Need) -> Result<View<'a>, StoreFault> {
-        Ok(self.content.view())
+    fn read_window<'a>(&'a mut self, need: Need) -> Result<View<'a>, StoreFault> {
+        self.fill_window(&need)?;
+        Ok(self.content.window(&need))
     }
 
     fn job<'a>(&'a mut self, number: u64) -> Result<Option<&'a Job>, StoreFault> {

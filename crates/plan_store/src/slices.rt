@@ -1,4 +1,4 @@
-ghost use Rattle.std.specs.Prelude.{◌≡◌, ◌≢◌, ◌↔◌, ◌<◌, length, Contains, MatchOption, IsTrue, IfOk, filter};
+ghost use Rattle.std.specs.Prelude.{◌≡◌, ◌≢◌, ◌↔◌, ◌<◌, length, Contains, MatchOption, IsTrue, OnOk, filter};
 ghost use Rattle.occurrences.specs.declared.place.CurrentRow.{CurrentRow as CurrentValue};
 ghost use Rattle.occurrences.specs.declared.place.Deletion.{Deletion as DeletionValue};
 ghost use Rattle.planner_machine.specs.DailyPlan.{arrives_before};
@@ -11,7 +11,7 @@ ghost use Rattle.plan_store.specs.Slices.{HaveOneApp, IsFront};
 
 use keyed_lists::{PlanRow, Seat, seats_of};
 use occurrences::{CurrentRow, Deletion, Key, Reason, Row, Serial, Status};
-use std::alloc::{AllocError, Global};
+use std::alloc::AllocError;
 use work_calendars::{App, Moment};
 
 // The rows of an application.
@@ -123,21 +123,21 @@ fn front_app(rows: &[Row]) -> &[Row]
     &rows[..count]
 }
 
-// The rows that arrive before the moment: of each application those at its front.
+// Fills the list with the rows that arrive before the moment: of each application those at its front.
 pub(crate) fn arriving_before(
-    alloc: Global,
+    found: &mut Vec<Row>,
     rows: &[Row],
     moment: Moment,
-) -> Result<Vec<Row>, AllocError>
+) -> Result<(), AllocError>
     requires { IsKeyed arrival_cmp arrival_of rows.now }
-    ensures { IfOk result (λ found. found.items ≡ filter (arrives_before moment) rows.now) }
+    ensures { OnOk result (found.new.items ≡ filter (arrives_before moment) rows.now) }
 {
-    let mut found = Vec::new(alloc);
+    found.clear();
     let mut start = 0;
     while start < rows.len() {
         let of_one = front_app(&rows[start..]);
         found.extend_from_slice(before(of_one, moment.number()))?;
         start += of_one.len();
     }
-    Ok(found)
+    Ok(())
 }

@@ -19,14 +19,18 @@ use std::alloc::Global;
 use thiserror::Error;
 use work_calendars::{App, Moment};
 
-/// What a decision has to see.
+/// What a decision has to see. Each window shows the definitions, the bounds, how many serials are issued, and the
+/// lists in force.
 #[derive(Clone, Copy, Debug, PartialEq, Eq)]
 pub enum Need {
+    /// What a statement asks that looks at definitions alone: no row and no pair.
+    Definitions,
     /// What a statement on one key asks.
     Key(Key),
     /// What a statement on the long-term plan asks.
     LongTerm,
-    /// What a daily plan to that moment asks.
+    /// What a daily plan to that moment asks: the rows of the current plan, those of the long-term plan that arrive
+    /// before the moment, and no pair.
     Daily(Moment),
 }
 

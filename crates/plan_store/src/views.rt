@@ -2,7 +2,6 @@ ghost use Rattle.std.specs.Prelude.{◌≡◌, ◌↔◌, ◌+◌, ◌<◌, leng
 ghost use Rattle.external_dependencies.specs.Pair.{pair_cmp};
 ghost use Rattle.external_dependencies.specs.Rising.{IsRising};
 ghost use Rattle.external_dependencies.specs.declared.pairs.Pair.{Pair as PairValue};
-ghost use Rattle.planner_machine.specs.DailyPlan.{moved};
 ghost use Rattle.planner_machine.specs.Moves.{size};
 ghost use Rattle.external_dependencies.specs.Nearest.{IsNearestAnswer};
 ghost use Rattle.planner_machine.specs.Pairs.{LiveAt};
@@ -15,7 +14,7 @@ use crate::slices::{
 };
 use app_definitions::Definitions;
 use external_dependencies::{Arrival, Links, Pair, Pairs, PlacedRow, arrives_within};
-use occurrences::{CurrentRow, Key, Place, Row, Serial};
+use occurrences::{CurrentRow, Deletion, Key, Place, Row, Serial};
 use planner_machine::Bounds;
 use std::alloc::{AllocError, Global};
 use work_calendars::{App, Moment, Within};
@@ -32,14 +31,31 @@ fn pairs_before(alloc: Global, pairs: &[Pair], predecessor: Serial) -> Result<Ve
         .collect(alloc)
 }
 
-/// What a decision sees of a content. It is lent by a store, and holds no copy.
+/// What a decision sees of a content: what its need names, and no more. It is lent by a store, and holds no copy.
 #[derive(Clone, Copy)]
 pub struct View<'a> {
+    // of this the definitions, the bounds, the number of serials issued and the lists in force are seen, by any need
     pub(crate) content: &'a Content,
+    // and these rows and pairs
+    pub(crate) ltp: &'a [Row],
+    pub(crate) cp: &'a [CurrentRow],
+    pub(crate) history: &'a [Row],
+    pub(crate) deletions: &'a [Deletion],
+    pub(crate) pairs: &'a Pairs,
+    ghost ltp_rows: { AreRows of_row ltp.now },
+    ghost cp_rows: { AreRows of_current cp.now },
+    ghost history_rows: { AreRows of_row history.now },
+    ghost deletion_rows: { AreRows of_deletion deletions.now },
+    ghost ltp_seats: { HasSeats of_row ltp.now content.now.seats.items },
+    ghost cp_seats: { HasSeats of_current cp.now content.now.seats.items },
+    ghost history_seats: { HasSeats of_row history.now content.now.seats.items },
+    ghost deletion_seats: { HasSeats of_deletion deletions.now content.now.seats.items },
 }
 
+ghost use Rattle.keyed_lists.specs.Rows.{AreRows, of_current, of_deletion, of_row};
+ghost use Rattle.keyed_lists.specs.Seats.{HasSeats};
+
 impl<'a> View<'a> {
-    ghost use Rattle.keyed_lists.specs.Rows.{of_current, of_deletion, of_row};
     ghost use Rattle.plan_store.specs.Views.{IsAny, IsCurrentRow, IsDeletedKey, IsLastBefore, IsLiveRow, IsPlacedAt};
     ghost use Rattle.plan_store.specs.Views.{IsPlannedRow, ListsSet, shown};
 
@@ -75,7 +91,7 @@ impl<'a> View<'a> {
     pub fn pairs(&self) -> &'a Pairs
         ensures { result.now ≡ (shown self.now).pairs }
     {
-        &self.content.pairs
+        self.pairs
     }
 
     /// The pairs of one successor.
@@ -84,7 +100,7 @@ impl<'a> View<'a> {
         ensures all { (pair : PairValue) → Contains result.now pair
             ↔ (Contains (shown self.now).pairs pair × (pair.successor ≡ successor)) }
     {
-        self.content.pairs.of_successor(successor)
+        self.pairs.of_successor(successor)
     }
 
     /// The pairs of one predecessor, in rising order. Looks at each pair once: no statement asks for them as yet, and
@@ -98,7 +114,7 @@ impl<'a> View<'a> {
         ensures all { IfOk result (λ found. (pair : PairValue) → Contains found.items pair
             ↔ (Contains (shown self.now).pairs pair × (pair.predecessor ≡ predecessor))) }
     {
-        pairs_before(alloc, self.content.pairs.as_slice(), predecessor)
+        pairs_before(alloc, self.pairs.as_slice(), predecessor)
     }
 
     /// The rows of the long-term plan.
@@ -107,7 +123,7 @@ impl<'a> View<'a> {
         ensures count { AreNumbered (shown self.now).sets → length result.now ≡ size (shown self.now).sets.ltp
             (shown self.now).sets.issued }
     {
-        self.content.ltp.as_slice()
+        self.ltp
     }
 
     /// The rows of the current plan.
@@ -116,60 +132,60 @@ impl<'a> View<'a> {
         ensures count { AreNumbered (shown self.now).sets → length result.now ≡ size (shown self.now).sets.cp
             (shown self.now).sets.issued }
     {
-        self.content.cp.as_slice()
+        self.cp
     }
 
     /// The rows of history.
     pub fn history(&self) -> &'a [Row]
         ensures { ListsSet of_row (shown self.now).sets.history IsAny result.now }
     {
-        self.content.history.as_slice()
+        self.history
     }
 
     /// The rows of an application in the long-term plan.
     pub fn ltp_of(&self, app: &App) -> &'a [Row]
         ensures { ListsSet of_row (shown self.now).sets.ltp (λ row. row.key.app ≡ app.now) result.now }
     {
-        of_app(&self.content.ltp, app)
+        of_app(self.ltp, app)
     }
 
     /// The rows of an application in the current plan.
     pub fn cp_of(&self, app: &App) -> &'a [CurrentRow]
         ensures { ListsSet of_current (shown self.now).sets.cp (λ current. current.row.key.app ≡ app.now) result.now }
     {
-        of_app(&self.content.cp, app)
+        of_app(self.cp, app)
     }
 
     /// The rows of an application in history.
     pub fn history_of(&self, app: &App) -> &'a [Row]
         ensures { ListsSet of_row (shown self.now).sets.history (λ row. row.key.app ≡ app.now) result.now }
     {
-        of_app(&self.content.history, app)
+        of_app(self.history, app)
     }
 
     /// The rows of the long-term plan that arrive before the moment, as a list of their own, which the change of a
     /// daily plan takes. Costs a few searches for each application, and what moves.
     pub fn ltp_before(&self, alloc: Global, moment: Moment) -> Result<Vec<Row>, AllocError>
-        ensures rows { IfOk result (λ rows. ListsSet of_row (shown self.now).sets.ltp (λ row. row.key.ia < moment)
+        ensures { IfOk result (λ rows. ListsSet of_row (shown self.now).sets.ltp (λ row. row.key.ia < moment)
             rows.items) }
-        ensures count { AreNumbered (shown self.now).sets → IfOk result (λ rows. length rows.items
-            ≡ size (λ serial. moved moment ((shown self.now).sets.ltp serial)) (shown self.now).sets.issued) }
     {
-        arriving_before(alloc, &self.content.ltp, moment)
+        let mut found = Vec::new(alloc);
+        arriving_before(&mut found, self.ltp, moment)?;
+        Ok(found)
     }
 
     /// The row of the long-term plan that has the key.
     pub fn ltp_row(&self, key: &Key) -> Option<Row>
         ensures { IsPlannedRow (shown self.now).sets key.now result }
     {
-        first_of(of_key(&self.content.ltp, key))
+        first_of(of_key(self.ltp, key))
     }
 
     /// The row of the current plan that has the key and is not deleted.
     pub fn cp_row(&self, key: &Key) -> Option<CurrentRow>
         ensures { IsCurrentRow (shown self.now).sets key.now result }
     {
-        first_live(of_key(&self.content.cp, key))
+        first_live(of_key(self.cp, key))
     }
 
     /// The live occurrence that has the key, and where it stands.
@@ -188,7 +204,7 @@ impl<'a> View<'a> {
                 place: Place::Current(current.status),
             });
         }
-        let row = first_of(of_key(&self.content.history, key))?;
+        let row = first_of(of_key(self.history, key))?;
         Some(PlacedRow {
             row,
             place: Place::History,
@@ -199,32 +215,32 @@ impl<'a> View<'a> {
     pub fn is_deleted_by_operator(&self, key: &Key) -> bool
         ensures { IsTrue result ↔ IsDeletedKey (shown self.now).sets key.now }
     {
-        has_operator(of_key(&self.content.deletions, key))
+        has_operator(of_key(self.deletions, key))
     }
 
     /// The occurrence of the serial, and where it stands.
     pub fn placed(&self, serial: Serial) -> Option<PlacedRow>
         ensures { AreNumbered (shown self.now).sets → IsPlacedAt (shown self.now).sets serial result }
     {
-        if let Some(row) = of_serial(&self.content.ltp, &self.content.seats, serial) {
+        if let Some(row) = of_serial(self.ltp, &self.content.seats, serial) {
             return Some(PlacedRow {
                 row,
                 place: Place::LongTerm,
             });
         }
-        if let Some(current) = of_serial(&self.content.cp, &self.content.seats, serial) {
+        if let Some(current) = of_serial(self.cp, &self.content.seats, serial) {
             return Some(PlacedRow {
                 row: current.row,
                 place: Place::Current(current.status),
             });
         }
-        if let Some(row) = of_serial(&self.content.history, &self.content.seats, serial) {
+        if let Some(row) = of_serial(self.history, &self.content.seats, serial) {
             return Some(PlacedRow {
                 row,
                 place: Place::History,
             });
         }
-        let deletion = of_serial(&self.content.deletions, &self.content.seats, serial)?;
+        let deletion = of_serial(self.deletions, &self.content.seats, serial)?;
         Some(PlacedRow {
             row: deletion.row,
             place: Place::Deleted(deletion.reason),
@@ -235,9 +251,9 @@ impl<'a> View<'a> {
     fn last_before(&self, app: &App, minute: u32) -> Option<Arrival>
         ensures { AreNumbered (shown self.now).sets → IsLastBefore (shown self.now).sets app.now minute result }
     {
-        let ltp = last_of(before(of_app(&self.content.ltp, app), minute));
-        let cp = last_live(before(of_app(&self.content.cp, app), minute));
-        let history = last_of(before(of_app(&self.content.history, app), minute));
+        let ltp = last_of(before(of_app(self.ltp, app), minute));
+        let cp = last_live(before(of_app(self.cp, app), minute));
+        let history = last_of(before(of_app(self.history, app), minute));
         later(ltp, later(cp, history))
     }
 

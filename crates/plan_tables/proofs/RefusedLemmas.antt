@@ -1,5 +1,5 @@
 -- Lemmas on files that are not opened as a plan.
-use Rattle.std.proofs.Common.{◌≡◌, ◌⊎◌, IsTrue, inl, inr, arith}
+use Rattle.std.proofs.Common.{◌≡◌, IsTrue, inl, inr, arith}
 use Rattle.sqlite.specs.Files.{IsOpened, file_state, over_files}
 use Rattle.sqlite.specs.Held.{Held, IsNew, state}
 use Rattle.sqlite.specs.Start.{FindsIn}

@@ -27,7 +27,6 @@ use Rattle.plan_tables.proofs.DefinitionFacts.{redefined_content}
 use Rattle.plan_tables.proofs.SetLemmas.{content_set}
 use Rattle.table_schema.specs.Rows.{Tables}
 use Rattle.table_schema.specs.Schema.{HasTables}
-use Rattle.std.proofs.Common.{None}
 
 pub stored_still : (old new : State) (c : Content) → IsStored old c → IsTrue new.is_open → new.now ≡ old.now
     → new.committed ≡ old.committed → IsStored new c

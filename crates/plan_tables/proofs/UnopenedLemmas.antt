@@ -1,5 +1,5 @@
 -- In memory only memory can be short.
-use Rattle.std.proofs.Common.{◌≡◌, ◌⊎◌, ℕ, None, Result, Ok, Err, IsTrue, IsSome, arith, inl, inr, refl, subst, sym, true≢false, ◌∙◌}
+use Rattle.std.proofs.Common.{◌≡◌, None, Result, Ok, Err, IsTrue, IsSome, arith, inl, inr, refl, subst, sym, true≢false, ◌∙◌}
 use Rattle.std.specs.Prelude.{IfErr}
 use Rattle.sqlite.specs.Held.{Held, IsNew, state}
 use Rattle.sqlite.specs.State.{State}

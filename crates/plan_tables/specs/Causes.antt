@@ -1,5 +1,5 @@
 -- Why a change is not made in the tables.
-use Rattle.std.specs.Prelude.{◌≡◌, ◌⊎◌, IsSome, None, Option, Some}
+use Rattle.std.specs.Prelude.{◌⊎◌, IsSome, None, Option, Some}
 use Rattle.sqlite.specs.State.{State}
 use Rattle.sqlite.specs.declared.error.Error.{Error}
 use Rattle.sqlite.specs.declared.error.Error.TheVariants.{SqliteFailure}

@@ -1,19 +1,19 @@
 // A store over a database.
 
-ghost use Rattle.std.specs.Prelude.{◌≡◌, ◌⊎◌, ◌<◌, ◌≤◌, false, ◌^◌, Err, OnOk, OnErr, IfOk, IfErr, IfSome, IsTrue, ⊤};
+ghost use Rattle.std.specs.Prelude.{◌≡◌, ◌⊎◌, ◌<◌, ◌≤◌, false, ◌^◌, Ok, Err, OnOk, OnErr, IfOk, IfErr, IfSome, IsTrue};
+ghost use Rattle.std.specs.Prelude.{option_copied, ⊤};
 ghost use Rattle.sqlite.specs.State.{HasCleanDisk, Survives};
 ghost use Rattle.sqlite.specs.Held.{state};
 ghost use Rattle.sqlite_disk.specs.Disk.{MoreFaults};
-ghost use Rattle.sqlite.specs.Tree.{Trees};
 ghost use Rattle.planner_machine.specs.Content.{Content as ContentValue};
-ghost use Rattle.planner_machine.specs.Sound.{IsSound};
+ghost use Rattle.planner_machine.specs.Sound.{AreNumbered, IsSound};
 ghost use Rattle.planner_machine.specs.declared.job.Job.{Job as JobValue};
-ghost use Rattle.table_schema.specs.Rows.{tables_of};
 ghost use Rattle.plan_store.specs.Changes.{Fits, after};
 ghost use Rattle.plan_store.specs.Contents.{content_of};
 ghost use Rattle.plan_store.specs.Faults.{MoreFailures};
+ghost use Rattle.plan_store.specs.Listings.{HandsAll, HandsPart, IsListing};
 ghost use Rattle.plan_store.specs.declared.stores.StoreFault.TheVariants.{Device};
-ghost use Rattle.table_facts.specs.Content.{answer_text, IsContentOf};
+ghost use Rattle.table_facts.specs.Content.{answer_text};
 ghost use Rattle.table_opening.specs.Opened.{IsStored};
 ghost use Rattle.table_writing.specs.Redefining.{AreMovesOf};
 ghost use Rattle.plan_tables.specs.Causes.{CanTake, HasFailed};
@@ -213,7 +213,14 @@ impl<S: Alter + Drop> PlanStore for TableStore<S> {
     ghost may_leave = { λ store c. HasCleanDisk (state S.Store store.conn)
         × MayLeave (state S.Store store.conn) c };
 
-    fn definitions(&mut self) -> Result<Definitions, StoreFault> {
+    // A store that is read stays as it was. It answers that the device failed where a failure was counted before, and
+    // only there.
+    fn definitions(&mut self) -> Result<Definitions, StoreFault>
+        ensures kept { self.new ≡ self.old }
+        ensures answer { self.old.failures ≡ 0 → (result ≡ Ok self.old.lists.definitions)
+            ⊎ (result ≡ Err StoreFault.Memory) }
+        ensures broken { 0 < self.old.failures → result ≡ Err StoreFault.Device }
+    {
         if self.failures > 0 {
             return Err(StoreFault::Device);
         }
@@ -223,14 +230,23 @@ impl<S: Alter + Drop> PlanStore for TableStore<S> {
         }
     }
 
-    fn bounds(&mut self) -> Result<Option<Bounds>, StoreFault> {
+    fn bounds(&mut self) -> Result<Option<Bounds>, StoreFault>
+        ensures kept { self.new ≡ self.old }
+        ensures answer { self.old.failures ≡ 0 → result ≡ Ok self.old.lists.bounds }
+        ensures broken { 0 < self.old.failures → result ≡ Err StoreFault.Device }
+    {
         if self.failures > 0 {
             return Err(StoreFault::Device);
         }
         Ok(self.lists.bounds)
     }
 
-    fn links(&mut self) -> Result<Links, StoreFault> {
+    fn links(&mut self) -> Result<Links, StoreFault>
+        ensures kept { self.new ≡ self.old }
+        ensures answer { self.old.failures ≡ 0 → (result ≡ Ok self.old.lists.in_force)
+            ⊎ (result ≡ Err StoreFault.Memory) }
+        ensures broken { 0 < self.old.failures → result ≡ Err StoreFault.Device }
+    {
         if self.failures > 0 {
             return Err(StoreFault::Device);
         }
@@ -240,11 +256,14 @@ impl<S: Alter + Drop> PlanStore for TableStore<S> {
         }
     }
 
-    fn read_window<'a>(&'a mut self, _need: Need) -> Result<View<'a>, StoreFault> {
+    fn read_window<'a>(&'a mut self, need: Need) -> Result<View<'a>, StoreFault> {
         if self.failures > 0 {
             return Err(StoreFault::Device);
         }
-        Ok(self.lists.view())
+        match self.lists.fill_window(&need) {
+            Ok(()) => Ok(self.lists.window(&need)),
+            Err(_) => Err(StoreFault::Memory),
+        }
     }
 
     fn job<'a>(&'a mut self, number: u64) -> Result<Option<&'a Job>, StoreFault> {
@@ -260,7 +279,17 @@ impl<S: Alter + Drop> PlanStore for TableStore<S> {
         what: What,
         app: Option<&App>,
         sink: &mut K,
-    ) -> Result<usize, ListFault> {
+    ) -> Result<usize, ListFault>
+        ensures all { AreNumbered (content_of self.old.lists).sets
+            → IfOk result (HandsAll K.takes (IsListing what (option_copied app.entry) (content_of self.old.lists))
+            sink.old sink.new) }
+        ensures part { AreNumbered (content_of self.old.lists).sets
+            → IfErr result (HandsPart K.takes K.refuses (IsListing what (option_copied app.entry)
+            (content_of self.old.lists)) sink.old sink.new) }
+        ensures kept { self.new ≡ self.old }
+        ensures blames { IfErr result (λ fault. fault ≡ ListFault.Device → 0 < self.old.failures) }
+        ensures broken { 0 < self.old.failures → (result ≡ Err ListFault.Device) × (sink.new ≡ sink.old) }
+    {
         self.lists.has_listings();
         if self.failures > 0 {
             return Err(ListFault::Device);

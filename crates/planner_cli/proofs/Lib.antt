@@ -17,3 +17,4 @@ pub mod TrialServes
 pub mod NothingLemmas
 pub mod StatementLemmas
 pub mod FreshRunLemmas
+mod WindowLemmas

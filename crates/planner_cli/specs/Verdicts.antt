@@ -1,6 +1,7 @@
 -- What comes of a verdict.
 use Rattle.std.specs.Prelude.{◌≡◌, ◌≢◌, ◌⊎◌, ℕ, List, None, Option, Some, Ok, Err}
 use Rattle.occurrences.specs.declared.refusal.Refusal.TheVariants.{JobWithAnotherText}
+use Rattle.planner_machine.specs.declared.content.Bounds.{Bounds}
 use Rattle.planner_machine.specs.declared.job.Job.{Job}
 use Rattle.planner_machine.specs.Content.{Content}
 use Rattle.planner_machine.specs.Jobs.{kept, with_job}
@@ -14,6 +15,7 @@ use Rattle.statements.specs.declared.statements.ChangeStatement.{ChangeStatement
 use Rattle.statements.specs.declared.statements.ChangeStatement.TheVariants as statement
 use Rattle.statements.specs.declared.statements.DailyFunction.{DailyFunction}
 use Rattle.statements.specs.declared.statements.DailyFunction.TheVariants as daily
+use Rattle.daily_planning.specs.DailyPlans.{replan_need}
 use Rattle.planner_cli.specs.Changes.{change_of}
 use Rattle.planner_cli.specs.declared.decisions.JobChange.{JobChange}
 use Rattle.planner_cli.specs.declared.decisions.JobChange.TheVariants as by_job
@@ -49,22 +51,22 @@ abbrev pub job_change : JobChange → Change
 job_change (by_job.Define block) = Define block
 job_change (by_job.Statement change) = change_of change
 
--- what the decision on a daily plan has to see
-abbrev pub need_of_daily : DailyFunction → Need
-need_of_daily (daily.Extend to) = need.Daily to
-need_of_daily (daily.ExtendBy days count) = need.LongTerm
-need_of_daily daily.Replan = need.LongTerm
+-- what the decision on a daily plan has to see, where the plans reach so far
+abbrev pub need_of_daily : Option Bounds → DailyFunction → Need
+need_of_daily bounds (daily.Extend to) = need.Daily to
+need_of_daily bounds (daily.ExtendBy days count) = need.LongTerm
+need_of_daily bounds daily.Replan = replan_need bounds
 
 -- what the decision on a change has to see
-abbrev pub need_of_change : ChangeStatement → Need
-need_of_change (statement.Undefine kind name) = need.LongTerm
-need_of_change (statement.Plan function) = need.LongTerm
-need_of_change (statement.Add key) = need.Key key
-need_of_change (statement.Delete key) = need.Key key
-need_of_change (statement.Daily function) = need_of_daily function
-need_of_change (statement.AddCurrent key) = need.Key key
-need_of_change (statement.Act action key) = need.Key key
+abbrev pub need_of_change : Option Bounds → ChangeStatement → Need
+need_of_change bounds (statement.Undefine kind name) = need.Definitions
+need_of_change bounds (statement.Plan function) = need.LongTerm
+need_of_change bounds (statement.Add key) = need.Key key
+need_of_change bounds (statement.Delete key) = need.Key key
+need_of_change bounds (statement.Daily function) = need_of_daily bounds function
+need_of_change bounds (statement.AddCurrent key) = need.Key key
+need_of_change bounds (statement.Act action key) = need.Key key
 
-abbrev pub need_of : JobChange → Need
-need_of (by_job.Define block) = need.LongTerm
-need_of (by_job.Statement change) = need_of_change change
+abbrev pub need_of : Option Bounds → JobChange → Need
+need_of bounds (by_job.Define block) = need.Definitions
+need_of bounds (by_job.Statement change) = need_of_change bounds change

@@ -36,7 +36,7 @@ pub(crate) fn answer_days<S: PlanStore>(
     ensures { AnswersBy S.is_honest S.content S.failures S.may_leave store.old store.new result
         (Serves (DaysStatement app.now from to) (S.content store.old)) }
 {
-    let view = store.read_window(Need::LongTerm)?;
+    let view = store.read_window(Need::Definitions)?;
     match days(alloc, view.definitions(), kept, app, from, to) {
         Ok(printed) => Ok(printed),
         Err(_) => Err(StoreFault::Memory),

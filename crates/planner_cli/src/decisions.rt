@@ -13,6 +13,7 @@ use crate::define::{define, undefine};
 use crate::kinds::{count_of, definitions_kind};
 use app_definitions::Block;
 use plan_store::{Need, Verdict, View};
+use planner_machine::Bounds;
 use statements::{ChangeStatement, DailyFunction, PlanFunction};
 use std::alloc::{AllocError, Global};
 
@@ -25,43 +26,45 @@ pub enum JobChange {
     Statement(ChangeStatement),
 }
 
-/// What the decision on a change has to see.
-pub(crate) fn need_of(job: &JobChange) -> Need
-    ensures { result ≡ need_of job.now }
+/// What the decision on a change has to see, where the plans reach so far.
+pub(crate) fn need_of(bounds: Option<Bounds>, job: &JobChange) -> Need
+    ensures { result ≡ need_of bounds job.now }
 {
     match job {
-        JobChange::Define(_) => Need::LongTerm,
-        JobChange::Statement(change) => need_of_change(change),
+        JobChange::Define(_) => Need::Definitions,
+        JobChange::Statement(change) => need_of_change(bounds, change),
     }
 }
 
 // The same of a change without data.
-fn need_of_change(change: &ChangeStatement) -> Need
-    ensures { result ≡ need_of_change change.now }
+fn need_of_change(bounds: Option<Bounds>, change: &ChangeStatement) -> Need
+    ensures { result ≡ need_of_change bounds change.now }
 {
     match change {
-        ChangeStatement::Undefine { .. } | ChangeStatement::Plan(_) => Need::LongTerm,
+        ChangeStatement::Undefine { .. } => Need::Definitions,
+        ChangeStatement::Plan(_) => Need::LongTerm,
         ChangeStatement::Add { key }
         | ChangeStatement::Delete { key }
         | ChangeStatement::AddCurrent { key }
         | ChangeStatement::Act { key, .. } => Need::Key(*key),
-        ChangeStatement::Daily(function) => need_of_daily(function),
+        ChangeStatement::Daily(function) => need_of_daily(bounds, function),
     }
 }
 
 /// The same of a daily plan.
-pub(crate) fn need_of_daily(function: &DailyFunction) -> Need
-    ensures { result ≡ need_of_daily function.now }
+pub(crate) fn need_of_daily(bounds: Option<Bounds>, function: &DailyFunction) -> Need
+    ensures { result ≡ need_of_daily bounds function.now }
 {
     match function {
         DailyFunction::Extend { to } => Need::Daily(*to),
-        DailyFunction::ExtendBy { .. } | DailyFunction::Replan => Need::LongTerm,
+        DailyFunction::ExtendBy { .. } => Need::LongTerm,
+        DailyFunction::Replan => daily_planning::replan_need(bounds),
     }
 }
 
 /// The verdict on a change.
 pub(crate) fn decide(alloc: Global, view: &View<'_>, job: JobChange) -> Result<Verdict, AllocError>
-    ensures { IfOk result (λ verdict. (c : Content) → Shows (need_of job) view.now c → IsSound c
+    ensures { IfOk result (λ verdict. (c : Content) → Shows (need_of c.sets.bounds job) view.now c → IsSound c
         → VerdictIs (decision_of (job_change job)) c verdict) }
 {
     match job {
@@ -76,8 +79,8 @@ fn decide_change(
     view: &View<'_>,
     change: &ChangeStatement,
 ) -> Result<Verdict, AllocError>
-    ensures { IfOk result (λ verdict. (c : Content) → Shows (need_of_change change.now) view.now c → IsSound c
-        → VerdictIs (decision_of (change_of change.now)) c verdict) }
+    ensures { IfOk result (λ verdict. (c : Content) → Shows (need_of_change c.sets.bounds change.now) view.now c
+        → IsSound c → VerdictIs (decision_of (change_of change.now)) c verdict) }
 {
     match change {
         ChangeStatement::Undefine { kind, name } => {
@@ -117,8 +120,8 @@ pub(crate) fn decide_daily(
     view: &View<'_>,
     function: &DailyFunction,
 ) -> Result<Verdict, AllocError>
-    ensures { IfOk result (λ verdict. (c : Content) → Shows (need_of_daily function.now) view.now c → IsSound c
-        → VerdictIs (decision_of (daily_change function.now)) c verdict) }
+    ensures { IfOk result (λ verdict. (c : Content) → Shows (need_of_daily c.sets.bounds function.now) view.now c
+        → IsSound c → VerdictIs (decision_of (daily_change function.now)) c verdict) }
 {
     match function {
         DailyFunction::Extend { to } => daily_planning::extend(alloc, view, *to),

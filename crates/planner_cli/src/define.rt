@@ -1,10 +1,11 @@
 //! `define` and `undefine`: the definitions change, and the plans stay.
-ghost use Rattle.std.specs.Prelude.{◌≡◌, ◌↔◌, IsTrue};
+ghost use Rattle.std.specs.Prelude.{◌↔◌, IsTrue};
 ghost use Rattle.app_definitions.specs.Definitions.{IsDefined};
 ghost use Rattle.planner_machine.specs.Content.{Content};
 ghost use Rattle.planner_machine.specs.Define as decided;
 ghost use Rattle.plan_store.specs.Verdicts.{VerdictIs};
-ghost use Rattle.plan_store.specs.Views.{shown};
+ghost use Rattle.plan_store.specs.Views.{Shows};
+ghost use Rattle.plan_store.specs.declared.stores.Need.TheVariants as need;
 
 use app_definitions::{Block, Definitions, Kind};
 use occurrences::{Refusal, Reply};
@@ -24,7 +25,7 @@ pub(crate) fn define(alloc: Global, block: Block) -> Verdict
 
 /// `undefine`: the definition of the name is taken away. Refused where there is none (13).
 pub(crate) fn undefine(alloc: Global, view: &View<'_>, kind: Kind, name: &Name) -> Verdict
-    ensures { (c : Content) → shown view.now ≡ c → VerdictIs (decided.undefine kind name.now) c result }
+    ensures { (c : Content) → Shows need.Definitions view.now c → VerdictIs (decided.undefine kind name.now) c result }
 {
     if !is_defined(view.definitions(), kind, name) {
         return Verdict::Refused(Refusal::NotDefined);

@@ -17,7 +17,7 @@ use crate::answers::{Printed, print_alone};
 use crate::decisions::{JobChange, decide, need_of};
 use occurrences::{Refusal, Reply};
 use plan_store::{Change, PlanStore, StoreFault, Verdict};
-use planner_machine::{Answer, Job, JobText, streams};
+use planner_machine::{Answer, Bounds, Job, JobText, streams};
 use std::alloc::Global;
 
 /// Answers a change that carries a job number. A job that is kept under the number is answered as then, or refused
@@ -86,8 +86,31 @@ fn perform<S: PlanStore>(
         × AnswersJob number text (decision_of (job_change change)) (S.content store.old) answer c
         × (reply ≡ answering answer)) }
 {
+    let bounds = store.bounds()?;
+    perform_within(alloc, store, bounds, number, text, change)
+}
+
+// The same where it is known how far the plans reach.
+fn perform_within<S: PlanStore>(
+    alloc: Global,
+    store: &mut S,
+    bounds: Option<Bounds>,
+    number: u64,
+    text: JobText,
+    change: JobChange,
+) -> Result<Printed, StoreFault>
+    requires numbered { IsJobNumber number }
+    requires well_formed { IsWellFormed (job_change change) }
+    requires sound { S.is_honest store.old → IsSound (S.content store.old) }
+    requires new { S.is_honest store.old → (S.content store.old).jobs number ≡ None }
+    requires reach { S.is_honest store.old → bounds ≡ (S.content store.old).sets.bounds }
+    ensures { AnswersBy S.is_honest S.content S.failures S.may_leave store.old store.new result (λ reply c.
+        (answer : AnswerValue)
+        × AnswersJob number text (decision_of (job_change change)) (S.content store.old) answer c
+        × (reply ≡ answering answer)) }
+{
     streams();
-    let need = need_of(&change);
+    let need = need_of(bounds, &change);
     let view = store.read_window(need)?;
     let Ok(verdict) = decide(alloc, &view, change) else {
         return Err(StoreFault::Memory);

@@ -8,7 +8,8 @@ ghost use Rattle.planner_machine.specs.Statement.{Trial, decision_of};
 ghost use Rattle.plan_listings.specs.Report.{IsReport};
 ghost use Rattle.keyed_lists.specs.Rows.{of_current};
 ghost use Rattle.plan_store.specs.Verdicts.{VerdictIs};
-ghost use Rattle.plan_store.specs.Views.{IsAny, ListsSet, shown};
+ghost use Rattle.plan_store.specs.Views.{IsAny, ListsSet, Shows};
+ghost use Rattle.plan_store.specs.declared.stores.Need.TheVariants.{LongTerm};
 ghost use Rattle.statements.specs.declared.statements.DailyFunction.{DailyFunction as DailyValue};
 ghost use Rattle.statements.specs.declared.statements.PlanFunction.{PlanFunction as PlanValue};
 ghost use Rattle.planner_cli.specs.Changes.{daily_change, plan_change};
@@ -17,6 +18,7 @@ ghost use Rattle.planner_cli.specs.Stores.{AnswersBy};
 ghost use Rattle.occurrences.specs.declared.place.CurrentRow.{CurrentRow as CurrentRowValue};
 ghost use Rattle.planner_cli.specs.Rows.{daily_signed};
 ghost use Rattle.planner_cli.specs.Trials.{daily_changes};
+ghost use Rattle.planner_cli.specs.Verdicts.{need_of_daily};
 
 use crate::answers::{Printed, accepted, refused};
 use crate::decisions::{decide_daily, decide_plan, need_of_daily};
@@ -24,7 +26,7 @@ use crate::well_formed::plan_is_well_formed;
 use occurrences::{CurrentRow, Row, Status};
 use plan_listings::{dp_report, ltp_report};
 use plan_store::{Need, PlanStore, StoreFault, Verdict, View};
-use planner_machine::{fate_is_followed, sound_content_stays_sound};
+use planner_machine::{Bounds, fate_is_followed, sound_content_stays_sound};
 use statements::{DailyFunction, PlanFunction};
 use std::alloc::{AllocError, Global};
 
@@ -51,7 +53,7 @@ fn plan_trial(
     view: &View<'_>,
     function: &PlanFunction,
 ) -> Result<Printed, AllocError>
-    ensures { IfOk result (λ printed. (c : Content) → shown view.now ≡ c → IsSound c
+    ensures { IfOk result (λ printed. (c : Content) → Shows LongTerm view.now c → IsSound c
         → PrintsTrial (plan_change function.now) c printed) }
 {
     plan_is_well_formed(function);
@@ -85,7 +87,23 @@ pub(crate) fn answer_daily_trial<S: PlanStore>(
     ensures { AnswersBy S.is_honest S.content S.failures S.may_leave store.old store.new result
         (Serves (Trial (daily_change function.now)) (S.content store.old)) }
 {
-    let view = store.read_window(need_of_daily(function))?;
+    let bounds = store.bounds()?;
+    answer_within(alloc, store, bounds, function)
+}
+
+// The same where it is known how far the plans reach.
+fn answer_within<S: PlanStore>(
+    alloc: Global,
+    store: &mut S,
+    bounds: Option<Bounds>,
+    function: &DailyFunction,
+) -> Result<Printed, StoreFault>
+    requires sound { S.is_honest store.old → IsSound (S.content store.old) }
+    requires reach { S.is_honest store.old → bounds ≡ (S.content store.old).sets.bounds }
+    ensures { AnswersBy S.is_honest S.content S.failures S.may_leave store.old store.new result
+        (Serves (Trial (daily_change function.now)) (S.content store.old)) }
+{
+    let view = store.read_window(need_of_daily(bounds, function))?;
     match daily_trial(alloc, &view, function) {
         Ok(printed) => Ok(printed),
         Err(_) => Err(StoreFault::Memory),
@@ -98,8 +116,8 @@ fn daily_trial(
     view: &View<'_>,
     function: &DailyFunction,
 ) -> Result<Printed, AllocError>
-    ensures { IfOk result (λ printed. (c : Content) → shown view.now ≡ c → IsSound c
-        → PrintsTrial (daily_change function.now) c printed) }
+    ensures { IfOk result (λ printed. (c : Content) → Shows (need_of_daily c.sets.bounds function.now) view.now c
+        → IsSound c → PrintsTrial (daily_change function.now) c printed) }
 {
     let verdict = decide_daily(alloc, view, function)?;
     print_daily(alloc, view.cp(), &verdict)

@@ -15,3 +15,5 @@ mod soundness;
 mod stores;
 #[cfg(test)]
 mod streams;
+#[cfg(test)]
+mod windows;

@@ -1,12 +1,13 @@
 use Rattle.std.proofs.Common.{◌≡◌, ◌∙◌, rules, arith, length, refl, sym, ap, Some}
 use Rattle.planner_machine.specs.DailyPlan.{waiting}
 use Rattle.plan_store.specs.Views.{shown}
+use Rattle.plan_store.proofs.WindowLemmas.{daily_cp, daily_same, early_lists}
 use Rattle.plan_store.specs.declared.changes.Change.{Change}
 use Rattle.daily_planning.proofs.DailyLemmas.{daily_replied}
 use Rattle.daily_planning.proofs.daily_plans.daily_plan.Goals as goal
 
 pub returns : goal.returns
-returns c sound is =
+returns c c' shows sound is =
     let t = c.args.to in
     let b = c.args.bounds.now in
     let none = c.none-change.result in
@@ -18,8 +19,12 @@ returns c sound is =
       history = record none.history { put = c.in_ok-completed.completed };
       deletions = record none.deletions { put = c.in_ok-deleted.deleted };
     } in
-    daily_replied t b (shown c.args.view.now) sound is c.in_ok-moved.moved.items c.cp-rows.result.now
-    c.in_ok-moved.ensures.rows c.cp-rows.ensures.rows change
+    let rows = c.cp-rows.result.now in
+    let moved = c.in_ok-moved.moved.items in
+    let view = c.args.view.now in
+    let moved_list = early_lists t (shown view).sets.ltp c'.sets.ltp (daily_same t view c' shows) moved
+    c.in_ok-moved.ensures in
+    daily_replied t b c' sound is moved rows moved_list (daily_cp t view c' shows rows c.cp-rows.ensures.rows) change
     (record {
       definitions = nothing.definitions;
       bounds = refl;
@@ -42,8 +47,7 @@ returns c sound is =
       job = nothing.job;
     })
     c.len.result c.count_uncompleted.result c.len-2.result c.len-3.result
-    (let e : c.len.result ≡ length c.in_ok-moved.moved.items = omega arith in
-    e ∙ c.in_ok-moved.ensures.count sound.serials)
+    (let e : c.len.result ≡ length c.in_ok-moved.moved.items = omega arith in e)
     c.count_uncompleted.ensures
     (let e : c.len-2.result ≡ length c.in_ok-completed.completed.items = omega arith in
     e ∙ ap length c.in_ok-completed.ensures)

@@ -1,4 +1,4 @@
-use Rattle.std.proofs.Common.{◌≡◌, ◌∙◌, [], Some, ap, sym}
+use Rattle.std.proofs.Common.{◌∙◌, [], Some, ap, sym}
 use Rattle.sqlite.specs.Held.{state}
 use Rattle.plan_tables.proofs.CauseLemmas.{asked_memory, asked_open, asked_shut}
 use Rattle.plan_tables.proofs.keeping.ask_open.Goals as goal

@@ -1,9 +1,10 @@
-use Rattle.planner_cli.proofs.StoreLemmas.{read_printed}
+use Rattle.planner_machine.specs.Statement.{Trial}
+use Rattle.planner_cli.specs.Changes.{daily_change}
+use Rattle.planner_cli.specs.Steps.{Serves}
+use Rattle.planner_cli.proofs.StoreLemmas.{after_read}
 use Rattle.planner_cli.proofs.trials.answer_daily_trial.Goals as goal
 
-pub returns-in-Ok : goal.returns-in-Ok
-returns-in-Ok g c =
-    let reads = c.read_window.follows.holds-at-none in
-    read_printed _ _ _ _ _ _ _ _ reads c.in-Ok.printed _ (λ honest.
-    let shows = rw c.in_ok-view.was at reads.right honest in
-    c.in-Ok.ensures (g.S.PlanStore.content c.args.store.now) shows (c.requires (reads.honest honest)))
+pub returns : goal.returns
+returns g c =
+    after_read _ _ _ _ _ _ _ _ c.bounds.ensures c.answer_within.new.store c.answer_within.result
+    (Serves (Trial (daily_change c.args.function.now))) c.answer_within.ensures

@@ -4,5 +4,5 @@ use Rattle.plan_store.proofs.views.View.history.Goals as goal
 
 pub returns : goal.returns
 returns c =
-    let kept = c.args.self.now.content.now in
-    rw c.as_slice.ensures.value (lists_all of_row kept.history.items kept.history_rows)
+    let view = c.args.self.now in
+    lists_all of_row view.history.now view.history_rows

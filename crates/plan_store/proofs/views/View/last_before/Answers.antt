@@ -1,37 +1,37 @@
 use Rattle.std.proofs.Common.{◌⊎◌, refl}
 use Rattle.keyed_lists.specs.Rows.{of_current, of_row}
 use Rattle.plan_store.specs.Arrivals.{IsGreatestOf, arrives, arrives_live}
-use Rattle.plan_store.specs.Contents.{content_of}
+use Rattle.plan_store.specs.Views.{shown}
 use Rattle.plan_store.proofs.ArrivalLemmas.{greatest_later, last_is, part_of}
 use Rattle.plan_store.proofs.views.View.last_before.Goals as goal
 
 pub returns : goal.returns
 returns c numbered =
-    let kept = c.args.self.now.content.now in
-    let s = (content_of kept).sets in
+    let view = c.args.self.now in
+    let s = (shown view).sets in
     let app = c.args.app.now in
     let minute = c.args.minute in
     let ltp_part = c.before-2.result.now in
     let cp_part = c.before-3.result.now in
     let history_part = c.before-4.result.now in
-    let of_ltp = rw c.deref.ensures.value at c.of_app.ensures in
-    let of_cp = rw c.deref-2.ensures.value at c.of_app-2.ensures in
-    let of_history = rw c.deref-3.ensures.value at c.of_app-3.ensures in
-    let ltp_keyed = of_ltp.keyed kept.ltp_rows.keyed in
-    let cp_keyed = of_cp.keyed kept.cp_rows.keyed in
-    let history_keyed = of_history.keyed kept.history_rows.keyed in
-    let ltp_is = part_of of_row kept.ltp.items c.of_app.result.now ltp_part app minute (of_ltp.all kept.ltp_rows.keyed)
+    let of_ltp = c.of_app.ensures in
+    let of_cp = c.of_app-2.ensures in
+    let of_history = c.of_app-3.ensures in
+    let ltp_keyed = of_ltp.keyed view.ltp_rows.keyed in
+    let cp_keyed = of_cp.keyed view.cp_rows.keyed in
+    let history_keyed = of_history.keyed view.history_rows.keyed in
+    let ltp_is = part_of of_row view.ltp.now c.of_app.result.now ltp_part app minute (of_ltp.all view.ltp_rows.keyed)
     (c.before-2.ensures.all ltp_keyed) in
-    let cp_is = part_of of_current kept.cp.items c.of_app-2.result.now cp_part app minute (of_cp.all kept.cp_rows.keyed)
+    let cp_is = part_of of_current view.cp.now c.of_app-2.result.now cp_part app minute (of_cp.all view.cp_rows.keyed)
     (c.before-3.ensures.all cp_keyed) in
-    let history_is = part_of of_row kept.history.items c.of_app-3.result.now history_part app minute
-    (of_history.all kept.history_rows.keyed) (c.before-4.ensures.all history_keyed) in
+    let history_is = part_of of_row view.history.now c.of_app-3.result.now history_part app minute
+    (of_history.all view.history_rows.keyed) (c.before-4.ensures.all history_keyed) in
     let inner : IsGreatestOf (λ a. arrives_live cp_part a ⊎ arrives history_part a) c.later.result =
     rw c.later.ensures (greatest_later (arrives_live cp_part) (arrives history_part) c.last_live-cp.result
     c.last_of-history.result (c.last_live-cp.ensures (c.before-3.ensures.keyed cp_keyed))
     (c.last_of-history.ensures (c.before-4.ensures.keyed history_keyed))) in
-    rw c.later-2.ensures (last_is s numbered app minute kept.ltp.items kept.history.items kept.cp.items kept.ltp_rows
-    kept.cp_rows kept.history_rows (λ _. refl) (λ _. refl) (λ _. refl) ltp_part history_part cp_part ltp_is cp_is
+    rw c.later-2.ensures (last_is s numbered app minute view.ltp.now view.history.now view.cp.now view.ltp_rows
+    view.cp_rows view.history_rows (λ _. refl) (λ _. refl) (λ _. refl) ltp_part history_part cp_part ltp_is cp_is
     history_is _
     (greatest_later (arrives ltp_part) (λ a. arrives_live cp_part a ⊎ arrives history_part a) c.last_of-ltp.result
     c.later.result (c.last_of-ltp.ensures (c.before-2.ensures.keyed ltp_keyed)) inner))

@@ -1,41 +1,41 @@
 use Rattle.occurrences.specs.declared.row.Row.{Row}
-use Rattle.plan_store.specs.Contents.{content_of}
+use Rattle.plan_store.specs.Views.{shown}
 use Rattle.plan_store.proofs.LookLemmas.{look_has, look_some}
 use Rattle.plan_store.proofs.PlaceLemmas.{live_none, stands_cp, stands_history, stands_ltp}
 use Rattle.plan_store.proofs.views.View.live_row.Goals as goal
 
 pub returns-in-Some : goal.returns-in-Some
 returns-in-Some c numbered =
-    let s = (content_of c.args.self.now.content.now).sets in
+    let s = (shown c.args.self.now).sets in
     let is = c.in-Some.ensures in
     (stands_ltp s numbered c.in-Some.row.serial c.in-Some.row is.0, tt, is.1)
 
 pub returns-in-Some-cp_row : goal.returns-in-Some-cp_row
 returns-in-Some-cp_row c numbered =
-    let s = (content_of c.args.self.now.content.now).sets in
+    let s = (shown c.args.self.now).sets in
     let current = c.in-Some-cp_row.current in
     let is = c.in-Some-cp_row.ensures in
     (stands_cp s numbered current.row.serial current is.0, is.2, is.1)
 
 pub returns-in_err-row : goal.returns-in_err-row
 returns-in_err-row c numbered =
-    let kept = c.args.self.now.content.now in
-    let s = (content_of kept).sets in
-    let of_key = rw c.deref.ensures.value at c.of_key.ensures.all in
+    let view = c.args.self.now in
+    let s = (shown view).sets in
+    let of_key = c.of_key.ensures.all in
     rw c.from_residual.ensures (live_none s c.args.key.now c.in_default.ensures c.in_default-cp_row.ensures
     (λ serial row stands keyed. c.in_err-row.ensures row
-    ((of_key kept.history_rows.keyed row).1
-    ((look_some (λ (r : Row). r.serial) kept.history.items serial row stands).0, keyed))))
+    ((of_key view.history_rows.keyed row).1
+    ((look_some (λ (r : Row). r.serial) view.history.now serial row stands).0, keyed))))
 
 pub returns : goal.returns
 returns c numbered =
-    let kept = c.args.self.now.content.now in
-    let s = (content_of kept).sets in
+    let view = c.args.self.now in
+    let s = (shown view).sets in
     let row = c.in_ok-row.row in
-    let of_key = rw c.deref.ensures.value at c.of_key.ensures.all in
-    let both = (of_key kept.history_rows.keyed row).0 c.in_ok-row.ensures in (
-      stands_history s numbered row.serial row (look_has (λ (r : Row). r.serial) kept.history.items
-          kept.history_rows.one_each row both.0),
+    let of_key = c.of_key.ensures.all in
+    let both = (of_key view.history_rows.keyed row).0 c.in_ok-row.ensures in (
+      stands_history s numbered row.serial row (look_has (λ (r : Row). r.serial) view.history.now
+          view.history_rows.one_each row both.0),
       tt,
       both.1,
     )

@@ -6,8 +6,8 @@ use Rattle.plan_store.proofs.views.View.ltp_of.Goals as goal
 
 pub returns : goal.returns
 returns c =
-    let kept = c.args.self.now.content.now in
+    let view = c.args.self.now in
     let app = c.args.app.now in
-    let is = rw c.deref.ensures.value at c.of_app.ensures in
-    lists_part of_row (λ (x : Row). x.key.app ≡ app) kept.ltp.items c.of_app.result.now kept.ltp_rows
-    (is.keyed kept.ltp_rows.keyed) (is.all kept.ltp_rows.keyed)
+    let is = c.of_app.ensures in
+    lists_part of_row (λ (x : Row). x.key.app ≡ app) view.ltp.now c.of_app.result.now view.ltp_rows
+    (is.keyed view.ltp_rows.keyed) (is.all view.ltp_rows.keyed)

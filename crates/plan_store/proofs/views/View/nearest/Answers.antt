@@ -2,7 +2,7 @@ use Rattle.std.proofs.Common.{◌≡◌, ◌≢◌, ◌+◌, ◌∙◌, ◌⊎�
 use Rattle.std.proofs.lemmas.Bool.{false≢true}
 use Rattle.external_dependencies.proofs.NearestLemmas.{answer_close, answer_far}
 use Rattle.planner_machine.specs.Pairs.{LiveAt}
-use Rattle.plan_store.specs.Contents.{content_of}
+use Rattle.plan_store.specs.Views.{shown}
 use Rattle.plan_store.proofs.ArrivalLemmas.{other_name, nearest_none, nearest_some, same_name}
 use Rattle.plan_store.proofs.views.View.nearest.Goals as goal
 use Rattle.plan_store.proofs.views.View.nearest.Goals.{then-eq, else-eq}
@@ -10,7 +10,7 @@ use Rattle.plan_store.proofs.views.View.nearest.Goals.{then-eq, else-eq}
 -- nothing arrives before it
 pub returns-in_default : goal.returns-in_default
 returns-in_default c numbered =
-    let s = (content_of c.args.self.now.content.now).sets in
+    let s = (shown c.args.self.now).sets in
     let key = c.args.key.now in
     let app = c.args.app.now in
     let limit = c.if-eq.limit in
@@ -32,7 +32,7 @@ returns-in_default c numbered =
 -- the last that does is close enough
 pub returns-then-arrives_within : goal.returns-then-arrives_within
 returns-then-arrives_within c numbered =
-    let s = (content_of c.args.self.now.content.now).sets in
+    let s = (shown c.args.self.now).sets in
     let key = c.args.key.now in
     let app = c.args.app.now in
     let limit = c.if-eq.limit in
@@ -56,7 +56,7 @@ returns-then-arrives_within c numbered =
 -- or too far
 pub returns-else-arrives_within : goal.returns-else-arrives_within
 returns-else-arrives_within c numbered =
-    let s = (content_of c.args.self.now.content.now).sets in
+    let s = (shown c.args.self.now).sets in
     let key = c.args.key.now in
     let app = c.args.app.now in
     let limit = c.if-eq.limit in

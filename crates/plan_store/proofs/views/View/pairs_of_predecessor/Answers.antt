@@ -28,7 +28,7 @@ returns-clause-all c =
     let is_before : Pair → Bool = λ pair. nat_eq pair.predecessor one in
     let pairs = c.as_slice.result.now in
     let whole = c.as_slice.ensures.all in
-    let all = c.args.self.now.content.now.pairs in
+    let all = c.args.self.now.pairs.now in
     IfOk-weaker c.pairs_before.result (λ found. found.items ≡ filter is_before pairs)
     (λ found. (pair : Pair) → Contains found.items pair ↔ (Contains all pair × (pair.predecessor ≡ one)))
     (λ found is pair.

@@ -1,0 +1,25 @@
+ghost use Rattle.std.specs.Prelude.{◌≡◌, []};
+
+use external_dependencies::Pairs;
+use occurrences::Row;
+use std::alloc::Global;
+
+// What windows show that is no part of a list of the content. It is filled before a window is lent.
+#[derive(Drop)]
+pub(crate) struct Buffer {
+    // the rows of the long-term plan that the latest daily window shows
+    pub(crate) early: Vec<Row>,
+    // the pairs of a window that shows none
+    pub(crate) no_pairs: Pairs,
+    ghost none: { no_pairs ≡ [] },
+}
+
+impl Buffer {
+    // An empty buffer.
+    pub(crate) fn new(alloc: Global) -> Buffer {
+        Buffer {
+            early: Vec::new(alloc),
+            no_pairs: Pairs::new(alloc),
+        }
+    }
+}

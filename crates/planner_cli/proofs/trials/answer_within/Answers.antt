@@ -1,0 +1,15 @@
+use Rattle.std.proofs.Common.{◌∙◌, ap, subst}
+use Rattle.plan_store.specs.Views.{Shows}
+use Rattle.planner_cli.specs.Verdicts.{need_of_daily}
+use Rattle.planner_cli.proofs.StoreLemmas.{read_printed}
+use Rattle.planner_cli.proofs.trials.answer_within.Goals as goal
+
+pub returns-in-Ok : goal.returns-in-Ok
+returns-in-Ok g c =
+    let reads = c.read_window.follows.holds-at-none in
+    read_printed _ _ _ _ _ _ _ _ reads c.in-Ok.printed _ (λ honest.
+    let is = c.need_of_daily.ensures ∙ ap (λ b. need_of_daily b c.args.function.now)
+    (c.requires.reach (reads.honest honest)) in
+    let shows = subst (λ n. Shows n c.in_ok-view.view (g.S.PlanStore.content c.args.store.now)) is
+    (rw c.in_ok-view.was at reads.right honest) in
+    c.in-Ok.ensures (g.S.PlanStore.content c.args.store.now) shows (c.requires.sound (reads.honest honest)))

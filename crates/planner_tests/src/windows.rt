@@ -1,0 +1,133 @@
+//! Windows over a plan: they show what their need names, and no more.
+use occurrences::{CurrentRow, Key, Row};
+use plan_store::{ListStore, Need, PlanStore, View};
+use planner_cli::run;
+use std::alloc::Global;
+use std::test::Fail;
+use work_calendars::{App, Moment};
+
+/// A and B follow A, on two days, of which the first is planned. A is complete and then history, B has started: its
+/// pair is kept.
+const KEPT_PAIRS: &[u8] = b"define calendars --job 1\nDEFAULT,SAT,FREE\nDEFAULT,SUN,FREE\n/*\n\
+    define periods --job 2\nDAY,A,2024-01-01,1\n/*\n\
+    define applications --job 3\nA,A,\nB,A,\n/*\n\
+    define run-cycles --job 4\nA,RC,N,DAY,4,1,2024-01-01,,08.00,0,18.00\nB,RC,N,DAY,4,1,2024-01-01,,08.00,0,18.00\n/*\n\
+    define predecessors --job 11\nA,A\nB,A\n/*\n\
+    ltp-create --from 2024-01-01 --to 2024-01-02 --job 5\n\
+    dp-extend --to 2024-01-02/08.00 --job 6\n\
+    cp-start --app B --ia 2024-01-01/08.00 --job 12\n\
+    cp-start --app A --ia 2024-01-01/08.00 --job 13\n\
+    cp-complete --app A --ia 2024-01-01/08.00 --job 14\n\
+    dp-replan --job 15\n";
+
+// A store after that stream.
+fn planned(alloc: Global) -> Result<ListStore, Fail> {
+    let mut store = ListStore::new(alloc);
+    let mut reader = KEPT_PAIRS;
+    let mut replies = Vec::new(alloc);
+    match run(alloc, &mut store, &mut reader, &mut replies) {
+        Ok(_) => Ok(store),
+        Err(_) => Err("a run".into()),
+    }
+}
+
+// Whether these are the rows of the long-term plan that the window shows.
+fn plans(view: &View<'_>, serials: &[u32]) -> bool {
+    let rows: &[Row] = view.ltp();
+    rows.len() == serials.len()
+        && rows
+            .iter()
+            .zip(serials.iter())
+            .all(|(row, serial)| row.serial.get() == *serial)
+}
+
+// Whether these are the rows of the current plan that the window shows.
+fn runs(view: &View<'_>, serials: &[u32]) -> bool {
+    let rows: &[CurrentRow] = view.cp();
+    rows.len() == serials.len()
+        && rows
+            .iter()
+            .zip(serials.iter())
+            .all(|(current, serial)| current.row.serial.get() == *serial)
+}
+
+// Whether the window shows no row of history, and no pair.
+fn shows_no_more(view: &View<'_>) -> bool {
+    view.history().is_empty() && view.pairs().as_slice().is_empty()
+}
+
+// Whether the window shows these rows of the plans alone.
+fn shows_alone(view: &View<'_>, ltp: &[u32], cp: &[u32]) -> bool {
+    plans(view, ltp) && runs(view, cp) && shows_no_more(view)
+}
+
+// Whether one for a daily plan to the moment does, over that plan.
+fn daily_shows(alloc: Global, to: Moment, ltp: &[u32], cp: &[u32]) -> Result<bool, Fail> {
+    let mut store = planned(alloc)?;
+    match store.read_window(Need::Daily(to)) {
+        Ok(view) => Ok(shows_alone(&view, ltp, cp)),
+        Err(_) => Err("a window".into()),
+    }
+}
+
+#[test]
+fn a_daily_window_shows_three_rows(rt: HostRuntime) -> Result<(), Fail> {
+    let to = Moment::from_text("2024-01-03/00.00").ok_or("a moment")?;
+    assert!(rt; daily_shows(rt.alloc(), to, &[3, 4], &[2])?);
+    Ok(())
+}
+
+#[test]
+fn a_daily_window_ends_before_its_moment(rt: HostRuntime) -> Result<(), Fail> {
+    let to = Moment::from_text("2024-01-02/08.00").ok_or("a moment")?;
+    assert!(rt; daily_shows(rt.alloc(), to, &[], &[2])?);
+    Ok(())
+}
+
+// Whether the window shows the calendar and the number issued, and no row.
+fn shows_definitions(view: &View<'_>) -> bool {
+    let defined = view.definitions().calendars.len() == 1 && view.issued() == 4;
+    defined && shows_alone(view, &[], &[])
+}
+
+// Whether one for definitions does, over that plan.
+fn definitions_alone(alloc: Global) -> Result<bool, Fail> {
+    let mut store = planned(alloc)?;
+    match store.read_window(Need::Definitions) {
+        Ok(view) => Ok(shows_definitions(&view)),
+        Err(_) => Err("a window".into()),
+    }
+}
+
+#[test]
+fn a_window_for_definitions_shows_no_row(rt: HostRuntime) -> Result<(), Fail> {
+    assert!(rt; definitions_alone(rt.alloc())?);
+    Ok(())
+}
+
+// Whether the window shows all rows and pairs of that plan.
+fn shows_all(view: &View<'_>) -> bool {
+    let pairs = view.pairs().as_slice().len();
+    plans(view, &[3, 4]) && runs(view, &[2]) && view.history().len() == 1 && pairs == 3
+}
+
+// Whether one on the key does, after one for a daily plan.
+fn key_shows_all(alloc: Global, to: Moment, key: &Key) -> Result<bool, Fail> {
+    let mut store = planned(alloc)?;
+    if store.read_window(Need::Daily(to)).is_err() {
+        return Err("a window".into());
+    }
+    match store.read_window(Need::Key(*key)) {
+        Ok(view) => Ok(shows_all(&view)),
+        Err(_) => Err("a window".into()),
+    }
+}
+
+#[test]
+fn a_window_after_another_shows_its_own(rt: HostRuntime) -> Result<(), Fail> {
+    let to = Moment::from_text("2024-01-02/08.00").ok_or("a moment")?;
+    let ia = Moment::from_text("2024-01-02/08.00").ok_or("a moment")?;
+    let app = App::from_text("A").ok_or("a name")?;
+    assert!(rt; key_shows_all(rt.alloc(), to, &Key { ia, app })?);
+    Ok(())
+}
