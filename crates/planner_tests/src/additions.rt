@@ -2,9 +2,9 @@
 use external_dependencies::{Pair, PairChange};
 use long_term_plan::add;
 use occurrences::{Key, Serial};
-use plan_store::{ListStore, Need, PlanStore, Verdict};
+use plan_store::{ListStore, Need, PlanStore, Verdict, View};
 use planner_cli::run;
-use std::alloc::Global;
+use std::alloc::{AllocError, Global};
 use std::process::Abort;
 use std::test::Fail;
 use work_calendars::{App, Moment};
@@ -34,19 +34,43 @@ fn adds_alone(change: &PairChange, successors: [Serial; 2], predecessor: Serial)
     change.removed.as_slice().is_empty() && change.added.as_slice() == added.as_slice()
 }
 
-// Whether the verdict on the addition of the key to that plan adds these pairs alone.
-fn verdict_adds_alone(alloc: Global, key: &Key, numbers: [Serial; 3]) -> Result<bool, Fail> {
-    let [first, second, new] = numbers;
+// The store after these statements.
+fn planned(alloc: Global) -> Result<ListStore, Fail> {
     let mut store = ListStore::new(alloc);
     let mut reader = PLANNED;
     let mut replies = Vec::new(alloc);
-    run(alloc, &mut store, &mut reader, &mut replies)
-        .ok()
-        .ok_or("a run")?;
-    let view = store.read_window(Need::Key(*key)).ok().ok_or("a window")?;
-    match add(alloc, &view, key)? {
-        Verdict::Done(change, _) => Ok(adds_alone(&change.pairs, [first, second], new)),
-        Verdict::Refused(_) => Ok(false),
+    match run(alloc, &mut store, &mut reader, &mut replies) {
+        Ok(_) => Ok(store),
+        Err(_) => Err("a run".into()),
+    }
+}
+
+// Whether the verdict adds the pairs of the first two numbers with the third alone.
+fn does_add(verdict: &Verdict, numbers: [Serial; 3]) -> bool {
+    let [first, second, new] = numbers;
+    match verdict {
+        Verdict::Done(change, _) => adds_alone(&change.pairs, [first, second], new),
+        Verdict::Refused(_) => false,
+    }
+}
+
+// Whether that on the addition of the key over the window does.
+fn addition_adds(
+    alloc: Global,
+    view: &View<'_>,
+    key: &Key,
+    numbers: [Serial; 3],
+) -> Result<bool, AllocError> {
+    let verdict = add(alloc, view, key)?;
+    Ok(does_add(&verdict, numbers))
+}
+
+// Whether it does so over that plan.
+fn planned_adds(alloc: Global, key: &Key, numbers: [Serial; 3]) -> Result<bool, Fail> {
+    let mut store = planned(alloc)?;
+    match store.read_window(Need::Key(*key)) {
+        Ok(view) => Ok(addition_adds(alloc, &view, key, numbers)?),
+        Err(_) => Err("a window".into()),
     }
 }
 
@@ -60,6 +84,6 @@ fn an_addition_adds_two_pairs_and_removes_none(rt: HostRuntime) -> Result<(), Fa
     let app = App::from_text("A").ok_or("a name")?;
     let ia = Moment::from_text("2024-01-01/07.00").ok_or("a moment")?;
     let numbers = [serial(&rt, 2), serial(&rt, 3), serial(&rt, 5)];
-    assert!(rt; verdict_adds_alone(rt.alloc(), &Key { ia, app }, numbers)?);
+    assert!(rt; planned_adds(rt.alloc(), &Key { ia, app }, numbers)?);
     Ok(())
 }
