@@ -1,5 +1,5 @@
 -- Why a change is not made.
-use Rattle.std.proofs.Common.{◌≡◌, ◌⊎◌, ◌∙◌, ℕ, Bool, List, [], true, false, inl, inr, ap, subst, sym, true≢false, arith, IsSome, IsTrue, None, Some, Result, Ok, Err}
+use Rattle.std.proofs.Common.{◌≡◌, ◌⊎◌, ◌∙◌, ℕ, Bool, List, [], false, inl, inr, ap, subst, sym, true≢false, arith, IsSome, IsTrue, None, Some, Result, Ok, Err}
 use Rattle.std.proofs.Math.Logic.{∥∥₁_map}
 use Rattle.sqlite.specs.Order.{Row as Values}
 use Rattle.std.specs.Prelude.{IfErr, IsErrAnd}

@@ -1,12 +1,11 @@
 -- Definitions that tables can tell from all others.
-use Rattle.std.specs.Prelude.{◌≡◌, ℕ, List, Some, ⊤}
-use Rattle.std.specs.FinMap as map
+use Rattle.std.specs.Prelude.{List, ⊤}
 use Rattle.run_cycles.specs.declared.cycles.RunCycle.{RunCycle}
 use Rattle.definition_records.specs.declared.predecessors.Predecessor.{Predecessor}
 use Rattle.app_definitions.specs.declared.definitions.Definitions.{Definitions}
 use Rattle.app_definitions.specs.declared.kinds.Block.{Block}
 use Rattle.app_definitions.specs.declared.kinds.Block.TheVariants as block
-use Rattle.table_facts.specs.Content.{AreEach, ByName, HasEntry, IsNamed, IsTold}
+use Rattle.table_facts.specs.Content.{AreEach, HasEntry, IsNamed, IsTold}
 
 abbrev pub AreCycles : List RunCycle → Type 0
 AreCycles = IsNamed (λ (cycle : RunCycle). cycle.name)
@@ -29,7 +28,3 @@ IsTellableBlock (block.Periods more) = AreEach HasEntry more
 IsTellableBlock (block.Predecessors more) = AreEach ArePredecessors more
 IsTellableBlock (block.RunCycles more) = AreEach AreCycles more
 IsTellableBlock (block.Options given) = ⊤
-
--- the definition of this name is such, if there is one
-abbrev pub IsToldAt : {D : Type 0} → (D → Type 0) → ByName D → List ℕ → Type 0
-IsToldAt {D} Is definitions name = (d : D) → map.get definitions name ≡ Some d → Is d

@@ -174,25 +174,6 @@ impl Encoding for CalendarRows {
     }
 }
 
-fn is_something(rows: &[Row]) -> bool
-    ensures { IsTrue result ↔ (rows.now ≢ []) }
-{
-    !rows.is_empty()
-}
-
-/// Whether it lists something.
-pub(crate) fn lists_something(
-    alloc: Global,
-    name: &Name,
-    calendar: &Calendar,
-) -> Result<bool, AllocError>
-    ensures { IfOk result (λ b. IsTrue b ↔ IsTold calendar.now) }
-{
-    let mut rows = Vec::new(alloc);
-    push_entries(alloc, &mut rows, name, calendar)?;
-    Ok(is_something(&rows))
-}
-
 /// The rows of the calendars in the table `calendar_entry`.
 pub fn calendar_rows(alloc: Global, calendars: &ByName<Calendar>) -> Result<Vec<Row>, AllocError>
     ensures { IfOk result (λ rows. AreRowsOf IsCalendarRow rows.items calendars.now) }

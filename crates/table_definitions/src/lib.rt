@@ -18,7 +18,6 @@ mod places;
 mod predecessors;
 mod stored;
 mod tails;
-mod telling;
 mod told_cycles;
 mod whole_cycles;
 
@@ -33,4 +32,3 @@ pub use stored::{
     StoredRows, applications_of_rows, calendars_of_rows, definitions_of_rows, periods_of_rows,
     predecessors_of_rows, run_cycles_of_rows,
 };
-pub use telling::block_is_told;
