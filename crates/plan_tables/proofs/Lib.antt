@@ -1,4 +1,6 @@
 pub mod Held
+pub mod RowFits
+pub mod RowTakes
 pub mod SetMoves
 pub mod MovedSets
 pub mod ChangeLemmas

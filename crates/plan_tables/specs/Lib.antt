@@ -5,3 +5,4 @@ pub mod Found
 pub mod Refused
 pub mod Told
 pub mod Causes
+pub mod Room
