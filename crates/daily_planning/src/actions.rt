@@ -5,7 +5,7 @@ ghost use Rattle.planner_machine.specs.Pairs.{IsCompleteAt};
 ghost use Rattle.planner_machine.specs.Sound.{AreNumbered, IsSound};
 ghost use Rattle.plan_store.specs.Changes.{LeadsOn, pairs_after};
 ghost use Rattle.plan_store.specs.Verdicts.{VerdictIs};
-ghost use Rattle.plan_store.specs.Views.{IsCurrentRow, Shows, shown};
+ghost use Rattle.plan_store.specs.Views.{Hidden, IsCurrentRow, Shows, with_hidden};
 ghost use Rattle.daily_planning.specs.Actions.{ArePairsActed, ChangesStatus, IsActedOn, LeadsToRowPairs, WaitsFor};
 
 use external_dependencies::{PairChange, Pairs};
@@ -24,7 +24,8 @@ pub fn cp_action(
     key: &Key,
     action: Action,
 ) -> Result<Verdict, AllocError>
-    ensures { IfOk result (λ verdict. (c : Content) → Shows (Need.Key key.now) view.now c → IsSound c
+    ensures { IfOk result (λ verdict. (c : Content) → Shows (Need.Key key.now) view.now c
+        → IsSound c
         → VerdictIs (decided key.now action) c verdict) }
 {
     if view.bounds().is_none() {
@@ -43,9 +44,10 @@ fn act(
     action: Action,
     current: &CurrentRow,
 ) -> Result<Verdict, AllocError>
-    ensures { IfOk result (λ verdict. IsSound (shown view.now) → (shown view.now).sets.bounds ≢ None
-        → IsCurrentRow (shown view.now).sets current.now.row.key (Some current.now)
-        → VerdictIs (decided current.now.row.key action) (shown view.now) verdict) }
+    ensures { IfOk result (λ verdict. (h : Hidden) → IsSound (with_hidden h view.now)
+        → (with_hidden h view.now).sets.bounds ≢ None
+        → IsCurrentRow (with_hidden h view.now).sets current.now.row.key (Some current.now)
+        → VerdictIs (decided current.now.row.key action) (with_hidden h view.now) verdict) }
 {
     let Some(status) = next_status(current.status, action) else {
         return Ok(Verdict::Refused(Refusal::StatusForbids));
@@ -63,7 +65,8 @@ fn act(
 
 // The predecessor that forbids the action on the occurrence of the serial.
 fn waited_for(view: &View<'_>, action: Action, serial: Serial) -> Option<Serial>
-    ensures { AreNumbered (shown view.now).sets → WaitsFor (shown view.now) action serial result }
+    ensures { (h : Hidden) → AreNumbered (with_hidden h view.now).sets
+        → WaitsFor (with_hidden h view.now) action serial result }
 {
     if !is_start(action) {
         return None;
@@ -85,7 +88,8 @@ fn is_start(action: Action) -> bool
 
 // Whether the occurrence of the serial is complete.
 fn is_complete(view: &View<'_>, serial: Serial) -> bool
-    ensures { AreNumbered (shown view.now).sets → IsTrue result ↔ IsCompleteAt (shown view.now).sets serial }
+    ensures { (h : Hidden) → AreNumbered (with_hidden h view.now).sets
+        → IsTrue result ↔ IsCompleteAt (with_hidden h view.now).sets serial }
 {
     match view.placed(serial) {
         Some(placed) => placed.place.is_complete(),
@@ -100,8 +104,9 @@ fn status_change(
     action: Action,
     changed: &CurrentRow,
 ) -> Result<Change, AllocError>
-    ensures { IfOk result (λ change. IsSound (shown view.now) → IsActedOn (shown view.now) action changed.now
-        → ChangesStatus (shown view.now) action changed.now change) }
+    ensures { IfOk result (λ change. (h : Hidden) → IsSound (with_hidden h view.now)
+        → IsActedOn (with_hidden h view.now) action changed.now
+        → ChangesStatus (with_hidden h view.now) action changed.now change) }
 {
     let rows = single(alloc, *changed)?;
     let pairs = acted_pairs(alloc, view, action, changed)?;
@@ -118,10 +123,13 @@ fn acted_pairs(
     action: Action,
     changed: &CurrentRow,
 ) -> Result<PairChange, AllocError>
-    ensures pairs { IfOk result (λ change. IsSound (shown view.now) → IsActedOn (shown view.now) action changed.now
-        → ArePairsActed (shown view.now) action changed.now (pairs_after change (shown view.now).pairs)) }
-    ensures leads { IfOk result (λ change. IsSound (shown view.now) → IsActedOn (shown view.now) action changed.now
-        → LeadsOn (shown view.now).pairs change) }
+    ensures pairs { IfOk result (λ change. (h : Hidden) → IsSound (with_hidden h view.now)
+        → IsActedOn (with_hidden h view.now) action changed.now
+        → ArePairsActed (with_hidden h view.now) action changed.now
+        (pairs_after change (with_hidden h view.now).pairs)) }
+    ensures leads { IfOk result (λ change. (h : Hidden) → IsSound (with_hidden h view.now)
+        → IsActedOn (with_hidden h view.now) action changed.now
+        → LeadsOn (with_hidden h view.now).pairs change) }
 {
     match action {
         Action::Start | Action::Complete | Action::Fail => Ok(PairChange {
@@ -136,8 +144,8 @@ fn acted_pairs(
 // The change of the pairs, where the row waits again: from those that it had to those with its nearest predecessors.
 // No pair of another row is looked at.
 fn reset_pairs(alloc: Global, view: &View<'_>, row: &Row) -> Result<PairChange, AllocError>
-    ensures { IfOk result (λ change. IsSound (shown view.now)
-        → LeadsToRowPairs (shown view.now) row.now change) }
+    ensures { IfOk result (λ change. (h : Hidden) → IsSound (with_hidden h view.now)
+        → LeadsToRowPairs (with_hidden h view.now) row.now change) }
 {
     let mut had = Vec::new(alloc);
     had.extend_from_slice(view.pairs().of_successor(row.serial))?;

@@ -27,9 +27,9 @@ use Rattle.occurrences.specs.Key.{KeyBefore}
 use Rattle.occurrences.specs.declared.key.Key.{Key}
 use Rattle.occurrences.specs.declared.row.Row.{Row}
 use Rattle.planner_machine.specs.declared.content.Draft.{Draft}
-use Rattle.planner_machine.specs.Content.{Sets, midnight}
+use Rattle.planner_machine.specs.Content.{Content, Sets, midnight}
 use Rattle.planner_machine.specs.Drafts.{AreDrafts, IsMade, IsNamed, NamesWithin, draft_of}
-use Rattle.planner_machine.specs.Sound.{AreDefinitions}
+use Rattle.planner_machine.specs.Sound.{AreDefinitions, IsSound}
 use Rattle.planner_machine.proofs.RangeLemmas.{cycle_ranges}
 use Rattle.plan_store.specs.Views.{IsDeletedKey, IsPlannedRow}
 use Rattle.plan_pairs.proofs.ListLemmas.{filter_has, filter_keeps, none}
@@ -339,3 +339,12 @@ named_for_all all apps are first end draft = (
       subst (λ (o : Option Application). IsSome o) (sym active.0) refl in
       (is, subst (Contains apps) (ap (λ (d : Draft). d.key.app) (sym same)) ((are.exactly app).1 defined)),
 )
+
+-- what is named from a moment on arrives from it on
+pub named_late : (c : Content) → IsSound c → (all : Definitions) → all ≡ c.definitions → (apps : List (List ℕ))
+    (first end : ℕ) (drafts named : List Draft) → (AreDefinitions all
+    → AreDrafts (NamesFor all apps first end) drafts) → named ≡ drafts → (draft : Draft) → Contains named draft
+    → first ≤ draft.key.ia
+named_late c sound all defined apps first end drafts named are same draft there =
+    let listed = are (subst AreDefinitions (sym defined) sound.ranges.definitions) in
+    ((listed.exactly draft).0 (subst (λ ds. Contains ds draft) same there)).0.1

@@ -3,7 +3,7 @@ ghost use Rattle.planner_machine.specs.Content.{Content};
 ghost use Rattle.planner_machine.specs.Delete.{ltp_delete};
 ghost use Rattle.planner_machine.specs.Sound.{IsSound};
 ghost use Rattle.plan_store.specs.Verdicts.{VerdictIs};
-ghost use Rattle.plan_store.specs.Views.{Shows, shown};
+ghost use Rattle.plan_store.specs.Views.{Hidden, Shows, with_hidden};
 ghost use Rattle.long_term_plan.specs.Deletes.{DeletesRow};
 
 use occurrences::{Deletion, Key, Reason, Refusal, Reply, Row};
@@ -14,7 +14,8 @@ use std::alloc::{AllocError, Global};
 /// `ltp-delete`: the occurrence of the key leaves the long-term plan for the deletions. Refused where there is no plan
 /// (20), and where no occurrence of the long-term plan has the key (28).
 pub fn delete(alloc: Global, view: &View<'_>, key: &Key) -> Result<Verdict, AllocError>
-    ensures { IfOk result (λ verdict. (c : Content) → Shows (Need.Key key.now) view.now c → IsSound c
+    ensures { IfOk result (λ verdict. (c : Content) → Shows (Need.Key key.now) view.now c
+        → IsSound c
         → VerdictIs (ltp_delete key.now) c verdict) }
 {
     if view.bounds().is_none() {
@@ -28,8 +29,9 @@ pub fn delete(alloc: Global, view: &View<'_>, key: &Key) -> Result<Verdict, Allo
 
 // The row leaves the long-term plan for the deletions.
 fn delete_row(alloc: Global, view: &View<'_>, row: &Row) -> Result<Verdict, AllocError>
-    ensures { IfOk result (λ verdict. IsSound (shown view.now)
-        → (shown view.now).sets.ltp row.now.serial ≡ Some row.now → DeletesRow (shown view.now) row.now verdict) }
+    ensures { IfOk result (λ verdict. (h : Hidden) → IsSound (with_hidden h view.now)
+        → (with_hidden h view.now).sets.ltp row.now.serial ≡ Some row.now
+        → DeletesRow (with_hidden h view.now) row.now verdict) }
 {
     let gone = single(alloc, *row)?;
     let deletion = Deletion {

@@ -6,7 +6,7 @@ ghost use Rattle.planner_machine.specs.declared.content.Draft.{Draft as DraftVal
 ghost use Rattle.planner_machine.specs.Content.{midnight};
 ghost use Rattle.planner_machine.specs.Drafts.{AreDrafts, draft_of};
 ghost use Rattle.planner_machine.specs.Sound.{AreDefinitions};
-ghost use Rattle.plan_store.specs.Views.{shown};
+ghost use Rattle.plan_store.specs.Views.{Hidden, ShowsDeleted, with_hidden};
 ghost use Rattle.long_term_plan.specs.Drafting.{AddsDrafts, AreInOrder, AreNew, HaveOwnKeys, IsNewKey, NamesFor};
 ghost use Rattle.long_term_plan.specs.Drafting.{drafts_from};
 
@@ -111,7 +111,9 @@ pub(crate) fn new_drafts(
     view: &View<'_>,
     named: &[Draft],
 ) -> Result<Vec<Draft>, AllocError>
-    ensures { IfOk result (λ new. AreNew (shown view.now).sets named.now new.items) }
+    ensures { IfOk result (λ new. (h : Hidden)
+        → ((draft : DraftValue) → Contains named.now draft → ShowsDeleted h view.now draft.key)
+        → AreNew (with_hidden h view.now).sets named.now new.items) }
 {
     let mut new = Vec::new(alloc);
     for draft in named {
@@ -124,7 +126,8 @@ pub(crate) fn new_drafts(
 
 // Whether a planning statement may make the key.
 fn is_new(view: &View<'_>, key: &Key) -> bool
-    ensures { IsTrue result ↔ IsNewKey (shown view.now).sets key.now }
+    ensures { (h : Hidden) → ShowsDeleted h view.now key.now
+        → IsTrue result ↔ IsNewKey (with_hidden h view.now).sets key.now }
 {
     view.ltp_row(key).is_none() && !view.is_deleted_by_operator(key)
 }

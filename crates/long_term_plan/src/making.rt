@@ -7,7 +7,8 @@ ghost use Rattle.planner_machine.specs.declared.limits.TheConstants.{MOST_PLANNE
 ghost use Rattle.planner_machine.specs.Moves.{numbered_row};
 ghost use Rattle.planner_machine.specs.Plans.{HoldTooMany};
 ghost use Rattle.planner_machine.specs.Sound.{IsSound};
-ghost use Rattle.plan_store.specs.Views.{shown};
+ghost use Rattle.plan_store.specs.Views.{Hidden, ShowsDeleted, shown, with_hidden};
+ghost use Rattle.occurrences.specs.declared.key.Key.{Key as KeyValue};
 ghost use Rattle.long_term_plan.specs.Making.{AddsDays, AreDaysAdded, KeepsRowsSound, MakesDrafts, numbered};
 ghost use Rattle.long_term_plan.specs.Making.{planned_sets};
 
@@ -30,10 +31,11 @@ pub(crate) fn add_days(
     first: Moment,
 ) -> Result<Verdict, AllocError>
     requires { bounds.now.last_day ≤ last_kept_day }
-    ensures { IfOk result (λ verdict. IsSound (shown view.now)
-        → ((new : List DraftValue) → AreDaysAdded (shown view.now) bounds.now first new
-        → KeepsRowsSound (shown view.now) bounds.now new)
-        → AddsDays (shown view.now) bounds.now first links verdict) }
+    ensures { IfOk result (λ verdict. (h : Hidden) → IsSound (with_hidden h view.now)
+        → ((key : KeyValue) → first ≤ key.ia → ShowsDeleted h view.now key)
+        → ((new : List DraftValue) → AreDaysAdded (with_hidden h view.now) bounds.now first new
+        → KeepsRowsSound (with_hidden h view.now) bounds.now new)
+        → AddsDays (with_hidden h view.now) bounds.now first links verdict) }
 {
     let all = view.definitions();
     let apps = all.applications.names(alloc)?;
@@ -48,8 +50,9 @@ pub(crate) fn add_days(
 
 // Whether the plans would hold too many rows, or too many serials were issued.
 fn would_hold_too_many(view: &View<'_>, bounds: &Bounds, new: &[Draft]) -> bool
-    ensures too_many { IsSound (shown view.now)
-        → IsTrue result ↔ HoldTooMany (planned_sets bounds.now new.now (shown view.now).sets) }
+    ensures too_many { (h : Hidden) → IsSound (with_hidden h view.now)
+        → IsTrue result
+        ↔ HoldTooMany (planned_sets bounds.now new.now (with_hidden h view.now).sets) }
     ensures serials { result ≡ false → (shown view.now).sets.issued + length new.now ≤ GREATEST_SERIAL }
 {
     let rows = view.ltp().len() + view.cp().len() + new.len();
@@ -66,9 +69,9 @@ fn make_drafts(
     new: Vec<Draft>,
 ) -> Result<Verdict, AllocError>
     requires { (shown view.now).sets.issued + length new.items ≤ GREATEST_SERIAL }
-    ensures { IfOk result (λ verdict. IsSound (shown view.now)
-        → KeepsRowsSound (shown view.now) bounds.now new.items
-        → MakesDrafts (shown view.now) bounds.now links new.items verdict) }
+    ensures { IfOk result (λ verdict. (h : Hidden) → IsSound (with_hidden h view.now)
+        → KeepsRowsSound (with_hidden h view.now) bounds.now new.items
+        → MakesDrafts (with_hidden h view.now) bounds.now links new.items verdict) }
 {
     let made = new.len();
     let rows = numbered_rows(alloc, view.issued(), new.as_slice())?;

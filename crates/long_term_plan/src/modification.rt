@@ -15,7 +15,8 @@ ghost use Rattle.planner_machine.specs.Sound.{IsSound};
 ghost use Rattle.keyed_lists.specs.Rows.{of_row};
 ghost use Rattle.plan_store.specs.Changes.{LeadsOn, pairs_after};
 ghost use Rattle.plan_store.specs.Verdicts.{VerdictIs};
-ghost use Rattle.plan_store.specs.Views.{IsAny, ListsSet, Shows, shown};
+ghost use Rattle.plan_store.specs.Views.{Hidden, IsAny, ListsSet, Shows, ShowsDeleted, shown, with_hidden};
+ghost use Rattle.occurrences.specs.declared.key.Key.{Key as KeyValue};
 ghost use Rattle.plan_pairs.specs.Turns.{ArePlanned};
 ghost use Rattle.long_term_plan.specs.Drafting.{AreInOrder};
 ghost use Rattle.long_term_plan.specs.Modifying.{AreAsked, AreModifying, AreOf, AreTooMany, HavePlanned, Looks};
@@ -92,8 +93,10 @@ fn modify(
     only: &Option<App>,
     links: Links,
 ) -> Result<Verdict, AllocError>
-    ensures { IfOk result (λ verdict. IsSound (shown view.now) → (shown view.now).sets.bounds ≡ Some bounds.now
-        → ModifiesPlan (shown view.now) only.now links verdict) }
+    ensures { IfOk result (λ verdict. (h : Hidden) → IsSound (with_hidden h view.now)
+        → (with_hidden h view.now).sets.bounds ≡ Some bounds.now
+        → ((key : KeyValue) → bounds.now.plan_end ≤ key.ia → ShowsDeleted h view.now key)
+        → ModifiesPlan (with_hidden h view.now) only.now links verdict) }
 {
     let all = view.definitions();
     let apps = asked(alloc, all, only)?;
@@ -137,9 +140,10 @@ fn last_planned(bounds: &Bounds) -> Day
 // Whether the plans would hold too many rows without those that go and with the new ones, or too many serials were
 // issued.
 fn are_too_many(view: &View<'_>, gone: &[Row], new: &[Draft]) -> bool
-    ensures too_many { IsSound (shown view.now) → (kept : ℕ)
-        → kept + length gone.now ≡ size (shown view.now).sets.ltp (shown view.now).sets.issued
-        → IsTrue result ↔ AreTooMany (shown view.now).sets kept (length new.now) }
+    ensures too_many { (h : Hidden) → IsSound (with_hidden h view.now) → (kept : ℕ)
+        → kept + length gone.now
+        ≡ size (with_hidden h view.now).sets.ltp (with_hidden h view.now).sets.issued
+        → IsTrue result ↔ AreTooMany (with_hidden h view.now).sets kept (length new.now) }
     ensures serials { result ≡ false → (shown view.now).sets.issued + length new.now ≤ GREATEST_SERIAL }
 {
     let rows = view.ltp().len() + view.cp().len() + new.len();
@@ -160,11 +164,13 @@ fn pairs_then(
     links: &Links,
 ) -> Result<PairChange, AllocError>
     ensures { AreInOrder named.items → ListsSet of_row (shown view.now).sets.ltp IsAny rows.now
-        → IfOk result (λ change. IsSound (shown view.now) → (s : Sets)
+        → IfOk result (λ change. (h : Hidden) → IsSound (with_hidden h view.now) → (s : Sets)
         → ArePlanned rows.now (filter_map (outcome only.now named.items) rows.now) gone.now put.now
-        → HavePlanned (shown view.now).sets (filter_map (outcome only.now named.items) rows.now ++ put.now) s
-        → ArePairs (shown view.now).pairs links.now s (pairs_after change (shown view.now).pairs)
-        × LeadsOn (shown view.now).pairs change) }
+        → HavePlanned (with_hidden h view.now).sets
+        (filter_map (outcome only.now named.items) rows.now ++ put.now) s
+        → ArePairs (with_hidden h view.now).pairs links.now s
+        (pairs_after change (with_hidden h view.now).pairs)
+        × LeadsOn (with_hidden h view.now).pairs change) }
 {
     let current = view.cp();
     let completed = view.history();
@@ -242,12 +248,15 @@ fn change_rows(
     put: Vec<Row>,
 ) -> Result<Verdict, AllocError>
     requires { (shown view.now).sets.issued + length put.items ≤ GREATEST_SERIAL }
-    ensures { IfOk result (λ verdict. IsSound (shown view.now)
+    ensures { IfOk result (λ verdict. (h : Hidden) → IsSound (with_hidden h view.now)
         → (only : Option (List ℕ)) (named new : List DraftValue)
-        → AreModifying (shown view.now).sets only named new gone.items changed.items put.items
-        → ArePairs (shown view.now).pairs links (modified_sets only named new (shown view.now).sets)
-        (pairs_after pairs (shown view.now).pairs) → LeadsOn (shown view.now).pairs pairs
-        → ModifiesRows (shown view.now) links only named new verdict) }
+        → AreModifying (with_hidden h view.now).sets only named new gone.items
+        changed.items put.items
+        → ArePairs (with_hidden h view.now).pairs links
+        (modified_sets only named new (with_hidden h view.now).sets)
+        (pairs_after pairs (with_hidden h view.now).pairs)
+        → LeadsOn (with_hidden h view.now).pairs pairs
+        → ModifiesRows (with_hidden h view.now) links only named new verdict) }
 {
     let made = put.len();
     let reply = Reply::Made {

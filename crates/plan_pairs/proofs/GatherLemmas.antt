@@ -20,8 +20,8 @@ use Rattle.planner_machine.specs.Sound.{AreNumbered}
 use Rattle.planner_machine.proofs.SeatLemmas.{one_place}
 use Rattle.keyed_lists.specs.Rows.{of_current, of_row}
 use Rattle.external_dependencies.specs.Touch.{IsWithin}
-use Rattle.plan_store.specs.Views.{IsPlacedAt, ListsSet}
-use Rattle.plan_store.proofs.PlaceLemmas.{stands_cp, stands_ltp}
+use Rattle.plan_store.specs.Views.{IsFoundAt, ListsSet}
+use Rattle.plan_store.proofs.PlaceLemmas.{live_outside, stands_cp, stands_ltp}
 use Rattle.plan_pairs.specs.Gathering.{AddsLive, Gathers, HoldsList, HoldsNearest, HoldsReachedRows, IsOpenBetween}
 use Rattle.plan_pairs.specs.Gathering.{StandsLive}
 use Rattle.plan_pairs.specs.LiveRows.{AddsCurrent, AddsRows}
@@ -108,8 +108,8 @@ module _ (s : Sets) where
             λ other here may. (answer.0, (p, Contains-push rows p, alive, so), answer.1),
           )
 
-      pub nearest_unplaced : IsPlacedAt s serial None → ⊥
-      nearest_unplaced nothing = let (q, at, live, arrives) = near_stands in nothing q at
+      pub nearest_unplaced : IsFoundAt s serial None → ⊥
+      nearest_unplaced nothing = let (q, at, live, arrives) = near_stands in nothing q at (live_outside q.place live)
 
     -- the live rows of an application in a stretch
     module _ (app : List ℕ) (first : ℕ) (last : Option ℕ) (planned : List Row) (current : List CurrentRow)

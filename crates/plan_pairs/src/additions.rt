@@ -4,7 +4,7 @@ ghost use Rattle.planner_machine.specs.Content.{Content};
 ghost use Rattle.planner_machine.specs.Sound.{AreNumbered, IsSound};
 ghost use Rattle.plan_store.specs.Changes.{LeadsOn, pairs_after};
 ghost use Rattle.plan_store.specs.Verdicts.{VerdictIs};
-ghost use Rattle.plan_store.specs.Views.{Shows, shown};
+ghost use Rattle.plan_store.specs.Views.{Hidden, Shows, with_hidden};
 ghost use Rattle.plan_pairs.specs.Additions.{AddsRow, ArePairsWith, IsAddable, IsNewRow, IsNewSerial, IsPutIn};
 ghost use Rattle.plan_pairs.specs.Additions.{IsTouchOfNew, place_in};
 ghost use Rattle.plan_pairs.specs.Gathering.{HoldsWith};
@@ -45,7 +45,8 @@ impl Plan {
 /// (20), where the plan has no room for the arrival (24), where the application isn't active (26), where a live
 /// occurrence has the key (27), and where both plans would hold too many rows or no serial is left (31).
 pub fn add(alloc: Global, view: &View<'_>, plan: Plan, key: &Key) -> Result<Verdict, AllocError>
-    ensures { IfOk result (λ verdict. (c : Content) → Shows (Need.Key key.now) view.now c → IsSound c
+    ensures { IfOk result (λ verdict. (c : Content) → Shows (Need.Key key.now) view.now c
+        → IsSound c
         → VerdictIs (decided (place_in plan) key.now) c verdict) }
 {
     match new_row(view, plan, key) {
@@ -56,7 +57,8 @@ pub fn add(alloc: Global, view: &View<'_>, plan: Plan, key: &Key) -> Result<Verd
 
 // The row that is added under the key, or why none is.
 fn new_row(view: &View<'_>, plan: Plan, key: &Key) -> Result<Row, Refusal>
-    ensures { IsSound (shown view.now) → IsNewRow (shown view.now) plan key.now result }
+    ensures { (h : Hidden) → IsSound (with_hidden h view.now)
+        → IsNewRow (with_hidden h view.now) plan key.now result }
 {
     let Some(bounds) = view.bounds() else {
         return Err(Refusal::NoPlan);
@@ -96,7 +98,8 @@ fn is_outside(bounds: &Bounds, plan: Plan, ia: Moment) -> bool
 
 // The next serial, where the plans have room for one more row.
 fn new_serial(view: &View<'_>) -> Option<Serial>
-    ensures { AreNumbered (shown view.now).sets → IsNewSerial (shown view.now).sets result }
+    ensures { (h : Hidden) → AreNumbered (with_hidden h view.now).sets
+        → IsNewSerial (with_hidden h view.now).sets result }
 {
     if view.ltp().len() + view.cp().len() >= MOST_PLANNED_ROWS {
         return None;
@@ -106,8 +109,9 @@ fn new_serial(view: &View<'_>) -> Option<Serial>
 
 // The row comes to the plan.
 fn add_row(alloc: Global, view: &View<'_>, plan: Plan, row: &Row) -> Result<Verdict, AllocError>
-    ensures { IfOk result (λ verdict. IsSound (shown view.now) → IsAddable (shown view.now) plan row.now
-        → AddsRow (shown view.now) plan row.now verdict) }
+    ensures { IfOk result (λ verdict. (h : Hidden) → IsSound (with_hidden h view.now)
+        → IsAddable (with_hidden h view.now) plan row.now
+        → AddsRow (with_hidden h view.now) plan row.now verdict) }
 {
     let (planned, current) = put_in(alloc, plan, row)?;
     let pairs = pairs_with(alloc, view, plan, row)?;
@@ -143,9 +147,11 @@ fn pairs_with(
     plan: Plan,
     row: &Row,
 ) -> Result<PairChange, AllocError>
-    ensures { IfOk result (λ change. IsSound (shown view.now) → IsAddable (shown view.now) plan row.now
-        → ArePairsWith (shown view.now) plan row.now (pairs_after change (shown view.now).pairs)
-        × LeadsOn (shown view.now).pairs change) }
+    ensures { IfOk result (λ change. (h : Hidden) → IsSound (with_hidden h view.now)
+        → IsAddable (with_hidden h view.now) plan row.now
+        → ArePairsWith (with_hidden h view.now) plan row.now
+        (pairs_after change (with_hidden h view.now).pairs)
+        × LeadsOn (with_hidden h view.now).pairs change) }
 {
     let last = next_arrival(view, &row.key.app, row.key.ia);
     let rows = rows_with(alloc, view, plan, row, &last)?;
@@ -161,8 +167,8 @@ fn rows_with(
     row: &Row,
     last: &Option<Moment>,
 ) -> Result<Rows, AllocError>
-    ensures { IfOk result (λ rows. AreNumbered (shown view.now).sets
-        → HoldsWith (shown view.now) plan row.now last.now rows) }
+    ensures { IfOk result (λ rows. (h : Hidden) → AreNumbered (with_hidden h view.now).sets
+        → HoldsWith (with_hidden h view.now) plan row.now last.now rows) }
 {
     let mut rows = gather(alloc, view, row, last)?;
     push_list(view, row, &mut rows)?;

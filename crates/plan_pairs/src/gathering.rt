@@ -2,7 +2,7 @@ ghost use Rattle.std.specs.Prelude.{Contains, IfOk, OnOk};
 ghost use Rattle.external_dependencies.specs.declared.rows.PlacedRow.{PlacedRow as PlacedValue};
 ghost use Rattle.occurrences.specs.Place.{IsOpen};
 ghost use Rattle.planner_machine.specs.Sound.{AreNumbered};
-ghost use Rattle.plan_store.specs.Views.{shown};
+ghost use Rattle.plan_store.specs.Views.{Hidden, with_hidden};
 ghost use Rattle.plan_pairs.specs.Gathering.{AddsLive, Gathers, HoldsList, HoldsNearest, HoldsReachedRows, IsOpenBetween};
 
 use crate::listing::{copied, push_current, push_rows};
@@ -23,8 +23,8 @@ pub(crate) fn gather(
     row: &Row,
     last: &Option<Moment>,
 ) -> Result<Vec<PlacedRow>, AllocError>
-    ensures { IfOk result (λ rows. AreNumbered (shown view.now).sets
-        → Gathers (shown view.now) row.now last.now rows.items) }
+    ensures { IfOk result (λ rows. (h : Hidden) → AreNumbered (with_hidden h view.now).sets
+        → Gathers (with_hidden h view.now) row.now last.now rows.items) }
 {
     let reached = reached_rows(alloc, view, row, last)?;
     let mut rows = copied(alloc, &reached)?;
@@ -39,8 +39,8 @@ fn reached_rows(
     row: &Row,
     last: &Option<Moment>,
 ) -> Result<Vec<PlacedRow>, AllocError>
-    ensures { IfOk result (λ rows. AreNumbered (shown view.now).sets
-        → HoldsReachedRows (shown view.now) row.now last.now rows.items) }
+    ensures { IfOk result (λ rows. (h : Hidden) → AreNumbered (with_hidden h view.now).sets
+        → HoldsReachedRows (with_hidden h view.now) row.now last.now rows.items) }
 {
     let mut rows = Vec::new(alloc);
     let naming = view.in_force().naming(alloc, &row.key.app)?;
@@ -58,9 +58,9 @@ fn push_between(
     last: &Option<Moment>,
     rows: &mut Vec<PlacedRow>,
 ) -> Result<(), AllocError>
-    ensures { OnOk result (AreNumbered (shown view.now).sets
-        → AddsLive (shown view.now).sets rows.old.items rows.new.items
-        × ((p : PlacedValue) → IsOpenBetween (shown view.now).sets app.now first last.now p
+    ensures { OnOk result ((h : Hidden) → AreNumbered (with_hidden h view.now).sets
+        → AddsLive (with_hidden h view.now).sets rows.old.items rows.new.items
+        × ((p : PlacedValue) → IsOpenBetween (with_hidden h view.now).sets app.now first last.now p
         → Contains rows.new.items p)) }
 {
     let planned = between(view.ltp_of(app), first, last);
@@ -76,10 +76,10 @@ fn push_lists(
     reached: &[PlacedRow],
     rows: &mut Vec<PlacedRow>,
 ) -> Result<(), AllocError>
-    ensures { OnOk result (AreNumbered (shown view.now).sets
-        → AddsLive (shown view.now).sets rows.old.items rows.new.items
+    ensures { OnOk result ((h : Hidden) → AreNumbered (with_hidden h view.now).sets
+        → AddsLive (with_hidden h view.now).sets rows.old.items rows.new.items
         × ((p : PlacedValue) → Contains reached.now p → IsOpen p.place
-        → HoldsList (shown view.now) rows.new.items p.row)) }
+        → HoldsList (with_hidden h view.now) rows.new.items p.row)) }
 {
     for placed in reached {
         if placed.place.is_open() {
@@ -95,9 +95,9 @@ pub(crate) fn push_list(
     row: &Row,
     rows: &mut Vec<PlacedRow>,
 ) -> Result<(), AllocError>
-    ensures { OnOk result (AreNumbered (shown view.now).sets
-        → AddsLive (shown view.now).sets rows.old.items rows.new.items
-        × HoldsList (shown view.now) rows.new.items row.now) }
+    ensures { OnOk result ((h : Hidden) → AreNumbered (with_hidden h view.now).sets
+        → AddsLive (with_hidden h view.now).sets rows.old.items rows.new.items
+        × HoldsList (with_hidden h view.now) rows.new.items row.now) }
 {
     for link in view.in_force().list(&row.key.app) {
         push_nearest(view, &row.key, &link.predecessor, rows)?;
@@ -112,9 +112,9 @@ pub(crate) fn push_nearest(
     app: &App,
     rows: &mut Vec<PlacedRow>,
 ) -> Result<(), AllocError>
-    ensures { OnOk result (AreNumbered (shown view.now).sets
-        → AddsLive (shown view.now).sets rows.old.items rows.new.items
-        × HoldsNearest (shown view.now).sets rows.new.items key.now app.now) }
+    ensures { OnOk result ((h : Hidden) → AreNumbered (with_hidden h view.now).sets
+        → AddsLive (with_hidden h view.now).sets rows.old.items rows.new.items
+        × HoldsNearest (with_hidden h view.now).sets rows.new.items key.now app.now) }
 {
     let Some(serial) = view.nearest(key, app, None) else {
         return Ok(());

@@ -1,7 +1,7 @@
 ghost use Rattle.std.specs.Prelude.{◌↔◌, Contains, IfOk};
 ghost use Rattle.external_dependencies.specs.declared.pairs.Pair.{Pair as PairValue};
 ghost use Rattle.planner_machine.specs.Sound.{AreNumbered};
-ghost use Rattle.plan_store.specs.Views.{shown};
+ghost use Rattle.plan_store.specs.Views.{Hidden, with_hidden};
 ghost use Rattle.plan_pairs.specs.RowPairs.{IsRowPair};
 
 use external_dependencies::{Pair, Pairs};
@@ -12,8 +12,10 @@ use std::alloc::{AllocError, Global};
 /// The pairs of one row, were it open: with its nearest predecessor in each application of its list, within its limit,
 /// where there is one. No pair of another row is looked at.
 pub fn row_pairs_of(alloc: Global, view: &View<'_>, row: &Row) -> Result<Pairs, AllocError>
-    ensures { IfOk result (λ own. AreNumbered (shown view.now).sets → (pair : PairValue)
-        → Contains own pair ↔ IsRowPair (shown view.now).in_force (shown view.now).sets row.now pair) }
+    ensures { IfOk result (λ own. (h : Hidden) → AreNumbered (with_hidden h view.now).sets
+        → (pair : PairValue)
+        → Contains own pair
+        ↔ IsRowPair (with_hidden h view.now).in_force (with_hidden h view.now).sets row.now pair) }
 {
     let mut own = Vec::new(alloc);
     for link in view.in_force().list(&row.key.app) {

@@ -8,7 +8,7 @@ ghost use Rattle.occurrences.specs.declared.place.CurrentRow.{CurrentRow as Curr
 ghost use Rattle.planner_machine.specs.Sound.{AreNumbered};
 ghost use Rattle.plan_store.specs.Arrivals.{arrives, arrives_live};
 ghost use Rattle.plan_store.specs.Slices.{HaveOneApp};
-ghost use Rattle.plan_store.specs.Views.{shown};
+ghost use Rattle.plan_store.specs.Views.{Hidden, with_hidden};
 ghost use Rattle.plan_pairs.specs.Spans.{IsLeastOf, IsNextAfter, earlier_of};
 
 use keyed_lists::PlanRow;
@@ -18,9 +18,11 @@ use work_calendars::{App, Moment};
 
 // The rows of one application that arrive at the minute or after it.
 fn from_on<'a, T: PlanRow>(rows: &'a [T], minute: u32) -> &'a [T]
-    ensures keyed { IsKeyed arrival_cmp (λ x. arrival_of (T.row_of x)) rows.now → IsKeyed arrival_cmp
+    ensures keyed { IsKeyed arrival_cmp (λ x. arrival_of (T.row_of x)) rows.now
+        → IsKeyed arrival_cmp
         (λ x. arrival_of (T.row_of x)) result.now }
-    ensures all { IsKeyed arrival_cmp (λ x. arrival_of (T.row_of x)) rows.now → HaveOneApp T.row_of rows.now
+    ensures all { IsKeyed arrival_cmp (λ x. arrival_of (T.row_of x)) rows.now
+        → HaveOneApp T.row_of rows.now
         → (x : T) → Contains result.now x ↔ (Contains rows.now x × (minute ≤ (T.row_of x).key.ia)) }
 {
     let count = rows.partition_point(|x| x.row().key.ia.number() < minute);
@@ -29,8 +31,10 @@ fn from_on<'a, T: PlanRow>(rows: &'a [T], minute: u32) -> &'a [T]
 
 // The rows of one application that arrive at the last moment or before it, or all where there is none.
 fn up_to<'a, T: PlanRow>(rows: &'a [T], last: Option<Moment>) -> &'a [T]
-    ensures { IsKeyed arrival_cmp (λ x. arrival_of (T.row_of x)) rows.now → HaveOneApp T.row_of rows.now
-        → (x : T) → Contains result.now x ↔ (Contains rows.now x × IsWithin last (T.row_of x).key.ia) }
+    ensures { IsKeyed arrival_cmp (λ x. arrival_of (T.row_of x)) rows.now
+        → HaveOneApp T.row_of rows.now
+        → (x : T) → Contains result.now x ↔ (Contains rows.now x
+        × IsWithin last (T.row_of x).key.ia) }
 {
     let Some(last) = last else {
         return rows;
@@ -46,7 +50,8 @@ pub(crate) fn between<'a, T: PlanRow>(
     first: Moment,
     last: &Option<Moment>,
 ) -> &'a [T]
-    ensures { IsKeyed arrival_cmp (λ x. arrival_of (T.row_of x)) rows.now → HaveOneApp T.row_of rows.now
+    ensures { IsKeyed arrival_cmp (λ x. arrival_of (T.row_of x)) rows.now
+        → HaveOneApp T.row_of rows.now
         → (x : T) → Contains result.now x
         ↔ (Contains rows.now x × (first ≤ (T.row_of x).key.ia) × IsWithin last.now (T.row_of x).key.ia) }
 {
@@ -55,7 +60,8 @@ pub(crate) fn between<'a, T: PlanRow>(
 
 /// When the first live occurrence of the application arrives after the moment.
 pub(crate) fn next_arrival(view: &View<'_>, app: &App, moment: Moment) -> Option<Moment>
-    ensures { AreNumbered (shown view.now).sets → IsNextAfter (shown view.now).sets app.now moment result }
+    ensures { (h : Hidden) → AreNumbered (with_hidden h view.now).sets
+        → IsNextAfter (with_hidden h view.now).sets app.now moment result }
 {
     let minute = moment.number() + 1;
     let ltp = first_arrival(from_on(view.ltp_of(app), minute));
@@ -78,7 +84,8 @@ fn first_arrival(rows: &[Row]) -> Option<Moment>
 
 // When the first of some rows of one application arrives that is not deleted.
 fn first_live_arrival(rows: &[CurrentRow]) -> Option<Moment>
-    ensures { IsKeyed arrival_cmp (λ (x : CurrentValue). arrival_of x.row) rows.now → HaveOneApp of_current rows.now
+    ensures { IsKeyed arrival_cmp (λ (x : CurrentValue). arrival_of x.row) rows.now
+        → HaveOneApp of_current rows.now
         → IsLeastOf (arrives_live rows.now) result }
 {
     for current in rows {

@@ -4,7 +4,7 @@ ghost use Rattle.planner_machine.specs.Content.{Sets};
 ghost use Rattle.planner_machine.specs.Pairs.{ArePairs};
 ghost use Rattle.planner_machine.specs.Sound.{AreNumbered, IsSound};
 ghost use Rattle.plan_store.specs.Changes.{LeadsOn, pairs_after};
-ghost use Rattle.plan_store.specs.Views.{shown};
+ghost use Rattle.plan_store.specs.Views.{Hidden, with_hidden};
 ghost use Rattle.plan_pairs.specs.Gathering.{HoldsWithout};
 ghost use Rattle.plan_pairs.specs.Withdrawals.{IsTouchOfWithdrawn, LosesRow};
 
@@ -19,10 +19,11 @@ use work_calendars::Moment;
 /// What leads from the pairs before a statement to those after it, and no more, where the row lives no longer and all
 /// others stay as they are.
 pub fn pairs_without(alloc: Global, view: &View<'_>, row: &Row) -> Result<PairChange, AllocError>
-    ensures { IfOk result (λ change. IsSound (shown view.now) → (s : Sets)
-        → LosesRow (shown view.now).sets s row.now
-        → ArePairs (shown view.now).pairs (shown view.now).in_force s
-        (pairs_after change (shown view.now).pairs) × LeadsOn (shown view.now).pairs change) }
+    ensures { IfOk result (λ change. (h : Hidden) → IsSound (with_hidden h view.now) → (s : Sets)
+        → LosesRow (with_hidden h view.now).sets s row.now
+        → ArePairs (with_hidden h view.now).pairs (with_hidden h view.now).in_force s
+        (pairs_after change (with_hidden h view.now).pairs)
+        × LeadsOn (with_hidden h view.now).pairs change) }
 {
     let last = next_arrival(view, &row.key.app, row.key.ia);
     let rows = rows_without(alloc, view, row, &last)?;
@@ -37,8 +38,8 @@ fn rows_without(
     row: &Row,
     last: &Option<Moment>,
 ) -> Result<Rows, AllocError>
-    ensures { IfOk result (λ rows. AreNumbered (shown view.now).sets
-        → HoldsWithout (shown view.now) row.now last.now rows) }
+    ensures { IfOk result (λ rows. (h : Hidden) → AreNumbered (with_hidden h view.now).sets
+        → HoldsWithout (with_hidden h view.now) row.now last.now rows) }
 {
     let mut rows = gather(alloc, view, row, last)?;
     push_nearest(view, &row.key, &row.key.app, &mut rows)?;

@@ -8,7 +8,8 @@ use Rattle.std.specs.Ordering.{nat_cmp, ordering_then, ordering_reverse, is_lt, 
 use Rattle.std.proofs.lemmas.Cmp.{nat_list_cmp_total, nat_cmp_total, tied_itself}
 use Rattle.std.specs.List.{Contains}
 use Rattle.std.proofs.Math.Seq.{take-add}
-use Rattle.std.proofs.lemmas.List.{get_or_default, length-drop, length-take}
+use Rattle.std.specs.Prelude.{◌&&◌, not, if◌then◌else◌}
+use Rattle.std.proofs.lemmas.List.{append-nil, get_or_default, length-drop, length-take}
 use Rattle.std.proofs.lemmas.List.Elements.{Contains-get_or, filter-append}
 use Rattle.std.proofs.lemmas.Bool.{cases_order}
 use Rattle.occurrences.specs.declared.row.Row.{Row}
@@ -103,6 +104,52 @@ filter_front p (x ∷ xs) (suc count) le point =
           (omega arith)),
       λ k d low high. point.1 (suc k) d (omega arith) (omega arith),
     )))
+
+-- and what fails, behind it
+pub filter_back : {X : Type 0} (p : X → Bool) (xs : List X) (count : ℕ) → count ≤ length xs
+    → IsPartitionPoint (λ x. p x ≡ true) (λ x. p x ≡ false) xs count → drop count xs ≡ filter (λ x. not (p x)) xs
+filter_back p [] zero le point = refl
+filter_back p [] (suc count) le point = absurd (omega arith)
+filter_back p (x ∷ xs) zero le point =
+    rw (point.1 0 x (omega arith) (omega arith))
+    (ap (λ l. x ∷ l) (filter_back p xs zero (omega arith) (
+      (λ k d low high. absurd (omega arith)),
+      λ k d low high.
+          point.1 (suc k) d (omega arith) (omega arith),
+    )))
+filter_back p (x ∷ xs) (suc count) le point =
+    rw (point.0 0 x (omega arith) (omega arith))
+    (filter_back p xs count (omega arith) (
+      (λ k d low high. point.0 (suc k) d (omega arith)
+          (omega arith)),
+      λ k d low high. point.1 (suc k) d (omega arith) (omega arith),
+    ))
+
+-- what passes two tests
+pub filter_twice : {X : Type 0} (p q : X → Bool) (xs : List X) → filter q (filter p xs) ≡ filter (λ x. p x && q x) xs
+filter_twice p q [] = refl
+filter_twice p q (x ∷ xs) = elim (p x) as (λ b. p x ≡ b → filter q (filter p (x ∷ xs))
+    ≡ filter (λ y. p y && q y) (x ∷ xs)) [
+      | true ↦ λ passes. rw passes (elim (q x) as (λ b. q x ≡ b → filter q (x ∷ filter p xs)
+          ≡ (if q x then x ∷ filter (λ y. p y && q y) xs else filter (λ y. p y && q y) xs)) [
+            | true ↦ λ both. rw both (ap (λ l. x ∷ l) (filter_twice p q xs))
+            | false ↦ λ fails. rw fails (filter_twice p q xs)
+          ] refl)
+      | false ↦ λ fails. rw fails (filter_twice p q xs)
+    ] refl
+
+-- one item more that passes, or fails
+pub push_passing : {X : Type 0} (p : X → Bool) (xs : List X) (x : X) → p x ≡ true
+    → filter p (xs ++ x ∷ []) ≡ filter p xs ++ x ∷ []
+push_passing p xs x is =
+    let one : filter p (x ∷ []) ≡ x ∷ [] = rw is refl in
+    filter-append p xs (x ∷ []) ∙ ap (λ l. filter p xs ++ l) one
+
+pub push_failing : {X : Type 0} (p : X → Bool) (xs : List X) (x : X) → p x ≡ false
+    → filter p (xs ++ x ∷ []) ≡ filter p xs
+push_failing p xs x is =
+    let none : filter p (x ∷ []) ≡ [] = rw is refl in
+    filter-append p xs (x ∷ []) ∙ ap (λ l. filter p xs ++ l) none ∙ append-nil (filter p xs)
 
 -- one part of a list more
 pub filter_part : {X : Type 0} (p : X → Bool) (xs front early found after : List X) (start : ℕ) → start ≤ length xs

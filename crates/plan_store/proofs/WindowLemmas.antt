@@ -1,20 +1,27 @@
 -- What a window shows of a content.
-use Rattle.std.proofs.Common.{◌≡◌, ◌<◌, ℕ, Bool, true, false, List, [], Contains, Option, None, Some, ap, sym, subst}
+use Rattle.std.proofs.Common.{◌≡◌, ◌<◌, ◌≤◌, ℕ, ltb, Bool, true, false, List, [], ◌∷◌, Contains, Option, None, Some}
+use Rattle.std.proofs.Common.{ap, sym, subst}
 use Rattle.std.proofs.Common.{◌∙◌, arith, refl}
 use Rattle.std.specs.Prelude.{filter, if◌then◌else◌}
-use Rattle.std.proofs.lemmas.Bool.{lt-ltb, ltb-true}
+use Rattle.std.proofs.lemmas.Bool.{le-ltb, lt-ltb, ltb-true}
+use Rattle.occurrences.specs.declared.key.Key.{Key as KeyValue}
+use Rattle.occurrences.specs.declared.place.Deletion.{Deletion}
+use Rattle.occurrences.specs.declared.place.Reason.TheVariants.{Operator}
 use Rattle.occurrences.specs.declared.row.Row.{Row}
-use Rattle.planner_machine.specs.Content.{Content}
+use Rattle.planner_machine.specs.Content.{Content, Seat as Places}
 use Rattle.planner_machine.specs.DailyPlan.{arrives_before, moved}
 use Rattle.planner_machine.specs.Moves.{keep}
-use Rattle.keyed_lists.specs.Rows.{AreRows, look_up, of_current, of_row}
+use Rattle.planner_machine.specs.Sound.{IsUnplanned}
+use Rattle.planner_machine.specs.declared.content.Bounds.{Bounds}
+use Rattle.keyed_lists.specs.Rows.{AreRows, look_up, of_current, of_deletion, of_row}
 use Rattle.keyed_lists.specs.Seats.{HasSeats}
 use Rattle.keyed_lists.specs.declared.seats.Seat.{Seat}
 use Rattle.keyed_lists.proofs.KeyLemmas.{contains_filter, filter_contains}
 use Rattle.occurrences.specs.declared.place.CurrentRow.{CurrentRow}
 use Rattle.plan_store.specs.Contents.{content_of}
-use Rattle.plan_store.specs.Views.{IsAny, ListsSet, Shows, ShowsAtLeast, named, row_serial, shown}
-use Rattle.plan_store.specs.Views.{with_plans_alone}
+use Rattle.plan_store.specs.Views.{IsAny, IsDeletedKey, ListsSet, Shows, ShowsAtLeast, ShowsDeleted, bars, bars_from}
+use Rattle.plan_store.specs.Views.{deletion_serial, is_by_operator, named, row_serial, shown}
+use Rattle.plan_store.specs.Views.{with_deletions, with_hidden, with_plans_alone}
 use Rattle.plan_store.specs.declared.contents.Content.{Content as Kept}
 use Rattle.plan_store.specs.declared.stores.Need.{Need}
 use Rattle.plan_store.specs.declared.stores.Need.TheVariants.{Daily, Definitions, Key, LongTerm}
@@ -63,6 +70,27 @@ module _ (t : ℕ) (kept : Kept) (early : List Row) (is : early ≡ filter (arri
       ≡ named (Daily t) (content_of kept)
   early_named i = with_plans_alone (λ serial. early_look serial i) (content_of kept).sets.cp (content_of kept)
 
+-- what keeps keys from being made, as the buffer has it
+module _ (kept : Kept) (barring : List Deletion) (is : barring ≡ filter (bars kept.bounds) kept.deletions.items) where
+  pub barring_rows : AreRows of_deletion barring
+  barring_rows = subst (AreRows of_deletion) (sym is)
+      (filter_rows of_deletion (bars kept.bounds) kept.deletions.items kept.deletion_rows)
+
+  pub barring_seats : HasSeats of_deletion barring kept.seats.items
+  barring_seats x there = kept.deletion_seats x
+      (contains_filter (bars kept.bounds) kept.deletions.items x (subst (λ xs. Contains xs x) is there)).0
+
+  barring_look : (serial : ℕ) → look_up deletion_serial barring serial
+      ≡ keep (bars kept.bounds) ((content_of kept).sets.deletions serial)
+  barring_look serial =
+      ap (λ (xs : List Deletion). look_up deletion_serial xs serial) is
+      ∙ look_filter of_deletion (bars kept.bounds) kept.deletions.items kept.deletion_rows serial
+
+  -- so it stands in a window of the long-term plan
+  pub barring_named : with_deletions (look_up deletion_serial barring) (content_of kept)
+      ≡ named LongTerm (content_of kept)
+  barring_named i = with_deletions (λ serial. barring_look serial i) (content_of kept)
+
 -- the rows of a list that arrive before a moment
 pub lists_early : (t : ℕ) (xs : List Row) → AreRows of_row xs → (found : List Row)
     → found ≡ filter (arrives_before t) xs → ListsSet of_row (look_up row_serial xs) (λ row. row.key.ia < t) found
@@ -73,6 +101,19 @@ lists_early t xs rows found is =
       (λ there. let from = contains_filter (arrives_before t) xs row there in (from.0, ltb-true row.key.ia t from.1)),
       λ both. filter_contains (arrives_before t) xs row both.0 (lt-ltb row.key.ia t both.1),
     )))
+
+-- before there is a plan nothing keeps a key from being made
+pub none_bar : (o : Option Bounds) → o ≡ None → (deletions : List Deletion) → filter (bars o) deletions ≡ []
+none_bar None is [] = refl
+none_bar None is (x ∷ xs) = none_bar None is xs
+none_bar (Some b) is deletions = absurd (let no : ⊥ = cc is in no)
+
+bars_late : (moment : ℕ) (deletion : Deletion) → deletion.reason ≡ Operator → moment ≤ deletion.row.key.ia
+    → bars_from moment deletion ≡ true
+bars_late moment deletion reason late =
+    let after : ltb deletion.row.key.ia moment ≡ false = le-ltb deletion.row.key.ia moment late in
+    let by : is_by_operator deletion.reason ≡ true = subst (λ r. is_by_operator r ≡ true) (sym reason) refl in
+    rw (after, by) refl
 
 kept_twice : {X : Type 0} (p : X → Bool) (o : Option X) → keep p (keep p o) ≡ keep p o
 kept_twice p None = refl
@@ -108,17 +149,56 @@ module _ (t : ℕ) (s s' : ℕ → Option Row) (same : (serial : ℕ) → moved 
 named_twice : (need : Need) (c : Content) → named need (named need c) ≡ named need c
 named_twice Definitions c = refl
 named_twice (Key key) c = refl
-named_twice LongTerm c = refl
+named_twice LongTerm c =
+    λ i. with_deletions (λ serial. kept_twice (bars c.sets.bounds) (c.sets.deletions serial) i) c
 named_twice (Daily t) c =
     λ i. with_plans_alone (λ serial. kept_twice (arrives_before t) (c.sets.ltp serial) i) c.sets.cp c
+
+-- what a window shows that hides deletions, with them, is the content
+pub seen_is : {d : ℕ → Option Deletion} (view : View) (c : Content) → shown view ≡ with_deletions d c
+    → with_hidden c.sets.deletions view ≡ c
+seen_is view c shows = ap (with_deletions c.sets.deletions) shows
+
+-- a window of the long-term plan shows whether an operator deleted an occurrence of a key that arrives from the plan
+-- end on
+module _ (view : View) (c : Content) (shows : Shows LongTerm view c) (key : KeyValue) where
+  shown_was : IsDeletedKey (shown view).sets key → IsDeletedKey c.sets key
+  shown_was there =
+      let (serial, deletion, at, reason, keyed) = subst (λ (x : Content). IsDeletedKey x.sets key) shows there in
+      (serial, deletion, (kept_is (bars c.sets.bounds) (c.sets.deletions serial) deletion at).0, reason, keyed)
+
+  pub shows_deleted : (b : Bounds) → c.sets.bounds ≡ Some b → b.plan_end ≤ key.ia
+      → ShowsDeleted c.sets.deletions view key
+  shows_deleted b bounded late = (
+    (λ (serial, deletion, at, reason, keyed).
+        let from : b.plan_end ≤ deletion.row.key.ia = subst (λ (k : KeyValue). b.plan_end ≤ k.ia) (sym keyed) late in
+        subst (λ (x : Content). IsDeletedKey x.sets key) (sym shows) (
+          serial,
+          deletion,
+          is_kept (bars c.sets.bounds) (c.sets.deletions serial) deletion at
+              (subst (λ o. bars o deletion ≡ true) (sym bounded) (bars_late b.plan_end deletion reason from)),
+          reason,
+          keyed,
+        )),
+    shown_was,
+  )
+
+  -- and so it does where nothing is planned
+  pub shows_none_deleted : IsUnplanned c → ShowsDeleted c.sets.deletions view key
+  shows_none_deleted none = ((λ there. absurd (nothing there)), λ there. absurd (nothing (shown_was there)))
+    where
+      nothing : IsDeletedKey c.sets key → ⊥
+      nothing (serial, deletion, at, reason, keyed) =
+          let empty : c.sets.deletions serial ≡ None = ap (λ (s : Places). s.deletions) (none.rows serial) in
+          cc
 
 -- a window that shows what a need names shows at least that
 pub shows_at_least : (need : Need) (view : View) (c : Content) → Shows need view c → ShowsAtLeast need view c
 shows_at_least need view c shows = ap (named need) shows ∙ named_twice need c
 
--- and one that shows all shows at least what any need names
-pub whole_at_least : (need : Need) (view : View) (c : Content) → shown view ≡ c → ShowsAtLeast need view c
-whole_at_least need view c shows = ap (named need) shows
+-- and one of the long-term plan shows at least what a daily plan asks
+pub long_at_least : (t : ℕ) (view : View) (c : Content) → Shows LongTerm view c → ShowsAtLeast (Daily t) view c
+long_at_least t view c shows = ap (named (Daily t)) shows
 
 -- a window that shows at least what a daily plan to t asks
 module _ (t : ℕ) (view : View) (c : Content) (shows : ShowsAtLeast (Daily t) view c) where

@@ -1,9 +1,13 @@
 -- What a window shows, and what its calls answer.
-use Rattle.std.specs.Prelude.{◌≡◌, ◌≢◌, ◌↔◌, ℕ, ◌≤◌, ◌<◌, List, [], Contains, Option, Some, None, filter}
+use Rattle.std.specs.Prelude.{◌≡◌, ◌≢◌, ◌↔◌, ℕ, ◌≤◌, ◌<◌, List, [], Contains, Option, Some, None, filter, Bool}
+use Rattle.std.specs.Prelude.{◌&&◌, not, true, false}
 use Rattle.occurrences.specs.Place.{IsLive}
 use Rattle.occurrences.specs.declared.key.Key.{Key}
 use Rattle.occurrences.specs.declared.place.Deletion.{Deletion}
-use Rattle.occurrences.specs.declared.place.Reason.TheVariants.{Operator}
+use Rattle.occurrences.specs.declared.place.Place.{Place}
+use Rattle.occurrences.specs.declared.place.Place.TheVariants.{LongTerm, Current, History, Deleted}
+use Rattle.occurrences.specs.declared.place.Reason.{Reason}
+use Rattle.occurrences.specs.declared.place.Reason.TheVariants.{Operator, Plan, Withdrawn}
 use Rattle.occurrences.specs.declared.row.Row.{Row}
 use Rattle.occurrences.specs.declared.status.Status.TheVariants.{D}
 use Rattle.external_dependencies.specs.declared.live.Arrival.{Arrival}
@@ -12,6 +16,8 @@ use Rattle.planner_machine.specs.Content.{Content, Sets, StandsAt}
 use Rattle.planner_machine.specs.Pairs.{LiveAt}
 use Rattle.occurrences.specs.declared.place.CurrentRow.{CurrentRow}
 use Rattle.planner_machine.specs.DailyPlan.{arrives_before, moved}
+use Rattle.planner_machine.specs.Moves.{keep}
+use Rattle.planner_machine.specs.declared.content.Bounds.{Bounds}
 use Rattle.planner_machine.specs.declared.job.Job.{Job}
 use Rattle.keyed_lists.specs.Rows.{AreRows, look_up}
 use Rattle.plan_store.specs.declared.contents.Content.{Content as Kept}
@@ -25,6 +31,9 @@ row_serial row = row.serial
 abbrev pub current_serial : CurrentRow → ℕ
 current_serial current = current.row.serial
 
+abbrev pub deletion_serial : Deletion → ℕ
+deletion_serial deletion = deletion.row.serial
+
 -- what the window shows, as a content; of the jobs none of its calls tells anything
 abbrev pub shown : View → Content
 shown view = record {
@@ -35,7 +44,7 @@ shown view = record {
     ltp = look_up row_serial view.ltp.now;
     cp = look_up current_serial view.cp.now;
     history = look_up row_serial view.history.now;
-    deletions = look_up (λ (deletion : Deletion). deletion.row.serial) view.deletions.now;
+    deletions = look_up deletion_serial view.deletions.now;
   };
   in_force = view.content.now.in_force;
   pairs = view.pairs.now;
@@ -59,17 +68,57 @@ with_plans_alone ltp cp c = record {
   jobs = c.jobs;
 }
 
+-- the content with these deletions
+abbrev pub with_deletions : (ℕ → Option Deletion) → Content → Content
+with_deletions deletions c = record {
+  definitions = c.definitions;
+  sets = record {
+    bounds = c.sets.bounds;
+    issued = c.sets.issued;
+    ltp = c.sets.ltp;
+    cp = c.sets.cp;
+    history = c.sets.history;
+    deletions = deletions;
+  };
+  in_force = c.in_force;
+  pairs = c.pairs;
+  jobs = c.jobs;
+}
+
+abbrev pub is_by_operator : Reason → Bool
+is_by_operator Operator = true
+is_by_operator Withdrawn = false
+is_by_operator Plan = false
+
+-- an operator deleted it, and it arrives at the moment or after it
+abbrev pub bars_from : ℕ → Deletion → Bool
+bars_from moment deletion = not (arrives_before moment deletion.row) && is_by_operator deletion.reason
+
+-- it keeps a planning statement from making its key: an operator deleted it, and it arrives from the plan end on
+abbrev pub bars : Option Bounds → Deletion → Bool
+bars None deletion = false
+bars (Some b) deletion = bars_from b.plan_end deletion
+
 -- what a need names of a content: of a daily plan the rows of the current plan, and those of the long-term plan that
--- arrive before its moment. What is on one key or on the long-term plan names all as yet
+-- arrive before its moment; of one key all but the deletions; of the long-term plan all but such deletions as keep no
+-- key from being made
 abbrev pub named : Need → Content → Content
 named need.Definitions c = with_plans_alone (λ _. None) (λ _. None) c
-named (need.Key key) c = c
-named need.LongTerm c = c
+named (need.Key key) c = with_deletions (λ _. None) c
+named need.LongTerm c = with_deletions (λ serial. keep (bars c.sets.bounds) (c.sets.deletions serial)) c
 named (need.Daily t) c = with_plans_alone (λ serial. moved t (c.sets.ltp serial)) c.sets.cp c
 
 -- the window shows what the need names of the content, and no more
 abbrev pub Shows : Need → View → Content → Type 0
 Shows need view c = shown view ≡ named need c
+
+-- what a window hides that shows the plans and history: deletions
+abbrev pub Hidden : Type 0
+Hidden = ℕ → Option Deletion
+
+-- what the window shows, beside what it hides
+abbrev pub with_hidden : Hidden → View → Content
+with_hidden hidden view = with_deletions hidden (shown view)
 
 -- the window shows at least what the need names of the content: what the need names of what is shown
 abbrev pub ShowsAtLeast : Need → View → Content → Type 0
@@ -79,7 +128,7 @@ ShowsAtLeast need view c = named need (shown view) ≡ named need c
 abbrev pub IsFilled : Need → Kept → Type 0
 IsFilled need.Definitions kept = Unit {0}
 IsFilled (need.Key key) kept = Unit {0}
-IsFilled need.LongTerm kept = Unit {0}
+IsFilled need.LongTerm kept = kept.buffer.barring.items ≡ filter (bars kept.bounds) kept.deletions.items
 IsFilled (need.Daily t) kept = kept.buffer.early.items ≡ filter (arrives_before t) kept.ltp.items
 
 -- the list has exactly the rows of the set that pass, by application, input arrival and serial
@@ -114,10 +163,26 @@ abbrev pub IsPlacedAt : Sets → ℕ → Option PlacedRow → Type 0
 IsPlacedAt s serial (Some p) = StandsAt s serial p
 IsPlacedAt s serial None = (p : PlacedRow) → StandsAt s serial p → ⊥
 
+-- in a plan or in history
+abbrev pub IsOutsideDeletions : Place → Type 0
+IsOutsideDeletions LongTerm = Unit {0}
+IsOutsideDeletions (Current status) = Unit {0}
+IsOutsideDeletions History = Unit {0}
+IsOutsideDeletions (Deleted reason) = ⊥
+
+-- the occurrence of the serial in a plan or in history, and where it stands, or that there is none
+abbrev pub IsFoundAt : Sets → ℕ → Option PlacedRow → Type 0
+IsFoundAt s serial (Some p) = StandsAt s serial p × IsOutsideDeletions p.place
+IsFoundAt s serial None = (p : PlacedRow) → StandsAt s serial p → IsOutsideDeletions p.place → ⊥
+
 -- an operator deleted an occurrence of the key
 abbrev pub IsDeletedKey : Sets → Key → Type 0
 IsDeletedKey s key = (serial : ℕ) × (deletion : Deletion) × (s.deletions serial ≡ Some deletion)
     × (deletion.reason ≡ Operator) × (deletion.row.key ≡ key)
+
+-- the window shows whether an operator deleted an occurrence of the key
+abbrev pub ShowsDeleted : Hidden → View → Key → Type 0
+ShowsDeleted hidden view key = IsDeletedKey (with_hidden hidden view).sets key ↔ IsDeletedKey (shown view).sets key
 
 -- of the live occurrences of the application that arrive before the minute, the one that arrives last, and of several
 -- that do the one of the greatest serial; or that there is none

@@ -1,7 +1,7 @@
 ghost use Rattle.std.specs.Prelude.{◌≡◌, []};
 
 use external_dependencies::Pairs;
-use occurrences::Row;
+use occurrences::{Deletion, Row};
 use std::alloc::Global;
 
 // What windows show that is no part of a list of the content. It is filled before a window is lent.
@@ -9,6 +9,8 @@ use std::alloc::Global;
 pub(crate) struct Buffer {
     // the rows of the long-term plan that the latest daily window shows
     pub(crate) early: Vec<Row>,
+    // the deletions that the latest window of the long-term plan shows
+    pub(crate) barring: Vec<Deletion>,
     // the pairs of a window that shows none
     pub(crate) no_pairs: Pairs,
     ghost none: { no_pairs ≡ [] },
@@ -19,6 +21,7 @@ impl Buffer {
     pub(crate) fn new(alloc: Global) -> Buffer {
         Buffer {
             early: Vec::new(alloc),
+            barring: Vec::new(alloc),
             no_pairs: Pairs::new(alloc),
         }
     }

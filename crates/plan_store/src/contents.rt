@@ -6,7 +6,7 @@ use crate::jobs::{find_job, keep_job};
 use crate::moving::move_rows;
 use crate::pairs::change_pairs;
 use crate::room::{Room, grow};
-use crate::slices::arriving_before;
+use crate::slices::{arriving_before, barring};
 use crate::stores::Need;
 use crate::views::View;
 use app_definitions::Definitions;
@@ -71,7 +71,8 @@ impl Content {
     ghost use Rattle.planner_machine.specs.Content.{nothing_known};
     ghost use Rattle.plan_store.specs.Contents.{content_of};
     ghost use Rattle.keyed_lists.specs.Rows.{look_up};
-    ghost use Rattle.plan_store.specs.Views.{IsFilled, Shows, current_serial, row_serial, shown, with_plans_alone};
+    ghost use Rattle.plan_store.specs.Views.{IsFilled, Shows, current_serial, deletion_serial, row_serial, shown};
+    ghost use Rattle.plan_store.specs.Views.{with_deletions, with_plans_alone};
     ghost use Rattle.plan_store.specs.Room.{HasPutSeats, HasRoom, HasRowRoom, HasSame, with_definitions, with_pairs_of};
     ghost use Rattle.plan_store.specs.declared.changes.DefinitionChange.TheVariants.{AsBefore};
 
@@ -96,14 +97,30 @@ impl Content {
     }
 
     /// Makes ready what a window for the need shows that is no part of a list: for a daily plan the rows of the
-    /// long-term plan that arrive before its end. The content stays as it is.
+    /// long-term plan that arrive before its end, and for the long-term plan what an operator deleted from the plan end
+    /// on. The content stays as it is.
     pub fn fill_window(&mut self, need: &Need) -> Result<(), AllocError>
         ensures same { content_of self.new ≡ content_of self.old }
         ensures filled { OnOk result (IsFilled need.now self.new) }
     {
         match need {
             Need::Daily(moment) => arriving_before(&mut self.buffer.early, &self.ltp, *moment),
-            Need::Definitions | Need::Key(_) | Need::LongTerm => Ok(()),
+            Need::LongTerm => self.fill_barring(),
+            Need::Definitions | Need::Key(_) => Ok(()),
+        }
+    }
+
+    // Fills the buffer with what an operator deleted from the plan end on, if there is a plan.
+    fn fill_barring(&mut self) -> Result<(), AllocError>
+        ensures same { content_of self.new ≡ content_of self.old }
+        ensures filled { OnOk result (IsFilled Need.LongTerm self.new) }
+    {
+        match self.bounds {
+            Some(bounds) => barring(&mut self.buffer.barring, &self.deletions, bounds.plan_end),
+            None => {
+                self.buffer.barring.clear();
+                Ok(())
+            }
         }
     }
 
@@ -115,7 +132,8 @@ impl Content {
         match need {
             Need::Definitions => self.window_of_plans(&[], &[]),
             Need::Daily(_) => self.window_of_plans(&self.buffer.early, &self.cp),
-            Need::Key(_) | Need::LongTerm => self.whole_window(),
+            Need::Key(_) => self.window_of_deletions(&[]),
+            Need::LongTerm => self.window_of_deletions(&self.buffer.barring),
         }
     }
 
@@ -138,16 +156,19 @@ impl Content {
         }
     }
 
-    // A window of all rows and pairs.
-    fn whole_window(&self) -> View<'_>
-        ensures { shown result ≡ content_of self.now }
+    // A window of these deletions, all other rows, and all pairs.
+    fn window_of_deletions<'a>(&'a self, deletions: &'a [Deletion]) -> View<'a>
+        requires rows { AreRows of_deletion deletions.now }
+        requires seats { HasSeats of_deletion deletions.now self.now.seats.items }
+        ensures { shown result
+            ≡ with_deletions (look_up deletion_serial deletions.now) (content_of self.now) }
     {
         View {
             content: self,
             ltp: &self.ltp,
             cp: &self.cp,
             history: &self.history,
-            deletions: &self.deletions,
+            deletions,
             pairs: &self.pairs,
         }
     }
@@ -188,7 +209,8 @@ impl Content {
     /// into it by `finish` or `put_back`. Where memory is refused, the content is as it was.
     pub fn make_room(&mut self, alloc: Global, change: &Change) -> Result<Room, AllocError>
         requires { Fits change.now (content_of self.old) }
-        ensures taken { IfOk result (λ room. (room.pairs.items ≡ (content_of self.old).pairs) × HasRoom change.now
+        ensures taken { IfOk result (λ room. (room.pairs.items ≡ (content_of self.old).pairs)
+            × HasRoom change.now
             self.new room) }
         ensures ok { OnOk result (content_of self.new ≡ with_pairs_of [] (content_of self.old)) }
         ensures err { OnErr result (content_of self.new ≡ content_of self.old) }
@@ -287,7 +309,8 @@ fn note_puts(alloc: Global, seats: &mut Vec<Seat>, change: &Change) -> Result<()
     requires history { HasEachOnce of_row change.now.history.put.items }
     requires deletions { HasEachOnce of_deletion change.now.deletions.put.items }
     ensures seats { AreSeats seats.new.items }
-    ensures stay { (seat : SeatValue) → Contains seats.old.items seat → Contains seats.new.items seat }
+    ensures stay { (seat : SeatValue) → Contains seats.old.items seat
+        → Contains seats.new.items seat }
     ensures ltp { OnOk result (HasSeats of_row change.now.ltp.put.items seats.new.items) }
     ensures cp { OnOk result (HasSeats of_current change.now.cp.put.items seats.new.items) }
     ensures history { OnOk result (HasSeats of_row change.now.history.put.items seats.new.items) }

@@ -1,4 +1,5 @@
 ghost use Rattle.std.specs.Prelude.{◌≡◌, ◌≢◌, ◌↔◌, ◌<◌, length, Contains, MatchOption, IsTrue, OnOk, filter};
+ghost use Rattle.std.specs.Prelude.{◌++◌, not};
 ghost use Rattle.occurrences.specs.declared.place.CurrentRow.{CurrentRow as CurrentValue};
 ghost use Rattle.occurrences.specs.declared.place.Deletion.{Deletion as DeletionValue};
 ghost use Rattle.planner_machine.specs.DailyPlan.{arrives_before};
@@ -8,6 +9,7 @@ ghost use Rattle.keyed_lists.specs.Seats.{AreSeats, HasSeats};
 ghost use Rattle.external_dependencies.specs.Arrival.{arrival_cmp};
 ghost use Rattle.external_dependencies.specs.Nearest.{arrival_of};
 ghost use Rattle.plan_store.specs.Slices.{HaveOneApp, IsFront};
+ghost use Rattle.plan_store.specs.Views.{bars_from, is_by_operator};
 
 use keyed_lists::{PlanRow, Seat, seats_of};
 use occurrences::{CurrentRow, Deletion, Key, Reason, Row, Serial, Status};
@@ -110,16 +112,16 @@ pub(crate) fn has_operator(rows: &[Deletion]) -> bool
 }
 
 // The rows at the front that are of the first row's application.
-fn front_app(rows: &[Row]) -> &[Row]
+fn front_app<T: PlanRow>(rows: &[T]) -> &[T]
     requires some { 0 < length rows.now }
-    requires keyed { IsKeyed arrival_cmp arrival_of rows.now }
+    requires keyed { IsKeyed arrival_cmp (λ x. arrival_of (T.row_of x)) rows.now }
     ensures some { 0 < length result.now }
     ensures front { IsFront result.now rows.now }
-    ensures keyed { IsKeyed arrival_cmp arrival_of result.now }
-    ensures one { HaveOneApp of_row result.now }
+    ensures keyed { IsKeyed arrival_cmp (λ x. arrival_of (T.row_of x)) result.now }
+    ensures one { HaveOneApp T.row_of result.now }
 {
-    let app = &rows[0].key.app;
-    let count = rows.partition_point(|row| row.key.app <= *app);
+    let app = rows[0].row().key.app;
+    let count = rows.partition_point(|x| x.row().key.app <= app);
     &rows[..count]
 }
 
@@ -138,6 +140,49 @@ pub(crate) fn arriving_before(
         let of_one = front_app(&rows[start..]);
         found.extend_from_slice(before(of_one, moment.number()))?;
         start += of_one.len();
+    }
+    Ok(())
+}
+
+// The rows of one application that arrive at that minute or after it.
+fn from_on<'a, T: PlanRow>(rows: &'a [T], first: u32) -> &'a [T]
+    ensures { IsKeyed arrival_cmp (λ x. arrival_of (T.row_of x)) rows.now
+        → HaveOneApp T.row_of rows.now
+        → result.now ≡ filter (λ x. not (arrives_before first (T.row_of x))) rows.now }
+{
+    let count = rows.partition_point(|x| x.row().key.ia.number() < first);
+    &rows[count..]
+}
+
+// Adds what an operator deleted.
+fn push_operators(found: &mut Vec<Deletion>, rows: &[Deletion]) -> Result<(), AllocError>
+    ensures { OnOk result (found.new.items
+        ≡ found.old.items ++ filter (λ (x : DeletionValue). is_by_operator x.reason) rows.now) }
+{
+    for deletion in rows {
+        if deletion.reason == Reason::Operator {
+            found.push(*deletion)?;
+        }
+    }
+    Ok(())
+}
+
+// Fills the list with what an operator deleted that arrives at the moment or after it: of each application from the
+// end of its rows.
+pub(crate) fn barring(
+    found: &mut Vec<Deletion>,
+    rows: &[Deletion],
+    moment: Moment,
+) -> Result<(), AllocError>
+    requires { IsKeyed arrival_cmp (λ (x : DeletionValue). arrival_of x.row) rows.now }
+    ensures { OnOk result (found.new.items ≡ filter (bars_from moment) rows.now) }
+{
+    found.clear();
+    let mut at = 0;
+    while at < rows.len() {
+        let of_one = front_app(&rows[at..]);
+        push_operators(found, from_on(of_one, moment.number()))?;
+        at += of_one.len();
     }
     Ok(())
 }

@@ -56,8 +56,9 @@ ghost use Rattle.keyed_lists.specs.Rows.{AreRows, of_current, of_deletion, of_ro
 ghost use Rattle.keyed_lists.specs.Seats.{HasSeats};
 
 impl<'a> View<'a> {
-    ghost use Rattle.plan_store.specs.Views.{IsAny, IsCurrentRow, IsDeletedKey, IsLastBefore, IsLiveRow, IsPlacedAt};
-    ghost use Rattle.plan_store.specs.Views.{IsPlannedRow, ListsSet, shown};
+    ghost use Rattle.plan_store.specs.Views.{Hidden, IsAny, IsCurrentRow, IsDeletedKey, IsFoundAt, IsLastBefore};
+    ghost use Rattle.plan_store.specs.Views.{IsLiveRow};
+    ghost use Rattle.plan_store.specs.Views.{IsPlannedRow, ListsSet, shown, with_hidden};
 
     /// The definitions.
     pub fn definitions(&self) -> &'a Definitions
@@ -120,8 +121,8 @@ impl<'a> View<'a> {
     /// The rows of the long-term plan.
     pub fn ltp(&self) -> &'a [Row]
         ensures rows { ListsSet of_row (shown self.now).sets.ltp IsAny result.now }
-        ensures count { AreNumbered (shown self.now).sets → length result.now ≡ size (shown self.now).sets.ltp
-            (shown self.now).sets.issued }
+        ensures count { (h : Hidden) → AreNumbered (with_hidden h self.now).sets
+            → length result.now ≡ size (shown self.now).sets.ltp (shown self.now).sets.issued }
     {
         self.ltp
     }
@@ -129,8 +130,8 @@ impl<'a> View<'a> {
     /// The rows of the current plan.
     pub fn cp(&self) -> &'a [CurrentRow]
         ensures rows { ListsSet of_current (shown self.now).sets.cp IsAny result.now }
-        ensures count { AreNumbered (shown self.now).sets → length result.now ≡ size (shown self.now).sets.cp
-            (shown self.now).sets.issued }
+        ensures count { (h : Hidden) → AreNumbered (with_hidden h self.now).sets
+            → length result.now ≡ size (shown self.now).sets.cp (shown self.now).sets.issued }
     {
         self.cp
     }
@@ -190,7 +191,8 @@ impl<'a> View<'a> {
 
     /// The live occurrence that has the key, and where it stands.
     pub fn live_row(&self, key: &Key) -> Option<PlacedRow>
-        ensures { AreNumbered (shown self.now).sets → IsLiveRow (shown self.now).sets key.now result }
+        ensures { (h : Hidden) → AreNumbered (with_hidden h self.now).sets
+            → IsLiveRow (with_hidden h self.now).sets key.now result }
     {
         if let Some(row) = self.ltp_row(key) {
             return Some(PlacedRow {
@@ -218,9 +220,10 @@ impl<'a> View<'a> {
         has_operator(of_key(self.deletions, key))
     }
 
-    /// The occurrence of the serial, and where it stands.
+    /// The occurrence of the serial in a plan or in history, and where it stands.
     pub fn placed(&self, serial: Serial) -> Option<PlacedRow>
-        ensures { AreNumbered (shown self.now).sets → IsPlacedAt (shown self.now).sets serial result }
+        ensures { (h : Hidden) → AreNumbered (with_hidden h self.now).sets
+            → IsFoundAt (with_hidden h self.now).sets serial result }
     {
         if let Some(row) = of_serial(self.ltp, &self.content.seats, serial) {
             return Some(PlacedRow {
@@ -234,22 +237,17 @@ impl<'a> View<'a> {
                 place: Place::Current(current.status),
             });
         }
-        if let Some(row) = of_serial(self.history, &self.content.seats, serial) {
-            return Some(PlacedRow {
-                row,
-                place: Place::History,
-            });
-        }
-        let deletion = of_serial(self.deletions, &self.content.seats, serial)?;
+        let row = of_serial(self.history, &self.content.seats, serial)?;
         Some(PlacedRow {
-            row: deletion.row,
-            place: Place::Deleted(deletion.reason),
+            row,
+            place: Place::History,
         })
     }
 
     // The live occurrence of the application that arrives last before the minute.
     fn last_before(&self, app: &App, minute: u32) -> Option<Arrival>
-        ensures { AreNumbered (shown self.now).sets → IsLastBefore (shown self.now).sets app.now minute result }
+        ensures { (h : Hidden) → AreNumbered (with_hidden h self.now).sets
+            → IsLastBefore (with_hidden h self.now).sets app.now minute result }
     {
         let ltp = last_of(before(of_app(self.ltp, app), minute));
         let cp = last_live(before(of_app(self.cp, app), minute));
@@ -259,7 +257,8 @@ impl<'a> View<'a> {
 
     /// Of the live occurrences of the application that arrive at or before the moment, the one that arrives last.
     pub fn last_arrival(&self, app: &App, moment: Moment) -> Option<Arrival>
-        ensures { AreNumbered (shown self.now).sets → IsLastBefore (shown self.now).sets app.now (moment + 1) result }
+        ensures { (h : Hidden) → AreNumbered (with_hidden h self.now).sets
+            → IsLastBefore (with_hidden h self.now).sets app.now (moment + 1) result }
     {
         self.last_before(app, moment.number() + 1)
     }
@@ -268,8 +267,8 @@ impl<'a> View<'a> {
     /// application that arrive at or before it, the one that arrives last; in its own application only those that
     /// arrive before it count, and where there is a limit none that arrives more than so many hours before it.
     pub fn nearest(&self, key: &Key, app: &App, within: Option<Within>) -> Option<Serial>
-        ensures { AreNumbered (shown self.now).sets → IsNearestAnswer (LiveAt (shown self.now).sets) key.now app.now
-            within result }
+        ensures { (h : Hidden) → AreNumbered (with_hidden h self.now).sets
+            → IsNearestAnswer (LiveAt (with_hidden h self.now).sets) key.now app.now within result }
     {
         let arrival = key.ia.number();
         let limit = if *app == key.app {

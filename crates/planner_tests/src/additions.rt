@@ -1,9 +1,9 @@
 //! What an addition changes of the pairs, asked of its verdict, since no stream shows a change.
+use crate::plans::planned;
 use external_dependencies::{Pair, PairChange};
 use long_term_plan::add;
 use occurrences::{Key, Serial};
-use plan_store::{ListStore, Need, PlanStore, Verdict, View};
-use planner_cli::run;
+use plan_store::{Need, PlanStore, Verdict, View};
 use std::alloc::{AllocError, Global};
 use std::process::Abort;
 use std::test::Fail;
@@ -34,17 +34,6 @@ fn adds_alone(change: &PairChange, successors: [Serial; 2], predecessor: Serial)
     change.removed.as_slice().is_empty() && change.added.as_slice() == added.as_slice()
 }
 
-// The store after these statements.
-fn planned(alloc: Global) -> Result<ListStore, Fail> {
-    let mut store = ListStore::new(alloc);
-    let mut reader = PLANNED;
-    let mut replies = Vec::new(alloc);
-    match run(alloc, &mut store, &mut reader, &mut replies) {
-        Ok(_) => Ok(store),
-        Err(_) => Err("a run".into()),
-    }
-}
-
 // Whether the verdict adds the pairs of the first two numbers with the third alone.
 fn does_add(verdict: &Verdict, numbers: [Serial; 3]) -> bool {
     let [first, second, new] = numbers;
@@ -67,7 +56,7 @@ fn addition_adds(
 
 // Whether it does so over that plan.
 fn planned_adds(alloc: Global, key: &Key, numbers: [Serial; 3]) -> Result<bool, Fail> {
-    let mut store = planned(alloc)?;
+    let mut store = planned(alloc, PLANNED)?;
     match store.read_window(Need::Key(*key)) {
         Ok(view) => Ok(addition_adds(alloc, &view, key, numbers)?),
         Err(_) => Err("a window".into()),

@@ -10,6 +10,8 @@ mod limits;
 #[cfg(test)]
 mod listings;
 #[cfg(test)]
+mod plans;
+#[cfg(test)]
 mod soundness;
 #[cfg(test)]
 mod stores;

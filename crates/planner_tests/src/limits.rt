@@ -1,9 +1,9 @@
 //! Limits on predecessors, asked of a window and of a verdict, since no stream shows what a change has.
+use crate::plans::planned;
 use external_dependencies::{Link, Pair};
 use long_term_plan::modify_all;
 use occurrences::{Key, Serial};
-use plan_store::{Change, ListStore, Need, PlanStore, Verdict, View};
-use planner_cli::run;
+use plan_store::{Change, Need, PlanStore, Verdict, View};
 use std::alloc::{AllocError, Global};
 use std::process::Abort;
 use std::test::Fail;
@@ -29,20 +29,9 @@ fn nearest_of(view: &View<'_>, key: &Key, app: &App) -> Nearest {
     ]
 }
 
-// The store after these statements.
-fn planned(alloc: Global) -> Result<ListStore, Fail> {
-    let mut store = ListStore::new(alloc);
-    let mut reader = PLANNED;
-    let mut replies = Vec::new(alloc);
-    match run(alloc, &mut store, &mut reader, &mut replies) {
-        Ok(_) => Ok(store),
-        Err(_) => Err("a run".into()),
-    }
-}
-
 // What a window on that plan finds nearest to the key.
 fn planned_nearest(alloc: Global, key: &Key, app: &App) -> Result<Nearest, Fail> {
-    let mut store = planned(alloc)?;
+    let mut store = planned(alloc, PLANNED)?;
     match store.read_window(Need::LongTerm) {
         Ok(view) => Ok(nearest_of(&view, key, app)),
         Err(_) => Err("a window".into()),
@@ -95,7 +84,7 @@ fn modification_puts(
 
 // Whether it does so over that plan.
 fn planned_puts(alloc: Global, link: &Link, pairs: &[Pair]) -> Result<bool, Fail> {
-    let mut store = planned(alloc)?;
+    let mut store = planned(alloc, PLANNED)?;
     match store.read_window(Need::LongTerm) {
         Ok(view) => Ok(modification_puts(alloc, &view, link, pairs)?),
         Err(_) => Err("a window".into()),

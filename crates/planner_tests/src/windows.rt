@@ -1,7 +1,7 @@
 //! Windows over a plan: they show what their need names, and no more.
+use crate::plans::{go_on, planned};
 use occurrences::{CurrentRow, Key, Row};
 use plan_store::{ListStore, Need, PlanStore, View};
-use planner_cli::run;
 use std::alloc::Global;
 use std::test::Fail;
 use work_calendars::{App, Moment};
@@ -19,17 +19,6 @@ const KEPT_PAIRS: &[u8] = b"define calendars --job 1\nDEFAULT,SAT,FREE\nDEFAULT,
     cp-start --app A --ia 2024-01-01/08.00 --job 13\n\
     cp-complete --app A --ia 2024-01-01/08.00 --job 14\n\
     dp-replan --job 15\n";
-
-// A store after that stream.
-fn planned(alloc: Global) -> Result<ListStore, Fail> {
-    let mut store = ListStore::new(alloc);
-    let mut reader = KEPT_PAIRS;
-    let mut replies = Vec::new(alloc);
-    match run(alloc, &mut store, &mut reader, &mut replies) {
-        Ok(_) => Ok(store),
-        Err(_) => Err("a run".into()),
-    }
-}
 
 // Whether these are the rows of the long-term plan that the window shows.
 fn plans(view: &View<'_>, serials: &[u32]) -> bool {
@@ -63,7 +52,7 @@ fn shows_alone(view: &View<'_>, ltp: &[u32], cp: &[u32]) -> bool {
 
 // Whether one for a daily plan to the moment does, over that plan.
 fn daily_shows(alloc: Global, to: Moment, ltp: &[u32], cp: &[u32]) -> Result<bool, Fail> {
-    let mut store = planned(alloc)?;
+    let mut store = planned(alloc, KEPT_PAIRS)?;
     match store.read_window(Need::Daily(to)) {
         Ok(view) => Ok(shows_alone(&view, ltp, cp)),
         Err(_) => Err("a window".into()),
@@ -92,7 +81,7 @@ fn shows_definitions(view: &View<'_>) -> bool {
 
 // Whether one for definitions does, over that plan.
 fn definitions_alone(alloc: Global) -> Result<bool, Fail> {
-    let mut store = planned(alloc)?;
+    let mut store = planned(alloc, KEPT_PAIRS)?;
     match store.read_window(Need::Definitions) {
         Ok(view) => Ok(shows_definitions(&view)),
         Err(_) => Err("a window".into()),
@@ -105,7 +94,7 @@ fn a_window_for_definitions_shows_no_row(rt: HostRuntime) -> Result<(), Fail> {
     Ok(())
 }
 
-// Whether the window shows all rows and pairs of that plan.
+// Whether the window shows all rows of the plans and of history, and all pairs, of that plan.
 fn shows_all(view: &View<'_>) -> bool {
     let pairs = view.pairs().as_slice().len();
     plans(view, &[3, 4]) && runs(view, &[2]) && view.history().len() == 1 && pairs == 3
@@ -113,7 +102,7 @@ fn shows_all(view: &View<'_>) -> bool {
 
 // Whether one on the key does, after one for a daily plan.
 fn key_shows_all(alloc: Global, to: Moment, key: &Key) -> Result<bool, Fail> {
-    let mut store = planned(alloc)?;
+    let mut store = planned(alloc, KEPT_PAIRS)?;
     if store.read_window(Need::Daily(to)).is_err() {
         return Err("a window".into());
     }
@@ -129,5 +118,49 @@ fn a_window_after_another_shows_its_own(rt: HostRuntime) -> Result<(), Fail> {
     let ia = Moment::from_text("2024-01-02/08.00").ok_or("a moment")?;
     let app = App::from_text("A").ok_or("a name")?;
     assert!(rt; key_shows_all(rt.alloc(), to, &Key { ia, app })?);
+    Ok(())
+}
+
+/// An operator deletes the one occurrence of A, on the second day.
+const DELETED: &[u8] = b"define periods --job 1\nDAY,A,2024-01-01,1\n/*\n\
+    define calendars --job 2\nDEFAULT,SUN,FREE\n/*\n\
+    define applications --job 3\nA,A,\n/*\n\
+    define run-cycles --job 4\nA,RC,N,DAY,4,1,2024-01-02,,08.00,0,18.00\n/*\n\
+    ltp-create --from 2024-01-01 --to 2024-01-02 --job 5\n\
+    ltp-delete --app A --ia 2024-01-02/08.00 --job 6\n";
+
+/// The plan end passes it.
+const PASSED: &[u8] = b"dp-extend --to 2024-01-03/00.00 --job 7\n";
+
+// Whether a window for the need shows that the key is deleted, over that plan.
+fn shows_deleted(store: &mut ListStore, need: Need, key: &Key) -> Result<bool, Fail> {
+    match store.read_window(need) {
+        Ok(view) => Ok(view.is_deleted_by_operator(key)),
+        Err(_) => Err("a window".into()),
+    }
+}
+
+// The key of what is deleted.
+fn deleted_key() -> Result<Key, Fail> {
+    let ia = Moment::from_text("2024-01-02/08.00").ok_or("a moment")?;
+    let app = App::from_text("A").ok_or("a name")?;
+    Ok(Key { ia, app })
+}
+
+#[test]
+fn a_window_on_a_key_shows_no_deletion(rt: HostRuntime) -> Result<(), Fail> {
+    let mut store = planned(rt.alloc(), DELETED)?;
+    let key = deleted_key()?;
+    assert!(rt; !shows_deleted(&mut store, Need::Key(key), &key)?);
+    Ok(())
+}
+
+#[test]
+fn a_long_term_window_shows_what_keeps_keys_from_being_made(rt: HostRuntime) -> Result<(), Fail> {
+    let mut store = planned(rt.alloc(), DELETED)?;
+    let key = deleted_key()?;
+    assert!(rt; shows_deleted(&mut store, Need::LongTerm, &key)?);
+    go_on(rt.alloc(), &mut store, PASSED)?;
+    assert!(rt; !shows_deleted(&mut store, Need::LongTerm, &key)?);
     Ok(())
 }

@@ -5,7 +5,8 @@ use Rattle.planner_machine.specs.Act.{cp_action as decided}
 use Rattle.planner_machine.specs.Content.{Content}
 use Rattle.planner_machine.specs.Sound.{IsSound}
 use Rattle.plan_store.specs.Verdicts.{VerdictIs}
-use Rattle.plan_store.specs.Views.{IsCurrentRow, shown}
+use Rattle.plan_store.specs.Views.{IsCurrentRow, shown, with_hidden}
+use Rattle.plan_store.proofs.WindowLemmas.{seen_is}
 use Rattle.daily_planning.proofs.ActLemmas.{refused_no_plan, refused_no_row}
 use Rattle.daily_planning.proofs.actions.cp_action.Goals as goal
 
@@ -38,6 +39,8 @@ returns c = weaker c.act.result _ _ (λ verdict done content shows sound.
     let some : (shown c.args.view.now).sets.bounds ≢ None =
     λ none. some_is c.bounds.result c.if-is_none.ensures (c.bounds.ensures ∙ none) in
     let P : Content → Type 0 = λ x. IsSound x → VerdictIs (decided c.args.key.now c.args.action) x verdict in
-    subst P shows (λ is. subst (λ (k : Key). VerdictIs (decided k c.args.action) (shown c.args.view.now) verdict)
+    let h = content.sets.deletions in
+    subst P (seen_is c.args.view.now content shows) (λ is.
+    subst (λ (k : Key). VerdictIs (decided k c.args.action) (with_hidden h c.args.view.now) verdict)
     c.in-Some.ensures.1
-    (done is some (c.in-Some.ensures.0, refl, c.in-Some.ensures.2))) sound) c.act.ensures
+    (done h is some (c.in-Some.ensures.0, refl, c.in-Some.ensures.2))) sound) c.act.ensures

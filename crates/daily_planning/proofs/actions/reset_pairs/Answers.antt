@@ -9,7 +9,7 @@ weaker (Ok a) P Q f is = f a is
 weaker (Err e) P Q f is = tt
 
 pub returns : goal.returns
-returns c = weaker c.between.result _ _ (λ change leads sound. record {
+returns c = weaker c.between.result _ _ (λ change leads h sound. record {
   had = c.from_vec-had.result;
   had_are = λ pair.
       let slice = c.of_successor.result.now in
@@ -22,6 +22,6 @@ returns c = weaker c.between.result _ _ (λ change leads sound. record {
       c.pairs.ensures (c.of_successor.ensures.all pair) in
       ((λ there. of.0 (is.0 there)), λ both. is.1 (of.1 both));
   now = c.in_ok-now.now;
-  now_are = c.in_ok-now.ensures sound.serials;
+  now_are = c.in_ok-now.ensures h sound.serials;
   leads = leads;
 }) c.between.ensures

@@ -1,7 +1,7 @@
 use Rattle.daily_planning.proofs.actions.status_change.Goals as goal
 
 pub returns : goal.returns
-returns c sound acted =
+returns c h sound acted =
     let nothing = c.none-change.ensures in
     record {
       definitions = nothing.definitions;
@@ -15,6 +15,6 @@ returns c sound acted =
       history = nothing.history;
       deletions = nothing.deletions;
       job = nothing.job;
-      pairs = c.in_ok-pairs.ensures.pairs sound acted;
-      leads = c.in_ok-pairs.ensures.leads sound acted;
+      pairs = c.in_ok-pairs.ensures.pairs h sound acted;
+      leads = c.in_ok-pairs.ensures.leads h sound acted;
     }

@@ -1,20 +1,21 @@
 use Rattle.std.proofs.Common.{◌∙◌, sym}
 use Rattle.definition_records.proofs.ByNameLemmas.{IfOk-map}
-use Rattle.plan_store.specs.Views.{shown}
+use Rattle.plan_store.specs.Views.{with_hidden}
 use Rattle.daily_planning.proofs.DailyByLemmas.{no_end, to_end}
-use Rattle.plan_store.specs.declared.stores.Need.TheVariants.{Daily}
-use Rattle.plan_store.proofs.WindowLemmas.{whole_at_least}
+use Rattle.plan_store.proofs.WindowLemmas.{long_at_least, seen_is}
 use Rattle.daily_planning.proofs.daily_plans.extend_by.Goals as goal
 
 pub returns-in-Some-2 : goal.returns-in-Some-2
 returns-in-Some-2 c =
     IfOk-map c.extend_to.result _ _ (λ verdict h c' shows sound.
-    to_end (shown c.args.view.now) c' shows c.in-Some.bounds (sym c.bounds.ensures ∙ c.in-Some.is)
+    to_end (with_hidden c'.sets.deletions c.args.view.now) c' (seen_is c.args.view.now c' shows)
+    c.in-Some.bounds (sym c.bounds.ensures ∙ c.in-Some.is)
     c.definitions.result.now c.definitions.ensures c.args.days c.args.count c.daily_plans.ensures.by_days c.in-Some-2.to
     (rw c.in-Some-2.is at c.in_ok-to.ensures.some) verdict
-    (h c' (whole_at_least (Daily c.in-Some-2.to) c.args.view.now c' shows) sound)) c.extend_to.ensures
+    (h c' (long_at_least c.in-Some-2.to c.args.view.now c' shows) sound)) c.extend_to.ensures
 
 pub returns-in-None : goal.returns-in-None
 returns-in-None c = λ c' shows sound.
-    no_end (shown c.args.view.now) c' shows c.in-Some.bounds (sym c.bounds.ensures ∙ c.in-Some.is)
+    no_end (with_hidden c'.sets.deletions c.args.view.now) c' (seen_is c.args.view.now c' shows)
+    c.in-Some.bounds (sym c.bounds.ensures ∙ c.in-Some.is)
     c.definitions.result.now c.definitions.ensures c.args.days c.args.count (rw c.in-None.is at c.in_ok-to.ensures.none)

@@ -4,11 +4,13 @@ use Rattle.external_dependencies.specs.Loop.{IsLeastOnLoop}
 use Rattle.app_definitions.specs.declared.definitions.Definitions.{Definitions}
 use Rattle.planner_machine.specs.declared.content.Bounds.{Bounds}
 use Rattle.planner_machine.specs.declared.content.Draft.{Draft}
+use Rattle.planner_machine.specs.Content.{Content}
 use Rattle.planner_machine.specs.Create.{AreBadPlanDays, create}
 use Rattle.planner_machine.specs.InForce.{AreLinks, IsDefinedLink}
 use Rattle.planner_machine.specs.Sound.{IsSound}
 use Rattle.plan_store.specs.Verdicts.{VerdictIs}
-use Rattle.plan_store.specs.Views.{shown}
+use Rattle.plan_store.specs.Views.{with_hidden}
+use Rattle.plan_store.proofs.WindowLemmas.{seen_is, shows_none_deleted}
 use Rattle.plan_store.specs.declared.changes.Verdict.TheVariants.{Refused}
 use Rattle.occurrences.specs.declared.refusal.Refusal.TheVariants.{DatesOutOfRange, Loop}
 use Rattle.std.proofs.lemmas.Bool.{false≢true}
@@ -26,28 +28,30 @@ none_is (Some x) is = cc
 
 pub returns-in-Some : goal.returns-in-Some
 returns-in-Some c content shows sound =
-    let view = shown c.args.view.now in
+    let view = with_hidden content.sets.deletions c.args.view.now in
     let unplanned : view.sets.bounds ≡ None = sym c.bounds.ensures
     ∙ none_is c.bounds.result (sym c.if-is_some.ensures) in
     let lacking : LacksDefinition view.definitions (Some c.in-Some.refusal) =
     subst (λ (all : Definitions). LacksDefinition all (Some c.in-Some.refusal)) c.definitions.ensures
     c.in-Some.ensures in
-    subst (λ x. VerdictIs (create c.args.from c.args.to) x (Refused c.in-Some.refusal)) shows
+    subst (λ x. VerdictIs (create c.args.from c.args.to) x (Refused c.in-Some.refusal))
+    (seen_is c.args.view.now content shows)
     (lacks c.args.from c.args.to view unplanned c.in-Some.refusal lacking, refl)
 
 pub returns-then-are_bad_days : goal.returns-then-are_bad_days
 returns-then-are_bad_days c content shows sound =
-    let view = shown c.args.view.now in
+    let view = with_hidden content.sets.deletions c.args.view.now in
     let unplanned : view.sets.bounds ≡ None =
     sym c.bounds.ensures ∙ none_is c.bounds.result (sym c.if-is_some.ensures) in
     let defined : LacksDefinition view.definitions None =
     subst (λ (all : Definitions). LacksDefinition all None) c.definitions.ensures c.in_default.ensures in
-    subst (λ x. VerdictIs (create c.args.from c.args.to) x (Refused DatesOutOfRange)) shows
+    subst (λ x. VerdictIs (create c.args.from c.args.to) x (Refused DatesOutOfRange))
+    (seen_is c.args.view.now content shows)
     (bad_days c.args.from c.args.to view unplanned defined (c.are_bad_days.ensures.0 c.if-are_bad_days.true), refl)
 
 pub returns-in-Some-2 : goal.returns-in-Some-2
 returns-in-Some-2 c content shows sound =
-    let view = shown c.args.view.now in
+    let view = with_hidden content.sets.deletions c.args.view.now in
     let unplanned : view.sets.bounds ≡ None =
     sym c.bounds.ensures ∙ none_is c.bounds.result (sym c.if-is_some.ensures) in
     let defined : LacksDefinition view.definitions None =
@@ -59,13 +63,14 @@ returns-in-Some-2 c content shows sound =
     c.in_ok-links.ensures in
     let least : IsLeastOnLoop c.in_ok-links.links (Some c.in-Some-2.app) =
     subst (λ (o : Option (List ℕ)). IsLeastOnLoop c.in_ok-links.links o) c.in-Some-2.is c.in_ok-app.ensures in
-    subst (λ x. VerdictIs (create c.args.from c.args.to) x (Refused (Loop c.in-Some-2.app))) shows
+    subst (λ x. VerdictIs (create c.args.from c.args.to) x (Refused (Loop c.in-Some-2.app)))
+    (seen_is c.args.view.now content shows)
     (loops c.args.from c.args.to view unplanned defined good c.in_ok-links.links puts c.in-Some-2.app least, refl)
 
 pub returns : goal.returns
 returns c = weaker c.add_days.result _ _ (λ verdict adds content shows sound.
-    let view = shown c.args.view.now in
-    let sound_view : IsSound view = subst IsSound (sym shows) sound in
+    let view = with_hidden content.sets.deletions c.args.view.now in
+    let sound_view : IsSound view = subst IsSound (sym (seen_is c.args.view.now content shows)) sound in
     let unplanned : view.sets.bounds ≡ None =
     sym c.bounds.ensures ∙ none_is c.bounds.result (sym c.if-is_some.ensures) in
     let defined : LacksDefinition view.definitions None =
@@ -80,8 +85,10 @@ returns c = weaker c.add_days.result _ _ (λ verdict adds content shows sound.
     let b : ℕ → Bounds = λ m. record { first_day = c.args.from; last_day = c.args.to; plan_end = m } in
     let P : ℕ → Type 0 = λ m. ((new : List Draft) → AreDaysAdded view (b m) m new → KeepsRowsSound view (b m) new)
     → AddsDays view (b m) m c.in_ok-links.links verdict in
-    let added = subst P c.midnight-plan_end.ensures (adds sound_view)
+    let added = subst P c.midnight-plan_end.ensures (adds content.sets.deletions sound_view
+    (λ key late. shows_none_deleted c.args.view.now content shows key (sound.bounds.before
+    (subst (λ (x : Content). x.sets.bounds ≡ None) (seen_is c.args.view.now content shows) unplanned))))
     (keeps_sound c.args.from c.args.to view unplanned defined good c.in_ok-links.links puts sound_view none) in
-    subst (λ x. VerdictIs (create c.args.from c.args.to) x verdict) shows
+    subst (λ x. VerdictIs (create c.args.from c.args.to) x verdict) (seen_is c.args.view.now content shows)
     (verdict_is c.args.from c.args.to view unplanned defined good c.in_ok-links.links puts sound_view none verdict
     added)) c.add_days.ensures

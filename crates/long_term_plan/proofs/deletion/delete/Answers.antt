@@ -4,7 +4,8 @@ use Rattle.planner_machine.specs.Content.{Content}
 use Rattle.planner_machine.specs.Delete.{ltp_delete}
 use Rattle.planner_machine.specs.Sound.{IsSound}
 use Rattle.plan_store.specs.Verdicts.{VerdictIs}
-use Rattle.plan_store.specs.Views.{IsPlannedRow, shown}
+use Rattle.plan_store.specs.Views.{IsPlannedRow, shown, with_hidden}
+use Rattle.plan_store.proofs.WindowLemmas.{seen_is}
 use Rattle.long_term_plan.proofs.DeleteLemmas.{least_no_plan, least_no_row, no_row, verdict_is}
 use Rattle.long_term_plan.proofs.deletion.delete.Goals as goal
 
@@ -43,5 +44,7 @@ returns c = weaker c.delete_row.result _ _ (λ verdict done content shows sound.
     let some : (shown c.args.view.now).sets.bounds ≢ None =
     λ none. some_is c.bounds.result c.if-is_none.ensures (c.bounds.ensures ∙ none) in
     let P : Content → Type 0 = λ x. IsSound x → VerdictIs (ltp_delete c.args.key.now) x verdict in
-    subst P shows (λ is. verdict_is (shown c.args.view.now) is c.args.key.now c.in-Some.row some c.in-Some.ensures.0
-    c.in-Some.ensures.1 verdict (done is c.in-Some.ensures.0)) sound) c.delete_row.ensures
+    let h = content.sets.deletions in
+    subst P (seen_is c.args.view.now content shows) (λ is.
+    verdict_is (with_hidden h c.args.view.now) is c.args.key.now c.in-Some.row some c.in-Some.ensures.0
+    c.in-Some.ensures.1 verdict (done h is c.in-Some.ensures.0)) sound) c.delete_row.ensures

@@ -2,13 +2,13 @@ use Rattle.std.proofs.Common.{refl}
 use Rattle.planner_machine.specs.Delete.{delete_move}
 use Rattle.planner_machine.specs.Moves.{each}
 use Rattle.planner_machine.proofs.SoundLemmas.{rows_sound}
-use Rattle.plan_store.specs.Views.{shown}
+use Rattle.plan_store.specs.Views.{with_hidden}
 use Rattle.long_term_plan.proofs.DeleteLemmas.{deletion_loses}
 use Rattle.long_term_plan.proofs.deletion.delete_row.Goals as goal
 
 pub returns : goal.returns
-returns c sound stands =
-    let content = shown c.args.view.now in
+returns c h sound stands =
+    let content = with_hidden h c.args.view.now in
     let s = each (delete_move c.args.row.now.key) content.sets in
     let loses = deletion_loses content.sets (rows_sound content sound) c.args.row.now stands in (
       record {
@@ -29,8 +29,8 @@ returns c sound stands =
         issued = refl;
         in_force = refl;
         job = refl;
-        pairs = (c.in_ok-pairs.ensures sound s loses).0;
-        leads = (c.in_ok-pairs.ensures sound s loses).1;
+        pairs = (c.in_ok-pairs.ensures h sound s loses).0;
+        leads = (c.in_ok-pairs.ensures h sound s loses).1;
       },
       refl,
     )

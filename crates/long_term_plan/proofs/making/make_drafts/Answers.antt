@@ -7,7 +7,7 @@ use Rattle.occurrences.specs.declared.row.Row.{Row}
 use Rattle.planner_machine.specs.Pairs.{ArePairs}
 use Rattle.planner_machine.proofs.SoundLemmas.{rows_sound}
 use Rattle.plan_store.specs.Changes.{LeadsOn, pairs_after}
-use Rattle.plan_store.specs.Views.{shown}
+use Rattle.plan_store.specs.Views.{with_hidden}
 use Rattle.plan_pairs.specs.LiveRows.{HasLists}
 use Rattle.plan_pairs.specs.Turns.{IsTouchOf, IsTurn}
 use Rattle.plan_pairs.proofs.GatheredLemmas.{live_hold}
@@ -17,8 +17,8 @@ use Rattle.long_term_plan.proofs.TurnedLemmas.{rows_made}
 use Rattle.long_term_plan.proofs.making.make_drafts.Goals as goal
 
 pub returns : goal.returns
-returns c sound keeps =
-    let content = shown c.args.view.now in
+returns c h sound keeps =
+    let content = with_hidden h c.args.view.now in
     let b = c.args.bounds.now in
     let links = c.args.links in
     let new = c.args.new.items in

@@ -2,18 +2,18 @@ use Rattle.std.proofs.Common.{◌≡◌, ◌+◌, ◌∙◌, Some, ap, length, m
 use Rattle.occurrences.specs.declared.reply.Reply.TheVariants.{Made}
 use Rattle.planner_machine.specs.Modify.{withdrawn}
 use Rattle.planner_machine.proofs.SoundLemmas.{rows_sound}
-use Rattle.plan_store.specs.Views.{shown}
+use Rattle.plan_store.specs.Views.{with_hidden}
 use Rattle.long_term_plan.proofs.ChangedLemmas.{modifying_is}
 use Rattle.long_term_plan.proofs.ModifyingLemmas.{count_gone}
 use Rattle.long_term_plan.proofs.NumberLemmas.{numbered_length}
 use Rattle.long_term_plan.proofs.modification.change_rows.Goals as goal
 
 pub returns : goal.returns
-returns c sound only named new modifying pairs leads =
+returns c h sound only named new modifying pairs leads =
     let planned = modifying.planned in
     let parts = modifying.parts in
     let put = modifying.come in
-    let content = shown c.args.view.now in
+    let content = with_hidden h c.args.view.now in
     let links = c.args.links in
     let gone = c.args.gone.items in
     let changed = c.args.changed.items in

@@ -11,7 +11,7 @@ use Rattle.planner_machine.specs.Drafts.{AreDrafts, IsMade}
 use Rattle.planner_machine.specs.Moves.{size}
 use Rattle.planner_machine.specs.Plans.{HoldTooMany}
 use Rattle.planner_machine.proofs.SoundLemmas.{rows_sound}
-use Rattle.plan_store.specs.Views.{shown}
+use Rattle.plan_store.specs.Views.{with_hidden}
 use Rattle.plan_store.specs.declared.changes.Verdict.{Verdict}
 use Rattle.plan_store.specs.declared.changes.Verdict.TheVariants.{Done, Refused}
 use Rattle.plan_pairs.specs.LiveRows.{HasLists}
@@ -21,7 +21,7 @@ use Rattle.long_term_plan.specs.Making.{numbered}
 use Rattle.long_term_plan.specs.Modifying.{AreChanged, IsModifiedOrTooMany, ModifiesRows, NamesThen, PartsPlan}
 use Rattle.long_term_plan.specs.Modifying.{modified_sets, outcome}
 use Rattle.long_term_plan.proofs.ChangedLemmas.{lists_then}
-use Rattle.long_term_plan.proofs.DraftingLemmas.{new_are}
+use Rattle.long_term_plan.proofs.DraftingLemmas.{named_late, new_are}
 use Rattle.long_term_plan.proofs.ModifyPlanLemmas.{named_then, stays_sound, too_many}
 use Rattle.long_term_plan.proofs.NumberLemmas.{numbered_length}
 use Rattle.long_term_plan.proofs.PartingLemmas.{counts}
@@ -47,8 +47,8 @@ change_rows-requires c =
     omega (arith, few, count)
 
 pub returns-then-are_too_many : goal.returns-then-are_too_many
-returns-then-are_too_many c sound planned =
-    let content = shown c.args.view.now in
+returns-then-are_too_many c h sound planned deleted =
+    let content = with_hidden h c.args.view.now in
     let only = c.args.only.now in
     let rows = c.ltp-rows.result.now in
     let looked = c.looked_rows-looked.result.now in
@@ -63,15 +63,18 @@ returns-then-are_too_many c sound planned =
     c.last_planned-last.result c.last_planned-last.ensures.same named named c.in_ok-named.ensures refl in
     let are_new : AreDrafts (IsMade (NamesThen content only) content.sets) new =
     new_are (NamesThen content only) content.sets named new are_named
-    (subst (λ (ds : List Draft). AreNew content.sets ds new) c.deref.ensures.value c.in_ok-new.ensures) in
+    (subst (λ (ds : List Draft). AreNew content.sets ds new) c.deref.ensures.value
+    (c.in_ok-new.ensures h (λ draft there. deleted draft.key (named_late content sound c.definitions-all.result.now
+    c.definitions-all.ensures c.as_slice.result.now c.args.bounds.now.plan_end _ named c.deref.result.now
+    c.in_ok-named.ensures c.deref.ensures.value draft there)))) in
     let go : gone ≡ filter (λ (r : Row). is_none (outcome only named r)) rows =
     subst (λ (ds : List Draft). AreInOrder ds → gone ≡ filter (λ (r : Row). is_none (outcome only ds r)) looked)
     c.deref-2.ensures.value c.in_ok-gone.ensures are_named.rising
     ∙ gone_same content.sets only named rows c.ltp-rows.ensures.rows looked c.looked_rows-looked.ensures in
     let counted : length kept + length c.deref-4.result.now ≡ size content.sets.ltp content.sets.issued =
     ap (λ (l : List Row). length kept + length l) (c.deref-4.ensures.value ∙ go) ∙ counts (outcome only named) rows
-    ∙ c.ltp-rows.ensures.count sound.serials in
-    let tested = c.are_too_many.ensures.too_many sound (length kept) counted in
+    ∙ c.ltp-rows.ensures.count h sound.serials in
+    let tested = c.are_too_many.ensures.too_many h sound (length kept) counted in
     let many = too_many content sound only named new rows c.ltp-rows.ensures.rows kept refl (length kept)
     (length c.deref-5.result.now) refl (ap length c.deref-5.ensures.value) in
     record {
@@ -89,8 +92,8 @@ done c links only named new (Done change reply) few made = (few, made)
 done c links only named new (Refused refusal) few made = absurd made
 
 pub returns : goal.returns
-returns c = weaker c.change_rows.result _ _ (λ verdict made sound planned.
-    let content = shown c.args.view.now in
+returns c = weaker c.change_rows.result _ _ (λ verdict made h sound planned deleted.
+    let content = with_hidden h c.args.view.now in
     let only = c.args.only.now in
     let rows = c.ltp-rows.result.now in
     let looked = c.looked_rows-looked.result.now in
@@ -105,15 +108,18 @@ returns c = weaker c.change_rows.result _ _ (λ verdict made sound planned.
     c.last_planned-last.result c.last_planned-last.ensures.same named named c.in_ok-named.ensures refl in
     let are_new : AreDrafts (IsMade (NamesThen content only) content.sets) new =
     new_are (NamesThen content only) content.sets named new are_named
-    (subst (λ (ds : List Draft). AreNew content.sets ds new) c.deref.ensures.value c.in_ok-new.ensures) in
+    (subst (λ (ds : List Draft). AreNew content.sets ds new) c.deref.ensures.value
+    (c.in_ok-new.ensures h (λ draft there. deleted draft.key (named_late content sound c.definitions-all.result.now
+    c.definitions-all.ensures c.as_slice.result.now c.args.bounds.now.plan_end _ named c.deref.result.now
+    c.in_ok-named.ensures c.deref.ensures.value draft there)))) in
     let go : gone ≡ filter (λ (r : Row). is_none (outcome only named r)) rows =
     subst (λ (ds : List Draft). AreInOrder ds → gone ≡ filter (λ (r : Row). is_none (outcome only ds r)) looked)
     c.deref-2.ensures.value c.in_ok-gone.ensures are_named.rising
     ∙ gone_same content.sets only named rows c.ltp-rows.ensures.rows looked c.looked_rows-looked.ensures in
     let counted : length kept + length c.deref-4.result.now ≡ size content.sets.ltp content.sets.issued =
     ap (λ (l : List Row). length kept + length l) (c.deref-4.ensures.value ∙ go) ∙ counts (outcome only named) rows
-    ∙ c.ltp-rows.ensures.count sound.serials in
-    let tested = c.are_too_many.ensures.too_many sound (length kept) counted in
+    ∙ c.ltp-rows.ensures.count h sound.serials in
+    let tested = c.are_too_many.ensures.too_many h sound (length kept) counted in
     let many = too_many content sound only named new rows c.ltp-rows.ensures.rows kept refl (length kept)
     (length c.deref-5.result.now) refl (ap length c.deref-5.ensures.value) in
     let change : AreChanged (outcome only named) rows changed =
@@ -138,7 +144,7 @@ returns c = weaker c.change_rows.result _ _ (λ verdict made sound planned.
     (subst (λ (l : List Row). ArePlanned rows kept gone l) (sym (c.deref-8.ensures.value ∙ put))
     (modifying_planned content.sets (rows_sound content sound) rows c.ltp-rows.ensures.rows only named kept gone changed
     parts.parts new)) in
-    let led = c.in_ok-pairs.ensures are_named.rising c.ltp-rows.ensures.rows sound s plan
+    let led = c.in_ok-pairs.ensures are_named.rising c.ltp-rows.ensures.rows h sound s plan
     (λ cp cp_are history history_are. subst (λ (l : List Row). HasLists s (kept ++ l) cp history)
     (sym (c.deref-8.ensures.value ∙ put)) (lists cp cp_are history history_are)) in
     record {
@@ -148,5 +154,5 @@ returns c = weaker c.change_rows.result _ _ (λ verdict made sound planned.
       are_new = are_new;
       outcome = done content c.args.links only named new verdict
           (λ over. false≢true (sym c.if-are_too_many.false ∙ tested.1 (many.1 over)))
-          (made sound only named new (record { planned = kept; parts = parts; come = put }) led.0 led.1);
+          (made h sound only named new (record { planned = kept; parts = parts; come = put }) led.0 led.1);
     }) c.change_rows.ensures

@@ -9,7 +9,7 @@ use Rattle.planner_machine.specs.declared.content.Draft.{Draft}
 use Rattle.planner_machine.specs.Pairs.{ArePairs}
 use Rattle.plan_store.specs.Changes.{LeadsOn, pairs_after}
 use Rattle.keyed_lists.specs.Rows.{of_row}
-use Rattle.plan_store.specs.Views.{IsAny, ListsSet, shown}
+use Rattle.plan_store.specs.Views.{IsAny, ListsSet, with_hidden}
 use Rattle.plan_pairs.specs.ByApplications.{HasReached}
 use Rattle.plan_pairs.specs.LiveRows.{HasLists}
 use Rattle.plan_pairs.specs.Turns.{IsTouchOf, IsTurn}
@@ -27,8 +27,8 @@ weaker (Ok a) P Q f is = f a is
 weaker (Err e) P Q f is = tt
 
 pub returns : goal.returns
-returns c order lists = weaker c.pair_change.result _ _ (λ change led sound s plan have.
-    let content = shown c.args.view.now in
+returns c order lists = weaker c.pair_change.result _ _ (λ change led h sound s plan have.
+    let content = with_hidden h c.args.view.now in
     let rows = c.args.rows.now in
     let only = c.args.only.now in
     let named = c.args.named.items in

@@ -5,7 +5,8 @@ use Rattle.planner_machine.specs.Add.{add as decided}
 use Rattle.planner_machine.specs.Content.{Content}
 use Rattle.planner_machine.specs.Sound.{IsSound}
 use Rattle.plan_store.specs.Verdicts.{VerdictIs}
-use Rattle.plan_store.specs.Views.{shown}
+use Rattle.plan_store.specs.Views.{with_hidden}
+use Rattle.plan_store.proofs.WindowLemmas.{seen_is}
 use Rattle.plan_pairs.specs.Additions.{IsNewRow, place_in}
 use Rattle.plan_pairs.proofs.AdditionLemmas.{verdict_is}
 use Rattle.plan_pairs.proofs.additions.add.Goals as goal
@@ -17,13 +18,15 @@ weaker (Err e) P Q f is = tt
 pub returns-in-Ok : goal.returns-in-Ok
 returns-in-Ok c = weaker c.add_row.result _ _ (λ verdict done content shows sound.
     let P : Content → Type 0 = λ x. IsSound x → VerdictIs (decided (place_in c.args.plan) c.args.key.now) x verdict in
-    subst P shows (λ is.
-    let new = c.in-Ok.ensures is in
-    subst (λ (k : Key). VerdictIs (decided (place_in c.args.plan) k) (shown c.args.view.now) verdict) new.1
-    (verdict_is (shown c.args.view.now) is c.args.plan c.in-Ok.row new.0 verdict (done is new.0))) sound)
+    let h = content.sets.deletions in
+    let seen = with_hidden h c.args.view.now in
+    subst P (seen_is c.args.view.now content shows) (λ is.
+    let new = c.in-Ok.ensures h is in
+    subst (λ (k : Key). VerdictIs (decided (place_in c.args.plan) k) seen verdict) new.1
+    (verdict_is seen is c.args.plan c.in-Ok.row new.0 verdict (done h is new.0))) sound)
     c.add_row.ensures
 
 pub returns-in-Err : goal.returns-in-Err
 returns-in-Err c content shows sound =
     let P : Content → Type 0 = λ x. IsSound x → IsNewRow x c.args.plan c.args.key.now (Err c.in-Err.refusal) in
-    (subst P shows c.in-Err.ensures sound, refl)
+    (subst P (seen_is c.args.view.now content shows) (c.in-Err.ensures content.sets.deletions) sound, refl)

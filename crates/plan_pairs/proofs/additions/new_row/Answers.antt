@@ -7,7 +7,7 @@ use Rattle.app_definitions.specs.declared.definitions.Definitions.{Definitions}
 use Rattle.occurrences.specs.declared.row.Origin.TheVariants.{Added}
 use Rattle.occurrences.specs.declared.row.Row.{Row}
 use Rattle.planner_machine.specs.Plans.{IsPlannedApp}
-use Rattle.plan_store.specs.Views.{IsLiveRow, shown}
+use Rattle.plan_store.specs.Views.{IsLiveRow, with_hidden}
 use Rattle.plan_pairs.specs.Additions.{IsNewRow}
 use Rattle.plan_pairs.proofs.AdditionLemmas.{due_is, new_row, new_too_many}
 use Rattle.plan_pairs.proofs.additions.new_row.Goals as goal
@@ -21,8 +21,8 @@ there_is P None is has = cc
 there_is P (Some x) is has = (x, has)
 
 pub returns-in_default-new_serial : goal.returns-in_default-new_serial
-returns-in_default-new_serial c sound =
-    let content = shown c.args.view.now in
+returns-in_default-new_serial c h sound =
+    let content = with_hidden h c.args.view.now in
     let key = c.args.key.now in
     let bounded : content.sets.bounds ≡ Some c.in-Some.bounds = sym c.bounds.ensures ∙ c.in-Some.is in
     let has : is_some c.active.result ≡ true = c.if-is_none.ensures in
@@ -30,15 +30,15 @@ returns-in_default-new_serial c sound =
     subst (λ (all : Definitions). IsPlannedApp all key.app) c.definitions.ensures
     (there_is (IsActive c.definitions.result.now key.app) c.active.result has c.active.ensures.found) in
     let none = none_is c.live_row.result (sym c.is_some.ensures ∙ c.if-is_some.false) in
-    let free = subst (IsLiveRow content.sets key) none (c.live_row.ensures sound.serials) in
+    let free = subst (IsLiveRow content.sets key) none (c.live_row.ensures h sound.serials) in
     new_too_many content sound c.args.plan key c.in-Some.bounds bounded
     (λ out. false≢true (sym c.if-is_outside.false ∙ c.is_outside.ensures.1 out)) active
     (λ (serial, p, stands, live, keyed). free serial p stands live keyed)
-    (c.in_default-new_serial.ensures sound.serials)
+    (c.in_default-new_serial.ensures h sound.serials)
 
 pub returns : goal.returns
-returns c sound =
-    let content = shown c.args.view.now in
+returns c h sound =
+    let content = with_hidden h c.args.view.now in
     let key = c.args.key.now in
     let bounded : content.sets.bounds ≡ Some c.in-Some.bounds = sym c.bounds.ensures ∙ c.in-Some.is in
     let has : is_some c.active.result ≡ true = c.if-is_none.ensures in
@@ -46,8 +46,8 @@ returns c sound =
     subst (λ (all : Definitions). IsPlannedApp all key.app) c.definitions.ensures
     (there_is (IsActive c.definitions.result.now key.app) c.active.result has c.active.ensures.found) in
     let none = none_is c.live_row.result (sym c.is_some.ensures ∙ c.if-is_some.false) in
-    let free = subst (IsLiveRow content.sets key) none (c.live_row.ensures sound.serials) in
-    let (room, serial) = c.in-Some-new_serial.ensures sound.serials in
+    let free = subst (IsLiveRow content.sets key) none (c.live_row.ensures h sound.serials) in
+    let (room, serial) = c.in-Some-new_serial.ensures h sound.serials in
     let made = new_row content sound c.args.plan key c.in-Some.bounds bounded
     (λ out. false≢true (sym c.if-is_outside.false ∙ c.is_outside.ensures.1 out)) active
     (λ (n, p, stands, live, keyed). free n p stands live keyed) room in

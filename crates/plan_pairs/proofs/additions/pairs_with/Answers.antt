@@ -7,7 +7,7 @@ use Rattle.external_dependencies.specs.Touch.{Touches}
 use Rattle.external_dependencies.specs.declared.links.Link.{Link}
 use Rattle.planner_machine.specs.Drafts.{added}
 use Rattle.planner_machine.specs.Moves.{with_made}
-use Rattle.plan_store.specs.Views.{shown}
+use Rattle.plan_store.specs.Views.{with_hidden}
 use Rattle.plan_pairs.specs.Additions.{place_in}
 use Rattle.plan_pairs.specs.LiveRows.{AreLiveRows}
 use Rattle.plan_pairs.proofs.AdditionLemmas.{addable_live}
@@ -21,8 +21,8 @@ weaker (Ok a) P Q f is = f a is
 weaker (Err e) P Q f is = tt
 
 pub returns : goal.returns
-returns c = weaker c.resolve_touched.result _ _ (λ change leads sound able.
-    let content = shown c.args.view.now in
+returns c = weaker c.resolve_touched.result _ _ (λ change leads h sound able.
+    let content = with_hidden h c.args.view.now in
     let plan = c.args.plan in
     let row = c.args.row.now in
     let last = c.next_arrival-last.result in
@@ -34,13 +34,13 @@ returns c = weaker c.resolve_touched.result _ _ (λ change leads sound able.
     let links = c.in_force.result.now in
     let are : AreLiveRows s now = addable_live content sound plan row able before were in
     let border = addition_borders content sound plan row able before were last
-    (c.next_arrival-last.ensures sound.serials) in
+    (c.next_arrival-last.ensures h sound.serials) in
     let touches : Touches touch before now content.in_force links = subst (Touches touch before now content.in_force)
     (sym c.in_force.ensures) (addition_touches content sound plan row able before were touch last
     c.in_ok-touch.ensures border) in
     let settled = are_settled content.sets before were content.in_force content.pairs sound.pairs.settled in
     let held = addition_holds content sound plan row able before were last touch c.in_ok-touch.ensures rows
-    (c.in_ok-rows.ensures sound.serials) in
+    (c.in_ok-rows.ensures h sound.serials) in
     let holds : HoldsReached touch links now content.pairs rows c.pairs.result.now =
     subst (λ (ls : List Link). HoldsReached touch ls now content.pairs rows c.pairs.result.now) (sym c.in_force.ensures)
     (subst (HoldsReached touch content.in_force now content.pairs rows) (sym c.pairs.ensures) held) in

@@ -1,12 +1,12 @@
 use Rattle.keyed_lists.specs.Rows.{of_current, of_row}
-use Rattle.plan_store.specs.Views.{shown}
+use Rattle.plan_store.specs.Views.{with_hidden}
 use Rattle.plan_pairs.proofs.GatherLemmas.{between_adds, between_holds, has_between}
 use Rattle.plan_pairs.proofs.SpanLemmas.{one_app}
 use Rattle.plan_pairs.proofs.gathering.push_between.Goals as goal
 
 pub returns : goal.returns
-returns c numbered =
-    let s = (shown c.args.view.now).sets in
+returns c h numbered =
+    let s = (with_hidden h c.args.view.now).sets in
     let app = c.args.app.now in
     let first = c.args.first in
     let last = c.args.last.now in

@@ -4,7 +4,7 @@ use Rattle.std.proofs.lemmas.Bool.{false≢true}
 use Rattle.std.proofs.lemmas.List.{take_all, take_more}
 use Rattle.occurrences.specs.Place.{IsOpen}
 use Rattle.external_dependencies.specs.declared.rows.PlacedRow.{PlacedRow}
-use Rattle.plan_store.specs.Views.{shown}
+use Rattle.plan_store.specs.Views.{with_hidden}
 use Rattle.plan_pairs.specs.Gathering.{AddsLive, HoldsList}
 use Rattle.plan_pairs.proofs.GatherLemmas.{adds_none, adds_on, each_more, list_more}
 use Rattle.plan_pairs.proofs.ListLemmas.{none}
@@ -12,19 +12,19 @@ use Rattle.plan_pairs.proofs.gathering.push_lists.Goals as goal
 use Rattle.plan_pairs.proofs.gathering.push_lists.Goals.{then-is_open+in_ok-push_list, else-is_open}
 
 pub loop-placed-init : goal.loop-placed-init
-loop-placed-init c numbered =
-    (adds_none (shown c.args.view.now).sets c.args.rows.now.items, λ p there. absurd (none p there))
+loop-placed-init c h numbered =
+    (adds_none (with_hidden h c.args.view.now).sets c.args.rows.now.items, λ p there. absurd (none p there))
 
 -- one more row
 pub loop-placed-preserved : goal.loop-placed-preserved
-loop-placed-preserved c numbered =
-    let content = shown c.args.view.now in
+loop-placed-preserved c h numbered =
+    let content = with_hidden h c.args.view.now in
     let reached = c.args.reached.now in
     let placed = c.placed-item.result in
     let index = c.loop-placed.placed-index in
     let first = c.args.rows.now.items in
     let old = c.loop-placed.rows.items in
-    let so_far = c.loop-placed.invariant numbered in
+    let so_far = c.loop-placed.invariant h numbered in
     let front : take (index + 1) reached ≡ take index reached ++ placed ∷ [] =
     take_more reached index placed c.loop-placed-test.true
     ∙ ap (λ x. take index reached ++ x ∷ []) (sym c.placed-item.is) in
@@ -32,7 +32,7 @@ loop-placed-preserved c numbered =
     → Contains (take index reached ++ placed ∷ []) p → IsOpen p.place
     → HoldsList content c.if-is_open.rows.items p.row) = elim c.if-is_open.branch [
       | then-is_open+in_ok-push_list w ↦
-          let step = w.in_ok-push_list.ensures numbered in
+          let step = w.in_ok-push_list.ensures h numbered in
           let new = w.push_list.new.rows.items in
           rw w.rows-is (
             adds_on content.sets first old new so_far.0 step.0,
@@ -53,9 +53,9 @@ loop-placed-preserved c numbered =
 
 -- all rows
 pub returns : goal.returns
-returns c numbered =
-    let content = shown c.args.view.now in
-    let so_far = c.loop-placed.invariant numbered in (
+returns c h numbered =
+    let content = with_hidden h c.args.view.now in
+    let so_far = c.loop-placed.invariant h numbered in (
       so_far.0,
       subst (λ (ps : List PlacedRow). (p : PlacedRow) → Contains ps p → IsOpen p.place
           → HoldsList content c.loop-placed.rows.items p.row)

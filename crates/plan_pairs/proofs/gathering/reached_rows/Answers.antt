@@ -3,22 +3,22 @@ use Rattle.std.specs.List.{Contains}
 use Rattle.std.proofs.lemmas.List.{take_all, take_more}
 use Rattle.external_dependencies.specs.declared.links.Link.{Link}
 use Rattle.external_dependencies.specs.declared.rows.PlacedRow.{PlacedRow}
-use Rattle.plan_store.specs.Views.{shown}
+use Rattle.plan_store.specs.Views.{with_hidden}
 use Rattle.plan_pairs.specs.Gathering.{IsOpenBetween}
 use Rattle.plan_pairs.proofs.GatherLemmas.{by_naming, each_more, live_on}
 use Rattle.plan_pairs.proofs.ListLemmas.{none}
 use Rattle.plan_pairs.proofs.gathering.reached_rows.Goals as goal
 
 pub loop-link-init : goal.loop-link-init
-loop-link-init c numbered = (
+loop-link-init c h numbered = (
   λ p there. absurd (none p (subst (λ (ps : List PlacedRow). Contains ps p) c.new-rows.ensures.items there)),
   λ link there. absurd (none link there),
 )
 
 -- one more link
 pub loop-link-preserved : goal.loop-link-preserved
-loop-link-preserved c numbered =
-    let s = (shown c.args.view.now).sets in
+loop-link-preserved c h numbered =
+    let s = (with_hidden h c.args.view.now).sets in
     let list = c.as_slice-link-items.result.now in
     let link = c.link-item.result in
     let index = c.loop-link.link-index in
@@ -26,8 +26,8 @@ loop-link-preserved c numbered =
     let new = c.push_between.new.rows.items in
     let first = c.args.row.now.key.ia in
     let last = c.args.last.now in
-    let so_far = c.loop-link.invariant numbered in
-    let (adds, holds) = c.in_ok-push_between.ensures numbered in
+    let so_far = c.loop-link.invariant h numbered in
+    let (adds, holds) = c.in_ok-push_between.ensures h numbered in
     let front : take (index + 1) list ≡ take index list ++ link ∷ [] = take_more list index link c.loop-link-test.true
     ∙ ap (λ x. take index list ++ x ∷ []) (sym c.link-item.is) in (
       live_on s old new adds so_far.0,
@@ -40,13 +40,13 @@ loop-link-preserved c numbered =
 
 -- all links
 pub returns : goal.returns
-returns c numbered =
-    let content = shown c.args.view.now in
+returns c h numbered =
+    let content = with_hidden h c.args.view.now in
     let row = c.args.row.now in
     let last = c.args.last.now in
     let list = c.as_slice-link-items.result.now in
     let rows = c.loop-link.rows.items in
-    let so_far = c.loop-link.invariant numbered in
+    let so_far = c.loop-link.invariant h numbered in
     let all = subst (λ (ls : List Link). (l : Link) → Contains ls l → (p : PlacedRow)
     → IsOpenBetween content.sets l.app row.key.ia last p → Contains rows p)
     (take_all c.loop-link.link-index list (omega arith)) so_far.1 in

@@ -2,13 +2,13 @@ use Rattle.std.proofs.Common.{◌+◌, ◌≤◌}
 use Rattle.occurrences.specs.declared.place.CurrentRow.{CurrentRow}
 use Rattle.occurrences.specs.declared.row.Row.{Row}
 use Rattle.keyed_lists.specs.Rows.{of_current, of_row}
-use Rattle.plan_store.specs.Views.{shown}
+use Rattle.plan_store.specs.Views.{with_hidden}
 use Rattle.plan_pairs.proofs.SpanLemmas.{next_is, one_app, one_part}
 use Rattle.plan_pairs.proofs.spans.next_arrival.Goals as goal
 
 pub returns : goal.returns
-returns c numbered =
-    let s = (shown c.args.view.now).sets in
+returns c h numbered =
+    let s = (with_hidden h c.args.view.now).sets in
     let app = c.args.app.now in
     let moment = c.args.moment in
     let ltp = c.ltp_of.result.now in

@@ -6,7 +6,7 @@ use Rattle.external_dependencies.specs.Settled.{IsSettledPair}
 use Rattle.external_dependencies.specs.Touch.{Touches}
 use Rattle.external_dependencies.specs.declared.links.Link.{Link}
 use Rattle.external_dependencies.specs.declared.rows.PlacedRow.{PlacedRow}
-use Rattle.plan_store.specs.Views.{shown}
+use Rattle.plan_store.specs.Views.{with_hidden}
 use Rattle.plan_pairs.proofs.LiveLemmas.{live_rows}
 use Rattle.plan_pairs.proofs.ReachLemmas.{withdrawal_borders, withdrawal_holds}
 use Rattle.plan_pairs.proofs.TouchLemmas.{are_settled, led_on, pairs_led}
@@ -18,8 +18,8 @@ weaker (Ok a) P Q f is = f a is
 weaker (Err e) P Q f is = tt
 
 pub returns : goal.returns
-returns c = weaker c.resolve_touched.result _ _ (λ change leads sound s loses.
-    let content = shown c.args.view.now in
+returns c = weaker c.resolve_touched.result _ _ (λ change leads h sound s loses.
+    let content = with_hidden h c.args.view.now in
     let row = c.args.row.now in
     let last = c.next_arrival-last.result in
     let (before, were) = live_rows content.sets sound.serials in
@@ -29,13 +29,13 @@ returns c = weaker c.resolve_touched.result _ _ (λ change leads sound s loses.
     let links = c.in_force.result.now in
     let are = live_without content.sets s row loses before were in
     let border = withdrawal_borders content sound s row loses before were last
-    (c.next_arrival-last.ensures sound.serials) in
+    (c.next_arrival-last.ensures h sound.serials) in
     let touches : Touches touch before now content.in_force links = subst (Touches touch before now content.in_force)
     (sym c.in_force.ensures) (withdrawal_touches content.sets s row loses before were content.in_force touch last
     c.in_ok-touch.ensures border) in
     let settled = are_settled content.sets before were content.in_force content.pairs sound.pairs.settled in
     let held = withdrawal_holds content sound s row loses before were last touch c.in_ok-touch.ensures rows
-    (c.in_ok-rows.ensures sound.serials) in
+    (c.in_ok-rows.ensures h sound.serials) in
     let holds : HoldsReached touch links now content.pairs rows c.pairs.result.now =
     subst (λ (ls : List Link). HoldsReached touch ls now content.pairs rows c.pairs.result.now) (sym c.in_force.ensures)
     (subst (HoldsReached touch content.in_force now content.pairs rows) (sym c.pairs.ensures) held) in

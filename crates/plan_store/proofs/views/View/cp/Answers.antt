@@ -1,5 +1,5 @@
 use Rattle.std.proofs.Common.{refl}
-use Rattle.plan_store.specs.Views.{shown}
+use Rattle.plan_store.specs.Views.{with_hidden}
 use Rattle.keyed_lists.specs.Rows.{of_current}
 use Rattle.plan_store.proofs.ViewLemmas.{lists_all, once_from_rows, size_listed, within_cp}
 use Rattle.plan_store.proofs.views.View.cp.Goals as goal
@@ -10,8 +10,8 @@ returns-clause-rows c =
     lists_all of_current view.cp.now view.cp_rows
 
 pub returns-clause-count : goal.returns-clause-count
-returns-clause-count c numbered =
+returns-clause-count c hidden numbered =
     let view = c.args.self.now in
     let rows = view.cp.now in
     size_listed of_current view.content.now.issued rows (once_from_rows of_current rows view.cp_rows)
-    (within_cp (shown view).sets numbered rows view.cp_rows (λ serial. refl))
+    (within_cp (with_hidden hidden view).sets numbered rows view.cp_rows (λ serial. refl))

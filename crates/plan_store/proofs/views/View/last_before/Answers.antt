@@ -1,14 +1,14 @@
 use Rattle.std.proofs.Common.{◌⊎◌, refl}
 use Rattle.keyed_lists.specs.Rows.{of_current, of_row}
 use Rattle.plan_store.specs.Arrivals.{IsGreatestOf, arrives, arrives_live}
-use Rattle.plan_store.specs.Views.{shown}
+use Rattle.plan_store.specs.Views.{with_hidden}
 use Rattle.plan_store.proofs.ArrivalLemmas.{greatest_later, last_is, part_of}
 use Rattle.plan_store.proofs.views.View.last_before.Goals as goal
 
 pub returns : goal.returns
-returns c numbered =
+returns c hidden numbered =
     let view = c.args.self.now in
-    let s = (shown view).sets in
+    let s = (with_hidden hidden view).sets in
     let app = c.args.app.now in
     let minute = c.args.minute in
     let ltp_part = c.before-2.result.now in

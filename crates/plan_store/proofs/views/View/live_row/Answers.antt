@@ -1,26 +1,26 @@
 use Rattle.occurrences.specs.declared.row.Row.{Row}
-use Rattle.plan_store.specs.Views.{shown}
+use Rattle.plan_store.specs.Views.{with_hidden}
 use Rattle.plan_store.proofs.LookLemmas.{look_has, look_some}
 use Rattle.plan_store.proofs.PlaceLemmas.{live_none, stands_cp, stands_history, stands_ltp}
 use Rattle.plan_store.proofs.views.View.live_row.Goals as goal
 
 pub returns-in-Some : goal.returns-in-Some
-returns-in-Some c numbered =
-    let s = (shown c.args.self.now).sets in
+returns-in-Some c hidden numbered =
+    let s = (with_hidden hidden c.args.self.now).sets in
     let is = c.in-Some.ensures in
     (stands_ltp s numbered c.in-Some.row.serial c.in-Some.row is.0, tt, is.1)
 
 pub returns-in-Some-cp_row : goal.returns-in-Some-cp_row
-returns-in-Some-cp_row c numbered =
-    let s = (shown c.args.self.now).sets in
+returns-in-Some-cp_row c hidden numbered =
+    let s = (with_hidden hidden c.args.self.now).sets in
     let current = c.in-Some-cp_row.current in
     let is = c.in-Some-cp_row.ensures in
     (stands_cp s numbered current.row.serial current is.0, is.2, is.1)
 
 pub returns-in_err-row : goal.returns-in_err-row
-returns-in_err-row c numbered =
+returns-in_err-row c hidden numbered =
     let view = c.args.self.now in
-    let s = (shown view).sets in
+    let s = (with_hidden hidden view).sets in
     let of_key = c.of_key.ensures.all in
     rw c.from_residual.ensures (live_none s c.args.key.now c.in_default.ensures c.in_default-cp_row.ensures
     (λ serial row stands keyed. c.in_err-row.ensures row
@@ -28,9 +28,9 @@ returns-in_err-row c numbered =
     ((look_some (λ (r : Row). r.serial) view.history.now serial row stands).0, keyed))))
 
 pub returns : goal.returns
-returns c numbered =
+returns c hidden numbered =
     let view = c.args.self.now in
-    let s = (shown view).sets in
+    let s = (with_hidden hidden view).sets in
     let row = c.in_ok-row.row in
     let of_key = c.of_key.ensures.all in
     let both = (of_key view.history_rows.keyed row).0 c.in_ok-row.ensures in (

@@ -1,5 +1,5 @@
 use Rattle.std.proofs.Common.{refl}
-use Rattle.plan_store.specs.Views.{shown}
+use Rattle.plan_store.specs.Views.{with_hidden}
 use Rattle.keyed_lists.specs.Rows.{of_row}
 use Rattle.plan_store.proofs.ViewLemmas.{lists_all, once_from_rows, size_listed, within_ltp}
 use Rattle.plan_store.proofs.views.View.ltp.Goals as goal
@@ -10,8 +10,8 @@ returns-clause-rows c =
     lists_all of_row view.ltp.now view.ltp_rows
 
 pub returns-clause-count : goal.returns-clause-count
-returns-clause-count c numbered =
+returns-clause-count c hidden numbered =
     let view = c.args.self.now in
     let rows = view.ltp.now in
     size_listed of_row view.content.now.issued rows (once_from_rows of_row rows view.ltp_rows)
-    (within_ltp (shown view).sets numbered rows view.ltp_rows (λ serial. refl))
+    (within_ltp (with_hidden hidden view).sets numbered rows view.ltp_rows (λ serial. refl))

@@ -2,15 +2,15 @@ use Rattle.std.proofs.Common.{◌≡◌, ◌≢◌, ◌+◌, ◌∙◌, ◌⊎�
 use Rattle.std.proofs.lemmas.Bool.{false≢true}
 use Rattle.external_dependencies.proofs.NearestLemmas.{answer_close, answer_far}
 use Rattle.planner_machine.specs.Pairs.{LiveAt}
-use Rattle.plan_store.specs.Views.{shown}
+use Rattle.plan_store.specs.Views.{with_hidden}
 use Rattle.plan_store.proofs.ArrivalLemmas.{other_name, nearest_none, nearest_some, same_name}
 use Rattle.plan_store.proofs.views.View.nearest.Goals as goal
 use Rattle.plan_store.proofs.views.View.nearest.Goals.{then-eq, else-eq}
 
 -- nothing arrives before it
 pub returns-in_default : goal.returns-in_default
-returns-in_default c numbered =
-    let s = (shown c.args.self.now).sets in
+returns-in_default c hidden numbered =
+    let s = (with_hidden hidden c.args.self.now).sets in
     let key = c.args.key.now in
     let app = c.args.app.now in
     let limit = c.if-eq.limit in
@@ -27,12 +27,12 @@ returns-in_default c numbered =
             ∙ ap (λ n. n + 1) c.number-arrival.ensures.value,
       )
     ] in
-    nearest_none s key app limit is_limit c.args.within (c.in_default.ensures numbered)
+    nearest_none s key app limit is_limit c.args.within (c.in_default.ensures hidden numbered)
 
 -- the last that does is close enough
 pub returns-then-arrives_within : goal.returns-then-arrives_within
-returns-then-arrives_within c numbered =
-    let s = (shown c.args.self.now).sets in
+returns-then-arrives_within c hidden numbered =
+    let s = (with_hidden hidden c.args.self.now).sets in
     let key = c.args.key.now in
     let app = c.args.app.now in
     let limit = c.if-eq.limit in
@@ -50,13 +50,13 @@ returns-then-arrives_within c numbered =
       )
     ] in
     answer_close (LiveAt s) key app c.args.within c.in-Some.near
-    (nearest_some s key app limit is_limit c.in-Some.near (c.in-Some.ensures numbered))
+    (nearest_some s key app limit is_limit c.in-Some.near (c.in-Some.ensures hidden numbered))
     (c.arrives_within.ensures.0 c.if-arrives_within.true)
 
 -- or too far
 pub returns-else-arrives_within : goal.returns-else-arrives_within
-returns-else-arrives_within c numbered =
-    let s = (shown c.args.self.now).sets in
+returns-else-arrives_within c hidden numbered =
+    let s = (with_hidden hidden c.args.self.now).sets in
     let key = c.args.key.now in
     let app = c.args.app.now in
     let limit = c.if-eq.limit in
@@ -74,5 +74,5 @@ returns-else-arrives_within c numbered =
       )
     ] in
     answer_far (LiveAt s) key app c.args.within c.in-Some.near
-    (nearest_some s key app limit is_limit c.in-Some.near (c.in-Some.ensures numbered))
+    (nearest_some s key app limit is_limit c.in-Some.near (c.in-Some.ensures hidden numbered))
     (λ close. false≢true (sym c.if-arrives_within.false ∙ c.arrives_within.ensures.1 close))
