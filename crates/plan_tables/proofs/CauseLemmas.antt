@@ -18,12 +18,17 @@ use Rattle.table_schema.specs.Rows.{MayFail, Tables, tables_of}
 use Rattle.table_schema.specs.Takes.{HasOwnIndexes}
 use Rattle.table_writing.specs.Taking.{TakesChange}
 use Rattle.table_writing.specs.declared.redefining.DefinitionMoves.{DefinitionMoves}
-use Rattle.plan_store.specs.Changes.{redefined}
+use Rattle.external_dependencies.specs.Pair.{pair_cmp}
+use Rattle.external_dependencies.specs.Rising.{IsRising}
+use Rattle.planner_machine.specs.Sound.{IsSound}
+use Rattle.plan_store.specs.Changes.{Fits, after, redefined}
 use Rattle.plan_store.specs.Room.{with_definitions, with_pairs_of}
 use Rattle.plan_store.specs.declared.changes.Change.{Change}
 use Rattle.plan_store.specs.declared.changes.DefinitionChange.TheVariants.{AsBefore}
 use Rattle.plan_tables.specs.Causes.{AreTaken, CanTake, fault_in, HasFailed}
 use Rattle.plan_tables.specs.Stored.{LeavesSound, MayLeave}
+use Rattle.plan_tables.specs.Taken.{FindsRoom, FittingIsTaken, HasRoomFor}
+use Rattle.table_writing.specs.Writing.{IsTellableChange}
 use Rattle.plan_tables.proofs.StoredLemmas.{stored_still}
 
 -- ---- it is asked whether a connection is open
@@ -175,3 +180,18 @@ told_shut (Err told) e old new is h = λ device. ∣ (go (h (sym is ∙ device))
     go : MoreFaults old.faults new.faults ⊎ (old.is_open ≡ false) → HasFailed old new ⊎ (old.is_open ≡ false)
     go (inl more) = inl (inl more)
     go (inr shut) = inr shut
+
+-- ---- tables with room
+
+pub room_still : (old mid : State) (change : Change) → mid.now ≡ old.now → HasRoomFor old change → HasRoomFor mid change
+room_still old mid change now room = subst (λ (db : Database). HasOwnIndexes db.schema
+    × FindsRoom change (tables_of db.trees)) (sym now) room
+
+-- tables of a content that have room for a change take it
+pub room_takes : FittingIsTaken → (s : State) (c : Content) (change : Change) → IsStored s c → Fits change c
+    → IsSound (after change c) → IsTellableChange change → IsRising pair_cmp change.pairs.added → HasRoomFor s change
+    → CanTake s c change
+room_takes taken s c change stored fits sound told rising room = (
+  room.0,
+  taken (tables_of s.now.trees) c change stored.content fits sound told rising room.1,
+)

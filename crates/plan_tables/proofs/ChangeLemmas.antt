@@ -58,11 +58,11 @@ pairs_told p q h =
     let b : p.predecessor ≡ q.predecessor = sym (one_natural q.predecessor p.predecessor l.0) in
     λ i. record { successor = a i; predecessor = b i }
 
-pair_itself : (p : Pair) → matched table.Dependency (pair_values p) (pair_values p) ≡ true
+pub pair_itself : (p : Pair) → matched table.Dependency (pair_values p) (pair_values p) ≡ true
 pair_itself p = and_true _ _ (natural_itself p.successor p.successor refl)
     (and_true _ _ (natural_itself p.predecessor p.predecessor refl) refl)
 
-pair_shows : (p : Pair) (rows : List Values) → shown table.Dependency (with_rowid Chosen rows
+pub pair_shows : (p : Pair) (rows : List Values) → shown table.Dependency (with_rowid Chosen rows
     (stored table.Dependency (pair_values p))) ≡ pair_values p
 pair_shows p rows = refl
 
@@ -131,11 +131,11 @@ pairs_shown change pairs all held v = (
 
 -- ---- links
 
-link_itself : (l : Link) → matched table.LinkInForce (link_key l) (link_values l) ≡ true
+pub link_itself : (l : Link) → matched table.LinkInForce (link_key l) (link_values l) ≡ true
 link_itself l = and_true _ _ (text_itself l.app l.app refl) (and_true _ _
     (text_itself l.predecessor l.predecessor refl) refl)
 
-link_shows : (l : Link) (rows : List Values)
+pub link_shows : (l : Link) (rows : List Values)
     → shown table.LinkInForce (with_rowid Chosen rows (stored table.LinkInForce (link_values l))) ≡ link_values l
 link_shows l rows = refl
 
@@ -148,18 +148,18 @@ links_told l m h =
     let b : l.predecessor ≡ m.predecessor = sym (one_text m.predecessor l.predecessor n.0) in
     (a, b)
 
-abbrev lacked_by : List Link → Link → Bool
+abbrev pub lacked_by : List Link → Link → Bool
 lacked_by links l = not (holds_link links l)
 
 -- it is one of the links with its limit, or one of those that these lack
-link_among : (links : List Link) (l : Link) → Contains links l ⊎ (lacked_by links l ≡ true)
+pub link_among : (links : List Link) (l : Link) → Contains links l ⊎ (lacked_by links l ≡ true)
 link_among links l = go (holds_link links l) refl
   where
     go : (b : Bool) → holds_link links l ≡ b → Contains links l ⊎ (lacked_by links l ≡ true)
     go true e = inl ((holds_link-Decides links l).0 e)
     go false e = inr (ap not e)
 
-link_lacks : (links : List Link) (l : Link) → lacked_by links l ≡ true → Contains links l → ⊥
+pub link_lacks : (links : List Link) (l : Link) → lacked_by links l ≡ true → Contains links l → ⊥
 link_lacks links l e has = false≢true (sym (not-true _ e) ∙ (holds_link-Decides links l).1 has)
 
 pub links_shown : (old new : List Link) → IsRising link_cmp old → (all : Tables)

@@ -46,33 +46,33 @@ use Rattle.plan_tables.proofs.MovedSets.{moved_other, moved_own, set_moved}
 use Rattle.plan_tables.proofs.SetMoves.{at_other, with_other, without_other}
 use Rattle.table_facts.proofs.Told.{is_some as same_some}
 
-abbrev IsApart : Table → Table → Type 0
+abbrev pub IsApart : Table → Table → Type 0
 IsApart u t = (tree u == tree t) ≡ false
 
 -- ---- the four sets
 
 module _ {X : Type 0} (number_of : X → ℕ) where
-  number_told : (x y : X) (rest : Bool) → (same_cell (natural (number_of y)) (natural
+  pub number_told : (x y : X) (rest : Bool) → (same_cell (natural (number_of y)) (natural
       (number_of x)) && rest) ≡ true → number_of x ≡ number_of y
   number_told x y rest h = sym (one_natural (number_of y) (number_of x) (and_both _ rest h).0)
 
-  number_tells : (x y : X) (rest : Bool) → rest ≡ true → number_of x ≡ number_of y
+  pub number_tells : (x y : X) (rest : Bool) → rest ≡ true → number_of x ≡ number_of y
       → (same_cell (natural (number_of y)) (natural (number_of x)) && rest) ≡ true
   number_tells x y rest e same = and_true _ rest (natural_itself (number_of y) (number_of x) (sym same)) e
 
-row_shows : (x : Row) (rows : List Values) → shown table.LongTerm (with_rowid Chosen rows (stored table.LongTerm
+pub row_shows : (x : Row) (rows : List Values) → shown table.LongTerm (with_rowid Chosen rows (stored table.LongTerm
     (row_values x))) ≡ row_values x
 row_shows x rows = refl
 
-history_shows : (x : Row) (rows : List Values) → shown table.History (with_rowid Chosen rows (stored table.History
+pub history_shows : (x : Row) (rows : List Values) → shown table.History (with_rowid Chosen rows (stored table.History
     (row_values x))) ≡ row_values x
 history_shows x rows = refl
 
-current_shows : (x : CurrentRow) (rows : List Values) → shown table.Current (with_rowid Chosen rows
+pub current_shows : (x : CurrentRow) (rows : List Values) → shown table.Current (with_rowid Chosen rows
     (stored table.Current (current_values x))) ≡ current_values x
 current_shows x rows = refl
 
-deletion_shows : (x : Deletion) (rows : List Values) → shown table.Deletion (with_rowid Chosen rows
+pub deletion_shows : (x : Deletion) (rows : List Values) → shown table.Deletion (with_rowid Chosen rows
     (stored table.Deletion (deletion_values x))) ≡ deletion_values x
 deletion_shows x rows = refl
 
@@ -93,7 +93,7 @@ told_other u apart bounds issued options all =
     (meta_values bounds issued options))) (bare all table.Meta)) (bare all) apart
     ∙ at_other table.Meta u (filter (λ r. not (matches table.Meta (natural 1 ∷ []) r)) (all table.Meta)) all apart
 
-meta_other : (u : Table) → IsApart u table.Meta → (change : Change) (bounds : Option Bounds) (issued : ℕ)
+pub meta_other : (u : Table) → IsApart u table.Meta → (change : Change) (bounds : Option Bounds) (issued : ℕ)
     (options : Options) (all : Tables)
     → meta_moved change bounds issued options all u ≡ all u
 meta_other u apart change bounds issued options all = go (is_some change.bounds || is_some change.issued)
@@ -103,19 +103,19 @@ meta_other u apart change bounds issued options all = go (is_some change.bounds 
     go true = told_other u apart (or_else change.bounds bounds) (unwrap_or change.issued issued) options all
     go false = refl
 
-links_other : (u : Table) → IsApart u table.LinkInForce → (old : List Link) (new : Option (List Link)) (all : Tables)
+pub links_other : (u : Table) → IsApart u table.LinkInForce → (old : List Link) (new : Option (List Link)) (all : Tables)
     → links_moved old new all u ≡ all u
 links_other u apart old None all = refl
 links_other u apart old (Some new) all = with_other table.LinkInForce link_values u apart (beside old new) _
     ∙ without_other table.LinkInForce link_key u apart (beside new old) all
 
-pairs_other : (u : Table) → IsApart u table.Dependency → (change : PairChange) (all : Tables)
+pub pairs_other : (u : Table) → IsApart u table.Dependency → (change : PairChange) (all : Tables)
     → pairs_moved change all u ≡ all u
 pairs_other u apart change all = with_other table.Dependency pair_values u apart change.added _
     ∙ without_other table.Dependency pair_values u apart change.added _
     ∙ without_other table.Dependency pair_values u apart change.removed all
 
-rows_other : (u : Table) → IsApart u table.LongTerm → IsApart u table.Current → IsApart u table.History
+pub rows_other : (u : Table) → IsApart u table.LongTerm → IsApart u table.Current → IsApart u table.History
     → IsApart u table.Deletion
     → (change : Change) (all : Tables) → rows_moved change all u ≡ all u
 rows_other u a b c d change all =

@@ -51,8 +51,8 @@ module _ {D : Type 0} (t : Table) (IsRow : List ℕ → D → Values → Type 0)
     (by : (key v : Values) → matched t key v ≡ by_name key v)
     (named : (name : List ℕ) (d : D) (v : Values) → IsRow name d v → HasName name v)
     (shows : (name : List ℕ) (d : D) (v : Values) → IsRow name d v → IsShown t v) where
-  renewed_shown : (old more : ByName D) (names : List (List ℕ)) (rows : List Values) (all : Tables)
-      → AreRowsOf IsRow more names rows → ((v : Values) → Shows t (all t) v ↔ IsOfSome IsRow old v) → (v : Values)
+  renewed_shown : {cells : ℕ} (old more : ByName D) (names : List (List ℕ)) (rows : List Values) (all : Tables)
+      → AreRowsOf cells IsRow more names rows → ((v : Values) → Shows t (all t) v ↔ IsOfSome IsRow old v) → (v : Values)
       → Shows t (renewed t names rows all t) v ↔ IsOfSome IsRow (overlaid old more) v
   renewed_shown old more names rows all are held v =
       merged_shown t IsRow by named shows old more names rows all (without_each t name_key names all) refl are held v
@@ -66,7 +66,7 @@ module _ {D : Type 0} (t : Table) (IsRow : List ℕ → D → Values → Type 0)
       subst (λ (new : Tables). Shows t (new t) v ↔ IsOfSome IsRow (maps.remove old name) v) same
       (removed_shown t IsRow by named old name all held v)
 
-renewed_other : (t u : Table) → IsApart u t → (names : List (List ℕ)) (rows : List Values) (all : Tables)
+pub renewed_other : (t u : Table) → IsApart u t → (names : List (List ℕ)) (rows : List Values) (all : Tables)
     → renewed t names rows all u ≡ all u
 renewed_other t u apart names rows all = with_other t rows_of u apart rows (without_each t name_key names all)
     ∙ without_other t name_key u apart names all
@@ -80,7 +80,7 @@ module _ (names : List (List ℕ)) (cycles offsets : List Values) (all : Tables)
   abbrev cycled : Tables
   cycled = with_each table.RunCycle rows_of cycles (cycles_gone names all)
 
-  cycles_other : (u : Table) → IsApart u table.RunCycle → IsApart u table.Offset
+  pub cycles_other : (u : Table) → IsApart u table.RunCycle → IsApart u table.Offset
       → cycles_renewed names cycles offsets all u ≡ all u
   cycles_other u a b = with_other table.Offset rows_of u b offsets cycled
       ∙ with_other table.RunCycle rows_of u a cycles (cycles_gone names all)
@@ -102,7 +102,7 @@ module _ (names : List (List ℕ)) (cycles offsets : List Values) (all : Tables)
     bare_held : (v : Values) → Shows table.RunCycle (bare table.RunCycle) v ↔ IsOfSome IsCycleRow old v
     bare_held v = subst (λ rows. Shows table.RunCycle rows v ↔ IsOfSome IsCycleRow old v) (sym bare_cycles) (held v)
 
-    cycles_shown : (more : ByName (List RunCycle)) → AreRowsOf IsCycleRow more names cycles → (v : Values)
+    cycles_shown : (more : ByName (List RunCycle)) → AreRowsOf 2 IsCycleRow more names cycles → (v : Values)
         → Shows table.RunCycle (cycles_renewed names cycles offsets all table.RunCycle) v
         ↔ IsOfSome IsCycleRow (overlaid old more) v
     cycles_shown more are v =
@@ -110,7 +110,7 @@ module _ (names : List (List ℕ)) (cycles offsets : List Values) (all : Tables)
         (merged_shown table.RunCycle IsCycleRow (λ key w. refl) cycle_named cycle_shown old more names cycles bare
         (cycles_gone names all) refl are bare_held v)
 
-    offsets_shown : (more : ByName (List RunCycle)) → AreRowsOf IsOffsetRow more names offsets → (v : Values)
+    offsets_shown : (more : ByName (List RunCycle)) → AreRowsOf 3 IsOffsetRow more names offsets → (v : Values)
         → Shows table.Offset (cycles_renewed names cycles offsets all table.Offset) v
         ↔ IsOfSome IsOffsetRow (overlaid old more) v
     offsets_shown more are v =

@@ -1,6 +1,6 @@
 -- What tables show after rows are put in and taken out.
 use Rattle.std.proofs.Common.{◌≡◌, ◌↔◌, ℕ, ℤ, Bool, true, false, cond, List, [], ◌∷◌, ◌⊎◌, inl, inr, map, filter}
-use Rattle.std.proofs.Common.{refl, sym, ap, subst, ◌∙◌}
+use Rattle.std.proofs.Common.{refl, sym, ap, subst, ◌∙◌, ◌&&◌, not}
 use Rattle.std.proofs.Common.{Ordering, Less, Equal, Greater, is_eq}
 use Rattle.std.specs.List.{Contains, list_all}
 use Rattle.std.specs.Ordering.{match_ordering, int_cmp, nat_cmp}
@@ -12,7 +12,10 @@ use Rattle.std.specs.Prelude.{pos, Some}
 use Rattle.std.proofs.lemmas.Bool.{false≢true}
 use Rattle.sqlite.specs.Order.{Row as Values, column}
 use Rattle.sqlite.specs.Tree.{rowid}
-use Rattle.sqlite_sql.specs.Ops.{binary, is_true, from_truth}
+use Rattle.sqlite_schema.specs.Rules.{agree, passes_checks}
+use Rattle.table_schema.specs.Schema.{table as description}
+use Rattle.sqlite_value.specs.Keys.{first_key, plain}
+use Rattle.sqlite_sql.specs.Ops.{binary, is_false, is_true, from_truth}
 use Rattle.sqlite_sql.specs.declared.ops.BinaryOp.TheVariants.{Compare}
 use Rattle.sqlite_sql.specs.declared.ops.CompareOp.TheVariants.{Eq}
 use Rattle.sqlite_value.specs.declared.keys.Collation.TheVariants.{Binary}
@@ -161,3 +164,18 @@ one_text a b h = slice_cmp-IsAntisymmetric nat_cmp-IsAntisymmetric a b (equal_fr
 
 pub text_itself : (a b : List ℕ) → a ≡ b → same_cell (Text a) (Text b) ≡ true
 text_itself a b e = cell_text a b ∙ ap is_eq (ap (slice_cmp nat_cmp a) (sym e) ∙ tied_itself nat_list_cmp_total a)
+
+-- two rows agree at the places of a key where each cell of it is the same
+pub agree_cell : (p : ℕ) (ps : List ℕ) (a b : Values)
+    → agree plain (p ∷ ps) a (p ∷ ps) b ≡ (same_cell (column a p) (column b p) && agree plain ps a ps b)
+unfolding first_key same_cell
+agree_cell p ps a b = refl
+
+untold : (b : Bool) → is_false (from_truth (Some b)) ≡ not b
+untold true = refl
+untold false = refl
+
+-- the number of the one row of how far the plans reach is 1
+pub one_passes : (rest : Values) → passes_checks (description table.Meta) (natural 1 ∷ rest) ≡ true
+unfolding binary
+one_passes rest = ap (λ b. not b && true) (untold _ ∙ ap not (ap is_eq (value_cmp-Int (pos 1) (pos 1))))

@@ -1,4 +1,6 @@
 pub mod Held
+pub mod RowFits
+pub mod RowTakes
 pub mod SetMoves
 pub mod MovedSets
 pub mod ChangeLemmas
@@ -15,3 +17,10 @@ pub mod RefusedLemmas
 pub mod ToldLemmas
 pub mod CopiedLemmas
 pub mod CauseLemmas
+pub mod EachTaken
+pub mod SetsTaken
+pub mod ChangeTaken
+pub mod DefinitionTakes
+pub mod OneRow
+pub mod ShortRows
+pub mod NamedTaken

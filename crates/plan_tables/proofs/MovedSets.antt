@@ -27,7 +27,7 @@ module _ {X : Type 0} (row_of : X → Row) where
   abbrev serial : X → ℕ
   serial x = (row_of x).serial
 
-  one_each : (xs : List X) → HasEachOnce row_of xs → OneEach serial xs
+  pub one_each : (xs : List X) → HasEachOnce row_of xs → OneEach serial xs
   one_each xs once x y (i, lt, is) (j, under, are) e = elim (cases_lt i j) [
     | inl less ↦ absurd (once i j x less under (ap serial is ∙ e ∙ sym (ap serial (reads x))))
     | inr more ↦ elim (cases_lt j i) [
@@ -53,18 +53,18 @@ module _ {X : Type 0} (row_of : X → Row) where
     abbrev rest : ℕ → Option X
     rest n = if is_some (gone n) then None else set n
 
-    is_put : (n : ℕ) (x : X) → put n ≡ Some x → moved_set row_of moves set n ≡ Some x
+    pub is_put : (n : ℕ) (x : X) → put n ≡ Some x → moved_set row_of moves set n ≡ Some x
     is_put n x e = ap (λ o. or_else o (or_else (changed n) (rest n))) e
 
-    is_changed : (n : ℕ) (x : X) → put n ≡ None → changed n ≡ Some x → moved_set row_of moves set n ≡ Some x
+    pub is_changed : (n : ℕ) (x : X) → put n ≡ None → changed n ≡ Some x → moved_set row_of moves set n ≡ Some x
     is_changed n x e f = ap (λ o. or_else o (or_else (changed n) (rest n))) e ∙ ap (λ o. or_else o (rest n)) f
 
-    is_rest : (n : ℕ) → put n ≡ None → changed n ≡ None → gone n ≡ None → moved_set row_of moves set n ≡ set n
+    pub is_rest : (n : ℕ) → put n ≡ None → changed n ≡ None → gone n ≡ None → moved_set row_of moves set n ≡ set n
     is_rest n e f g = ap (λ o. or_else o (or_else (changed n) (rest n))) e ∙ ap (λ o. or_else o (rest n)) f
         ∙ ap (λ o. if is_some o then None else set n) g
 
     -- what is put has serials of its own
-    not_put : (n : ℕ) (was : X) → set n ≡ Some was → put n ≡ None
+    pub not_put : (n : ℕ) (was : X) → set n ≡ Some was → put n ≡ None
     not_put n was there = look_lacks serial moves.put.items n
         (λ y has same. none_some (set (serial y)) was (fits.new y has) (ap set same ∙ there))
 
@@ -123,7 +123,7 @@ module _ {X : Type 0} (row_of : X → Row) where
           go true e = absurd (look_none serial xs n none y has (told y x e ∙ at))
           go false e = refl
 
-      lacking : (xs : List X) (n : ℕ) (x : X) → serial x ≡ n
+      pub lacking : (xs : List X) (n : ℕ) (x : X) → serial x ≡ n
           → ((y : X) → Contains xs y → matched t (key_of y) (values_of x) ≡ false) → look_up serial xs n ≡ None
       lacking xs n x at none = look_lacks serial xs n
           (λ y has same. false≢true (sym (none y has) ∙ tells y x (same ∙ sym at)))

@@ -47,7 +47,7 @@ overlaid_cases old more name d at = go (maps.get more name) refl
         ∙ sym (get-overlaid old more name) ∙ at))
     go None is = inr (is, sym (ap (λ o. option_or o (maps.get old name)) is) ∙ sym (get-overlaid old more name) ∙ at)
 
-overlaid_new : {D : Type 0} (old more : ByName D) (name : List ℕ) (d : D) → maps.get more name ≡ Some d
+pub overlaid_new : {D : Type 0} (old more : ByName D) (name : List ℕ) (d : D) → maps.get more name ≡ Some d
     → maps.get (overlaid old more) name ≡ Some d
 overlaid_new old more name d is = get-overlaid old more name ∙ ap (λ o. option_or o (maps.get old name)) is
 
@@ -78,7 +78,7 @@ abbrev pub IsShown : Table → Values → Type 0
 IsShown t v = (rows : List Values) → shown t (with_rowid Chosen rows (stored t v)) ≡ v
 
 -- the rows stand there, beside those that stood there
-shows_rows : (t : Table) (rows : List Values) → ((v : Values) → Contains rows v → IsShown t v) → (all : Tables)
+pub shows_rows : (t : Table) (rows : List Values) → ((v : Values) → Contains rows v → IsShown t v) → (all : Tables)
     (v : Values)
     → Shows t (with_each t rows_of rows all t) v ↔ (Contains rows v ⊎ Shows t (all t) v)
 shows_rows t [] are all v = (
@@ -175,9 +175,9 @@ module _ {D : Type 0} (t : Table) (IsRow : List ℕ → D → Values → Type 0)
       )
 
   -- with the definitions of `more` in place of those of their names; the rows are theirs
-  pub merged_shown : ((name : List ℕ) (d : D) (v : Values) → IsRow name d v → IsShown t v)
+  pub merged_shown : {cells : ℕ} → ((name : List ℕ) (d : D) (v : Values) → IsRow name d v → IsShown t v)
       → (old more : ByName D) (names : List (List ℕ)) (rows : List Values) (all mid : Tables)
-      → mid t ≡ without_each t name_key names all t → AreRowsOf IsRow more names rows
+      → mid t ≡ without_each t name_key names all t → AreRowsOf cells IsRow more names rows
       → ((v : Values) → Shows t (all t) v ↔ IsOfSome IsRow old v) → (v : Values)
       → Shows t (with_each t rows_of rows mid t) v ↔ IsOfSome IsRow (overlaid old more) v
   merged_shown shows old more names rows all mid gone are held v = (

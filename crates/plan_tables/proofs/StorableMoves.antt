@@ -18,9 +18,9 @@ use Rattle.table_writing.specs.Redefining.{AreMovesOf, AreRowsFor, AreRowsOf, Ar
 use Rattle.table_writing.specs.Redefining.{kind_of}
 use Rattle.table_writing.specs.declared.redefining.DefinitionMoves.{DefinitionMoves}
 
-rows_for : {D : Type 0} (t : Table) (IsRow : List ℕ → D → Values → Type 0) (all : ByName D)
+rows_for : {D : Type 0} {cells : ℕ} (t : Table) (IsRow : List ℕ → D → Values → Type 0) (all : ByName D)
     (names : List (List ℕ)) (rows : List Values)
-    → ((v : Values) → IsOfSome IsRow all v → IsStorable t v) → AreRowsOf IsRow all names rows → AreRowsFor t rows
+    → ((v : Values) → IsOfSome IsRow all v → IsStorable t v) → AreRowsOf cells IsRow all names rows → AreRowsFor t rows
 rows_for t IsRow all names rows storable are v has = storable v ((are.rows_are v).0 has)
 
 none_for : (t : Table) (rows : List Values) → rows ≡ [] → AreRowsFor t rows

@@ -5,3 +5,5 @@ pub mod Found
 pub mod Refused
 pub mod Told
 pub mod Causes
+pub mod Room
+pub mod Taken

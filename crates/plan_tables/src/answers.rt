@@ -2,6 +2,7 @@
 
 ghost use Rattle.std.specs.Prelude.{◌≡◌, IfOk, IfSome};
 ghost use Rattle.external_dependencies.specs.Link.{link_cmp};
+ghost use Rattle.external_dependencies.specs.Pair.{pair_cmp};
 ghost use Rattle.external_dependencies.specs.Rising.{IsRising};
 ghost use Rattle.planner_machine.specs.declared.job.Job.{Job as JobValue};
 ghost use Rattle.table_facts.specs.Content.{answer_text, IsSmall};
@@ -47,4 +48,11 @@ pub(crate) fn change_is_tellable(change: &Change)
 {
     links_rise(&change.in_force);
     job_is_small(&change.job);
+}
+
+/// The pairs that a change adds are in rising order.
+pub(crate) fn added_rise(change: &Change)
+    ensures { IsRising pair_cmp change.now.pairs.added }
+{
+    let _rising = change.pairs.added.as_slice();
 }

@@ -8,6 +8,8 @@ mod keeping;
 mod opening;
 mod prepared;
 mod table_store;
+mod taking;
 
 pub use table_opening::{OpenFault, open_connection};
 pub use table_store::TableStore;
+pub use taking::fitting_changes_are_taken;

@@ -18,11 +18,13 @@ ghost use Rattle.table_opening.specs.Opened.{IsStored};
 ghost use Rattle.table_writing.specs.Redefining.{AreMovesOf};
 ghost use Rattle.plan_tables.specs.Causes.{CanTake, HasFailed};
 ghost use Rattle.plan_tables.specs.Stored.{LeavesSound, MayLeave};
+ghost use Rattle.plan_tables.specs.Taken.{HasRoomFor};
 ghost use Rattle.plan_tables.specs.Told.{IsToldChange};
 
-use crate::answers::change_is_tellable;
+use crate::answers::{added_rise, change_is_tellable};
 use crate::keeping::{Unmade, ask_open, change_both};
 use crate::prepared::{Prepared, prepare};
+use crate::taking::fitting_changes_are_taken;
 use app_definitions::Definitions;
 use external_dependencies::Links;
 use plan_store::{Change, Content, ListFault, Need, PlanStore, RowSink, StoreFault, View, What};
@@ -167,12 +169,18 @@ impl<S: Alter + Drop> TableStore<S> {
             → CanTake (state S.Store self.old.conn) (content_of self.old.lists) change
             → IfErr result (λ fault. fault ≡ Device
             → ∥ HasFailed (state S.Store self.old.conn) (state S.Store self.new.conn) ∥₁) }
+        ensures taken { HasCleanDisk (state S.Store self.new.conn)
+            → HasRoomFor (state S.Store self.old.conn) change
+            → IfErr result (λ fault. fault ≡ Device
+            → ∥ HasFailed (state S.Store self.old.conn) (state S.Store self.new.conn) ∥₁) }
         ensures counts { self.old.failures ≤ self.new.failures }
         ensures honest { HasCleanDisk (state S.Store self.new.conn)
             → HasCleanDisk (state S.Store self.old.conn) }
     {
         tables_have_one_content();
+        fitting_changes_are_taken();
         change_is_tellable(&change);
+        added_rise(&change);
         match change_both(
             &mut self.conn,
             &mut self.lists,
@@ -298,7 +306,7 @@ impl<S: Alter + Drop> PlanStore for TableStore<S> {
     }
 
     // The clauses of every store, and why the device is blamed: over an open connection whose tables take the change it
-    // failed meanwhile, by the count of sqlite, or a limit on steps is set.
+    // failed meanwhile, by the count of sqlite, or a limit on steps is set. They take each change that finds room.
     fn apply(&mut self, alloc: Global, change: Change) -> Result<(), StoreFault>
         requires fits { ⊤ → Fits change (content_of self.old.lists) }
         requires sound { ⊤ → IsSound (after change (content_of self.old.lists)) }
@@ -320,6 +328,11 @@ impl<S: Alter + Drop> PlanStore for TableStore<S> {
         ensures honest { ⊤ → ⊤ }
         ensures caused { self.old.failures ≡ 0 → HasCleanDisk (state S.Store self.new.conn)
             → CanTake (state S.Store self.old.conn) (content_of self.old.lists) change
+            → IfErr result (λ fault. fault ≡ StoreFault.Device
+            → ∥ HasFailed (state S.Store self.old.conn) (state S.Store self.new.conn)
+            ⊎ ((state S.Store self.old.conn).is_open ≡ false) ∥₁) }
+        ensures taken { self.old.failures ≡ 0 → HasCleanDisk (state S.Store self.new.conn)
+            → HasRoomFor (state S.Store self.old.conn) change
             → IfErr result (λ fault. fault ≡ StoreFault.Device
             → ∥ HasFailed (state S.Store self.old.conn) (state S.Store self.new.conn)
             ⊎ ((state S.Store self.old.conn).is_open ≡ false) ∥₁) }

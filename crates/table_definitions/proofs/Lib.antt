@@ -1,4 +1,5 @@
 pub mod AddLemmas
+pub mod KeyLemmas
 pub mod PartLemmas
 pub mod StorableRows
 pub mod TellLemmas

@@ -1,12 +1,23 @@
 -- Rows that are put behind others, as sets.
-use Rattle.std.specs.Prelude.{◌≡◌, ◌↔◌, ◌⊎◌, ℕ, ◌<◌, List, Some, slice_get, Contains}
+use Rattle.std.specs.Prelude.{◌≡◌, ◌≢◌, ◌↔◌, ◌⊎◌, ℕ, ◌<◌, List, Some, slice_get, AllPairs, Contains, take}
 use Rattle.std.specs.FinMap as map
 use Rattle.sqlite.specs.Order.{Row as Values}
 use Rattle.table_facts.specs.Content.{ByName}
 
--- the rows are now those of before and such ones
-pub record Adds (Is : Values → Type 0) (old new : List Values) : Type 0 where
+-- the rows differ in their first cells
+abbrev pub AreApart : ℕ → Values → Values → Type 0
+AreApart cells v w = take cells v ≢ take cells w
+
+-- no two rows have the same first cells
+abbrev pub HaveOwnKeys : ℕ → List Values → Type 0
+HaveOwnKeys cells rows = AllPairs (AreApart cells) rows
+
+-- the rows are now those of before and such ones, which come once each: if no two rows of before have the same first
+-- cells, and none of them has those of such a row, then no two have them now
+pub record Adds (cells : ℕ) (Is : Values → Type 0) (old new : List Values) : Type 0 where
   pub rows : (values : Values) → Contains new values ↔ (Contains old values ⊎ Is values)
+  pub keys : HaveOwnKeys cells old → ((v w : Values) → Contains old v → Is w → AreApart cells v w)
+      → HaveOwnKeys cells new
 
 -- a row of what stands in the list, at one of the first places
 abbrev pub IsOfPlace : {X : Type 0} → (ℕ → X → Values → Type 0) → List X → ℕ → Values → Type 0

@@ -9,6 +9,7 @@ ghost use Rattle.sqlite.specs.declared.types.Value.TheVariants.{Text};
 ghost use Rattle.work_calendars.specs.Name.{IsName};
 ghost use Rattle.definition_records.specs.declared.applications.Application.{Application as ApplicationValue};
 ghost use Rattle.table_facts.specs.Content.{ByName as Defined};
+ghost use Rattle.table_definitions.specs.Adding.{HaveOwnKeys};
 ghost use Rattle.table_definitions.specs.Drafted.{IsSoundApplication, application_named};
 ghost use Rattle.table_definitions.specs.Gathering.{AreSound};
 ghost use Rattle.table_definitions.specs.Storing.{AreRowsOf};
@@ -44,6 +45,10 @@ impl Encoding for ApplicationRows {
 
     ghost IsRow = { IsApplicationRow };
 
+    ghost cells = { 0 };
+
+    ghost named = { λ name d v is. ap (λ (r : Values). column r 0) is };
+
     fn push(
         alloc: Global,
         rows: &mut Vec<Row>,
@@ -61,7 +66,8 @@ pub fn application_rows(
     alloc: Global,
     applications: &ByName<Application>,
 ) -> Result<Vec<Row>, AllocError>
-    ensures { IfOk result (λ rows. AreRowsOf IsApplicationRow rows.items applications.now) }
+    ensures rows { IfOk result (λ rows. AreRowsOf IsApplicationRow rows.items applications.now) }
+    ensures keys { IfOk result (λ rows. HaveOwnKeys 1 rows.items) }
 {
     rows_of::<ApplicationRows>(alloc, applications)
 }

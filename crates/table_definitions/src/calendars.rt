@@ -1,13 +1,13 @@
 // Rows of calendars.
 
 ghost use Rattle.std.specs.Prelude.{◌≡◌, ◌≢◌, ◌∷◌, ◌↔◌, ◌<◌, ℕ, [], length, IfOk, IfSome, IsTrue, OnOk, List, IsSome};
-ghost use Rattle.std.specs.Prelude.{◌^◌};
+ghost use Rattle.std.specs.Prelude.{◌^◌, AllPairs, Contains, map};
 ghost use Rattle.sqlite.specs.declared.types.Value.TheVariants.{Text};
 ghost use Rattle.jiff.specs.Words.{monday_zero};
 ghost use Rattle.work_calendars.specs.declared.statuses.DayStatus.{DayStatus as Status};
 ghost use Rattle.table_facts.specs.Content.{IsTold};
 ghost use Rattle.table_facts.specs.Facts.{IsCalendarRow, is_work, natural};
-ghost use Rattle.table_definitions.specs.Adding.{Adds, IsOfPlace, IsUpTo};
+ghost use Rattle.table_definitions.specs.Adding.{Adds, HaveOwnKeys, IsOfPlace, IsUpTo};
 ghost use Rattle.table_definitions.specs.Parts.{IsDateRow, IsWeekdayRow};
 ghost use Rattle.sqlite.specs.Order.{column};
 ghost use Rattle.work_calendars.specs.Calendar.{CalendarEntries};
@@ -74,7 +74,7 @@ fn push_weekday(
 ) -> Result<(), AllocError>
     requires { place < 7 }
     ensures { OnOk result
-        (Adds (IsWeekdayRow name.now calendar.now place) rows.old.items rows.new.items) }
+        (Adds 3 (IsWeekdayRow name.now calendar.now place) rows.old.items rows.new.items) }
 {
     match calendar.weekday_status(weekday_at(place)) {
         Some(status) => {
@@ -94,7 +94,7 @@ fn push_weekdays(
     calendar: &Calendar,
 ) -> Result<(), AllocError>
     ensures { OnOk result
-        (Adds (IsUpTo (IsWeekdayRow name.now calendar.now) 7) rows.old.items rows.new.items) }
+        (Adds 3 (IsUpTo (IsWeekdayRow name.now calendar.now) 7) rows.old.items rows.new.items) }
 {
     for place in 0..7 {
         push_weekday(alloc, rows, name, calendar, place)?;
@@ -111,7 +111,7 @@ fn push_date(
     day: Day,
 ) -> Result<(), AllocError>
     ensures { OnOk result
-        (Adds (IsDateRow name.now calendar.now day) rows.old.items rows.new.items) }
+        (Adds 3 (IsDateRow name.now calendar.now day) rows.old.items rows.new.items) }
 {
     match calendar.date_status(day) {
         Some(status) => {
@@ -123,20 +123,40 @@ fn push_date(
     }
 }
 
+// The days of these dates.
+fn all_days(alloc: Global, dates: &[(Day, DayStatus)]) -> Result<Vec<Day>, AllocError>
+    ensures { IfOk result (λ days. days.items ≡ map (λ (e : ℕ × Status). e.0) dates.now) }
+{
+    dates.iter().map(|entry| entry.0).collect(alloc)
+}
+
+// The same in order, each once.
+fn listed_days(alloc: Global, dates: &[(Day, DayStatus)]) -> Result<Vec<Day>, AllocError>
+    ensures rising { IfOk result (λ days. AllPairs (λ a b. a < b) days.items) }
+    ensures exactly { IfOk result (λ days. (day : ℕ) → Contains days.items day
+        ↔ Contains (map (λ (e : ℕ × Status). e.0) dates.now) day) }
+{
+    let mut days = all_days(alloc, dates)?;
+    days.sort_unstable();
+    days.dedup();
+    Ok(days)
+}
+
 // Puts the rows of these dates behind the others.
 fn push_dates(
     alloc: Global,
     rows: &mut Vec<Row>,
     name: &Name,
     calendar: &Calendar,
-    dates: &[(Day, DayStatus)],
+    days: &[Day],
 ) -> Result<(), AllocError>
-    ensures { OnOk result (Adds (IsOfPlace
-        (λ _ (e : ℕ × Status). IsDateRow name.now calendar.now e.0) dates.now
-        (length dates.now)) rows.old.items rows.new.items) }
+    requires { AllPairs (λ a b. a < b) days.now }
+    ensures { OnOk result (Adds 3
+        (IsOfPlace (λ _. IsDateRow name.now calendar.now) days.now (length days.now))
+        rows.old.items rows.new.items) }
 {
-    for entry in dates {
-        push_date(alloc, rows, name, calendar, entry.0)?;
+    for day in days {
+        push_date(alloc, rows, name, calendar, *day)?;
     }
     Ok(())
 }
@@ -149,12 +169,13 @@ fn push_entries(
     calendar: &Calendar,
 ) -> Result<(), AllocError>
     ensures added { OnOk result
-        (Adds (IsCalendarRow name.now calendar.now) rows.old.items rows.new.items) }
+        (Adds 3 (IsCalendarRow name.now calendar.now) rows.old.items rows.new.items) }
     ensures week { length calendar.now.weekdays ≡ 7 }
 {
     let dates = calendar.dates(alloc)?;
+    let days = listed_days(alloc, &dates)?;
     push_weekdays(alloc, rows, name, calendar)?;
-    push_dates(alloc, rows, name, calendar, &dates)
+    push_dates(alloc, rows, name, calendar, &days)
 }
 
 struct CalendarRows;
@@ -163,6 +184,10 @@ impl Encoding for CalendarRows {
     type Of = Calendar;
 
     ghost IsRow = { IsCalendarRow };
+
+    ghost cells = { 2 };
+
+    ghost named = { calendar_named };
 
     fn push(
         alloc: Global,
@@ -176,7 +201,8 @@ impl Encoding for CalendarRows {
 
 /// The rows of the calendars in the table `calendar_entry`.
 pub fn calendar_rows(alloc: Global, calendars: &ByName<Calendar>) -> Result<Vec<Row>, AllocError>
-    ensures { IfOk result (λ rows. AreRowsOf IsCalendarRow rows.items calendars.now) }
+    ensures rows { IfOk result (λ rows. AreRowsOf IsCalendarRow rows.items calendars.now) }
+    ensures keys { IfOk result (λ rows. HaveOwnKeys 3 rows.items) }
 {
     rows_of::<CalendarRows>(alloc, calendars)
 }

@@ -1,11 +1,14 @@
 // Rows of run cycles, their offsets aside.
 
 ghost use Rattle.std.specs.Prelude.{◌≡◌, length, option_map, IfOk, OnOk};
+ghost use Rattle.std.proofs.Common.{ap};
+ghost use Rattle.sqlite.specs.Order.{Row as Values, column};
 ghost use Rattle.sqlite.specs.Value.{owned};
 ghost use Rattle.run_cycles.specs.declared.cycles.Deadline.{Deadline as DeadlineValue};
 ghost use Rattle.definition_records.specs.CycleRecords.{rule_text};
+ghost use Rattle.definition_records.specs.Rising.{AreRising};
 ghost use Rattle.table_facts.specs.Facts.{IsCycleRow, deadline_of, natural, or_null, type_letter};
-ghost use Rattle.table_definitions.specs.Adding.{Adds, IsOfPlace};
+ghost use Rattle.table_definitions.specs.Adding.{Adds, HaveOwnKeys, IsOfPlace};
 ghost use Rattle.table_definitions.specs.Parts.{IsRowOfCycle};
 ghost use Rattle.table_definitions.specs.Storing.{AreRowsOf};
 
@@ -99,7 +102,8 @@ fn push_cycles(
     app: &Name,
     cycles: &[RunCycle],
 ) -> Result<(), AllocError>
-    ensures { OnOk result (Adds
+    requires { AreRising (λ cycle. cycle.name) cycles.now }
+    ensures { OnOk result (Adds 2
         (IsOfPlace (λ _. IsRowOfCycle app.now) cycles.now (length cycles.now))
         rows.old.items rows.new.items) }
 {
@@ -117,6 +121,10 @@ impl Encoding for CycleRows {
 
     ghost IsRow = { IsCycleRow };
 
+    ghost cells = { 1 };
+
+    ghost named = { λ app listed v (cycle, has, is). ap (λ (r : Values). column r 0) is };
+
     fn push(
         alloc: Global,
         rows: &mut Vec<Row>,
@@ -129,7 +137,8 @@ impl Encoding for CycleRows {
 
 /// The rows of the run cycles in the table `run_cycle`.
 pub fn cycle_rows(alloc: Global, run_cycles: &ByName<RunCycles>) -> Result<Vec<Row>, AllocError>
-    ensures { IfOk result (λ rows. AreRowsOf IsCycleRow rows.items run_cycles.now) }
+    ensures rows { IfOk result (λ rows. AreRowsOf IsCycleRow rows.items run_cycles.now) }
+    ensures keys { IfOk result (λ rows. HaveOwnKeys 2 rows.items) }
 {
     rows_of::<CycleRows>(alloc, run_cycles)
 }

@@ -1,8 +1,10 @@
 // The rows of all definitions of a kind.
 
-ghost use Rattle.std.specs.Prelude.{ℕ, List, length, IfOk, OnOk};
-ghost use Rattle.sqlite.specs.Order.{Row as Values};
-ghost use Rattle.table_definitions.specs.Adding.{Adds, IsOfName, IsOfPlace};
+ghost use Rattle.std.specs.Prelude.{◌≡◌, ℕ, suc, List, length, IfOk, OnOk};
+ghost use Rattle.sqlite.specs.Order.{Row as Values, column};
+ghost use Rattle.sqlite.specs.declared.types.Value.TheVariants.{Text};
+ghost use Rattle.definition_records.specs.Rising.{AreRising};
+ghost use Rattle.table_definitions.specs.Adding.{Adds, HaveOwnKeys, IsOfName, IsOfPlace};
 ghost use Rattle.table_definitions.specs.Storing.{AreRowsOf};
 
 use app_definitions::ByName;
@@ -18,6 +20,13 @@ pub(crate) trait Encoding {
     /// It is a row of the definition of the name.
     ghost IsRow: { List ℕ → Self.Of → Values → Type 0 };
 
+    /// How many cells beside the name tell a row of a definition from the others.
+    ghost cells: { ℕ };
+
+    /// A row begins with its name.
+    ghost named: { (name : List ℕ) (d : Self.Of) (v : Values) → IsRow name d v
+        → column v 0 ≡ Text name };
+
     /// Puts the rows of the definition behind the others.
     fn push(
         alloc: Global,
@@ -26,7 +35,7 @@ pub(crate) trait Encoding {
         definition: &Self::Of,
     ) -> Result<(), AllocError>
         ensures { OnOk result
-            (Adds (IsRow name.now definition.now) rows.old.items rows.new.items) };
+            (Adds (suc cells) (IsRow name.now definition.now) rows.old.items rows.new.items) };
 }
 
 // Puts the rows of what is defined by the name behind the others.
@@ -37,7 +46,8 @@ fn push_named<E: Encoding>(
     name: &Name,
 ) -> Result<(), AllocError>
     ensures { OnOk result
-        (Adds (IsOfName E.IsRow definitions.now name.now) rows.old.items rows.new.items) }
+        (Adds (suc E.cells) (IsOfName E.IsRow definitions.now name.now)
+        rows.old.items rows.new.items) }
 {
     match definitions.get(name) {
         Some(definition) => E::push(alloc, rows, name, definition),
@@ -52,7 +62,8 @@ fn push_each<E: Encoding>(
     definitions: &ByName<E::Of>,
     names: &[Name],
 ) -> Result<(), AllocError>
-    ensures { OnOk result (Adds
+    requires { AreRising (λ name. name) names.now }
+    ensures { OnOk result (Adds (suc E.cells)
         (IsOfPlace (λ _. IsOfName E.IsRow definitions.now) names.now (length names.now))
         rows.old.items rows.new.items) }
 {
@@ -67,7 +78,8 @@ pub(crate) fn rows_of<E: Encoding>(
     alloc: Global,
     definitions: &ByName<E::Of>,
 ) -> Result<Vec<Row>, AllocError>
-    ensures { IfOk result (λ rows. AreRowsOf E.IsRow rows.items definitions.now) }
+    ensures rows { IfOk result (λ rows. AreRowsOf E.IsRow rows.items definitions.now) }
+    ensures keys { IfOk result (λ rows. HaveOwnKeys (suc E.cells) rows.items) }
 {
     let names = definitions.names(alloc)?;
     let mut rows = Vec::new(alloc);

@@ -1,8 +1,11 @@
 // Rows of the offsets of run cycles.
 
 ghost use Rattle.std.specs.Prelude.{◌<◌, ◌^◌, length, IfOk, OnOk};
+ghost use Rattle.std.proofs.Common.{ap};
+ghost use Rattle.sqlite.specs.Order.{Row as Values, column};
+ghost use Rattle.definition_records.specs.Rising.{AreRising};
 ghost use Rattle.table_facts.specs.Facts.{IsOffsetRow};
-ghost use Rattle.table_definitions.specs.Adding.{Adds, IsOfPlace};
+ghost use Rattle.table_definitions.specs.Adding.{Adds, HaveOwnKeys, IsOfPlace};
 ghost use Rattle.table_definitions.specs.Parts.{IsOffsetAt, IsOffsetOf};
 ghost use Rattle.table_definitions.specs.Storing.{AreRowsOf};
 
@@ -45,7 +48,7 @@ fn push_offsets(
     name: &Short,
     offsets: &[i16],
 ) -> Result<(), AllocError>
-    ensures { OnOk result (Adds
+    ensures { OnOk result (Adds 3
         (IsOfPlace (IsOffsetAt app.now name.now) offsets.now (length offsets.now))
         rows.old.items rows.new.items) }
 {
@@ -63,7 +66,7 @@ fn push_of_cycle(
     app: &Name,
     cycle: &RunCycle,
 ) -> Result<(), AllocError>
-    ensures { OnOk result (Adds (IsOffsetOf app.now cycle.now) rows.old.items rows.new.items) }
+    ensures { OnOk result (Adds 3 (IsOffsetOf app.now cycle.now) rows.old.items rows.new.items) }
 {
     push_offsets(alloc, rows, app, &cycle.name, cycle.offsets.as_slice())
 }
@@ -75,7 +78,9 @@ fn push_of_cycles(
     app: &Name,
     cycles: &[RunCycle],
 ) -> Result<(), AllocError>
-    ensures { OnOk result (Adds (IsOfPlace (λ _. IsOffsetOf app.now) cycles.now (length cycles.now))
+    requires { AreRising (λ cycle. cycle.name) cycles.now }
+    ensures { OnOk result (Adds 3
+        (IsOfPlace (λ _. IsOffsetOf app.now) cycles.now (length cycles.now))
         rows.old.items rows.new.items) }
 {
     for cycle in cycles {
@@ -91,6 +96,11 @@ impl Encoding for OffsetRows {
 
     ghost IsRow = { IsOffsetRow };
 
+    ghost cells = { 2 };
+
+    ghost named = { λ app listed v (cycle, has, place, k, at, is).
+        ap (λ (r : Values). column r 0) is };
+
     fn push(
         alloc: Global,
         rows: &mut Vec<Row>,
@@ -103,7 +113,8 @@ impl Encoding for OffsetRows {
 
 /// The rows of the offsets of the run cycles in the table `run_cycle_offset`.
 pub fn offset_rows(alloc: Global, run_cycles: &ByName<RunCycles>) -> Result<Vec<Row>, AllocError>
-    ensures { IfOk result (λ rows. AreRowsOf IsOffsetRow rows.items run_cycles.now) }
+    ensures rows { IfOk result (λ rows. AreRowsOf IsOffsetRow rows.items run_cycles.now) }
+    ensures keys { IfOk result (λ rows. HaveOwnKeys 3 rows.items) }
 {
     rows_of::<OffsetRows>(alloc, run_cycles)
 }

@@ -9,7 +9,7 @@ ghost use Rattle.plan_periods.specs.Period.{Entry, IsSoundPeriod};
 ghost use Rattle.plan_periods.specs.declared.periods.Period.{Period as PeriodValue};
 ghost use Rattle.table_facts.specs.Content.{AreEach, ByName as Defined, HasEntry};
 ghost use Rattle.table_facts.specs.Facts.{IsPeriodRow, entry_values};
-ghost use Rattle.table_definitions.specs.Adding.{Adds, IsOfPlace};
+ghost use Rattle.table_definitions.specs.Adding.{Adds, HaveOwnKeys, IsOfPlace};
 ghost use Rattle.table_definitions.specs.DraftedPeriods.{AreOfDays, IsOfDays, IsReadable, LetteredEntry};
 ghost use Rattle.table_definitions.specs.DraftedPeriods.{IsSoundPeriodOfDays};
 ghost use Rattle.table_definitions.specs.DraftedPeriods.{entries_of, entry_named, lettered_values, listed_entry};
@@ -82,7 +82,8 @@ fn push_listed(
     name: &Name,
     entries: &[(Day, Option<Day>)],
 ) -> Result<(), AllocError>
-    ensures { OnOk result (Adds (IsOfPlace (IsListedRow name.now) entries.now (length entries.now))
+    ensures { OnOk result (Adds 2
+        (IsOfPlace (IsListedRow name.now) entries.now (length entries.now))
         rows.old.items rows.new.items) }
 {
     for place in 0..entries.len() {
@@ -98,6 +99,10 @@ impl Encoding for PeriodRows {
     type Of = DefinedPeriod;
 
     ghost IsRow = { IsPeriodRow };
+
+    ghost cells = { 1 };
+
+    ghost named = { period_named };
 
     fn push(
         alloc: Global,
@@ -116,7 +121,8 @@ fn push_period(
     name: &Name,
     period: &Period,
 ) -> Result<(), AllocError>
-    ensures { OnOk result (Adds (IsPeriodRow name.now period.now) rows.old.items rows.new.items) }
+    ensures { OnOk result
+        (Adds 2 (IsPeriodRow name.now period.now) rows.old.items rows.new.items) }
 {
     let row = match period {
         Period::All { origin, interval } => interval_row(alloc, name, b"A", *origin, *interval)?,
@@ -129,7 +135,8 @@ fn push_period(
 
 /// The rows of the periods in the table `plan_period`.
 pub fn period_rows(alloc: Global, periods: &ByName<DefinedPeriod>) -> Result<Vec<Row>, AllocError>
-    ensures { IfOk result (λ rows. AreRowsOf IsPeriodRow rows.items periods.now) }
+    ensures rows { IfOk result (λ rows. AreRowsOf IsPeriodRow rows.items periods.now) }
+    ensures keys { IfOk result (λ rows. HaveOwnKeys 2 rows.items) }
 {
     rows_of::<PeriodRows>(alloc, periods)
 }

@@ -4,11 +4,12 @@ ghost use Rattle.std.specs.Prelude.{◌≡◌, ◌↔◌, length, map, IfOk, IfS
 ghost use Rattle.std.specs.FinMap as maps;
 ghost use Rattle.sqlite.specs.declared.types.Value.TheVariants.{Text};
 ghost use Rattle.table_facts.specs.Facts.{IsPredecessorRow, predecessor_values};
-ghost use Rattle.table_definitions.specs.Adding.{Adds, IsOfPlace};
+ghost use Rattle.table_definitions.specs.Adding.{Adds, HaveOwnKeys, IsOfPlace};
 ghost use Rattle.table_definitions.specs.Parts.{IsLinkRow};
 ghost use Rattle.sqlite.specs.Order.{column};
 ghost use Rattle.work_calendars.specs.Name.{IsName};
 ghost use Rattle.work_calendars.specs.Within.{IsWithinHours};
+ghost use Rattle.definition_records.specs.Rising.{AreRising};
 ghost use Rattle.definition_records.specs.declared.predecessors.Predecessor.{Predecessor as PredecessorValue};
 ghost use Rattle.table_facts.specs.Content.{AreEach, ByName as Defined};
 ghost use Rattle.table_definitions.specs.Drafted.{AreSoundPredecessors, IsReadPredecessor, predecessor_of};
@@ -48,7 +49,9 @@ fn push_links(
     app: &Name,
     listed: &[Predecessor],
 ) -> Result<(), AllocError>
-    ensures { OnOk result (Adds (IsOfPlace (λ _. IsLinkRow app.now) listed.now (length listed.now))
+    requires { AreRising (λ p. p.name) listed.now }
+    ensures { OnOk result (Adds 2
+        (IsOfPlace (λ _. IsLinkRow app.now) listed.now (length listed.now))
         rows.old.items rows.new.items) }
 {
     for predecessor in listed {
@@ -65,6 +68,10 @@ impl Encoding for PredecessorRows {
 
     ghost IsRow = { IsPredecessorRow };
 
+    ghost cells = { 1 };
+
+    ghost named = { predecessors_named };
+
     fn push(
         alloc: Global,
         rows: &mut Vec<Row>,
@@ -80,7 +87,8 @@ pub fn predecessor_rows(
     alloc: Global,
     predecessors: &ByName<Predecessors>,
 ) -> Result<Vec<Row>, AllocError>
-    ensures { IfOk result (λ rows. AreRowsOf IsPredecessorRow rows.items predecessors.now) }
+    ensures rows { IfOk result (λ rows. AreRowsOf IsPredecessorRow rows.items predecessors.now) }
+    ensures keys { IfOk result (λ rows. HaveOwnKeys 2 rows.items) }
 {
     rows_of::<PredecessorRows>(alloc, predecessors)
 }

@@ -16,6 +16,7 @@ use Rattle.table_schema.specs.declared.tables.Table.TheVariants as table
 use Rattle.plan_store.specs.declared.changes.Change.{Change}
 use Rattle.plan_store.specs.declared.changes.DefinitionChange.{DefinitionChange}
 use Rattle.plan_store.specs.declared.changes.DefinitionChange.TheVariants.{AsBefore, Merged, Removed}
+use Rattle.table_definitions.specs.Adding.{HaveOwnKeys}
 use Rattle.table_definitions.specs.Storing.{IsStorable}
 use Rattle.table_definitions.specs.Telling.{IsTellableBlock}
 use Rattle.table_facts.specs.Content.{ByName, IsApplicationRow, IsOfSome}
@@ -72,21 +73,22 @@ written c moves change all = plans_written c change
 
 -- ---- whether those are the moves of a change
 
--- the names and the rows of these definitions
-pub record AreRowsOf {D : Type 0} (IsRow : List ℕ → D → Values → Type 0) (definitions : ByName D)
+-- the names and the rows of these definitions; no two rows have the same first cells
+pub record AreRowsOf {D : Type 0} (cells : ℕ) (IsRow : List ℕ → D → Values → Type 0) (definitions : ByName D)
     (names : List (List ℕ)) (rows : List Values) : Type 0 where
   pub names_are : AreNamesOf names definitions
   pub rows_are : (values : Values) → Contains rows values ↔ IsOfSome IsRow definitions values
+  pub own : HaveOwnKeys cells rows
 
 -- of one kind the names and the rows that a block brings
 abbrev pub BringsRows : Block → DefinitionMoves → Type 0
-BringsRows (block.Applications more) moves = AreRowsOf IsApplicationRow more moves.names.items moves.rows.items
-BringsRows (block.Calendars more) moves = AreRowsOf IsCalendarRow more moves.names.items moves.rows.items
-BringsRows (block.Periods more) moves = AreRowsOf IsPeriodRow more moves.names.items moves.rows.items
-BringsRows (block.Predecessors more) moves = AreRowsOf IsPredecessorRow more moves.names.items moves.rows.items
+BringsRows (block.Applications more) moves = AreRowsOf 1 IsApplicationRow more moves.names.items moves.rows.items
+BringsRows (block.Calendars more) moves = AreRowsOf 3 IsCalendarRow more moves.names.items moves.rows.items
+BringsRows (block.Periods more) moves = AreRowsOf 2 IsPeriodRow more moves.names.items moves.rows.items
+BringsRows (block.Predecessors more) moves = AreRowsOf 2 IsPredecessorRow more moves.names.items moves.rows.items
 BringsRows (block.RunCycles more) moves =
-    AreRowsOf IsCycleRow more moves.names.items moves.rows.items
-    × AreRowsOf IsOffsetRow more moves.names.items moves.offsets.items
+    AreRowsOf 2 IsCycleRow more moves.names.items moves.rows.items
+    × AreRowsOf 3 IsOffsetRow more moves.names.items moves.offsets.items
 BringsRows (block.Options given) moves = ⊤
 
 abbrev pub kind_of : Block → Kind

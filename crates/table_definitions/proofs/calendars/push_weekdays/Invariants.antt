@@ -3,4 +3,4 @@ use Rattle.table_definitions.specs.Parts.{IsWeekdayRow}
 use Rattle.table_definitions.proofs.calendars.push_weekdays.Given as goal
 
 abbrev pub invariant-loop-place : goal.invariant-loop-place
-invariant-loop-place l = Adds (IsUpTo (IsWeekdayRow l.name l.calendar) l.place) l.fn.rows.items l.rows.items
+invariant-loop-place l = Adds 3 (IsUpTo (IsWeekdayRow l.name l.calendar) l.place) l.fn.rows.items l.rows.items

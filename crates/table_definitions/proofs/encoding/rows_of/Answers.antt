@@ -1,10 +1,16 @@
-use Rattle.std.proofs.Common.{sym, subst}
+use Rattle.std.proofs.Common.{length, suc, sym, subst}
 use Rattle.definition_records.specs.ByName.{AreNamesOf}
-use Rattle.table_definitions.proofs.AddLemmas.{adds_all}
+use Rattle.table_definitions.specs.Adding.{IsOfName, IsOfPlace}
+use Rattle.table_definitions.proofs.AddLemmas.{adds_all, own_all}
 use Rattle.table_definitions.proofs.encoding.rows_of.Goals as goal
 
-pub returns : goal.returns
-returns g c = adds_all g.E.Encoding.IsRow c.args.definitions.now c.deref.result.now c.new-rows.result.items
-    c.push_each.new.rows.items
+pub returns-clause-rows : goal.returns-clause-rows
+returns-clause-rows g c = adds_all (suc g.E.Encoding.cells) g.E.Encoding.IsRow
+    c.args.definitions.now c.deref.result.now c.new-rows.result.items c.push_each.new.rows.items
     (subst (λ names. AreNamesOf names c.args.definitions.now) (sym c.deref.ensures.value) c.in_ok-names.ensures)
     c.new-rows.ensures.items c.in_ok-push_each.ensures
+
+pub returns-clause-keys : goal.returns-clause-keys
+returns-clause-keys g c = own_all (suc g.E.Encoding.cells)
+    (IsOfPlace (λ _. IsOfName g.E.Encoding.IsRow c.args.definitions.now) c.deref.result.now (length c.deref.result.now))
+    c.new-rows.result.items c.push_each.new.rows.items c.new-rows.ensures.items c.in_ok-push_each.ensures

@@ -3,4 +3,4 @@ use Rattle.table_definitions.specs.Parts.{IsOffsetOf}
 use Rattle.table_definitions.proofs.offsets.push_of_cycles.Given as goal
 
 abbrev pub invariant-loop-cycle : goal.invariant-loop-cycle
-invariant-loop-cycle l = Adds (IsOfPlace (λ _. IsOffsetOf l.app) l.cycles l.cycle-index) l.fn.rows.items l.rows.items
+invariant-loop-cycle l = Adds 3 (IsOfPlace (λ _. IsOffsetOf l.app) l.cycles l.cycle-index) l.fn.rows.items l.rows.items

@@ -3,4 +3,4 @@ use Rattle.table_definitions.specs.Parts.{IsOffsetAt}
 use Rattle.table_definitions.proofs.offsets.push_offsets.Given as goal
 
 abbrev pub invariant-loop-place : goal.invariant-loop-place
-invariant-loop-place l = Adds (IsOfPlace (IsOffsetAt l.app l.name) l.offsets l.place) l.fn.rows.items l.rows.items
+invariant-loop-place l = Adds 3 (IsOfPlace (IsOffsetAt l.app l.name) l.offsets l.place) l.fn.rows.items l.rows.items

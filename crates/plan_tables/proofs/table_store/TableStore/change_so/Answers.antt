@@ -6,7 +6,7 @@ use Rattle.planner_machine.specs.Content.{Content}
 use Rattle.plan_store.specs.Changes.{after}
 use Rattle.plan_store.specs.Contents.{content_of}
 use Rattle.table_opening.specs.Opened.{IsStored}
-use Rattle.plan_tables.proofs.CauseLemmas.{certain}
+use Rattle.plan_tables.proofs.CauseLemmas.{certain, room_takes}
 use Rattle.plan_tables.proofs.SetLemmas.{content_set}
 use Rattle.plan_tables.proofs.StoredLemmas.{leaves_either, leaves_one, leaves_sound}
 use Rattle.plan_tables.proofs.table_store.TableStore.change_so.Goals as goal
@@ -122,3 +122,13 @@ returns-in-Err-Device-clause-caused g c clean can is =
     let before : HasCleanDisk (state g.S.Store old.conn) = omega (arith, c.change_both.ensures.crash.clean) in
     ∥∥₁_map (certain old.in_doubt c.requires.sure old.stored) (λ h. c.in-Err-Device.ensures.blames clean
     (h c.requires.whole before) can c.in-Err-Device.field-0-is)
+
+pub returns-in-Err-Device-clause-taken : goal.returns-in-Err-Device-clause-taken
+returns-in-Err-Device-clause-taken g c clean room is =
+    let old = c.args.self.now in
+    let before : HasCleanDisk (state g.S.Store old.conn) = omega (arith, c.change_both.ensures.crash.clean) in
+    ∥∥₁_map (certain old.in_doubt c.requires.sure old.stored) (λ h.
+    let stored = h c.requires.whole before in
+    c.in-Err-Device.ensures.blames clean stored (room_takes c.fitting_changes_are_taken.ensures
+    (state g.S.Store old.conn) (content_of old.lists) c.args.change stored c.requires.fits c.requires.sound
+    c.change_is_tellable.ensures c.added_rise.ensures room) c.in-Err-Device.field-0-is)

@@ -5,7 +5,7 @@ use Rattle.planner_machine.specs.Content.{Content}
 use Rattle.plan_store.specs.Changes.{after}
 use Rattle.plan_store.specs.Contents.{content_of}
 use Rattle.plan_tables.specs.Stored.{MayLeave}
-use Rattle.plan_tables.proofs.CauseLemmas.{can_still, caused_since, left_still, told_shut}
+use Rattle.plan_tables.proofs.CauseLemmas.{can_still, caused_since, left_still, room_still, told_shut}
 use Rattle.plan_tables.proofs.StoredLemmas.{settled_so}
 use Rattle.plan_tables.proofs.ToldLemmas.{told_by_tables}
 use Rattle.plan_tables.proofs.table_store.TableStorePlanStore.apply.Goals as goal
@@ -47,6 +47,14 @@ returns-clause-caused g c none clean can =
     (content_of c.make_sure.new.self.lists) c.args.change (c.in_ok-make_sure.ensures.same calm)
     (ap content_of c.make_sure.ensures.lists) can))
 
+pub returns-clause-taken : goal.returns-clause-taken
+returns-clause-taken g c none clean room =
+    let old = state g.S.Store c.args.self.now.conn in
+    let mid = state g.S.Store c.make_sure.new.self.conn in
+    let calm = c.change_so.ensures.honest clean in
+    caused_since c.change_so.result old mid (state g.S.Store c.change_so.new.self.conn) c.make_sure.ensures.survives
+    (c.change_so.ensures.taken clean (room_still old mid c.args.change (c.in_ok-make_sure.ensures.same calm) room))
+
 pub returns-in_err-make_sure-clause-crash : goal.returns-in_err-make_sure-clause-crash
 returns-in_err-make_sure-clause-crash g c honest d (clean, may) = inl (
   omega (arith, c.make_sure.ensures.survives.clean, clean),
@@ -56,6 +64,12 @@ returns-in_err-make_sure-clause-crash g c honest d (clean, may) = inl (
 
 pub returns-in_err-make_sure-clause-caused : goal.returns-in_err-make_sure-clause-caused
 returns-in_err-make_sure-clause-caused g c none clean can =
+    told_shut c.from_residual-in_err-make_sure.result c.in_err-make_sure.field-0.0
+    (state g.S.Store c.args.self.now.conn) (state g.S.Store c.make_sure.new.self.conn)
+    c.from_residual-in_err-make_sure.ensures.1 (c.in_err-make_sure.ensures.shut clean)
+
+pub returns-in_err-make_sure-clause-taken : goal.returns-in_err-make_sure-clause-taken
+returns-in_err-make_sure-clause-taken g c none clean room =
     told_shut c.from_residual-in_err-make_sure.result c.in_err-make_sure.field-0.0
     (state g.S.Store c.args.self.now.conn) (state g.S.Store c.make_sure.new.self.conn)
     c.from_residual-in_err-make_sure.ensures.1 (c.in_err-make_sure.ensures.shut clean)

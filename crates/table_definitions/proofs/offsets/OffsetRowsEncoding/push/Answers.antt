@@ -7,7 +7,7 @@ use Rattle.table_definitions.proofs.offsets.OffsetRowsEncoding.push.Goals as goa
 
 pub returns : goal.returns
 returns c = on_ok_weaker c.push_of_cycles.result
-    (λ h. subst (λ d. Adds (IsOffsetRow c.args.name.now d) c.args.rows.now.items c.push_of_cycles.new.rows.items)
+    (λ h. subst (λ d. Adds 3 (IsOffsetRow c.args.name.now d) c.args.rows.now.items c.push_of_cycles.new.rows.items)
     c.as_slice.ensures.value
     (offsets_added c.args.name.now c.as_slice.result.now c.args.rows.now.items c.push_of_cycles.new.rows.items h))
     c.push_of_cycles.ensures

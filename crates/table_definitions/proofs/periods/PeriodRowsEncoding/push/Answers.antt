@@ -6,5 +6,5 @@ use Rattle.table_definitions.proofs.periods.PeriodRowsEncoding.push.Goals as goa
 
 pub returns : goal.returns
 returns c = subst (λ p. OnOk c.push_period.result
-    (Adds (IsPeriodRow c.args.name.now p) c.args.rows.now.items c.push_period.new.rows.items)) c.period.ensures.value
+    (Adds 2 (IsPeriodRow c.args.name.now p) c.args.rows.now.items c.push_period.new.rows.items)) c.period.ensures.value
     c.push_period.ensures

@@ -7,7 +7,7 @@ use Rattle.table_definitions.proofs.predecessors.PredecessorRowsEncoding.push.Go
 
 pub returns : goal.returns
 returns c = on_ok_weaker c.push_links.result
-    (λ h. subst (λ d. Adds (IsPredecessorRow c.args.name.now d) c.args.rows.now.items c.push_links.new.rows.items)
+    (λ h. subst (λ d. Adds 2 (IsPredecessorRow c.args.name.now d) c.args.rows.now.items c.push_links.new.rows.items)
     c.as_slice.ensures.value
     (predecessors_added c.args.name.now c.as_slice.result.now c.args.rows.now.items c.push_links.new.rows.items h))
     c.push_links.ensures
