@@ -56,7 +56,7 @@ fn addition_adds(
 
 // Whether it does so over that plan.
 fn planned_adds(alloc: Global, key: &Key, numbers: [Serial; 3]) -> Result<bool, Fail> {
-    let mut store = planned(alloc, PLANNED)?;
+    let mut store = planned(alloc, &[PLANNED])?;
     match store.read_window(Need::Key(*key)) {
         Ok(view) => Ok(addition_adds(alloc, &view, key, numbers)?),
         Err(_) => Err("a window".into()),

@@ -31,7 +31,7 @@ fn nearest_of(view: &View<'_>, key: &Key, app: &App) -> Nearest {
 
 // What a window on that plan finds nearest to the key.
 fn planned_nearest(alloc: Global, key: &Key, app: &App) -> Result<Nearest, Fail> {
-    let mut store = planned(alloc, PLANNED)?;
+    let mut store = planned(alloc, &[PLANNED])?;
     match store.read_window(Need::LongTerm) {
         Ok(view) => Ok(nearest_of(&view, key, app)),
         Err(_) => Err("a window".into()),
@@ -84,7 +84,7 @@ fn modification_puts(
 
 // Whether it does so over that plan.
 fn planned_puts(alloc: Global, link: &Link, pairs: &[Pair]) -> Result<bool, Fail> {
-    let mut store = planned(alloc, PLANNED)?;
+    let mut store = planned(alloc, &[PLANNED])?;
     match store.read_window(Need::LongTerm) {
         Ok(view) => Ok(modification_puts(alloc, &view, link, pairs)?),
         Err(_) => Err("a window".into()),

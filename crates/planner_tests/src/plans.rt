@@ -4,19 +4,17 @@ use planner_cli::run;
 use std::alloc::Global;
 use std::test::Fail;
 
-/// The store goes on by the stream.
-pub(crate) fn go_on(alloc: Global, store: &mut ListStore, stream: &[u8]) -> Result<(), Fail> {
-    let mut reader = stream;
+/// A new store after a stream in these parts.
+pub(crate) fn planned(alloc: Global, parts: &[&[u8]]) -> Result<ListStore, Fail> {
+    let mut stream = Vec::new(alloc);
+    for part in parts {
+        stream.extend_from_slice(part)?;
+    }
+    let mut store = ListStore::new(alloc);
+    let mut reader = stream.as_slice();
     let mut replies = Vec::new(alloc);
-    match run(alloc, store, &mut reader, &mut replies) {
-        Ok(_) => Ok(()),
+    match run(alloc, &mut store, &mut reader, &mut replies) {
+        Ok(_) => Ok(store),
         Err(_) => Err("a run".into()),
     }
-}
-
-/// A new store after the stream.
-pub(crate) fn planned(alloc: Global, stream: &[u8]) -> Result<ListStore, Fail> {
-    let mut store = ListStore::new(alloc);
-    go_on(alloc, &mut store, stream)?;
-    Ok(store)
 }

@@ -1,5 +1,5 @@
 //! Windows over a plan: they show what their need names, and no more.
-use crate::plans::{go_on, planned};
+use crate::plans::planned;
 use occurrences::{CurrentRow, Key, Row};
 use plan_store::{ListStore, Need, PlanStore, View};
 use std::alloc::Global;
@@ -52,7 +52,7 @@ fn shows_alone(view: &View<'_>, ltp: &[u32], cp: &[u32]) -> bool {
 
 // Whether one for a daily plan to the moment does, over that plan.
 fn daily_shows(alloc: Global, to: Moment, ltp: &[u32], cp: &[u32]) -> Result<bool, Fail> {
-    let mut store = planned(alloc, KEPT_PAIRS)?;
+    let mut store = planned(alloc, &[KEPT_PAIRS])?;
     match store.read_window(Need::Daily(to)) {
         Ok(view) => Ok(shows_alone(&view, ltp, cp)),
         Err(_) => Err("a window".into()),
@@ -81,7 +81,7 @@ fn shows_definitions(view: &View<'_>) -> bool {
 
 // Whether one for definitions does, over that plan.
 fn definitions_alone(alloc: Global) -> Result<bool, Fail> {
-    let mut store = planned(alloc, KEPT_PAIRS)?;
+    let mut store = planned(alloc, &[KEPT_PAIRS])?;
     match store.read_window(Need::Definitions) {
         Ok(view) => Ok(shows_definitions(&view)),
         Err(_) => Err("a window".into()),
@@ -102,7 +102,7 @@ fn shows_all(view: &View<'_>) -> bool {
 
 // Whether one on the key does, after one for a daily plan.
 fn key_shows_all(alloc: Global, to: Moment, key: &Key) -> Result<bool, Fail> {
-    let mut store = planned(alloc, KEPT_PAIRS)?;
+    let mut store = planned(alloc, &[KEPT_PAIRS])?;
     if store.read_window(Need::Daily(to)).is_err() {
         return Err("a window".into());
     }
@@ -149,7 +149,7 @@ fn deleted_key() -> Result<Key, Fail> {
 
 #[test]
 fn a_window_on_a_key_shows_no_deletion(rt: HostRuntime) -> Result<(), Fail> {
-    let mut store = planned(rt.alloc(), DELETED)?;
+    let mut store = planned(rt.alloc(), &[DELETED])?;
     let key = deleted_key()?;
     assert!(rt; !shows_deleted(&mut store, Need::Key(key), &key)?);
     Ok(())
@@ -157,10 +157,10 @@ fn a_window_on_a_key_shows_no_deletion(rt: HostRuntime) -> Result<(), Fail> {
 
 #[test]
 fn a_long_term_window_shows_what_keeps_keys_from_being_made(rt: HostRuntime) -> Result<(), Fail> {
-    let mut store = planned(rt.alloc(), DELETED)?;
     let key = deleted_key()?;
+    let mut store = planned(rt.alloc(), &[DELETED])?;
     assert!(rt; shows_deleted(&mut store, Need::LongTerm, &key)?);
-    go_on(rt.alloc(), &mut store, PASSED)?;
-    assert!(rt; !shows_deleted(&mut store, Need::LongTerm, &key)?);
+    let mut passed = planned(rt.alloc(), &[DELETED, PASSED])?;
+    assert!(rt; !shows_deleted(&mut passed, Need::LongTerm, &key)?);
     Ok(())
 }
