@@ -1,0 +1,3 @@
+pub mod Wherever
+pub mod Where
+pub mod Keys
