@@ -5,3 +5,9 @@ pub mod SelectLemmas
 pub mod TextMeanings
 pub mod WhereLemmas
 pub mod WhereverLemmas
+pub mod QueryLemmas
+pub mod SelectTexts
+pub mod PlanMeanings
+pub mod PlaceLemmas
+pub mod CreateLemmas
+pub mod CreateTexts

@@ -36,7 +36,7 @@ yielded (Ok a) P h = (a, refl, h)
 yielded (Err e) P h = absurd h
 
 -- what is rolled up opens again
-opens_source : (name : List ℕ) → out-Source (source_table name) ≡ record { is_left = false; origin = origin.Table name; alias = None; on = None; using = [] }
+pub opens_source : (name : List ℕ) → out-Source (source_table name) ≡ record { is_left = false; origin = origin.Table name; alias = None; on = None; using = [] }
 unfolding everything
 opens_source name = refl
 
@@ -87,7 +87,7 @@ module _ (schema : Schema) (table : Table) (at : ℕ) (got : slice_get schema.ta
       (all.0, rw (one.1, all.1, left, append_assoc) refl)
 
   -- FROM and the columns of the result, and then WHERE
-  reads_body : (core : Core) (ns : List (List ℕ)) (tests : List Term) → table_named schema name ≡ Some at → HasColumns table ns → length ns < max_budget
+  pub reads_body : (core : Core) (ns : List (List ℕ)) (tests : List Term) → table_named schema name ≡ Some at → HasColumns table ns → length ns < max_budget
       → (out-Core core).shown ≡ map shown_column ns → (out-Core core).from ≡ source_table name ∷ []
       → (next : Carried) × ((t : State) → body.tests lower (outer_level schema (record { tables = bound; shown = map (shown_as table) ns }) false) [] (out-Core core).filter (with_budget (max_budget - length ns) next) ≡ Ok (tests, t)
       → body.body lower (select.outermost schema) core (fresh 1 max_budget) ≡ Ok (record { level = record { tables = bound; shown = map (shown_as table) ns }; steps = Inner table.tree ∷ []; filter = tests }, t))

@@ -1,8 +1,13 @@
 -- The texts of INSERT and DELETE mean the same wherever their table stands.
-use Rattle.std.proofs.Common.{◌≡◌, ℕ, List, ◌-◌, true, [], ◌∷◌, length, Ok, Err, refl, subst, sym}
+use Rattle.std.proofs.Common.{false, subst₂, ◌∙◌, ap, ◌≡◌, ℕ, List, ◌-◌, true, [], ◌∷◌, length, Ok, Err, refl, subst, sym}
 use Rattle.sqlite.specs.Term.{Term, col}
 use Rattle.sqlite.specs.Source.TheVariants.{Values}
-use Rattle.sqlite.specs.Command.TheVariants.{Insert, Delete}
+use Rattle.sqlite.specs.Command.TheVariants.{Insert, Delete, Select, CreateTable}
+use Rattle.sqlite.specs.Listing.{understood}
+use Rattle.sqlite.proofs.Callers.{statement_of}
+use Rattle.sqlite_catalog.specs.Change.{is_used}
+use Rattle.anywhere.proofs.CreateLemmas.{create_plans, states}
+use Rattle.anywhere.proofs.CreateTexts.{create_says}
 use Rattle.sqlite_schema.specs.declared.schema.Schema.{Schema}
 use Rattle.sqlite_schema.specs.declared.schema.Table.{Table as Described}
 use Rattle.sqlite_draft.specs.declared.query.Draft.{Draft}
@@ -14,19 +19,21 @@ use Rattle.sqlite_resolve.specs.Compile.{first}
 use Rattle.sqlite_resolve.specs.Program.{program}
 use Rattle.sqlite_typing.specs.Types.{accepts_program}
 use Rattle.sqlite_syntax.specs.declared.statement.Parsed.{Parsed}
-use Rattle.table_schema.specs.Schema.{table_at}
-use Rattle.table_schema.specs.Texts.{insert_sql, delete_sql}
-use Rattle.table_schema.specs.Cells.{insert_terms, width, column_names, delete_tests}
+use Rattle.table_schema.specs.Schema.{table_at, name}
+use Rattle.table_schema.specs.Texts.{create_sql, insert_sql, delete_sql, select_sql}
+use Rattle.table_schema.specs.Cells.{insert_terms, width, column_names, delete_tests, select_terms}
 use Rattle.table_schema.proofs.Steps.{plain_query}
 use Rattle.table_schema.specs.declared.tables.Table.{Table}
 use Rattle.table_schema.specs.declared.tables.Table.TheVariants.{Meta, CalendarEntry, Period, Application, RunCycle}
 use Rattle.table_schema.specs.declared.tables.Table.TheVariants.{Offset, Predecessor, LinkInForce, LongTerm, Current}
 use Rattle.table_schema.specs.declared.tables.Table.TheVariants.{History, Deletion, Dependency, Job}
 use Rattle.anywhere.specs.Where.{IsCompared, equals}
-use Rattle.anywhere.specs.Wherever.{Stands, IfRead, Deletes, SaysEqual, SaysPair}
+use Rattle.anywhere.specs.Wherever.{Stands, IfRead, Deletes, SaysEqual, SaysPair, plain_draft}
 use Rattle.anywhere.specs.Keys.{key_width}
 use Rattle.anywhere.proofs.WhereLemmas.{deletes_equal, deletes_pair}
-use Rattle.anywhere.proofs.WhereverLemmas.{Means, means, insert_plans, delete_plans}
+use Rattle.anywhere.proofs.QueryLemmas.{all_draft, all_page, select_plans}
+use Rattle.anywhere.proofs.SelectTexts.{select_says, has_columns, few, shown_terms, shown_names, select_accepted}
+use Rattle.anywhere.proofs.WhereverLemmas.{Means, Plans, means, insert_plans, delete_plans}
 use Rattle.anywhere.proofs.InsertTexts.{insert_says}
 use Rattle.anywhere.proofs.DeleteTexts.{delete_says, key_is_compared, delete_accepted}
 
@@ -68,6 +75,9 @@ module _ (schema : Schema) (table : Described) (at : ℕ) (it : Stands schema ta
     program = runs schema _ fits;
   }
 
+as_plain : (tree : ℕ) (terms : List Term) → query_of (plain_draft tree [] terms [] all_page) ≡ plain_query tree [] terms
+as_plain tree terms = refl
+
 module _ (schema : Schema) (at tree : ℕ) where
   pub insert_means : (t : Table) → Stands schema (table_at tree t) at
       → Means schema (insert_sql t) (Insert at (Values (insert_terms t) (width t))) (length (column_names t))
@@ -95,3 +105,23 @@ module _ (schema : Schema) (at tree : ℕ) where
       → Means schema (delete_sql t) (Delete at (record { lets = []; body = plain_query tree (delete_tests t) (col 1 0 ∷ []) })) (key_width t)
   delete_means t it = means schema (delete_sql t) _ _ (first (delete_sql t)) refl
       (delete_plans schema (table_at tree t) at it (key_draft tree (delete_tests t)) _ _ (first (delete_sql t)) (deletes t it))
+
+  pub select_means : (t : Table) → Stands schema (table_at tree t) at
+      → Means schema (select_sql t) (Select (record { lets = []; body = plain_query tree [] (select_terms t) }) (column_names t)) 0
+  select_means t it =
+      let table = table_at tree t in
+      let draft = all_draft schema table (column_names t) in
+      let q : query_of draft ≡ plain_query tree [] (select_terms t) = as_plain tree _ ∙ ap (plain_query tree []) (shown_terms tree t) in
+      let fits = subst (λ it. accepts_program schema [] it [] ≡ true) (sym q) (select_accepted schema tree t it.stored it.found) in
+      means schema (select_sql t) _ _ (first (select_sql t)) refl
+      (subst₂ (λ body names. IfRead (first (select_sql t)) (Plans schema (Select (record { lets = []; body = body }) names) (length (select_sql t)) 0)) q (shown_names tree t)
+      (select_plans schema table at it (column_names t) _ (has_columns tree t) (few t) fits (first (select_sql t)) (select_says t)))
+
+-- where the name is free, the table is made, by the whole text
+pub create_means : (schema : Schema) (t : Table) → is_used schema (name t) ≡ false
+    → Means schema (create_sql t) CreateTable 0 × (statement_of (create_sql t) (understood schema (create_sql t)) ≡ create_sql t)
+create_means schema t free =
+    let r = first (create_sql t) in (
+      means schema (create_sql t) _ _ r refl (create_plans schema (name t) (create_sql t) (table_at 0 t) free r (create_says t)),
+      states schema (name t) (create_sql t) (table_at 0 t) free r refl (create_says t),
+    )

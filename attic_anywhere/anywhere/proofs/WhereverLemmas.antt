@@ -35,12 +35,12 @@ Plans schema c size given p = (compile.planned schema p ≡ Ok ([], (c, None))) 
 
 -- ---- from what is planned to what is understood
 
-compiles : (schema : Schema) (sql : List ℕ) (p : Parsed) (c : Command) → compile.first sql ≡ Ok p → compile.planned schema p ≡ Ok ([], (c, None))
+pub compiles : (schema : Schema) (sql : List ℕ) (p : Parsed) (c : Command) → compile.first sql ≡ Ok p → compile.planned schema p ≡ Ok ([], (c, None))
     → compile.compiled schema sql ≡ Ok (compile.with_command p ([], (c, None)))
 unfolding compile.compiled
 compiles schema sql p c read h = rw (read, h) refl
 
-understands : (schema : Schema) (sql : List ℕ) (p : Parsed) (c : Command) → compile.compiled schema sql ≡ Ok (compile.with_command p ([], (c, None)))
+pub understands : (schema : Schema) (sql : List ℕ) (p : Parsed) (c : Command) → compile.compiled schema sql ≡ Ok (compile.with_command p ([], (c, None)))
     → (reads_listing schema sql ≡ false) × (understood schema sql ≡ Ok (compile.with_command p ([], (c, None))))
 unfolding understood
 understands schema sql p c h = (rw h refl, rw h refl)

@@ -222,3 +222,18 @@ pub record Selects (schema : Schema) (table : Table) (at : ℕ) (columns : List 
   pub reads : ReadsTable schema table at columns tests keys page (select_of p.statement)
   pub drafts : plain_draft table.tree tests (map (λ o. o.term) (map (shown_as table) columns)) keys page ≡ draft
   pub program : program schema [] draft ≡ Ok (record { lets = []; body = query_of draft })
+
+-- the text shows these columns of all rows
+pub record ShowsAll (s : Select) (name : List ℕ) (columns : List (List ℕ)) : Type 0 where
+  pub is : ShowsColumns s name columns
+  pub filter : (out-Core (out-Select s).first).filter ≡ None
+  pub order : (out-Select s).order ≡ []
+  pub limit : (out-Select s).limit ≡ None
+  pub offset : (out-Select s).offset ≡ None
+
+pub record SelectsAll (name : List ℕ) (columns : List (List ℕ)) (size : ℕ) (p : Parsed) : Type 0 where
+  pub whole : p.tail ≡ size
+  pub parameters : p.names ≡ []
+  pub timeless : p.formats ≡ []
+  pub is : p.statement ≡ written.Select (select_of p.statement)
+  pub shows : ShowsAll (select_of p.statement) name columns
