@@ -11,3 +11,4 @@ pub mod PlanMeanings
 pub mod PlaceLemmas
 pub mod CreateLemmas
 pub mod CreateTexts
+pub mod EffectLemmas
