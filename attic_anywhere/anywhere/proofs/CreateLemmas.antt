@@ -60,3 +60,14 @@ module _ (schema : Schema) (name sql : List ℕ) (table : Table) (free : is_used
   states (Ok p) read h =
       let it = understands schema sql p _ (compiles schema sql p _ read (plans p h)) in
       rw it.1 h.text
+
+-- what the text defines does not depend on a schema
+defines : (p : Parsed) (def : CreateTable) (table : Table) → p.statement ≡ written.CreateTable def → define.table p.formats def ≡ Ok table
+    → compile.table_in p.formats p.statement ≡ Ok table
+unfolding compile.table_in
+defines p def table is defined = rw (is, defined) refl
+
+pub table_defined : (name sql : List ℕ) (table : Table) (r : Checked Parsed) → compile.first sql ≡ r → IfRead r (Creates name sql table) → compile.table_defined_by sql ≡ Ok table
+unfolding compile.table_defined_by
+table_defined name sql table (Err e) read h = absurd h
+table_defined name sql table (Ok p) read h = rw (read, defines p h.def table h.is h.defined) refl

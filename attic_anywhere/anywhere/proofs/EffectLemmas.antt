@@ -21,7 +21,7 @@ use Rattle.sqlite.proofs.Callers.{one_step, reads_as, runs_as, statement_of}
 use Rattle.sqlite_rules.proofs.ListLemmas.{all_from, all_has}
 use Rattle.sqlite_rules.proofs.PlaceLemmas.{named_parent}
 use Rattle.sqlite_rules.proofs.RuleLemmas.{same_table}
-use Rattle.sqlite_rules.specs.Action.{Work, deed_for, pairs, work_by, work_for, works}
+use Rattle.sqlite_rules.specs.Action.{Work, Writes, deed_for, pairs, work_by, work_for, works}
 use Rattle.sqlite_rules.specs.Calls.{ids_of}
 use Rattle.sqlite_rules.specs.Cast.{cast_row}
 use Rattle.sqlite_rules.specs.Edit.{Applies, edit_of, is_taken, taken_by, with_rowid}
@@ -76,7 +76,7 @@ abbrev pub IsUnreferred : Schema → Described → Type 0
 IsUnreferred schema table = AllByRecursion (λ child. AllByRecursion (λ ref. same_name table.name ref.parent ≡ false) child.references) schema.tables
 
 -- nor do those that are taken out, of a table that none refers to
-module _ (schema : Schema) (table : Described) (has : Has schema.tables table) (apart : IsAscending TreesDiffer schema.tables) (unreferred : IsUnreferred schema table) where
+module _ (schema : Schema) (table : Described) (has : Has schema.tables table) (apart : IsAscending TreesDiffer schema.tables) where
   other_key : (ref : Reference) (k : ParentKey) → same_name table.name ref.parent ≡ false → parent_key schema.tables ref ≡ Some k → (k.0 == table.tree) ≡ false
   other_key ref k other is =
       let it = named_parent schema.tables ref k is in
@@ -88,7 +88,7 @@ module _ (schema : Schema) (table : Described) (has : Has schema.tables table) (
           let one : d ≡ table = same_table schema.tables d table apart in_it has (same ∙ grind (arith, nat_tests)) in
           absurd (let a = ap (λ (u : Described). same_name u.name ref.parent) one in cc)
 
-  no_work : (keys : Keys) (depth : ℕ) (olds news : List Row) (child : Described) (ref : Reference) → same_name table.name ref.parent ≡ false
+  pub no_work : (keys : Keys) (depth : ℕ) (olds news : List Row) (child : Described) (ref : Reference) → same_name table.name ref.parent ≡ false
       → work_for schema keys depth table.tree olds news child ref ≡ None
   no_work keys depth olds news child ref other = go (deed_for keys (length news == 0) ref) (parent_key schema.tables ref) refl
     where
@@ -97,8 +97,8 @@ module _ (schema : Schema) (table : Described) (has : Has schema.tables table) (
       go (Some deed) None is = refl
       go (Some deed) (Some k) is = rw (other_key ref k other is) refl
 
-  pub none_referred : (keys : Keys) (depth : ℕ) (olds news : List Row) → works schema keys depth table.tree olds news ≡ []
-  none_referred keys depth olds news = flat_none _ schema.tables (all_from _ schema.tables (λ child listed. none_mapped _ child.references
+  pub none_referred : IsUnreferred schema table → (keys : Keys) (depth : ℕ) (olds news : List Row) → works schema keys depth table.tree olds news ≡ []
+  none_referred unreferred keys depth olds news = flat_none _ schema.tables (all_from _ schema.tables (λ child listed. none_mapped _ child.references
       (all_from _ child.references (λ ref there. no_work keys depth olds news child ref
       (all_has _ child.references ref (all_has _ schema.tables child unreferred listed) there)))))
 
@@ -140,21 +140,33 @@ module _ (schema : Schema) (at tree : ℕ) (t : Table) (it : Stands schema (tabl
       let fresh : is_taken was row ≡ false = subst (λ r. is_taken was r ≡ false) same (one_fresh _ applies.fresh) in
       (step.0, applies.rows ∙ ap (λ r. put_row r was) same ∙ put_is_placed row was fresh, applies.tables)
 
-  pub takes_rows : (values : Row) (old new : State) (count : ℕ) → old.now.schema ≡ schema → HaveRowids (old.now.trees tree)
-      → ((olds : List Row) → works schema Enforced 0 tree olds [] ≡ [])
+  -- the rows that have the key go, where what that sets off leaves it at one step
+  pub takes_rows_by : (values : Row) (old new : State) (count : ℕ) → old.now.schema ≡ schema → HaveRowids (old.now.trees tree)
+      → ((rows : List Row) (next : Trees) → IsPermutation (map (λ r. rowid r ∷ []) (filter (matches t values) (old.now.trees tree))) rows
+      → Writes schema Enforced old.now.trees (edit_of old.now.trees (table_at tree t) (ids_of rows) Given 0 []) (Ok next)
+      → Applies schema Enforced old.now.trees (edit_of old.now.trees (table_at tree t) (ids_of rows) Given 0 []) next)
       → Executes (delete_sql t) values old new (Ok count)
       → (new.now.schema ≡ schema) × (new.now.trees tree ≡ filter (λ r. not (matches t values r)) (old.now.trees tree))
       × KeepsOthers schema tree old.now.trees new.now.trees
-  takes_rows values old new count has rowids idle h =
+  takes_rows_by values old new count has rowids settle h =
       let means = delete_means schema at tree t it in
       let q = plain_query tree (delete_tests t) (col 1 0 ∷ []) in
       let db = old.now.trees in
       let seen = λ (found : List Row) (a : IsAnswer q (overlay db []) values found). plain_rows tree (delete_tests t) (col 1 0 ∷ []) db values found (own db) a in
       let w = runs_as (delete_sql t) values old new schema has (Delete at (record { lets = []; body = q })) means.is means.plain count h in
       let step = deletes schema at (name t) tree (columns t) (key t) (primary t) (uniques t) (orders t) (checks t) (references t) it.got old new q values
-          (λ rows next a writes. let edit = edit_of db (table_at tree t) (ids_of rows) Given 0 [] in one_step schema Enforced db next edit (idle (taken_by db edit)) writes)
+          (λ rows next a writes. settle rows next (seen rows a) writes)
           (statement_of (delete_sql t) (understood schema (delete_sql t))) count has w in
       (step.0, step.1.2.rows ∙ left_after (matches t values) (db tree) step.1.0 rowids (seen step.1.0 step.1.1), step.1.2.tables)
+
+  pub takes_rows : (values : Row) (old new : State) (count : ℕ) → old.now.schema ≡ schema → HaveRowids (old.now.trees tree)
+      → ((olds : List Row) → works schema Enforced 0 tree olds [] ≡ [])
+      → Executes (delete_sql t) values old new (Ok count)
+      → (new.now.schema ≡ schema) × (new.now.trees tree ≡ filter (λ r. not (matches t values r)) (old.now.trees tree))
+      × KeepsOthers schema tree old.now.trees new.now.trees
+  takes_rows values old new count has rowids idle h = takes_rows_by values old new count has rowids (λ rows next same writes.
+      let edit = edit_of old.now.trees (table_at tree t) (ids_of rows) Given 0 [] in
+      one_step schema Enforced old.now.trees next edit (idle (taken_by old.now.trees edit)) writes) h
 
   pub shows_rows : (old new : State) (rows : List Row) → old.now.schema ≡ schema → Shown (select_sql t) [] old new rows
       → IsPermutation (map (shown t) (old.now.trees tree)) rows

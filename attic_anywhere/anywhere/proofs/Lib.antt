@@ -12,3 +12,6 @@ pub mod PlaceLemmas
 pub mod CreateLemmas
 pub mod CreateTexts
 pub mod EffectLemmas
+pub mod MakeLemmas
+pub mod RunCycleLemmas
+pub mod PlanLemmas

@@ -6,7 +6,7 @@ use Rattle.sqlite.specs.Command.TheVariants.{Insert, Delete, Select, CreateTable
 use Rattle.sqlite.specs.Listing.{understood}
 use Rattle.sqlite.proofs.Callers.{statement_of}
 use Rattle.sqlite_catalog.specs.Change.{is_used}
-use Rattle.anywhere.proofs.CreateLemmas.{create_plans, states}
+use Rattle.anywhere.proofs.CreateLemmas.{create_plans, states, table_defined}
 use Rattle.anywhere.proofs.CreateTexts.{create_says}
 use Rattle.sqlite_schema.specs.declared.schema.Schema.{Schema}
 use Rattle.sqlite_schema.specs.declared.schema.Table.{Table as Described}
@@ -15,7 +15,7 @@ use Rattle.sqlite_draft.specs.declared.join.Step.TheVariants.{Inner}
 use Rattle.sqlite_draft.specs.Query.{query_of}
 use Rattle.sqlite_resolve.specs.Write.{simple, deleted}
 use Rattle.sqlite_resolve.specs.Lowering.{Checked}
-use Rattle.sqlite_resolve.specs.Compile.{first}
+use Rattle.sqlite_resolve.specs.Compile.{first, table_defined_by}
 use Rattle.sqlite_resolve.specs.Program.{program}
 use Rattle.sqlite_typing.specs.Types.{accepts_program}
 use Rattle.sqlite_syntax.specs.declared.statement.Parsed.{Parsed}
@@ -125,3 +125,6 @@ create_means schema t free =
       means schema (create_sql t) _ _ r refl (create_plans schema (name t) (create_sql t) (table_at 0 t) free r (create_says t)),
       states schema (name t) (create_sql t) (table_at 0 t) free r refl (create_says t),
     )
+
+pub create_defines : (t : Table) → table_defined_by (create_sql t) ≡ Ok (table_at 0 t)
+create_defines t = table_defined (name t) (create_sql t) (table_at 0 t) (first (create_sql t)) refl (create_says t)
