@@ -1,13 +1,12 @@
 -- What one statement does to its table, wherever the table stands.
-use Rattle.std.proofs.Common.{◌≡◌, ◌≢◌, ◌==◌, ◌&&◌, ◌/◌, ◌∙◌, ℕ, Bool, true, false, not, cond, IsTrue, List, [], ◌∷◌, ◌++◌, append-nil, length, map, filter, Option, Some, None, Ok, refl, sym, ap, subst, arith}
+use Rattle.std.proofs.Common.{◌≡◌, ◌≢◌, ◌==◌, ◌&&◌, ◌/◌, ◌∙◌, ℕ, Bool, true, false, not, cond, List, [], ◌∷◌, ◌++◌, append-nil, length, map, filter, Option, Some, None, Ok, refl, ap, subst, arith}
 use Rattle.std.specs.List.{AllByRecursion, flat_map, filter_map}
 use Rattle.std.specs.List.Sorted.{IsPermutation}
 use Rattle.std.proofs.lemmas.Bool.Decides.{nat_tests}
 use Rattle.sqlite_keyed.proofs.ListLemmas.{all_of, filter_all}
 use Rattle.sqlite.specs.Order.{Row}
-use Rattle.sqlite.specs.Term.{Term, col}
+use Rattle.sqlite.specs.Term.{col}
 use Rattle.sqlite.specs.Tree.{Trees, put_row, rowid}
-use Rattle.sqlite.specs.View.{is_int}
 use Rattle.sqlite.specs.Source.TheVariants.{Values}
 use Rattle.sqlite.specs.Command.TheVariants.{Insert, Delete}
 use Rattle.sqlite.specs.Effect.{value_rows}
@@ -21,7 +20,7 @@ use Rattle.sqlite.proofs.Callers.{one_step, reads_as, runs_as, statement_of}
 use Rattle.sqlite_rules.proofs.ListLemmas.{all_from, all_has}
 use Rattle.sqlite_rules.proofs.PlaceLemmas.{named_parent}
 use Rattle.sqlite_rules.proofs.RuleLemmas.{same_table}
-use Rattle.sqlite_rules.specs.Action.{Work, Writes, deed_for, pairs, work_by, work_for, works}
+use Rattle.sqlite_rules.specs.Action.{Writes, deed_for, pairs, work_by, work_for, works}
 use Rattle.sqlite_rules.specs.Calls.{ids_of}
 use Rattle.sqlite_rules.specs.Cast.{cast_row}
 use Rattle.sqlite_rules.specs.Edit.{Applies, edit_of, is_taken, taken_by, with_rowid}

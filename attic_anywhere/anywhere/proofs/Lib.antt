@@ -15,3 +15,5 @@ pub mod EffectLemmas
 pub mod MakeLemmas
 pub mod RunCycleLemmas
 pub mod PlanLemmas
+pub mod NamedLemmas
+pub mod PlanEffects

@@ -1,17 +1,15 @@
 -- A table that is made stands behind those before it, and they stand where they stood.
-use Rattle.std.proofs.Common.{◌≡◌, ◌==◌, ◌+◌, ◌<◌, ◌^◌, ◌∙◌, ℕ, zero, suc, Bool, true, false, List, [], ◌∷◌, ◌++◌, length, Option, Some, None, slice_get, nat_le, Ok, refl, ap, cond, arith}
+use Rattle.std.proofs.Common.{◌≡◌, ◌==◌, ◌+◌, ◌<◌, ◌^◌, ◌∙◌, ℕ, zero, suc, Bool, true, false, List, [], ◌∷◌, ◌++◌, length, Some, None, slice_get, nat_le, Ok, refl, ap, cond, arith}
 use Rattle.std.specs.List.{AllByRecursion, find, position_from}
 use Rattle.std.proofs.lemmas.Bool.{eq-eqb, ne_eqb}
 use Rattle.std.proofs.lemmas.Bool.Decides.{nat_tests}
-use Rattle.sqlite.proofs.Callers.{command_of, statement_of}
 use Rattle.sqlite.specs.Change.{created, next_tree, KeepsRows}
 use Rattle.sqlite.specs.Does.{lacks_sequence}
 use Rattle.sqlite.specs.State.{State, Executes}
 use Rattle.sqlite_catalog.specs.Change.{is_used}
 use Rattle.sqlite_catalog.proofs.StepLemmas.{no_table, same_itself, table_below}
 use Rattle.sqlite_rules.proofs.ListLemmas.{all_from}
-use Rattle.sqlite_rules.specs.Lists.{Has}
-use Rattle.sqlite_schema.specs.Names.{same_name, table_named}
+use Rattle.sqlite_schema.specs.Names.{same_name}
 use Rattle.sqlite_schema.specs.declared.schema.Schema.{Schema}
 use Rattle.sqlite_schema.specs.declared.schema.Table.{Table as Described}
 use Rattle.table_schema.proofs.Steps.{creates}

@@ -59,14 +59,17 @@ stands schema table at got named treed stored =
   stored = stored;
 }
 
--- in a database whose list of objects is in order a table stands at its place
+-- in a list of objects in order no two tables have one tree
+pub trees_apart : (schema : Schema) (db : Trees) → AreListed (db catalog_tree) schema → IsTable (db catalog_tree) → IsAscending TreesDiffer schema.tables
+trees_apart schema db are rising = zipped_ascending IsTableRow (λ a b. value_cmp (rowid a) (rowid b) ≡ Less) TreesDiffer
+    (λ a b s t p q. rising_trees a b p.described.id q.described.id) _ schema.tables are.tables (ascending_filter _ is_table_row (db catalog_tree) rising)
+
+-- and a table stands at its place
 pub stands_in : (schema : Schema) (db : Trees) (table : Table) (at : ℕ) → AreListed (db catalog_tree) schema → IsTable (db catalog_tree)
     → slice_get schema.tables at ≡ Some table → Stands schema table at
 stands_in schema db table at are rising got =
-    let treed = zipped_ascending IsTableRow (λ a b. value_cmp (rowid a) (rowid b) ≡ Less) (λ s t. s.tree ≡ t.tree → ⊥)
-        (λ a b s t p q. rising_trees a b p.described.id q.described.id) _ schema.tables are.tables (ascending_filter _ is_table_row (db catalog_tree) rising) in
     let row = zipped_left IsTableRow _ schema.tables table are.tables (has_got schema.tables at table got) in
-    stands schema table at got are.named treed (low table.tree row.2.described.low)
+    stands schema table at got are.named (trees_apart schema db are rising) (low table.tree row.2.described.low)
   where
     low : (tree : ℕ) → tree < 65536 → nat_le (2 ^ 31) tree ≡ false
     low tree few = grind (arith, nat_tests, few)

@@ -1,5 +1,5 @@
 -- What one statement does to the tables of the plan, wherever each stands.
-use Rattle.std.proofs.Common.{◌≡◌, ◌≢◌, ◌⊎◌, ◌∙◌, ◌+◌, inl, inr, ℕ, not, false, List, [], ◌∷◌, length, filter, Ok, refl, sym, ap, subst, arith}
+use Rattle.std.proofs.Common.{◌≡◌, ◌≢◌, ◌⊎◌, inl, inr, ℕ, not, false, [], length, filter, slice_get, Some, Ok, refl, sym, ap, subst}
 use Rattle.std.specs.List.{AllByRecursion}
 use Rattle.sqlite.specs.Order.{Row}
 use Rattle.sqlite.specs.State.{State, Executes}
@@ -20,7 +20,11 @@ use Rattle.table_schema.specs.declared.tables.Table.TheVariants.{Meta, CalendarE
 use Rattle.table_schema.specs.declared.tables.Table.TheVariants.{Offset, Predecessor, LinkInForce, LongTerm, Current}
 use Rattle.table_schema.specs.declared.tables.Table.TheVariants.{History, Deletion, Dependency, Job}
 use Rattle.anywhere.specs.Wherever.{Stands}
-use Rattle.anywhere.proofs.PlaceLemmas.{TreesDiffer}
+use Rattle.sqlite.specs.Tree.{Trees}
+use Rattle.sqlite_catalog.specs.Listing.{AreListed}
+use Rattle.sqlite_trees.specs.Objects.{catalog_tree}
+use Rattle.sqlite_trees.specs.Tree.{IsTable}
+use Rattle.anywhere.proofs.PlaceLemmas.{TreesDiffer, stands_in, trees_apart}
 use Rattle.anywhere.proofs.EffectLemmas.{IsUnreferred, KeepsOthers, none_referred, takes_rows, takes_rows_by}
 use Rattle.anywhere.proofs.RunCycleLemmas.{OffsetsRefer, cycles_alone}
 
@@ -30,6 +34,20 @@ pub record PlanStands (schema : Schema) (at tree : Table → ℕ) : Type 0 where
   pub apart : IsAscending TreesDiffer schema.tables
   pub refer : AllByRecursion (λ child. AllByRecursion (λ ref. ((t : Table) → same_name (name t) ref.parent ≡ false)
       ⊎ ((child ≡ table_at (tree Offset) Offset) × (ref ≡ to_run_cycle))) child.references) schema.tables
+
+-- what other tables refer to is no table of the plan
+abbrev pub RefersAside : Schema → ℕ → Type 0
+RefersAside schema n = AllByRecursion (λ child. AllByRecursion (λ ref. ((t : Table) → same_name (name t) ref.parent ≡ false)
+    ⊎ ((child ≡ table_at n Offset) × (ref ≡ to_run_cycle))) child.references) schema.tables
+
+-- in a list of objects in order the plan stands where its tables are
+pub plan_stands : (schema : Schema) (db : Trees) (at tree : Table → ℕ) → AreListed (db catalog_tree) schema → IsTable (db catalog_tree)
+    → ((t : Table) → slice_get schema.tables (at t) ≡ Some (table_at (tree t) t)) → RefersAside schema (tree Offset) → PlanStands schema at tree
+plan_stands schema db at tree are rising got refer = record {
+  stands = λ t. stands_in schema db (table_at (tree t) t) (at t) are rising (got t);
+  apart = trees_apart schema db are rising;
+  refer = refer;
+}
 
 module _ (schema : Schema) (at tree : Table → ℕ) (plan : PlanStands schema at tree) where
   listed : (t : Table) → Has schema.tables (table_at (tree t) t)

@@ -1,6 +1,6 @@
 -- Run cycles that have no offsets are taken out alone, wherever the two tables stand.
-use Rattle.std.proofs.Common.{◌≡◌, ◌⊎◌, ◌==◌, ◌&&◌, ◌||◌, ◌+◌, ◌≤◌, ◌∙◌, inl, inr, ℕ, zero, suc, Bool, true, false, cond, nat_lt, IsTrue, List, [], ◌∷◌, ◌++◌, length, map, filter, find, slice_get}
-use Rattle.std.proofs.Common.{ℤ, Option, Some, None, option_and_then, unwrap_or, codes, Ok, Err, refl, sym, ap, subst, arith, is_eq, true≢false}
+use Rattle.std.proofs.Common.{◌≡◌, ◌⊎◌, ◌||◌, ◌+◌, ◌≤◌, ◌∙◌, inl, inr, ℕ, zero, suc, Bool, true, false, cond, nat_lt, IsTrue, List, [], ◌∷◌, ◌++◌, map, filter, find, slice_get}
+use Rattle.std.proofs.Common.{ℤ, Option, Some, None, option_and_then, unwrap_or, Ok, refl, sym, ap, subst, arith, is_eq, true≢false}
 use Rattle.std.specs.List.{AllByRecursion, cons_option, flat_map, filter_map, list_any, position_from}
 use Rattle.std.specs.List.Sorted.{IsPermutation}
 use Rattle.std.proofs.lemmas.Bool.{and_parts, eq-eqb}
@@ -10,13 +10,13 @@ use Rattle.sqlite.specs.Order.{Row}
 use Rattle.sqlite.specs.Rowids.TheVariants.{Given}
 use Rattle.sqlite_keyed.proofs.ListLemmas.{all_both, all_map}
 use Rattle.sqlite_rules.proofs.ListLemmas.{all_from, all_has}
-use Rattle.sqlite_rules.specs.Action.{ActsOn, Acts, AreChildren, End, Leads, Settles, Work, Writes, deed_for, is_child_of, loses, max_depth, pairs, work_by, work_for, works}
+use Rattle.sqlite_rules.specs.Action.{ActsOn, AreChildren, End, Leads, Work, Writes, is_child_of, loses, max_depth, pairs, work_for, works}
 use Rattle.sqlite_rules.specs.Calls.{ids_of}
 use Rattle.sqlite_rules.specs.Edit.{Applies, Edit, edit_of, id_in, row_at, taken_by}
 use Rattle.sqlite_rules.specs.Lists.{Has}
 use Rattle.sqlite_rules.specs.declared.action.Deed.TheVariants.{Delete}
 use Rattle.sqlite_schema.specs.Names.{same_name}
-use Rattle.sqlite_schema.specs.Rules.{agree, key_in, key_places, parent_key}
+use Rattle.sqlite_schema.specs.Rules.{key_in, key_places, parent_key}
 use Rattle.sqlite_schema.specs.declared.schema.Keys.TheVariants.{Enforced}
 use Rattle.sqlite_schema.specs.declared.schema.Reference.{Reference}
 use Rattle.sqlite_schema.specs.declared.schema.Schema.{Schema}
@@ -25,7 +25,6 @@ use Rattle.sqlite_trees.specs.Tree.{IsAscending, Trees, has_rowid, rowid}
 use Rattle.sqlite_trees.specs.View.{is_int}
 use Rattle.sqlite_value.specs.Keys.{joined}
 use Rattle.sqlite_value.specs.Order.{value_cmp}
-use Rattle.sqlite_value.specs.declared.value.Value.{Value}
 use Rattle.sqlite_value.specs.declared.value.Value.TheVariants.{Int}
 use Rattle.table_schema.proofs.CycleLemmas.{child_matches, name_order}
 use Rattle.table_schema.proofs.RowLemmas.{id_back, tied}
@@ -95,7 +94,7 @@ at_least p (x ∷ xs) start k h = go (p x) h (at_least p xs (start + 1) k)
     go true h later = let e : start ≡ k = cc in omega (arith, e)
     go false h later = omega (arith, later h)
 
-found_there : {X : Type 0} (p : X → Bool) (xs : List X) (start at : ℕ) (x : X) → position_from p start xs ≡ Some (start + at) → slice_get xs at ≡ Some x → find p xs ≡ Some x
+pub found_there : {X : Type 0} (p : X → Bool) (xs : List X) (start at : ℕ) (x : X) → position_from p start xs ≡ Some (start + at) → slice_get xs at ≡ Some x → find p xs ≡ Some x
 found_there p [] start at x h got = cc
 found_there p (y ∷ ys) start zero x h got = go (p y) h (at_least p ys (start + 1) (start + 0))
   where

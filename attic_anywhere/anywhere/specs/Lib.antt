@@ -1,3 +1,4 @@
 pub mod Wherever
 pub mod Where
 pub mod Keys
+pub mod Named
