@@ -17,3 +17,5 @@ pub mod RunCycleLemmas
 pub mod PlanLemmas
 pub mod NamedLemmas
 pub mod PlanEffects
+pub mod MadeLemmas
+pub mod FailLemmas
