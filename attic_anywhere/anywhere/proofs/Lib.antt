@@ -19,3 +19,5 @@ pub mod NamedLemmas
 pub mod PlanEffects
 pub mod MadeLemmas
 pub mod FailLemmas
+pub mod StillLemmas
+pub mod TakeAnywhere

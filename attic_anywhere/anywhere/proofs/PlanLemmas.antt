@@ -66,7 +66,7 @@ module _ (schema : Schema) (at tree : Table → ℕ) (plan : PlanStands schema a
   unreferred : (t : Table) → same_name (name t) (name RunCycle) ≡ false → IsUnreferred schema (table_at (tree t) t)
   unreferred t other = each_reference (λ child ref. same_name (name t) ref.parent ≡ false) (λ child ref aside. aside t) other
 
-  offsets_refer : OffsetsRefer schema (tree Offset)
+  pub offsets_refer : OffsetsRefer schema (tree Offset)
   offsets_refer = each_reference (λ child ref. (same_name (name RunCycle) ref.parent ≡ false) ⊎ ((child ≡ table_at (tree Offset) Offset) × (ref ≡ to_run_cycle)))
       (λ child ref aside. inl (aside RunCycle)) (inr (refl, refl))
 

@@ -189,7 +189,7 @@ OffsetsRefer schema n = AllByRecursion (λ child. AllByRecursion (λ ref. (same_
 
 module _ (schema : Schema) (at tree n : ℕ) (it : Stands schema (table_at tree RunCycle) at) (has : Has schema.tables (table_at tree RunCycle))
     (apart : IsAscending TreesDiffer schema.tables) (refer : OffsetsRefer schema n) where
-  key_is : parent_key schema.tables to_run_cycle ≡ Some (tree, 1 ∷ 2 ∷ [], name_order)
+  pub key_is : parent_key schema.tables to_run_cycle ≡ Some (tree, 1 ∷ 2 ∷ [], name_order)
   unfolding joined
   key_is =
       let e : at ≡ 0 + at = omega arith in
