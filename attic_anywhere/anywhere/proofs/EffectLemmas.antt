@@ -116,7 +116,7 @@ abbrev pub KeepsOthers : Schema → ℕ → Trees → Trees → Type 0
 KeepsOthers schema tree old new = AllByRecursion (λ d. d.tree ≢ tree → new d.tree ≡ old d.tree) schema.tables
 
 module _ (schema : Schema) (at tree : ℕ) (t : Table) (it : Stands schema (table_at tree t) at) where
-  own : (db : Trees) → overlay db [] tree ≡ db tree
+  pub own : (db : Trees) → overlay db [] tree ≡ db tree
   own db = rw it.stored refl
 
   pub puts_row : (cells : Row) (old new : State) (count : ℕ) → old.now.schema ≡ schema → AreOfKinds t cells

@@ -21,3 +21,4 @@ pub mod MadeLemmas
 pub mod FailLemmas
 pub mod StillLemmas
 pub mod TakeAnywhere
+pub mod GoneAnywhere

@@ -82,7 +82,7 @@ module _ (schema : Schema) (at tree : Table → ℕ) (it : PlanStands schema at 
   known : (t : Table) → Has schema.tables (table_at (tree t) t)
   known t = has_got schema.tables (at t) _ (it.stands t).got
 
-  trees_tell : (u t : Table) → tree u ≡ tree t → u ≡ t
+  pub trees_tell : (u t : Table) → tree u ≡ tree t → u ≡ t
   trees_tell u t same =
       let one : table_at (tree u) u ≡ table_at (tree t) t = same_table schema.tables _ _ it.apart (known u) (known t) same in
       sym (own_name u) ∙ ap (λ (d : Described). by_name d.name) one ∙ own_name t

@@ -54,7 +54,7 @@ module _ (schema : Schema) (at tree : Table → ℕ) (plan : PlanStands schema a
   listed t = has_got schema.tables (at t) _ (plan.stands t).got
 
   -- the reference that each table has is to no other table than the run cycles
-  each_reference : (P : Described → Reference → Type 0) → ((child : Described) (ref : Reference) → ((t : Table) → same_name (name t) ref.parent ≡ false) → P child ref)
+  pub each_reference : (P : Described → Reference → Type 0) → ((child : Described) (ref : Reference) → ((t : Table) → same_name (name t) ref.parent ≡ false) → P child ref)
       → P (table_at (tree Offset) Offset) to_run_cycle → AllByRecursion (λ child. AllByRecursion (P child) child.references) schema.tables
   each_reference P other own = all_from _ schema.tables (λ child known. all_from _ child.references (λ ref there.
       go child ref (all_has _ child.references ref (all_has _ schema.tables child plan.refer known) there)))
@@ -63,14 +63,14 @@ module _ (schema : Schema) (at tree : Table → ℕ) (plan : PlanStands schema a
       go child ref (inl aside) = other child ref aside
       go child ref (inr (same, to)) = subst (λ c. P c ref) (sym same) (subst (P (table_at (tree Offset) Offset)) (sym to) own)
 
-  unreferred : (t : Table) → same_name (name t) (name RunCycle) ≡ false → IsUnreferred schema (table_at (tree t) t)
+  pub unreferred : (t : Table) → same_name (name t) (name RunCycle) ≡ false → IsUnreferred schema (table_at (tree t) t)
   unreferred t other = each_reference (λ child ref. same_name (name t) ref.parent ≡ false) (λ child ref aside. aside t) other
 
   pub offsets_refer : OffsetsRefer schema (tree Offset)
   offsets_refer = each_reference (λ child ref. (same_name (name RunCycle) ref.parent ≡ false) ⊎ ((child ≡ table_at (tree Offset) Offset) × (ref ≡ to_run_cycle)))
       (λ child ref aside. inl (aside RunCycle)) (inr (refl, refl))
 
-  offsets_apart : tree Offset ≢ tree RunCycle
+  pub offsets_apart : tree Offset ≢ tree RunCycle
   offsets_apart same =
       let one : table_at (tree Offset) Offset ≡ table_at (tree RunCycle) RunCycle = same_table schema.tables _ _ plan.apart (listed Offset) (listed RunCycle) same in
       let size : length (name Offset) ≡ length (name RunCycle) = ap (λ (d : Described). length d.name) one in cc

@@ -153,7 +153,7 @@ passing test Q (r ∷ rs) all = go (test r) refl (passing test Q rs all.1)
     go true e more = (all.0 e, more)
     go false e more = more
 
-found_pass : (test : Row → Bool) (rows found : List Row) → HaveRowids rows
+pub found_pass : (test : Row → Bool) (rows found : List Row) → HaveRowids rows
     → IsPermutation (map (λ r. rowid r ∷ []) (filter test rows)) found
     → AllByRecursion (λ o. test o ≡ true) (map (row_at rows) (ids_of found))
 found_pass test rows found all same =
@@ -204,7 +204,7 @@ module _ (schema : Schema) (at tree n : ℕ) (it : Stands schema (table_at tree 
       go true h = cc
       go false h = cc
 
-  childless : (key : Row) (olds : List Row) (mid : Trees) → AllByRecursion (λ o. matches RunCycle key o ≡ true) olds
+  pub childless : (key : Row) (olds : List Row) (mid : Trees) → AllByRecursion (λ o. matches RunCycle key o ≡ true) olds
       → ((r : Row) → Has (mid n) r → matches Offset key r ≡ false) → AllByRecursion (IsChildless mid) (works schema Enforced 0 tree olds [])
   childless key olds mid all free = all_flat (IsChildless mid) _ schema.tables (all_from _ schema.tables (λ child listed. all_mapped (IsChildless mid) _ child.references
       (all_from _ child.references (λ ref there w is. go child ref w is (all_has _ child.references ref (all_has _ schema.tables child refer listed) there)))))

@@ -73,6 +73,8 @@ use Rattle.table_schema.proofs.CycleLemmas.{name_order}
 use Rattle.table_schema.proofs.FitLemmas.{values_fit}
 use Rattle.table_schema.proofs.StepLemmas.{given_rows}
 use Rattle.table_schema.proofs.TakeLemmas.{at_other, at_own}
+use Rattle.table_schema.proofs.Meanings.{IsWhole}
+use Rattle.anywhere.proofs.TextMeanings.{insert_means}
 use Rattle.anywhere.proofs.EffectLemmas.{none_taken}
 use Rattle.anywhere.proofs.PlanLemmas.{PlanStands, offsets_refer}
 use Rattle.anywhere.proofs.RunCycleLemmas.{key_is}
@@ -111,7 +113,7 @@ plan_index Deletion k e = absurd (let x = e in cc)
 plan_index Dependency k e = (_, inr (inr (inr (inr (inr (inr (inr (inr (inr (inl refl))))))))), refl, first_of _ _ e)
 plan_index Job k e = absurd (let x = e in cc)
 
-in_plain_order : name_order ≡ plain
+pub in_plain_order : name_order ≡ plain
 unfolding joined
 in_plain_order = refl
 
@@ -384,3 +386,28 @@ module _ (schema : Schema) (at tree : Table → ℕ) (it : PlanStands schema at 
         go (inr (w, h, inl (s, tested, is))) = absurd (tested.0 (refers_then refers w h))
         go (inr (w, h, inr (in_doubt, tested, inl (s, shown, is)))) = absurd (let e = shown in cc)
         go (inr (w, h, inr (in_doubt, tested, inr (rows, shown, is)))) = absurd (let e = is in cc)
+
+ordinary : (place : ℕ) (t : Table) → IsOrdinary (Insert place (Values (insert_terms t) (width t)))
+ordinary place t = record { quiet = refl; plain = refl; begins = λ e. cc; commits = λ e. cc; undoes = λ e. cc; releases = λ name e. cc; goes_back = λ name e. cc }
+
+-- where the table takes the row, INSERT fails for nothing but memory, the device, a connection that was shut or the limit on steps
+pub take_fails : (schema : Schema) (at tree : Table → ℕ) (it : PlanStands schema at tree) → PlanIndexes schema tree → (t : Table) (cells : Row) (old new : State) (e : Error)
+    → old.now.schema ≡ schema → (IsTrue old.is_open → IsDatabase old.now) → TakesRow t cells (λ u. old.now.trees (tree u))
+    → ExecutesInside 0 (insert_sql t) cells old new (Err e) → MayFail old new e
+take_fails schema at tree it indexes t cells old new e has sound takes h =
+    let sql = insert_sql t in
+    let text = statement_of sql (understood schema sql) in
+    let command = Insert (at t) (Values (insert_terms t) (width t)) in
+    let db = old.now.trees in
+    let means = insert_means schema (at t) (tree t) t (it.stands t) in
+    let turned = λ (stop : Option Error) (does : Does old.step_limit (mode_of old) cells old.now text None command
+    (Err stop)). subst (λ s. Does old.step_limit (mode_of old) cells (record old.now { schema = s }) text None command
+    (Err stop)) has does in
+    in_vain old new cells text command e
+    (λ does. never_stops schema at tree it indexes t cells db takes old.step_limit text (turned None does))
+    (λ opened does.
+    let database = subst (λ s. IsSound s db) has (sound opened) in
+    let told = stops schema at tree it indexes t cells db takes old.step_limit (database.obeys.rules Unique)
+    (database.obeys.rules ForeignKey) text (Some e) (turned (Some e) does) in (some_same told.0, told.1))
+    (stopped schema sql cells command (subst (IsWhole (understood schema sql) (length sql)) (sym takes.whole) means.whole) means.plain means.is (ordinary (at t) t)
+    old new e has h)
