@@ -34,6 +34,11 @@ use Rattle.sqlite_schema.specs.declared.schema.Reference.{Reference}
 use Rattle.sqlite_schema.specs.declared.schema.Schema.{Schema}
 use Rattle.sqlite_schema.specs.declared.schema.Table.{Table as Described}
 use Rattle.sqlite_trees.specs.Tree.{IsAscending}
+use Rattle.sqlite_trees.specs.Objects.{catalog_tree}
+use Rattle.sqlite_catalog.specs.Listing.{AreListed, IsIndexRow}
+use Rattle.sqlite_catalog.proofs.LayoutLemmas.{zipped_left}
+use Rattle.sqlite_rules.specs.Edit.{IsNoIndex}
+use Rattle.std.proofs.Common.{nat_le, ◌^◌}
 use Rattle.table_schema.proofs.RowLemmas.{left_after, put_is_placed}
 use Rattle.table_schema.proofs.StepLemmas.{given_rows}
 use Rattle.table_schema.proofs.Steps.{deletes, inserts, plain_query, plain_rows}
@@ -115,6 +120,19 @@ one_int false h = cc
 abbrev pub KeepsOthers : Schema → ℕ → Trees → Trees → Type 0
 KeepsOthers schema tree old new = AllByRecursion (λ d. d.tree ≢ tree → new d.tree ≡ old d.tree) schema.tables
 
+-- and the list of objects
+abbrev pub KeepsList : Trees → Trees → Type 0
+KeepsList old new = new catalog_tree ≡ old catalog_tree
+
+-- the list of objects is no index
+not_listed : (schema : Schema) (objects : List Row) → AreListed objects schema → IsNoIndex schema catalog_tree
+not_listed schema objects are = all_from (λ i. i.tree ≢ catalog_tree) schema.indexes (λ i has same.
+    let row = zipped_left (IsIndexRow schema.tables) _ schema.indexes i are.indexes has in
+    let low = row.2.described.low in omega (arith, low, same))
+
+apart_from_list : (tree : ℕ) → nat_le (2 ^ 31) tree ≡ false → catalog_tree ≢ tree
+apart_from_list tree stored same = grind (arith, nat_tests, stored, same)
+
 module _ (schema : Schema) (at tree : ℕ) (t : Table) (it : Stands schema (table_at tree t) at) where
   pub own : (db : Trees) → overlay db [] tree ≡ db tree
   own db = rw it.stored refl
@@ -123,21 +141,26 @@ module _ (schema : Schema) (at tree : ℕ) (t : Table) (it : Stands schema (tabl
       → Executes (insert_sql t) cells old new (Ok count)
       → (new.now.schema ≡ schema)
       × (new.now.trees tree ≡ placed (with_rowid Chosen (old.now.trees tree) (stored t cells)) (old.now.trees tree))
-      × KeepsOthers schema tree old.now.trees new.now.trees
+      × KeepsOthers schema tree old.now.trees new.now.trees × KeepsList old.now.trees new.now.trees
   puts_row cells old new count has kinds h =
       let means = insert_means schema at tree t it in
       let text = statement_of (insert_sql t) (understood schema (insert_sql t)) in
       let w = runs_as (insert_sql t) cells old new schema has (Insert at (Values (insert_terms t) (width t))) means.is means.plain count h in
       let step = inserts schema at (name t) tree (columns t) (key t) (primary t) (uniques t) (orders t) (checks t) (references t) it.got
-          (none_taken schema Enforced 0 tree) old new (insert_terms t) (width t) cells text count has w in
+      (none_taken schema Enforced 0 tree) old new (insert_terms t) (width t) cells text count has w in
       let was = old.now.trees tree in
       let row = with_rowid Chosen was (stored t cells) in
       let given : value_rows (cells ++ []) (width t) (length (insert_terms t) / width t) (insert_terms t) ≡ stored t cells ∷ []
-          = ap (λ c. value_rows c (width t) (length (insert_terms t) / width t) (insert_terms t)) (append-nil cells) ∙ given_rows t cells in
+      = ap (λ c. value_rows c (width t) (length (insert_terms t) / width t) (insert_terms t)) (append-nil cells) ∙ given_rows t cells in
       let applies = subst (λ l. Applies schema Enforced old.now.trees (edit_of old.now.trees (table_at tree t) [] Chosen 0 l) new.now.trees) given step.1 in
       let same : with_rowid Chosen was (cast_row (table_at tree t) (stored t cells)) ≡ row = ap (with_rowid Chosen was) kinds in
       let fresh : is_taken was row ≡ false = subst (λ r. is_taken was r ≡ false) same (one_fresh _ applies.fresh) in
-      (step.0, applies.rows ∙ ap (λ r. put_row r was) same ∙ put_is_placed row was fresh, applies.tables)
+      let are = subst (AreListed (new.now.trees catalog_tree)) step.0 w.sound.lists.listed in (
+        step.0,
+        applies.rows ∙ ap (λ r. put_row r was) same ∙ put_is_placed row was fresh,
+        applies.tables,
+        applies.others catalog_tree (apart_from_list tree it.stored) (not_listed schema _ are),
+      )
 
   -- the rows that have the key go, where what that sets off leaves it at one step
   pub takes_rows_by : (values : Row) (old new : State) (count : ℕ) → old.now.schema ≡ schema → HaveRowids (old.now.trees tree)
@@ -146,7 +169,7 @@ module _ (schema : Schema) (at tree : ℕ) (t : Table) (it : Stands schema (tabl
       → Applies schema Enforced old.now.trees (edit_of old.now.trees (table_at tree t) (ids_of rows) Given 0 []) next)
       → Executes (delete_sql t) values old new (Ok count)
       → (new.now.schema ≡ schema) × (new.now.trees tree ≡ filter (λ r. not (matches t values r)) (old.now.trees tree))
-      × KeepsOthers schema tree old.now.trees new.now.trees
+      × KeepsOthers schema tree old.now.trees new.now.trees × KeepsList old.now.trees new.now.trees
   takes_rows_by values old new count has rowids settle h =
       let means = delete_means schema at tree t it in
       let q = plain_query tree (delete_tests t) (col 1 0 ∷ []) in
@@ -154,15 +177,19 @@ module _ (schema : Schema) (at tree : ℕ) (t : Table) (it : Stands schema (tabl
       let seen = λ (found : List Row) (a : IsAnswer q (overlay db []) values found). plain_rows tree (delete_tests t) (col 1 0 ∷ []) db values found (own db) a in
       let w = runs_as (delete_sql t) values old new schema has (Delete at (record { lets = []; body = q })) means.is means.plain count h in
       let step = deletes schema at (name t) tree (columns t) (key t) (primary t) (uniques t) (orders t) (checks t) (references t) it.got old new q values
-          (λ rows next a writes. settle rows next (seen rows a) writes)
-          (statement_of (delete_sql t) (understood schema (delete_sql t))) count has w in
-      (step.0, step.1.2.rows ∙ left_after (matches t values) (db tree) step.1.0 rowids (seen step.1.0 step.1.1), step.1.2.tables)
+      (λ rows next a writes. settle rows next (seen rows a) writes)
+      (statement_of (delete_sql t) (understood schema (delete_sql t))) count has w in (
+        step.0,
+        step.1.2.rows ∙ left_after (matches t values) (db tree) step.1.0 rowids (seen step.1.0 step.1.1),
+        step.1.2.tables,
+        step.1.2.others catalog_tree (apart_from_list tree it.stored) (not_listed schema _ (subst (AreListed (new.now.trees catalog_tree)) step.0 w.sound.lists.listed)),
+      )
 
   pub takes_rows : (values : Row) (old new : State) (count : ℕ) → old.now.schema ≡ schema → HaveRowids (old.now.trees tree)
       → ((olds : List Row) → works schema Enforced 0 tree olds [] ≡ [])
       → Executes (delete_sql t) values old new (Ok count)
       → (new.now.schema ≡ schema) × (new.now.trees tree ≡ filter (λ r. not (matches t values r)) (old.now.trees tree))
-      × KeepsOthers schema tree old.now.trees new.now.trees
+      × KeepsOthers schema tree old.now.trees new.now.trees × KeepsList old.now.trees new.now.trees
   takes_rows values old new count has rowids idle h = takes_rows_by values old new count has rowids (λ rows next same writes.
       let edit = edit_of old.now.trees (table_at tree t) (ids_of rows) Given 0 [] in
       one_step schema Enforced old.now.trees next edit (idle (taken_by old.now.trees edit)) writes) h

@@ -4,7 +4,6 @@ use Rattle.std.proofs.Common.{map, filter, Option, Some, None, IsSome, IsTrue, O
 use Rattle.std.specs.List.{AllByRecursion}
 use Rattle.std.specs.List.Sorted.{IsPermutation}
 use Rattle.std.proofs.lemmas.Bool.{both_ways, cases_eq, false_from_ne_true, not_from_false, or_cases, or_left, or_right}
-use Rattle.std.proofs.lemmas.List.Elements.{recursion_from_All}
 use Rattle.sqlite.specs.Command.{Command}
 use Rattle.sqlite.specs.Command.TheVariants.{Delete}
 use Rattle.sqlite.specs.Does.{Does, OnRows}
@@ -26,12 +25,12 @@ use Rattle.sqlite.specs.declared.error.Error.TheVariants.{SqliteFailure}
 use Rattle.sqlite.specs.declared.error.ErrorCode.TheVariants.{OperationInterrupted}
 use Rattle.sqlite.specs.declared.run.Mode.{Mode}
 use Rattle.sqlite.specs.declared.types.Value.TheVariants.{Null}
-use Rattle.sqlite.proofs.Callers.{runs_as, statement_of}
+use Rattle.sqlite.proofs.Callers.{statement_of}
 use Rattle.sqlite_catalog.specs.Listing.{IsSound}
 use Rattle.sqlite_rules.proofs.KeyLemmas.{agree_back}
 use Rattle.sqlite_rules.proofs.ListLemmas.{all_has, has_filtered, has_kept, some_from, some_has}
 use Rattle.sqlite_rules.proofs.RuleLemmas.{refers_at}
-use Rattle.sqlite_rules.specs.Action.{Leads, Settles, Writes, works}
+use Rattle.sqlite_rules.specs.Action.{Settles, Writes, works}
 use Rattle.sqlite_rules.specs.Calls.{ids_of}
 use Rattle.sqlite_rules.specs.Edit.{IsRefused, edited, taken_by}
 use Rattle.sqlite_rules.specs.Lists.{Has}
@@ -43,10 +42,10 @@ use Rattle.sqlite_schema.specs.declared.schema.Among.TheVariants.{All as Whole}
 use Rattle.sqlite_schema.specs.declared.schema.Constraint.TheVariants.{Datatype, NotNull, Check, PrimaryKey, Unique, ForeignKey}
 use Rattle.sqlite_schema.specs.declared.schema.Keys.TheVariants.{Enforced}
 use Rattle.sqlite_trees.specs.Tree.{with_tree}
-use Rattle.sqlite_value.specs.Keys.{joined, plain}
+use Rattle.sqlite_value.specs.Keys.{plain}
 use Rattle.table_schema.specs.Cells.{delete_tests}
-use Rattle.table_schema.specs.Rows.{HaveRowids, IsAlone, MayFail, Tables, matches, tables_of, without_key}
-use Rattle.table_schema.specs.Takes.{IsKeyOf, IsSoundPlan, LosesKey}
+use Rattle.table_schema.specs.Rows.{HaveRowids, IsAlone, MayFail, Tables, matches}
+use Rattle.table_schema.specs.Takes.{IsKeyOf, LosesKey}
 use Rattle.table_schema.specs.Texts.{delete_sql}
 use Rattle.table_schema.specs.declared.tables.Table.{Table}
 use Rattle.std.specs.List.{list_all}

@@ -22,3 +22,4 @@ pub mod FailLemmas
 pub mod StillLemmas
 pub mod TakeAnywhere
 pub mod GoneAnywhere
+pub mod IndexLemmas

@@ -40,7 +40,7 @@ module _ {X : Type 0} where
       go true h later = h
       go false h later = later h
 
-  get_last : (xs : List X) (x : X) → slice_get (xs ++ x ∷ []) (length xs) ≡ Some x
+  pub get_last : (xs : List X) (x : X) → slice_get (xs ++ x ∷ []) (length xs) ≡ Some x
   get_last [] x = refl
   get_last (y ∷ ys) x = get_last ys x
 

@@ -53,11 +53,11 @@ pub stands : (schema : Schema) (table : Table) (at : ℕ) → slice_get schema.t
     → Stands schema table at
 stands schema table at got named treed stored =
     let e : 0 + at ≡ at = omega arith in record {
-  named = first_place NamesDiffer table (λ t. same_name t.name table.name) (same_itself table.name) (λ y h. h) schema.tables at 0 got named ∙ ap Some e;
-  got = got;
-  found = first_found TreesDiffer table (λ t. t.tree == table.tree) (eq-eqb table.tree table.tree refl) (λ y h. ne_eqb _ _ h) schema.tables at got treed;
-  stored = stored;
-}
+      named = first_place NamesDiffer table (λ t. same_name t.name table.name) (same_itself table.name) (λ y h. h) schema.tables at 0 got named ∙ ap Some e;
+      got = got;
+      found = first_found TreesDiffer table (λ t. t.tree == table.tree) (eq-eqb table.tree table.tree refl) (λ y h. ne_eqb _ _ h) schema.tables at got treed;
+      stored = stored;
+    }
 
 -- in a list of objects in order no two tables have one tree
 pub trees_apart : (schema : Schema) (db : Trees) → AreListed (db catalog_tree) schema → IsTable (db catalog_tree) → IsAscending TreesDiffer schema.tables

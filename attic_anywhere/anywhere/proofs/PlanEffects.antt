@@ -103,15 +103,15 @@ module _ (schema : Schema) (at tree : Table → ℕ) (it : PlanStands schema at 
           ∙ sym (rows_are schema at tree old it before u)
 
   -- INSERT
-  pub puts : (t : Table) (cells : Row) (old new : State) (count : ℕ) → old.now.schema ≡ schema → IsDatabase old.now → AreOfKinds t cells
+  pub puts : (t : Table) (cells : Row) (old new : State) (count : ℕ) → old.now.schema ≡ schema → AreOfKinds t cells
       → Executes (insert_sql t) cells old new (Ok count)
       → (new.now.schema ≡ schema) × (rows_named new.now.trees ≡ with_cells t cells (rows_named old.now.trees))
-  puts t cells old new count has sound kinds h =
+  puts t cells old new count has kinds h =
       let means = insert_means schema (at t) (tree t) t (it.stands t) in
       let w = runs_as (insert_sql t) cells old new schema has (Insert (at t) (Values (insert_terms t) (width t))) means.is means.plain count h in
       let step = puts_row schema (at t) (tree t) t (it.stands t) cells old new count has kinds h in
-      let before = subst (AreListed (old.now.trees catalog_tree)) has sound.lists.listed in
       let after = subst (AreListed (new.now.trees catalog_tree)) step.0 w.sound.lists.listed in
+      let before = subst (λ objects. AreListed objects schema) step.3 after in
       let all = same_rows t _ old.now.trees new.now.trees before after step.1 step.2 in
       let was : old.now.trees (tree t) ≡ rows_named old.now.trees t = sym (rows_are schema at tree old.now.trees it before t) in
       (step.0, subst (λ rows. rows_named new.now.trees ≡ with_rows t (placed (with_rowid Chosen rows (stored t cells)) rows) (rows_named old.now.trees)) was all)

@@ -25,7 +25,7 @@ use Rattle.sqlite_catalog.specs.Listing.{AreListed}
 use Rattle.sqlite_trees.specs.Objects.{catalog_tree}
 use Rattle.sqlite_trees.specs.Tree.{IsTable}
 use Rattle.anywhere.proofs.PlaceLemmas.{TreesDiffer, stands_in, trees_apart}
-use Rattle.anywhere.proofs.EffectLemmas.{IsUnreferred, KeepsOthers, none_referred, takes_rows, takes_rows_by}
+use Rattle.anywhere.proofs.EffectLemmas.{IsUnreferred, KeepsList, KeepsOthers, none_referred, takes_rows, takes_rows_by}
 use Rattle.anywhere.proofs.RunCycleLemmas.{OffsetsRefer, cycles_alone}
 
 -- each table of the plan stands at a place and in a tree, no two tables have one tree, and the offsets alone refer to a table of the plan
@@ -77,7 +77,7 @@ module _ (schema : Schema) (at tree : Table → ℕ) (plan : PlanStands schema a
 
   abbrev Taken : Table → Row → State → State → Type 0
   Taken t values old new = (new.now.schema ≡ schema) × (new.now.trees (tree t) ≡ filter (λ r. not (matches t values r)) (old.now.trees (tree t)))
-      × KeepsOthers schema (tree t) old.now.trees new.now.trees
+      × KeepsOthers schema (tree t) old.now.trees new.now.trees × KeepsList old.now.trees new.now.trees
 
   from_unreferred : (t : Table) → same_name (name t) (name RunCycle) ≡ false → (values : Row) (old new : State) (count : ℕ) → old.now.schema ≡ schema
       → HaveRowids (old.now.trees (tree t)) → Executes (delete_sql t) values old new (Ok count) → Taken t values old new
@@ -95,7 +95,7 @@ module _ (schema : Schema) (at tree : Table → ℕ) (plan : PlanStands schema a
   pub takes : (t : Table) (values : Row) (old new : State) (count : ℕ) → old.now.schema ≡ schema → HaveRowids (old.now.trees (tree t))
       → IsAlone t values (λ u. old.now.trees (tree u)) → Executes (delete_sql t) values old new (Ok count)
       → (new.now.schema ≡ schema) × (new.now.trees (tree t) ≡ filter (λ r. not (matches t values r)) (old.now.trees (tree t)))
-      × KeepsOthers schema (tree t) old.now.trees new.now.trees
+      × KeepsOthers schema (tree t) old.now.trees new.now.trees × KeepsList old.now.trees new.now.trees
   unfolding same_name
   takes Meta values old new count has rowids free h = from_unreferred Meta refl values old new count has rowids h
   takes CalendarEntry values old new count has rowids free h = from_unreferred CalendarEntry refl values old new count has rowids h

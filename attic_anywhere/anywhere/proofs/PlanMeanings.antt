@@ -38,9 +38,13 @@ pub insert_is : (more : Further) (t : Table) → command_of (understood (plan_an
 insert_is more t = (insert_means (plan_and more) (place t) (tree t) t (stands_here more t)).is
 
 pub delete_is : (more : Further) (t : Table) → command_of (understood (plan_and more) (delete_sql t)) ≡ Delete (place t) (record {
-  lets = []; body = plain_query (tree t) (delete_tests t) (col 1 0 ∷ []) })
+  lets = [];
+  body = plain_query (tree t) (delete_tests t) (col 1 0 ∷ []);
+})
 delete_is more t = (delete_means (plan_and more) (place t) (tree t) t (stands_here more t)).is
 
 pub select_is : (more : Further) (t : Table) → command_of (understood (plan_and more) (select_sql t)) ≡ Select (record {
-  lets = []; body = plain_query (tree t) [] (select_terms t) }) (column_names t)
+  lets = [];
+  body = plain_query (tree t) [] (select_terms t);
+}) (column_names t)
 select_is more t = (select_means (plan_and more) (place t) (tree t) t (stands_here more t)).is

@@ -194,7 +194,7 @@ module _ (schema : Schema) (at tree n : ℕ) (it : Stands schema (table_at tree 
   key_is =
       let e : at ≡ 0 + at = omega arith in
       let there : find (λ t. same_name t.name (name RunCycle)) schema.tables ≡ Some (table_at tree RunCycle)
-          = found_there (λ t. same_name t.name (name RunCycle)) schema.tables 0 at _ (it.named ∙ ap Some e) it.got in
+      = found_there (λ t. same_name t.name (name RunCycle)) schema.tables 0 at _ (it.named ∙ ap Some e) it.got in
       ap (option_and_then (λ t. option_and_then (key_in t) (key_places t []))) there
 
   work_is : (olds : List Row) (w : Work) → work_for schema Enforced 0 tree olds [] (table_at n Offset) to_run_cycle ≡ Some w → w ≡ their_offsets n olds

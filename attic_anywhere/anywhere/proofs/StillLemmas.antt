@@ -1,6 +1,6 @@
 -- What an edit of one table leaves of the rules, wherever the table stands.
-use Rattle.std.proofs.Common.{◌≡◌, ◌≢◌, ◌⊎◌, ◌==◌, ◌||◌, ◌&&◌, ◌∙◌, ℕ, not, true, false, inl, inr, List, [], ◌∷◌, Option, Some, None, refl, sym, ap, subst}
-use Rattle.std.specs.List.{AllByRecursion, list_all}
+use Rattle.std.proofs.Common.{◌≡◌, ◌≢◌, ◌⊎◌, ◌||◌, ◌&&◌, ◌∙◌, ℕ, not, true, false, inl, inr, List, Option, Some, None, refl, sym, ap, subst}
+use Rattle.std.specs.List.{list_all}
 use Rattle.std.proofs.lemmas.Bool.{and_from, and_parts, both_ways, cases_eq, false_from_ne_true, not-true, not_from_false}
 use Rattle.sqlite.specs.Order.{Row}
 use Rattle.sqlite.specs.Tree.{Trees, rowid}
@@ -117,8 +117,8 @@ module _ (schema : Schema) (at tree : Table → ℕ) (it : PlanStands schema at 
             subst (λ ref. has_parent schema.tables next row ref ≡ true) (sym own.1) (offsets row (subst (λ (x : Described). Has (next x.tree) row) own.0 there))
         go d ref row listed known there (inl aside) =
             let kept = others d listed (λ same.
-                let one = same_table schema.tables d (table_at (tree t) t) it.apart listed is_listed same in
-                let mine = only t ref (subst (λ (x : Described). Has x.references ref) one known) in
-                both_ways _ (subst (λ (r : Reference). same_name (name RunCycle) r.parent ≡ false) mine (aside RunCycle)) own_name) in
+            let one = same_table schema.tables d (table_at (tree t) t) it.apart listed is_listed same in
+            let mine = only t ref (subst (λ (x : Described). Has x.references ref) one known) in
+            both_ways _ (subst (λ (r : Reference). same_name (name RunCycle) r.parent ≡ false) mine (aside RunCycle)) own_name) in
             ap (λ b. has_null ref.columns row || b) (held schema (table_at (tree t) t) is_listed it.apart db next news others from ref row (aside t) (parent_key schema.tables ref) refl)
             ∙ refers_at Whole schema db d row ref refers listed (subst (λ rows. Has rows row) kept there) known refl

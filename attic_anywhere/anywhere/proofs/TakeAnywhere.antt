@@ -1,12 +1,11 @@
 -- Wherever the tables stand: A row that the table takes is put in, but for the common causes of a failure.
-use Rattle.std.proofs.Common.{◌≡◌, ◌≢◌, ◌⊎◌, ◌&&◌, ◌||◌, ◌==◌, ◌++◌, ◌/◌, ◌∙◌, ℕ, zero, suc, Bool, true, false, cond}
+use Rattle.std.proofs.Common.{◌≡◌, ◌≢◌, ◌⊎◌, ◌&&◌, ◌||◌, ◌++◌, ◌/◌, ◌∙◌, ℕ, zero, suc, Bool, true, false}
 use Rattle.std.proofs.Common.{inl, inr, List, [], ◌∷◌, length, length-append, append-nil, Option, Some, None, IsSome, IsTrue}
 use Rattle.std.proofs.Common.{Ok, Err, refl, sym, ap, subst, arith, true≢false}
 use Rattle.std.specs.Ordering.{is_ne}
 use Rattle.std.specs.List.{AllByRecursion, list_all, list_any}
 use Rattle.std.proofs.lemmas.Bool.{and_from, and_parts, both_ways, cases_eq, eqb-true, false_from_ne_true, not_from_false}
 use Rattle.std.proofs.lemmas.Bool.{or_cases, or_left, or_right}
-use Rattle.std.proofs.lemmas.Bool.Decides.{nat_tests}
 use Rattle.std.proofs.lemmas.Cmp.{tied_itself}
 use Rattle.std.proofs.lemmas.List.Elements.{recursion_from_All}
 use Rattle.sqlite.specs.Command.{Command}
@@ -30,8 +29,8 @@ use Rattle.sqlite.specs.declared.error.ErrorCode.TheVariants.{OperationInterrupt
 use Rattle.sqlite.specs.declared.run.Mode.{Mode}
 use Rattle.sqlite.specs.declared.types.Value.{Value}
 use Rattle.sqlite.specs.declared.types.Value.TheVariants.{Int}
-use Rattle.sqlite.proofs.Callers.{one_step, runs_as, statement_of}
-use Rattle.sqlite_rules.proofs.ListLemmas.{all_has, has_either, some_from, some_has}
+use Rattle.sqlite.proofs.Callers.{one_step, statement_of}
+use Rattle.sqlite_rules.proofs.ListLemmas.{all_has, some_from, some_has}
 use Rattle.sqlite_rules.proofs.RuleLemmas.{refers_at}
 use Rattle.sqlite_rules.proofs.TableLemmas.{put_all_keeps, put_has}
 use Rattle.sqlite_rules.specs.Action.{Leads, Settles, Writes, works}
@@ -53,8 +52,8 @@ use Rattle.sqlite_value.proofs.OrderLemmas.{value_cmp_total}
 use Rattle.sqlite_value.specs.Keys.{plain}
 use Rattle.sqlite_value.specs.Order.{value_cmp}
 use Rattle.table_schema.specs.Cells.{insert_terms, width}
-use Rattle.table_schema.specs.Rows.{MayFail, Stands, Tables, stored, tables_of, with_cells}
-use Rattle.table_schema.specs.Takes.{HasNone, HasOwnIndexes, IsSoundPlan, TakesRow, new_row}
+use Rattle.table_schema.specs.Rows.{MayFail, stored}
+use Rattle.table_schema.specs.Takes.{HasNone, TakesRow, new_row}
 use Rattle.table_schema.specs.Texts.{insert_sql}
 use Rattle.table_schema.specs.declared.tables.Table.{Table}
 use Rattle.table_schema.specs.declared.tables.Table.TheVariants.{Meta, CalendarEntry, Period, Application, RunCycle}
@@ -64,7 +63,9 @@ use Rattle.table_schema.proofs.BlankLemmas.{same_error, some_same}
 use Rattle.table_schema.proofs.CycleLemmas.{compared_parts}
 use Rattle.table_schema.proofs.RefusalLemmas.{IsOrdinary, in_vain, stopped}
 use Rattle.table_schema.proofs.Steps.{same_value}
-use Rattle.sqlite_schema.specs.Rules.{is_key_of}
+use Rattle.sqlite_schema.specs.Rules.{is_index_for, is_key_of}
+use Rattle.std.proofs.lemmas.Bool.{eq-eqb}
+use Rattle.sqlite_catalog.specs.Listing.{IsGuarded, automatic}
 use Rattle.sqlite_rules.proofs.RuleLemmas.{same_table}
 use Rattle.sqlite_value.specs.Keys.{joined}
 use Rattle.table_schema.specs.Schema.{plan_schema, references, table_at, to_run_cycle, uniques}
@@ -119,7 +120,6 @@ in_plain_order = refl
 
 module _ (schema : Schema) (at tree : Table → ℕ) (it : PlanStands schema at tree) (indexes : PlanIndexes schema tree) (t : Table) (cells : Row)
     (db : Trees) (takes : TakesRow t cells (λ u. db (tree u))) where
-
   abbrev was : List Row
   was = db (tree t)
 
@@ -411,3 +411,13 @@ take_fails schema at tree it indexes t cells old new e has sound takes h =
     (database.obeys.rules ForeignKey) text (Some e) (turned (Some e) does) in (some_same told.0, told.1))
     (stopped schema sql cells command (subst (IsWhole (understood schema sql) (length sql)) (sym takes.whole) means.whole) means.plain means.is (ordinary (at t) t)
     old new e has h)
+
+-- In a database the key of the run cycles has its index.
+pub cycles_keyed : (schema : Schema) (at tree : Table → ℕ) → PlanStands schema at tree → AllByRecursion (IsGuarded schema.indexes) schema.tables → is_key_of schema to_run_cycle ≡ true
+unfolding joined
+cycles_keyed schema at tree it guarded =
+    let known = is_listed schema at tree it RunCycle in
+    let own = all_has (IsGuarded schema.indexes) schema.tables _ guarded known 0 (1 ∷ 2 ∷ []) refl in
+    let key = key_is schema (at RunCycle) (tree RunCycle) (tree Offset) (it.stands RunCycle) known it.apart (offsets_refer schema at tree it) in
+    rw key (some_from (is_index_for (tree RunCycle, 1 ∷ 2 ∷ [], name_order)) schema.indexes (automatic (table_at (tree RunCycle) RunCycle) 0 (1 ∷ 2 ∷ []) own.0) own.1
+    (rw (eq-eqb (tree RunCycle) (tree RunCycle) refl) refl))
