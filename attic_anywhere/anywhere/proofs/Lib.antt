@@ -23,3 +23,4 @@ pub mod StillLemmas
 pub mod TakeAnywhere
 pub mod GoneAnywhere
 pub mod IndexLemmas
+pub mod SoundLemmas
