@@ -1,0 +1,12 @@
+pub mod ColumnLemmas
+pub mod ColumnsLemmas
+pub mod CreateLemmas
+pub mod CreateTexts
+pub mod DeleteTrial
+pub mod InsertTrial
+pub mod QueryLemmas
+pub mod RowidLemmas
+pub mod SelectLemmas
+pub mod SelectTexts
+pub mod TextLemmas
+pub mod WhereverLemmas

@@ -1,0 +1,4 @@
+pub mod Makes
+pub mod Rowids
+pub mod Shows
+pub mod Wherever
