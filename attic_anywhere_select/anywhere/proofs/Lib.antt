@@ -1,3 +1,4 @@
+pub mod CallerLemmas
 pub mod ColumnLemmas
 pub mod ColumnsLemmas
 pub mod CreateLemmas
@@ -8,5 +9,6 @@ pub mod QueryLemmas
 pub mod RowidLemmas
 pub mod SelectLemmas
 pub mod SelectTexts
+pub mod StandLemmas
 pub mod TextLemmas
 pub mod WhereverLemmas
