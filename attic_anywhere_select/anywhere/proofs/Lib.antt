@@ -5,6 +5,7 @@ pub mod CreateLemmas
 pub mod CreateTexts
 pub mod DeleteTrial
 pub mod InsertTrial
+pub mod MakeLemmas
 pub mod QueryLemmas
 pub mod RowidLemmas
 pub mod SelectLemmas
