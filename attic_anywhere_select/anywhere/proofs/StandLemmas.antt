@@ -12,7 +12,7 @@ use Rattle.anywhere.proofs.CreateLemmas.{free}
 use Rattle.anywhere.specs.Wherever.{Stands}
 
 module _ {X : Type 0} (p : X → Bool) where
-  placed_in_front : (xs ys : List X) (from at : ℕ) → position_from p from xs ≡ Some at → position_from p from (xs ++ ys) ≡ Some at
+  pub placed_in_front : (xs ys : List X) (from at : ℕ) → position_from p from xs ≡ Some at → position_from p from (xs ++ ys) ≡ Some at
   placed_in_front [] ys from at h = absurd (cc)
   placed_in_front (x ∷ xs) ys from at h = go (p x) (placed_in_front xs ys (from + 1) at) h
     where
@@ -21,7 +21,7 @@ module _ {X : Type 0} (p : X → Bool) where
       go true more h = h
       go false more h = more h
 
-  placed_last : (xs : List X) (y : X) (from : ℕ) → position_from p from xs ≡ None → p y ≡ true → position_from p from (xs ++ y ∷ []) ≡ Some (from + length xs)
+  pub placed_last : (xs : List X) (y : X) (from : ℕ) → position_from p from xs ≡ None → p y ≡ true → position_from p from (xs ++ y ∷ []) ≡ Some (from + length xs)
   placed_last [] y from none is = rw is (ap Some (omega arith))
   placed_last (x ∷ xs) y from none is = go (p x) (λ n i. placed_last xs y (from + 1) n i ∙ ap Some (omega arith)) none is
     where
@@ -30,7 +30,7 @@ module _ {X : Type 0} (p : X → Bool) where
       go true more none is = absurd (cc)
       go false more none is = more none is
 
-  found_in_front : (xs ys : List X) (x : X) → find p xs ≡ Some x → find p (xs ++ ys) ≡ Some x
+  pub found_in_front : (xs ys : List X) (x : X) → find p xs ≡ Some x → find p (xs ++ ys) ≡ Some x
   found_in_front [] ys x h = absurd (cc)
   found_in_front (y ∷ xs) ys x h = go (p y) (found_in_front xs ys x) h
     where
@@ -38,16 +38,16 @@ module _ {X : Type 0} (p : X → Bool) where
       go true more h = h
       go false more h = more h
 
-  found_last : (xs : List X) (y : X) → ((x : X) → Has xs x → p x ≡ false) → p y ≡ true → find p (xs ++ y ∷ []) ≡ Some y
+  pub found_last : (xs : List X) (y : X) → ((x : X) → Has xs x → p x ≡ false) → p y ≡ true → find p (xs ++ y ∷ []) ≡ Some y
   found_last [] y none is = rw is refl
   found_last (x ∷ xs) y none is = rw (none x (inl refl)) (found_last xs y (λ z h. none z (inr h)) is)
 
-got_in_front : {X : Type 0} (xs ys : List X) (at : ℕ) (x : X) → slice_get xs at ≡ Some x → slice_get (xs ++ ys) at ≡ Some x
+pub got_in_front : {X : Type 0} (xs ys : List X) (at : ℕ) (x : X) → slice_get xs at ≡ Some x → slice_get (xs ++ ys) at ≡ Some x
 got_in_front [] ys at x h = absurd (cc)
 got_in_front (y ∷ xs) ys zero x h = h
 got_in_front (y ∷ xs) ys (suc at) x h = got_in_front xs ys at x h
 
-got_last : {X : Type 0} (xs : List X) (y : X) → slice_get (xs ++ y ∷ []) (length xs) ≡ Some y
+pub got_last : {X : Type 0} (xs : List X) (y : X) → slice_get (xs ++ y ∷ []) (length xs) ≡ Some y
 got_last [] y = refl
 got_last (x ∷ xs) y = got_last xs y
 
