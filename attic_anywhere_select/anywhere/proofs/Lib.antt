@@ -6,6 +6,7 @@ pub mod CreateTexts
 pub mod DeleteTrial
 pub mod InsertTrial
 pub mod MakeLemmas
+pub mod MakingLemmas
 pub mod PlanLemmas
 pub mod QueryLemmas
 pub mod RowidLemmas
