@@ -4,6 +4,7 @@ pub mod ColumnsLemmas
 pub mod CreateLemmas
 pub mod CreateTexts
 pub mod DeleteTrial
+pub mod DropLemmas
 pub mod InsertTrial
 pub mod MakeLemmas
 pub mod MakingLemmas
@@ -12,6 +13,7 @@ pub mod QueryLemmas
 pub mod RowidLemmas
 pub mod SelectLemmas
 pub mod SelectTexts
+pub mod ShownLemmas
 pub mod StandLemmas
 pub mod TextLemmas
 pub mod WhereverLemmas

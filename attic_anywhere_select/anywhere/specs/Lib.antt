@@ -1,3 +1,4 @@
+pub mod Drops
 pub mod Makes
 pub mod Rowids
 pub mod Shows
