@@ -14,6 +14,7 @@ pub mod RowidLemmas
 pub mod SelectLemmas
 pub mod SelectTexts
 pub mod ShownLemmas
+pub mod SoundLemmas
 pub mod StandLemmas
 pub mod TextLemmas
 pub mod WhereverLemmas

@@ -1,4 +1,5 @@
 pub mod Drops
+pub mod Listed
 pub mod Makes
 pub mod Rowids
 pub mod Shows
