@@ -1,6 +1,5 @@
 -- `SELECT columns FROM table` wherever the table stands.
-use Rattle.std.proofs.Common.{◌≡◌, ℕ, suc, ◌-◌, ◌&&◌, nat_lt, List, [], ◌∷◌, length, map, Ok, refl, Option, None, Some, sym, ap, subst, subst₂, ◌∙◌, false, true, Bool, slice_get, is_some, ltb-true}
-use Rattle.std.specs.List.{list_all}
+use Rattle.std.proofs.Common.{◌≡◌, ℕ, ◌-◌, ◌&&◌, nat_lt, List, [], ◌∷◌, length, map, refl, Option, None, Some, ap, subst₂, ◌∙◌, false, true, Bool, slice_get, is_some, ltb-true}
 use Rattle.sqlite_schema.specs.declared.schema.Schema.{Schema}
 use Rattle.sqlite_schema.specs.declared.schema.Table.{Table}
 use Rattle.sqlite_schema.specs.declared.schema.Column.{Column}
@@ -11,7 +10,7 @@ use Rattle.sqlite_resolve.specs.Compile.{first}
 use Rattle.sqlite_typing.specs.Types.{are_typed, row_classes}
 use Rattle.anywhere.proofs.SelectLemmas as lemmas
 use Rattle.anywhere.proofs.TextLemmas.{ShowsRows, text_shows}
-use Rattle.anywhere.specs.Wherever.{Stands, IfFound, IfRead, HasColumn, HasColumns, shown_as, shown_column}
+use Rattle.anywhere.specs.Wherever.{Stands, IfFound, IfRead, HasColumns, shown_as, shown_column}
 use Rattle.anywhere.specs.Shows.{IsBareText, is_there, has_all}
 
 and_parts : (a b : Bool) → (a && b) ≡ true → (a ≡ true) × (b ≡ true)

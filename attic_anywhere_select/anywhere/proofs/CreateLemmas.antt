@@ -1,5 +1,5 @@
 -- `CREATE TABLE` over a schema in which the name is free.
-use Rattle.std.proofs.Common.{◌≡◌, ℕ, ◌==◌, List, [], ◌∷◌, length, Ok, refl, Option, None, Some, sym, ap, subst, ◌∙◌, false, true, Bool, ◌||◌, is_some}
+use Rattle.std.proofs.Common.{◌≡◌, ℕ, ◌==◌, List, [], length, Ok, refl, Option, None, Some, sym, ap, subst, ◌∙◌, false, true, ◌||◌, is_some}
 use Rattle.std.proofs.lemmas.Bool.{or_parts}
 use Rattle.sqlite_ast.specs.declared.CreateTable.{CreateTable}
 use Rattle.sqlite_ast.specs.declared.Statement.TheVariants as written
@@ -10,7 +10,6 @@ use Rattle.sqlite_schema.specs.declared.command.Command.TheVariants as command
 use Rattle.sqlite_schema.specs.Names.{table_named, view_named, index_named}
 use Rattle.sqlite_catalog.specs.Change.{is_used}
 use Rattle.sqlite_syntax.specs.declared.statement.Parsed.{Parsed}
-use Rattle.sqlite_resolve.specs.Lowering.{Checked}
 use Rattle.sqlite_resolve.specs.Compile as compile
 use Rattle.sqlite_resolve.specs.Define as define
 use Rattle.sqlite.specs.Compile.{table_defined_by}

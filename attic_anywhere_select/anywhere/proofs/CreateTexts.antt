@@ -1,5 +1,5 @@
 -- CREATE TABLE of each table of the plan, over any schema that has none of its name.
-use Rattle.std.proofs.Common.{◌≡◌, refl, false, true}
+use Rattle.std.proofs.Common.{◌≡◌, refl, false}
 use Rattle.sqlite_schema.specs.declared.schema.Schema.{Schema}
 use Rattle.sqlite_catalog.specs.Change.{is_used}
 use Rattle.sqlite_resolve.specs.Compile.{first}

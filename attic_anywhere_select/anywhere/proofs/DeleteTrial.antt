@@ -1,7 +1,6 @@
 -- DELETE.
-use Rattle.std.proofs.Common.{◌≡◌, ℕ, ◌^◌, List, [], ◌∷◌, Ok, refl, slice_get, Some, nat_le, false, find, ◌==◌}
+use Rattle.std.proofs.Common.{◌≡◌, ℕ, ◌^◌, [], ◌∷◌, refl, slice_get, Some, nat_le, false, find, ◌==◌}
 use Rattle.sqlite_schema.specs.declared.schema.Schema.{Schema}
-use Rattle.sqlite_draft.specs.declared.query.Draft.{Draft}
 use Rattle.sqlite_draft.specs.declared.join.Step.TheVariants.{Inner}
 use Rattle.sqlite_sql.specs.Term.{col}
 use Rattle.sqlite_resolve.specs.Write.{simple}
@@ -10,8 +9,7 @@ use Rattle.sqlite_tied.specs.Compute.{everything}
 use Rattle.table_schema.specs.Schema.{table_at}
 use Rattle.table_schema.specs.Texts.{delete_sql}
 use Rattle.table_schema.specs.Cells.{delete_tests}
-use Rattle.table_schema.specs.declared.tables.Table.{Table}
-use Rattle.table_schema.specs.declared.tables.Table.TheVariants.{Meta, Job}
+use Rattle.table_schema.specs.declared.tables.Table.TheVariants.{Meta}
 use Rattle.anywhere.specs.Wherever.{IfRead, Deletes}
 
 pub meta_deletes : (schema : Schema) (at tree : ℕ) → slice_get schema.tables at ≡ Some (table_at tree Meta)

@@ -1,9 +1,7 @@
 -- DROP TABLE wherever the table stands.
-use Rattle.std.proofs.Common.{◌≡◌, ℕ, List, [], ◌∷◌, length, Ok, refl, Option, None, Some, sym, ap, subst, ◌∙◌, false, true, Bool, slice_range}
-use Rattle.sqlite_ast.specs.declared.Statement.{Statement}
+use Rattle.std.proofs.Common.{◌≡◌, ℕ, List, [], length, Ok, refl, None, Some, sym, ap, subst, false}
 use Rattle.sqlite_ast.specs.declared.Statement.TheVariants as written
 use Rattle.sqlite_schema.specs.declared.schema.Schema.{Schema}
-use Rattle.sqlite_schema.specs.declared.command.Command.{Command}
 use Rattle.sqlite_schema.specs.declared.command.Command.TheVariants as command
 use Rattle.sqlite_schema.specs.Names.{table_named, view_named}
 use Rattle.sqlite_syntax.specs.declared.statement.Parsed.{Parsed}
@@ -11,7 +9,7 @@ use Rattle.sqlite_resolve.specs.Compile as compile
 use Rattle.sqlite_resolve.specs.Compile.{first}
 use Rattle.sqlite_tied.specs.Compute.{everything}
 use Rattle.sqlite.specs.Listing.{understood, reads_listing}
-use Rattle.sqlite.proofs.Callers.{IsPlain, command_of, statement_of}
+use Rattle.sqlite.proofs.Callers.{IsPlain, command_of}
 use Rattle.table_schema.specs.Schema.{name}
 use Rattle.table_schema.specs.declared.tables.Table.{Table}
 use Rattle.table_schema.specs.declared.tables.Table.TheVariants.{Meta, CalendarEntry, Period, Application}

@@ -17,4 +17,5 @@ pub mod ShownLemmas
 pub mod SoundLemmas
 pub mod StandLemmas
 pub mod TextLemmas
+pub mod TodayLemmas
 pub mod WhereverLemmas

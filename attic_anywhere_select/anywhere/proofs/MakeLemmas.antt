@@ -1,5 +1,5 @@
 -- Tables of the plan that are made one after the other in a database that has others.
-use Rattle.std.proofs.Common.{◌≡◌, inl, inr, ℕ, ◌+◌, ◌<◌, ◌≤◌, ◌^◌, max, nat_le, cond, fold, map, List, [], ◌∷◌, ◌++◌, length, Option, None, Some, refl, sym, ap, subst, ◌∙◌, true, false, Bool, not, is_some, ◌||◌, ◌&&◌, arith, codes, slice_get, option_and_then}
+use Rattle.std.proofs.Common.{◌≡◌, inl, inr, ℕ, ◌+◌, ◌<◌, ◌≤◌, ◌^◌, max, nat_le, cond, fold, map, List, [], ◌∷◌, ◌++◌, length, Option, None, Some, refl, true, false, Bool, not, is_some, ◌||◌, ◌&&◌, arith, codes, slice_get, option_and_then}
 use Rattle.std.proofs.lemmas.Bool.{or_parts, and_cases, and_left, and_right, not_from_true, lt-leb}
 use Rattle.sqlite_rules.specs.Lists.{Has}
 use Rattle.sqlite_catalog.proofs.ListFacts.{most_from}
@@ -7,11 +7,11 @@ use Rattle.sqlite_catalog.proofs.StepLemmas.{table_below, index_below}
 use Rattle.sqlite.specs.Does.{lacks_sequence}
 use Rattle.sqlite.specs.Rows.{sequence}
 use Rattle.std.specs.List.{position_from, list_any, list_all, AllByRecursion}
-use Rattle.sqlite_keyed.proofs.ListLemmas.{all-append, all_both}
+use Rattle.sqlite_keyed.proofs.ListLemmas.{all-append}
 use Rattle.sqlite_schema.specs.declared.schema.Schema.{Schema}
 use Rattle.sqlite_schema.specs.declared.schema.Index.{Index}
 use Rattle.sqlite_schema.specs.declared.schema.Table.{Table as Described}
-use Rattle.sqlite_schema.specs.Names.{same_name, table_named, index_named, view_named}
+use Rattle.sqlite_schema.specs.Names.{same_name, table_named}
 use Rattle.sqlite_catalog.specs.Change.{automatics, created, next_tree, is_used, past_views}
 use Rattle.sqlite_tied.specs.Compute.{everything}
 use Rattle.table_schema.specs.Schema.{table_at, name, uniques}

@@ -1,12 +1,11 @@
 -- CREATE TABLE of a table of the plan in a database that has others: what it makes, and why it fails.
-use Rattle.std.proofs.Common.{◌≡◌, ◌≢◌, ◌≤◌, ◌<◌, ◌⊎◌, ◌+◌, ◌*◌, ◌^◌, ℕ, true, false, inl, inr, List, [], ◌∷◌, ◌++◌, length, map}
-use Rattle.std.proofs.Common.{Option, Some, None, Result, Ok, Err, IsSome, IsTrue, true≢false, refl, sym, ap, subst, ◌∙◌, arith, nat_lt, codes, slice_get}
+use Rattle.std.proofs.Common.{◌≡◌, ◌≤◌, ◌+◌, ◌*◌, ◌^◌, ℕ, true, false, inl, inr, List, [], ◌∷◌, ◌++◌, length, map}
+use Rattle.std.proofs.Common.{Option, Some, None, Result, Ok, Err, true≢false, refl, sym, ap, subst, ◌∙◌, arith, nat_lt, codes}
 use Rattle.std.specs.List.{AllByRecursion}
 use Rattle.std.specs.Prelude.{IsUtf8}
 use Rattle.std.specs.Str.{is_utf8}
 use Rattle.std.proofs.lemmas.Bool.Decides.{nat_tests}
 use Rattle.std.proofs.lemmas.Str.{IsUtf8-from_is_utf8}
-use Rattle.sqlite_keyed.proofs.ListLemmas.{all-append}
 use Rattle.sqlite.specs.Effect.{Database}
 use Rattle.sqlite.specs.Command.TheVariants.{CreateTable}
 use Rattle.sqlite.specs.Compile.{table_defined_by}
@@ -16,7 +15,6 @@ use Rattle.sqlite.specs.Listing.{understood}
 use Rattle.sqlite.specs.Schema.{Schema}
 use Rattle.sqlite.specs.State.{State, Executes, ExecutesInside, mode_of}
 use Rattle.sqlite.specs.Table.{Table as Described}
-use Rattle.sqlite.specs.Tree.{Trees}
 use Rattle.sqlite.specs.declared.error.Error.{Error}
 use Rattle.sqlite.specs.declared.run.Mode.{Mode}
 use Rattle.sqlite_catalog.specs.Calls.{RefusesTable}
@@ -43,8 +41,7 @@ use Rattle.table_schema.proofs.RefusalLemmas.{IsOrdinary, IsStopped, has_passes,
 use Rattle.table_schema.proofs.Steps as steps
 use Rattle.anywhere.proofs.CreateLemmas.{MakesTable}
 use Rattle.anywhere.proofs.CreateTexts as texts
-use Rattle.anywhere.proofs.MakeLemmas.{AreFree, HasPlace, IsBegun, all_names, are_clear, front_all, names_of, one_made, stays_uncounted, trees_of}
-use Rattle.anywhere.specs.Wherever.{Stands}
+use Rattle.anywhere.proofs.MakeLemmas.{IsBegun, all_names, are_clear, front_all, one_made, stays_uncounted}
 
 -- nothing in the table itself stands in the way
 abbrev Fits : Table → Type 0

@@ -1,5 +1,5 @@
 -- The tables of a plan stand where they stand today.
-use Rattle.std.proofs.Common.{◌≡◌, refl, sym, subst, ◌^◌, nat_le, false}
+use Rattle.std.proofs.Common.{refl, sym, subst}
 use Rattle.sqlite_schema.specs.declared.schema.Schema.{Schema}
 use Rattle.sqlite_tied.specs.Compute.{everything}
 use Rattle.table_schema.specs.Schema.{Further, HasTables, place, plan_and, table_at, tree}
@@ -10,7 +10,7 @@ use Rattle.table_schema.specs.declared.tables.Table.TheVariants.{LongTerm, Curre
 use Rattle.table_schema.specs.declared.tables.Table.TheVariants.{Dependency, Job}
 use Rattle.anywhere.specs.Wherever.{Stands}
 
-stands_first : (more : Further) (t : Table) → Stands (plan_and more) (table_at (tree t) t) (place t)
+pub stands_first : (more : Further) (t : Table) → Stands (plan_and more) (table_at (tree t) t) (place t)
 unfolding everything
 stands_first more Meta = record { named = refl; got = refl; found = refl; stored = refl }
 stands_first more CalendarEntry = record { named = refl; got = refl; found = refl; stored = refl }

@@ -1,23 +1,19 @@
 -- A query of columns of one table, from its parts to its command, wherever the table stands.
-use Rattle.std.proofs.Common.{◌≡◌, ℕ, suc, List, [], ◌∷◌, ◌++◌, length, map, Result, Ok, Err, refl, Option, None, Some, sym, ap, subst, ◌∙◌, false, true, Bool, slice_get}
+use Rattle.std.proofs.Common.{◌≡◌, ℕ, suc, List, [], ◌∷◌, map, Ok, refl, false, true}
 use Rattle.sqlite_schema.specs.declared.schema.Schema.{Schema}
 use Rattle.sqlite_schema.specs.declared.schema.Table.{Table}
-use Rattle.sqlite_schema.specs.declared.command.Command.{Command}
 use Rattle.sqlite_schema.specs.declared.program.Table.{Table as Let}
 use Rattle.sqlite_schema.specs.declared.command.Command.TheVariants as command
-use Rattle.sqlite_ast.specs.declared.Core.{Core, out-Core}
+use Rattle.sqlite_ast.specs.declared.Core.{Core}
 use Rattle.sqlite_ast.specs.declared.Select.{Select, out-Select}
 use Rattle.sqlite_ast.specs.declared.Shown.{Shown}
 use Rattle.sqlite_draft.specs.declared.join.Step.TheVariants.{Inner}
 use Rattle.sqlite_draft.specs.Query.{query_of}
 use Rattle.sqlite_resolve.specs.declared.scope.Bound.{Bound}
 use Rattle.sqlite_resolve.specs.declared.scope.Output.{Output}
-use Rattle.sqlite_resolve.specs.declared.scope.Level.{Level}
 use Rattle.sqlite_resolve.specs.declared.body.Body.{Body}
-use Rattle.sqlite_resolve.specs.declared.state.State.{State}
 use Rattle.sqlite_resolve.specs.declared.state.Carried.{Carried}
-use Rattle.sqlite_resolve.specs.Lowering.{Checked, fresh, max_budget, nothing}
-use Rattle.sqlite_resolve.specs.Scope as scope
+use Rattle.sqlite_resolve.specs.Lowering.{fresh, max_budget}
 use Rattle.sqlite_resolve.specs.Expr.{lower}
 use Rattle.sqlite_resolve.specs.Body as body
 use Rattle.sqlite_resolve.specs.Select as select
@@ -26,7 +22,7 @@ use Rattle.sqlite_resolve.specs.Program as program
 use Rattle.sqlite_resolve.specs.Compile as compile
 use Rattle.sqlite_typing.specs.Types.{accepts_program}
 use Rattle.anywhere.proofs.SelectLemmas as lemmas
-use Rattle.anywhere.specs.Wherever.{Stands, only_bound, with_budget, source_table, outer_level}
+use Rattle.anywhere.specs.Wherever.{Stands, only_bound, with_budget, source_table}
 use Rattle.anywhere.specs.Shows.{IsBareSelect, Lowered, all_rows, draft_of}
 
 module _ (schema : Schema) (table : Table) (at : ℕ) (it : Stands schema table at) (s : Select) (shown : List Shown) (outs : List Output) (budget : ℕ) (next : Carried)

@@ -1,25 +1,20 @@
 -- A query of columns of one table, wherever the table stands.
-use Rattle.std.proofs.Common.{◌≡◌, ℕ, zero, suc, ◌+◌, ◌-◌, ◌<◌, nat_lt, List, [], ◌∷◌, ◌++◌, length, map, Result, Ok, Err, refl, Option, None, Some, sym, ap, subst, ◌∙◌, false, true, Bool, slice_get, append-nil, arith, append_assoc}
+use Rattle.std.proofs.Common.{◌≡◌, ℕ, suc, ◌-◌, ◌<◌, nat_lt, List, [], ◌∷◌, ◌++◌, length, map, Ok, Err, refl, Option, None, Some, false, true, slice_get, append-nil, arith, append_assoc}
 use Rattle.std.proofs.lemmas.Bool.{lt-ltb}
 use Rattle.sqlite_schema.specs.declared.schema.Schema.{Schema}
 use Rattle.sqlite_schema.specs.declared.schema.Table.{Table}
 use Rattle.sqlite_schema.specs.declared.schema.Column.{Column}
-use Rattle.sqlite_schema.specs.Names.{table_named, column_named, place_of}
-use Rattle.sqlite_sql.specs.Term.{Term, col}
-use Rattle.sqlite_value.specs.declared.keys.Key.{Key}
-use Rattle.sqlite_ast.specs.declared.Expr.{Expr, out-Expr, roll-Expr}
+use Rattle.sqlite_schema.specs.Names.{table_named, column_named}
+use Rattle.sqlite_sql.specs.Term.{Term}
+use Rattle.sqlite_ast.specs.declared.Expr.{out-Expr, roll-Expr}
 use Rattle.sqlite_ast.specs.declared.Expr.TheOpen.{Expr-F, Shown-F}
-use Rattle.sqlite_ast.specs.declared.Shown.{Shown, out-Shown, roll-Shown}
-use Rattle.sqlite_ast.specs.declared.Source.{Source, out-Source, roll-Source}
-use Rattle.sqlite_ast.specs.declared.Core.{Core, out-Core, roll-Core}
-use Rattle.sqlite_ast.specs.declared.Select.{Select, out-Select, roll-Select}
-use Rattle.sqlite_ast.specs.declared.Sort.{Sort}
+use Rattle.sqlite_ast.specs.declared.Shown.{out-Shown}
+use Rattle.sqlite_ast.specs.declared.Source.{out-Source}
+use Rattle.sqlite_ast.specs.declared.Core.{Core, out-Core}
 use Rattle.sqlite_ast.specs.declared.Origin.TheVariants as origin
 use Rattle.sqlite_draft.specs.declared.join.Step.TheVariants.{Inner}
 use Rattle.sqlite_resolve.specs.declared.scope.Bound.{Bound}
 use Rattle.sqlite_resolve.specs.declared.scope.Output.{Output}
-use Rattle.sqlite_resolve.specs.declared.scope.Level.{Level}
-use Rattle.sqlite_resolve.specs.declared.body.Joined.{Joined}
 use Rattle.sqlite_resolve.specs.declared.state.State.{State}
 use Rattle.sqlite_resolve.specs.declared.state.Carried.{Carried}
 use Rattle.sqlite_resolve.specs.Lowering.{Checked, fresh, take_slot, max_budget, nothing}
@@ -28,11 +23,9 @@ use Rattle.sqlite_resolve.specs.Expr as expr
 use Rattle.sqlite_resolve.specs.Expr.{lower}
 use Rattle.sqlite_resolve.specs.Body as body
 use Rattle.sqlite_resolve.specs.Select as select
-use Rattle.sqlite_resolve.specs.Order as order
-use Rattle.sqlite_resolve.specs.Program as program
 use Rattle.sqlite_tied.specs.Compute.{everything}
 use Rattle.anywhere.proofs.ColumnLemmas as columns
-use Rattle.anywhere.specs.Wherever.{only_bound, with_budget, HasColumn, HasColumns, IfFound, shown_as, shown_column, source_table, outer_level, plain_draft, ShowsColumns, ReadsTable, Filters, Yields, IsBare}
+use Rattle.anywhere.specs.Wherever.{only_bound, with_budget, HasColumn, HasColumns, IfFound, shown_as, shown_column, source_table, outer_level, Yields}
 
 pub found : {X : Type 0} (o : Option X) (P : X → Type 0) → IfFound o P → (x : X) × (o ≡ Some x) × P x
 found (Some x) P h = (x, refl, h)

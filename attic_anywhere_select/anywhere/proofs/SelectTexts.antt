@@ -1,8 +1,8 @@
 -- SELECT of all columns, and of the rowid, of each table of the plan, wherever it stands.
-use Rattle.std.proofs.Common.{◌≡◌, ℕ, List, [], ◌∷◌, length, map, Ok, Err, None, refl, true, nat_lt, subst}
+use Rattle.std.proofs.Common.{◌≡◌, ℕ, [], ◌∷◌, length, map, None, refl, true, nat_lt, subst}
 use Rattle.sqlite_schema.specs.declared.schema.Schema.{Schema}
 use Rattle.sqlite_schema.specs.Names.{column_named}
-use Rattle.sqlite_sql.specs.Term.{Term, col}
+use Rattle.sqlite_sql.specs.Term.{col}
 use Rattle.sqlite_resolve.specs.Compile.{first}
 use Rattle.sqlite_resolve.specs.Scope.{is_rowid}
 use Rattle.sqlite_resolve.specs.Lowering.{max_budget}

@@ -1,14 +1,13 @@
 -- What a plan's tables show wherever they stand.
-use Rattle.std.proofs.Common.{◌≡◌, ◌≢◌, ℕ, List, [], ◌∷◌, ◌++◌, length, map, Ok, refl, sym, ap, subst, ◌∙◌, true, nat_lt, Option, Some, None, ◌^◌, nat_le, false, find, ◌==◌}
+use Rattle.std.proofs.Common.{◌≡◌, ◌≢◌, ℕ, List, [], ◌∷◌, length, map, refl, sym, ap, subst, ◌∙◌, true, nat_lt, Option, Some, find, ◌==◌}
 use Rattle.std.specs.Prelude.{codes}
-use Rattle.std.specs.List.{AllByRecursion}
 use Rattle.std.specs.List.Sorted.{IsPermutation}
 use Rattle.sqlite.specs.Order.{Row}
 use Rattle.sqlite.specs.State.{State, FailsToQuery, Shown}
 use Rattle.sqlite.specs.declared.error.Error.{Error}
 use Rattle.sqlite_schema.specs.declared.schema.Schema.{Schema}
 use Rattle.sqlite_schema.specs.declared.schema.Table.{Table as Described}
-use Rattle.sqlite_sql.specs.Term.{Term, col}
+use Rattle.sqlite_sql.specs.Term.{col}
 use Rattle.sqlite_resolve.specs.Compile.{first}
 use Rattle.sqlite_resolve.specs.Lowering.{max_budget}
 use Rattle.sqlite_typing.specs.Types.{are_typed, row_classes}
@@ -16,7 +15,7 @@ use Rattle.sqlite_tied.specs.Compute.{everything}
 use Rattle.table_schema.specs.Rows.{MayFail}
 use Rattle.table_schema.specs.Schema.{all_tables, name, table_at}
 use Rattle.table_schema.specs.Texts.{select_sql}
-use Rattle.table_schema.specs.Cells.{column_names, select_terms}
+use Rattle.table_schema.specs.Cells.{select_terms}
 use Rattle.table_schema.specs.declared.tables.Table.{Table}
 use Rattle.table_schema.specs.declared.tables.Table.TheVariants.{Meta, CalendarEntry, Period, Application}
 use Rattle.table_schema.specs.declared.tables.Table.TheVariants.{RunCycle, Offset, Predecessor, LinkInForce}

@@ -1,5 +1,5 @@
 -- In a sound database a table stands where the list of tables has it, and its tree is known from the list of objects.
-use Rattle.std.proofs.Common.{◌≡◌, ℕ, zero, suc, ◌+◌, ◌-◌, ◌<◌, ◌^◌, nat_le, ◌==◌, List, [], ◌∷◌, filter, find, Option, None, Some, refl, sym, ap, subst, ◌∙◌, true, false, inl, inr, slice_get, pos, arith}
+use Rattle.std.proofs.Common.{◌≡◌, ℕ, zero, suc, ◌+◌, ◌-◌, ◌^◌, ◌==◌, List, [], ◌∷◌, filter, find, Some, refl, ap, subst, ◌∙◌, true, false, slice_get, arith}
 use Rattle.std.specs.List.{AllZip, AllByRecursion, position_from}
 use Rattle.std.proofs.lemmas.Bool.{ne_eqb, eq-eqb, lt-leb}
 use Rattle.sqlite_schema.specs.declared.schema.Schema.{Schema}
@@ -7,11 +7,13 @@ use Rattle.sqlite_schema.specs.declared.schema.Table.{Table}
 use Rattle.sqlite_schema.specs.Names.{same_name}
 use Rattle.sqlite_value.specs.Order.{Row, column, bytes}
 use Rattle.sqlite_trees.specs.Objects.{catalog_tree, number_in}
-use Rattle.sqlite_trees.specs.Tree.{IsAscending, rowid}
-use Rattle.sqlite_catalog.specs.Listing.{AreListed, IsTableRow, is_table_row}
-use Rattle.sqlite_catalog.proofs.StepLemmas.{same_itself}
+use Rattle.sqlite_trees.specs.Tree.{IsAscending}
+use Rattle.sqlite_catalog.specs.Listing.{IsTableRow, is_table_row}
+use Rattle.sqlite_catalog.proofs.StepLemmas.{same_itself, table_below}
+use Rattle.sqlite_catalog.proofs.ListFacts.{ascending_push}
+use Rattle.sqlite_catalog.specs.Change.{created, next_tree}
 use Rattle.sqlite.specs.Effect.{Database, IsDatabase}
-use Rattle.anywhere.specs.Listed.{tree_at, tree_in, tree_of}
+use Rattle.anywhere.specs.Listed.{rows_in, tree_at, tree_in}
 use Rattle.anywhere.specs.Wherever.{Stands}
 
 all_at : {X : Type 0} (P : X → Type 0) (xs : List X) (at : ℕ) (x : X) → AllByRecursion P xs → slice_get xs at ≡ Some x → P x
@@ -77,3 +79,13 @@ row_at (a ∷ xs) (b ∷ ys) (suc at) t all up got =
 pub tree_known : (db : Database) (table : Table) (at : ℕ) → IsDatabase db → slice_get db.schema.tables at ≡ Some table → tree_in db.trees table.name ≡ table.tree
 tree_known db table at sound got =
     row_at (filter is_table_row (db.trees catalog_tree)) db.schema.tables at table sound.lists.listed.tables sound.lists.listed.named got
+
+-- the trees of tables stay apart where one is made
+pub stay_apart : (schema : Schema) (new : Table) → IsAscending (λ (a b : Table). a.tree ≡ b.tree → ⊥) schema.tables → IsAscending (λ (a b : Table). a.tree ≡ b.tree → ⊥) (created schema new).tables
+stay_apart schema new apart =
+    ascending_push (λ (a b : Table). a.tree ≡ b.tree → ⊥) schema.tables (record new { tree = next_tree schema }) apart
+    (λ u has same. let low = table_below schema u has in absurd (omega (arith, low, same)))
+
+-- the rows of a table by its name, in the trees alone
+pub rows_known : (db : Database) (table : Table) (at : ℕ) → IsDatabase db → Stands db.schema table at → rows_in db.trees table.name ≡ db.trees table.tree
+rows_known db table at sound it = ap db.trees (tree_known db table at sound it.got)

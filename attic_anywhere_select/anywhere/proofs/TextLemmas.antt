@@ -1,5 +1,5 @@
 -- What the text of a query means, once its command is known.
-use Rattle.std.proofs.Common.{◌≡◌, ℕ, suc, ◌<◌, List, [], ◌∷◌, ◌++◌, length, map, Result, Ok, Err, refl, Option, None, Some, sym, ap, subst, ◌∙◌, false, true, Bool, slice_get, nat_le, find, ◌==◌, ◌^◌}
+use Rattle.std.proofs.Common.{◌≡◌, ℕ, List, [], ◌∷◌, length, map, Ok, refl, None, sym, ap, subst, false, true}
 use Rattle.sqlite_schema.specs.declared.schema.Schema.{Schema}
 use Rattle.sqlite_schema.specs.declared.schema.Table.{Table}
 use Rattle.sqlite_schema.specs.declared.command.Command.{Command}
@@ -9,12 +9,10 @@ use Rattle.sqlite_ast.specs.declared.Core.{out-Core}
 use Rattle.sqlite_ast.specs.declared.Shown.{Shown}
 use Rattle.sqlite_ast.specs.declared.Statement.TheVariants as written
 use Rattle.sqlite_sql.specs.Term.{Term}
-use Rattle.sqlite_draft.specs.Query.{query_of}
 use Rattle.sqlite_syntax.specs.declared.statement.Parsed.{Parsed}
 use Rattle.sqlite_resolve.specs.declared.scope.Output.{Output}
 use Rattle.sqlite_resolve.specs.declared.state.Carried.{Carried}
 use Rattle.sqlite_resolve.specs.declared.compiled.Compiled.{Compiled}
-use Rattle.sqlite_resolve.specs.Lowering.{Checked, max_budget}
 use Rattle.sqlite_resolve.specs.Compile as compile
 use Rattle.sqlite_typing.specs.Types.{accepts_program, are_typed, row_classes}
 use Rattle.sqlite.specs.Listing.{understood, reads_listing}
@@ -24,7 +22,7 @@ use Rattle.table_schema.proofs.Meanings.{IsWhole}
 use Rattle.anywhere.proofs.SelectLemmas.{yielded}
 use Rattle.anywhere.proofs.QueryLemmas as query
 use Rattle.anywhere.specs.Wherever.{Stands, IfRead, select_of, source_table}
-use Rattle.anywhere.specs.Shows.{IsBareSelect, IsBareText, Lowered, draft_of}
+use Rattle.anywhere.specs.Shows.{IsBareSelect, IsBareText, Lowered}
 
 -- all that is asked of the text of a query over one table
 pub record ShowsRows (schema : Schema) (sql : List ℕ) (tree : ℕ) (terms : List Term) (names : List (List ℕ)) : Type 0 where

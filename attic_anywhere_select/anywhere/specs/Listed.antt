@@ -16,3 +16,7 @@ tree_of objects name = tree_at (find (λ row. same_name (bytes (column row 2)) n
 -- the tree of a table in these trees
 abbrev pub tree_in : Trees → List ℕ → ℕ
 tree_in db = tree_of (db catalog_tree)
+
+-- the rows of a table in these trees
+abbrev pub rows_in : Trees → List ℕ → List Row
+rows_in db name = db (tree_in db name)

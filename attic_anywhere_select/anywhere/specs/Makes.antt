@@ -1,5 +1,5 @@
 -- `CREATE TABLE`, as it is written.
-use Rattle.std.specs.Prelude.{◌≡◌, ℕ, ◌==◌, Bool, false, true, List, [], ◌∷◌, length, slice_range, Ok}
+use Rattle.std.specs.Prelude.{◌≡◌, ℕ, ◌==◌, false, true, List, [], length, slice_range, Ok}
 use Rattle.sqlite_ast.specs.declared.CreateTable.{CreateTable}
 use Rattle.sqlite_ast.specs.declared.Statement.{Statement}
 use Rattle.sqlite_ast.specs.declared.Statement.TheVariants as written
