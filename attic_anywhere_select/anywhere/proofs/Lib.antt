@@ -5,6 +5,7 @@ pub mod CreateLemmas
 pub mod CreateTexts
 pub mod DeleteTrial
 pub mod DropLemmas
+pub mod FirstTexts
 pub mod InsertTrial
 pub mod MakeLemmas
 pub mod MakingLemmas
