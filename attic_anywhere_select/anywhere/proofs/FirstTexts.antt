@@ -1,7 +1,6 @@
 -- The same texts of schema 1.
-use Rattle.std.proofs.Common.{◌≡◌, ℕ, List, [], ◌∷◌, length, map, Ok, None, refl, true, false, nat_lt}
+use Rattle.std.proofs.Common.{◌≡◌, ℕ, [], ◌∷◌, length, map, refl, true, false, nat_lt}
 use Rattle.sqlite_schema.specs.declared.schema.Schema.{Schema}
-use Rattle.sqlite_sql.specs.Term.{Term, col}
 use Rattle.sqlite_catalog.specs.Change.{is_used}
 use Rattle.sqlite_resolve.specs.Compile.{first}
 use Rattle.sqlite_resolve.specs.Lowering.{max_budget}

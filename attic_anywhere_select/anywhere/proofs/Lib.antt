@@ -6,6 +6,7 @@ pub mod CreateTexts
 pub mod DeleteTrial
 pub mod DropLemmas
 pub mod FirstTexts
+pub mod GoneLemmas
 pub mod InsertTrial
 pub mod MakeLemmas
 pub mod MakingLemmas
