@@ -1,11 +1,10 @@
 -- Rowids that were shown, and those of the rows.
 use Rattle.std.proofs.Common.{◌≡◌, ◌≢◌, ◌<◌, ◌∙◌, ℕ, ℤ, pos, negsuc, Bool, true, false}
 use Rattle.std.proofs.Common.{List, [], ◌∷◌, length, map, refl, sym, ap, subst}
-use Rattle.std.proofs.Common.{Ordering, Less, Equal, Greater, eqb, arith, IsTrue, Result, Ok, Err, is_ok}
+use Rattle.std.proofs.Common.{eqb, arith, IsTrue, Result, Ok, Err, is_ok}
 use Rattle.std.specs.Prelude.{IfOk}
 use Rattle.std.specs.List.{All, AllByRecursion, AllPairs, Contains, IsDistinct}
 use Rattle.std.specs.List.Sorted.{IsNonDecreasingBy, IsPermutation}
-use Rattle.std.specs.FinMap.{int_cmp-IsAntisymmetric}
 use Rattle.std.specs.Ordering.{is_eq}
 use Rattle.std.proofs.lemmas.Bool.{eqb-false, ne_eqb}
 use Rattle.std.proofs.lemmas.Bool.Decides.{nat_tests}
@@ -27,14 +26,14 @@ use Rattle.sqlite.specs.declared.types.Value.TheVariants.{Null, Int, Real, Text,
 use Rattle.sqlite.proofs.Callers.{reads_as}
 use Rattle.sqlite_keyed.proofs.ListLemmas.{all_of, filter_all}
 use Rattle.sqlite_value.specs.Order.{value_cmp}
-use Rattle.sqlite_value.proofs.OrderLemmas.{value_cmp-Int, value_cmp_total}
+use Rattle.sqlite_value.proofs.OrderLemmas.{value_cmp_total}
 use Rattle.keyed_lists.proofs.KeyLemmas.{contains_first, contains_later}
 use Rattle.table_schema.proofs.Steps.{plain_rows}
 use Rattle.table_schema.specs.Rows.{Differ, HaveRowids, tables_of}
 use Rattle.table_schema.specs.Schema.{HasTables, plan_and, tree}
 use Rattle.table_schema.specs.declared.tables.Table.{Table}
 use Rattle.table_schema.specs.declared.tables.Table.TheVariants as table
-use Rattle.table_reading.proofs.OrderLemmas.{apart_rise}
+use Rattle.table_reading.proofs.OrderLemmas.{apart_rise, same_int}
 use Rattle.table_opening.specs.Rowids.{AreIntegers, AreRising, PlacesRise, place_of, rowid_shown, rowid_sql, rowid_terms}
 use Rattle.table_opening.proofs.RowidTexts.{rowid_is, rowid_plain}
 
@@ -82,14 +81,6 @@ integer_in Null is = cc
 integer_in (Real x) is = cc
 integer_in (Text t) is = cc
 integer_in (Blob b) is = cc
-
-equal_from : (o : Ordering) → is_eq o ≡ true → o ≡ Equal
-equal_from Less h = cc
-equal_from Equal h = refl
-equal_from Greater h = cc
-
-same_int : (y z : ℤ) → is_eq (value_cmp (Int y) (Int z)) ≡ true → y ≡ z
-same_int y z is = int_cmp-IsAntisymmetric y z (equal_from _ (sym (ap is_eq (value_cmp-Int y z)) ∙ is))
 
 same_value : (v w : Value) → IsTrue (is_int v) → IsTrue (is_int w) → is_eq (value_cmp v w) ≡ true → v ≡ w
 same_value v w is_v is_w is =

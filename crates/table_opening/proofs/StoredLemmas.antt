@@ -11,14 +11,15 @@ use Rattle.app_definitions.specs.declared.options.Options.{Options}
 use Rattle.planner_machine.specs.Content.{Content}
 use Rattle.table_schema.specs.Rows.{Tables, shown}
 use Rattle.table_schema.specs.declared.tables.Table.{Table}
+use Rattle.table_schema.specs.declared.tables.Table.TheVariants as table
 use Rattle.table_facts.specs.Content.{IsContentOf}
 use Rattle.table_definitions.specs.Storing.{HaveRows}
 use Rattle.table_definitions.specs.declared.stored.StoredRows.{StoredRows}
 use Rattle.table_reading.specs.Lists.{HasLists}
-use Rattle.table_reading.specs.Tables.{ShowsOnly, TellDefinitions, TellPlans}
+use Rattle.table_reading.specs.Tables.{HaveShownRowids, ShowsOnly, TellDefinitions, TellPlans}
 use Rattle.table_reading.specs.declared.lists.PlanLists.{PlanLists}
 use Rattle.table_reading.proofs.FactLemmas.{is_content}
-use Rattle.table_opening.specs.Stored.{TellStored}
+use Rattle.table_opening.specs.Stored.{AllHaveRowids, HaveHiddenRowids, TellStored}
 
 pub shows_rows : (all : Tables) (t : Table) (rows : List Values) → IsPermutation (map (shown t) (all t)) rows
     → ShowsOnly all t (λ v. Contains rows v)
@@ -55,6 +56,22 @@ pub stored_content : (all : Tables) (lists : PlanLists) (stored : StoredRows) (d
     → IsContentOf all c
 stored_content all lists stored d c rows has plans definitions =
     is_content all d lists c plans (tell_definitions all stored lists.meta.options d definitions rows) rows.options has
+
+pub all_rowids : (all : Tables) → HaveShownRowids all → HaveHiddenRowids all → AllHaveRowids all
+all_rowids all seen hidden table.Meta = seen.meta
+all_rowids all seen hidden table.CalendarEntry = hidden.calendars
+all_rowids all seen hidden table.Period = hidden.periods
+all_rowids all seen hidden table.Application = hidden.applications
+all_rowids all seen hidden table.RunCycle = hidden.run_cycles
+all_rowids all seen hidden table.Offset = hidden.offsets
+all_rowids all seen hidden table.Predecessor = hidden.predecessors
+all_rowids all seen hidden table.LinkInForce = hidden.links
+all_rowids all seen hidden table.LongTerm = seen.ltp
+all_rowids all seen hidden table.Current = seen.cp
+all_rowids all seen hidden table.History = seen.history
+all_rowids all seen hidden table.Deletion = seen.deletions
+all_rowids all seen hidden table.Dependency = hidden.pairs
+all_rowids all seen hidden table.Job = seen.jobs
 
 one_kept : (xs : List Values) (cells : Values) → IsPermutation xs (cells ∷ []) → xs ≡ cells ∷ []
 one_kept [] cells same = absurd (omega (arith, length_permutation _ _ same))

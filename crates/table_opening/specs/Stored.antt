@@ -1,4 +1,4 @@
--- The rows of the tables of definitions.
+-- The rows of the tables of definitions, and rowids.
 use Rattle.std.specs.Prelude.{Contains}
 use Rattle.table_schema.specs.Rows.{HaveRowids, Tables}
 use Rattle.table_schema.specs.declared.tables.Table.{Table}
@@ -18,3 +18,14 @@ pub record TellStored (all : Tables) (stored : StoredRows) : Type 0 where
 -- no table has a row without a rowid, or two with the same
 abbrev pub AllHaveRowids : Tables → Type 0
 AllHaveRowids all = (t : Table) → HaveRowids (all t)
+
+-- so it is of the tables whose rows do not show their rowids
+pub record HaveHiddenRowids (all : Tables) : Type 0 where
+  pub calendars : HaveRowids (all table.CalendarEntry)
+  pub periods : HaveRowids (all table.Period)
+  pub applications : HaveRowids (all table.Application)
+  pub run_cycles : HaveRowids (all table.RunCycle)
+  pub offsets : HaveRowids (all table.Offset)
+  pub predecessors : HaveRowids (all table.Predecessor)
+  pub links : HaveRowids (all table.LinkInForce)
+  pub pairs : HaveRowids (all table.Dependency)

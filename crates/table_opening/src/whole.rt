@@ -8,18 +8,17 @@ ghost use Rattle.plan_store.specs.Contents.{content_of};
 ghost use Rattle.table_facts.specs.Content.{IsContentOf};
 ghost use Rattle.table_reading.specs.Lists.{HasLists};
 ghost use Rattle.table_reading.specs.Reading.{HasPlan, Looks};
-ghost use Rattle.table_reading.specs.Tables.{TellPlans};
+ghost use Rattle.table_reading.specs.Tables.{HaveShownRowids, TellPlans};
 ghost use Rattle.app_definitions.specs.declared.definitions.Definitions.{Definitions as DefinitionsValue};
 ghost use Rattle.table_definitions.specs.Defined.{AreSoundDefinitions};
 ghost use Rattle.table_definitions.specs.Storing.{HaveRows};
 ghost use Rattle.table_reading.specs.Readable.{ArePlansReadable};
-ghost use Rattle.table_opening.specs.Stored.{AllHaveRowids, TellStored};
+ghost use Rattle.table_opening.specs.Stored.{AllHaveRowids, HaveHiddenRowids, TellStored};
 
 use crate::rowids::Rowids;
 use crate::stored::Shown;
 use crate::table_places::{
-    APPLICATION, CALENDAR_ENTRY, CURRENT, DELETION, DEPENDENCY, HISTORY, JOB, LINK_IN_FORCE,
-    LONG_TERM, META, OFFSET, PERIOD, PREDECESSOR, RUN_CYCLE,
+    APPLICATION, CALENDAR_ENTRY, DEPENDENCY, LINK_IN_FORCE, OFFSET, PERIOD, PREDECESSOR, RUN_CYCLE,
 };
 use app_definitions::Definitions;
 use plan_store::Content;
@@ -37,28 +36,19 @@ type StoredParts = (
     ),
 );
 
-// The rowids of all tables.
-type AllRowids = (
+// The rowids of the tables whose rows do not show them.
+type HiddenRowids = (
     (
-        (
-            (Rowids<META>, Rowids<CALENDAR_ENTRY>),
-            (Rowids<PERIOD>, Rowids<APPLICATION>),
-        ),
-        (
-            (Rowids<RUN_CYCLE>, Rowids<OFFSET>),
-            (Rowids<PREDECESSOR>, Rowids<LINK_IN_FORCE>),
-        ),
+        (Rowids<CALENDAR_ENTRY>, Rowids<PERIOD>),
+        (Rowids<APPLICATION>, Rowids<RUN_CYCLE>),
     ),
     (
-        (
-            (Rowids<LONG_TERM>, Rowids<CURRENT>),
-            (Rowids<HISTORY>, Rowids<DELETION>),
-        ),
-        (Rowids<DEPENDENCY>, Rowids<JOB>),
+        (Rowids<OFFSET>, Rowids<PREDECESSOR>),
+        (Rowids<LINK_IN_FORCE>, Rowids<DEPENDENCY>),
     ),
 );
 
-/// The tables of the plans.
+/// The tables of the plans, and the rowids that their rows show.
 #[derive(Drop)]
 pub(crate) struct PlanPart {
     /// What they list.
@@ -66,7 +56,7 @@ pub(crate) struct PlanPart {
 }
 
 impl Part for PlanPart {
-    ghost tells = { λ all part. TellPlans all part.lists };
+    ghost tells = { λ all part. TellPlans all part.lists × HaveShownRowids all };
 
     ghost in_order = { λ _. Unit {0} };
 
@@ -123,27 +113,27 @@ impl Part for DefinitionPart {
     }
 }
 
-/// The rowids of all tables.
+/// The rowids of the tables whose rows do not show them.
 #[derive(Drop)]
 pub(crate) struct RowidPart {}
 
-fn are_all(parts: AllRowids) -> RowidPart
-    ensures { (all : Tables) → ⟦<AllRowids as Part>⟧.tells all parts → AllHaveRowids all }
+fn are_hidden(parts: HiddenRowids) -> RowidPart
+    ensures { (all : Tables) → ⟦<HiddenRowids as Part>⟧.tells all parts → HaveHiddenRowids all }
 {
     drop(parts);
     RowidPart {}
 }
 
 impl Part for RowidPart {
-    ghost tells = { λ all _. AllHaveRowids all };
+    ghost tells = { λ all _. HaveHiddenRowids all };
 
     ghost in_order = { λ _. Unit {0} };
 
     ghost readable = { AllHaveRowids };
 
     fn read<S: Alter>(alloc: Global, conn: &mut Connection<S>) -> Result<Option<RowidPart>, Error> {
-        match AllRowids::read(alloc, conn) {
-            Ok(Some(parts)) => Ok(Some(are_all(parts))),
+        match HiddenRowids::read(alloc, conn) {
+            Ok(Some(parts)) => Ok(Some(are_hidden(parts))),
             Ok(None) => Ok(None),
             Err(error) => Err(error),
         }

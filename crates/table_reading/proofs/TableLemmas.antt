@@ -22,10 +22,16 @@ use Rattle.table_reading.specs.Cells.{IsMeta}
 use Rattle.table_reading.specs.Readable.{ShowsEach, ShowsMeta}
 use Rattle.table_reading.specs.Tables.{IsOneOf, ShowsOnly, TellsMeta}
 use Rattle.table_reading.specs.declared.meta.Meta.{Meta}
+use Rattle.table_reading.proofs.OrderLemmas.{rise_rowids}
 
 pub if_some : {A : Type 0} (o : Option A) (P Q : A → Type 0) → ((a : A) → P a → Q a) → IfSome o P → IfSome o Q
 if_some None P Q f h = tt
 if_some (Some a) P Q f h = f a h
+
+pub if_both : {A : Type 0} (o : Option A) (P Q R : A → Type 0) → ((a : A) → P a → Q a → R a) → IfSome o P → IfSome o Q
+    → IfSome o R
+if_both None P Q R f p q = tt
+if_both (Some a) P Q R f p q = f a p q
 
 pub at_some : {A : Type 0} (o : Option A) (a : A) (P : A → Type 0) → o ≡ Some a → IfSome o P → P a
 at_some o a P is h = subst (λ x. IfSome x P) is h
@@ -66,11 +72,25 @@ not_each values_of Is rows all t same none shows =
     none.2 x.0 x.1 x.2
 
 -- what is listed in another order
+pub listed_moved : {X : Type 0} (values_of : X → Values) (xs sorted : List X) (t : Table) (rows : List Values)
+    → IsPermutation (map (shown t) rows) (map values_of xs) → IsPermutation xs sorted
+    → IsPermutation (map (shown t) rows) (map values_of sorted)
+listed_moved values_of xs sorted t rows same moved =
+    IsPermutation-trans _ _ _ same (IsPermutation-map values_of xs sorted moved)
+
 pub shows_moved : {X : Type 0} (values_of : X → Values) (xs sorted : List X) (all : Tables) (t : Table)
     → IsPermutation (map (shown t) (all t)) (map values_of xs) → IsPermutation xs sorted
     → ShowsOnly all t (IsOneOf values_of sorted)
 shows_moved values_of xs sorted all t same moved = shows_listed values_of sorted (map values_of sorted) all t
-    (IsPermutation-trans _ _ _ same (IsPermutation-map values_of xs sorted moved)) refl
+    (listed_moved values_of xs sorted t (all t) same moved) refl
+
+-- one row alone has a rowid of its own
+pub one_rowid : (all : Tables) (metas : List Meta) (m : Meta) → metas ≡ m ∷ []
+    → IsPermutation (map (shown table.Meta) (all table.Meta)) (map values_of_meta metas) → HaveRowids (all table.Meta)
+one_rowid all metas m is same =
+    let one : length metas ≡ 1 = ap length is in
+    rise_rowids table.Meta values_of_meta (λ _. 1) (record { of_item = λ x. refl; of_row = λ row. refl })
+    (all table.Meta) metas same (λ i j d low within. absurd (omega (arith, low, within, one)))
 
 pub each_meta : (all : Tables) → ShowsMeta all → ShowsEach all table.Meta values_of_meta IsMeta
 each_meta all shows = record { each = λ v there. (shows.meta, shows.form, sym ((shows.tells.exactly v).0 there)) }

@@ -4,7 +4,7 @@ use Rattle.table_schema.specs.declared.tables.Table.TheVariants as table
 use Rattle.table_facts.specs.Content.{job_values}
 use Rattle.table_facts.specs.Facts.{current_values, deletion_values, link_values, pair_values, row_values}
 use Rattle.table_reading.specs.Order.{AreInOrder, current_number, deletion_number, job_number, row_number}
-use Rattle.table_reading.specs.Tables.{IsOneOf, ShowsOnly, TellsMeta}
+use Rattle.table_reading.specs.Tables.{IsOneOf, ShowsOnce, ShowsOnly, TellsMetaOnce}
 use Rattle.table_reading.specs.declared.meta.Meta.{Meta}
 use Rattle.table_reading.specs.declared.parts.CurrentRows.{CurrentRows}
 use Rattle.table_reading.specs.declared.parts.DeletionRows.{DeletionRows}
@@ -32,13 +32,13 @@ AreRestInOrder p = (Unit {0} × Unit {0}) × (Unit {0} × AreInOrder job_number 
 
 abbrev pub TellRowParts : Tables → RowParts → Type 0
 TellRowParts all p =
-    (ShowsOnly all table.LongTerm (IsOneOf row_values p.0.0.rows.items)
-    × ShowsOnly all table.Current (IsOneOf current_values p.0.1.rows.items))
-    × (ShowsOnly all table.History (IsOneOf row_values p.1.0.rows.items)
-    × ShowsOnly all table.Deletion (IsOneOf deletion_values p.1.1.rows.items))
+    (ShowsOnce all table.LongTerm (IsOneOf row_values p.0.0.rows.items)
+    × ShowsOnce all table.Current (IsOneOf current_values p.0.1.rows.items))
+    × (ShowsOnce all table.History (IsOneOf row_values p.1.0.rows.items)
+    × ShowsOnce all table.Deletion (IsOneOf deletion_values p.1.1.rows.items))
 
 abbrev pub TellRest : Tables → Rest → Type 0
 TellRest all p =
     (ShowsOnly all table.LinkInForce (IsOneOf link_values p.0.0.links)
     × ShowsOnly all table.Dependency (IsOneOf pair_values p.0.1.pairs.items))
-    × (TellsMeta all p.1.0 × ShowsOnly all table.Job (IsOneOf job_values p.1.1.jobs.items))
+    × (TellsMetaOnce all p.1.0 × ShowsOnce all table.Job (IsOneOf job_values p.1.1.jobs.items))

@@ -4,7 +4,7 @@ use Rattle.sqlite.specs.Order.{Row as Values}
 use Rattle.run_cycles.specs.declared.cycles.RunCycle.{RunCycle}
 use Rattle.definition_records.specs.declared.predecessors.Predecessor.{Predecessor}
 use Rattle.app_definitions.specs.declared.definitions.Definitions.{Definitions}
-use Rattle.table_schema.specs.Rows.{Tables, shown}
+use Rattle.table_schema.specs.Rows.{HaveRowids, Tables, shown}
 use Rattle.table_schema.specs.declared.tables.Table.{Table}
 use Rattle.table_schema.specs.declared.tables.Table.TheVariants as table
 use Rattle.table_facts.specs.Content.{AreEach, HasEntry, IsApplicationRow, IsNamed, IsOfSome, IsTold, job_values}
@@ -18,6 +18,10 @@ use Rattle.table_reading.specs.declared.meta.Meta.{Meta}
 -- the table shows exactly these values
 pub record ShowsOnly (all : Tables) (t : Table) (Is : Values → Type 0) : Type 0 where
   pub exactly : (v : Values) → Contains (map (shown t) (all t)) v ↔ Is v
+
+-- and its rowids are integers, none twice
+abbrev pub ShowsOnce : Tables → Table → (Values → Type 0) → Type 0
+ShowsOnce all t Is = ShowsOnly all t Is × HaveRowids (all t)
 
 -- one of these has the values
 abbrev pub IsOneOf : {X : Type 0} → (X → Values) → List X → Values → Type 0
@@ -33,6 +37,18 @@ pub record TellRows (all : Tables) (rows : PlanRows) : Type 0 where
 -- the one row of how far the plans reach
 abbrev pub TellsMeta : Tables → Meta → Type 0
 TellsMeta all m = ShowsOnly all table.Meta (λ v. v ≡ meta_values m.bounds m.issued m.options)
+
+abbrev pub TellsMetaOnce : Tables → Meta → Type 0
+TellsMetaOnce all m = TellsMeta all m × HaveRowids (all table.Meta)
+
+-- the tables whose rows show their rowids: integers, in none of them one twice
+pub record HaveShownRowids (all : Tables) : Type 0 where
+  pub meta : HaveRowids (all table.Meta)
+  pub ltp : HaveRowids (all table.LongTerm)
+  pub cp : HaveRowids (all table.Current)
+  pub history : HaveRowids (all table.History)
+  pub deletions : HaveRowids (all table.Deletion)
+  pub jobs : HaveRowids (all table.Job)
 
 -- the tables of the plans tell what is listed
 pub record TellPlans (all : Tables) (lists : PlanLists) : Type 0 where

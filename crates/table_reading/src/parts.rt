@@ -14,7 +14,7 @@ ghost use Rattle.table_reading.specs.Order.{AreInOrder, row_number, current_numb
 ghost use Rattle.table_reading.specs.Cells.{IsNumberedRow, IsPair, IsReadJob};
 ghost use Rattle.table_reading.specs.Readable.{ShowsEach, ShowsEachOnce, ShowsLinks, ShowsMeta};
 ghost use Rattle.table_reading.specs.Reading.{HasPlan, Looks};
-ghost use Rattle.table_reading.specs.Tables.{IsOneOf, ShowsOnly, TellsMeta};
+ghost use Rattle.table_reading.specs.Tables.{IsOneOf, ShowsOnce, ShowsOnly, TellsMetaOnce};
 
 use crate::links::lists_of_links;
 use crate::meta::Meta;
@@ -80,7 +80,7 @@ pub(crate) struct LongTermRows {
 }
 
 impl Part for LongTermRows {
-    ghost tells = { λ all part. ShowsOnly all LongTerm (IsOneOf row_values part.rows.items) };
+    ghost tells = { λ all part. ShowsOnce all LongTerm (IsOneOf row_values part.rows.items) };
 
     ghost in_order = { λ part. AreInOrder row_number part.rows.items };
 
@@ -106,7 +106,7 @@ pub(crate) struct CurrentRows {
 }
 
 impl Part for CurrentRows {
-    ghost tells = { λ all part. ShowsOnly all Current (IsOneOf current_values part.rows.items) };
+    ghost tells = { λ all part. ShowsOnce all Current (IsOneOf current_values part.rows.items) };
 
     ghost in_order = { λ part. AreInOrder current_number part.rows.items };
 
@@ -133,7 +133,7 @@ pub(crate) struct HistoryRows {
 }
 
 impl Part for HistoryRows {
-    ghost tells = { λ all part. ShowsOnly all History (IsOneOf row_values part.rows.items) };
+    ghost tells = { λ all part. ShowsOnce all History (IsOneOf row_values part.rows.items) };
 
     ghost in_order = { λ part. AreInOrder row_number part.rows.items };
 
@@ -159,7 +159,7 @@ pub(crate) struct DeletionRows {
 }
 
 impl Part for DeletionRows {
-    ghost tells = { λ all part. ShowsOnly all Gone (IsOneOf deletion_values part.rows.items) };
+    ghost tells = { λ all part. ShowsOnce all Gone (IsOneOf deletion_values part.rows.items) };
 
     ghost in_order = { λ part. AreInOrder deletion_number part.rows.items };
 
@@ -243,7 +243,7 @@ pub(crate) struct JobRows {
 }
 
 impl Part for JobRows {
-    ghost tells = { λ all part. ShowsOnly all Kept (IsOneOf job_values part.jobs.items) };
+    ghost tells = { λ all part. ShowsOnce all Kept (IsOneOf job_values part.jobs.items) };
 
     ghost in_order = { λ part. AreInOrder job_number part.jobs.items };
 
@@ -259,7 +259,7 @@ impl Part for JobRows {
 }
 
 impl Part for Meta {
-    ghost tells = { TellsMeta };
+    ghost tells = { TellsMetaOnce };
 
     ghost in_order = { λ _. Unit {0} };
 

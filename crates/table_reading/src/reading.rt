@@ -7,7 +7,7 @@ ghost use Rattle.table_schema.specs.Rows.{MayFail, Tables, tables_of};
 ghost use Rattle.table_reading.specs.Parts.{AreRowsInOrder, AreRestInOrder, TellRowParts, TellRest};
 ghost use Rattle.table_reading.specs.Readable.{ArePlansReadable};
 ghost use Rattle.table_reading.specs.Reading.{HasPlan, Looks};
-ghost use Rattle.table_reading.specs.Tables.{TellPlans, TellRows};
+ghost use Rattle.table_reading.specs.Tables.{HaveShownRowids, TellPlans, TellRows};
 
 use crate::lists::{PlanLists, PlanRows};
 use crate::meta::Meta;
@@ -59,6 +59,9 @@ pub fn read_lists<S: Alter>(
     ensures told { HasCleanDisk (state S.Store conn.new) → HasPlan (state S.Store conn.old)
         → IfOk result (λ found. IfSome found
         (TellPlans (tables_of (state S.Store conn.old).now.trees))) }
+    ensures rowids { HasCleanDisk (state S.Store conn.new) → HasPlan (state S.Store conn.old)
+        → IfOk result (λ found. IfSome found (λ _.
+        HaveShownRowids (tables_of (state S.Store conn.old).now.trees))) }
     ensures refused { HasCleanDisk (state S.Store conn.new) → HasPlan (state S.Store conn.old)
         → IfOk result (λ found. found ≡ None
         → ArePlansReadable (tables_of (state S.Store conn.old).now.trees) → ⊥) }

@@ -4,7 +4,7 @@ ghost use Rattle.std.specs.Prelude.{◌≡◌, false, is_ok, map, None, IfErr, I
 ghost use Rattle.std.specs.List.Sorted.{IsPermutation};
 ghost use Rattle.sqlite.specs.State.{HasCleanDisk};
 ghost use Rattle.sqlite.specs.Held.{state};
-ghost use Rattle.table_schema.specs.Rows.{MayFail, shown, tables_of};
+ghost use Rattle.table_schema.specs.Rows.{HaveRowids, MayFail, shown, tables_of};
 ghost use Rattle.table_reading.specs.Reading.{HasPlan, Looks};
 ghost use Rattle.table_reading.specs.Order.{AreInOrder};
 ghost use Rattle.table_reading.specs.Tables.{IsOneOf, ShowsOnly};
@@ -44,7 +44,8 @@ pub(crate) fn read_table<X: Told + Drop, S: Alter>(
     Ok(tell_each(alloc, &rows)?)
 }
 
-/// What the rows of the table tell, in the order of their numbers, where no two have the same.
+/// What the rows of the table tell, in the order of their numbers, where no two have the same. Numbers that are shown as
+/// rowids then are rowids of their own.
 pub(crate) fn read_in_order<X: Told + Numbered + Drop, S: Alter>(
     alloc: Global,
     conn: &mut Connection<S>,
@@ -54,6 +55,9 @@ pub(crate) fn read_in_order<X: Told + Numbered + Drop, S: Alter>(
         → IfOk result (λ found. IfSome found (λ xs.
         ShowsOnly (tables_of (state S.Store conn.old).now.trees) table
         (IsOneOf X.values xs.items))) }
+    ensures rowids { HasCleanDisk (state S.Store conn.new) → HasPlan (state S.Store conn.old)
+        → IfOk result (λ found. IfSome found (λ _. ShowsNumbers table X.values X.number_of
+        → HaveRowids (tables_of (state S.Store conn.old).now.trees table))) }
     ensures order { IfOk result (λ found. IfSome found (λ xs. AreInOrder X.number_of xs.items)) }
     ensures refused { HasCleanDisk (state S.Store conn.new) → HasPlan (state S.Store conn.old)
         → IfOk result (λ found. found ≡ None → ShowsNumbers table X.values X.number_of

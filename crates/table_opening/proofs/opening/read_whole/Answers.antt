@@ -8,6 +8,7 @@ use Rattle.table_reading.proofs.TableLemmas.{at_some}
 use Rattle.table_opening.specs.Opened.{IsCaused}
 use Rattle.table_opening.proofs.OpenedLemmas.{caused_by, caused_by_content, read_opened}
 use Rattle.table_opening.proofs.ReadableLemmas.{plans_readable}
+use Rattle.table_opening.proofs.StoredLemmas.{all_rowids}
 use Rattle.table_opening.proofs.opening.read_whole.Goals as goal
 
 pub returns-in-Ok-Some-clause-opened : goal.returns-in-Ok-Some-clause-opened
@@ -18,19 +19,20 @@ returns-in-Ok-Some-clause-opened g c clean plan =
     let told = at_some c.in-Ok-Some.field-0 _ _ c.in-Ok-Some.field-0-is (c.in-Ok-Some.ensures.told clean plan) in
     if_ok c.sound_content.result _ _ (λ content tells. read_opened old new (content_of content)
     (c.is_autocommit-settled.ensures.settled (c.is_autocommit-settled.ensures.value ∙ ap not c.requires))
-    c.in-Ok-Some.ensures.looks clean plan told.0 (tells all told.1.0 told.1.1)) c.sound_content.ensures.content
+    c.in-Ok-Some.ensures.looks clean plan (all_rowids all told.1.0.1 told.0) (tells all told.1.0.0 told.1.1))
+    c.sound_content.ensures.content
 
 pub returns-in-Ok-Some-clause-told : goal.returns-in-Ok-Some-clause-told
 returns-in-Ok-Some-clause-told g c clean plan =
     let all = tables_of (state g.S.Store c.args.conn.now).now.trees in
     let told = at_some c.in-Ok-Some.field-0 _ _ c.in-Ok-Some.field-0-is (c.in-Ok-Some.ensures.told clean plan) in
-    if_ok c.sound_content.result _ _ (λ content tells. tells all told.1.0 told.1.1) c.sound_content.ensures.content
+    if_ok c.sound_content.result _ _ (λ content tells. tells all told.1.0.0 told.1.1) c.sound_content.ensures.content
 
 pub returns-in-Ok-Some-clause-rows : goal.returns-in-Ok-Some-clause-rows
 returns-in-Ok-Some-clause-rows g c clean held rows =
     let all = tables_of (state g.S.Store c.args.conn.now).now.trees in
     let told = at_some c.in-Ok-Some.field-0 _ _ c.in-Ok-Some.field-0-is (c.in-Ok-Some.ensures.told clean held.0) in
-    c.sound_content.ensures.refused rows all told.1.0 told.1.1 held.1
+    c.sound_content.ensures.refused rows all told.1.0.0 told.1.1 held.1
 
 pub returns-in-Ok-None-clause-rows : goal.returns-in-Ok-None-clause-rows
 returns-in-Ok-None-clause-rows g c clean held rows =

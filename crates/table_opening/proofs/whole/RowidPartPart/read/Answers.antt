@@ -4,12 +4,6 @@ use Rattle.table_opening.proofs.whole.RowidPartPart.read.Goals as goal
 pub returns-in-Ok-None-clause-refused : goal.returns-in-Ok-None-clause-refused
 returns-in-Ok-None-clause-refused g c clean plan none have =
     c.in-Ok-None.ensures.refused clean plan c.in-Ok-None.field-0-is (
-      (
-        ((have (table_of 0), have (table_of 1)), (have (table_of 2), have (table_of 3))),
-        ((have (table_of 4), have (table_of 5)), (have (table_of 6), have (table_of 7))),
-      ),
-      (
-        ((have (table_of 8), have (table_of 9)), (have (table_of 10), have (table_of 11))),
-        (have (table_of 12), have (table_of 13)),
-      ),
+      ((have (table_of 1), have (table_of 2)), (have (table_of 3), have (table_of 4))),
+      ((have (table_of 5), have (table_of 6)), (have (table_of 7), have (table_of 12))),
     )

@@ -1,13 +1,18 @@
 use Rattle.sqlite.specs.Held.{state}
 use Rattle.table_schema.specs.Rows.{tables_of}
-use Rattle.table_reading.proofs.TableLemmas.{at_some, each_meta, if_some, one_meta, tells_only}
+use Rattle.table_reading.proofs.TableLemmas.{at_some, each_meta, if_some, one_meta, one_rowid, tells_only}
 use Rattle.table_reading.proofs.parts.MetaPart.read.Goals as goal
 
 pub returns-in-Ok-Some-clause-told : goal.returns-in-Ok-Some-clause-told
 returns-in-Ok-Some-clause-told g c clean plan =
-    if_some c.only.result _ _ (λ m is. tells_only (tables_of (state g.S.Store c.args.conn.now).now.trees)
-    c.in-Ok-Some.metas.items m is (at_some c.in-Ok-Some.field-0 c.in-Ok-Some.metas _ c.in-Ok-Some.field-0-is
-    (c.in-Ok-Some.ensures.told clean plan))) c.only.ensures.one
+    let all = tables_of (state g.S.Store c.args.conn.now).now.trees in
+    let metas = c.in-Ok-Some.metas.items in
+    let told = at_some c.in-Ok-Some.field-0 c.in-Ok-Some.metas _ c.in-Ok-Some.field-0-is
+    (c.in-Ok-Some.ensures.told clean plan) in
+    let listed = at_some c.in-Ok-Some.field-0 c.in-Ok-Some.metas _ c.in-Ok-Some.field-0-is
+    (c.in-Ok-Some.ensures.listed clean plan) in
+    if_some c.only.result _ _ (λ m is. (tells_only all metas m is told, one_rowid all metas m is listed))
+    c.only.ensures.one
 
 pub returns-in-Ok-Some-clause-refused : goal.returns-in-Ok-Some-clause-refused
 returns-in-Ok-Some-clause-refused g c clean plan none readable =
