@@ -33,7 +33,8 @@ fn meaning_before_run(number: u8) -> &'static str {
         MEMORY =>
             "opcplan: fault 40: memory was refused before the first statement; nothing is changed",
         41 => "opcplan: fault 41: the disk failed while FILE was opened; nothing is changed",
-        50 => "opcplan: fault 50: FILE is a database, but no plan of this version; it is as it was",
+        50 =>
+            "opcplan: fault 50: FILE holds no plan of this version, and can't get one; it is as it was",
         51 => "opcplan: fault 51: the tables in FILE are not those of a plan; FILE is as it was",
         _ => "opcplan: fault 52: the rows in FILE are no sound plan; FILE is as it was",
     }

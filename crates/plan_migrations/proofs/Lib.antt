@@ -3,4 +3,4 @@ pub mod TextLemmas
 pub mod TurnLemmas
 pub mod ContentLemmas
 pub mod ReadLemmas
-pub mod SchemaLemmas
+pub mod FirstStanding

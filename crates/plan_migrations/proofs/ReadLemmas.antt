@@ -1,5 +1,5 @@
 -- What is read of the tables of schema 1, and what is made of it.
-use Rattle.std.proofs.Common.{◌≡◌, ◌∙◌, ◌≤◌, ◌<◌, ◌+◌, get_or, inl, inr, ℕ, List, [], ◌∷◌, ◌++◌, map, length, take, IsTrue, refl, sym, ap, subst}
+use Rattle.std.proofs.Common.{◌≡◌, ◌∙◌, ◌≤◌, ◌<◌, ◌+◌, get_or, inl, inr, ℕ, List, [], ◌∷◌, ◌++◌, map, length, take, IsTrue, refl, sym, subst}
 use Rattle.std.proofs.Common.{Result, Ok, Err}
 use Rattle.std.specs.Prelude.{IfErr, OnErr, OnOk}
 use Rattle.std.specs.List.{All, AllByRecursion}
@@ -8,7 +8,7 @@ use Rattle.std.proofs.lemmas.List.{map-append, take_more}
 use Rattle.std.proofs.lemmas.List.Elements.{All-map, All-push, All-weaker, recursion_from_All}
 use Rattle.std.proofs.lemmas.List.Sorted.{IsPermutation-map, IsPermutation-trans}
 use Rattle.sqlite.specs.Effect.{Database}
-use Rattle.sqlite.specs.State.{IsUnchanged, State}
+use Rattle.sqlite.specs.State.{IsLive, IsUnchanged, State}
 use Rattle.sqlite.specs.declared.error.Error.{Error}
 use Rattle.sqlite.specs.declared.error.Error.TheVariants.{SqliteFailure}
 use Rattle.sqlite.specs.declared.error.ErrorCode.TheVariants as code
@@ -20,9 +20,9 @@ use Rattle.table_schema.specs.declared.tables.Table.{Table}
 use Rattle.table_schema.specs.declared.tables.Table.TheVariants.{Meta, CalendarEntry, Period, Application, RunCycle}
 use Rattle.table_schema.specs.declared.tables.Table.TheVariants.{Offset, Predecessor, LinkInForce, LongTerm, Current}
 use Rattle.table_schema.specs.declared.tables.Table.TheVariants.{History, Deletion, Dependency, Job}
-use Rattle.table_remaking.specs.FirstSchema.{first_schema, first_shown}
+use Rattle.table_remaking.specs.FirstSchema.{CanRemake, HasFirstTables, first_shown}
 use Rattle.table_remaking.specs.FirstTexts.{first_select_sql}
-use Rattle.table_remaking.specs.Remaking.{AreAllFirst, AreRemade, AreWhole, remade_row, tables_in}
+use Rattle.table_remaking.specs.Remaking.{AreAllFirst, AreRemade, AreWhole, IsRemadeOf, KeepsOthers, remade_row, tables_in}
 use Rattle.table_remaking.specs.Turns.{DeviceHasCause, is_of_device}
 use Rattle.table_remaking.specs.Types.{AreFirst}
 use Rattle.table_opening.specs.Faults.{fault_for}
@@ -64,7 +64,7 @@ pick Q h Job = h.1.1.1.1.1.1.1.1.1.1.1.1.1.0
 each : (Q : Table → Type 0) → All Q all_tables → (t : Table) → Q t
 each Q all = pick Q (recursion_from_All Q all_tables all)
 
-module _ (a b : State) (has : a.now.schema ≡ first_schema) (reads : List FirstRows) (all : Tables) where
+module _ (a b : State) (has : HasFirstTables a.now.schema) (live : IsLive a) (reads : List FirstRows) (all : Tables) where
   abbrev Remade : FirstRows → Type 0
   Remade read = IsPermutation (map (remade_row read.table) read.rows.items) (map (shown read.table) (all read.table))
 
@@ -76,18 +76,23 @@ module _ (a b : State) (has : a.now.schema ≡ first_schema) (reads : List First
       let t = read.table in
       let was = map (first_shown t) (tables_of a.now.trees t) in
       IsPermutation-trans (map (remade_row t) was) (map (remade_row t) read.rows.items) (map (shown t) (all t))
-      (IsPermutation-map (remade_row t) was read.rows.items (step.reads t a b read.rows.items has told)) remade
+      (IsPermutation-map (remade_row t) was read.rows.items (step.reads t a b read.rows.items has live told)) remade
 
   -- the rows that are read are those of the tables, so these are made anew
   pub renewed : AreWhole reads → All (AreShown a b) reads → AreRemade reads all → AreRenewed (tables_of a.now.trees) all
   renewed whole told remade = each Renewed (subst (All Renewed) whole (All-map Renewed (λ (read : FirstRows). read.table)
       reads (λ i d low. one_renewed (get_or reads i d) (told i d low) (remade i d low))))
 
-pub renews : (a b : State) (reads : List FirstRows) (db : Trees) → a.now.schema ≡ first_schema → AreWhole reads
-    → All (AreShown a b) reads → AreRemade reads (tables_of db) → RenewsFrom a.now db
-renews a b reads db has whole told remade =
-    let rows = renewed a b has reads (tables_of db) whole told remade in
-    record { was = has; rows = rows; content = content_stays (tables_of a.now.trees) (tables_of db) rows }
+pub renews : (a b : State) (reads : List FirstRows) (db : Trees) → IsLive a → AreWhole reads
+    → All (AreShown a b) reads → AreRemade reads (tables_of db) → KeepsOthers a.now db → RenewsFrom a.now db
+renews a b reads db live whole told remade keeps =
+    let rows = renewed a b keeps.0.has live reads (tables_of db) whole told remade in
+    record {
+      was = keeps.0;
+      others = keeps.1;
+      rows = rows;
+      content = content_stays (tables_of a.now.trees) (tables_of db) rows;
+    }
 
 module _ (a b c : State) where
   shown_again : IsUnchanged b c → (read : FirstRows) → AreShown a b read → AreShown a c read
@@ -117,23 +122,24 @@ module _ (a b c : State) where
   pub unrenewed_since : IsUnchanged a b → a.faults ≤ b.faults → b.step_limit ≡ a.step_limit → (f : MigrateFault)
       → IsUnrenewed b c f → IsUnrenewed a c f
   unrenewed_since same more limit OtherTable (inl other) =
-      inl (λ is. other (ap (λ (d : Database). d.schema) same.0.now_is ∙ is))
+      inl (λ is. other (subst (λ (d : Database). CanRemake d.schema) (sym same.0.now_is) is))
   unrenewed_since same more limit OtherTable (inr (inl (t, h))) = inr (inl (t, other_since same limit t h))
   unrenewed_since same more limit OtherTable (inr (inr (is, reads, whole, typed))) =
-      inr (inr (ap (λ (d : Database). d.schema) (sym same.0.now_is) ∙ is, reads, whole, typed))
+      inr (inr (subst (λ (d : Database). CanRemake d.schema) same.0.now_is is, reads, whole, typed))
   unrenewed_since same more limit Memory h = tt
   unrenewed_since same more limit Device h = failure_since a b c same more Device h
   unrenewed_since same more limit UnknownVersion h = h
 
   pub renewed_since : IsUnchanged a b → IsRenewed b c → IsRenewed a c
   renewed_since same h = record {
+    remade = subst (λ (d : Database). IsRemadeOf d c.now) same.0.now_is h.remade;
     renewed = subst (λ (d : Database). RenewsFrom d c.now.trees) same.0.now_is h.renewed;
     plan = h.plan;
     settled = h.settled;
     is_open = h.is_open;
   }
 
-  pub failed_remake : IsUnchanged a b → a.faults ≤ b.faults → (reads : List FirstRows) → a.now.schema ≡ first_schema
+  pub failed_remake : IsUnchanged a b → a.faults ≤ b.faults → (reads : List FirstRows) → CanRemake a.now.schema
       → AreWhole reads → AreAllFirst reads → (f : MigrateFault) → FailsToRemake b c f → IsUnrenewed a c f
   failed_remake same more reads has whole typed OtherTable h = inr (inr (has, reads, whole, typed))
   failed_remake same more reads has whole typed Memory h = tt
@@ -175,18 +181,20 @@ tables_more reads read tables i d low whole is = map-append (λ (it : FirstRows)
 
 -- ---- the tables are made anew after they were read
 
-module _ {E : Type 0} (a b c : State) (reads : List FirstRows) (has : a.now.schema ≡ first_schema) (whole : AreWhole reads) where
-  pub renewed_by : (r : Result (Unit {0}) E) → All (AreShown a b) reads → OnOk r (IsRemade reads c) → OnOk r (IsRenewed a c)
-  renewed_by (Ok v) told h = record {
-    renewed = renews a b reads c.now.trees has whole told h.rows;
-    plan = h.plan;
-    settled = h.settled;
-    is_open = h.is_open;
-  }
+module _ {E : Type 0} (a b c : State) (reads : List FirstRows) (same : IsUnchanged a b) (live : IsLive a) (whole : AreWhole reads) where
+  pub renewed_by : (r : Result (Unit {0}) E) → All (AreShown a b) reads → OnOk r (IsRemade reads b c) → OnOk r (IsRenewed a c)
+  renewed_by (Ok v) told h =
+      let remade = subst (λ (d : Database). IsRemadeOf d c.now) same.0.now_is h.remade in record {
+        remade = remade;
+        renewed = renews a b reads c.now.trees live whole told h.rows (remade.can, remade.others);
+        plan = h.plan;
+        settled = h.settled;
+        is_open = h.is_open;
+      }
   renewed_by (Err e) told h = tt
 
 pub unrenewed_by : (a b c : State) (reads : List FirstRows) → IsUnchanged a b → a.faults ≤ b.faults
-    → a.now.schema ≡ first_schema → AreWhole reads → AreAllFirst reads → (r : Result (Unit {0}) MigrateFault)
+    → CanRemake a.now.schema → AreWhole reads → AreAllFirst reads → (r : Result (Unit {0}) MigrateFault)
     → IfErr r (FailsToRemake b c) → IfErr r (IsUnrenewed a c)
 unrenewed_by a b c reads same more has whole typed (Ok v) h = tt
 unrenewed_by a b c reads same more has whole typed (Err f) h = failed_remake a b c same more reads has whole typed f h

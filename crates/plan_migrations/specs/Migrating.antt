@@ -2,6 +2,7 @@
 use Rattle.std.specs.Prelude.{◌≡◌, ◌⊎◌, ℕ, List, [], map, Result, Ok, Err, IsTrue, ⊤}
 use Rattle.std.specs.List.{All}
 use Rattle.std.specs.List.Sorted.{IsPermutation}
+use Rattle.sqlite.specs.Change.{KeepsRows}
 use Rattle.sqlite.specs.Effect.{Database}
 use Rattle.sqlite.specs.State.{IsUnchanged, Shown, State}
 use Rattle.sqlite.specs.Tree.{Trees}
@@ -16,9 +17,9 @@ use Rattle.table_opening.specs.Faults.{fault_for}
 use Rattle.table_opening.specs.Foreign.{RefusesVersion}
 use Rattle.table_opening.specs.declared.faults.OpenFault.TheVariants as OpenFault
 use Rattle.table_opening.specs.declared.faults.OpenFault.TheVariants.{Unopened}
-use Rattle.table_remaking.specs.FirstSchema.{first_schema, first_shown}
+use Rattle.table_remaking.specs.FirstSchema.{CanRemake, first_shown, without}
 use Rattle.table_remaking.specs.FirstTexts.{first_select_sql}
-use Rattle.table_remaking.specs.Remaking.{AreAllFirst, AreRemade, AreWhole, remade_row}
+use Rattle.table_remaking.specs.Remaking.{AreAllFirst, AreRemade, AreWhole, IsRemadeOf, remade_row}
 use Rattle.table_remaking.specs.declared.rows.FirstRows.{FirstRows}
 use Rattle.plan_migrations.specs.Asking.{IsFailure, IsKept}
 use Rattle.plan_migrations.specs.FirstContent.{IsFirstContentOf}
@@ -64,9 +65,11 @@ AreRenewed old new = (t : Table) → IsPermutation (map (remade_row t) (map (fir
 abbrev pub KeepsContent : Tables → Tables → Type 0
 KeepsContent old new = (c : Content) → IsFirstContentOf old c → IsContentOf new c
 
--- tables of schema 1 alone stood there; those that stand there have their rows and their content
+-- tables of schema 1 stood there, and nothing was in the way of those of a plan; those that stand there have their rows
+-- and their content, and the tables beside them the rows that they had
 pub record RenewsFrom (old : Database) (db : Trees) : Type 0 where
-  pub was : old.schema ≡ first_schema
+  pub was : CanRemake old.schema
+  pub others : KeepsRows (without was.has.trees all_tables old.schema).tables old.trees db
   pub rows : AreRenewed (tables_of old.trees) (tables_of db)
   pub content : KeepsContent (tables_of old.trees) (tables_of db)
 
@@ -74,8 +77,10 @@ pub record RenewsFrom (old : Database) (db : Trees) : Type 0 where
 abbrev pub MayRenew : State → Trees → Type 0
 MayRenew s db = RenewsFrom s.now db
 
--- the tables of schema 1 alone stood there; those of the current schema stand there, and all of it is committed
+-- the tables of schema 1 stood there; those of the current schema stand there in their place, behind the others, and all
+-- of it is committed
 pub record IsRenewed (old new : State) : Type 0 where
+  pub remade : IsRemadeOf old.now new.now
   pub renewed : MayRenew old new.now.trees
   pub plan : IsPlan new
   pub settled : new.committed ≡ new.now
@@ -88,23 +93,24 @@ TellsOf e UnknownVersion = ⊥
 TellsOf e _ = ⊤
 
 -- they were made anew with these rows, and all is committed
-pub record IsRemade (reads : List FirstRows) (s : State) : Type 0 where
-  pub plan : IsPlan s
-  pub rows : AreRemade reads (tables_of s.now.trees)
-  pub settled : s.committed ≡ s.now
-  pub is_open : IsTrue s.is_open
+pub record IsRemade (reads : List FirstRows) (old new : State) : Type 0 where
+  pub remade : IsRemadeOf old.now new.now
+  pub plan : IsPlan new
+  pub rows : AreRemade reads (tables_of new.now.trees)
+  pub settled : new.committed ≡ new.now
+  pub is_open : IsTrue new.is_open
 
 -- why they were not: a statement is refused, or it fails
 abbrev pub FailsToRemake : State → State → MigrateFault → Type 0
 FailsToRemake old new OtherTable = ⊤
 FailsToRemake old new fault = IsFailure old new fault
 
--- why they are not renewed: there are further tables, indexes or views; a table is another; a statement is refused
--- whose rows were all read from the tables of schema 1; or it fails
+-- why they are not renewed: a table of schema 1 is missing or another, or something is in the way of those of a plan; a
+-- table has other rows; a statement is refused whose rows were all read from the tables of schema 1; or it fails
 abbrev pub IsUnrenewed : State → State → MigrateFault → Type 0
 IsUnrenewed old new UnknownVersion = ⊥
-IsUnrenewed old new OtherTable = (old.now.schema ≡ first_schema → ⊥) ⊎ ((t : Table) × IsOtherFirst old new t)
-    ⊎ ((old.now.schema ≡ first_schema) × (reads : List FirstRows) × AreWhole reads × AreAllFirst reads)
+IsUnrenewed old new OtherTable = (CanRemake old.now.schema → ⊥) ⊎ ((t : Table) × IsOtherFirst old new t)
+    ⊎ (CanRemake old.now.schema × (reads : List FirstRows) × AreWhole reads × AreAllFirst reads)
 IsUnrenewed old new fault = IsFailure old new fault
 
 -- ---- all together

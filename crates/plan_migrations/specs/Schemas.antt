@@ -1,13 +1,11 @@
 -- The version of a plan, and tables that are of the schema of a version.
-use Rattle.std.specs.Prelude.{◌≡◌, ◌⊎◌, ℕ, List, [], ◌∷◌, length, Option, Some, None, Result, Ok, Err}
+use Rattle.std.specs.Prelude.{◌≡◌, ◌⊎◌, ℕ, List, [], ◌∷◌, Option, Some, None, Result, Ok, Err}
 use Rattle.sqlite.specs.Order.{Row as Values, column}
 use Rattle.sqlite.specs.State.{State, Shown}
 use Rattle.table_schema.specs.Texts.{select_sql}
 use Rattle.table_schema.specs.declared.tables.Table.{Table}
 use Rattle.table_schema.specs.declared.tables.TheConstants.{SCHEMA_VERSION}
 use Rattle.table_facts.specs.Facts.{natural}
-use Rattle.sqlite_schema.specs.declared.schema.Schema.{Schema}
-use Rattle.table_opening.specs.Extended.{Extends}
 use Rattle.table_opening.specs.Foreign.{RefusesToShow, RefusesVersion, version_sql}
 use Rattle.table_remaking.specs.FirstTexts.{first_select_sql}
 use Rattle.table_remaking.specs.Types.{AreFirst, AreTyped}
@@ -44,10 +42,6 @@ TellsVersion old new (Err UnknownVersion) = ShowsUnknown old new
 TellsVersion old new (Err fault) = IsFailure old new fault
 
 -- ---- tables
-
--- the schema has the tables and indexes of the other, and nothing else
-abbrev pub HasNoMore : Schema → Schema → Type 0
-HasNoMore a b = Extends a b × (length a.tables ≡ length b.tables) × (length a.indexes ≡ length b.indexes) × (a.views ≡ [])
 
 -- what the text asks for is shown, and it is such
 abbrev pub ShowsSuch : List ℕ → (List Values → Type 0) → State → State → Type 0

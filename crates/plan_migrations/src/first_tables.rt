@@ -4,9 +4,10 @@ ghost use Rattle.std.specs.Prelude.{◌≡◌, ◌↔◌, false, IfErr, IfOk, Is
 ghost use Rattle.std.specs.List.{All};
 ghost use Rattle.sqlite.specs.State.{HasCleanDisk, IsUnchanged, Survives};
 ghost use Rattle.sqlite.specs.Held.{state};
-ghost use Rattle.table_remaking.specs.FirstSchema.{first_schema};
+ghost use Rattle.table_remaking.specs.FirstSchema.{CanRemake};
+ghost use Rattle.table_remaking.specs.Leaving.{left_by};
+ghost use Rattle.table_opening.specs.Standing.{CanMake, StandAmong};
 ghost use Rattle.plan_migrations.specs.Asking.{IsKept};
-ghost use Rattle.plan_migrations.specs.Schemas.{HasNoMore};
 ghost use Rattle.plan_migrations.specs.Migrating.{AreShown, FailsToRead, FailsToReadAll};
 ghost use Rattle.table_remaking.specs.Remaking.{AreAllFirst, tables_in};
 ghost use Rattle.table_remaking.specs.Types.{AreFirst};
@@ -15,28 +16,39 @@ use crate::asking::ask;
 use crate::faults::MigrateFault;
 use sqlite::{Alter, Connection, Error};
 use sqlite_schema::schema::Schema;
-use std::alloc::Global;
-use table_opening::extends_schema;
-use table_remaking::{FirstRows, are_first, first_select_text, make_first_tables};
-use table_schema::Table;
+use std::alloc::{AllocError, Global};
+use table_opening::{can_make, stand_among};
+use table_remaking::{FirstRows, are_first, first_select_text, left_without, make_first_tables};
+use table_schema::{Table, make_tables};
 
-// Whether the schema has the tables and indexes of the other, and nothing else.
-fn has_no_more(a: &Schema, b: &Schema) -> bool
-    ensures { IsTrue result ↔ HasNoMore a.now b.now }
+// Whether the first tables stand in the schema, wherever that is, and those of the plan can be made in what is left
+// without them.
+fn can_remake(
+    alloc: Global,
+    schema: &Schema,
+    first: &Schema,
+    plan: &Schema,
+) -> Result<bool, AllocError>
+    ensures { IfOk result (λ b. IsTrue b ↔ (StandAmong schema.now.tables first.now.tables
+        × CanMake (left_by schema.now first.now.tables) plan.now)) }
 {
-    extends_schema(a, b)
-        && a.tables.len() == b.tables.len()
-        && a.indexes.len() == b.indexes.len()
-        && a.views.is_empty()
+    if !stand_among(schema.tables.as_slice(), first.tables.as_slice()) {
+        return Ok(false);
+    }
+    let left = left_without(alloc, schema, first.tables.as_slice())?;
+    Ok(can_make(&left, plan))
 }
 
-/// Whether the database has the tables of schema 1, and nothing else.
+/// Whether the tables of schema 1 stand in the database, wherever that is, and nothing is in the way of those of a plan
+/// in their place.
 pub(crate) fn has_first_tables<S: Alter>(alloc: Global, conn: &Connection<S>) -> Result<bool, Error>
-    ensures { IfOk result (λ b. IsTrue b ↔ ((state S.Store conn.now).now.schema ≡ first_schema)) }
+    ensures { IfOk result (λ b. IsTrue b ↔ CanRemake (state S.Store conn.now).now.schema) }
 {
-    let mut made = Connection::open_in_memory(alloc)?;
-    make_first_tables(&mut made)?;
-    Ok(has_no_more(conn.schema(), made.schema()))
+    let mut first = Connection::open_in_memory(alloc)?;
+    make_first_tables(&mut first)?;
+    let mut plan = Connection::open_in_memory(alloc)?;
+    make_tables(&mut plan)?;
+    Ok(can_remake(alloc, conn.schema(), first.schema(), plan.schema())?)
 }
 
 // Reads the rows of the table.

@@ -16,7 +16,7 @@ use table_schema::SCHEMA_VERSION;
 
 /// Makes the tables of a plan those of the current schema, with their rows, all of them or none, also over a crash; and
 /// answers the version that it found and the one that it left, (0, 0) where the database is without tables. Tables of the
-/// current schema stay as they are. Tables of schema 1 have no others beside them.
+/// current schema stay as they are, and so do the tables beside them.
 pub fn migrate<S: Alter>(
     alloc: Global,
     conn: &mut Connection<S>,

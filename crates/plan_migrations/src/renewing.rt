@@ -3,10 +3,10 @@
 ghost use Rattle.std.specs.Prelude.{◌≡◌, ◌⊎◌, false, IfErr, IsTrue, OnErr, OnOk};
 ghost use Rattle.sqlite.specs.State.{HasCleanDisk, Survives};
 ghost use Rattle.sqlite.specs.Held.{state};
-ghost use Rattle.table_remaking.specs.FirstSchema.{first_schema};
+ghost use Rattle.table_remaking.specs.FirstSchema.{CanRemake};
 ghost use Rattle.plan_migrations.specs.Asking.{IsKept};
 ghost use Rattle.table_schema.specs.Rows.{tables_of};
-ghost use Rattle.table_remaking.specs.Remaking.{AreAllFirst, AreRemade, AreWhole};
+ghost use Rattle.table_remaking.specs.Remaking.{AreAllFirst, AreRemade, AreWhole, KeepsOthers};
 ghost use Rattle.plan_migrations.specs.Migrating.{FailsToRemake, IsRemade, IsRenewed, IsUnrenewed};
 ghost use Rattle.plan_migrations.specs.Migrating.{MayRenew, TellsOf};
 
@@ -39,18 +39,18 @@ fn remake<S: Alter>(
     requires whole { AreWhole reads.now }
     requires typed { AreAllFirst reads.now }
     ensures remade { HasCleanDisk (state S.Store conn.new)
-        → (state S.Store conn.old).now.schema ≡ first_schema
-        → OnOk result (IsRemade reads.now (state S.Store conn.new)) }
+        → CanRemake (state S.Store conn.old).now.schema
+        → OnOk result (IsRemade reads.now (state S.Store conn.old) (state S.Store conn.new)) }
     ensures failed { HasCleanDisk (state S.Store conn.new)
-        → (state S.Store conn.old).now.schema ≡ first_schema
+        → CanRemake (state S.Store conn.old).now.schema
         → IfErr result (FailsToRemake (state S.Store conn.old) (state S.Store conn.new)) }
     ensures kept { HasCleanDisk (state S.Store conn.new)
-        → (state S.Store conn.old).now.schema ≡ first_schema
+        → CanRemake (state S.Store conn.old).now.schema
         → OnErr result (IsKept (state S.Store conn.old) (state S.Store conn.new)) }
     ensures mode { conn.new.in_transaction ≡ false }
     ensures crash { Survives (state S.Store conn.old) (state S.Store conn.new)
-        (λ db. (state S.Store conn.old).now.schema ≡ first_schema
-        → AreRemade reads.now (tables_of db)) }
+        (λ db. CanRemake (state S.Store conn.old).now.schema → AreRemade reads.now (tables_of db)
+        × KeepsOthers (state S.Store conn.old).now db) }
 {
     match remake_tables(conn, alloc, reads) {
         Ok(()) => Ok(()),
@@ -61,7 +61,7 @@ fn remake<S: Alter>(
 // The same with the rows that the tables have.
 fn renew_first<S: Alter>(alloc: Global, conn: &mut Connection<S>) -> Result<(), MigrateFault>
     requires mode { conn.old.in_transaction ≡ false }
-    requires first { (state S.Store conn.old).now.schema ≡ first_schema }
+    requires first { CanRemake (state S.Store conn.old).now.schema }
     requires open { HasCleanDisk (state S.Store conn.old) → IsTrue (state S.Store conn.old).is_open }
     ensures renewed { HasCleanDisk (state S.Store conn.new)
         → OnOk result (IsRenewed (state S.Store conn.old) (state S.Store conn.new)) }
@@ -73,6 +73,7 @@ fn renew_first<S: Alter>(alloc: Global, conn: &mut Connection<S>) -> Result<(), 
     ensures crash { Survives (state S.Store conn.old) (state S.Store conn.new)
         (MayRenew (state S.Store conn.old)) }
 {
+    let _ = conn.schema();
     match read_tables(alloc, conn, &TABLES) {
         Ok(reads) => remake(alloc, conn, &reads),
         Err(fault) => Err(fault),

@@ -15,7 +15,7 @@ use Rattle.plan_store.specs.declared.stores.StoreFault.{StoreFault}
 use Rattle.plan_store.specs.declared.stores.StoreFault.TheVariants.{Device, Memory}
 use Rattle.table_opening.specs.Opened.{IsStored}
 use Rattle.table_schema.specs.Rows.{MayFail, Tables, tables_of}
-use Rattle.table_schema.specs.Takes.{HasOwnIndexes}
+use Rattle.table_schema.specs.Schema.{HasOwnIndexes}
 use Rattle.table_writing.specs.Taking.{TakesChange}
 use Rattle.table_writing.specs.declared.redefining.DefinitionMoves.{DefinitionMoves}
 use Rattle.external_dependencies.specs.Pair.{pair_cmp}

@@ -21,7 +21,7 @@ use Rattle.planner_machine.specs.declared.content.Bounds.{Bounds}
 use Rattle.planner_machine.specs.declared.job.Job.{Job}
 use Rattle.keyed_lists.specs.Rows.{of_current, of_deletion, of_row}
 use Rattle.table_schema.specs.Rows.{Tables, matches, placed, shown, stored, without_key}
-use Rattle.table_schema.specs.Schema.{tree}
+use Rattle.table_schema.specs.Schema.{place}
 use Rattle.table_schema.specs.declared.tables.Table.{Table}
 use Rattle.table_schema.specs.declared.tables.Table.TheVariants as table
 use Rattle.plan_store.specs.Changes.{after, Fits, jobs_after, redefined}
@@ -47,7 +47,7 @@ use Rattle.plan_tables.proofs.SetMoves.{at_other, with_other, without_other}
 use Rattle.table_facts.proofs.Told.{is_some as same_some}
 
 abbrev pub IsApart : Table → Table → Type 0
-IsApart u t = (tree u == tree t) ≡ false
+IsApart u t = (place u == place t) ≡ false
 
 -- ---- the four sets
 

@@ -16,7 +16,7 @@ use Rattle.app_definitions.specs.declared.kinds.Kind.TheVariants as kind
 use Rattle.app_definitions.specs.declared.options.Options.{Options}
 use Rattle.planner_machine.specs.Content.{Content}
 use Rattle.table_schema.specs.Rows.{Tables}
-use Rattle.table_schema.specs.Schema.{tree}
+use Rattle.table_schema.specs.Schema.{place}
 use Rattle.table_schema.specs.declared.tables.Table.{Table}
 use Rattle.table_schema.specs.declared.tables.Table.TheVariants as table
 use Rattle.plan_store.specs.Changes.{redefined}
@@ -43,7 +43,7 @@ use Rattle.plan_tables.proofs.NameTables.{removed_shown}
 use Rattle.plan_tables.proofs.SetMoves.{with_other, without_other}
 
 abbrev IsApart : Table → Table → Type 0
-IsApart u t = (tree u == tree t) ≡ false
+IsApart u t = (place u == place t) ≡ false
 
 -- ---- one table of definitions
 

@@ -1,7 +1,8 @@
 -- What a store kept is found again.
-use Rattle.std.proofs.Common.{◌≡◌, ◌⊎◌, ◌∙◌, ℕ, length, inl, inr, ap, subst, sym, IsTrue, filter}
+use Rattle.std.proofs.Common.{◌≡◌, ◌⊎◌, ◌∙◌, ◌+◌, ℕ, Bool, true, false, cond, List, [], ◌∷◌, Option, Some, None, inl, inr, ap, refl, subst, sym}
+use Rattle.std.proofs.Common.{IsTrue, filter, true≢false}
+use Rattle.std.specs.List.{position_from}
 use Rattle.std.proofs.Math.Logic.{∥∥₁_elim, ∥∥₁_map}
-use Rattle.std.proofs.lemmas.Slice.Zip.{AllZip-long}
 use Rattle.sqlite.specs.Effect.{Database, IsDatabase}
 use Rattle.sqlite.specs.Files.{AreFoundIn, file_state}
 use Rattle.sqlite.specs.Held.{AreDatabases, Held, state}
@@ -11,7 +12,15 @@ use Rattle.sqlite.specs.State.{HasCleanDisk, IsLive, Opens, State}
 use Rattle.sqlite.specs.Store.{Ghosts}
 use Rattle.sqlite.specs.Tree.{Trees}
 use Rattle.sqlite.proofs.Theorems.{opens_again}
+use Rattle.sqlite.specs.Table.{Table as Described}
+use Rattle.sqlite.specs.declared.types.Value.TheVariants.{Text}
+use Rattle.sqlite_catalog.proofs.LayoutLemmas.{zipped_left, zipped_right}
+use Rattle.sqlite_catalog.proofs.StepLemmas.{same_itself}
+use Rattle.sqlite_catalog.specs.Change.{is_used}
 use Rattle.sqlite_catalog.specs.Listing.{IsSound, IsTableRow, is_table_row}
+use Rattle.sqlite_rules.proofs.ListLemmas.{has_got}
+use Rattle.sqlite_rules.specs.Lists.{Has}
+use Rattle.sqlite_schema.specs.Names.{same_name, table_named}
 use Rattle.sqlite_disk.specs.declared.Disk as disk
 use Rattle.sqlite_store.specs.declared.store.FileStore.{FileStore}
 use Rattle.sqlite_store.specs.FileStore as files
@@ -19,26 +28,45 @@ use Rattle.sqlite_trees.specs.Objects.{catalog_tree}
 use Rattle.sqlite_wal.specs.Recovery.{Image}
 use Rattle.planner_machine.specs.Content.{Content, nothing_known}
 use Rattle.table_schema.specs.Rows.{tables_of}
-use Rattle.table_schema.specs.Schema.{HasTables, no_schema, plan_and}
+use Rattle.table_schema.specs.Free.{IsFree}
+use Rattle.table_schema.specs.Schema.{HasTables, name, table_at}
+use Rattle.table_schema.specs.declared.tables.Table.TheVariants.{Meta}
 use Rattle.table_facts.specs.Content.{HaveOneContent, IsContentOf}
 use Rattle.table_opening.specs.Opened.{IsStored, IsToldBy}
 use Rattle.plan_tables.specs.Found.{HoldsLeft, IsFoundIn, Tells}
 use Rattle.plan_tables.specs.Stored.{LeavesSound, MayLeave, TellsSound}
 use Rattle.plan_tables.proofs.SetLemmas.{content_set}
 
--- a database lists as many tables under each schema that it obeys
-as_many : (a b : Schema) (db : Trees) → IsSound a db → IsSound b db → length a.tables ≡ length b.tables
-as_many a b db one two =
-    AllZip-long IsTableRow (filter is_table_row (db catalog_tree)) a.tables one.lists.listed.tables
-    ∙ sym (AllZip-long IsTableRow (filter is_table_row (db catalog_tree)) b.tables two.lists.listed.tables)
+-- where no name is alike, none of the list is
+none_named : {X : Type 0} (p : X → Bool) (xs : List X) (start : ℕ) (x : X) → position_from p start xs ≡ None → Has xs x
+    → p x ≡ false
+none_named p [] start x none has = absurd has
+none_named p (y ∷ ys) start x none has = go (p y) refl none has (none_named p ys (start + 1) x)
+  where
+    go : (b : Bool) → p y ≡ b → cond b (Some start) (position_from p (start + 1) ys) ≡ None → Has (y ∷ ys) x
+        → (position_from p (start + 1) ys ≡ None → Has ys x → p x ≡ false) → p x ≡ false
+    go true is none has later = absurd cc
+    go false is none (inl same) later = ap p same ∙ is
+    go false is none (inr has) later = later none has
 
-never_blank : (schema blank : Schema) (db : Trees) → HasTables schema → IsSound schema db → blank ≡ no_schema
-    → IsSound blank db → ⊥
-never_blank schema blank db has sound none other =
-    let fourteen : length (plan_and has.more).tables ≡ length (no_schema).tables =
-    ap (λ (s : Schema). length s.tables) (sym has.is) ∙ as_many schema blank db sound other
-    ∙ ap (λ (s : Schema). length s.tables) none in
-    absurd (cc)
+-- the name of a table that stands in a schema is used there
+name_used : (schema : Schema) (d : Described) → Has schema.tables d → is_used schema d.name ≡ true
+name_used schema d has = go (table_named schema d.name) refl
+  where
+    go : (o : Option ℕ) → table_named schema d.name ≡ o → is_used schema d.name ≡ true
+    go (Some at) named = rw named refl
+    go None named = absurd (true≢false (sym (same_itself d.name) ∙ none_named (λ (t : Described). same_name t.name d.name)
+        schema.tables 0 d named has))
+
+-- two schemas that one database obeys have tables of the same names
+never_free : (schema free : Schema) (db : Trees) → HasTables schema → IsSound schema db → IsFree free → IsSound free db → ⊥
+never_free schema free db has sound room other =
+    let mine = has_got schema.tables (has.at Meta) (table_at (has.trees Meta) Meta) (has.stands Meta).got in
+    let row = zipped_left IsTableRow (filter is_table_row (db catalog_tree)) schema.tables _ sound.lists.listed.tables mine in
+    let there = zipped_right IsTableRow (filter is_table_row (db catalog_tree)) free.tables row.0 other.lists.listed.tables row.1 in
+    let named : Text there.0.name ≡ Text (name Meta) = sym there.2.described.name_is ∙ row.2.described.name_is in
+    let same : there.0.name ≡ name Meta = cc in
+    true≢false (sym (subst (λ n. is_used free n ≡ true) same (name_used free there.0 there.1)) ∙ room.names.0)
 
 -- what a crash leaves of a database that keeps a content
 tells_stored : {S : Type 0} (g : Ghosts S)
@@ -75,8 +103,8 @@ told_left {S} g own held same told clean db left =
 pub told_again : (found : Database) (k c : Content) → HaveOneContent → IsDatabase found → Tells found.trees k
     → IsToldBy found c → c ≡ k
 told_again found k c one obeys tells (inl told) = one (tables_of found.trees) c k told.1 tells.content
-told_again found k c one obeys tells (inr blank) =
-    absurd (never_blank tells.schema found.schema found.trees tells.plan tells.obeys blank.0 obeys)
+told_again found k c one obeys tells (inr free) =
+    absurd (never_free tells.schema found.schema found.trees tells.plan tells.obeys free.0 obeys)
 
 -- what a crash leaves of files whose databases all tell the content tells it to whoever opens them
 pub found_again : {D : Type 0} {g : disk.Ghosts D} (it : FileStore D g) (k : Content) → HaveOneContent
@@ -118,7 +146,7 @@ found_left conn it numbered sound outcomes left may c found =
         subst (λ t. IsContentOf (tables_of t) c)
             (found.holds held.0 held.2) told.1,
       )
-      | inr blank ↦ inr blank.1
+      | inr free ↦ inr free.1
     ])
 
 -- what the database tells that an open found

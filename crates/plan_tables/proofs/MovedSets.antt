@@ -12,7 +12,7 @@ use Rattle.occurrences.specs.declared.row.Row.{Row}
 use Rattle.planner_machine.specs.Moves.{or_else}
 use Rattle.keyed_lists.specs.Rows.{HasEachOnce, OneEach, look_up}
 use Rattle.table_schema.specs.Rows.{Tables, shown, stored}
-use Rattle.table_schema.specs.Schema.{tree}
+use Rattle.table_schema.specs.Schema.{place}
 use Rattle.table_schema.specs.declared.tables.Table.{Table}
 use Rattle.plan_store.specs.Changes.{FitsSet, moved_set}
 use Rattle.plan_store.specs.declared.changes.Moves.{Moves}
@@ -195,7 +195,7 @@ module _ {X : Type 0} (row_of : X → Row) where
 
 -- other tables stay
 pub moved_other : {X : Type 0} (t u : Table) (values_of key_of : X → Values) (moves : Moves X) (all : Tables)
-    → (tree u == tree t) ≡ false → moved_in t values_of key_of moves all u ≡ all u
+    → (place u == place t) ≡ false → moved_in t values_of key_of moves all u ≡ all u
 moved_other t u values_of key_of moves all apart =
     with_other t values_of u apart moves.put.items _ ∙ with_other t values_of u apart moves.changed.items _
     ∙ without_other t key_of u apart moves.changed.items _ ∙ without_other t key_of u apart moves.gone.items all

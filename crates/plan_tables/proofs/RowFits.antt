@@ -33,7 +33,7 @@ use Rattle.sqlite_trees.specs.View.{IsStorable, IsStorableRow, is_int}
 use Rattle.sqlite_value.specs.declared.value.Value.{Value}
 use Rattle.sqlite_value.specs.declared.value.Value.TheVariants.{Null, Int, Text}
 use Rattle.sqlite_value.specs.Order.{bytes, number}
-use Rattle.table_schema.specs.Schema.{plan_schema, table, tree}
+use Rattle.table_schema.specs.Schema.{table, uniques}
 use Rattle.table_schema.specs.declared.tables.Table.{Table}
 use Rattle.table_schema.specs.declared.tables.Table.TheVariants as table_of
 
@@ -120,17 +120,30 @@ entry_length [] row = refl
 entry_length (p ∷ ps) row = omega (arith, entry_length ps row)
 
 -- the places of a key are few
-few_places : AllByRecursion (λ (i : Index). length i.columns ≤ 3) plan_schema.indexes
-few_places = (omega arith, (omega arith, (omega arith, (omega arith, (omega arith, (omega arith, (omega arith, (omega arith, (omega arith, (omega arith, tt))))))))))
+few_places : (t : Table) → AllByRecursion (λ (places : List ℕ). length places ≤ 3) (uniques t)
+few_places table_of.Meta = tt
+few_places table_of.CalendarEntry = (omega arith, tt)
+few_places table_of.Period = (omega arith, tt)
+few_places table_of.Application = (omega arith, tt)
+few_places table_of.RunCycle = (omega arith, tt)
+few_places table_of.Offset = (omega arith, tt)
+few_places table_of.Predecessor = (omega arith, tt)
+few_places table_of.LinkInForce = (omega arith, tt)
+few_places table_of.LongTerm = (omega arith, tt)
+few_places table_of.Current = tt
+few_places table_of.History = (omega arith, tt)
+few_places table_of.Deletion = tt
+few_places table_of.Dependency = (omega arith, tt)
+few_places table_of.Job = tt
 
-pub entry_storable : (t : Table) (row : Row) → AllByRecursion IsPlain row → (i : Index) → Has plan_schema.indexes i
-    → i.table ≡ tree t → IsStorable (index_reals (table_reals (table t)) i.columns) (entry_of i.columns row)
-entry_storable t row all i has at =
-    let few = all_has (λ (i : Index). length i.columns ≤ 3) plan_schema.indexes i few_places has in
-    subst (λ n. IsStorable n (entry_of i.columns row))
-    (sym (ap (λ n. index_reals n i.columns) (no_reals t) ∙ no_index_reals i.columns))
-    (plain_storable (entry_of i.columns row) (omega (arith, entry_length i.columns row))
-    (omega (arith, entry_length i.columns row, few)) (entry_plain i.columns row all))
+pub entry_storable : (t : Table) (row : Row) → AllByRecursion IsPlain row
+    → AllByRecursion (λ places. IsStorable (index_reals (table_reals (table t)) places) (entry_of places row)) (uniques t)
+entry_storable t row all = all_so (λ (places : List ℕ). length places ≤ 3) (λ places. IsStorable (index_reals
+    (table_reals (table t)) places) (entry_of places row)) (λ places few.
+    subst (λ n. IsStorable n (entry_of places row))
+    (sym (ap (λ n. index_reals n places) (no_reals t) ∙ no_index_reals places))
+    (plain_storable (entry_of places row) (omega (arith, entry_length places row))
+    (omega (arith, entry_length places row, few)) (entry_plain places row all))) (uniques t) (few_places t)
 
 -- ---- rowids that are free
 

@@ -51,7 +51,6 @@ use Rattle.std.proofs.lemmas.List.Elements.{All-from_recursion}
 use Rattle.std.proofs.lemmas.Nat.Bits.{bit_at-zero}
 use Rattle.sqlite_trees.specs.View.{IsStorableRow}
 use Rattle.sqlite_value.specs.Order.{number}
-use Rattle.table_schema.proofs.TurnLemmas.{own_index}
 use Rattle.plan_tables.specs.Room.{CanBeStored}
 use Rattle.plan_tables.specs.Room.{HaveRoom}
 use Rattle.plan_tables.proofs.Held.{Shows, agree_cell, equal_from, one_passes, one_natural, one_text, same_cell}
@@ -466,7 +465,7 @@ module _ (all : Tables) where
     present = refl;
     checked = refl;
     storable = job_fits job short;
-    entries = λ i has at. absurd (let none = (own_index table.Job i has at).0 in let h : ⊥ = cc none in h);
+    entries = tt;
     numbered = refl;
     within = number_within job.number small;
     fresh = number_free job.number (drop 1 (stored_as (job_values job))) (all table.Job) others;

@@ -8,30 +8,30 @@ use Rattle.sqlite.specs.Rowids.TheVariants.{Chosen}
 use Rattle.sqlite_rules.specs.Edit.{with_rowid}
 use Rattle.keyed_lists.proofs.KeyLemmas.{contains_cases, contains_first, contains_later, nothing}
 use Rattle.table_schema.specs.Rows.{Tables, matches, placed, shown, stored, with_cells, with_rows, without_key}
-use Rattle.table_schema.specs.Schema.{tree}
+use Rattle.table_schema.specs.Schema.{place}
 use Rattle.table_schema.specs.declared.tables.Table.{Table}
 use Rattle.table_facts.specs.Content.{IsOfList}
 use Rattle.table_writing.specs.Writing.{with_each, without_each}
 use Rattle.plan_tables.proofs.Held.{Shows, matched, matches_shown, mem_filter, mem_placed}
 
-same_tree : (t : Table) → (tree t == tree t) ≡ true
-same_tree t = eq-eqb (tree t) (tree t) refl
+same_place : (t : Table) → (place t == place t) ≡ true
+same_place t = eq-eqb (place t) (place t) refl
 
 pub at_itself : (t : Table) (rows : List Values) (all : Tables) → with_rows t rows all t ≡ rows
-at_itself t rows all = rw (same_tree t) refl
+at_itself t rows all = rw (same_place t) refl
 
-pub at_other : (t u : Table) (rows : List Values) (all : Tables) → (tree u == tree t) ≡ false
+pub at_other : (t u : Table) (rows : List Values) (all : Tables) → (place u == place t) ≡ false
     → with_rows t rows all u ≡ all u
 at_other t u rows all apart = rw apart refl
 
 module _ {X : Type 0} (t : Table) (values_of : X → Values) where
   -- other tables stay
-  pub with_other : (u : Table) → (tree u == tree t) ≡ false → (xs : List X) (all : Tables)
+  pub with_other : (u : Table) → (place u == place t) ≡ false → (xs : List X) (all : Tables)
       → with_each t values_of xs all u ≡ all u
   with_other u apart [] all = refl
   with_other u apart (x ∷ xs) all = with_other u apart xs (with_cells t (values_of x) all) ∙ at_other t u _ all apart
 
-  pub without_other : (u : Table) → (tree u == tree t) ≡ false → (xs : List X) (all : Tables)
+  pub without_other : (u : Table) → (place u == place t) ≡ false → (xs : List X) (all : Tables)
       → without_each t values_of xs all u ≡ all u
   without_other u apart [] all = refl
   without_other u apart (x ∷ xs) all =

@@ -10,8 +10,7 @@ use Rattle.sqlite.specs.Store.{Ghosts}
 use Rattle.sqlite.specs.State.{HasCleanDisk, IsUnchanged, State, Survives}
 use Rattle.planner_machine.specs.Content.{Content}
 use Rattle.planner_machine.specs.Sound.{IsSound}
-use Rattle.table_schema.specs.Rows.{HaveRowids, tables_of}
-use Rattle.table_schema.specs.declared.tables.Table.{Table}
+use Rattle.table_schema.specs.Rows.{tables_of}
 use Rattle.plan_store.specs.Changes.{after, Fits, redefined}
 use Rattle.plan_store.specs.Room.{with_definitions, with_pairs_of}
 use Rattle.plan_store.specs.declared.changes.Change.{Change}
@@ -26,16 +25,13 @@ use Rattle.plan_tables.proofs.ContentAfter.{plans_after}
 use Rattle.plan_tables.proofs.DefinitionFacts.{redefined_content}
 use Rattle.plan_tables.proofs.SetLemmas.{content_set}
 use Rattle.table_schema.specs.Rows.{Tables}
-use Rattle.table_schema.specs.Schema.{HasTables}
+use Rattle.table_schema.proofs.StatementLemmas.{plan_still}
 
 pub stored_still : (old new : State) (c : Content) → IsStored old c → IsTrue new.is_open → new.now ≡ old.now
     → new.committed ≡ old.committed → IsStored new c
 stored_still old new c is opens now committed = record {
   is_open = opens;
-  plan = record {
-    schema = subst HasTables (sym (ap (λ (d : Database). d.schema) now)) is.plan.schema;
-    rowids = subst (λ (d : Database). (t : Table) → HaveRowids (tables_of d.trees t)) (sym now) is.plan.rowids;
-  };
+  plan = plan_still old new now is.plan;
   settled = now ∙ is.settled ∙ sym committed;
   content = subst (λ (d : Database). IsContentOf (tables_of d.trees) c) (sym now) is.content;
 }

@@ -6,6 +6,8 @@ use Rattle.sqlite.specs.State.{State}
 use Rattle.sqlite.specs.Steps.{IsEmpty, over_memory}
 use Rattle.sqlite.proofs.Callers.{memory_is_clean}
 use Rattle.sqlite_trees.specs.declared.memory.MemStore.{MemStore}
+use Rattle.table_schema.specs.Free.{IsFree}
+use Rattle.table_schema.proofs.MadeLemmas.{nothing_is_free}
 use Rattle.table_opening.specs.Opened.{IsUnmade}
 use Rattle.table_opening.specs.declared.faults.OpenFault.{OpenFault}
 use Rattle.table_opening.specs.declared.faults.OpenFault.TheVariants.{Memory, Device, Unopened, Tables as OtherTables, Rows}
@@ -25,4 +27,4 @@ pub only_memory : {A : Type 0} (r : Result A OpenFault) (conn : Held MemStore) â
 only_memory (Ok a) conn empty new h = tt
 only_memory (Err fault) conn empty new (left, why) =
     memory_alone (state over_memory conn) (state over_memory left) fault refl refl empty.0.is_open new.unlimited
-    (why (memory_is_clean left) empty.2)
+    (why (memory_is_clean left) (subst IsFree (sym empty.2) nothing_is_free))

@@ -13,7 +13,7 @@ use Rattle.plan_store.specs.declared.changes.Change.{Change}
 use Rattle.plan_store.specs.declared.stores.StoreFault.{StoreFault}
 use Rattle.plan_store.specs.declared.stores.StoreFault.TheVariants.{Device, Memory}
 use Rattle.table_schema.specs.Rows.{Tables, tables_of}
-use Rattle.table_schema.specs.Takes.{HasOwnIndexes}
+use Rattle.table_schema.specs.Schema.{HasOwnIndexes}
 use Rattle.table_writing.specs.Redefining.{AreMovesOf}
 use Rattle.table_writing.specs.Taking.{TakesChange}
 use Rattle.table_writing.specs.declared.redefining.DefinitionMoves.{DefinitionMoves}

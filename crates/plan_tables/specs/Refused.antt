@@ -39,7 +39,7 @@ pub record HoldsNoPlan {D : Type 0} {g : disk.Ghosts D} (image : Image) (fault :
   -- why it is not opened, by what is there
   pub unopened : IsClean (view left) → IsUnopened (file_state conn) (file_state back) fault
   pub quiet : IsQuiet view faults recovers is_shielded back.store left
-  -- a crash leaves what was found, or, where that had no tables, those of a content of which nothing is known
+  -- a crash leaves what was found, or, where nothing was in their way, the tables of a content of which nothing is known
   pub stays : IsClean (view left) → (db : Trees) → recovers left db
       → (db ≡ (file_state conn).committed.trees) ⊎ MakesFirst (file_state conn) db
 

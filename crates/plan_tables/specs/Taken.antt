@@ -13,7 +13,7 @@ use Rattle.plan_store.specs.declared.changes.Change.{Change}
 use Rattle.plan_store.specs.declared.changes.DefinitionChange.{DefinitionChange}
 use Rattle.plan_store.specs.declared.changes.DefinitionChange.TheVariants.{Merged}
 use Rattle.table_schema.specs.Rows.{Tables, tables_of}
-use Rattle.table_schema.specs.Takes.{HasOwnIndexes}
+use Rattle.table_schema.specs.Schema.{HasOwnIndexes}
 use Rattle.table_schema.specs.declared.tables.Table.TheVariants as table
 use Rattle.table_facts.specs.Content.{IsContentOf}
 use Rattle.table_writing.specs.Redefining.{AreMovesOf, kind_of}

@@ -1,4 +1,4 @@
-pub mod SchemaLemmas
+pub mod StandingLemmas
 pub mod RowidTexts
 pub mod RowidLemmas
 pub mod FirstRows

@@ -3,22 +3,26 @@ use Rattle.std.proofs.Common.{◌≡◌, ◌⊎◌, ◌∙◌, ◌≤◌, true, 
 use Rattle.std.proofs.Common.{Result, Ok, Err, None}
 use Rattle.std.specs.Prelude.{IfErr, IfOk, OnOk}
 use Rattle.sqlite.specs.Effect.{Database}
-use Rattle.sqlite.specs.State.{HasCleanDisk, IsUnchanged, State, Survives}
+use Rattle.sqlite.specs.Change.{KeepsRows}
+use Rattle.sqlite.specs.State.{HasCleanDisk, IsLive, IsUnchanged, State, Survives}
 use Rattle.sqlite.specs.declared.error.Error.{Error}
 use Rattle.sqlite_trees.specs.declared.error.StoreError.TheVariants as store
 use Rattle.sqlite.proofs.StateLemmas.{survives_weaker}
 use Rattle.app_definitions.specs.Options.{default_options}
 use Rattle.planner_machine.specs.Content.{Content, nothing_known}
 use Rattle.planner_machine.specs.Sound.{IsSound}
-use Rattle.table_schema.specs.Rows.{HaveRowids, IsMadeWhole, MayFail, Stands, Tables, tables_of, with_cells}
-use Rattle.table_schema.specs.Schema.{no_schema}
+use Rattle.sqlite_trees.specs.Objects.{catalog_tree}
+use Rattle.table_schema.specs.Made.{IsMadeWhole}
+use Rattle.table_schema.specs.Rows.{MayFail, Stands, Tables, tables_of, with_cells}
 use Rattle.table_schema.specs.declared.tables.Table.TheVariants as table
 use Rattle.table_facts.specs.Content.{IsContentOf, meta_values}
+use Rattle.table_schema.proofs.MakingLemmas.{others_kept}
+use Rattle.table_schema.proofs.NamedLemmas.{tells}
+use Rattle.table_schema.proofs.StatementLemmas.{plan_still}
 use Rattle.table_reading.specs.Reading.{HasPlan, Looks}
-use Rattle.table_reading.proofs.LookLemmas.{plan_still}
-use Rattle.table_opening.specs.First.{IsMadeFirst, first_rows}
+use Rattle.table_opening.specs.First.{IsBeside, IsMadeFirst, first_rows}
 use Rattle.table_opening.specs.Held.{HasVersion, HoldsPlan}
-use Rattle.table_opening.specs.Opened.{IsBlank, IsCaused, IsStored, IsToldBy, IsUnmade, MakesFirst}
+use Rattle.table_opening.specs.Opened.{HasRoom, IsCaused, IsStored, IsToldBy, IsUnmade, MakesFirst}
 use Rattle.table_opening.specs.Opening.{IsOpened, IsUnopened}
 use Rattle.table_opening.specs.Faults.{fault_for}
 use Rattle.table_opening.specs.Stored.{AllHaveRowids}
@@ -26,54 +30,63 @@ use Rattle.table_opening.specs.declared.faults.OpenFault.{OpenFault}
 use Rattle.table_opening.specs.declared.faults.OpenFault.TheVariants.{Memory, Device, Unopened, Tables as OtherTables, Rows}
 use Rattle.table_opening.proofs.FirstRows.{first_content}
 
-pub read_opened : (old new : State) (c : Content) → (IsTrue old.is_open → old.now ≡ old.committed)
+pub read_opened : (old new : State) (c : Content) → (IsTrue old.is_open → old.now ≡ old.committed) → IsLive old
     → Looks old new true → HasCleanDisk new → HasPlan old → AllHaveRowids (tables_of old.now.trees)
     → IsContentOf (tables_of old.now.trees) c → IsStored new c
 unfolding HasPlan
-read_opened old new c settled look clean plan rowids content =
+read_opened old new c settled live look clean plan rowids content =
     let same = look.same clean plan refl in
     let now = same.0.now_is in
+    let sound = (live same.0.was_open).0 in
     record {
       is_open = same.0.is_open;
-      plan = record {
-        schema = plan_still old new same plan;
-        rowids = λ t. subst (λ (d : Database). HaveRowids (tables_of d.trees t)) (sym now) (rowids t);
-      };
+      plan = plan_still old new now (record {
+        schema = plan;
+        told = tells old.now.schema plan (old.now.trees catalog_tree) sound.lists.listed;
+        rowids = rowids;
+      });
       settled = now ∙ settled same.0.was_open ∙ sym same.0.committed_is;
       content = subst (λ (d : Database). IsContentOf (tables_of d.trees) c) (sym now) content;
     }
 
-pub blank_content : (all : Tables) (c : Content) → all ≡ first_rows → c ≡ nothing_known → IsContentOf all c
-blank_content all c rows is =
+pub first_told : (all : Tables) (c : Content) → all ≡ first_rows → c ≡ nothing_known → IsContentOf all c
+first_told all c rows is =
     subst (IsContentOf all) (sym is) (subst (λ (a : Tables). IsContentOf a nothing_known) (sym rows) first_content)
 
-pub makes_first : (old new : State) → old.now.schema ≡ no_schema
-    → Survives old new (λ db. old.now.schema ≡ no_schema → tables_of db ≡ first_rows)
-    → Survives old new (MakesFirst old)
-makes_first old new blank = survives_weaker old new _ _ (λ clean db made. (
-  blank,
-  blank_content (tables_of db) nothing_known (made blank) refl,
-))
+pub makes_first : (old new : State) → HasRoom old
+    → Survives old new (λ db. HasRoom old → (tables_of db ≡ first_rows)
+    × KeepsRows old.now.schema.tables old.now.trees db) → Survives old new (MakesFirst old)
+makes_first old new room = survives_weaker old new _ _ (λ clean db made. record {
+  room = room;
+  content = first_told (tables_of db) nothing_known (made room).0 refl;
+  others = (made room).1;
+})
 
 -- the first row makes the tables of which nothing is known
-pub made_first : {A E : Type 0} (r : Result A E) (old new : State) → IsMadeWhole old
+pub made_first : {A E : Type 0} (r : Result A E) (base : Database) (old new : State) → IsMadeWhole base old
     → OnOk r (Stands old new (with_cells table.Meta (meta_values None 0 default_options) (tables_of old.now.trees)))
-    → OnOk r (IsMadeFirst new)
-made_first (Ok a) old new begun stands = record {
+    → OnOk r (IsMadeFirst base new)
+made_first (Ok a) base old new begun stands = record {
+  beside = record {
+    schema = stands.schema ∙ begun.schema;
+    others = others_kept base old new begun stands.others;
+  };
   plan = stands.plan;
   rows_are = stands.rows_are
       ∙ ap (with_cells table.Meta (meta_values None 0 default_options)) begun.rows_are;
   mode = stands.mode;
 }
-made_first (Err e) old new begun stands = tt
+made_first (Err e) base old new begun stands = tt
 
 pub opened_of : {A : Type 0} (r : Result A OpenFault) (old new : State) (value : A → Content)
     → IfOk r (λ a. IsSound (value a)) → (HasCleanDisk new → IfOk r (λ a. IsStored new (value a)))
     → (HasCleanDisk new → IfOk r (λ a. IsToldBy old.now (value a)))
-    → (IsBlank old → IfOk r (λ a. value a ≡ nothing_known)) → IfOk r (λ a. IsOpened old new (value a))
-opened_of (Ok a) old new value sound stored told empty =
-    record { sound = sound; stored = stored; told = told; empty = empty }
-opened_of (Err e) old new value sound stored told empty = tt
+    → (HasRoom old → IfOk r (λ a. value a ≡ nothing_known))
+    → (HasCleanDisk new → HasRoom old → IfOk r (λ _. IsBeside old.now new.now))
+    → IfOk r (λ a. IsOpened old new (value a))
+opened_of (Ok a) old new value sound stored told empty beside =
+    record { sound = sound; stored = stored; told = told; empty = empty; beside = beside }
+opened_of (Err e) old new value sound stored told empty beside = tt
 
 -- ---- why it is not opened
 
@@ -86,10 +99,10 @@ unread_of (Err fault) old new plan caused rows version = inr (inl (
   record { caused = caused; rows = λ is. rows (ap Err is); version = λ is known. version known (ap Err is) },
 ))
 
-pub unmade_of : {A : Type 0} (r : Result A OpenFault) (old new : State) → IsBlank old
+pub unmade_of : {A : Type 0} (r : Result A OpenFault) (old new : State) → HasRoom old
     → IfErr r (IsUnmade old new) → IfErr r (IsUnopened old new)
-unmade_of (Ok a) old new blank h = tt
-unmade_of (Err fault) old new blank h = inr (inr (inl (blank, h)))
+unmade_of (Ok a) old new room h = tt
+unmade_of (Err fault) old new room h = inr (inr (inl (room, h)))
 
 pub caused_by : (a b : State) (e : Error) → MayFail a b e → IsCaused a b (fault_for e OtherTables)
 caused_by a b e (inl (store.OutOfMemory, is, more)) = subst (λ x. IsCaused a b (fault_for x OtherTables)) (sym is) tt

@@ -17,50 +17,25 @@ use Rattle.std.proofs.lemmas.List.Sorted.{IsPermutation-trans}
 use Rattle.std.proofs.lemmas.Map.Keys.{IsDistinct-from_apart, IsDistinct-head}
 use Rattle.std.proofs.lemmas.Map.Keys.{IsDistinct-tail, IsDistinct-IsPermutation}
 use Rattle.sqlite.specs.Order.{Row as Values, column}
-use Rattle.sqlite.specs.Program.{overlay}
-use Rattle.sqlite.specs.State.{Shown, State}
-use Rattle.sqlite.specs.Tree.{Trees}
+use Rattle.sqlite.specs.State.{IsLive, Shown, State}
 use Rattle.sqlite.specs.View.{is_int}
 use Rattle.sqlite.specs.declared.types.Value.{Value}
 use Rattle.sqlite.specs.declared.types.Value.TheVariants.{Null, Int, Real, Text, Blob}
-use Rattle.sqlite.proofs.Callers.{reads_as}
-use Rattle.sqlite_keyed.proofs.ListLemmas.{all_of, filter_all}
 use Rattle.sqlite_value.specs.Order.{value_cmp}
 use Rattle.sqlite_value.proofs.OrderLemmas.{value_cmp_total}
 use Rattle.keyed_lists.proofs.KeyLemmas.{contains_first, contains_later}
-use Rattle.table_schema.proofs.Steps.{plain_rows}
+use Rattle.table_schema.proofs.StatementLemmas.{text_reads}
 use Rattle.table_schema.specs.Rows.{Differ, HaveRowids, tables_of}
-use Rattle.table_schema.specs.Schema.{HasTables, plan_and, tree}
+use Rattle.table_schema.specs.Schema.{HasTables}
 use Rattle.table_schema.specs.declared.tables.Table.{Table}
-use Rattle.table_schema.specs.declared.tables.Table.TheVariants as table
 use Rattle.table_reading.proofs.OrderLemmas.{apart_rise, same_int}
 use Rattle.table_opening.specs.Rowids.{AreIntegers, AreRising, PlacesRise, place_of, rowid_shown, rowid_sql, rowid_terms}
-use Rattle.table_opening.proofs.RowidTexts.{rowid_is, rowid_plain}
+use Rattle.table_opening.proofs.RowidTexts.{rowid_name, rowids}
 
-own : (t : Table) (db : Trees) → overlay db [] (tree t) ≡ db (tree t)
-own table.Meta db = refl
-own table.CalendarEntry db = refl
-own table.Period db = refl
-own table.Application db = refl
-own table.RunCycle db = refl
-own table.Offset db = refl
-own table.Predecessor db = refl
-own table.LinkInForce db = refl
-own table.LongTerm db = refl
-own table.Current db = refl
-own table.History db = refl
-own table.Deletion db = refl
-own table.Dependency db = refl
-own table.Job db = refl
-
-pub reads_rowids : (t : Table) (old new : State) (rows : List Values) → HasTables old.now.schema
+pub reads_rowids : (t : Table) (old new : State) (rows : List Values) → HasTables old.now.schema → IsLive old
     → Shown (rowid_sql t) [] old new rows → IsPermutation (map rowid_shown (tables_of old.now.trees t)) rows
-reads_rowids t old new rows has h =
-    let was = old.now.trees (tree t) in
-    let answers = reads_as (rowid_sql t) [] old new (plan_and has.more) has.is _ (rowid_is has.more t).0
-    (rowid_plain has.more t) (rowid_is has.more t).1 rows h in
-    subst (λ l. IsPermutation (map rowid_shown l) rows) (filter_all (λ _. true) was (all_of _ (λ _. refl) was))
-    (plain_rows (tree t) [] rowid_terms old.now.trees [] rows (own t old.now.trees) (answers.answer Null))
+reads_rowids t old new rows has = text_reads t (rowid_sql t) rowid_terms (rowid_name t ∷ []) old new has
+    (rowids old.now.schema (has.trees t) (has.at t) t (has.stands t)) rows
 
 pub on_done : {A E : Type 0} (r : Result A E) (P : A → Type 0) (Q : Type 0) → ((a : A) → P a → Q) → IfOk r P
     → IsTrue (is_ok r) → Q

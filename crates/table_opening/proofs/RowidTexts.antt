@@ -1,20 +1,27 @@
--- What the texts that show rowids mean.
-use Rattle.std.proofs.Common.{◌≡◌, ℕ, List, [], ◌∷◌, false, true, length, refl}
+-- The texts that show rowids, wherever their tables stand.
+use Rattle.std.proofs.Common.{◌≡◌, ℕ, [], ◌∷◌, length, List, None, refl, true, subst}
 use Rattle.std.specs.Prelude.{codes}
-use Rattle.sqlite.specs.Command.TheVariants.{Select}
+use Rattle.sqlite_schema.specs.declared.schema.Schema.{Schema}
+use Rattle.sqlite_schema.specs.Names.{column_named}
+use Rattle.sqlite_resolve.specs.Compile.{first}
+use Rattle.sqlite_resolve.specs.Scope.{is_rowid}
+use Rattle.sqlite_typing.specs.Types.{are_typed, row_classes}
 use Rattle.sqlite_tied.specs.Compute.{everything}
-use Rattle.sqlite.specs.Listing.{understood, reads_listing}
-use Rattle.sqlite.proofs.Callers.{IsPlain, command_of}
-use Rattle.sqlite_typing.specs.Types.{accepts_program}
-use Rattle.table_schema.proofs.Meanings.{IsWhole}
-use Rattle.table_schema.proofs.Steps.{plain_query}
-use Rattle.table_schema.specs.Schema.{Further, plan_and, tree}
+use Rattle.table_schema.specs.Places.{StandsAt}
+use Rattle.table_schema.specs.Schema.{name, table_at}
 use Rattle.table_schema.specs.declared.tables.Table.{Table}
 use Rattle.table_schema.specs.declared.tables.Table.TheVariants.{Meta, CalendarEntry, Period, Application}
 use Rattle.table_schema.specs.declared.tables.Table.TheVariants.{RunCycle, Offset, Predecessor, LinkInForce}
 use Rattle.table_schema.specs.declared.tables.Table.TheVariants.{LongTerm, Current, History, Deletion}
 use Rattle.table_schema.specs.declared.tables.Table.TheVariants.{Dependency, Job}
+use Rattle.table_schema.proofs.QueryMeanings.{ShowsRows}
+use Rattle.table_schema.proofs.RowidQueries.{rowid_shows}
+use Rattle.table_schema.proofs.Written.{IfRead}
+use Rattle.table_schema.proofs.WrittenQueries.{IsBareText, rowid_head, shown_column}
 use Rattle.table_opening.specs.Rowids.{rowid_sql, rowid_terms}
+
+abbrev rowid_word : List ℕ
+rowid_word = codes "rowid"
 
 -- the name of the column that is shown: that of the INTEGER PRIMARY KEY, where there is one
 abbrev pub rowid_name : Table → List ℕ
@@ -26,60 +33,47 @@ rowid_name Deletion = codes "serial"
 rowid_name Job = codes "number"
 rowid_name _ = codes "rowid"
 
-pub rowid_is : (more : Further) (t : Table) → (command_of (understood (plan_and more) (rowid_sql t)) ≡ Select (record {
-  lets =
-      [];
-  body = plain_query (tree t) [] rowid_terms;
-}) (rowid_name t ∷ []))
-    × (reads_listing (plan_and more) (rowid_sql t) ≡ false)
-unfolding understood everything
-rowid_is more Meta = (refl, refl)
-rowid_is more CalendarEntry = (refl, refl)
-rowid_is more Period = (refl, refl)
-rowid_is more Application = (refl, refl)
-rowid_is more RunCycle = (refl, refl)
-rowid_is more Offset = (refl, refl)
-rowid_is more Predecessor = (refl, refl)
-rowid_is more LinkInForce = (refl, refl)
-rowid_is more LongTerm = (refl, refl)
-rowid_is more Current = (refl, refl)
-rowid_is more History = (refl, refl)
-rowid_is more Deletion = (refl, refl)
-rowid_is more Dependency = (refl, refl)
-rowid_is more Job = (refl, refl)
+rowid_text : (t : Table) → IfRead (first (rowid_sql t)) (IsBareText (length (rowid_sql t)) (name t) (shown_column rowid_word ∷ []))
+unfolding everything
+rowid_text Meta = (refl, refl, refl, refl, refl, refl)
+rowid_text CalendarEntry = (refl, refl, refl, refl, refl, refl)
+rowid_text Period = (refl, refl, refl, refl, refl, refl)
+rowid_text Application = (refl, refl, refl, refl, refl, refl)
+rowid_text RunCycle = (refl, refl, refl, refl, refl, refl)
+rowid_text Offset = (refl, refl, refl, refl, refl, refl)
+rowid_text Predecessor = (refl, refl, refl, refl, refl, refl)
+rowid_text LinkInForce = (refl, refl, refl, refl, refl, refl)
+rowid_text LongTerm = (refl, refl, refl, refl, refl, refl)
+rowid_text Current = (refl, refl, refl, refl, refl, refl)
+rowid_text History = (refl, refl, refl, refl, refl, refl)
+rowid_text Deletion = (refl, refl, refl, refl, refl, refl)
+rowid_text Dependency = (refl, refl, refl, refl, refl, refl)
+rowid_text Job = (refl, refl, refl, refl, refl, refl)
 
-pub rowid_plain : (more : Further) (t : Table) → IsPlain (understood (plan_and more) (rowid_sql t))
-unfolding understood everything
-rowid_plain more Meta = (refl, refl)
-rowid_plain more CalendarEntry = (refl, refl)
-rowid_plain more Period = (refl, refl)
-rowid_plain more Application = (refl, refl)
-rowid_plain more RunCycle = (refl, refl)
-rowid_plain more Offset = (refl, refl)
-rowid_plain more Predecessor = (refl, refl)
-rowid_plain more LinkInForce = (refl, refl)
-rowid_plain more LongTerm = (refl, refl)
-rowid_plain more Current = (refl, refl)
-rowid_plain more History = (refl, refl)
-rowid_plain more Deletion = (refl, refl)
-rowid_plain more Dependency = (refl, refl)
-rowid_plain more Job = (refl, refl)
+rowid_fits : (tree : ℕ) (t : Table) → (column_named (table_at tree t) rowid_word ≡ None) × (rowid_head (table_at tree t) ≡ rowid_name t)
+    × (are_typed [] (row_classes (table_at tree t) ∷ []) rowid_terms ≡ true)
+unfolding everything
+rowid_fits tree Meta = (refl, refl, refl)
+rowid_fits tree CalendarEntry = (refl, refl, refl)
+rowid_fits tree Period = (refl, refl, refl)
+rowid_fits tree Application = (refl, refl, refl)
+rowid_fits tree RunCycle = (refl, refl, refl)
+rowid_fits tree Offset = (refl, refl, refl)
+rowid_fits tree Predecessor = (refl, refl, refl)
+rowid_fits tree LinkInForce = (refl, refl, refl)
+rowid_fits tree LongTerm = (refl, refl, refl)
+rowid_fits tree Current = (refl, refl, refl)
+rowid_fits tree History = (refl, refl, refl)
+rowid_fits tree Deletion = (refl, refl, refl)
+rowid_fits tree Dependency = (refl, refl, refl)
+rowid_fits tree Job = (refl, refl, refl)
 
--- the text is one statement to its end, without parameters, and its types fit
-pub rowid_fits : (more : Further) (t : Table) → IsWhole (understood (plan_and more) (rowid_sql t)) (length (rowid_sql t)) 0
-    × (accepts_program (plan_and more) [] (plain_query (tree t) [] rowid_terms) [] ≡ true)
-unfolding understood everything
-rowid_fits more Meta = ((refl, refl), refl)
-rowid_fits more CalendarEntry = ((refl, refl), refl)
-rowid_fits more Period = ((refl, refl), refl)
-rowid_fits more Application = ((refl, refl), refl)
-rowid_fits more RunCycle = ((refl, refl), refl)
-rowid_fits more Offset = ((refl, refl), refl)
-rowid_fits more Predecessor = ((refl, refl), refl)
-rowid_fits more LinkInForce = ((refl, refl), refl)
-rowid_fits more LongTerm = ((refl, refl), refl)
-rowid_fits more Current = ((refl, refl), refl)
-rowid_fits more History = ((refl, refl), refl)
-rowid_fits more Deletion = ((refl, refl), refl)
-rowid_fits more Dependency = ((refl, refl), refl)
-rowid_fits more Job = ((refl, refl), refl)
+is_word : is_rowid rowid_word ≡ true
+unfolding everything
+is_word = refl
+
+pub rowids : (schema : Schema) (tree at : ℕ) (t : Table) → StandsAt schema (table_at tree t) at → ShowsRows schema (rowid_sql t) tree rowid_terms (rowid_name t ∷ [])
+rowids schema tree at t it =
+    let fits = rowid_fits tree t in
+    subst (λ n. ShowsRows schema (rowid_sql t) tree rowid_terms (n ∷ [])) fits.1
+    (rowid_shows schema (table_at tree t) at it (rowid_sql t) rowid_word is_word fits.0 (rowid_text t) fits.2)

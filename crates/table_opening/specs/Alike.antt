@@ -1,11 +1,10 @@
--- Tables that are alike in a part of what describes them.
+-- Tables that are alike, whatever their trees.
 use Rattle.std.specs.Prelude.{◌≡◌}
 use Rattle.sqlite_schema.specs.declared.schema.Table.{Table}
 
--- the same name, tree, columns and key
+-- the same name, columns and key
 pub record HaveSameColumns (a b : Table) : Type 0 where
   pub name : a.name ≡ b.name
-  pub tree : a.tree ≡ b.tree
   pub columns : a.columns ≡ b.columns
   pub key : a.key ≡ b.key
 
@@ -22,3 +21,7 @@ pub record HaveSameChecks (a b : Table) : Type 0 where
   pub computed : a.computed ≡ b.computed
   pub stamps : a.stamps ≡ b.stamps
   pub counted : a.is_counted ≡ b.is_counted
+
+-- the same but for their trees
+abbrev pub IsAlike : Table → Table → Type 0
+IsAlike a b = a ≡ record b { tree = a.tree }

@@ -1,7 +1,10 @@
 -- The tables of a content of which nothing is known.
 use Rattle.std.specs.Prelude.{◌≡◌, None, IsTrue}
+use Rattle.sqlite.specs.Change.{KeepsRows}
+use Rattle.sqlite.specs.Effect.{Database}
 use Rattle.sqlite.specs.State.{State}
 use Rattle.app_definitions.specs.Options.{default_options}
+use Rattle.table_schema.specs.Free.{with_plan}
 use Rattle.table_schema.specs.Rows.{IsPlan, Tables, no_rows, tables_of, with_cells}
 use Rattle.table_schema.specs.declared.tables.Table.TheVariants.{Meta}
 use Rattle.table_facts.specs.Content.{meta_values}
@@ -10,8 +13,14 @@ use Rattle.table_facts.specs.Content.{meta_values}
 abbrev pub first_rows : Tables
 first_rows = with_cells Meta (meta_values None 0 default_options) no_rows
 
--- in a transaction the database has the tables of the plan, and these rows in them
-pub record IsMadeFirst (s : State) : Type 0 where
+-- the tables of a plan stand behind those that were there, and these keep their rows
+pub record IsBeside (old new : Database) : Type 0 where
+  pub schema : new.schema ≡ with_plan old.schema
+  pub others : KeepsRows old.schema.tables old.trees new.trees
+
+-- in a transaction the database has the tables of a plan beside those with which it began, and these rows in them
+pub record IsMadeFirst (base : Database) (s : State) : Type 0 where
+  pub beside : IsBeside base s.now
   pub plan : IsPlan s
   pub rows_are : tables_of s.now.trees ≡ first_rows
   pub mode : IsTrue s.in_transaction

@@ -10,4 +10,4 @@ pub mod Queries
 pub mod Foreign
 pub mod Files
 pub mod Alike
-pub mod Extended
+pub mod Standing

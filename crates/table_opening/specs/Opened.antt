@@ -1,19 +1,21 @@
 -- A database that keeps a content.
 use Rattle.std.specs.Prelude.{◌≡◌, ◌⊎◌, false, IsSome, IsTrue, ⊤}
+use Rattle.sqlite.specs.Change.{KeepsRows}
 use Rattle.sqlite.specs.Effect.{Database}
 use Rattle.sqlite.specs.State.{State}
 use Rattle.sqlite.specs.Tree.{Trees}
 use Rattle.sqlite_disk.specs.Disk.{MoreFaults}
 use Rattle.planner_machine.specs.Content.{Content, nothing_known}
 use Rattle.table_schema.specs.Rows.{IsPlan, tables_of}
-use Rattle.table_schema.specs.Schema.{HasTables, no_schema}
+use Rattle.table_schema.specs.Free.{IsFree}
+use Rattle.table_schema.specs.Schema.{HasTables}
 use Rattle.table_facts.specs.Content.{IsContentOf}
 use Rattle.table_opening.specs.declared.faults.OpenFault.{OpenFault}
 use Rattle.table_opening.specs.declared.faults.OpenFault.TheVariants.{Memory, Device, Unopened, Tables as OtherTables}
 
--- the database has no tables
-abbrev pub IsBlank : State → Type 0
-IsBlank s = s.now.schema ≡ no_schema
+-- nothing in the database is in the way of the tables of a plan, of which it has none
+abbrev pub HasRoom : State → Type 0
+HasRoom s = IsFree s.now.schema
 
 -- the database is open, all of it is committed, and its tables have the content
 pub record IsStored (s : State) (c : Content) : Type 0 where
@@ -22,13 +24,17 @@ pub record IsStored (s : State) (c : Content) : Type 0 where
   pub settled : s.now ≡ s.committed
   pub content : IsContentOf (tables_of s.now.trees) c
 
--- the database has the tables of the plan, which tell the content; or it has no tables, and nothing is known
+-- the database has the tables of the plan, which tell the content; or nothing in it is in their way, and nothing is
+-- known
 abbrev pub IsToldBy : Database → Content → Type 0
-IsToldBy db c = (HasTables db.schema × IsContentOf (tables_of db.trees) c) ⊎ ((db.schema ≡ no_schema) × (c ≡ nothing_known))
+IsToldBy db c = (HasTables db.schema × IsContentOf (tables_of db.trees) c) ⊎ (IsFree db.schema × (c ≡ nothing_known))
 
--- what opening may commit: the tables of a content of which nothing is known, where there were none
-abbrev pub MakesFirst : State → Trees → Type 0
-MakesFirst s db = (s.now.schema ≡ no_schema) × IsContentOf (tables_of db) nothing_known
+-- what opening may commit: the tables of a content of which nothing is known, where nothing was in their way; each other
+-- table keeps its rows
+pub record MakesFirst (s : State) (db : Trees) : Type 0 where
+  pub room : HasRoom s
+  pub content : IsContentOf (tables_of db) nothing_known
+  pub others : KeepsRows s.now.schema.tables s.now.trees db
 
 -- why a database that has the tables of the plan is not opened: for the device only where it failed meanwhile or the
 -- connection was shut before, and for its tables only where a limit on steps is set; of its version and rows other
@@ -38,7 +44,7 @@ IsCaused old new Device = MoreFaults old.faults new.faults ⊎ (old.is_open ≡ 
 IsCaused old new OtherTables = IsSome old.step_limit
 IsCaused old new _ = ⊤
 
--- why a database without tables does not get them: memory is short, the device failed meanwhile, the connection was shut
+-- why a database in which nothing is in their way does not get the tables: memory is short, the device failed meanwhile, the connection was shut
 -- before, or a limit on steps is set
 abbrev pub IsUnmade : State → State → OpenFault → Type 0
 IsUnmade old new Memory = ⊤

@@ -1,21 +1,36 @@
--- What opening a database answers, by what is there: the tables of a plan, none, or others.
+-- What opening a database answers, by what is there: the tables of a plan, room for them, or neither.
 use Rattle.std.specs.Prelude.{◌≡◌, ◌⊎◌}
 use Rattle.sqlite.specs.State.{HasCleanDisk, State}
 use Rattle.planner_machine.specs.Content.{Content, nothing_known}
 use Rattle.planner_machine.specs.Sound.{IsSound}
 use Rattle.table_reading.specs.Reading.{HasPlan}
+use Rattle.table_opening.specs.First.{IsBeside}
 use Rattle.table_opening.specs.Foreign.{IsForeign}
 use Rattle.table_opening.specs.Held.{HasVersion, HoldsPlan}
-use Rattle.table_opening.specs.Opened.{IsBlank, IsCaused, IsStored, IsToldBy, IsUnmade}
+use Rattle.table_opening.specs.Opened.{HasRoom, IsCaused, IsStored, IsToldBy, IsUnmade}
 use Rattle.table_opening.specs.declared.faults.OpenFault.{OpenFault}
 use Rattle.table_opening.specs.declared.faults.OpenFault.TheVariants.{Memory, Rows, Unopened}
+use Rattle.table_opening.specs.declared.schemas.Found.{Found}
+use Rattle.table_opening.specs.declared.schemas.Found.TheVariants.{Plan, Room, Others}
 
--- the database keeps a sound content, which it told before, or nothing is known where it had no tables
+-- it has not the tables of a plan, and something is in their way
+abbrev pub HasOthers : State → Type 0
+HasOthers s = (HasPlan s → ⊥) × (HasRoom s → ⊥)
+
+-- this stands in the database
+abbrev pub IsFound : State → Found → Type 0
+IsFound s Plan = HasPlan s
+IsFound s Room = HasRoom s
+IsFound s Others = HasOthers s
+
+-- the database keeps a sound content, which it told before; where it had room for the tables of a plan nothing is known,
+-- and they stand beside the others, which keep their rows
 pub record IsOpened (old new : State) (c : Content) : Type 0 where
   pub sound : IsSound c
   pub stored : HasCleanDisk new → IsStored new c
   pub told : HasCleanDisk new → IsToldBy old.now c
-  pub empty : IsBlank old → c ≡ nothing_known
+  pub empty : HasRoom old → c ≡ nothing_known
+  pub beside : HasCleanDisk new → HasRoom old → IsBeside old.now new.now
 
 -- why a database that has the tables of a plan is not opened: for its rows only where its version is known and they
 -- hold no sound content, and for its version only where that is not known
@@ -24,13 +39,9 @@ pub record IsUnread (old new : State) (fault : OpenFault) : Type 0 where
   pub rows : fault ≡ Rows → HasVersion old × (HoldsPlan old → ⊥)
   pub version : fault ≡ Unopened → HasVersion old → ⊥
 
--- neither the tables of a plan stand there nor none
-abbrev pub HasOthers : State → Type 0
-HasOthers s = (HasPlan s → ⊥) × (IsBlank s → ⊥)
-
 -- why a database is not opened: memory is short, or by what is there
 abbrev pub IsUnopened : State → State → OpenFault → Type 0
 IsUnopened old new fault = (fault ≡ Memory)
     ⊎ (HasPlan old × IsUnread old new fault)
-    ⊎ (IsBlank old × IsUnmade old new fault)
+    ⊎ (HasRoom old × IsUnmade old new fault)
     ⊎ (HasOthers old × IsForeign old new fault)

@@ -1,12 +1,14 @@
-// A database without tables gets them.
+// A database gets the tables of a plan.
 
 ghost use Rattle.std.specs.Prelude.{◌≡◌, false, IfErr, OnOk, IsTrue};
 ghost use Rattle.sqlite.specs.State.{HasCleanDisk, Survives};
 ghost use Rattle.sqlite.specs.Held.{state};
-ghost use Rattle.table_schema.specs.Rows.{IsEmptyInside, IsMadeWhole, IsPlan, MayFail, tables_of};
-ghost use Rattle.table_schema.specs.Schema.{no_schema};
+ghost use Rattle.sqlite.specs.Change.{KeepsRows};
+ghost use Rattle.table_schema.specs.Free.{IsFree};
+ghost use Rattle.table_schema.specs.Made.{IsMadeWhole, IsReady};
+ghost use Rattle.table_schema.specs.Rows.{IsPlan, MayFail, tables_of};
 ghost use Rattle.table_schema.specs.Writes.{Makes};
-ghost use Rattle.table_opening.specs.First.{IsMadeFirst, first_rows};
+ghost use Rattle.table_opening.specs.First.{IsBeside, IsMadeFirst, first_rows};
 
 use app_definitions::MAX_EXTENSION_HOURS;
 use sqlite::types::ValueRef;
@@ -36,22 +38,26 @@ fn put_first<S: Alter>(tx: &mut Transaction<'_, S>) -> Result<(), Error>
 
 // Makes the tables and their first row, in a transaction that is open.
 fn make_inside<S: Alter>(tx: &mut Transaction<'_, S>) -> Result<(), Error>
-    ensures { Makes S.Store tx.old tx.new result IsEmptyInside IsMadeFirst }
+    ensures { Makes S.Store tx.old tx.new result IsReady IsMadeFirst }
 {
     make_all(tx)?;
     put_first(tx)
 }
 
-/// Makes the tables in an empty database, with the first row of `plan_meta`, in one transaction. It fails for want of
-/// memory, for a failure of the device, for a connection that was shut, or for a limit on steps.
+/// Makes the tables beside those of the database, where nothing is in their way, with the first row of `plan_meta`, in
+/// one transaction. It fails for want of memory, for a failure of the device, for a connection that was shut, or for a
+/// limit on steps.
 pub(crate) fn make_first<S: Alter>(conn: &mut Connection<S>) -> Result<(), Error>
     requires { conn.old.in_transaction ≡ false }
     ensures done { HasCleanDisk (state S.Store conn.new)
-        → (state S.Store conn.old).now.schema ≡ no_schema
+        → IsFree (state S.Store conn.old).now.schema
         → OnOk result (IsPlan (state S.Store conn.new)
         × (tables_of (state S.Store conn.new).now.trees ≡ first_rows)) }
+    ensures beside { HasCleanDisk (state S.Store conn.new)
+        → IsFree (state S.Store conn.old).now.schema
+        → OnOk result (IsBeside (state S.Store conn.old).now (state S.Store conn.new).now) }
     ensures fails { HasCleanDisk (state S.Store conn.new)
-        → (state S.Store conn.old).now.schema ≡ no_schema
+        → IsFree (state S.Store conn.old).now.schema
         → IfErr result (MayFail (state S.Store conn.old) (state S.Store conn.new)) }
     ensures committed { HasCleanDisk (state S.Store conn.new)
         → OnOk result ((state S.Store conn.new).committed ≡ (state S.Store conn.new).now) }
@@ -59,7 +65,8 @@ pub(crate) fn make_first<S: Alter>(conn: &mut Connection<S>) -> Result<(), Error
     ensures stays_open { HasCleanDisk (state S.Store conn.new)
         → OnOk result (IsTrue (state S.Store conn.new).is_open) }
     ensures crash { Survives (state S.Store conn.old) (state S.Store conn.new)
-        (λ db. (state S.Store conn.old).now.schema ≡ no_schema → tables_of db ≡ first_rows) }
+        (λ db. IsFree (state S.Store conn.old).now.schema → (tables_of db ≡ first_rows)
+        × KeepsRows (state S.Store conn.old).now.schema.tables (state S.Store conn.old).now.trees db) }
 {
     let mut tx = conn.transaction();
     make_inside(&mut tx)?;

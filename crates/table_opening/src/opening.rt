@@ -7,21 +7,21 @@ ghost use Rattle.planner_machine.specs.Content.{nothing_known};
 ghost use Rattle.planner_machine.specs.Sound.{IsSound};
 ghost use Rattle.table_schema.specs.Rows.{MayFail, Tables, shown, tables_of};
 ghost use Rattle.table_schema.specs.declared.tables.Table.TheVariants.{Meta};
-ghost use Rattle.table_schema.specs.Schema.{no_schema};
 ghost use Rattle.plan_store.specs.Contents.{content_of};
 ghost use Rattle.table_facts.specs.Content.{IsContentOf};
 ghost use Rattle.table_reading.specs.Reading.{HasPlan, Looks};
 ghost use Rattle.table_reading.specs.Tables.{TellPlans};
 ghost use Rattle.table_opening.specs.declared.faults.OpenFault.TheVariants.{Memory, Rows, Unopened};
+ghost use Rattle.table_opening.specs.First.{IsBeside};
 ghost use Rattle.table_opening.specs.Foreign.{IsForeign};
 ghost use Rattle.table_opening.specs.Held.{AreKnown, HoldSound, HoldsPlan};
-ghost use Rattle.table_opening.specs.Opened.{IsCaused, IsStored, IsUnmade, MakesFirst};
+ghost use Rattle.table_opening.specs.Opened.{HasRoom, IsCaused, IsStored, IsUnmade, MakesFirst};
 ghost use Rattle.table_opening.specs.Opening.{IsOpened, IsUnopened};
 ghost use Rattle.table_opening.specs.Stored.{TellStored};
 
 use crate::faults::{OpenFault, fault_for};
 use crate::making::make_first;
-use crate::schemas::{has_plan, is_blank};
+use crate::schemas::{Found, find_tables};
 use crate::version_texts::version_text;
 use crate::whole::{DefinitionPart, PlanPart, RowidPart, content_of_tables};
 use plan_soundness::is_sound;
@@ -119,6 +119,7 @@ fn read_whole<S: Alter>(alloc: Global, conn: &mut Connection<S>) -> Result<Conte
 {
     let settled = conn.is_autocommit();
     prove!(settled);
+    let _ = conn.schema();
     match <(RowidPart, (PlanPart, DefinitionPart))>::read(alloc, conn) {
         Ok(Some((_, (plans, definitions)))) => {
             sound_content(alloc, plans.lists, &definitions.stored)
@@ -157,14 +158,16 @@ fn open_plan<S: Alter>(alloc: Global, conn: &mut Connection<S>) -> Result<Conten
     }
 }
 
-// Opens a database without tables: it gets them.
-fn open_blank<S: Alter>(alloc: Global, conn: &mut Connection<S>) -> Result<Content, OpenFault>
-    requires blank { (state S.Store conn.old).now.schema ≡ no_schema }
+// Opens a database in which nothing is in the way of the tables: it gets them beside its own.
+fn open_new<S: Alter>(alloc: Global, conn: &mut Connection<S>) -> Result<Content, OpenFault>
+    requires room { HasRoom (state S.Store conn.old) }
     requires mode { conn.old.in_transaction ≡ false }
     ensures opened { HasCleanDisk (state S.Store conn.new)
         → IfOk result (λ content. IsStored (state S.Store conn.new) (content_of content)) }
     ensures sound { IfOk result (λ content. IsSound (content_of content)) }
     ensures empty { IfOk result (λ content. content_of content ≡ nothing_known) }
+    ensures beside { HasCleanDisk (state S.Store conn.new)
+        → IfOk result (λ _. IsBeside (state S.Store conn.old).now (state S.Store conn.new).now) }
     ensures unmade { HasCleanDisk (state S.Store conn.new)
         → IfErr result (IsUnmade (state S.Store conn.old) (state S.Store conn.new)) }
     ensures mode { conn.new.in_transaction ≡ false }
@@ -199,8 +202,9 @@ fn foreign_fault<S: Alter>(conn: &mut Connection<S>) -> OpenFault
     }
 }
 
-/// Opens a database: it has the tables of the plan, of a known version, and they tell a sound content; or it is empty,
-/// and gets the tables of a content of which nothing is known. Where it is not opened, it stays as it was.
+/// Opens a database: it has the tables of the plan, of a known version, and they tell a sound content; or nothing in it
+/// is in their way, and it gets those of a content of which nothing is known, beside its own. Where it is not opened, it
+/// stays as it was.
 pub fn open_content<S: Alter>(alloc: Global, conn: &mut Connection<S>) -> Result<Content, OpenFault>
     requires { conn.old.in_transaction ≡ false }
     ensures opened { IfOk result (λ content.
@@ -211,15 +215,10 @@ pub fn open_content<S: Alter>(alloc: Global, conn: &mut Connection<S>) -> Result
     ensures crash { Survives (state S.Store conn.old) (state S.Store conn.new)
         (MakesFirst (state S.Store conn.old)) }
 {
-    match has_plan(alloc, conn) {
-        Ok(true) => open_plan(alloc, conn),
-        Ok(false) => {
-            if is_blank(conn) {
-                open_blank(alloc, conn)
-            } else {
-                Err(foreign_fault(conn))
-            }
-        }
+    match find_tables(alloc, conn) {
+        Ok(Found::Plan) => open_plan(alloc, conn),
+        Ok(Found::Room) => open_new(alloc, conn),
+        Ok(Found::Others) => Err(foreign_fault(conn)),
         Err(_) => Err(OpenFault::Memory),
     }
 }

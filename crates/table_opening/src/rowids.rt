@@ -95,6 +95,7 @@ fn select_rowids<S: Alter>(conn: &mut Connection<S>, table: Table) -> Result<Vec
         → IfErr result (MayFail (state S.Store conn.old) (state S.Store conn.new)) }
     ensures mode { conn.old.in_transaction ≡ false → conn.new.in_transaction ≡ false }
 {
+    let _ = conn.schema();
     conn.query_all(rowid_text(table), &[])
 }
 

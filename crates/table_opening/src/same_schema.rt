@@ -1,7 +1,5 @@
-// Whether a schema of a database has another as its first part.
+// Whether tables are alike.
 
-mod schemas;
+pub(crate) mod tables;
 mod terms;
 mod values;
-
-pub use schemas::extends_schema;

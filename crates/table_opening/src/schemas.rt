@@ -1,29 +1,37 @@
-// Whether a database has the tables of the plan.
+// What stands in a database.
 
-ghost use Rattle.std.specs.Prelude.{◌≡◌, ◌↔◌, IfOk, IsTrue};
+ghost use Rattle.std.specs.Prelude.{◌≡◌, IfOk};
 ghost use Rattle.sqlite.specs.Held.{state};
-ghost use Rattle.table_schema.specs.Schema.{no_schema};
-ghost use Rattle.table_reading.specs.Reading.{HasPlan};
+ghost use Rattle.table_opening.specs.Opening.{IsFound};
 
-use crate::same_schema::extends_schema;
+use crate::standing::{can_make, stand_among};
 use sqlite::{Alter, Connection, Error};
 use std::alloc::Global;
 use table_schema::make_tables;
 
-/// Whether the database has the tables of the plan, as `make_tables` makes them, and after them none but tables that
-/// refer to none of these. Further indexes and views may be there.
-pub(crate) fn has_plan<S: Alter>(alloc: Global, conn: &Connection<S>) -> Result<bool, Error>
-    ensures { IfOk result (λ b. IsTrue b ↔ HasPlan (state S.Store conn.now)) }
+/// What stands in a database.
+#[derive(Clone, Copy, Debug, PartialEq, Eq)]
+pub(crate) enum Found {
+    /// The tables of a plan, and perhaps others.
+    Plan,
+    /// None of these, and nothing that is in their way.
+    Room,
+    /// None of these, and something that is.
+    Others,
+}
+
+/// What stands in the database: it is compared with the tables of a plan, as `make_tables` makes them in memory.
+pub(crate) fn find_tables<S: Alter>(alloc: Global, conn: &Connection<S>) -> Result<Found, Error>
+    ensures { IfOk result (IsFound (state S.Store conn.now)) }
 {
     let mut made = Connection::open_in_memory(alloc)?;
     make_tables(&mut made)?;
-    Ok(extends_schema(conn.schema(), made.schema()))
-}
-
-/// Whether the database has no tables, and nothing else that can be seen.
-pub(crate) fn is_blank<S: Alter>(conn: &Connection<S>) -> bool
-    ensures { IsTrue result ↔ ((state S.Store conn.now).now.schema ≡ no_schema) }
-{
-    let schema = conn.schema();
-    schema.tables.is_empty() && schema.indexes.is_empty() && schema.views.is_empty()
+    let (schema, plan) = (conn.schema(), made.schema());
+    if stand_among(schema.tables.as_slice(), plan.tables.as_slice()) {
+        Ok(Found::Plan)
+    } else if can_make(schema, plan) {
+        Ok(Found::Room)
+    } else {
+        Ok(Found::Others)
+    }
 }

@@ -1,10 +1,10 @@
 -- An error that tells of the device, or that the connection is shut, has that cause.
-use Rattle.std.proofs.Common.{◌≡◌, ◌≢◌, ◌≤◌, ◌⊎◌, ◌∙◌, ℕ, ℤ, Bool, fold, true, false, true≢false, inl, inr, List, [], ◌∷◌, Option, Some, None, IsTrue}
-use Rattle.std.proofs.Common.{Result, Ok, Err, append-nil, option_map, refl, sym, ap, subst, arith, slice_get}
+use Rattle.std.proofs.Common.{◌≡◌, ◌≤◌, ◌⊎◌, ◌∙◌, ℕ, ℤ, Bool, fold, true, false, true≢false, inl, inr, List, [], Option, Some, None, IsTrue}
+use Rattle.std.proofs.Common.{Result, Err, append-nil, refl, sym, ap, subst, arith, slice_get}
 use Rattle.std.specs.Prelude.{MatchBool, if◌then◌else◌}
 use Rattle.sqlite.specs.Clock.{timed}
 use Rattle.sqlite.specs.Command.{Command}
-use Rattle.sqlite.specs.Command.TheVariants.{Begin, Commit, CreateTable, DropTable, Insert, Release, Rollback, RollbackTo}
+use Rattle.sqlite.specs.Command.TheVariants.{CreateTable, DropTable, Insert}
 use Rattle.sqlite.specs.Does.{AtPlace, Concludes, Does, Drops, Empties, HoldWithout, MakesSequence, MakesTable, OnRows, Tested}
 use Rattle.sqlite.specs.Does.{UncountsIn, is_acted_on, lacks_sequence, sequence_text}
 use Rattle.sqlite.specs.Edit.{Edit, edit_of}
@@ -29,7 +29,7 @@ use Rattle.sqlite.specs.Tree.{Trees}
 use Rattle.sqlite.specs.declared.error.Error.{Error}
 use Rattle.sqlite.specs.declared.error.Error.TheVariants.{InvalidQuery}
 use Rattle.sqlite.specs.declared.run.Mode.{Mode}
-use Rattle.sqlite.proofs.Callers.{IsPlain, command_of, statement_of}
+use Rattle.sqlite.proofs.Callers.{IsPlain, command_of}
 use Rattle.sqlite_catalog.specs.declared.error.Refusal.{Refusal as Altered}
 use Rattle.sqlite_catalog.specs.declared.error.Refusal.TheVariants as altered
 use Rattle.sqlite_resolve.specs.declared.compiled.Compiled.{Compiled}

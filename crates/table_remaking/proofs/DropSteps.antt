@@ -1,6 +1,6 @@
 -- What DROP TABLE does, where no foreign key acts and nothing is counted.
-use Rattle.std.proofs.Common.{◌≡◌, ◌∙◌, ℕ, List, [], false, Option, Some, None, Ok, slice_get, ap, subst}
-use Rattle.sqlite.specs.Change.{without_table}
+use Rattle.std.proofs.Common.{◌≡◌, ◌∙◌, ℕ, List, [], false, Option, Some, None, Ok, slice_get, ap, subst, sym}
+use Rattle.sqlite.specs.Change.{KeepsRows, without_table}
 use Rattle.sqlite.specs.Command.TheVariants.{DropTable}
 use Rattle.sqlite.specs.Does.{Does, Tally, is_acted_on}
 use Rattle.sqlite.specs.Effect.{Database}
@@ -27,7 +27,8 @@ module _ (schema : Schema) (at : ℕ) (name : List ℕ) (tree : ℕ) (columns : 
     table = plain_table name tree columns key primary uniques orders checks references
 
     pub drops : (old new : State) (count : ℕ) → old.now.schema ≡ schema → Executes sql [] old new (Ok count)
-        → new.now.schema ≡ without_table schema table.tree
+        → (new.now.schema ≡ without_table schema table.tree)
+        × KeepsRows (without_table schema table.tree).tables old.now.trees new.now.trees
     drops old new count has h =
         let w = runs_as sql [] old new schema has (DropTable at) command plain count h in
         let does = subst (λ s. Does old.step_limit (mode_of old) [] (record old.now { schema = s })
@@ -38,4 +39,8 @@ module _ (schema : Schema) (at : ℕ) (name : List ℕ) (tree : ℕ) (columns : 
         let tested = went left.2 in
         let last = went tested.2 in
         let now : new.now ≡ last.0 = ap (λ (p : Tally × Database). p.1) (same_value last.2) in
-        ap (λ (d : Database). d.schema) now ∙ last.1.0
+        let still : left.0 ≡ old.now.trees = same_value left.1 ∙ same_value emptied.1 in (
+          ap (λ (d : Database). d.schema) now ∙ last.1.0,
+          subst (λ (d : Database). KeepsRows (without_table schema table.tree).tables old.now.trees d.trees) (sym now)
+              (subst (λ db. KeepsRows (without_table schema table.tree).tables db last.0.trees) still last.1.1),
+        )

@@ -6,3 +6,5 @@ pub mod TypeLemmas
 pub mod FitLemmas
 pub mod ShowLemmas
 pub mod TurnLemmas
+pub mod WithoutLemmas
+pub mod LeavingLemmas

@@ -1,78 +1,87 @@
--- What the texts mean over the tables of schema 1.
-use Rattle.std.proofs.Common.{◌≡◌, [], false, Some, Ok, refl, slice_get}
-use Rattle.sqlite.specs.Command.TheVariants.{CreateTable, DropTable, Select}
+-- What the texts mean where the tables of schema 1 stand, or are made.
+use Rattle.std.proofs.Common.{◌≡◌, ℕ, [], ◌∷◌, List, length, map, false, true, nat_lt, None, Some, Ok, Err, refl}
+use Rattle.sqlite.specs.Command.TheVariants.{CreateTable, DropTable}
 use Rattle.sqlite.specs.Compile.{table_defined_by}
-use Rattle.sqlite.specs.Change.{created, without_table}
-use Rattle.sqlite.specs.Does.{is_acted_on, lacks_sequence}
-use Rattle.sqlite.specs.Listing.{understood, reads_listing}
-use Rattle.sqlite.proofs.Callers.{IsPlain, command_of, statement_of}
-use Rattle.sqlite_schema.specs.Names.{same_name}
-use Rattle.sqlite_schema.specs.declared.schema.Keys.TheVariants.{Enforced}
+use Rattle.sqlite.specs.Change.{created}
+use Rattle.sqlite.specs.Does.{lacks_sequence}
+use Rattle.sqlite.specs.Listing.{understood}
+use Rattle.sqlite.specs.Schema.{Schema}
+use Rattle.sqlite.proofs.Callers.{statement_of}
+use Rattle.sqlite_ast.specs.declared.Statement.TheVariants as written
+use Rattle.sqlite_catalog.specs.Change.{is_used}
+use Rattle.sqlite_resolve.specs.Compile as compile
+use Rattle.sqlite_resolve.specs.Compile.{first}
+use Rattle.sqlite_resolve.specs.Lowering.{Checked, max_budget}
+use Rattle.sqlite_schema.specs.Names.{table_named, view_named}
+use Rattle.sqlite_syntax.specs.declared.statement.Parsed.{Parsed}
 use Rattle.sqlite_tied.specs.Compute.{everything}
-use Rattle.table_schema.proofs.Steps.{plain_query}
-use Rattle.table_schema.specs.Schema.{place, tree}
+use Rattle.sqlite_typing.specs.Types.{are_typed, row_classes}
+use Rattle.table_schema.proofs.ColumnQueries.{columns_show}
+use Rattle.table_schema.proofs.CreateLemmas.{Creates, create_plans, states, table_defined}
+use Rattle.table_schema.proofs.MeaningLemmas.{Means, Plans, means}
+use Rattle.table_schema.proofs.QueryMeanings.{ShowsRows}
+use Rattle.table_schema.proofs.Written.{IfRead}
+use Rattle.table_schema.proofs.WrittenQueries.{IsBareText, has_all, shown_as, shown_column}
+use Rattle.table_schema.specs.Places.{StandsAt}
+use Rattle.table_schema.specs.Schema.{name}
 use Rattle.table_schema.specs.declared.tables.Table.{Table}
 use Rattle.table_schema.specs.declared.tables.Table.TheVariants.{Meta, CalendarEntry, Period, Application}
 use Rattle.table_schema.specs.declared.tables.Table.TheVariants.{RunCycle, Offset, Predecessor, LinkInForce}
 use Rattle.table_schema.specs.declared.tables.Table.TheVariants.{LongTerm, Current, History, Deletion}
 use Rattle.table_schema.specs.declared.tables.Table.TheVariants.{Dependency, Job}
-use Rattle.table_remaking.specs.FirstSchema.{first_after, first_before, first_names, first_schema, first_table}
-use Rattle.table_remaking.specs.FirstSchema.{first_table_at, first_terms}
+use Rattle.table_remaking.specs.FirstSchema.{first_after, first_before, first_names, first_table_at, first_terms}
 use Rattle.table_remaking.specs.FirstTexts.{drop_sql, first_create_sql, first_select_sql}
 
 -- ---- a table is made
 
-pub create_is : (t : Table) → (command_of (understood (first_before t) (first_create_sql t)) ≡ CreateTable)
-    × (statement_of (first_create_sql t) (understood (first_before t) (first_create_sql t)) ≡ first_create_sql t)
-    × (table_defined_by (first_create_sql t) ≡ Ok (first_table_at 0 t))
-unfolding understood everything
-create_is Meta = (refl, refl, refl)
-create_is CalendarEntry = (refl, refl, refl)
-create_is Period = (refl, refl, refl)
-create_is Application = (refl, refl, refl)
-create_is RunCycle = (refl, refl, refl)
-create_is Offset = (refl, refl, refl)
-create_is Predecessor = (refl, refl, refl)
-create_is LinkInForce = (refl, refl, refl)
-create_is LongTerm = (refl, refl, refl)
-create_is Current = (refl, refl, refl)
-create_is History = (refl, refl, refl)
-create_is Deletion = (refl, refl, refl)
-create_is Dependency = (refl, refl, refl)
-create_is Job = (refl, refl, refl)
+create_says : (t : Table) → IfRead (first (first_create_sql t)) (Creates (name t) (first_create_sql t) (first_table_at 0 t))
+unfolding everything
+create_says Meta = record { def = _; whole = refl; parameters = refl; text = refl; is = refl; named = refl; free = refl; defined = refl; fit = refl }
+create_says CalendarEntry = record { def = _; whole = refl; parameters = refl; text = refl; is = refl; named = refl; free = refl; defined = refl; fit = refl }
+create_says Period = record { def = _; whole = refl; parameters = refl; text = refl; is = refl; named = refl; free = refl; defined = refl; fit = refl }
+create_says Application = record { def = _; whole = refl; parameters = refl; text = refl; is = refl; named = refl; free = refl; defined = refl; fit = refl }
+create_says RunCycle = record { def = _; whole = refl; parameters = refl; text = refl; is = refl; named = refl; free = refl; defined = refl; fit = refl }
+create_says Offset = record { def = _; whole = refl; parameters = refl; text = refl; is = refl; named = refl; free = refl; defined = refl; fit = refl }
+create_says Predecessor = record { def = _; whole = refl; parameters = refl; text = refl; is = refl; named = refl; free = refl; defined = refl; fit = refl }
+create_says LinkInForce = record { def = _; whole = refl; parameters = refl; text = refl; is = refl; named = refl; free = refl; defined = refl; fit = refl }
+create_says LongTerm = record { def = _; whole = refl; parameters = refl; text = refl; is = refl; named = refl; free = refl; defined = refl; fit = refl }
+create_says Current = record { def = _; whole = refl; parameters = refl; text = refl; is = refl; named = refl; free = refl; defined = refl; fit = refl }
+create_says History = record { def = _; whole = refl; parameters = refl; text = refl; is = refl; named = refl; free = refl; defined = refl; fit = refl }
+create_says Deletion = record { def = _; whole = refl; parameters = refl; text = refl; is = refl; named = refl; free = refl; defined = refl; fit = refl }
+create_says Dependency = record { def = _; whole = refl; parameters = refl; text = refl; is = refl; named = refl; free = refl; defined = refl; fit = refl }
+create_says Job = record { def = _; whole = refl; parameters = refl; text = refl; is = refl; named = refl; free = refl; defined = refl; fit = refl }
 
-pub create_plain : (t : Table) → IsPlain (understood (first_before t) (first_create_sql t))
-unfolding understood everything
-create_plain Meta = (refl, refl)
-create_plain CalendarEntry = (refl, refl)
-create_plain Period = (refl, refl)
-create_plain Application = (refl, refl)
-create_plain RunCycle = (refl, refl)
-create_plain Offset = (refl, refl)
-create_plain Predecessor = (refl, refl)
-create_plain LinkInForce = (refl, refl)
-create_plain LongTerm = (refl, refl)
-create_plain Current = (refl, refl)
-create_plain History = (refl, refl)
-create_plain Deletion = (refl, refl)
-create_plain Dependency = (refl, refl)
-create_plain Job = (refl, refl)
+pub create_means : (schema : Schema) (t : Table) → is_used schema (name t) ≡ false
+    → Means schema (first_create_sql t) CreateTable 0
+    × (statement_of (first_create_sql t) (understood schema (first_create_sql t)) ≡ first_create_sql t)
+create_means schema t free =
+    let r = first (first_create_sql t) in (
+      means schema (first_create_sql t) _ _ r refl (create_plans schema (name t) (first_create_sql t) (first_table_at 0 t)
+          free r (create_says t)),
+      states schema (name t) (first_create_sql t) (first_table_at 0 t) free r refl (create_says t),
+    )
 
-pub made : (t : Table) → created (first_before t) (first_table_at 0 t) ≡ first_after t
-made Meta = refl
-made CalendarEntry = refl
-made Period = refl
-made Application = refl
-made RunCycle = refl
-made Offset = refl
-made Predecessor = refl
-made LinkInForce = refl
-made LongTerm = refl
-made Current = refl
-made History = refl
-made Deletion = refl
-made Dependency = refl
-made Job = refl
+pub create_defines : (t : Table) → table_defined_by (first_create_sql t) ≡ Ok (first_table_at 0 t)
+create_defines t = table_defined (name t) (first_create_sql t) (first_table_at 0 t) (first (first_create_sql t)) refl
+    (create_says t)
+
+-- in an empty database one after the other can be made
+pub unused : (t : Table) → is_used (first_before t) (name t) ≡ false
+unfolding everything
+unused Meta = refl
+unused CalendarEntry = refl
+unused Period = refl
+unused Application = refl
+unused RunCycle = refl
+unused Offset = refl
+unused Predecessor = refl
+unused LinkInForce = refl
+unused LongTerm = refl
+unused Current = refl
+unused History = refl
+unused Deletion = refl
+unused Dependency = refl
+unused Job = refl
 
 pub uncounted : (t : Table) → lacks_sequence (created (first_before t) (first_table_at 0 t)) ≡ false
 uncounted Meta = refl
@@ -90,129 +99,107 @@ uncounted Deletion = refl
 uncounted Dependency = refl
 uncounted Job = refl
 
+pub made : (t : Table) → created (first_before t) (first_table_at 0 t) ≡ first_after t
+made Meta = refl
+made CalendarEntry = refl
+made Period = refl
+made Application = refl
+made RunCycle = refl
+made Offset = refl
+made Predecessor = refl
+made LinkInForce = refl
+made LongTerm = refl
+made Current = refl
+made History = refl
+made Deletion = refl
+made Dependency = refl
+made Job = refl
+
 -- ---- a table is taken away
 
-pub drop_is : (t : Table) → command_of (understood (first_after t) (drop_sql t)) ≡ DropTable (place t)
-unfolding understood everything
-drop_is Meta = refl
-drop_is CalendarEntry = refl
-drop_is Period = refl
-drop_is Application = refl
-drop_is RunCycle = refl
-drop_is Offset = refl
-drop_is Predecessor = refl
-drop_is LinkInForce = refl
-drop_is LongTerm = refl
-drop_is Current = refl
-drop_is History = refl
-drop_is Deletion = refl
-drop_is Dependency = refl
-drop_is Job = refl
+abbrev IsDropText : List ℕ → ℕ → Parsed → Type 0
+IsDropText name size p = (p.statement ≡ written.DropTable false name) × (p.formats ≡ []) × (p.tail ≡ size)
+    × (length p.names ≡ 0) × (compile.is_reserved name ≡ false)
 
-pub drop_plain : (t : Table) → IsPlain (understood (first_after t) (drop_sql t))
-unfolding understood everything
-drop_plain Meta = (refl, refl)
-drop_plain CalendarEntry = (refl, refl)
-drop_plain Period = (refl, refl)
-drop_plain Application = (refl, refl)
-drop_plain RunCycle = (refl, refl)
-drop_plain Offset = (refl, refl)
-drop_plain Predecessor = (refl, refl)
-drop_plain LinkInForce = (refl, refl)
-drop_plain LongTerm = (refl, refl)
-drop_plain Current = (refl, refl)
-drop_plain History = (refl, refl)
-drop_plain Deletion = (refl, refl)
-drop_plain Dependency = (refl, refl)
-drop_plain Job = (refl, refl)
+drop_says : (t : Table) → IfRead (first (drop_sql t)) (IsDropText (name t) (length (drop_sql t)))
+unfolding everything
+drop_says Meta = (refl, refl, refl, refl, refl)
+drop_says CalendarEntry = (refl, refl, refl, refl, refl)
+drop_says Period = (refl, refl, refl, refl, refl)
+drop_says Application = (refl, refl, refl, refl, refl)
+drop_says RunCycle = (refl, refl, refl, refl, refl)
+drop_says Offset = (refl, refl, refl, refl, refl)
+drop_says Predecessor = (refl, refl, refl, refl, refl)
+drop_says LinkInForce = (refl, refl, refl, refl, refl)
+drop_says LongTerm = (refl, refl, refl, refl, refl)
+drop_says Current = (refl, refl, refl, refl, refl)
+drop_says History = (refl, refl, refl, refl, refl)
+drop_says Deletion = (refl, refl, refl, refl, refl)
+drop_says Dependency = (refl, refl, refl, refl, refl)
+drop_says Job = (refl, refl, refl, refl, refl)
 
-pub found : (t : Table) → slice_get (first_after t).tables (place t) ≡ Some (first_table t)
-found Meta = refl
-found CalendarEntry = refl
-found Period = refl
-found Application = refl
-found RunCycle = refl
-found Offset = refl
-found Predecessor = refl
-found LinkInForce = refl
-found LongTerm = refl
-found Current = refl
-found History = refl
-found Deletion = refl
-found Dependency = refl
-found Job = refl
+drop_planned : (schema : Schema) (p : Parsed) (name : List ℕ) (at : ℕ) → p.statement ≡ written.DropTable false name
+    → p.formats ≡ [] → compile.is_reserved name ≡ false → view_named schema name ≡ None → table_named schema name ≡ Some at
+    → compile.planned schema p ≡ Ok ([], (DropTable at, None))
+unfolding compile.planned compile.timed compile.meaning compile.returning compile.command compile.drop_table
+drop_planned schema p name at is timeless unreserved unviewed named = rw (is, timeless, unreserved, unviewed, named) refl
 
--- no table that is left refers to it
-pub unacted : (t : Table) → is_acted_on (first_after t) Enforced (first_table t) ≡ false
-unfolding same_name
-unacted Meta = refl
-unacted CalendarEntry = refl
-unacted Period = refl
-unacted Application = refl
-unacted RunCycle = refl
-unacted Offset = refl
-unacted Predecessor = refl
-unacted LinkInForce = refl
-unacted LongTerm = refl
-unacted Current = refl
-unacted History = refl
-unacted Deletion = refl
-unacted Dependency = refl
-unacted Job = refl
+drop_plans : (schema : Schema) (name : List ℕ) (at size : ℕ) → view_named schema name ≡ None
+    → table_named schema name ≡ Some at → (r : Checked Parsed) → IfRead r (IsDropText name size)
+    → IfRead r (Plans schema (DropTable at) size 0)
+drop_plans schema name at size unviewed named (Err e) h = absurd h
+drop_plans schema name at size unviewed named (Ok p) h =
+    (drop_planned schema p name at h.0 h.1 h.4 unviewed named, h.2, h.3)
 
-pub gone : (t : Table) → without_table (first_after t) (tree t) ≡ first_before t
-gone Meta = refl
-gone CalendarEntry = refl
-gone Period = refl
-gone Application = refl
-gone RunCycle = refl
-gone Offset = refl
-gone Predecessor = refl
-gone LinkInForce = refl
-gone LongTerm = refl
-gone Current = refl
-gone History = refl
-gone Deletion = refl
-gone Dependency = refl
-gone Job = refl
+pub drop_means : (schema : Schema) (t : Table) (at : ℕ) → view_named schema (name t) ≡ None
+    → table_named schema (name t) ≡ Some at → Means schema (drop_sql t) (DropTable at) 0
+drop_means schema t at unviewed named = means schema (drop_sql t) _ _ (first (drop_sql t)) refl
+    (drop_plans schema (name t) at _ unviewed named (first (drop_sql t)) (drop_says t))
 
 -- ---- its rows are read
 
-pub select_is : (t : Table) → (command_of (understood first_schema (first_select_sql t)) ≡ Select (record {
-  lets =
-      [];
-  body = plain_query (tree t) [] (first_terms t);
-}) (first_names t))
-    × (reads_listing first_schema (first_select_sql t) ≡ false)
-unfolding understood everything
-select_is Meta = (refl, refl)
-select_is CalendarEntry = (refl, refl)
-select_is Period = (refl, refl)
-select_is Application = (refl, refl)
-select_is RunCycle = (refl, refl)
-select_is Offset = (refl, refl)
-select_is Predecessor = (refl, refl)
-select_is LinkInForce = (refl, refl)
-select_is LongTerm = (refl, refl)
-select_is Current = (refl, refl)
-select_is History = (refl, refl)
-select_is Deletion = (refl, refl)
-select_is Dependency = (refl, refl)
-select_is Job = (refl, refl)
+select_says : (t : Table) → IfRead (first (first_select_sql t)) (IsBareText (length (first_select_sql t)) (name t)
+    (map shown_column (first_names t)))
+unfolding everything
+select_says Meta = (refl, refl, refl, refl, refl, refl)
+select_says CalendarEntry = (refl, refl, refl, refl, refl, refl)
+select_says Period = (refl, refl, refl, refl, refl, refl)
+select_says Application = (refl, refl, refl, refl, refl, refl)
+select_says RunCycle = (refl, refl, refl, refl, refl, refl)
+select_says Offset = (refl, refl, refl, refl, refl, refl)
+select_says Predecessor = (refl, refl, refl, refl, refl, refl)
+select_says LinkInForce = (refl, refl, refl, refl, refl, refl)
+select_says LongTerm = (refl, refl, refl, refl, refl, refl)
+select_says Current = (refl, refl, refl, refl, refl, refl)
+select_says History = (refl, refl, refl, refl, refl, refl)
+select_says Deletion = (refl, refl, refl, refl, refl, refl)
+select_says Dependency = (refl, refl, refl, refl, refl, refl)
+select_says Job = (refl, refl, refl, refl, refl, refl)
 
-pub select_plain : (t : Table) → IsPlain (understood first_schema (first_select_sql t))
-unfolding understood everything
-select_plain Meta = (refl, refl)
-select_plain CalendarEntry = (refl, refl)
-select_plain Period = (refl, refl)
-select_plain Application = (refl, refl)
-select_plain RunCycle = (refl, refl)
-select_plain Offset = (refl, refl)
-select_plain Predecessor = (refl, refl)
-select_plain LinkInForce = (refl, refl)
-select_plain LongTerm = (refl, refl)
-select_plain Current = (refl, refl)
-select_plain History = (refl, refl)
-select_plain Deletion = (refl, refl)
-select_plain Dependency = (refl, refl)
-select_plain Job = (refl, refl)
+select_fits : (tree : ℕ) (t : Table) → (has_all (first_table_at tree t) (first_names t) ≡ true)
+    × (nat_lt (length (first_names t)) max_budget ≡ true)
+    × (map (λ o. o.term) (map (shown_as (first_table_at tree t)) (first_names t)) ≡ first_terms t)
+    × (map (λ o. o.name) (map (shown_as (first_table_at tree t)) (first_names t)) ≡ first_names t)
+    × (are_typed [] (row_classes (first_table_at tree t) ∷ []) (first_terms t) ≡ true)
+unfolding everything
+select_fits tree Meta = (refl, refl, refl, refl, refl)
+select_fits tree CalendarEntry = (refl, refl, refl, refl, refl)
+select_fits tree Period = (refl, refl, refl, refl, refl)
+select_fits tree Application = (refl, refl, refl, refl, refl)
+select_fits tree RunCycle = (refl, refl, refl, refl, refl)
+select_fits tree Offset = (refl, refl, refl, refl, refl)
+select_fits tree Predecessor = (refl, refl, refl, refl, refl)
+select_fits tree LinkInForce = (refl, refl, refl, refl, refl)
+select_fits tree LongTerm = (refl, refl, refl, refl, refl)
+select_fits tree Current = (refl, refl, refl, refl, refl)
+select_fits tree History = (refl, refl, refl, refl, refl)
+select_fits tree Deletion = (refl, refl, refl, refl, refl)
+select_fits tree Dependency = (refl, refl, refl, refl, refl)
+select_fits tree Job = (refl, refl, refl, refl, refl)
+
+pub selects : (schema : Schema) (tree at : ℕ) (t : Table) → StandsAt schema (first_table_at tree t) at
+    → ShowsRows schema (first_select_sql t) tree (first_terms t) (first_names t)
+selects schema tree at t it =
+    let fits = select_fits tree t in
+    columns_show schema (first_table_at tree t) at it (first_select_sql t) (first_names t) (first_terms t) (first_names t)
+    (select_says t) fits.0 fits.1 fits.2 fits.3 fits.4

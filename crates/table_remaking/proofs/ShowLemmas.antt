@@ -16,7 +16,7 @@ use Rattle.sqlite.specs.Tree.{rowid}
 use Rattle.sqlite_rules.specs.Edit.{with_rowid}
 use Rattle.sqlite_value.specs.Order.{value_cmp}
 use Rattle.table_schema.specs.Rows.{Tables, no_rows, placed, shown, stored, with_cells, with_rows}
-use Rattle.table_schema.specs.Schema.{tree}
+use Rattle.table_schema.specs.Schema.{place}
 use Rattle.table_schema.specs.declared.tables.Table.{Table}
 use Rattle.table_remaking.specs.Remaking.{AreAllFirst, AreRemade, AreWhole, remade_row, tables_in, with_all_put}
 use Rattle.table_remaking.specs.Remaking.{with_rows_put}
@@ -39,17 +39,17 @@ placed_among new (r ∷ rs) = go (value_cmp (rowid r) (rowid new)) (placed_among
     go Equal more = later more
     go Greater more = IsPermutation-refl (new ∷ r ∷ rs)
 
-same_tree : (t : Table) → (tree t == tree t) ≡ true
-same_tree t = eq-eqb (tree t) (tree t) refl
+same_place : (t : Table) → (place t == place t) ≡ true
+same_place t = eq-eqb (place t) (place t) refl
 
 at_itself : (t : Table) (rows : List Row) (all : Tables) → with_rows t rows all t ≡ rows
-at_itself t rows all = rw (same_tree t) refl
+at_itself t rows all = rw (same_place t) refl
 
-at_other : (t u : Table) (rows : List Row) (all : Tables) → (tree u == tree t) ≡ false → with_rows t rows all u ≡ all u
+at_other : (t u : Table) (rows : List Row) (all : Tables) → (place u == place t) ≡ false → with_rows t rows all u ≡ all u
 at_other t u rows all apart = rw apart refl
 
 -- other tables stay
-others_stay : (t u : Table) → (tree u == tree t) ≡ false → (rows : List Row) (all : Tables) → with_rows_put t rows all u ≡ all u
+others_stay : (t u : Table) → (place u == place t) ≡ false → (rows : List Row) (all : Tables) → with_rows_put t rows all u ≡ all u
 others_stay t u apart [] all = refl
 others_stay t u apart (row ∷ rows) all =
     others_stay t u apart rows (with_cells t (remade_row t row) all) ∙ at_other t u _ all apart
@@ -90,7 +90,7 @@ Shows all read = IsPermutation (map (remade_row read.table) read.rows.items) (ma
 
 -- no table comes twice
 abbrev is_apart : Table → Table → Bool
-is_apart t u = not (tree u == tree t)
+is_apart t u = not (place u == place t)
 
 abbrev are_apart : List Table → Bool
 are_apart [] = true
@@ -116,7 +116,7 @@ left_alone t [] all apart = refl
 left_alone t (read ∷ reads) all apart =
     let both = and_parts _ _ apart in
     left_alone t reads (with_rows_put read.table read.rows.items all) both.1
-    ∙ others_stay read.table t (flipped (tree read.table) (tree t) (not-true _ both.0)) read.rows.items all
+    ∙ others_stay read.table t (flipped (place read.table) (place t) (not-true _ both.0)) read.rows.items all
   where
     flipped : (m n : ℕ) → (m == n) ≡ false → (n == m) ≡ false
     flipped m n e = go (n == m) refl

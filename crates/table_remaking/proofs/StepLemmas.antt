@@ -1,73 +1,115 @@
 -- What the statements make of the schema.
-use Rattle.std.proofs.Common.{◌≡◌, ◌∙◌, ℕ, List, [], true, map, Ok, Err, refl, subst}
+use Rattle.std.proofs.Common.{◌≡◌, ◌∙◌, ◌==◌, ℕ, List, [], ◌∷◌, true, not, map, Ok, Err, refl, sym, ap, subst}
+use Rattle.std.specs.List.{AllByRecursion}
 use Rattle.std.specs.List.Sorted.{IsPermutation}
 use Rattle.sqlite_keyed.proofs.ListLemmas.{all_of, filter_all}
+use Rattle.sqlite.specs.Change.{KeepsRows, without_table}
+use Rattle.sqlite.specs.Effect.{Database}
 use Rattle.sqlite.specs.Order.{Row}
 use Rattle.sqlite.specs.Command.TheVariants.{CreateTable, DropTable, Insert}
+use Rattle.sqlite.specs.Schema.{Schema}
 use Rattle.sqlite.specs.Source.TheVariants.{Values}
-use Rattle.sqlite.specs.State.{State, ExecutesInside, Shown, mode_of}
+use Rattle.sqlite.specs.State.{State, ExecutesInside, IsLive, Shown, mode_of}
+use Rattle.sqlite.specs.Table.{Table as Described}
 use Rattle.sqlite.specs.declared.error.Error.{Error}
-use Rattle.sqlite.specs.declared.types.Value.TheVariants.{Null}
-use Rattle.sqlite.proofs.Callers.{reads_as}
-use Rattle.table_schema.proofs.StepLemmas.{own}
-use Rattle.table_schema.proofs.Steps.{creates, plain_rows}
-use Rattle.table_schema.proofs.Meanings.{insert_is, insert_plain}
+use Rattle.sqlite_trees.specs.Objects.{catalog_tree}
+use Rattle.table_schema.proofs.MeaningLemmas.{Means}
+use Rattle.table_schema.proofs.NamedLemmas.{tree_is}
+use Rattle.table_schema.proofs.ShownLemmas.{shows_all, stays}
+use Rattle.table_schema.proofs.Steps.{creates}
+use Rattle.table_schema.proofs.TextMeanings.{insert_means}
 use Rattle.table_schema.specs.Cells.{insert_terms, width}
+use Rattle.table_schema.specs.Made.{later}
+use Rattle.table_schema.specs.Places.{StandsAt}
 use Rattle.table_schema.specs.Rows.{IsPlan, tables_of}
 use Rattle.table_schema.specs.Texts.{insert_sql}
-use Rattle.table_schema.specs.Schema.{checks, key, name, orders, place, plan_and, primary, references, tree, uniques}
+use Rattle.table_schema.specs.Schema.{checks, key, name, orders, primary, references, uniques}
 use Rattle.table_schema.specs.declared.tables.Table.{Table}
-use Rattle.table_remaking.specs.FirstSchema.{first_after, first_before, first_columns, first_schema, first_shown}
-use Rattle.table_remaking.specs.FirstSchema.{first_table_at, first_terms}
+use Rattle.table_remaking.specs.FirstSchema.{HasFirstTables, first_after, first_before, first_columns, first_names}
+use Rattle.table_remaking.specs.FirstSchema.{first_shown, first_table_at, first_terms, without}
 use Rattle.table_remaking.specs.FirstTexts.{drop_sql, first_create_sql, first_select_sql}
-use Rattle.table_remaking.specs.Turns.{DeviceHasCause, IsInside}
+use Rattle.table_remaking.specs.Turns.{DeviceHasCause, IsInside, IsLosing}
 use Rattle.table_remaking.proofs.CauseLemmas.{by_statement, tame_create, tame_drop, tame_insert}
 use Rattle.table_remaking.proofs.DropSteps.{drops}
-use Rattle.table_remaking.proofs.Meanings.{create_is, create_plain, drop_is, drop_plain, found, gone, made, select_is}
-use Rattle.table_remaking.proofs.Meanings.{select_plain, unacted, uncounted}
+use Rattle.table_remaking.proofs.Meanings.{create_defines, create_means, drop_means, made, selects, uncounted, unused}
+use Rattle.table_remaking.proofs.WithoutLemmas.{all_left, one_more_gone, still_there, unacted, unviewed}
 
-pub makes : (t : Table) (old new : State) (count : ℕ) → IsInside old (first_before t)
-    → ExecutesInside 0 (first_create_sql t) [] old new (Ok count) → IsInside new (first_after t)
-makes t old new count has h =
-    let is = create_is t in
-    let step = creates (first_before t) (first_table_at 0 t) (first_create_sql t) is.0 is.1 is.2 (create_plain t)
-    (uncounted t) old new count has.0 h.0 in
+pub both_all : {X : Type 0} (P Q R : X → Type 0) → ((x : X) → P x → Q x → R x) → (xs : List X) → AllByRecursion P xs
+    → AllByRecursion Q xs → AllByRecursion R xs
+both_all P Q R both [] p q = tt
+both_all P Q R both (x ∷ xs) p q = (both x p.0 q.0, both_all P Q R both xs p.1 q.1)
+
+pub makes : (t : Table) (base : Database) (old new : State) (count : ℕ) → IsInside (first_before t) base old
+    → ExecutesInside 0 (first_create_sql t) [] old new (Ok count) → IsInside (first_after t) base new
+makes t base old new count has h =
+    let is = create_means (first_before t) t (unused t) in
+    let step = creates (first_before t) (first_table_at 0 t) (first_create_sql t) is.0.is is.1 (create_defines t)
+    is.0.plain (uncounted t) old new count has.0 h.0 in
     (step.0 ∙ made t, h.1.mode)
 
-pub loses : (t : Table) (old new : State) (count : ℕ) → IsInside old (first_after t)
-    → ExecutesInside 0 (drop_sql t) [] old new (Ok count) → IsInside new (first_before t)
-loses t old new count has h = (
-  drops (first_after t) (place t) (name t) (tree t) (first_columns t) (key t) (primary t) (uniques t) (orders t)
-      (checks t) (references t) (drop_sql t) (drop_is t) (drop_plain t) (found t) (unacted t) old new count has.0 h.0
-      ∙ gone t,
-  h.1.mode,
-)
-
-pub make_cause : (t : Table) (old new : State) (e : Error) → IsInside old (first_before t)
+pub make_cause : (t : Table) (base : Database) (old new : State) (e : Error) → IsInside (first_before t) base old
     → ExecutesInside 0 (first_create_sql t) [] old new (Err e) → DeviceHasCause old new e
-make_cause t old new e has h = by_statement (first_before t) (first_create_sql t) [] CreateTable (create_plain t)
-    (create_is t).0 refl refl (λ s text. tame_create s.step_limit (mode_of s) [] s.now text) old new e has.0 h
+make_cause t base old new e has h =
+    let is = create_means (first_before t) t (unused t) in
+    by_statement (first_before t) (first_create_sql t) [] CreateTable is.0.plain is.0.is refl refl
+    (λ s text. tame_create s.step_limit (mode_of s) [] s.now text) old new e has.0 h
 
-pub drop_cause : (t : Table) (old new : State) (e : Error) → IsInside old (first_after t)
-    → ExecutesInside 0 (drop_sql t) [] old new (Err e) → DeviceHasCause old new e
-drop_cause t old new e has h = by_statement (first_after t) (drop_sql t) [] (DropTable (place t)) (drop_plain t)
-    (drop_is t) refl refl (λ s text. tame_drop s.step_limit (mode_of s) [] s.now text (place t)) old new e has.0 h
+module _ (t : Table) (base : Database) (old new : State) (has : IsLosing (later t) base old) where
+  abbrev trees : Table → ℕ
+  trees = has.can.has.trees
+
+  abbrev before : Schema
+  before = without trees (later t) base.schema
+
+  here : (k : ℕ) × StandsAt before (first_table_at (trees t) t) k
+  here = still_there base.schema has.can.has t
+
+  drop_is : Means before (drop_sql t) (DropTable here.0) 0
+  drop_is = drop_means before t here.0 (unviewed base.schema has.can (later t) t) here.1.named
+
+  pub loses : (count : ℕ) → ExecutesInside 0 (drop_sql t) [] old new (Ok count) → IsLosing (t ∷ later t) base new
+  loses count h =
+      let step = drops before here.0 (name t) (trees t) (first_columns t) (key t) (primary t) (uniques t) (orders t)
+      (checks t) (references t) (drop_sql t) drop_is.is drop_is.plain here.1.got (unacted base.schema has.can.has t) old
+      new count has.schema h.0 in
+      let left = without_table before (trees t) in
+      let were = all_left (λ (d : Described). old.now.trees d.tree ≡ base.trees d.tree) (λ d. not (d.tree == trees t))
+      before.tables (subst (λ (s : Schema). KeepsRows s.tables base.trees old.now.trees) has.schema has.others) in
+      record {
+        can = has.can;
+        schema = step.0 ∙ one_more_gone base.schema trees t (later t);
+        others = subst (λ (s : Schema). KeepsRows s.tables base.trees new.now.trees) (sym step.0)
+            (both_all (λ (d : Described). new.now.trees d.tree ≡ old.now.trees d.tree) (λ d. old.now.trees d.tree
+            ≡ base.trees d.tree) (λ d. new.now.trees d.tree ≡ base.trees d.tree) (λ d same was. same ∙ was) left.tables
+            step.1 were);
+        mode = h.1.mode;
+      }
+
+  pub drop_cause : (e : Error) → ExecutesInside 0 (drop_sql t) [] old new (Err e) → DeviceHasCause old new e
+  drop_cause e h = by_statement before (drop_sql t) [] (DropTable here.0) drop_is.plain drop_is.is refl refl
+      (λ s text. tame_drop s.step_limit (mode_of s) [] s.now text here.0) old new e has.schema h
 
 pub insert_cause : (t : Table) (cells : Row) (old new : State) (e : Error) → IsPlan old
     → ExecutesInside 0 (insert_sql t) cells old new (Err e) → DeviceHasCause old new e
 insert_cause t cells old new e plan h =
     let has = plan.schema in
-    by_statement (plan_and has.more) (insert_sql t) cells (Insert (place t) (Values (insert_terms t) (width t)))
-    (insert_plain has.more t) (insert_is has.more t) refl refl
-    (λ s text. tame_insert s.step_limit (mode_of s) cells s.now text (place t) (insert_terms t) (width t)) old new e has.is h
+    let means = insert_means old.now.schema (has.at t) (has.trees t) t (has.stands t) in
+    by_statement old.now.schema (insert_sql t) cells (Insert (has.at t) (Values (insert_terms t) (width t))) means.plain
+    means.is refl refl (λ s text. tame_insert s.step_limit (mode_of s) cells s.now text (has.at t) (insert_terms t)
+    (width t)) old new e refl h
 
 -- the rows are read
-pub reads : (t : Table) (old new : State) (rows : List Row) → old.now.schema ≡ first_schema
-    → Shown (first_select_sql t) [] old new rows
-    → IsPermutation (map (first_shown t) (tables_of old.now.trees t)) rows
-reads t old new rows has h =
-    let was = old.now.trees (tree t) in
-    let answers = reads_as (first_select_sql t) [] old new first_schema has _ (select_is t).0 (select_plain t)
-    (select_is t).1 rows h in
-    subst (λ l. IsPermutation (map (first_shown t) l) rows) (filter_all (λ _. true) was (all_of _ (λ _. refl) was))
-    (plain_rows (tree t) [] (first_terms t) old.now.trees [] rows (own t old.now.trees) (answers.answer Null))
+pub reads : (t : Table) (old new : State) (rows : List Row) → HasFirstTables old.now.schema → IsLive old
+    → Shown (first_select_sql t) [] old new rows → IsPermutation (map (first_shown t) (tables_of old.now.trees t)) rows
+reads t old new rows has live h =
+    let schema = old.now.schema in
+    let means = selects schema (has.trees t) (has.at t) t (has.stands t) in
+    let sound = (live (stays schema (first_select_sql t) (has.trees t) (first_terms t) (first_names t) means old new rows
+    refl h).0.was_open).0 in
+    let told = tree_is schema (first_table_at (has.trees t) t) (has.at t) (old.now.trees catalog_tree) (has.stands t)
+    sound.lists.listed in
+    let was = old.now.trees (has.trees t) in
+    subst (λ all. IsPermutation (map (first_shown t) all) rows) (sym (ap old.now.trees told))
+    (subst (λ all. IsPermutation (map (first_shown t) all) rows) (filter_all (λ _. true) was (all_of _ (λ _. refl) was))
+    (shows_all schema (first_select_sql t) (has.trees t) (first_terms t) (first_names t) means (has.stands t).stored old
+    new rows refl h))

@@ -1,5 +1,7 @@
 -- The tables of schema 1, whose lists of predecessors have no limits.
-use Rattle.std.specs.Prelude.{ℕ, List, [], ◌∷◌, map, take, codes}
+use Rattle.std.specs.Prelude.{ℕ, ◌==◌, Bool, not, List, [], ◌∷◌, filter, codes}
+use Rattle.std.specs.List.{list_any}
+use Rattle.sqlite.specs.Change.{created}
 use Rattle.sqlite.specs.Order.{Row}
 use Rattle.sqlite.specs.Kind.TheVariants.{Text}
 use Rattle.sqlite.specs.Schema.{Schema}
@@ -7,13 +9,14 @@ use Rattle.sqlite.specs.Table.{Table as Described}
 use Rattle.sqlite.specs.Term.{Term, col, eval_all}
 use Rattle.sqlite_schema.specs.declared.schema.Column.{Column}
 use Rattle.table_schema.specs.Cells.{column_names, select_terms}
-use Rattle.table_schema.specs.Schema.{all_tables, checks, columns, indexes, indexes_before, key, name, needed, orders}
-use Rattle.table_schema.specs.Schema.{place, plain_table, primary, references, tree, uniques}
+use Rattle.sqlite_trees.specs.Tree.{IsAscending}
+use Rattle.table_schema.specs.Free.{IsFree}
+use Rattle.table_schema.specs.Made.{earlier, up_to}
+use Rattle.table_schema.specs.Places.{StandsAt, TreesDiffer}
+use Rattle.table_schema.specs.Schema.{RefersAside, all_tables, checks, columns, key, name, needed, no_schema, orders}
+use Rattle.table_schema.specs.Schema.{plain_table, primary, references, uniques}
 use Rattle.table_schema.specs.declared.tables.Table.{Table}
-use Rattle.table_schema.specs.declared.tables.Table.TheVariants.{Meta, CalendarEntry, Period, Application}
-use Rattle.table_schema.specs.declared.tables.Table.TheVariants.{RunCycle, Offset, Predecessor, LinkInForce}
-use Rattle.table_schema.specs.declared.tables.Table.TheVariants.{LongTerm, Current, History, Deletion}
-use Rattle.table_schema.specs.declared.tables.Table.TheVariants.{Dependency, Job}
+use Rattle.table_schema.specs.declared.tables.Table.TheVariants.{LinkInForce, Offset, Predecessor}
 
 -- the columns: those of the current schema but for the limits of predecessors
 abbrev pub first_columns : Table → List Column
@@ -40,32 +43,43 @@ abbrev pub first_table_at : ℕ → Table → Described
 first_table_at at t = plain_table (name t) at (first_columns t) (key t) (primary t) (uniques t) (orders t) (checks t)
     (references t)
 
-abbrev pub first_table : Table → Described
-first_table t = first_table_at (tree t) t
+-- the tables of schema 1 are made, one after the other, behind those that are there
+abbrev pub with_firsts : Schema → List Table → Schema
+with_firsts schema [] = schema
+with_firsts schema (t ∷ ts) = with_firsts (created schema (first_table_at 0 t)) ts
 
--- the schema before the table is made, and after it
+-- the schema before the table is made in an empty database, and after it
 abbrev pub first_before : Table → Schema
-first_before t = record {
-  tables = take (place t) (map first_table all_tables);
-  indexes = take (indexes_before t) indexes;
-  views = [];
-}
-
-abbrev pub first_schema : Schema
-first_schema = record { tables = map first_table all_tables; indexes = indexes; views = [] }
+first_before t = with_firsts no_schema (earlier t)
 
 abbrev pub first_after : Table → Schema
-first_after Meta = first_before CalendarEntry
-first_after CalendarEntry = first_before Period
-first_after Period = first_before Application
-first_after Application = first_before RunCycle
-first_after RunCycle = first_before Offset
-first_after Offset = first_before Predecessor
-first_after Predecessor = first_before LinkInForce
-first_after LinkInForce = first_before LongTerm
-first_after LongTerm = first_before Current
-first_after Current = first_before History
-first_after History = first_before Deletion
-first_after Deletion = first_before Dependency
-first_after Dependency = first_before Job
-first_after Job = first_schema
+first_after t = with_firsts no_schema (up_to t)
+
+-- the tables of schema 1, and nothing else
+abbrev pub first_schema : Schema
+first_schema = with_firsts no_schema all_tables
+
+-- the tables of schema 1 stand in the schema, each at some place and in some tree, and perhaps others, which refer to
+-- none of these
+pub record HasFirstTables (schema : Schema) : Type 0 where
+  pub at : Table → ℕ
+  pub trees : Table → ℕ
+  pub stands : (t : Table) → StandsAt schema (first_table_at (trees t) t) (at t)
+  pub apart : IsAscending TreesDiffer schema.tables
+  pub refer : RefersAside schema (trees Offset)
+
+-- the tree is that of one of these
+abbrev pub is_among : (Table → ℕ) → List Table → ℕ → Bool
+is_among trees gone n = list_any (λ u. n == trees u) gone
+
+-- these tables are taken away, and their indexes
+abbrev pub without : (Table → ℕ) → List Table → Schema → Schema
+without trees gone schema = record schema {
+  tables = filter (λ d. not (is_among trees gone d.tree)) schema.tables;
+  indexes = filter (λ i. not (is_among trees gone i.table)) schema.indexes;
+}
+
+-- the tables of schema 1 stand there, and once they are taken away, nothing is in the way of those of a plan
+pub record CanRemake (schema : Schema) : Type 0 where
+  pub has : HasFirstTables schema
+  pub free : IsFree (without has.trees all_tables schema)

@@ -3,3 +3,4 @@ pub mod FirstTexts
 pub mod Types
 pub mod Turns
 pub mod Remaking
+pub mod Leaving

@@ -2,20 +2,24 @@
 use Rattle.std.specs.Prelude.{◌≡◌, List, [], ◌∷◌, ◌++◌, map, fold, pos, Result, IfErr, OnOk, IsTrue}
 use Rattle.std.specs.List.{All}
 use Rattle.std.specs.List.Sorted.{IsPermutation}
+use Rattle.sqlite.specs.Change.{KeepsRows}
+use Rattle.sqlite.specs.Effect.{Database}
 use Rattle.sqlite.specs.Order.{Row}
 use Rattle.sqlite.specs.declared.types.Value.TheVariants.{Null, Int}
 use Rattle.sqlite.specs.State.{HasCleanDisk, KeepsCommit, State, Survives}
 use Rattle.sqlite.specs.Store.{Ghosts}
+use Rattle.sqlite.specs.Tree.{Trees}
 use Rattle.sqlite.specs.declared.error.Error.{Error}
 use Rattle.sqlite.specs.declared.transaction.Transaction.{Transaction}
+use Rattle.table_schema.specs.Free.{with_plan}
 use Rattle.table_schema.specs.Rows.{IsPlan, Tables, no_rows, shown, tables_of, with_cells}
 use Rattle.table_schema.specs.Writes.{seen}
 use Rattle.table_schema.specs.Schema.{all_tables}
 use Rattle.table_schema.specs.declared.tables.Table.{Table}
 use Rattle.table_schema.specs.declared.tables.Table.TheVariants.{Meta, Predecessor, LinkInForce}
 use Rattle.table_schema.specs.declared.tables.TheConstants.{SCHEMA_VERSION}
-use Rattle.table_remaking.specs.FirstSchema.{first_schema}
-use Rattle.table_remaking.specs.Turns.{DeviceHasCause, IsInside}
+use Rattle.table_remaking.specs.FirstSchema.{CanRemake, without}
+use Rattle.table_remaking.specs.Turns.{DeviceHasCause}
 use Rattle.table_remaking.specs.Types.{AreFirst}
 use Rattle.table_remaking.specs.declared.rows.FirstRows.{FirstRows}
 
@@ -56,8 +60,26 @@ abbrev pub AreRemade : List FirstRows → Tables → Type 0
 AreRemade reads all = All (λ (read : FirstRows).
     IsPermutation (map (remade_row read.table) read.rows.items) (map (shown read.table) (all read.table))) reads
 
--- in a transaction the database has the tables of a plan, and these show the rows
-pub record IsRemadeInside (s : State) (reads : List FirstRows) : Type 0 where
+-- a transaction begins over a database in which the tables of schema 1 can be remade
+pub record CanRemakeInside (base : Database) (s : State) : Type 0 where
+  pub can : CanRemake base.schema
+  pub is : s.now ≡ base
+  pub mode : IsTrue s.in_transaction
+
+-- the tables of a plan stand in place of those of schema 1, behind the others, which keep their rows
+pub record IsRemadeOf (old new : Database) : Type 0 where
+  pub can : CanRemake old.schema
+  pub schema : new.schema ≡ with_plan (without can.has.trees all_tables old.schema)
+  pub others : KeepsRows (without can.has.trees all_tables old.schema).tables old.trees new.trees
+
+-- the tables beside those of schema 1 keep their rows
+abbrev pub KeepsOthers : Database → Trees → Type 0
+KeepsOthers old db = (can : CanRemake old.schema)
+    × KeepsRows (without can.has.trees all_tables old.schema).tables old.trees db
+
+-- in a transaction the database has the tables of a plan in their place, and these show the rows
+pub record IsRemadeInside (reads : List FirstRows) (base : Database) (s : State) : Type 0 where
+  pub remade : IsRemadeOf base s.now
   pub plan : IsPlan s
   pub rows_are : tables_of s.now.trees ≡ with_all_put reads no_rows
   pub mode : IsTrue s.in_transaction
@@ -74,11 +96,11 @@ pub record PutsWhere {S T : Type 0} (Fit : Type 0) (g : Ghosts S) (old new : Tra
 pub record Remakes {S T : Type 0} (g : Ghosts S) (old new : Transaction S) (result : Result T Error)
     (reads : List FirstRows) : Type 0 where
   pub same_reference : new.conn.ghost_name ≡ old.conn.ghost_name
-  pub ok : HasCleanDisk (seen g new) → IsInside (seen g old) first_schema → AreAllFirst reads
-      → OnOk result (IsRemadeInside (seen g new) reads)
-  pub device : HasCleanDisk (seen g new) → IsInside (seen g old) first_schema → AreAllFirst reads
+  pub ok : HasCleanDisk (seen g new) → (base : Database) → CanRemakeInside base (seen g old) → AreAllFirst reads
+      → OnOk result (IsRemadeInside reads base (seen g new))
+  pub device : HasCleanDisk (seen g new) → (base : Database) → CanRemakeInside base (seen g old) → AreAllFirst reads
       → IfErr result (DeviceHasCause (seen g old) (seen g new))
-  pub stays_open : HasCleanDisk (seen g new) → IsInside (seen g old) first_schema → AreAllFirst reads
+  pub stays_open : HasCleanDisk (seen g new) → (base : Database) → CanRemakeInside base (seen g old) → AreAllFirst reads
       → OnOk result (IsTrue (seen g new).is_open)
   pub kept : HasCleanDisk (seen g new) → KeepsCommit (seen g old) (seen g new)
   pub survives : Survives (seen g old) (seen g new) (λ _. ⊥)

@@ -1,5 +1,7 @@
--- What statements on a transaction make of the schema.
-use Rattle.std.specs.Prelude.{◌≡◌, ◌⊎◌, Bool, true, false, Result, IfErr, OnOk, IsTrue}
+-- What statements on a transaction make of tables of schema 1.
+use Rattle.std.specs.Prelude.{◌≡◌, ◌⊎◌, Bool, true, false, List, Result, IfErr, OnOk, IsTrue}
+use Rattle.sqlite.specs.Change.{KeepsRows}
+use Rattle.sqlite.specs.Effect.{Database}
 use Rattle.sqlite.specs.Schema.{Schema}
 use Rattle.sqlite.specs.State.{HasCleanDisk, KeepsCommit, State, Survives}
 use Rattle.sqlite.specs.Store.{Ghosts}
@@ -9,6 +11,8 @@ use Rattle.sqlite.specs.declared.error.ErrorCode.TheVariants.{Closed, DatabaseCo
 use Rattle.sqlite.specs.declared.transaction.Transaction.{Transaction}
 use Rattle.sqlite_disk.specs.Disk.{MoreFaults}
 use Rattle.table_schema.specs.Writes.{seen}
+use Rattle.table_schema.specs.declared.tables.Table.{Table}
+use Rattle.table_remaking.specs.FirstSchema.{CanRemake, without}
 
 -- the error tells of the device, or that the connection is shut
 abbrev pub is_of_device : Error → Bool
@@ -23,18 +27,27 @@ abbrev pub DeviceHasCause : State → State → Error → Type 0
 DeviceHasCause old new e = IsTrue (is_of_device e) → MoreFaults old.faults new.faults ⊎ (old.is_open ≡ false)
 
 -- in a transaction the database has this schema
-abbrev pub IsInside : State → Schema → Type 0
-IsInside s schema = (s.now.schema ≡ schema) × IsTrue s.in_transaction
+abbrev pub IsInside : Schema → Database → State → Type 0
+IsInside schema base s = (s.now.schema ≡ schema) × IsTrue s.in_transaction
 
--- of a database of one schema an Ok makes one of another; an error tells of the device with cause alone, and nothing is
--- committed
+-- in a transaction over a database in which the tables of schema 1 can be remade these were taken away; the others
+-- stand as they stood, with their rows
+pub record IsLosing (gone : List Table) (base : Database) (s : State) : Type 0 where
+  pub can : CanRemake base.schema
+  pub schema : s.now.schema ≡ without can.has.trees gone base.schema
+  pub others : KeepsRows s.now.schema.tables base.trees s.now.trees
+  pub mode : IsTrue s.in_transaction
+
+-- Whatever it began with, of such a state an Ok makes one of those; an error tells of the device with cause alone, and
+-- nothing is committed.
 pub record Turns {S T : Type 0} (g : Ghosts S) (old new : Transaction S) (result : Result T Error)
-    (before after : Schema) : Type 0 where
+    (Before After : Database → State → Type 0) : Type 0 where
   pub same_reference : new.conn.ghost_name ≡ old.conn.ghost_name
-  pub ok : HasCleanDisk (seen g new) → IsInside (seen g old) before → OnOk result (IsInside (seen g new) after)
-  pub device : HasCleanDisk (seen g new) → IsInside (seen g old) before
+  pub ok : HasCleanDisk (seen g new) → (base : Database) → Before base (seen g old)
+      → OnOk result (After base (seen g new))
+  pub device : HasCleanDisk (seen g new) → (base : Database) → Before base (seen g old)
       → IfErr result (DeviceHasCause (seen g old) (seen g new))
-  pub stays_open : HasCleanDisk (seen g new) → IsInside (seen g old) before
+  pub stays_open : HasCleanDisk (seen g new) → (base : Database) → Before base (seen g old)
       → OnOk result (IsTrue (seen g new).is_open)
   pub kept : HasCleanDisk (seen g new) → KeepsCommit (seen g old) (seen g new)
   pub survives : Survives (seen g old) (seen g new) (λ _. ⊥)

@@ -1,32 +1,34 @@
 // The tables of schema 1 are taken away, the last one first.
 
-ghost use Rattle.table_schema.specs.Schema.{no_schema};
+ghost use Rattle.std.specs.Prelude.{[], ◌∷◌};
+ghost use Rattle.table_schema.specs.Made.{later};
+ghost use Rattle.table_schema.specs.Schema.{all_tables};
 ghost use Rattle.table_schema.specs.declared.tables.Table.TheVariants as table;
-ghost use Rattle.table_remaking.specs.FirstSchema.{first_after, first_before, first_schema};
-ghost use Rattle.table_remaking.specs.Turns.{Turns};
+ghost use Rattle.table_remaking.specs.Turns.{IsLosing, Turns};
 
 use crate::texts::drop_text;
 use sqlite::{Alter, Error, Transaction};
 use table_schema::Table;
 
-// Takes the table away, which is the last.
+// Takes the table away, which is the last that is left.
 fn drop_last<S: Alter>(tx: &mut Transaction<'_, S>, table: Table) -> Result<(), Error>
-    ensures { Turns S.Store tx.old tx.new result (first_after table) (first_before table) }
+    ensures { Turns S.Store tx.old tx.new result (IsLosing (later table))
+        (IsLosing (table ∷ later table)) }
 {
     tx.execute(drop_text(table), &[])?;
     Ok(())
 }
 
 fn drop_rest<S: Alter>(tx: &mut Transaction<'_, S>) -> Result<(), Error>
-    ensures { Turns S.Store tx.old tx.new result first_schema (first_before table.Dependency) }
+    ensures { Turns S.Store tx.old tx.new result (IsLosing []) (IsLosing (later table.Deletion)) }
 {
     drop_last(tx, Table::Job)?;
     drop_last(tx, Table::Dependency)
 }
 
 fn drop_rows<S: Alter>(tx: &mut Transaction<'_, S>) -> Result<(), Error>
-    ensures { Turns S.Store tx.old tx.new result (first_after table.Deletion)
-        (first_before table.LongTerm) }
+    ensures { Turns S.Store tx.old tx.new result (IsLosing (later table.Deletion))
+        (IsLosing (later table.LinkInForce)) }
 {
     drop_last(tx, Table::Deletion)?;
     drop_last(tx, Table::History)?;
@@ -35,8 +37,8 @@ fn drop_rows<S: Alter>(tx: &mut Transaction<'_, S>) -> Result<(), Error>
 }
 
 fn drop_cycles<S: Alter>(tx: &mut Transaction<'_, S>) -> Result<(), Error>
-    ensures { Turns S.Store tx.old tx.new result (first_after table.LinkInForce)
-        (first_before table.RunCycle) }
+    ensures { Turns S.Store tx.old tx.new result (IsLosing (later table.LinkInForce))
+        (IsLosing (later table.Application)) }
 {
     drop_last(tx, Table::LinkInForce)?;
     drop_last(tx, Table::Predecessor)?;
@@ -45,7 +47,8 @@ fn drop_cycles<S: Alter>(tx: &mut Transaction<'_, S>) -> Result<(), Error>
 }
 
 fn drop_definitions<S: Alter>(tx: &mut Transaction<'_, S>) -> Result<(), Error>
-    ensures { Turns S.Store tx.old tx.new result (first_after table.Application) no_schema }
+    ensures { Turns S.Store tx.old tx.new result (IsLosing (later table.Application))
+        (IsLosing all_tables) }
 {
     drop_last(tx, Table::Application)?;
     drop_last(tx, Table::Period)?;
@@ -55,7 +58,7 @@ fn drop_definitions<S: Alter>(tx: &mut Transaction<'_, S>) -> Result<(), Error>
 
 /// Takes all tables of schema 1 away.
 pub(crate) fn drop_all<S: Alter>(tx: &mut Transaction<'_, S>) -> Result<(), Error>
-    ensures { Turns S.Store tx.old tx.new result first_schema no_schema }
+    ensures { Turns S.Store tx.old tx.new result (IsLosing []) (IsLosing all_tables) }
 {
     drop_rest(tx)?;
     drop_rows(tx)?;

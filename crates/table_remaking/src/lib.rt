@@ -2,6 +2,7 @@
 #![tactic(auto)]
 
 mod dropping;
+mod leaving;
 mod making;
 mod putting;
 mod remaking;
@@ -9,6 +10,7 @@ mod rows;
 mod texts;
 mod types;
 
+pub use leaving::left_without;
 pub use making::make_first_tables;
 pub use remaking::remake_tables;
 pub use rows::FirstRows;

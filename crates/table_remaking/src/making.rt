@@ -6,7 +6,7 @@ ghost use Rattle.sqlite.specs.Held.{state};
 ghost use Rattle.table_schema.specs.Schema.{no_schema};
 ghost use Rattle.table_schema.specs.declared.tables.Table.TheVariants as table;
 ghost use Rattle.table_remaking.specs.FirstSchema.{first_after, first_before, first_schema};
-ghost use Rattle.table_remaking.specs.Turns.{Turns};
+ghost use Rattle.table_remaking.specs.Turns.{IsInside, Turns};
 
 use crate::texts::first_create_text;
 use sqlite::{Alter, Connection, Error, Transaction};
@@ -14,14 +14,16 @@ use table_schema::Table;
 
 // Makes the table, which is the next.
 fn make<S: Alter>(tx: &mut Transaction<'_, S>, table: Table) -> Result<(), Error>
-    ensures { Turns S.Store tx.old tx.new result (first_before table) (first_after table) }
+    ensures { Turns S.Store tx.old tx.new result (IsInside (first_before table))
+        (IsInside (first_after table)) }
 {
     tx.execute(first_create_text(table), &[])?;
     Ok(())
 }
 
 fn make_definitions<S: Alter>(tx: &mut Transaction<'_, S>) -> Result<(), Error>
-    ensures { Turns S.Store tx.old tx.new result no_schema (first_after table.Application) }
+    ensures { Turns S.Store tx.old tx.new result (IsInside no_schema)
+        (IsInside (first_after table.Application)) }
 {
     make(tx, Table::Meta)?;
     make(tx, Table::CalendarEntry)?;
@@ -30,8 +32,8 @@ fn make_definitions<S: Alter>(tx: &mut Transaction<'_, S>) -> Result<(), Error>
 }
 
 fn make_cycles<S: Alter>(tx: &mut Transaction<'_, S>) -> Result<(), Error>
-    ensures { Turns S.Store tx.old tx.new result (first_before table.RunCycle)
-        (first_after table.LinkInForce) }
+    ensures { Turns S.Store tx.old tx.new result (IsInside (first_before table.RunCycle))
+        (IsInside (first_after table.LinkInForce)) }
 {
     make(tx, Table::RunCycle)?;
     make(tx, Table::Offset)?;
@@ -40,8 +42,8 @@ fn make_cycles<S: Alter>(tx: &mut Transaction<'_, S>) -> Result<(), Error>
 }
 
 fn make_rows<S: Alter>(tx: &mut Transaction<'_, S>) -> Result<(), Error>
-    ensures { Turns S.Store tx.old tx.new result (first_before table.LongTerm)
-        (first_after table.Deletion) }
+    ensures { Turns S.Store tx.old tx.new result (IsInside (first_before table.LongTerm))
+        (IsInside (first_after table.Deletion)) }
 {
     make(tx, Table::LongTerm)?;
     make(tx, Table::Current)?;
@@ -50,14 +52,15 @@ fn make_rows<S: Alter>(tx: &mut Transaction<'_, S>) -> Result<(), Error>
 }
 
 fn make_rest<S: Alter>(tx: &mut Transaction<'_, S>) -> Result<(), Error>
-    ensures { Turns S.Store tx.old tx.new result (first_before table.Dependency) first_schema }
+    ensures { Turns S.Store tx.old tx.new result (IsInside (first_before table.Dependency))
+        (IsInside first_schema) }
 {
     make(tx, Table::Dependency)?;
     make(tx, Table::Job)
 }
 
 fn make_all<S: Alter>(tx: &mut Transaction<'_, S>) -> Result<(), Error>
-    ensures { Turns S.Store tx.old tx.new result no_schema first_schema }
+    ensures { Turns S.Store tx.old tx.new result (IsInside no_schema) (IsInside first_schema) }
 {
     make_definitions(tx)?;
     make_cycles(tx)?;

@@ -4,8 +4,8 @@ ghost use Rattle.std.specs.Prelude.{◌≡◌, false, IfErr, IsTrue, OnErr, OnOk
 ghost use Rattle.sqlite.specs.State.{HasCleanDisk, Survives};
 ghost use Rattle.sqlite.specs.Held.{state};
 ghost use Rattle.table_schema.specs.Rows.{IsPlan, tables_of};
-ghost use Rattle.table_remaking.specs.FirstSchema.{first_schema};
-ghost use Rattle.table_remaking.specs.Remaking.{AreAllFirst, AreRemade, AreWhole};
+ghost use Rattle.table_remaking.specs.FirstSchema.{CanRemake};
+ghost use Rattle.table_remaking.specs.Remaking.{AreAllFirst, AreRemade, AreWhole, IsRemadeOf, KeepsOthers};
 ghost use Rattle.table_remaking.specs.Remaking.{Remakes};
 ghost use Rattle.table_remaking.specs.Turns.{DeviceHasCause};
 
@@ -40,25 +40,26 @@ pub fn remake_tables<S: Alter>(
     requires whole { AreWhole reads.now }
     requires typed { AreAllFirst reads.now }
     ensures done { HasCleanDisk (state S.Store conn.new)
-        → (state S.Store conn.old).now.schema ≡ first_schema
+        → CanRemake (state S.Store conn.old).now.schema
         → OnOk result (IsPlan (state S.Store conn.new)
+        × IsRemadeOf (state S.Store conn.old).now (state S.Store conn.new).now
         × AreRemade reads.now (tables_of (state S.Store conn.new).now.trees)) }
     ensures committed { HasCleanDisk (state S.Store conn.new)
         → OnOk result ((state S.Store conn.new).committed ≡ (state S.Store conn.new).now) }
     ensures kept { HasCleanDisk (state S.Store conn.new)
-        → (state S.Store conn.old).now.schema ≡ first_schema
+        → CanRemake (state S.Store conn.old).now.schema
         → IsTrue (state S.Store conn.new).is_open → OnErr result
         (((state S.Store conn.new).now ≡ (state S.Store conn.old).now)
         × ((state S.Store conn.new).committed ≡ (state S.Store conn.old).committed)) }
     ensures device { HasCleanDisk (state S.Store conn.new)
-        → (state S.Store conn.old).now.schema ≡ first_schema
+        → CanRemake (state S.Store conn.old).now.schema
         → IfErr result (DeviceHasCause (state S.Store conn.old) (state S.Store conn.new)) }
     ensures ended { conn.new.in_transaction ≡ false }
     ensures stays_open { HasCleanDisk (state S.Store conn.new) → OnOk result (IsTrue
         (state S.Store conn.new).is_open) }
     ensures crash { Survives (state S.Store conn.old) (state S.Store conn.new)
-        (λ db. (state S.Store conn.old).now.schema ≡ first_schema
-        → AreRemade reads.now (tables_of db)) }
+        (λ db. CanRemake (state S.Store conn.old).now.schema → AreRemade reads.now (tables_of db)
+        × KeepsOthers (state S.Store conn.old).now db) }
 {
     let settled = conn.is_autocommit();
     prove!(settled);

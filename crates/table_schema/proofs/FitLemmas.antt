@@ -1,57 +1,23 @@
--- The values of rows and keys fit the texts of their statements, and the references those of the schema.
-use Rattle.std.proofs.Common.{◌≡◌, ◌∙◌, ℕ, zero, suc, ℤ, Bool, true, false, not, T, cond, is_nan, List, [], ◌∷◌, length, drop}
-use Rattle.std.proofs.Common.{Some, None, is_some, refl, sym, ap, subst}
+-- The values of a row fit the text of INSERT.
+use Rattle.std.proofs.Common.{◌≡◌, zero, suc, Bool, true, false, not, T, cond, is_nan, List, [], ◌∷◌, drop}
+use Rattle.std.proofs.Common.{Some, None, is_some, refl}
 use Rattle.std.specs.List.{AllByRecursion, list_all}
 use Rattle.std.specs.Float.{NotNan}
-use Rattle.std.proofs.lemmas.Bool.{and_from, or_left}
-use Rattle.std.proofs.lemmas.List.Elements.{recursion_from_All}
-use Rattle.sqlite.specs.Listing.{understood}
+use Rattle.std.proofs.lemmas.Bool.{and_from}
 use Rattle.sqlite.specs.Order.{Row}
-use Rattle.sqlite.specs.Table.{Table as Described}
 use Rattle.sqlite.specs.Term.{Term, lit, col, op1, op2, case, eval_all}
 use Rattle.sqlite.specs.declared.types.Value.{Value}
 use Rattle.sqlite.specs.declared.types.Value.TheVariants.{Null, Int, Real, Text, Blob}
-use Rattle.sqlite_rules.proofs.ListLemmas.{all_has, test_from}
-use Rattle.sqlite_schema.specs.Names.{same_name}
-use Rattle.sqlite_schema.specs.Rules.{is_key_if_to, is_key_of, parent_key}
 use Rattle.sqlite_sql.specs.Ops.{is_null}
-use Rattle.sqlite_tied.specs.Compute.{everything}
-use Rattle.sqlite_typing.specs.Types.{accepts_program, class_of, term_class}
+use Rattle.sqlite_typing.specs.Types.{class_of, term_class}
 use Rattle.sqlite_typing.specs.Types as types
-use Rattle.sqlite_value.specs.Keys.{joined, plain}
 use Rattle.sqlite_value.specs.Order.{column, number}
-use Rattle.table_schema.specs.Cells.{column_names, delete_tests, insert_terms}
-use Rattle.table_schema.specs.Schema.{Further, IsApart, IsAside, plan_and, plan_schema, references, table, to_run_cycle, tree}
-use Rattle.table_schema.specs.Takes.{IsKeyOf, IsName, IsNumber}
-use Rattle.table_schema.specs.Texts.{delete_sql, insert_sql}
+use Rattle.table_schema.specs.Cells.{insert_terms}
 use Rattle.table_schema.specs.declared.tables.Table.{Table}
 use Rattle.table_schema.specs.declared.tables.Table.TheVariants.{Meta, CalendarEntry, Period, Application}
 use Rattle.table_schema.specs.declared.tables.Table.TheVariants.{RunCycle, Offset, Predecessor, LinkInForce}
 use Rattle.table_schema.specs.declared.tables.Table.TheVariants.{LongTerm, Current, History, Deletion}
 use Rattle.table_schema.specs.declared.tables.Table.TheVariants.{Dependency, Job}
-use Rattle.table_schema.proofs.FurtherLemmas.{each, nothing}
-use Rattle.table_schema.proofs.Meanings.{IsWhole}
-use Rattle.table_schema.proofs.Steps.{plain_query}
-
--- ---- the text is one statement to its end, with a parameter for each column
-
-pub insert_fits : (more : Further) (t : Table) → IsWhole (understood (plan_and more) (insert_sql t))
-    (length (insert_sql t)) (length (column_names t))
-unfolding understood everything
-insert_fits more Meta = (refl, refl)
-insert_fits more CalendarEntry = (refl, refl)
-insert_fits more Period = (refl, refl)
-insert_fits more Application = (refl, refl)
-insert_fits more RunCycle = (refl, refl)
-insert_fits more Offset = (refl, refl)
-insert_fits more Predecessor = (refl, refl)
-insert_fits more LinkInForce = (refl, refl)
-insert_fits more LongTerm = (refl, refl)
-insert_fits more Current = (refl, refl)
-insert_fits more History = (refl, refl)
-insert_fits more Deletion = (refl, refl)
-insert_fits more Dependency = (refl, refl)
-insert_fits more Job = (refl, refl)
 
 -- no value of a row is a NaN, so each can be bound
 
@@ -122,97 +88,6 @@ as_given id (v ∷ vs) all = go (is_null v) refl all
         → AllByRecursion IsBindable (v ∷ vs)
     go true null all = (null_is_bindable v null, all.1)
     go false null all = all
-
--- ---- a key
-
-by_number : (P : Row → Type 0) → ((n : ℤ) → P (Int n ∷ [])) → (key : Row) → IsNumber key → P key
-by_number P f key it = subst P (sym it.1) (f it.0)
-
-by_name : (P : Row → Type 0) → ((n : List ℕ) → P (Text n ∷ [])) → (key : Row) → IsName key → P key
-by_name P f key it = subst P (sym it.1) (f it.0)
-
-by_names : (P : Row → Type 0) → ((m n : List ℕ) → P (Text m ∷ Text n ∷ [])) → (key : Row) → IsKeyOf LinkInForce key
-    → P key
-by_names P f key it = subst P (sym it.2) (f it.0 it.1)
-
-by_pair : (P : Row → Type 0) → ((m n : ℤ) → P (Int m ∷ Int n ∷ [])) → (key : Row) → IsKeyOf Dependency key → P key
-by_pair P f key it = subst P (sym it.2) (f it.0 it.1)
-
--- the text is one statement to its end, the key has a value for each parameter, and the types fit
-abbrev pub KeyFits : Further → Table → Row → Type 0
-KeyFits more t key = IsWhole (understood (plan_and more) (delete_sql t)) (length (delete_sql t)) (length key)
-    × (accepts_program (plan_and more) [] (plain_query (tree t) (delete_tests t) (col 1 0 ∷ [])) key ≡ true)
-
-pub key_fits : (more : Further) (t : Table) (key : Row) → IsKeyOf t key → KeyFits more t key
-unfolding understood everything
-key_fits more Meta = by_number (KeyFits more Meta) (λ n. ((refl, refl), refl))
-key_fits more CalendarEntry = by_name (KeyFits more CalendarEntry) (λ n. ((refl, refl), refl))
-key_fits more Period = by_name (KeyFits more Period) (λ n. ((refl, refl), refl))
-key_fits more Application = by_name (KeyFits more Application) (λ n. ((refl, refl), refl))
-key_fits more RunCycle = by_name (KeyFits more RunCycle) (λ n. ((refl, refl), refl))
-key_fits more Offset = by_name (KeyFits more Offset) (λ n. ((refl, refl), refl))
-key_fits more Predecessor = by_name (KeyFits more Predecessor) (λ n. ((refl, refl), refl))
-key_fits more LinkInForce = by_names (KeyFits more LinkInForce) (λ m n. ((refl, refl), refl))
-key_fits more LongTerm = by_number (KeyFits more LongTerm) (λ n. ((refl, refl), refl))
-key_fits more Current = by_number (KeyFits more Current) (λ n. ((refl, refl), refl))
-key_fits more History = by_number (KeyFits more History) (λ n. ((refl, refl), refl))
-key_fits more Deletion = by_number (KeyFits more Deletion) (λ n. ((refl, refl), refl))
-key_fits more Dependency = by_pair (KeyFits more Dependency) (λ m n. ((refl, refl), refl))
-key_fits more Job = by_number (KeyFits more Job) (λ n. ((refl, refl), refl))
-
--- ---- references
-
-pub parent_is : (more : Further) → parent_key (plan_and more).tables to_run_cycle ≡ Some (tree RunCycle, 1 ∷ 2 ∷ [], plain)
-unfolding same_name joined
-parent_is more = refl
-
--- a row may be put into the table, since what it refers to has a key
-pub adds_fit : (more : Further) (t : Table) → list_all (is_key_of (plan_and more)) (references t) ≡ true
-unfolding same_name joined
-adds_fit more Meta = refl
-adds_fit more CalendarEntry = refl
-adds_fit more Period = refl
-adds_fit more Application = refl
-adds_fit more RunCycle = refl
-adds_fit more Offset = refl
-adds_fit more Predecessor = refl
-adds_fit more LinkInForce = refl
-adds_fit more LongTerm = refl
-adds_fit more Current = refl
-adds_fit more History = refl
-adds_fit more Deletion = refl
-adds_fit more Dependency = refl
-adds_fit more Job = refl
-
-abbrev are_keys : Further → Table → List Described → Bool
-are_keys more t = list_all (λ (d : Described). list_all (is_key_if_to (plan_and more) (table t)) d.references)
-
--- and rows may be taken out of it
-own_keys : (more : Further) (t : Table) → are_keys more t (plan_and more).tables ≡ are_keys more t more.tables
-unfolding same_name joined
-own_keys more Meta = refl
-own_keys more CalendarEntry = refl
-own_keys more Period = refl
-own_keys more Application = refl
-own_keys more RunCycle = refl
-own_keys more Offset = refl
-own_keys more Predecessor = refl
-own_keys more LinkInForce = refl
-own_keys more LongTerm = refl
-own_keys more Current = refl
-own_keys more History = refl
-own_keys more Deletion = refl
-own_keys more Dependency = refl
-own_keys more Job = refl
-
-pub removes_fit : (more : Further) → AllByRecursion (IsApart plan_schema.tables) more.tables → (t : Table)
-    → are_keys more t (plan_and more).tables ≡ true
-removes_fit more apart t = own_keys more t ∙ test_from (λ (d : Described). list_all (is_key_if_to (plan_and more)
-    (table t)) d.references) more.tables (λ d has. test_from (is_key_if_to (plan_and more) (table t)) d.references
-    (λ ref known. or_left _ _ (ap not (each nothing (λ u. same_name u.name ref.parent ≡ false) (recursion_from_All (λ u.
-    same_name u.name ref.parent ≡ false) plan_schema.tables (all_has (IsAside plan_schema.tables) d.references ref
-    (recursion_from_All (IsAside plan_schema.tables) d.references (all_has (IsApart plan_schema.tables) more.tables d
-    apart has).1) known)) t))))
 
 -- the values of a row that can be stored can be bound
 pub values_fit : (t : Table) (cells : Row) (id : Value) → AllByRecursion (λ v. NotNan (number v))

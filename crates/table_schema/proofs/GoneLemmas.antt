@@ -4,7 +4,6 @@ use Rattle.std.proofs.Common.{map, filter, Option, Some, None, IsSome, IsTrue, O
 use Rattle.std.specs.List.{AllByRecursion}
 use Rattle.std.specs.List.Sorted.{IsPermutation}
 use Rattle.std.proofs.lemmas.Bool.{both_ways, cases_eq, false_from_ne_true, not_from_false, or_cases, or_left, or_right}
-use Rattle.std.proofs.lemmas.List.Elements.{recursion_from_All}
 use Rattle.sqlite.specs.Command.{Command}
 use Rattle.sqlite.specs.Command.TheVariants.{Delete}
 use Rattle.sqlite.specs.Does.{Does, OnRows}
@@ -17,7 +16,7 @@ use Rattle.sqlite_schema.specs.declared.program.Program.{Program}
 use Rattle.sqlite.specs.Rowids.TheVariants.{Given}
 use Rattle.sqlite.specs.Rows.{Deletes, Task, Written}
 use Rattle.sqlite.specs.Schema.{Schema}
-use Rattle.sqlite.specs.State.{State, ExecutesInside, mode_of}
+use Rattle.sqlite.specs.State.{State, ExecutesInside}
 use Rattle.sqlite.specs.Table.{Table as Described}
 use Rattle.sqlite.specs.Term.{col}
 use Rattle.sqlite.specs.Tree.{Trees, rowid}
@@ -26,12 +25,11 @@ use Rattle.sqlite.specs.declared.error.Error.TheVariants.{SqliteFailure}
 use Rattle.sqlite.specs.declared.error.ErrorCode.TheVariants.{OperationInterrupted}
 use Rattle.sqlite.specs.declared.run.Mode.{Mode}
 use Rattle.sqlite.specs.declared.types.Value.TheVariants.{Null}
-use Rattle.sqlite.proofs.Callers.{runs_as, statement_of}
-use Rattle.sqlite_catalog.specs.Listing.{IsSound}
+use Rattle.sqlite.proofs.Callers.{statement_of}
 use Rattle.sqlite_rules.proofs.KeyLemmas.{agree_back}
 use Rattle.sqlite_rules.proofs.ListLemmas.{all_has, has_filtered, has_kept, some_from, some_has}
 use Rattle.sqlite_rules.proofs.RuleLemmas.{refers_at}
-use Rattle.sqlite_rules.specs.Action.{Leads, Settles, Writes, works}
+use Rattle.sqlite_rules.specs.Action.{Settles, Writes, works}
 use Rattle.sqlite_rules.specs.Calls.{ids_of}
 use Rattle.sqlite_rules.specs.Edit.{IsRefused, edited, taken_by}
 use Rattle.sqlite_rules.specs.Lists.{Has}
@@ -43,111 +41,109 @@ use Rattle.sqlite_schema.specs.declared.schema.Among.TheVariants.{All as Whole}
 use Rattle.sqlite_schema.specs.declared.schema.Constraint.TheVariants.{Datatype, NotNull, Check, PrimaryKey, Unique, ForeignKey}
 use Rattle.sqlite_schema.specs.declared.schema.Keys.TheVariants.{Enforced}
 use Rattle.sqlite_trees.specs.Tree.{with_tree}
-use Rattle.sqlite_value.specs.Keys.{joined, plain}
+use Rattle.sqlite_value.specs.Keys.{plain}
 use Rattle.table_schema.specs.Cells.{delete_tests}
 use Rattle.table_schema.specs.Rows.{HaveRowids, IsAlone, MayFail, Tables, matches, tables_of, without_key}
-use Rattle.table_schema.specs.Schema.{Further, IsApart, plan_and, plan_schema, place, table, to_run_cycle, tree}
 use Rattle.table_schema.specs.Takes.{IsKeyOf, IsSoundPlan, LosesKey}
 use Rattle.table_schema.specs.Texts.{delete_sql}
 use Rattle.table_schema.specs.declared.tables.Table.{Table}
-use Rattle.table_schema.specs.declared.tables.Table.TheVariants.{Meta, CalendarEntry, Period, Application}
-use Rattle.table_schema.specs.declared.tables.Table.TheVariants.{RunCycle, Offset, Predecessor, LinkInForce}
-use Rattle.table_schema.specs.declared.tables.Table.TheVariants.{LongTerm, Current, History, Deletion}
-use Rattle.table_schema.specs.declared.tables.Table.TheVariants.{Dependency, Job}
-use Rattle.table_schema.proofs.BlankLemmas.{same_error, some_same}
-use Rattle.table_schema.proofs.CycleLemmas.{child_matches, cycles_unrefused, name_order, nothing_more}
-use Rattle.table_schema.proofs.FitLemmas.{key_fits, parent_is, removes_fit}
-use Rattle.table_schema.proofs.FurtherLemmas.{sets_off_none}
-use Rattle.table_schema.proofs.Meanings.{delete_is, delete_plain}
-use Rattle.table_schema.proofs.RefusalLemmas.{IsOrdinary, in_vain, stopped}
+use Rattle.std.specs.List.{list_all}
+use Rattle.sqlite_rules.proofs.ListLemmas.{test_from}
+use Rattle.std.proofs.Common.{length}
+use Rattle.sqlite_schema.specs.Rules.{is_key_if_to, is_key_of}
+use Rattle.sqlite_rules.specs.Edit.{row_at}
+use Rattle.table_schema.specs.Schema.{HasTables, name, table_at, to_run_cycle}
+use Rattle.table_schema.specs.declared.tables.Table.TheVariants.{Meta, CalendarEntry, Period, Application, RunCycle}
+use Rattle.table_schema.specs.declared.tables.Table.TheVariants.{Offset, Predecessor, LinkInForce, LongTerm, Current}
+use Rattle.table_schema.specs.declared.tables.Table.TheVariants.{History, Deletion, Dependency, Job}
+use Rattle.table_schema.proofs.CycleLemmas.{child_matches}
+use Rattle.table_schema.proofs.MeaningLemmas.{IsWhole}
+use Rattle.table_schema.proofs.StopLemmas.{IsOrdinary, in_vain, same_error, some_same, stopped}
 use Rattle.table_schema.proofs.RowLemmas.{left_after}
-use Rattle.table_schema.proofs.StepLemmas.{deleted, deleted_beside, found, own, settles}
 use Rattle.table_schema.proofs.Steps.{plain_query, plain_rows, same_value}
-use Rattle.table_schema.proofs.TakeLemmas.{at_other, at_own, still_sound}
-use Rattle.table_schema.proofs.TurnLemmas.{is_listed, refers_still, unique_still}
-
-in_plain_order : name_order ≡ plain
-unfolding joined
-in_plain_order = refl
+use Rattle.table_schema.proofs.WrittenKeys.{key_width}
+use Rattle.table_schema.proofs.DeleteTexts.{key_accepted}
+use Rattle.table_schema.proofs.EffectLemmas.{none_referred, own}
+use Rattle.table_schema.proofs.NamedLemmas.{rows_are}
+use Rattle.table_schema.proofs.StatementLemmas.{deleted, gone_soundly, trees_tell}
+use Rattle.table_schema.proofs.PlanLemmas.{each_reference, offsets_apart, offsets_refer, unreferred}
+use Rattle.table_schema.proofs.RunCycleLemmas.{IsChildless, childless, ends, found_pass, key_is, one_step_by}
+use Rattle.table_schema.proofs.StillLemmas.{is_listed, refers_still, unique_still}
+use Rattle.table_schema.proofs.TakeLemmas.{at_other, at_own, cycles_keyed, in_plain_order, still_sound}
+use Rattle.table_schema.proofs.TextMeanings.{delete_means}
 
 -- a run cycle that has offsets is not one of the key
-stays_alone : (t : Table) (key : Row) (all : Tables) → IsAlone t key all → tree RunCycle ≡ tree t → (p r : Row)
-    → Has (all Offset) r → agree plain (1 ∷ 2 ∷ []) p (1 ∷ 2 ∷ []) r ≡ true → matches t key p ≡ false
-stays_alone Meta key all alone same p r has agrees = absurd (let e = same in cc)
-stays_alone CalendarEntry key all alone same p r has agrees = absurd (let e = same in cc)
-stays_alone Period key all alone same p r has agrees = absurd (let e = same in cc)
-stays_alone Application key all alone same p r has agrees = absurd (let e = same in cc)
-stays_alone RunCycle key all alone same p r has agrees = false_from_ne_true _ (λ is. both_ways _ (all_has (λ r. matches
+stays_for : (key : Row) (all : Tables) → IsAlone RunCycle key all → (p r : Row)
+    → Has (all Offset) r → agree plain (1 ∷ 2 ∷ []) p (1 ∷ 2 ∷ []) r ≡ true → matches RunCycle key p ≡ false
+stays_for key all alone p r has agrees = false_from_ne_true _ (λ is. both_ways _ (all_has (λ r. matches
     Offset key r ≡ false) (all Offset) r alone has) (child_matches key r p is (subst (λ o. agree o (1 ∷ 2 ∷ []) r
     (1 ∷ 2 ∷ []) p ≡ true) (sym in_plain_order) (agree_back plain (1 ∷ 2 ∷ []) (1 ∷ 2 ∷ []) p r agrees))))
-stays_alone Offset key all alone same p r has agrees = absurd (let e = same in cc)
-stays_alone Predecessor key all alone same p r has agrees = absurd (let e = same in cc)
-stays_alone LinkInForce key all alone same p r has agrees = absurd (let e = same in cc)
-stays_alone LongTerm key all alone same p r has agrees = absurd (let e = same in cc)
-stays_alone Current key all alone same p r has agrees = absurd (let e = same in cc)
-stays_alone History key all alone same p r has agrees = absurd (let e = same in cc)
-stays_alone Deletion key all alone same p r has agrees = absurd (let e = same in cc)
-stays_alone Dependency key all alone same p r has agrees = absurd (let e = same in cc)
-stays_alone Job key all alone same p r has agrees = absurd (let e = same in cc)
 
-module _ (more : Further) (apart : AllByRecursion (IsApart plan_schema.tables) more.tables) where
+module _ (schema : Schema) (it : HasTables schema) where
+  stays_alone : (t : Table) (key : Row) (all : Tables) → IsAlone t key all → it.trees RunCycle ≡ it.trees t → (p r : Row)
+      → Has (all Offset) r → agree plain (1 ∷ 2 ∷ []) p (1 ∷ 2 ∷ []) r ≡ true → matches t key p ≡ false
+  stays_alone t key all alone same p r has agrees = subst (λ t. IsAlone t key all → matches t key p ≡ false) (trees_tell schema it RunCycle t same)
+      (λ alone. stays_for key all alone p r has agrees) alone
+
+  parent_is : parent_key schema.tables to_run_cycle ≡ Some (it.trees RunCycle, 1 ∷ 2 ∷ [], plain)
+  parent_is = key_is schema (it.at RunCycle) (it.trees RunCycle) (it.trees Offset) (it.stands RunCycle) (is_listed schema it RunCycle) it.apart (offsets_refer schema it)
+      ∙ ap (λ o. Some (it.trees RunCycle, 1 ∷ 2 ∷ [], o)) in_plain_order
+
+  -- rows may be taken out, since each reference to the table is to a key of it
+  removes_fit : is_key_of schema to_run_cycle ≡ true → (t : Table) → list_all (λ (d : Described). list_all (is_key_if_to schema (table_at (it.trees t) t)) d.references) schema.tables ≡ true
+  removes_fit keyed t =
+      let each = each_reference schema it (λ d ref. is_key_if_to schema (table_at (it.trees t) t) ref ≡ true) (λ d ref aside. or_left _ _ (ap not (aside t))) (or_right _ _ keyed) in
+      test_from _ schema.tables (λ d has. test_from _ d.references (λ ref known. all_has _ d.references ref (all_has _ schema.tables d each has) known))
+
+  unreferred_childless : (t : Table) → same_name (name t) (name RunCycle) ≡ false → (mid : Trees) (olds : List Row) → AllByRecursion (IsChildless mid) (works schema Enforced 0 (it.trees t) olds [])
+  unreferred_childless t other mid olds = subst (AllByRecursion (IsChildless mid)) (sym (none_referred schema (table_at (it.trees t) t) (is_listed schema it t) it.apart (unreferred schema it t other) Enforced 0 olds [])) tt
+
+  -- what is set off finds no child
+  finds_none : (t : Table) (key : Row) (db mid : Trees) (rows : List Row) → HaveRowids (db (it.trees t)) → IsAlone t key (λ u. db (it.trees u))
+      → IsPermutation (map (λ r. rowid r ∷ []) (filter (matches t key) (db (it.trees t)))) rows
+      → Applies schema Enforced db (edit_of db (table_at (it.trees t) t) (ids_of rows) Given 0 []) mid
+      → AllByRecursion (IsChildless mid) (works schema Enforced 0 (it.trees t) (taken_by db (edit_of db (table_at (it.trees t) t) (ids_of rows) Given 0 [])) [])
+  unfolding same_name
+  finds_none Meta key db mid rows rowids alone same applies = unreferred_childless Meta refl mid _
+  finds_none CalendarEntry key db mid rows rowids alone same applies = unreferred_childless CalendarEntry refl mid _
+  finds_none Period key db mid rows rowids alone same applies = unreferred_childless Period refl mid _
+  finds_none Application key db mid rows rowids alone same applies = unreferred_childless Application refl mid _
+  finds_none RunCycle key db mid rows rowids alone same applies =
+      childless schema (it.at RunCycle) (it.trees RunCycle) (it.trees Offset) (it.stands RunCycle) (is_listed schema it RunCycle) it.apart (offsets_refer schema it) key (map (row_at (db (it.trees RunCycle))) (ids_of rows)) mid
+      (found_pass (matches RunCycle key) (db (it.trees RunCycle)) rows rowids same)
+      (λ r there. all_has _ (db (it.trees Offset)) r alone (subst (λ rows. Has rows r) (all_has (λ (d : Described). d.tree ≢ it.trees RunCycle → mid d.tree ≡ db d.tree) schema.tables (table_at (it.trees Offset) Offset) applies.tables
+      (is_listed schema it Offset) (offsets_apart schema it)) there))
+  finds_none Offset key db mid rows rowids alone same applies = unreferred_childless Offset refl mid _
+  finds_none Predecessor key db mid rows rowids alone same applies = unreferred_childless Predecessor refl mid _
+  finds_none LinkInForce key db mid rows rowids alone same applies = unreferred_childless LinkInForce refl mid _
+  finds_none LongTerm key db mid rows rowids alone same applies = unreferred_childless LongTerm refl mid _
+  finds_none Current key db mid rows rowids alone same applies = unreferred_childless Current refl mid _
+  finds_none History key db mid rows rowids alone same applies = unreferred_childless History refl mid _
+  finds_none Deletion key db mid rows rowids alone same applies = unreferred_childless Deletion refl mid _
+  finds_none Dependency key db mid rows rowids alone same applies = unreferred_childless Dependency refl mid _
+  finds_none Job key db mid rows rowids alone same applies = unreferred_childless Job refl mid _
+
+  settles : (t : Table) (key : Row) (db next : Trees) (rows : List Row) → HaveRowids (db (it.trees t)) → IsAlone t key (λ u. db (it.trees u))
+      → IsPermutation (map (λ r. rowid r ∷ []) (filter (matches t key) (db (it.trees t)))) rows
+      → Writes schema Enforced db (edit_of db (table_at (it.trees t) t) (ids_of rows) Given 0 []) (Ok next)
+      → Applies schema Enforced db (edit_of db (table_at (it.trees t) t) (ids_of rows) Given 0 []) next
+  settles t key db next rows rowids alone same h = one_step_by schema db next (edit_of db (table_at (it.trees t) t) (ids_of rows) Given 0 [])
+      (λ mid applies. finds_none t key db mid rows rowids alone same applies) h
+
   -- what it sets off is not refused
-  sets_off_well : (t : Table) (key : Row) (db next : Trees) (rows : List Row) (why : Option Refusal) → HaveRowids (db (tree t))
-      → IsAlone t key (tables_of db)
-      → IsPermutation (map (λ r. rowid r ∷ []) (filter (matches t key) (db (tree t)))) rows
-      → Applies (plan_and more) Enforced db (edit_of db (table t) (ids_of rows) Given 0 []) next
-      → Settles (plan_and more) Enforced next ([] ++ works (plan_and more) Enforced 0 (tree t) (taken_by db (edit_of db
-      (table t) (ids_of rows) Given 0 [])) []) (Err why) → ⊥
-  unfolding same_name joined
-  sets_off_well Meta key db next rows why rowids alone same applies (n, leads) = nothing_more more n next why (subst (λ stack.
-      Leads (plan_and more) Enforced n next stack (Err why)) (sets_off_none more apart Meta (taken_by db (edit_of db
-      (table Meta) (ids_of rows) Given 0 [])) []) leads)
-  sets_off_well CalendarEntry key db next rows why rowids alone same applies (n, leads) = nothing_more more n next why (subst (λ stack.
-      Leads (plan_and more) Enforced n next stack (Err why)) (sets_off_none more apart CalendarEntry (taken_by db (edit_of db
-      (table CalendarEntry) (ids_of rows) Given 0 [])) []) leads)
-  sets_off_well Period key db next rows why rowids alone same applies (n, leads) = nothing_more more n next why (subst (λ stack.
-      Leads (plan_and more) Enforced n next stack (Err why)) (sets_off_none more apart Period (taken_by db (edit_of db
-      (table Period) (ids_of rows) Given 0 [])) []) leads)
-  sets_off_well Application key db next rows why rowids alone same applies (n, leads) = nothing_more more n next why (subst (λ stack.
-      Leads (plan_and more) Enforced n next stack (Err why)) (sets_off_none more apart Application (taken_by db (edit_of db
-      (table Application) (ids_of rows) Given 0 [])) []) leads)
-  sets_off_well RunCycle key db next rows why rowids alone same applies settled =
-      cycles_unrefused more apart key db next rows why rowids alone same applies settled
-  sets_off_well Offset key db next rows why rowids alone same applies (n, leads) = nothing_more more n next why (subst (λ stack.
-      Leads (plan_and more) Enforced n next stack (Err why)) (sets_off_none more apart Offset (taken_by db (edit_of db
-      (table Offset) (ids_of rows) Given 0 [])) []) leads)
-  sets_off_well Predecessor key db next rows why rowids alone same applies (n, leads) = nothing_more more n next why (subst (λ stack.
-      Leads (plan_and more) Enforced n next stack (Err why)) (sets_off_none more apart Predecessor (taken_by db (edit_of db
-      (table Predecessor) (ids_of rows) Given 0 [])) []) leads)
-  sets_off_well LinkInForce key db next rows why rowids alone same applies (n, leads) = nothing_more more n next why (subst (λ stack.
-      Leads (plan_and more) Enforced n next stack (Err why)) (sets_off_none more apart LinkInForce (taken_by db (edit_of db
-      (table LinkInForce) (ids_of rows) Given 0 [])) []) leads)
-  sets_off_well LongTerm key db next rows why rowids alone same applies (n, leads) = nothing_more more n next why (subst (λ stack.
-      Leads (plan_and more) Enforced n next stack (Err why)) (sets_off_none more apart LongTerm (taken_by db (edit_of db
-      (table LongTerm) (ids_of rows) Given 0 [])) []) leads)
-  sets_off_well Current key db next rows why rowids alone same applies (n, leads) = nothing_more more n next why (subst (λ stack.
-      Leads (plan_and more) Enforced n next stack (Err why)) (sets_off_none more apart Current (taken_by db (edit_of db
-      (table Current) (ids_of rows) Given 0 [])) []) leads)
-  sets_off_well History key db next rows why rowids alone same applies (n, leads) = nothing_more more n next why (subst (λ stack.
-      Leads (plan_and more) Enforced n next stack (Err why)) (sets_off_none more apart History (taken_by db (edit_of db
-      (table History) (ids_of rows) Given 0 [])) []) leads)
-  sets_off_well Deletion key db next rows why rowids alone same applies (n, leads) = nothing_more more n next why (subst (λ stack.
-      Leads (plan_and more) Enforced n next stack (Err why)) (sets_off_none more apart Deletion (taken_by db (edit_of db
-      (table Deletion) (ids_of rows) Given 0 [])) []) leads)
-  sets_off_well Dependency key db next rows why rowids alone same applies (n, leads) = nothing_more more n next why (subst (λ stack.
-      Leads (plan_and more) Enforced n next stack (Err why)) (sets_off_none more apart Dependency (taken_by db (edit_of db
-      (table Dependency) (ids_of rows) Given 0 [])) []) leads)
-  sets_off_well Job key db next rows why rowids alone same applies (n, leads) = nothing_more more n next why (subst (λ stack.
-      Leads (plan_and more) Enforced n next stack (Err why)) (sets_off_none more apart Job (taken_by db (edit_of db
-      (table Job) (ids_of rows) Given 0 [])) []) leads)
+  sets_off_well : (t : Table) (key : Row) (db next : Trees) (rows : List Row) (why : Option Refusal) → HaveRowids (db (it.trees t))
+      → IsAlone t key (λ u. db (it.trees u))
+      → IsPermutation (map (λ r. rowid r ∷ []) (filter (matches t key) (db (it.trees t)))) rows
+      → Applies schema Enforced db (edit_of db (table_at (it.trees t) t) (ids_of rows) Given 0 []) next
+      → Settles schema Enforced next ([] ++ works schema Enforced 0 (it.trees t) (taken_by db (edit_of db
+      (table_at (it.trees t) t) (ids_of rows) Given 0 [])) []) (Err why) → ⊥
+  sets_off_well t key db next rows why rowids alone same applies (n, leads) =
+      let e = ends schema next n _ (Err why) (finds_none t key db next rows rowids alone same applies) leads in cc
 
-  module _ (t : Table) (key : Row) (fit : IsKeyOf t key) (db : Trees) (rowids : HaveRowids (db (tree t)))
-      (alone : IsAlone t key (tables_of db)) where
-    abbrev schema : Schema
-    schema = plan_and more
-
+  module _ (t : Table) (key : Row) (fit : IsKeyOf t key) (db : Trees) (rowids : HaveRowids (db (it.trees t)))
+      (alone : IsAlone t key (λ u. db (it.trees u))) where
     abbrev was : List Row
-    was = db (tree t)
+    was = db (it.trees t)
 
     abbrev left : List Row
     left = filter (λ r. not (matches t key r)) was
@@ -156,71 +152,71 @@ module _ (more : Further) (apart : AllByRecursion (IsApart plan_schema.tables) m
     IsFound rows = IsPermutation (map (λ r. rowid r ∷ []) (filter (matches t key) was)) rows
 
     abbrev edit : List Row → Edit
-    edit rows = edit_of db (table t) (ids_of rows) Given 0 []
+    edit rows = edit_of db (table_at (it.trees t) t) (ids_of rows) Given 0 []
 
     left_is : (rows : List Row) → IsFound rows → edited db (edit rows) ≡ left
     left_is rows same = left_after (matches t key) was rows rowids same
 
-    module _ (next : Trees) (here : next (tree t) ≡ left)
-        (others : (d : Described) → Has schema.tables d → d.tree ≢ tree t → next d.tree ≡ db d.tree) where
-      kept : (r : Row) → Has (next (tree t)) r → Has was r
+    module _ (next : Trees) (here : next (it.trees t) ≡ left)
+        (others : (d : Described) → Has schema.tables d → d.tree ≢ it.trees t → next d.tree ≡ db d.tree) where
+      kept : (r : Row) → Has (next (it.trees t)) r → Has was r
       kept r has = (has_filtered (λ r. not (matches t key r)) was r (subst (λ rows. Has rows r) here has)).0
 
-      from : (r : Row) → Has (next (tree t)) r → Has [] r ⊎ Has was r
+      from : (r : Row) → Has (next (it.trees t)) r → Has [] r ⊎ Has was r
       from r has = inr (kept r has)
 
       pub unique_after : Keeps Unique schema db → Keeps Unique schema next
-      unique_after keeps = unique_still more apart t db next [] others from (λ i listed on r none. absurd none) keeps
+      unique_after keeps = unique_still schema (table_at (it.trees t) t) (is_listed schema it t) it.apart db next [] others from (λ i listed on r none. absurd none) keeps
 
-      offset_before : (r : Row) → Has (next (tree Offset)) r → Has (db (tree Offset)) r
-      offset_before r has = elim (cases_eq (tree Offset) (tree t)) [
+      offset_before : (r : Row) → Has (next (it.trees Offset)) r → Has (db (it.trees Offset)) r
+      offset_before r has = elim (cases_eq (it.trees Offset) (it.trees t)) [
         | inl same ↦ subst (λ n. Has (db n) r) (sym same) (kept r (subst (λ n. Has (next n) r) same has))
-        | inr other ↦ subst (λ rows. Has rows r) (others (table Offset) (is_listed more apart Offset) other) has
+        | inr other ↦ subst (λ rows. Has rows r) (others (table_at (it.trees Offset) Offset) (is_listed schema it Offset) other) has
       ]
 
-      parent_after : (p r : Row) → Has (db (tree RunCycle)) p → Has (db (tree Offset)) r
-          → agree plain (1 ∷ 2 ∷ []) p (1 ∷ 2 ∷ []) r ≡ true → Has (next (tree RunCycle)) p
-      parent_after p r has child agrees = elim (cases_eq (tree RunCycle) (tree t)) [
+      parent_after : (p r : Row) → Has (db (it.trees RunCycle)) p → Has (db (it.trees Offset)) r
+          → agree plain (1 ∷ 2 ∷ []) p (1 ∷ 2 ∷ []) r ≡ true → Has (next (it.trees RunCycle)) p
+      parent_after p r has child agrees = elim (cases_eq (it.trees RunCycle) (it.trees t)) [
         | inl same ↦ subst (λ n. Has (next n) p) (sym same) (subst (λ rows. Has rows p) (sym here) (has_kept (λ r. not
-            (matches t key r)) was p (subst (λ n. Has (db n) p) same has) (not_from_false _ (stays_alone t key
-            (tables_of db) alone same p r child agrees))))
-        | inr other ↦ subst (λ rows. Has rows p) (sym (others (table RunCycle) (is_listed more apart RunCycle) other)) has
+            (matches t key r)) was p (subst (λ n. Has (db n) p) same has) (not_from_false _ (stays_alone t key (λ u. db (it.trees u)) alone same p r child agrees))))
+        | inr other ↦ subst (λ rows. Has rows p) (sym (others (table_at (it.trees RunCycle) RunCycle) (is_listed schema it RunCycle) other)) has
       ]
 
-      parent_still : Refers Whole schema db → (r : Row) → Has (db (tree Offset)) r
+      parent_still : Refers Whole schema db → (r : Row) → Has (db (it.trees Offset)) r
           → has_parent schema.tables next r to_run_cycle ≡ true
       parent_still refers r has = elim (or_cases (has_null (1 ∷ 2 ∷ []) r) (is_held db (1 ∷ 2 ∷ []) r (parent_key
-          schema.tables to_run_cycle)) (refers_at Whole schema db (table Offset) r to_run_cycle refers (is_listed more
-          apart Offset) has (inl refl) refl)) [
+          schema.tables to_run_cycle)) (refers_at Whole schema db (table_at (it.trees Offset) Offset) r to_run_cycle refers (is_listed schema it Offset) has (inl refl) refl)) [
             | inl null ↦ or_left (has_null (1 ∷ 2 ∷ []) r) (is_held next (1 ∷ 2 ∷ []) r (parent_key schema.tables
                 to_run_cycle)) null
             | inr in_db ↦
-                let parent = some_has (λ p. agree plain (1 ∷ 2 ∷ []) p (1 ∷ 2 ∷ []) r) (db (tree RunCycle)) (rw (parent_is
-                more) at in_db) in
+                let parent = some_has (λ p. agree plain (1 ∷ 2 ∷ []) p (1 ∷ 2 ∷ []) r) (db (it.trees RunCycle)) (rw parent_is at in_db) in
                 or_right (has_null (1 ∷ 2 ∷ []) r) (is_held next (1 ∷ 2 ∷ []) r (parent_key schema.tables to_run_cycle))
-                (rw (parent_is more) (some_from (λ p. agree plain (1 ∷ 2 ∷ []) p (1 ∷ 2 ∷ []) r) (next (tree RunCycle))
+                (rw parent_is (some_from (λ p. agree plain (1 ∷ 2 ∷ []) p (1 ∷ 2 ∷ []) r) (next (it.trees RunCycle))
                 parent.0 (parent_after parent.0 r parent.1 has parent.2) parent.2))
           ]
 
       pub refers_after : Refers Whole schema db → Refers Whole schema next
-      refers_after refers = refers_still more apart t db next [] others from refers (λ r has. parent_still refers r
+      refers_after refers = refers_still schema it t db next [] others from refers (λ r has. parent_still refers r
           (offset_before r has))
 
     -- ---- it is not refused
 
-    not_refused : Keeps Unique schema db → (rows : List Row) → IsFound rows → (why : Refusal)
+    abbrev HasKeys : Type 0
+    HasKeys = Keeps Unique schema db × (is_key_of schema to_run_cycle ≡ true)
+
+    not_refused : HasKeys → (rows : List Row) → IsFound rows → (why : Refusal)
         → IsRefused schema Enforced db (edit rows) why → ⊥
     not_refused keeps rows same (Violates Datatype) h = let e = h in cc
     not_refused keeps rows same (Violates NotNull) h = let e = h in cc
     not_refused keeps rows same (Violates Check) h = let e = h in cc
     not_refused keeps rows same (Violates PrimaryKey) h = let e = h in cc
-    not_refused keeps rows same (Violates Unique) h = h (unique_after (with_tree db (tree t) (edited db (edit rows)))
-        (at_own db (tree t) (edited db (edit rows)) ∙ left_is rows same)
-        (λ d listed other. at_other db d.tree (tree t) (edited db (edit rows)) other) keeps)
+    not_refused keeps rows same (Violates Unique) h = h (unique_after (with_tree db (it.trees t) (edited db (edit rows)))
+        (at_own db (it.trees t) (edited db (edit rows)) ∙ left_is rows same)
+        (λ d listed other. at_other db d.tree (it.trees t) (edited db (edit rows)) other) keeps.0)
     not_refused keeps rows same (Violates ForeignKey) h = h
     not_refused keeps rows same Mismatch h = let e = h in cc
     not_refused keeps rows same NoRowid h = let e = h in cc
-    not_refused keeps rows same BadReference h = true≢false (sym (or_right _ _ (removes_fit more apart t)) ∙ h)
+    not_refused keeps rows same BadReference h = true≢false (sym (or_right _ _ (removes_fit keeps.1 t)) ∙ h)
     not_refused keeps rows same TooDeep h = h
 
     never_big : (rows : List Row) → IsFound rows → Writes schema Enforced db (edit rows) (Err None) → ⊥
@@ -229,7 +225,7 @@ module _ (more : Further) (apart : AllByRecursion (IsApart plan_schema.tables) m
     never_big rows same (inr (inr (next, applies, leads))) =
         sets_off_well t key db next rows None rowids alone same applies leads
 
-    never : Keeps Unique schema db → (rows : List Row) → IsFound rows → (why : Refusal)
+    never : HasKeys → (rows : List Row) → IsFound rows → (why : Refusal)
         → Writes schema Enforced db (edit rows) (Err (Some why)) → ⊥
     never keeps rows same why (inl (reason, refused, e)) = not_refused keeps rows same reason refused
     never keeps rows same why (inr (inl (r, has, big, e))) = has
@@ -239,32 +235,32 @@ module _ (more : Further) (apart : AllByRecursion (IsApart plan_schema.tables) m
     holds : Refers Whole schema db → (rows : List Row) → IsFound rows → (next : Trees)
         → Writes schema Enforced db (edit rows) (Ok next) → Refers Whole schema next
     holds refers rows same next h =
-        let applies = settles more apart t key db next rows rowids alone same h in
-        refers_after next (applies.rows ∙ left_is rows same) (λ d listed other. all_has (λ (u : Described). u.tree ≢ tree
+        let applies = settles t key db next rows rowids alone same h in
+        refers_after next (applies.rows ∙ left_is rows same) (λ d listed other. all_has (λ (u : Described). u.tree ≢ it.trees
         t → next u.tree ≡ db u.tree) schema.tables d applies.tables listed other) refers
 
     -- ---- the statement
 
     abbrev query : Query
-    query = plain_query (tree t) (delete_tests t) (col 1 0 ∷ [])
+    query = plain_query (it.trees t) (delete_tests t) (col 1 0 ∷ [])
 
     abbrev program : Program
     program = record { lets = []; body = query }
 
     is_found : (rows : List Row) → Answers (record { schema = schema; trees = db }) program key rows → IsFound rows
     is_found rows answers =
-        plain_rows (tree t) (delete_tests t) (col 1 0 ∷ []) db key rows (own t db) (answers.answer Null)
+        plain_rows (it.trees t) (delete_tests t) (col 1 0 ∷ []) db key rows (own schema (it.at t) (it.trees t) t (it.stands t) db) (answers.answer Null)
 
     late : (limit : Option ℕ) (e : Error) → RefusesQuery limit (record { schema = schema; trees = db }) program key e
         → (e ≡ SqliteFailure OperationInterrupted) × IsSome limit
-    late limit e (inl h) = absurd (true≢false (sym (key_fits more t key fit).1 ∙ h.1))
+    late limit e (inl h) = absurd (true≢false (sym (key_accepted schema (it.trees t) t (it.stands t).stored (it.stands t).found key fit) ∙ h.1))
     late limit e (inr (inl (same, inl h))) = absurd h
     late limit e (inr (inl (same, inr h))) = absurd h.4
     late limit e (inr (inr h)) = h
 
     module _ (limit : Option ℕ) where
       abbrev task : Task
-      task = record { limit = limit; keys = Enforced; schema = schema; table = table t; params = key }
+      task = record { limit = limit; keys = Enforced; schema = schema; table = table_at (it.trees t) t; params = key }
 
       goes_none : Deletes task program db (Err None) → ⊥
       goes_none (inl (Some e, h, is)) = absurd (let k = is in cc)
@@ -273,7 +269,7 @@ module _ (more : Further) (apart : AllByRecursion (IsApart plan_schema.tables) m
       goes_none (inr (rows, answers, inl (s, (None, h, told), is))) = never_big rows (is_found rows answers) h
       goes_none (inr (rows, answers, inr (mid, h, is))) = absurd (let e = is in cc)
 
-      goes : Keeps Unique schema db → (stop : Option Error) → Deletes task program db (Err stop)
+      goes : HasKeys → (stop : Option Error) → Deletes task program db (Err stop)
           → (stop ≡ Some (SqliteFailure OperationInterrupted)) × IsSome limit
       goes keeps stop (inl (Some e, h, is)) = let told = late limit e h in (same_error is ∙ ap Some told.0, told.1)
       goes keeps stop (inl (None, h, is)) = absurd h
@@ -294,13 +290,13 @@ module _ (more : Further) (apart : AllByRecursion (IsApart plan_schema.tables) m
       mode = record { keys = Enforced; in_doubt = false; may_wait = false }
 
       abbrev command : Command
-      command = Delete (place t) program
+      command = Delete (it.at t) program
 
       abbrev DoesSo : List ℕ → Option Error → Type 0
       DoesSo text stop = Does limit mode key (record { schema = schema; trees = db }) text None command (Err stop)
 
       pub never_stops : (text : List ℕ) → DoesSo text None → ⊥
-      never_stops text does = go (rw (found more t) at does)
+      never_stops text does = go (rw ((it.stands t).got) at does)
         where
           go : OnRows task mode None command db (Err None) → ⊥
           go (inl (s, h, is)) = goes_none (subst (λ s. Deletes task program db (Err s)) (sym (same_error is)) h)
@@ -308,9 +304,9 @@ module _ (more : Further) (apart : AllByRecursion (IsApart plan_schema.tables) m
           go (inr (w, h, inr (in_doubt, tested, inl (s, shown, is)))) = absurd (let e = shown in cc)
           go (inr (w, h, inr (in_doubt, tested, inr (rows, shown, is)))) = absurd (let e = is in cc)
 
-      pub stops : Keeps Unique schema db → Refers Whole schema db → (text : List ℕ) (stop : Option Error)
+      pub stops : HasKeys → Refers Whole schema db → (text : List ℕ) (stop : Option Error)
           → DoesSo text stop → (stop ≡ Some (SqliteFailure OperationInterrupted)) × IsSome limit
-      stops keeps refers text stop does = go (rw (found more t) at does)
+      stops keeps refers text stop does = go (rw ((it.stands t).got) at does)
         where
           go : OnRows task mode None command db (Err stop)
               → (stop ≡ Some (SqliteFailure OperationInterrupted)) × IsSome limit
@@ -319,56 +315,56 @@ module _ (more : Further) (apart : AllByRecursion (IsApart plan_schema.tables) m
           go (inr (w, h, inr (in_doubt, tested, inl (s, shown, is)))) = absurd (let e = shown in cc)
           go (inr (w, h, inr (in_doubt, tested, inr (rows, shown, is)))) = absurd (let e = is in cc)
 
-ordinary : (t : Table) → IsOrdinary (Delete (place t) (record {
-  lets = [];
-  body = plain_query (tree t) (delete_tests t) (col 1 0 ∷ []);
-}))
-ordinary t = record {
-  quiet = refl;
-  plain = refl;
-  begins = λ e. cc;
-  commits = λ e. cc;
-  undoes = λ e. cc;
-  releases = λ name e. cc;
-  goes_back = λ name e. cc;
-}
+ordinary : (place : ℕ) (p : Program) → IsOrdinary (Delete place p)
+ordinary place p = record { quiet = refl; plain = refl; begins = λ e. cc; commits = λ e. cc; undoes = λ e. cc; releases = λ name e. cc; goes_back = λ name e. cc }
+
+-- a key has so many values
+key_length : (t : Table) (key : Row) → IsKeyOf t key → key_width t ≡ length key
+key_length Meta key fit = sym (ap length fit.1)
+key_length CalendarEntry key fit = sym (ap length fit.1)
+key_length Period key fit = sym (ap length fit.1)
+key_length Application key fit = sym (ap length fit.1)
+key_length RunCycle key fit = sym (ap length fit.1)
+key_length Offset key fit = sym (ap length fit.1)
+key_length Predecessor key fit = sym (ap length fit.1)
+key_length LinkInForce key fit = sym (ap length fit.2)
+key_length LongTerm key fit = sym (ap length fit.1)
+key_length Current key fit = sym (ap length fit.1)
+key_length History key fit = sym (ap length fit.1)
+key_length Deletion key fit = sym (ap length fit.1)
+key_length Dependency key fit = sym (ap length fit.2)
+key_length Job key fit = sym (ap length fit.1)
 
 pub lose_fails : (t : Table) (key : Row) (old new : State) (e : Error) → IsSoundPlan old
     → LosesKey t key (tables_of old.now.trees) → ExecutesInside 0 (delete_sql t) key old new (Err e) → MayFail old new e
 lose_fails t key old new e sound loses h =
-    let has = sound.plan.schema in
-    let more = has.more in
-    let apart = recursion_from_All (IsApart plan_schema.tables) more.tables has.apart in
+    let schema = old.now.schema in
+    let it = sound.plan.schema in
     let sql = delete_sql t in
-    let text = statement_of sql (understood (plan_and more) sql) in
-    let command = Delete (place t) (program more apart t key loses.0 old.now.trees (sound.plan.rowids t) loses.1) in
+    let text = statement_of sql (understood schema sql) in
     let db = old.now.trees in
-    let turned = λ (stop : Option Error) (does : Does old.step_limit (mode_of old) key old.now text None command
-    (Err stop)). subst (λ s. Does old.step_limit (mode_of old) key (record old.now { schema = s }) text None command
-    (Err stop)) has.is does in
+    let rowids = subst HaveRowids (ap db (sound.plan.told t)) (sound.plan.rowids t) in
+    let alone = subst (IsAlone t key) (rows_are old sound.plan) loses.1 in
+    let command = Delete (it.at t) (program schema it t key loses.0 db rowids alone) in
+    let means = delete_means schema (it.at t) (it.trees t) t (it.stands t) in
     in_vain old new key text command e
-    (λ does. never_stops more apart t key loses.0 db (sound.plan.rowids t) loses.1 old.step_limit text (turned None does))
+    (λ does. never_stops schema it t key loses.0 db rowids alone old.step_limit text does)
     (λ opened does.
-    let database = subst (λ s. IsSound s db) has.is (sound.sound opened) in
-    let told = stops more apart t key loses.0 db (sound.plan.rowids t) loses.1 old.step_limit
-    (database.obeys.rules Unique) (database.obeys.rules ForeignKey) text (Some e) (turned (Some e) does) in
+    let database = sound.sound opened in
+    let keys : Keeps Unique schema db × (is_key_of schema to_run_cycle ≡ true) = (
+      database.obeys.rules Unique,
+      cycles_keyed
+          schema it database.lists.guarded,
+    ) in
+    let told = stops schema it t key loses.0 db rowids alone old.step_limit keys (database.obeys.rules ForeignKey) text (Some e) does in
     (some_same told.0, told.1))
-    (stopped (plan_and more) sql key command (key_fits more t key loses.0).0 (delete_plain more t) (delete_is more t)
-    (ordinary t) old new e has.is h)
+    (stopped schema sql key command (subst (IsWhole (understood schema sql) (length sql)) (key_length t key loses.0) means.whole)
+    means.plain means.is (ordinary (it.at t) _) old new e refl h)
 
 pub lose_sound : (t : Table) (key : Row) (old new : State) (count : ℕ) → IsSoundPlan old
     → LosesKey t key (tables_of old.now.trees) → ExecutesInside 0 (delete_sql t) key old new (Ok count)
     → IsSoundPlan new × (IsTrue old.is_open → IsTrue new.is_open) × (tables_of new.now.trees ≡ without_key t key (tables_of old.now.trees))
 lose_sound t key old new count sound loses h =
-    let has = sound.plan.schema in
-    let more = has.more in
-    let w = runs_as (delete_sql t) key old new (plan_and more) has.is (Delete (place t) (record {
-      lets = [];
-      body = plain_query (tree t) (delete_tests t) (col 1 0 ∷ []);
-    })) (delete_is more t) (delete_plain more t) count h.0 in
-    let stands = deleted t key old new count sound.plan loses.1 h in (
-      still_sound old new _ sound stands (deleted_beside t key old new count sound.plan
-          loses.1 h) w.sound,
-      (λ _. h.1.is_open),
-      stands.rows_are,
-    )
+    let stands = deleted t key old new count sound.plan loses.1 h in
+    let kept = gone_soundly t key old new count sound.plan loses.1 h in
+    (still_sound old new _ sound stands kept.0 kept.1, (λ _. h.1.is_open), stands.rows_are)

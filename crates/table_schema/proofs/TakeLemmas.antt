@@ -1,19 +1,18 @@
 -- A row that the table takes is put in, but for the common causes of a failure.
-use Rattle.std.proofs.Common.{◌≡◌, ◌≢◌, ◌⊎◌, ◌&&◌, ◌||◌, ◌==◌, ◌++◌, ◌/◌, ◌∙◌, ℕ, zero, suc, Bool, true, false, cond}
+use Rattle.std.proofs.Common.{◌≡◌, ◌≢◌, ◌⊎◌, ◌&&◌, ◌||◌, ◌++◌, ◌/◌, ◌∙◌, ℕ, zero, suc, Bool, true, false}
 use Rattle.std.proofs.Common.{inl, inr, List, [], ◌∷◌, length, length-append, append-nil, Option, Some, None, IsSome, IsTrue}
-use Rattle.std.proofs.Common.{Ok, Err, refl, sym, ap, subst, arith, true≢false}
+use Rattle.std.proofs.Common.{Ok, Err, refl, sym, ap, subst, arith, true≢false, cond, ◌==◌}
+use Rattle.std.proofs.lemmas.Bool.Decides.{nat_tests}
 use Rattle.std.specs.Ordering.{is_ne}
 use Rattle.std.specs.List.{AllByRecursion, list_all, list_any}
 use Rattle.std.proofs.lemmas.Bool.{and_from, and_parts, both_ways, cases_eq, eqb-true, false_from_ne_true, not_from_false}
 use Rattle.std.proofs.lemmas.Bool.{or_cases, or_left, or_right}
-use Rattle.std.proofs.lemmas.Bool.Decides.{nat_tests}
 use Rattle.std.proofs.lemmas.Cmp.{tied_itself}
 use Rattle.std.proofs.lemmas.List.Elements.{recursion_from_All}
 use Rattle.sqlite.specs.Command.{Command}
 use Rattle.sqlite.specs.Command.TheVariants.{Insert}
 use Rattle.sqlite.specs.Does.{Does, OnRows}
 use Rattle.sqlite.specs.Effect.{IsDatabase, value_rows}
-use Rattle.sqlite_catalog.specs.Listing.{IsSound}
 use Rattle.sqlite.specs.Edit.{Applies, Edit, edit_of}
 use Rattle.sqlite.specs.Listing.{understood}
 use Rattle.sqlite.specs.Order.{Row}
@@ -21,7 +20,7 @@ use Rattle.sqlite.specs.Rowids.TheVariants.{Chosen}
 use Rattle.sqlite.specs.Rows.{Inserts, Task, Written}
 use Rattle.sqlite.specs.Schema.{Schema}
 use Rattle.sqlite.specs.Source.TheVariants.{Values}
-use Rattle.sqlite.specs.State.{State, ExecutesInside, mode_of}
+use Rattle.sqlite.specs.State.{State, ExecutesInside}
 use Rattle.sqlite.specs.Table.{Table as Described}
 use Rattle.sqlite.specs.Tree.{Trees, put_row, rowid}
 use Rattle.sqlite.specs.declared.error.Error.{Error}
@@ -30,8 +29,8 @@ use Rattle.sqlite.specs.declared.error.ErrorCode.TheVariants.{OperationInterrupt
 use Rattle.sqlite.specs.declared.run.Mode.{Mode}
 use Rattle.sqlite.specs.declared.types.Value.{Value}
 use Rattle.sqlite.specs.declared.types.Value.TheVariants.{Int}
-use Rattle.sqlite.proofs.Callers.{one_step, runs_as, statement_of}
-use Rattle.sqlite_rules.proofs.ListLemmas.{all_has, has_either, some_from, some_has}
+use Rattle.sqlite.proofs.Callers.{one_step, statement_of}
+use Rattle.sqlite_rules.proofs.ListLemmas.{all_has, some_from, some_has}
 use Rattle.sqlite_rules.proofs.RuleLemmas.{refers_at}
 use Rattle.sqlite_rules.proofs.TableLemmas.{put_all_keeps, put_has}
 use Rattle.sqlite_rules.specs.Action.{Leads, Settles, Writes, works}
@@ -54,19 +53,31 @@ use Rattle.sqlite_value.specs.Keys.{plain}
 use Rattle.sqlite_value.specs.Order.{value_cmp}
 use Rattle.table_schema.specs.Cells.{insert_terms, width}
 use Rattle.table_schema.specs.Rows.{MayFail, Stands, Tables, stored, tables_of, with_cells}
-use Rattle.table_schema.specs.Schema.{Further, IsApart, plan_and, plan_schema, place, table, to_run_cycle, tree}
-use Rattle.table_schema.specs.Takes.{HasNone, HasOwnIndexes, IsSoundPlan, TakesRow, new_row}
+use Rattle.table_schema.specs.Takes.{HasNone, IsSoundPlan, TakesRow, new_row}
 use Rattle.table_schema.specs.Texts.{insert_sql}
 use Rattle.table_schema.specs.declared.tables.Table.{Table}
-use Rattle.table_schema.specs.declared.tables.Table.TheVariants.{Offset, RunCycle}
-use Rattle.table_schema.proofs.BlankLemmas.{same_error, some_same}
+use Rattle.table_schema.specs.declared.tables.Table.TheVariants.{Meta, CalendarEntry, Period, Application, RunCycle}
+use Rattle.table_schema.specs.declared.tables.Table.TheVariants.{Offset, Predecessor, LinkInForce, LongTerm, Current}
+use Rattle.table_schema.specs.declared.tables.Table.TheVariants.{History, Deletion, Dependency, Job}
 use Rattle.table_schema.proofs.CycleLemmas.{compared_parts}
-use Rattle.table_schema.proofs.FitLemmas.{adds_fit, insert_fits, parent_is, values_fit}
-use Rattle.table_schema.proofs.Meanings.{IsWhole, insert_is, insert_plain}
-use Rattle.table_schema.proofs.RefusalLemmas.{IsOrdinary, in_vain, stopped}
-use Rattle.table_schema.proofs.StepLemmas.{found, given_rows, inserted, inserted_beside, quiet_insert}
+use Rattle.table_schema.proofs.StopLemmas.{IsOrdinary, in_vain, same_error, some_same, stopped}
 use Rattle.table_schema.proofs.Steps.{same_value}
-use Rattle.table_schema.proofs.TurnLemmas.{is_listed, own_index, refers_still, same_tree, unique_still}
+use Rattle.sqlite_schema.specs.Rules.{is_index_for, is_key_of}
+use Rattle.std.proofs.lemmas.Bool.{eq-eqb}
+use Rattle.sqlite_catalog.specs.Listing.{IsGuarded, automatic}
+use Rattle.sqlite_rules.proofs.RuleLemmas.{same_table}
+use Rattle.sqlite_value.specs.Keys.{joined}
+use Rattle.table_schema.specs.Schema.{HasOwnIndexes, HasTables, IsOwnIndex, references, table_at, to_run_cycle}
+use Rattle.table_schema.proofs.CycleLemmas.{name_order}
+use Rattle.table_schema.proofs.FitLemmas.{values_fit}
+use Rattle.table_schema.proofs.MeaningLemmas.{IsWhole}
+use Rattle.table_schema.proofs.TextMeanings.{insert_means}
+use Rattle.table_schema.proofs.EffectLemmas.{given_rows, none_taken}
+use Rattle.table_schema.proofs.NamedLemmas.{rows_are}
+use Rattle.table_schema.proofs.StatementLemmas.{inserted, put_soundly}
+use Rattle.table_schema.proofs.PlanLemmas.{offsets_refer}
+use Rattle.table_schema.proofs.RunCycleLemmas.{key_is}
+use Rattle.table_schema.proofs.StillLemmas.{is_listed, refers_still, unique_still}
 
 differs_not : (v : Value) → differ v v ≡ true → ⊥
 unfolding binary
@@ -88,23 +99,39 @@ at_other db m n rows apart = go (m == n) refl
     go true e = absurd (apart (grind (arith, nat_tests)))
     go false e = refl
 
-module _ (more : Further) (apart : AllByRecursion (IsApart plan_schema.tables) more.tables)
-    (own : AllByRecursion (λ (i : Index). (u : Table) → i.table ≢ tree u) more.indexes) (t : Table) (cells : Row)
-    (db : Trees) (takes : TakesRow t cells (tables_of db)) where
-  abbrev schema : Schema
-  schema = plan_and more
+pub in_plain_order : name_order ≡ plain
+unfolding joined
+in_plain_order = refl
 
+module _ (schema : Schema) (it : HasTables schema) (own : AllByRecursion (IsOwnIndex it.trees) schema.indexes) (t : Table) (cells : Row)
+    (db : Trees) (takes : TakesRow t cells (λ u. db (it.trees u))) where
   abbrev was : List Row
-  was = db (tree t)
+  was = db (it.trees t)
 
   abbrev row : Row
-  row = new_row t cells (tables_of db)
+  row = new_row t cells (λ u. db (it.trees u))
 
   abbrev edit : Edit
-  edit = edit_of db (table t) [] Chosen 0 (stored t cells ∷ [])
+  edit = edit_of db (table_at (it.trees t) t) [] Chosen 0 (stored t cells ∷ [])
 
   news_are : edit.news ≡ row ∷ []
   news_are = ap (λ r. with_rowid Chosen was r ∷ []) takes.kinds
+
+  adds_fit : is_key_of schema to_run_cycle ≡ true → (u : Table) → list_all (is_key_of schema) (references u) ≡ true
+  adds_fit keyed Meta = refl
+  adds_fit keyed CalendarEntry = refl
+  adds_fit keyed Period = refl
+  adds_fit keyed Application = refl
+  adds_fit keyed RunCycle = refl
+  adds_fit keyed Offset = and_from _ _ keyed refl
+  adds_fit keyed Predecessor = refl
+  adds_fit keyed LinkInForce = refl
+  adds_fit keyed LongTerm = refl
+  adds_fit keyed Current = refl
+  adds_fit keyed History = refl
+  adds_fit keyed Deletion = refl
+  adds_fit keyed Dependency = refl
+  adds_fit keyed Job = refl
 
   all_pass : (p : Row → Bool) → p row ≡ true → list_all p edit.news ≡ true
   all_pass p h = subst (λ news. list_all p news ≡ true) (sym news_are) (and_from _ _ h refl)
@@ -115,25 +142,28 @@ module _ (more : Further) (apart : AllByRecursion (IsApart plan_schema.tables) m
   edited_is : edited db edit ≡ put_row row was
   edited_is = ap (λ news. put_all was news) news_are
 
-  none_agrees : (i : Index) → Has schema.indexes i → i.table ≡ tree t → (other : Row) → Has was other
+  none_agrees : (i : Index) → Has schema.indexes i → i.table ≡ it.trees t → (other : Row) → Has was other
       → agree i.order i.columns other i.columns row ≡ false
-  none_agrees i listed at other has = elim (has_either plan_schema.indexes more.indexes i listed) [
-    | inl mine ↦
-        let it = own_index t i mine at in
-        subst (λ o. agree o i.columns other i.columns row ≡ false) (sym it.1) (all_has (λ other. agree plain i.columns
-        other i.columns row ≡ false) was other (subst (AllByRecursion (HasNone was row)) it.0 takes.unique).0 has)
-    | inr foreign ↦ absurd (all_has (λ (i : Index). (u : Table) → i.table ≢ tree u) more.indexes i own foreign t at)
-  ]
+  none_agrees i listed there other has =
+      let key = all_has (IsOwnIndex it.trees) schema.indexes i own listed t there in
+      subst (λ o. agree o i.columns other i.columns row ≡ false) (sym key.1) (all_has (λ other. agree plain i.columns
+      other i.columns row ≡ false) was other (subst (AllByRecursion (HasNone was row)) key.0 takes.unique).0 has)
 
-  module _ (next : Trees) (here : next (tree t) ≡ put_row row was)
-      (others : (d : Described) → Has schema.tables d → d.tree ≢ tree t → next d.tree ≡ db d.tree) where
-    from : (r : Row) → Has (next (tree t)) r → Has (row ∷ []) r ⊎ Has was r
+  parent_is : parent_key schema.tables to_run_cycle ≡ Some (it.trees RunCycle, 1 ∷ 2 ∷ [], plain)
+  parent_is = key_is schema (it.at RunCycle) (it.trees RunCycle) (it.trees Offset) (it.stands RunCycle) (is_listed schema it RunCycle) it.apart (offsets_refer schema it) ∙ ap (λ o. Some (it.trees RunCycle, 1 ∷ 2 ∷ [], o)) in_plain_order
+
+  tree_tells : it.trees Offset ≡ it.trees t → table_at (it.trees Offset) Offset ≡ table_at (it.trees t) t
+  tree_tells same = same_table schema.tables _ _ it.apart (is_listed schema it Offset) (is_listed schema it t) same
+
+  module _ (next : Trees) (here : next (it.trees t) ≡ put_row row was)
+      (others : (d : Described) → Has schema.tables d → d.tree ≢ it.trees t → next d.tree ≡ db d.tree) where
+    from : (r : Row) → Has (next (it.trees t)) r → Has (row ∷ []) r ⊎ Has was r
     from r has = elim (put_has row was r (subst (λ rows. Has rows r) here has)) [
       | inl same ↦ inl (inl same)
       | inr kept ↦ inr kept
     ]
 
-    unlike : (i : Index) → Has schema.indexes i → i.table ≡ tree t → (other : Row)
+    unlike : (i : Index) → Has schema.indexes i → i.table ≡ it.trees t → (other : Row)
         → Has (row ∷ []) other ⊎ Has was other → agree i.order i.columns other i.columns row ≡ true
         → differ (rowid other) (rowid row) ≡ true → ⊥
     unlike i listed at other (inl (inl same)) agrees differs =
@@ -141,54 +171,53 @@ module _ (more : Further) (apart : AllByRecursion (IsApart plan_schema.tables) m
     unlike i listed at other (inl (inr none)) agrees differs = none
     unlike i listed at other (inr kept) agrees differs = both_ways _ (none_agrees i listed at other kept) agrees
 
-    free : (i : Index) → Has schema.indexes i → guards i (table t) ≡ true → (r : Row) → Has (row ∷ []) r
-        → clashes i.order i.columns (next (tree t)) r ≡ false
+    free : (i : Index) → Has schema.indexes i → guards i (table_at (it.trees t) t) ≡ true → (r : Row) → Has (row ∷ []) r
+        → clashes i.order i.columns (next (it.trees t)) r ≡ false
     free i listed on r (inr none) = absurd none
-    free i listed on r (inl same) = subst (λ r. clashes i.order i.columns (next (tree t)) r ≡ false) (sym same)
+    free i listed on r (inl same) = subst (λ r. clashes i.order i.columns (next (it.trees t)) r ≡ false) (sym same)
         (false_from_ne_true _ (λ clash.
         let other = some_has (λ (o : Row). agree i.order i.columns o i.columns row && differ (rowid o) (rowid row))
-        (next (tree t)) clash in
+        (next (it.trees t)) clash in
         let parts = and_parts _ _ other.2 in
         unlike i listed (eqb-true _ _ (and_parts _ _ on).1) other.0 (from other.0 other.1) parts.0 parts.1))
 
     pub unique_after : Keeps Unique schema db → Keeps Unique schema next
-    unique_after keeps = unique_still more apart t db next (row ∷ []) others from free keeps
+    unique_after keeps = unique_still schema (table_at (it.trees t) t) (is_listed schema it t) it.apart db next (row ∷ []) others from free keeps
 
-    kept_parent : (p : Row) → Has (db (tree RunCycle)) p → Has (next (tree RunCycle)) p
-    kept_parent p has = elim (cases_eq (tree RunCycle) (tree t)) [
+    kept_parent : (p : Row) → Has (db (it.trees RunCycle)) p → Has (next (it.trees RunCycle)) p
+    kept_parent p has = elim (cases_eq (it.trees RunCycle) (it.trees t)) [
       | inl same ↦ subst (λ n. Has (next n) p) (sym same) (subst (λ rows. Has rows p) (sym here) (put_all_keeps
           (row ∷ []) was p is_fresh (subst (λ n. Has (db n) p) same has)))
-      | inr other ↦ subst (λ rows. Has rows p) (sym (others (table RunCycle) (is_listed more apart RunCycle) other)) has
+      | inr other ↦ subst (λ rows. Has rows p) (sym (others (table_at (it.trees RunCycle) RunCycle) (is_listed schema it RunCycle) other)) has
     ]
 
-    held : (r p : Row) → Has (db (tree RunCycle)) p → agree plain (1 ∷ 2 ∷ []) p (1 ∷ 2 ∷ []) r ≡ true
+    held : (r p : Row) → Has (db (it.trees RunCycle)) p → agree plain (1 ∷ 2 ∷ []) p (1 ∷ 2 ∷ []) r ≡ true
         → has_parent schema.tables next r to_run_cycle ≡ true
     held r p has agrees = or_right (has_null (1 ∷ 2 ∷ []) r) (is_held next (1 ∷ 2 ∷ []) r (parent_key schema.tables
-        to_run_cycle)) (rw (parent_is more) (some_from (λ p. agree plain (1 ∷ 2 ∷ []) p (1 ∷ 2 ∷ []) r)
-        (next (tree RunCycle)) p (kept_parent p has) agrees))
+        to_run_cycle)) (rw parent_is (some_from (λ p. agree plain (1 ∷ 2 ∷ []) p (1 ∷ 2 ∷ []) r)
+        (next (it.trees RunCycle)) p (kept_parent p has) agrees))
 
-    old_parent : Refers Whole schema db → (r : Row) → Has (db (tree Offset)) r
+    old_parent : Refers Whole schema db → (r : Row) → Has (db (it.trees Offset)) r
         → has_parent schema.tables next r to_run_cycle ≡ true
     old_parent refers r has = elim (or_cases (has_null (1 ∷ 2 ∷ []) r) (is_held db (1 ∷ 2 ∷ []) r (parent_key
-        schema.tables to_run_cycle)) (refers_at Whole schema db (table Offset) r to_run_cycle refers
-        (is_listed more apart Offset) has (inl refl) refl)) [
+        schema.tables to_run_cycle)) (refers_at Whole schema db (table_at (it.trees Offset) Offset) r to_run_cycle refers
+        (is_listed schema it Offset) has (inl refl) refl)) [
           | inl null ↦ or_left (has_null (1 ∷ 2 ∷ []) r) (is_held next (1 ∷ 2 ∷ []) r (parent_key schema.tables
               to_run_cycle)) null
           | inr in_db ↦
-              let parent = some_has (λ p. agree plain (1 ∷ 2 ∷ []) p (1 ∷ 2 ∷ []) r) (db (tree RunCycle)) (rw (parent_is
-              more) at in_db) in
+              let parent = some_has (λ p. agree plain (1 ∷ 2 ∷ []) p (1 ∷ 2 ∷ []) r) (db (it.trees RunCycle)) (rw parent_is at in_db) in
               held r parent.0 parent.1 parent.2
         ]
 
-    new_parent : tree Offset ≡ tree t → has_parent schema.tables next row to_run_cycle ≡ true
+    new_parent : it.trees Offset ≡ it.trees t → has_parent schema.tables next row to_run_cycle ≡ true
     new_parent same =
-        let is = same_tree more apart t (table Offset) (is_listed more apart Offset) same in
+        let is = tree_tells same in
         let found_one = (subst (AllByRecursion (λ ref. list_any (λ parent. agree plain (1 ∷ 2 ∷ []) parent ref.columns
-        row) (db (tree RunCycle)) ≡ true)) (sym (ap (λ (d : Described). d.references) is)) takes.parents).0 in
-        let parent = some_has (λ p. agree plain (1 ∷ 2 ∷ []) p (1 ∷ 2 ∷ []) row) (db (tree RunCycle)) found_one in
+        row) (db (it.trees RunCycle)) ≡ true)) (sym (ap (λ (d : Described). d.references) is)) takes.parents).0 in
+        let parent = some_has (λ p. agree plain (1 ∷ 2 ∷ []) p (1 ∷ 2 ∷ []) row) (db (it.trees RunCycle)) found_one in
         held row parent.0 parent.1 parent.2
 
-    parent_of : Refers Whole schema db → tree Offset ≡ tree t → (r : Row)
+    parent_of : Refers Whole schema db → it.trees Offset ≡ it.trees t → (r : Row)
         → Has (row ∷ []) r ⊎ Has was r → has_parent schema.tables next r to_run_cycle ≡ true
     parent_of refers same r (inl (inl is)) =
         subst (λ r. has_parent schema.tables next r to_run_cycle ≡ true) (sym is) (new_parent same)
@@ -196,70 +225,73 @@ module _ (more : Further) (apart : AllByRecursion (IsApart plan_schema.tables) m
     parent_of refers same r (inr kept) = old_parent refers r (subst (λ n. Has (db n) r) (sym same) kept)
 
     pub refers_after : Refers Whole schema db → Refers Whole schema next
-    refers_after refers = refers_still more apart t db next (row ∷ []) others from refers (λ r has.
-        elim (cases_eq (tree Offset) (tree t)) [
+    refers_after refers = refers_still schema it t db next (row ∷ []) others from refers (λ r has.
+        elim (cases_eq (it.trees Offset) (it.trees t)) [
           | inl same ↦ parent_of refers same r (from r (subst (λ n. Has (next n) r) same has))
-          | inr other ↦ old_parent refers r (subst (λ rows. Has rows r) (others (table Offset) (is_listed more apart Offset)
+          | inr other ↦ old_parent refers r (subst (λ rows. Has rows r) (others (table_at (it.trees Offset) Offset) (is_listed schema it Offset)
               other) has)
         ])
 
   -- ---- it is not refused
 
   abbrev with_row : Trees
-  with_row = with_tree db (tree t) (edited db edit)
+  with_row = with_tree db (it.trees t) (edited db edit)
 
-  not_refused : Keeps Unique schema db → (why : Refusal) → IsRefused schema Enforced db edit why → ⊥
+  -- no two rows of a table have one key, and what the offsets refer to is one
+  abbrev HasKeys : Type 0
+  HasKeys = Keeps Unique schema db × (is_key_of schema to_run_cycle ≡ true)
+
+  not_refused : HasKeys → (why : Refusal) → IsRefused schema Enforced db edit why → ⊥
   not_refused keeps (Violates Datatype) h =
-      true≢false (sym (all_pass (passes Datatype schema db (table t)) (and_from _ _ takes.typed refl)) ∙ h)
+      true≢false (sym (all_pass (passes Datatype schema db (table_at (it.trees t) t)) (and_from _ _ takes.typed refl)) ∙ h)
   not_refused keeps (Violates NotNull) h =
-      true≢false (sym (all_pass (passes NotNull schema db (table t)) takes.present) ∙ h)
+      true≢false (sym (all_pass (passes NotNull schema db (table_at (it.trees t) t)) takes.present) ∙ h)
   not_refused keeps (Violates Check) h =
-      true≢false (sym (all_pass (passes Check schema db (table t)) takes.checked) ∙ h)
+      true≢false (sym (all_pass (passes Check schema db (table_at (it.trees t) t)) takes.checked) ∙ h)
   not_refused keeps (Violates PrimaryKey) h =
       true≢false (sym is_fresh ∙ subst (λ news. are_fresh was news ≡ false) news_are h)
-  not_refused keeps (Violates Unique) h = h (unique_after with_row (at_own db (tree t) (edited db edit) ∙ edited_is)
-      (λ d listed other. at_other db d.tree (tree t) (edited db edit) other) keeps)
+  not_refused keeps (Violates Unique) h = h (unique_after with_row (at_own db (it.trees t) (edited db edit) ∙ edited_is)
+      (λ d listed other. at_other db d.tree (it.trees t) (edited db edit) other) keeps.0)
   not_refused keeps (Violates ForeignKey) h = h
   not_refused keeps Mismatch h = true≢false (sym (all_pass (λ r. is_int (rowid r)) takes.numbered) ∙ h)
   not_refused keeps NoRowid h = true≢false (sym (all_pass (λ r. fits_i64 (id_in (rowid r))) takes.within) ∙ h)
-  not_refused keeps BadReference h = true≢false (sym (and_from _ _ (adds_fit more t) refl) ∙ h)
+  not_refused keeps BadReference h = true≢false (sym (and_from _ _ (adds_fit keeps.1 t) refl) ∙ h)
   not_refused keeps TooDeep h = h
 
-  not_oversized : (r : Row) → Has edit.news r → IsOversized schema (table t) r → ⊥
+  not_oversized : (r : Row) → Has edit.news r → IsOversized schema (table_at (it.trees t) t) r → ⊥
   not_oversized r has big = go (subst (λ news. Has news r) news_are has) big
     where
-      go : Has (row ∷ []) r → IsOversized schema (table t) r → ⊥
+      go : Has (row ∷ []) r → IsOversized schema (table_at (it.trees t) t) r → ⊥
       go (inr none) big = none
-      go (inl same) (inl bad) = subst (λ r. ¬ IsStorableRow (table_reals (table t)) r) same bad takes.storable
-      go (inl same) (inr (i, there, at, bad)) = elim (has_either plan_schema.indexes more.indexes i there) [
-        | inl mine ↦ subst (λ r. ¬ IsStorable (index_reals
-            (table_reals (table t)) i.columns) (entry_of i.columns r)) same bad
-            (takes.entries i mine at)
-        | inr foreign ↦ all_has (λ (i : Index). (u : Table) → i.table ≢ tree u) more.indexes i own foreign t at
-      ]
+      go (inl same) (inl bad) = subst (λ r. ¬ IsStorableRow (table_reals (table_at (it.trees t) t)) r) same bad takes.storable
+      go (inl same) (inr (i, there, mine, bad)) =
+          let key = all_has (IsOwnIndex it.trees) schema.indexes i own there t mine in
+          subst (λ r. ¬ IsStorable (index_reals (table_reals (table_at (it.trees t) t)) i.columns) (entry_of i.columns r)) same bad
+          (subst (AllByRecursion (λ places. IsStorable (index_reals (table_reals (table_at (it.trees t) t)) places)
+          (entry_of places row))) key.0 takes.entries).0
 
   led_on : (why : Option Refusal) (next : Trees) (n : ℕ) → Leads schema Enforced n next [] (Err why) → ⊥
   led_on why next zero h = let e = h.1 in cc
   led_on why next (suc n) h = omega (arith, ap length h.2, length-append h.0 (h.1 ∷ []))
 
-  settled : (why : Option Refusal) (next : Trees) → Settles schema Enforced next ([] ++ works schema Enforced 0 (tree t)
+  settled : (why : Option Refusal) (next : Trees) → Settles schema Enforced next ([] ++ works schema Enforced 0 (it.trees t)
       [] edit.news) (Err why) → ⊥
   settled why next (n, leads) = led_on why next n (subst (λ stack. Leads schema Enforced n next stack (Err why))
-      (quiet_insert more apart t edit.news) leads)
+      (none_taken schema Enforced 0 (it.trees t) edit.news) leads)
 
   never_big : Writes schema Enforced db edit (Err None) → ⊥
   never_big (inl (reason, refused, e)) = absurd (let k = e in cc)
   never_big (inr (inl (r, has, big, e))) = not_oversized r has big
   never_big (inr (inr (next, applies, leads))) = settled None next leads
 
-  never : Keeps Unique schema db → (why : Refusal) → Writes schema Enforced db edit (Err (Some why)) → ⊥
+  never : HasKeys → (why : Refusal) → Writes schema Enforced db edit (Err (Some why)) → ⊥
   never keeps why (inl (reason, refused, e)) = not_refused keeps reason refused
   never keeps why (inr (inl (r, has, big, e))) = not_oversized r has big
   never keeps why (inr (inr (next, applies, leads))) = settled (Some why) next leads
 
   holds : Refers Whole schema db → (next : Trees) → Applies schema Enforced db edit next → Refers Whole schema next
   holds refers next applies = refers_after next (applies.rows ∙ edited_is) (λ d listed other. all_has (λ (u : Described).
-      u.tree ≢ tree t → next u.tree ≡ db u.tree) schema.tables d applies.tables listed other) refers
+      u.tree ≢ it.trees t → next u.tree ≡ db u.tree) schema.tables d applies.tables listed other) refers
 
   -- ---- the statement
 
@@ -274,7 +306,7 @@ module _ (more : Further) (apart : AllByRecursion (IsApart plan_schema.tables) m
 
   module _ (limit : Option ℕ) where
     abbrev task : Task
-    task = record { limit = limit; keys = Enforced; schema = schema; table = table t; params = cells }
+    task = record { limit = limit; keys = Enforced; schema = schema; table = table_at (it.trees t) t; params = cells }
 
     puts_none : Inserts task (Values (insert_terms t) (width t)) db (Err None) → ⊥
     puts_none (inl (Some e, h, is)) = absurd (let k = is in cc)
@@ -282,21 +314,21 @@ module _ (more : Further) (apart : AllByRecursion (IsApart plan_schema.tables) m
     puts_none (inr (rows, from, inl (s, counter, is))) = absurd (let e = counter in cc)
     puts_none (inr (rows, from, inr (c, counter, inl (s, (Some why, h, told), is)))) = absurd (let e = is in let k = told in cc)
     puts_none (inr (rows, from, inr (c, counter, inl (s, (None, h, told), is)))) = never_big (subst (λ rows. Writes
-        schema Enforced db (edit_of db (table t) [] Chosen 0 rows) (Err None)) (given rows from.1) h)
+        schema Enforced db (edit_of db (table_at (it.trees t) t) [] Chosen 0 rows) (Err None)) (given rows from.1) h)
     puts_none (inr (rows, from, inr (c, counter, inr (mid, h, inl (s, counted, is))))) = absurd (let e = counted in cc)
     puts_none (inr (rows, from, inr (c, counter, inr (mid, h, inr (next, counted, is))))) = absurd (let e = is in cc)
 
-    puts : Keeps Unique schema db → (stop : Option Error) → Inserts task (Values (insert_terms t) (width t)) db (Err stop)
+    puts : HasKeys → (stop : Option Error) → Inserts task (Values (insert_terms t) (width t)) db (Err stop)
         → (stop ≡ Some (SqliteFailure OperationInterrupted)) × IsSome limit
     puts keeps stop (inl (Some e, inl h, is)) = absurd (true≢false (sym takes_terms ∙ h.1))
     puts keeps stop (inl (Some e, inr h, is)) = (same_error is ∙ ap Some h.0, h.1)
     puts keeps stop (inl (None, h, is)) = absurd h
     puts keeps stop (inr (rows, from, inl (s, counter, is))) = absurd (let e = counter in cc)
     puts keeps stop (inr (rows, from, inr (c, counter, inl (s, (Some why, h, told), is)))) = absurd (never keeps why
-        (subst (λ rows. Writes schema Enforced db (edit_of db (table t) [] Chosen 0 rows) (Err (Some why))) (given rows
+        (subst (λ rows. Writes schema Enforced db (edit_of db (table_at (it.trees t) t) [] Chosen 0 rows) (Err (Some why))) (given rows
         from.1) h))
     puts keeps stop (inr (rows, from, inr (c, counter, inl (s, (None, h, told), is)))) = absurd (never_big (subst
-        (λ rows. Writes schema Enforced db (edit_of db (table t) [] Chosen 0 rows) (Err None)) (given rows from.1) h))
+        (λ rows. Writes schema Enforced db (edit_of db (table_at (it.trees t) t) [] Chosen 0 rows) (Err None)) (given rows from.1) h))
     puts keeps stop (inr (rows, from, inr (c, counter, inr (mid, h, inl (s, counted, is))))) =
         absurd (let e = counted in cc)
     puts keeps stop (inr (rows, from, inr (c, counter, inr (mid, h, inr (next, counted, is))))) =
@@ -310,8 +342,8 @@ module _ (more : Further) (apart : AllByRecursion (IsApart plan_schema.tables) m
     refers_then refers w (inr (rows, from, inr (c, counter, inr (mid, h, inl (s, counted, is))))) =
         absurd (let e = is in cc)
     refers_then refers w (inr (rows, from, inr (c, counter, inr (mid, h, inr (next, counted, is))))) =
-        let made = one_step schema Enforced db mid edit (quiet_insert more apart t edit.news) (subst (λ rows. Writes
-        schema Enforced db (edit_of db (table t) [] Chosen 0 rows) (Ok mid)) (given rows from.1) h) in
+        let made = one_step schema Enforced db mid edit (none_taken schema Enforced 0 (it.trees t) edit.news) (subst (λ rows. Writes
+        schema Enforced db (edit_of db (table_at (it.trees t) t) [] Chosen 0 rows) (Ok mid)) (given rows from.1) h) in
         let trees : w.trees ≡ mid = ap (λ (it : Written). it.trees) (same_value is) ∙ same_value counted in
         subst (Refers Whole schema) (sym trees) (holds refers mid made)
 
@@ -319,13 +351,13 @@ module _ (more : Further) (apart : AllByRecursion (IsApart plan_schema.tables) m
     mode = record { keys = Enforced; in_doubt = false; may_wait = false }
 
     abbrev command : Command
-    command = Insert (place t) (Values (insert_terms t) (width t))
+    command = Insert (it.at t) (Values (insert_terms t) (width t))
 
     abbrev DoesSo : List ℕ → Option Error → Type 0
     DoesSo text stop = Does limit mode cells (record { schema = schema; trees = db }) text None command (Err stop)
 
     pub never_stops : (text : List ℕ) → DoesSo text None → ⊥
-    never_stops text does = go (rw (found more t) at does)
+    never_stops text does = go (rw ((it.stands t).got) at does)
       where
         go : OnRows task mode None command db (Err None) → ⊥
         go (inl (s, h, is)) = puts_none (subst (λ s. Inserts task (Values (insert_terms t) (width t)) db (Err s)) (sym
@@ -334,9 +366,9 @@ module _ (more : Further) (apart : AllByRecursion (IsApart plan_schema.tables) m
         go (inr (w, h, inr (in_doubt, tested, inl (s, shown, is)))) = absurd (let e = shown in cc)
         go (inr (w, h, inr (in_doubt, tested, inr (rows, shown, is)))) = absurd (let e = is in cc)
 
-    pub stops : Keeps Unique schema db → Refers Whole schema db → (text : List ℕ) (stop : Option Error)
+    pub stops : HasKeys → Refers Whole schema db → (text : List ℕ) (stop : Option Error)
         → DoesSo text stop → (stop ≡ Some (SqliteFailure OperationInterrupted)) × IsSome limit
-    stops keeps refers text stop does = go (rw (found more t) at does)
+    stops keeps refers text stop does = go (rw ((it.stands t).got) at does)
       where
         go : OnRows task mode None command db (Err stop) → (stop ≡ Some (SqliteFailure OperationInterrupted)) × IsSome limit
         go (inl (s, h, is)) = let told = puts keeps s h in (same_error is ∙ told.0, told.1)
@@ -344,41 +376,46 @@ module _ (more : Further) (apart : AllByRecursion (IsApart plan_schema.tables) m
         go (inr (w, h, inr (in_doubt, tested, inl (s, shown, is)))) = absurd (let e = shown in cc)
         go (inr (w, h, inr (in_doubt, tested, inr (rows, shown, is)))) = absurd (let e = is in cc)
 
-ordinary : (t : Table) → IsOrdinary (Insert (place t) (Values (insert_terms t) (width t)))
-ordinary t = record {
-  quiet = refl;
-  plain = refl;
-  begins = λ e. cc;
-  commits = λ e. cc;
-  undoes = λ e. cc;
-  releases = λ name e. cc;
-  goes_back = λ name e. cc;
-}
+ordinary : (place : ℕ) (t : Table) → IsOrdinary (Insert place (Values (insert_terms t) (width t)))
+ordinary place t = record { quiet = refl; plain = refl; begins = λ e. cc; commits = λ e. cc; undoes = λ e. cc; releases = λ name e. cc; goes_back = λ name e. cc }
+
+-- in a database the key of the run cycles has its index
+pub cycles_keyed : (schema : Schema) (it : HasTables schema) → AllByRecursion (IsGuarded schema.indexes) schema.tables
+    → is_key_of schema to_run_cycle ≡ true
+unfolding joined
+cycles_keyed schema it guarded =
+    let known = is_listed schema it RunCycle in
+    let own = all_has (IsGuarded schema.indexes) schema.tables _ guarded known 0 (1 ∷ 2 ∷ []) refl in
+    let key = key_is schema (it.at RunCycle) (it.trees RunCycle) (it.trees Offset) (it.stands RunCycle) known it.apart (offsets_refer schema it) in
+    rw key (some_from (is_index_for (it.trees RunCycle, 1 ∷ 2 ∷ [], name_order)) schema.indexes (automatic (table_at (it.trees RunCycle) RunCycle) 0 (1 ∷ 2 ∷ []) own.0) own.1
+    (rw (eq-eqb (it.trees RunCycle) (it.trees RunCycle) refl) refl))
 
 pub take_fails : (t : Table) (cells : Row) (old new : State) (e : Error) → IsSoundPlan old
     → TakesRow t cells (tables_of old.now.trees) → ExecutesInside 0 (insert_sql t) cells old new (Err e)
     → MayFail old new e
 take_fails t cells old new e sound takes h =
-    let has = sound.plan.schema in
-    let more = has.more in
-    let apart = recursion_from_All (IsApart plan_schema.tables) more.tables has.apart in
-    let own = subst HasOwnIndexes has.is sound.own in
+    let schema = old.now.schema in
+    let it = sound.plan.schema in
+    let own = sound.own it in
     let sql = insert_sql t in
-    let text = statement_of sql (understood (plan_and more) sql) in
-    let command = Insert (place t) (Values (insert_terms t) (width t)) in
+    let text = statement_of sql (understood schema sql) in
+    let command = Insert (it.at t) (Values (insert_terms t) (width t)) in
     let db = old.now.trees in
-    let turned = λ (stop : Option Error) (does : Does old.step_limit (mode_of old) cells old.now text None command
-    (Err stop)). subst (λ s. Does old.step_limit (mode_of old) cells (record old.now { schema = s }) text None command
-    (Err stop)) has.is does in
+    let row = subst (TakesRow t cells) (rows_are old sound.plan) takes in
+    let means = insert_means schema (it.at t) (it.trees t) t (it.stands t) in
     in_vain old new cells text command e
-    (λ does. never_stops more apart own t cells db takes old.step_limit text (turned None does))
+    (λ does. never_stops schema it own t cells db row old.step_limit text does)
     (λ opened does.
-    let database = subst (λ s. IsSound s db) has.is (sound.sound opened) in
-    let told = stops more apart own t cells db takes old.step_limit (database.obeys.rules Unique)
-    (database.obeys.rules ForeignKey) text (Some e) (turned (Some e) does) in (some_same told.0, told.1))
-    (stopped (plan_and more) sql cells command (subst (IsWhole (understood (plan_and
-    more) sql) (length sql)) (sym takes.whole) (insert_fits more t)) (insert_plain more t) (insert_is more t) (ordinary t)
-    old new e has.is h)
+    let database = sound.sound opened in
+    let keys : Keeps Unique schema db × (is_key_of schema to_run_cycle ≡ true) = (
+      database.obeys.rules Unique,
+      cycles_keyed
+          schema it database.lists.guarded,
+    ) in
+    let told = stops schema it own t cells db row old.step_limit keys (database.obeys.rules ForeignKey) text (Some e) does in
+    (some_same told.0, told.1))
+    (stopped schema sql cells command (subst (IsWhole (understood schema sql) (length sql)) (sym takes.whole) means.whole)
+    means.plain means.is (ordinary (it.at t) t) old new e refl h)
 
 pub still_sound : (old new : State) (rows : Tables) → IsSoundPlan old → Stands old new rows
     → new.now.schema ≡ old.now.schema → IsDatabase new.now → IsSoundPlan new
@@ -393,13 +430,6 @@ pub take_sound : (t : Table) (cells : Row) (old new : State) (count : ℕ) → I
     → TakesRow t cells (tables_of old.now.trees) → ExecutesInside 0 (insert_sql t) cells old new (Ok count)
     → IsSoundPlan new × (IsTrue old.is_open → IsTrue new.is_open) × (tables_of new.now.trees ≡ with_cells t cells (tables_of old.now.trees))
 take_sound t cells old new count sound takes h =
-    let has = sound.plan.schema in
-    let more = has.more in
-    let w = runs_as (insert_sql t) cells old new (plan_and more) has.is (Insert (place t) (Values (insert_terms t)
-    (width t))) (insert_is more t) (insert_plain more t) count h.0 in
-    let stands = inserted t cells old new count sound.plan takes.kinds h in (
-      still_sound old new _ sound stands (inserted_beside t cells old new count
-          sound.plan takes.kinds h) w.sound,
-      (λ _. h.1.is_open),
-      stands.rows_are,
-    )
+    let stands = inserted t cells old new count sound.plan takes.kinds h in
+    let kept = put_soundly t cells old new count sound.plan takes.kinds h in
+    (still_sound old new _ sound stands kept.0 kept.1, (λ _. h.1.is_open), stands.rows_are)

@@ -1,6 +1,9 @@
 pub mod Texts
+pub mod Places
 pub mod Schema
 pub mod Cells
+pub mod Free
 pub mod Rows
 pub mod Takes
+pub mod Made
 pub mod Writes

@@ -1,9 +1,9 @@
 -- The rows of the tables, and what one statement makes of them.
-use Rattle.std.specs.Prelude.{◌≡◌, ◌⊎◌, Bool, false, not, ◌==◌, if◌then◌else◌, List, [], ◌∷◌, filter, IsTrue, IsSome, ⊤}
+use Rattle.std.specs.Prelude.{◌≡◌, ◌≢◌, ◌⊎◌, Bool, false, not, ◌==◌, if◌then◌else◌, List, [], ◌∷◌, filter, IsTrue, IsSome, ⊤}
 use Rattle.std.specs.List.{AllByRecursion, list_all}
 use Rattle.std.specs.Ordering.{is_eq, match_ordering}
+use Rattle.sqlite.specs.Effect.{Database}
 use Rattle.sqlite.specs.Order.{Row}
-use Rattle.sqlite.specs.Schema.{Schema}
 use Rattle.sqlite.specs.State.{HasCause, State, store_error}
 use Rattle.sqlite_trees.specs.declared.error.StoreError.{StoreError}
 use Rattle.sqlite.specs.declared.error.Error.{Error}
@@ -15,9 +15,11 @@ use Rattle.sqlite.specs.View.{is_int}
 use Rattle.sqlite_rules.specs.Cast.{cast_row}
 use Rattle.sqlite_rules.specs.Edit.{with_rowid}
 use Rattle.sqlite.specs.Rowids.TheVariants.{Chosen}
+use Rattle.sqlite_trees.specs.Objects.{catalog_tree}
 use Rattle.sqlite_value.specs.Order.{value_cmp}
 use Rattle.table_schema.specs.Cells.{delete_tests, insert_terms, select_terms}
-use Rattle.table_schema.specs.Schema.{HasTables, no_schema, plan_schema, table, tree}
+use Rattle.table_schema.specs.Places.{tree_named}
+use Rattle.table_schema.specs.Schema.{HasTables, name, place, table}
 use Rattle.table_schema.specs.declared.tables.Table.{Table}
 use Rattle.table_schema.specs.declared.tables.Table.TheVariants.{Offset, RunCycle}
 
@@ -25,8 +27,9 @@ use Rattle.table_schema.specs.declared.tables.Table.TheVariants.{Offset, RunCycl
 abbrev pub Tables : Type 0
 Tables = Table → List Row
 
+-- those of a database: of each table those in the tree that the list of objects tells
 abbrev pub tables_of : Trees → Tables
-tables_of db t = db (tree t)
+tables_of db t = db (tree_named (db catalog_tree) (name t))
 
 -- the row that these values make: its rowid, or NULL where one is to be chosen, and its columns
 abbrev pub stored : Table → Row → Row
@@ -51,7 +54,7 @@ placed new (r ∷ rs) = match_ordering (value_cmp (rowid r) (rowid new)) (r ∷ 
     ∷ r ∷ rs)
 
 abbrev pub with_rows : Table → List Row → Tables → Tables
-with_rows t rows all u = if tree u == tree t then rows else all u
+with_rows t rows all u = if place u == place t then rows else all u
 
 -- the tables with a row of these values in one of them
 abbrev pub with_cells : Table → Row → Tables → Tables
@@ -75,14 +78,25 @@ abbrev pub HaveRowids : List Row → Type 0
 HaveRowids [] = ⊤
 HaveRowids (r ∷ rs) = IsTrue (is_int (rowid r)) × AllByRecursion (Differ r) rs × HaveRowids rs
 
--- the database has the tables of the plan, and after them perhaps others
+-- the database has the tables of the plan, and perhaps others; its list of objects tells their trees
 pub record IsPlan (s : State) : Type 0 where
   pub schema : HasTables s.now.schema
+  pub told : (t : Table) → tree_named (s.now.trees catalog_tree) (name t) ≡ schema.trees t
   pub rowids : (t : Table) → HaveRowids (tables_of s.now.trees t)
 
--- inside a transaction the tables now have these rows
+-- each table that is none of the plan has the rows that it had
+abbrev pub KeepsBeside : Database → Database → Type 0
+KeepsBeside old new =
+    AllByRecursion (λ d. ((t : Table) → d.tree ≢ tree_named (old.trees catalog_tree) (name t))
+    → new.trees d.tree ≡ old.trees d.tree) old.schema.tables
+
+-- inside a transaction the tables now have these rows; the others stand as they stood
 pub record Stands (old new : State) (rows : Tables) : Type 0 where
   pub plan : IsPlan new
+  pub schema : new.now.schema ≡ old.now.schema
+  pub same : (t : Table) → tree_named (new.now.trees catalog_tree) (name t)
+      ≡ tree_named (old.now.trees catalog_tree) (name t)
+  pub others : KeepsBeside old.now new.now
   pub rows_are : tables_of new.now.trees ≡ rows
   pub committed : new.committed ≡ old.committed
   pub mode : IsTrue new.in_transaction
@@ -96,20 +110,3 @@ MayFail old new e = ((cause : StoreError) × (e ≡ store_error cause) × HasCau
 -- no table has a row
 abbrev pub no_rows : Tables
 no_rows t = []
-
--- in a transaction the database has no tables
-abbrev pub IsEmptyInside : State → Type 0
-IsEmptyInside s = (s.now.schema ≡ no_schema) × IsTrue s.in_transaction
-
--- in a transaction the database has the tables of this schema, and no rows in them
-pub record IsMade (s : State) (made : Schema) : Type 0 where
-  pub schema : s.now.schema ≡ made
-  pub empty : AllByRecursion (λ t. s.now.trees t.tree ≡ []) made.tables
-  pub mode : IsTrue s.in_transaction
-
--- in a transaction the database has the tables of the plan, no others, and no rows in them
-pub record IsMadeWhole (s : State) : Type 0 where
-  pub alone : s.now.schema ≡ plan_schema
-  pub plan : IsPlan s
-  pub rows_are : tables_of s.now.trees ≡ no_rows
-  pub mode : IsTrue s.in_transaction

@@ -1,6 +1,6 @@
 -- The tables of the plan and their indexes.
-use Rattle.std.specs.Prelude.{◌≡◌, ◌≢◌, ℕ, true, false, List, [], ◌∷◌, ◌++◌, map, take, Option, Some, None, pos, codes}
-use Rattle.std.specs.List.{All}
+use Rattle.std.specs.Prelude.{◌≡◌, ◌⊎◌, ℕ, true, false, List, [], ◌∷◌, map, Option, Some, None, pos, codes}
+use Rattle.std.specs.List.{AllByRecursion}
 use Rattle.sqlite.specs.declared.types.Value.TheVariants.{Null, Int}
 use Rattle.sqlite.specs.Collation.TheVariants.{Binary}
 use Rattle.sqlite.specs.Kind.{Kind}
@@ -13,12 +13,13 @@ use Rattle.sqlite_schema.specs.declared.schema.Action.TheVariants.{NoAction, Cas
 use Rattle.sqlite_schema.specs.declared.schema.Column.{Column}
 use Rattle.sqlite_schema.specs.declared.schema.Index.{Index}
 use Rattle.sqlite_schema.specs.declared.schema.Reference.{Reference}
-use Rattle.sqlite_schema.specs.declared.schema.View.{View}
 use Rattle.sqlite_schema.specs.Names.{same_name}
 use Rattle.sqlite_sql.specs.declared.ops.BinaryOp.TheVariants.{Compare}
 use Rattle.sqlite_sql.specs.declared.ops.CompareOp.TheVariants.{Eq}
+use Rattle.sqlite_trees.specs.Tree.{IsAscending}
 use Rattle.sqlite_value.specs.Keys.{plain}
 use Rattle.sqlite_value.specs.declared.keys.Order.{Order}
+use Rattle.table_schema.specs.Places.{StandsAt, TreesDiffer}
 use Rattle.table_schema.specs.declared.tables.Table.{Table}
 use Rattle.table_schema.specs.declared.tables.Table.TheVariants.{Meta, CalendarEntry, Period, Application}
 use Rattle.table_schema.specs.declared.tables.Table.TheVariants.{RunCycle, Offset, Predecessor, LinkInForce}
@@ -94,7 +95,7 @@ name Deletion = codes "deletion_row"
 name Dependency = codes "dependency"
 name Job = codes "job"
 
--- which table it is in the schema
+-- which of the tables it is
 abbrev pub place : Table → ℕ
 place Meta = 0
 place CalendarEntry = 1
@@ -288,81 +289,34 @@ indexes = automatic (table CalendarEntry) 0 (1 ∷ 2 ∷ 3 ∷ []) 2 ∷ automat
     0 (1 ∷ 2 ∷ []) 14 ∷ automatic (table LongTerm) 0 (2 ∷ 3 ∷ []) 16 ∷ automatic (table History) 0 (2 ∷ 3 ∷ []) 19
     ∷ automatic (table Dependency) 0 (1 ∷ 2 ∷ []) 22 ∷ []
 
--- how many indexes are made before the table
-abbrev pub indexes_before : Table → ℕ
-indexes_before Meta = 0
-indexes_before CalendarEntry = 0
-indexes_before Period = 1
-indexes_before Application = 2
-indexes_before RunCycle = 3
-indexes_before Offset = 4
-indexes_before Predecessor = 5
-indexes_before LinkInForce = 6
-indexes_before LongTerm = 7
-indexes_before Current = 8
-indexes_before History = 8
-indexes_before Deletion = 9
-indexes_before Dependency = 9
-indexes_before Job = 10
-
--- the first tables, with the first indexes
-abbrev pub first_tables : ℕ → ℕ → Schema
-first_tables tables made = record {
-  tables = take tables (map table all_tables);
-  indexes =
-      take made indexes;
-  views = [];
-}
-
--- the schema before the table is made, and after it
-abbrev pub before : Table → Schema
-before t = first_tables (place t) (indexes_before t)
-
 abbrev pub plan_schema : Schema
 plan_schema = record { tables = map table all_tables; indexes = indexes; views = [] }
 
--- what stands after the tables of the plan and their indexes, and the views
-pub record Further : Type 0 where
-  pub tables : List Described
-  pub indexes : List Index
-  pub views : List View
-
-abbrev pub plan_and : Further → Schema
-plan_and more = record {
-  tables = map table all_tables ++ more.tables;
-  indexes = indexes ++ more.indexes;
-  views = more.views;
-}
-
 -- the reference is to none of the tables
-abbrev pub IsAside : List Described → Reference → Type 0
-IsAside tables ref = All (λ t. same_name t.name ref.parent ≡ false) tables
+abbrev pub IsAside : Reference → Type 0
+IsAside ref = (t : Table) → same_name (name t) ref.parent ≡ false
 
--- the table is in the tree of none of the tables, and refers to none
-abbrev pub IsApart : List Described → Described → Type 0
-IsApart tables other = All (λ t. t.tree ≢ other.tree) tables × All (IsAside tables) other.references
+-- no reference is to one of the tables, but that of the offsets, which stand in this tree
+abbrev pub RefersAside : Schema → ℕ → Type 0
+RefersAside schema n = AllByRecursion (λ child. AllByRecursion (λ ref. IsAside ref
+    ⊎ ((child ≡ table_at n Offset) × (ref ≡ to_run_cycle))) child.references) schema.tables
 
--- the tables of the plan with their indexes, and after them perhaps others, which refer to none of the plan; and views
+-- the tables of the plan stand in the schema, each at some place and in some tree, and perhaps others, which refer to
+-- none of these
 pub record HasTables (schema : Schema) : Type 0 where
-  pub more : Further
-  pub is : schema ≡ plan_and more
-  pub apart : All (IsApart plan_schema.tables) more.tables
+  pub at : Table → ℕ
+  pub trees : Table → ℕ
+  pub stands : (t : Table) → StandsAt schema (table_at (trees t) t) (at t)
+  pub apart : IsAscending TreesDiffer schema.tables
+  pub refer : RefersAside schema (trees Offset)
+
+-- where the index is of a table of the plan, it is that of its key
+abbrev pub IsOwnIndex : (Table → ℕ) → Index → Type 0
+IsOwnIndex trees i = (t : Table) → i.table ≡ trees t → (uniques t ≡ i.columns ∷ []) × (i.order ≡ plain)
+
+-- each index of a table of the plan is that of its key
+abbrev pub HasOwnIndexes : Schema → Type 0
+HasOwnIndexes schema = (has : HasTables schema) → AllByRecursion (IsOwnIndex has.trees) schema.indexes
 
 abbrev pub no_schema : Schema
 no_schema = record { tables = []; indexes = []; views = [] }
-
-abbrev pub after : Table → Schema
-after Meta = before CalendarEntry
-after CalendarEntry = before Period
-after Period = before Application
-after Application = before RunCycle
-after RunCycle = before Offset
-after Offset = before Predecessor
-after Predecessor = before LinkInForce
-after LinkInForce = before LongTerm
-after LongTerm = before Current
-after Current = before History
-after History = before Deletion
-after Deletion = before Dependency
-after Dependency = before Job
-after Job = plan_schema

@@ -1,25 +1,22 @@
 -- What the tables of a plan take.
-use Rattle.std.specs.Prelude.{◌≡◌, ◌≢◌, ℕ, ℤ, true, false, List, [], ◌∷◌, drop, length, IsTrue}
+use Rattle.std.specs.Prelude.{◌≡◌, ℕ, ℤ, true, false, List, [], ◌∷◌, drop, length, IsTrue}
 use Rattle.std.specs.List.{AllByRecursion, list_any}
 use Rattle.sqlite.specs.Effect.{IsDatabase}
 use Rattle.sqlite.specs.Order.{Row}
 use Rattle.sqlite.specs.Rowids.TheVariants.{Chosen}
-use Rattle.sqlite.specs.Schema.{Schema}
 use Rattle.sqlite.specs.State.{State}
 use Rattle.sqlite.specs.Tree.{rowid}
 use Rattle.sqlite.specs.View.{is_int}
 use Rattle.sqlite.specs.declared.types.Value.TheVariants.{Int, Text}
 use Rattle.sqlite_rules.specs.Edit.{id_in, is_taken, with_rowid}
-use Rattle.sqlite_rules.specs.Lists.{Has}
 use Rattle.sqlite_schema.specs.Rules.{agree, are_present, are_typed, index_reals, passes_checks, table_reals}
-use Rattle.sqlite_schema.specs.declared.schema.Index.{Index}
 use Rattle.sqlite_sql.specs.Catalog.{entry_of}
 use Rattle.sqlite_sql.specs.Ops.{fits_i64}
 use Rattle.sqlite_trees.specs.View.{IsStorable, IsStorableRow}
 use Rattle.sqlite_value.specs.Keys.{plain}
 use Rattle.table_schema.specs.Cells.{column_names}
 use Rattle.table_schema.specs.Rows.{AreOfKinds, IsAlone, IsPlan, Tables, stored}
-use Rattle.table_schema.specs.Schema.{columns, key, plan_schema, primary, references, table, tree, uniques}
+use Rattle.table_schema.specs.Schema.{HasOwnIndexes, columns, key, primary, references, table, uniques}
 use Rattle.table_schema.specs.declared.tables.Table.{Table}
 use Rattle.table_schema.specs.declared.tables.Table.TheVariants.{Meta, CalendarEntry, Period, Application}
 use Rattle.table_schema.specs.declared.tables.Table.TheVariants.{RunCycle, Offset, Predecessor, LinkInForce}
@@ -51,8 +48,8 @@ pub record TakesRow (t : Table) (cells : Row) (all : Tables) : Type 0 where
   pub present : are_present (key t) 0 (columns t) (new_row t cells all) ≡ true
   pub checked : passes_checks (table t) (new_row t cells all) ≡ true
   pub storable : IsStorableRow (table_reals (table t)) (new_row t cells all)
-  pub entries : (i : Index) → Has plan_schema.indexes i → i.table ≡ tree t
-      → IsStorable (index_reals (table_reals (table t)) i.columns) (entry_of i.columns (new_row t cells all))
+  pub entries : AllByRecursion (λ places. IsStorable (index_reals (table_reals (table t)) places)
+      (entry_of places (new_row t cells all))) (uniques t)
   pub numbered : is_int (rowid (new_row t cells all)) ≡ true
   pub within : fits_i64 (id_in (rowid (new_row t cells all))) ≡ true
   pub fresh : is_taken (all t) (new_row t cells all) ≡ false
@@ -89,11 +86,6 @@ abbrev pub LosesKey : Table → Row → Tables → Type 0
 LosesKey t values all = IsKeyOf t values × IsAlone t values all
 
 -- ---- the database
-
--- no index but those of the plan is of a table of the plan
-abbrev pub HasOwnIndexes : Schema → Type 0
-HasOwnIndexes schema =
-    AllByRecursion (λ i. (t : Table) → i.table ≢ tree t) (drop (length plan_schema.indexes) schema.indexes)
 
 -- in a transaction the database has the tables of the plan with no other indexes, and obeys its rules
 pub record IsSoundPlan (s : State) : Type 0 where

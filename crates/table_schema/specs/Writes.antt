@@ -1,5 +1,6 @@
 -- What statements on a transaction do to the tables of a plan.
 use Rattle.std.specs.Prelude.{◌≡◌, Result, IfErr, OnOk, IsTrue, ⊤}
+use Rattle.sqlite.specs.Effect.{Database}
 use Rattle.sqlite.specs.Held.{state}
 use Rattle.sqlite.specs.State.{HasCleanDisk, KeepsCommit, State, Survives}
 use Rattle.sqlite.specs.Store.{Ghosts}
@@ -36,14 +37,16 @@ pub record TakesWhere {S T : Type 0} (Take : Tables → Type 0) (g : Ghosts S) (
       → OnOk result (IsSoundPlan (seen g new) × (IsTrue (seen g old).is_open → IsTrue (seen g new).is_open)
       × (tables_of (seen g new).now.trees ≡ after (tables_of (seen g old).now.trees)))
 
--- of such a state an Ok makes one of those; it fails for nothing that stands in the tables, and nothing is committed
+-- Whatever it began with, of such a state an Ok makes one of those; it fails for nothing that stands in the tables, and
+-- nothing is committed.
 pub record Makes {S T : Type 0} (g : Ghosts S) (old new : Transaction S) (result : Result T Error)
-    (Before After : State → Type 0) : Type 0 where
+    (Before After : Database → State → Type 0) : Type 0 where
   pub same_reference : new.conn.ghost_name ≡ old.conn.ghost_name
-  pub ok : HasCleanDisk (seen g new) → Before (seen g old) → OnOk result (After (seen g new))
-  pub fails : HasCleanDisk (seen g new) → Before (seen g old)
+  pub ok : HasCleanDisk (seen g new) → (base : Database) → Before base (seen g old)
+      → OnOk result (After base (seen g new))
+  pub fails : HasCleanDisk (seen g new) → (base : Database) → Before base (seen g old)
       → IfErr result (MayFail (seen g old) (seen g new))
-  pub stays_open : HasCleanDisk (seen g new) → Before (seen g old)
+  pub stays_open : HasCleanDisk (seen g new) → (base : Database) → Before base (seen g old)
       → OnOk result (IsTrue (seen g new).is_open)
   pub kept : HasCleanDisk (seen g new) → KeepsCommit (seen g old) (seen g new)
   pub survives : Survives (seen g old) (seen g new) (λ _. ⊥)

@@ -1,23 +1,24 @@
 -- What statements in turn take, and why they fail.
-use Rattle.std.proofs.Common.{◌≡◌, ◌≤◌, ◌<◌, ◌+◌, ◌∙◌, ℕ, suc, Bool, true, false, inl, inr, List, [], ◌∷◌, length, drop, fold}
+use Rattle.std.proofs.Common.{◌≡◌, ◌≤◌, ◌<◌, ◌+◌, ◌∙◌, ℕ, suc, Bool, true, false, inl, inr, List, ◌∷◌, length, drop}
 use Rattle.std.proofs.Common.{get_or, drop-cons, add-one, refl, sym, ap, subst, arith, true≢false, IsSome, IsTrue, Result, Ok, Err}
 use Rattle.std.specs.Prelude.{IfErr, IsErrAnd, OnOk}
 use Rattle.sqlite.specs.Order.{Row as Values}
 use Rattle.sqlite.specs.Effect.{Database}
 use Rattle.sqlite.specs.Held.{Held, state}
-use Rattle.sqlite.specs.State.{HasCause, HasCleanDisk, IsLive, State, Survives}
+use Rattle.sqlite.specs.State.{HasCause, IsLive, State, Survives}
 use Rattle.sqlite.specs.Steps.{FailsToCommit}
 use Rattle.sqlite.specs.Store.{Ghosts}
 use Rattle.sqlite.specs.declared.error.Error.{Error}
 use Rattle.sqlite.specs.declared.transaction.Transaction.{Transaction}
 use Rattle.sqlite_trees.specs.declared.error.StoreError.{StoreError}
 use Rattle.sqlite_trees.specs.declared.error.StoreError.TheVariants.{OutOfMemory, Io, Corrupt, Full, Broken, Unstorable}
-use Rattle.table_schema.specs.Rows.{HaveRowids, IsPlan, MayFail, Tables, tables_of, with_cells}
-use Rattle.table_schema.specs.Schema.{HasTables}
-use Rattle.table_schema.specs.Takes.{HasOwnIndexes, IsSoundPlan, TakesRow}
-use Rattle.table_schema.specs.Writes.{TakesWhere, seen}
+use Rattle.table_schema.specs.Rows.{IsAlone, IsPlan, MayFail, Tables, tables_of, with_cells, without_key}
+use Rattle.table_schema.specs.Schema.{HasOwnIndexes}
+use Rattle.table_schema.specs.Takes.{IsSoundPlan, LosesKey, TakesRow}
+use Rattle.table_schema.specs.Writes.{TakesWhere, WritesWhere, seen}
+use Rattle.table_schema.proofs.StatementLemmas.{plan_still}
 use Rattle.table_schema.specs.declared.tables.Table.{Table}
-use Rattle.table_writing.specs.Taking.{TakesEach}
+use Rattle.table_writing.specs.Taking.{TakesEach, WritesTaking}
 
 -- what causes a failure after a statement caused it since that statement began
 pub may_since : (a b c : State) (e : Error) → a.faults ≤ b.faults → (IsTrue a.is_open → IsTrue b.is_open)
@@ -141,7 +142,7 @@ pub begins_sound : {S : Type 0} (g : Ghosts S) (held begun : Held S) → begun �
     → IsLive (state g held) → IsPlan (state g held) → HasOwnIndexes (state g held).now.schema
     → IsSoundPlan (state g begun)
 begins_sound g held begun is live plan own = subst (λ h. IsSoundPlan (state g h)) (sym is) (record {
-  plan = record { schema = plan.schema; rowids = plan.rowids };
+  plan = record { schema = plan.schema; told = plan.told; rowids = plan.rowids };
   own = own;
   sound = λ o. (live o).0;
   mode = refl;
@@ -150,10 +151,18 @@ begins_sound g held begun is live plan own = subst (λ h. IsSoundPlan (state g h
 -- what is committed is a plan with these rows
 pub plan_on : (mid new : State) (rows : Tables) → new.now ≡ mid.now → IsPlan mid → tables_of mid.now.trees ≡ rows
     → IsPlan new × (tables_of new.now.trees ≡ rows)
-plan_on mid new rows is plan rows_are = (
-  record {
-    schema = subst (λ (db : Database). HasTables db.schema) (sym is) plan.schema;
-    rowids = subst (λ (db : Database). (t : Table) → HaveRowids (tables_of db.trees t)) (sym is) plan.rowids;
-  },
-  ap (λ (db : Database). tables_of db.trees) is ∙ rows_are,
-)
+plan_on mid new rows is plan rows_are = (plan_still mid new is plan, ap (λ (db : Database). tables_of db.trees) is ∙ rows_are)
+
+-- what is taken out by a key that was handed over is taken out by that key
+pub taken_by : {S : Type 0} (g : Ghosts S) (old new : Transaction S) (result : Result (Unit {0}) Error) (t : Table)
+    (given key : Values) → given ≡ key → WritesWhere (IsAlone t given) g old new result (without_key t given)
+    → TakesWhere (LosesKey t given) g old new result (without_key t given)
+    → WritesTaking (IsAlone t key) (LosesKey t key) g old new result (without_key t key)
+taken_by g old new result t given key same writes takes =
+    subst (λ v. WritesTaking (IsAlone t v) (LosesKey t v) g old new result (without_key t v)) same (record {
+      same_reference = writes.same_reference;
+      ok = writes.ok;
+      kept = writes.kept;
+      survives = writes.survives;
+      takes = takes;
+    })

@@ -1,6 +1,6 @@
 -- Statements in turn.
 use Rattle.std.proofs.Common.{◌≡◌, ℕ, ◌+◌, ◌<◌, ◌≤◌, List, ◌∷◌, length, drop, fold, get_or, suc, sym, ap, ◌∙◌, add-one}
-use Rattle.std.proofs.Common.{drop-cons, IsTrue, refl, Result, Ok, Err}
+use Rattle.std.proofs.Common.{drop-cons, IsTrue, Result, Ok, Err}
 use Rattle.std.proofs.Common.{Bool, true, false, inl, inr}
 use Rattle.std.proofs.Common.{subst}
 use Rattle.std.specs.List.{Contains}
@@ -12,6 +12,7 @@ use Rattle.sqlite.specs.declared.error.Error.{Error}
 use Rattle.sqlite.specs.State.{KeepsCommit, State, Survives}
 use Rattle.sqlite.proofs.StateLemmas.{survives_then}
 use Rattle.table_schema.specs.Rows.{Stands, Tables, tables_of}
+use Rattle.table_schema.proofs.StatementLemmas.{stands_after}
 
 pub survives_both : (a b c : State) → Survives a b (λ _. ⊥) → Survives b c (λ _. ⊥) → Survives a c (λ _. ⊥)
 survives_both a b c one two = survives_then a b c _ _ (λ _. ⊥) (λ _ _ none. none) (λ _ _ none. none) one two
@@ -39,22 +40,12 @@ fold_done f items i now goal high so_far =
 pub stands_on : (old mid new : State) (rows : Tables) → Stands old mid (tables_of mid.now.trees) → Stands mid new rows
     → Stands old new (tables_of new.now.trees)
 stands_on old mid new rows one two =
-    record { plan = two.plan; rows_are = refl; committed = two.committed ∙ one.committed; mode = two.mode }
-
--- what was to be done is done
-pub stands_done : (old now : State) (rows : Tables) → Stands old now (tables_of now.now.trees)
-    → tables_of now.now.trees ≡ rows → Stands old now rows
-stands_done old now rows one is =
-    record { plan = one.plan; rows_are = is; committed = one.committed; mode = one.mode }
+    subst (Stands old new) (sym two.rows_are) (stands_after old mid new _ rows one two)
 
 pub stands_then : (old mid new : State) (first : Tables) (f : Tables → Tables) → Stands old mid first
     → Stands mid new (f (tables_of mid.now.trees)) → Stands old new (f first)
-stands_then old mid new first f one two = record {
-  plan = two.plan;
-  rows_are = two.rows_are ∙ ap f one.rows_are;
-  committed = two.committed ∙ one.committed;
-  mode = two.mode;
-}
+stands_then old mid new first f one two =
+    subst (λ rows. Stands old new (f rows)) one.rows_are (stands_after old mid new first _ one two)
 
 pub then_ok : {A E : Type 0} (r : Result A E) (old mid new : State) (first : Tables) (f : Tables → Tables)
     → Stands old mid first → OnOk r (Stands mid new (f (tables_of mid.now.trees))) → OnOk r (Stands old new (f first))

@@ -4,7 +4,7 @@ ghost use Rattle.std.specs.Prelude.{◌≡◌, ◌<◌, ◌^◌, false, OnOk, On
 ghost use Rattle.sqlite.specs.State.{HasCleanDisk, Survives};
 ghost use Rattle.sqlite.specs.Held.{state};
 ghost use Rattle.table_schema.specs.Rows.{IsPlan, MayFail, tables_of};
-ghost use Rattle.table_schema.specs.Takes.{HasOwnIndexes};
+ghost use Rattle.table_schema.specs.Schema.{HasOwnIndexes};
 ghost use Rattle.planner_machine.specs.Moves.{or_else};
 ghost use Rattle.planner_machine.specs.declared.job.Job.{Job as JobValue};
 ghost use Rattle.plan_store.specs.Contents.{content_of};

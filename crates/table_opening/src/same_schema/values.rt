@@ -1,7 +1,6 @@
 // Bytes, places and values, and lists of what can be compared.
 
-ghost use Rattle.std.specs.Prelude.{◌≡◌, ◌≤◌, ◌↔◌, length, IsTrue};
-ghost use Rattle.table_opening.specs.Extended.{BeginsWith};
+ghost use Rattle.std.specs.Prelude.{◌≡◌, ◌↔◌, IsTrue};
 
 use sqlite_items::Items;
 use sqlite_schema::code::lend_value;
@@ -29,18 +28,6 @@ pub(crate) fn are_same<T: Same>(xs: &[T], ys: &[T]) -> bool
         }
     }
     true
-}
-
-/// Whether the list has the other as its first part.
-pub(crate) fn begins_with<T: Same>(xs: &[T], ys: &[T]) -> bool
-    ensures same { IsTrue result ↔ BeginsWith xs.now ys.now }
-    ensures fits { IsTrue result → length ys.now ≤ length xs.now }
-{
-    if xs.len() < ys.len() {
-        return false;
-    }
-    let (first, _) = xs.split_at(ys.len());
-    are_same(first, ys)
 }
 
 impl Same for Bytes {

@@ -6,3 +6,13 @@ pub returns-in-Err-clause-failed : goal.returns-in-Err-clause-failed
 returns-in-Err-clause-failed g c clean has =
     fails_to_remake (state g.S.Store c.args.conn.now) (state g.S.Store c.remake_tables.new.conn) c.in-Err.error
     c.renew_fault.result (c.in-Err.ensures.device clean has) c.renew_fault.ensures
+
+pub returns-in-Ok-clause-remade : goal.returns-in-Ok-clause-remade
+returns-in-Ok-clause-remade g c clean can =
+    let done = c.in-Ok.ensures.done clean can in record {
+      remade = done.1;
+      plan = done.0;
+      rows = done.2;
+      settled = c.in-Ok.ensures.committed clean;
+      is_open = c.in-Ok.ensures.stays_open clean;
+    }

@@ -1,4 +1,4 @@
-use Rattle.std.proofs.Common.{arith, sym}
+use Rattle.std.proofs.Common.{◌∙◌, arith, sym}
 use Rattle.sqlite.specs.Held.{state}
 use Rattle.sqlite.specs.State.{HasCleanDisk}
 use Rattle.sqlite.proofs.StateLemmas.{survives_then, survives_weaker}
@@ -6,7 +6,7 @@ use Rattle.plan_store.specs.Contents.{content_of}
 use Rattle.table_schema.specs.Rows.{tables_of}
 use Rattle.plan_tables.proofs.CauseLemmas.{failed_so, taken_rest}
 use Rattle.plan_tables.proofs.StorableMoves.{storable_moves}
-use Rattle.plan_tables.proofs.StoredLemmas.{left_fits, tables_after}
+use Rattle.plan_tables.proofs.StoredLemmas.{left_fits, stored_still, stored_unchanged, tables_after}
 use Rattle.plan_tables.proofs.keeping.change_both.Goals as goal
 
 pub complete-requires-clause-fits : goal.complete-requires-clause-fits
@@ -60,3 +60,27 @@ returns-in-Err-commit_change-clause-blames g c clean stored can is =
     (can.1 c.args.moves.now c.requires.moves) in
     failed_so old mid new _ _ _ stored.is_open calm c.commit_change.ensures.crash c.cause_of.ensures.survives
     (c.in-Err-commit_change.ensures.fails calm stored.plan can.0 taken) (c.cause_of.ensures.shut clean is)
+
+-- what a commit that failed kept is kept where the cause is asked for
+pub returns-in-Err-commit_change-clause-memory : goal.returns-in-Err-commit_change-clause-memory
+returns-in-Err-commit_change-clause-memory g c clean stored is =
+    let old = state g.S.Store c.args.conn.now in
+    let mid = state g.S.Store c.commit_change.new.conn in
+    let new = state g.S.Store c.cause_of.new.conn in
+    let calm : HasCleanDisk mid = omega (arith, c.cause_of.ensures.survives.clean, clean) in
+    let same = c.cause_of.ensures.open clean is in
+    let kept = c.in-Err-commit_change.ensures.kept calm stored.plan same.0.was_open in
+    stored_unchanged mid new (content_of c.args.lists.now)
+    (stored_still old mid (content_of c.args.lists.now) stored same.0.was_open kept.0 kept.1) same
+
+pub returns-in-Err-commit_change-clause-doubt : goal.returns-in-Err-commit_change-clause-doubt
+returns-in-Err-commit_change-clause-doubt g c clean stored is opens =
+    let old = state g.S.Store c.args.conn.now in
+    let mid = state g.S.Store c.commit_change.new.conn in
+    let new = state g.S.Store c.cause_of.new.conn in
+    let calm : HasCleanDisk mid = omega (arith, c.cause_of.ensures.survives.clean, clean) in
+    let back = c.cause_of.ensures.doubt clean is in
+    let kept = c.in-Err-commit_change.ensures.kept calm stored.plan (back.was_open opens) in
+    let undone = back.undone opens in
+    stored_still old new (content_of c.args.lists.now) stored opens (undone.0 ∙ kept.1 ∙ sym stored.settled)
+    (undone.1 ∙ kept.1)

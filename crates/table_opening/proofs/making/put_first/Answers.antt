@@ -1,7 +1,6 @@
 use Rattle.std.proofs.Common.{rules}
 use Rattle.sqlite.specs.Held.{state}
-use Rattle.table_schema.proofs.BlankLemmas.{first_row_fails}
-use Rattle.table_schema.proofs.ResultLemmas.{if_err}
+use Rattle.table_schema.proofs.BlankLemmas.{is_sound, takes_first}
 use Rattle.table_opening.proofs.FirstRows.{first_kinds}
 use Rattle.table_opening.proofs.OpenedLemmas.{made_first}
 use Rattle.table_opening.proofs.making.put_first.Goals as goal
@@ -12,11 +11,11 @@ returns g c =
     let new = state g.S.Store c.insert.new.tx.conn.now in
     record {
       same_reference = search rules;
-      ok = λ clean begun. made_first c.insert.result old new begun
+      ok = λ clean base begun. made_first c.insert.result base old new begun
           (c.insert.ensures.writes.ok clean begun.plan begun.mode first_kinds);
-      fails = λ clean begun. if_err c.insert.result _ _
-          (λ e h. first_row_fails old new e begun.alone begun.rows_are h) (c.insert.ensures.fails clean begun.mode);
-      stays_open = λ clean begun. c.insert.ensures.stays_open clean begun.mode;
+      fails = λ clean base begun. c.insert.ensures.takes.fails clean (is_sound base old begun)
+          (takes_first base old begun);
+      stays_open = λ clean base begun. c.insert.ensures.stays_open clean begun.mode;
       kept = search rules;
       survives = search rules;
     }

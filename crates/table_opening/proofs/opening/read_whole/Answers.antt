@@ -19,6 +19,7 @@ returns-in-Ok-Some-clause-opened g c clean plan =
     let told = at_some c.in-Ok-Some.field-0 _ _ c.in-Ok-Some.field-0-is (c.in-Ok-Some.ensures.told clean plan) in
     if_ok c.sound_content.result _ _ (λ content tells. read_opened old new (content_of content)
     (c.is_autocommit-settled.ensures.settled (c.is_autocommit-settled.ensures.value ∙ ap not c.requires))
+    c.schema.ensures.live
     c.in-Ok-Some.ensures.looks clean plan (all_rowids all told.1.0.1 told.0) (tells all told.1.0.0 told.1.1))
     c.sound_content.ensures.content
 

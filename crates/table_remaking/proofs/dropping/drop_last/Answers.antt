@@ -8,10 +8,10 @@ use Rattle.table_remaking.proofs.dropping.drop_last.Goals as goal
 pub returns : goal.returns
 returns g c = record {
   same_reference = search rules;
-  ok = λ clean has.
-      loses c.args.table (state g.S.Store c.args.tx.now.conn.now) (state g.S.Store c.execute.new.self.conn.now)
-      c.in_ok-execute.field-0 has
-      (rw c.drop_text.ensures at (c.in_ok-execute.ensures.runs clean has.1));
+  ok = λ clean base has.
+      loses c.args.table base (state g.S.Store c.args.tx.now.conn.now) (state g.S.Store c.execute.new.self.conn.now) has
+      c.in_ok-execute.field-0
+      (rw c.drop_text.ensures at (c.in_ok-execute.ensures.runs clean has.mode));
   device = search rules;
   stays_open = search rules;
   kept = search rules;
@@ -22,11 +22,11 @@ pub returns-in_err-execute : goal.returns-in_err-execute
 returns-in_err-execute g c = record {
   same_reference = search rules;
   ok = search rules;
-  device = λ clean has.
+  device = λ clean base has.
       let old = state g.S.Store c.args.tx.now.conn.now in
       let new = state g.S.Store c.execute.new.self.conn.now in
-      let caused = drop_cause c.args.table old new c.in_err-execute.field-0.0 has
-      (rw c.drop_text.ensures at (c.in_err-execute.ensures.runs clean has.1)) in
+      let caused = drop_cause c.args.table base old new has c.in_err-execute.field-0.0
+      (rw c.drop_text.ensures at (c.in_err-execute.ensures.runs clean has.mode)) in
       if_from c.from_residual.result _ _ (λ e same. subst (DeviceHasCause old new) (sym same) caused)
       c.from_residual.ensures.1;
   stays_open = search rules;

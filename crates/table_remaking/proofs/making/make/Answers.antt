@@ -8,8 +8,8 @@ use Rattle.table_remaking.proofs.making.make.Goals as goal
 pub returns : goal.returns
 returns g c = record {
   same_reference = search rules;
-  ok = λ clean has.
-      makes c.args.table (state g.S.Store c.args.tx.now.conn.now) (state g.S.Store c.execute.new.self.conn.now)
+  ok = λ clean base has.
+      makes c.args.table base (state g.S.Store c.args.tx.now.conn.now) (state g.S.Store c.execute.new.self.conn.now)
       c.in_ok-execute.field-0 has
       (rw c.first_create_text.ensures at (c.in_ok-execute.ensures.runs clean has.1));
   device = search rules;
@@ -22,10 +22,10 @@ pub returns-in_err-execute : goal.returns-in_err-execute
 returns-in_err-execute g c = record {
   same_reference = search rules;
   ok = search rules;
-  device = λ clean has.
+  device = λ clean base has.
       let old = state g.S.Store c.args.tx.now.conn.now in
       let new = state g.S.Store c.execute.new.self.conn.now in
-      let caused = make_cause c.args.table old new c.in_err-execute.field-0.0 has
+      let caused = make_cause c.args.table base old new c.in_err-execute.field-0.0 has
       (rw c.first_create_text.ensures at (c.in_err-execute.ensures.runs clean has.1)) in
       if_from c.from_residual.result _ _ (λ e same. subst (DeviceHasCause old new) (sym same) caused)
       c.from_residual.ensures.1;

@@ -1,7 +1,6 @@
 use Rattle.std.proofs.Common.{rules, subst, sym}
 use Rattle.sqlite.specs.Held.{state}
-use Rattle.table_schema.proofs.RefusalLemmas.{make_fails}
-use Rattle.table_schema.proofs.StepLemmas.{makes}
+use Rattle.table_schema.proofs.MakingLemmas.{makes_next, next_fails}
 use Rattle.table_schema.proofs.ResultLemmas.{if_from}
 use Rattle.table_schema.specs.Rows.{MayFail}
 use Rattle.table_schema.proofs.making.make.Goals as goal
@@ -9,9 +8,9 @@ use Rattle.table_schema.proofs.making.make.Goals as goal
 pub returns : goal.returns
 returns g c = record {
   same_reference = search rules;
-  ok = λ clean has.
-      makes c.args.table (state g.S.Store c.args.tx.now.conn.now) (state g.S.Store c.execute.new.self.conn.now)
-      c.in_ok-execute.field-0 has
+  ok = λ clean base has.
+      makes_next c.args.table base (state g.S.Store c.args.tx.now.conn.now)
+      (state g.S.Store c.execute.new.self.conn.now) c.in_ok-execute.field-0 has
       (rw c.create_text.ensures at (c.in_ok-execute.ensures.runs clean has.mode));
   fails = search rules;
   stays_open = search rules;
@@ -23,9 +22,9 @@ pub returns-in_err-execute : goal.returns-in_err-execute
 returns-in_err-execute g c = record {
   same_reference = search rules;
   ok = search rules;
-  fails = λ clean has.
-      let fails = make_fails c.args.table (state g.S.Store c.args.tx.now.conn.now) (state g.S.Store
-      c.execute.new.self.conn.now) c.in_err-execute.field-0.0 has.schema
+  fails = λ clean base has.
+      let fails = next_fails c.args.table base (state g.S.Store c.args.tx.now.conn.now) (state g.S.Store
+      c.execute.new.self.conn.now) c.in_err-execute.field-0.0 has
       (rw c.create_text.ensures at (c.in_err-execute.ensures.runs clean has.mode)) in
       if_from c.from_residual.result _ _ (λ e same. subst (MayFail (state g.S.Store c.args.tx.now.conn.now) (state
       g.S.Store c.execute.new.self.conn.now)) (sym same) fails) c.from_residual.ensures.1;

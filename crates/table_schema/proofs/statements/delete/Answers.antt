@@ -4,7 +4,7 @@ use Rattle.sqlite.specs.Values.{bound}
 use Rattle.table_schema.specs.Rows.{MayFail}
 use Rattle.table_schema.proofs.GoneLemmas.{lose_fails, lose_sound}
 use Rattle.table_schema.proofs.ResultLemmas.{if_from}
-use Rattle.table_schema.proofs.StepLemmas.{deleted}
+use Rattle.table_schema.proofs.StatementLemmas.{deleted}
 use Rattle.table_schema.proofs.statements.delete.Goals as goal
 
 pub returns-clause-writes : goal.returns-clause-writes

@@ -3,7 +3,7 @@ use Rattle.sqlite.specs.Held.{state}
 use Rattle.sqlite.specs.Values.{bound}
 use Rattle.table_schema.specs.Rows.{MayFail}
 use Rattle.table_schema.proofs.ResultLemmas.{if_from}
-use Rattle.table_schema.proofs.StepLemmas.{inserted}
+use Rattle.table_schema.proofs.StatementLemmas.{inserted}
 use Rattle.table_schema.proofs.TakeLemmas.{take_fails, take_sound}
 use Rattle.table_schema.proofs.statements.insert.Goals as goal
 

@@ -3,7 +3,8 @@ use Rattle.sqlite.specs.Held.{state}
 use Rattle.sqlite.proofs.InsideLemmas.{keeps_then}
 use Rattle.table_schema.specs.Rows.{Tables, tables_of, without_key}
 use Rattle.table_writing.proofs.TakingLemmas.{if_told, may_since}
-use Rattle.table_writing.proofs.Turns.{fold_done, fold_on, stands_done, stands_on, survives_both}
+use Rattle.table_schema.proofs.StatementLemmas.{stands_done}
+use Rattle.table_writing.proofs.Turns.{fold_done, fold_on, stands_on, survives_both}
 use Rattle.table_writing.proofs.loops.take_each.Goals as goal
 
 pub loop-fact-preserved : goal.loop-fact-preserved

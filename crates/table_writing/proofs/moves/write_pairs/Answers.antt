@@ -1,13 +1,31 @@
-use Rattle.std.proofs.Common.{refl, rules}
-use Rattle.table_writing.proofs.KindLemmas.{kinds, pairs_alone, pairs_keys}
+use Rattle.std.proofs.Common.{arith, rules}
+use Rattle.sqlite.specs.Held.{state}
+use Rattle.sqlite.specs.State.{HasCleanDisk}
+use Rattle.table_schema.specs.declared.tables.Table.TheVariants as table
+use Rattle.table_facts.specs.Facts.{pair_values}
+use Rattle.table_writing.specs.Writing.{with_each, without_each}
+use Rattle.table_writing.proofs.KindLemmas.{pairs_alone, pairs_keys, pairs_storable}
 use Rattle.table_writing.proofs.TakingLemmas.{takes_no_more, takes_then, takes_weaker}
-use Rattle.table_writing.proofs.Turns.{survives_both}
+use Rattle.table_writing.proofs.Turns.{stands_then, survives_both, then_ok}
 use Rattle.table_writing.proofs.moves.write_pairs.Goals as goal
 
 pub returns : goal.returns
 returns g c = record {
   same_reference = search rules;
-  ok = search (rules, kinds);
+  ok = λ clean plan mode _.
+      let first = state g.S.Store c.args.tx.now.conn.now in
+      let second = state g.S.Store c.take_each.new.tx.conn.now in
+      let third = state g.S.Store c.take_each-2.new.tx.conn.now in
+      let last = state g.S.Store c.put_each.new.tx.conn.now in
+      let calm_third : HasCleanDisk third = omega (arith, c.put_each.ensures.survives.clean) in
+      let calm_second : HasCleanDisk second = omega (arith, c.take_each-2.ensures.survives.clean) in
+      let one = c.in_ok-take_each.ensures.ok calm_second plan mode pairs_alone in
+      let two = c.in_ok-take_each-2.ensures.ok calm_third one.plan one.mode pairs_alone in
+      let change = c.args.change.now in
+      then_ok c.put_each.result first third last _ (with_each table.Dependency pair_values change.added)
+      (stands_then first second third _ (without_each table.Dependency pair_values change.added)
+      (rw c.as_slice.ensures.all at one) (rw c.as_slice-2.ensures.all at two))
+      (rw c.as_slice-3.ensures.all at (c.put_each.ensures.ok clean two.plan two.mode pairs_storable));
   kept = search rules;
   survives = search rules;
   takes =

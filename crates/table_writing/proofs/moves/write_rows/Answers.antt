@@ -1,14 +1,33 @@
-use Rattle.std.proofs.Common.{refl, rules}
+use Rattle.std.proofs.Common.{arith, rules}
+use Rattle.sqlite.specs.Held.{state}
+use Rattle.sqlite.specs.State.{HasCleanDisk}
+use Rattle.table_writing.specs.Writing.{cp_moved, deletions_moved, history_moved}
 use Rattle.table_writing.proofs.KindLemmas.{cp_alone, cp_keys, deletions_alone, deletions_keys, history_alone, history_keys}
-use Rattle.table_writing.proofs.KindLemmas.{kinds, ltp_alone, ltp_keys}
+use Rattle.table_writing.proofs.KindLemmas.{cp_storable, deletions_storable, history_storable, ltp_alone, ltp_keys, ltp_storable}
 use Rattle.table_writing.proofs.TakingLemmas.{takes_no_more, takes_then, takes_weaker}
-use Rattle.table_writing.proofs.Turns.{survives_both}
+use Rattle.table_writing.proofs.Turns.{stands_then, survives_both, then_ok}
 use Rattle.table_writing.proofs.moves.write_rows.Goals as goal
 
 pub returns : goal.returns
 returns g c = record {
   same_reference = search rules;
-  ok = search (rules, kinds);
+  ok = λ clean plan mode _.
+      let first = state g.S.Store c.args.tx.now.conn.now in
+      let second = state g.S.Store c.write_moves.new.tx.conn.now in
+      let third = state g.S.Store c.write_moves-2.new.tx.conn.now in
+      let fourth = state g.S.Store c.write_moves-3.new.tx.conn.now in
+      let last = state g.S.Store c.write_moves-4.new.tx.conn.now in
+      let calm_fourth : HasCleanDisk fourth = omega (arith, c.write_moves-4.ensures.survives.clean) in
+      let calm_third : HasCleanDisk third = omega (arith, c.write_moves-3.ensures.survives.clean) in
+      let calm_second : HasCleanDisk second = omega (arith, c.write_moves-2.ensures.survives.clean) in
+      let one = c.in_ok-write_moves.ensures.ok calm_second plan mode (ltp_storable, ltp_alone) in
+      let two = c.in_ok-write_moves-2.ensures.ok calm_third one.plan one.mode (cp_storable, cp_alone) in
+      let three = c.in_ok-write_moves-3.ensures.ok calm_fourth two.plan two.mode (history_storable, history_alone) in
+      let change = c.args.change.now in
+      then_ok c.write_moves-4.result first fourth last _ (deletions_moved change)
+      (stands_then first third fourth _ (history_moved change)
+      (stands_then first second third _ (cp_moved change) one two) three)
+      (c.write_moves-4.ensures.ok clean three.plan three.mode (deletions_storable, deletions_alone));
   kept = search rules;
   survives = search rules;
   takes =

@@ -5,7 +5,8 @@ use Rattle.table_schema.specs.Rows.{Tables, tables_of, without_key}
 use Rattle.table_writing.specs.Redefining.{AreAlone, name_key}
 use Rattle.table_writing.proofs.TakingLemmas.{if_told, may_since}
 use Rattle.table_writing.proofs.AloneLemmas.{alone_still}
-use Rattle.table_writing.proofs.Turns.{fold_done, fold_on, item_contains, stands_done, stands_on, survives_both}
+use Rattle.table_schema.proofs.StatementLemmas.{stands_done}
+use Rattle.table_writing.proofs.Turns.{fold_done, fold_on, item_contains, stands_on, survives_both}
 use Rattle.table_writing.proofs.redefining.take_names.Goals as goal
 
 pub loop-name-preserved : goal.loop-name-preserved

@@ -1,6 +1,6 @@
-use Rattle.std.proofs.Common.{◌≡◌, ap, subst, sym, ◌∙◌, arith, rules, IsTrue}
+use Rattle.std.proofs.Common.{◌≡◌, not, ap, subst, sym, ◌∙◌, arith, rules, IsTrue}
 use Rattle.sqlite.specs.Held.{state}
-use Rattle.sqlite.specs.State.{HasCleanDisk, Survives}
+use Rattle.sqlite.specs.State.{HasCleanDisk, KeepsCommit, Survives}
 use Rattle.sqlite.specs.Tree.{Trees}
 use Rattle.sqlite.proofs.StateLemmas.{survives_then}
 use Rattle.table_schema.specs.Rows.{IsPlan, MayFail, tables_of}
@@ -8,6 +8,7 @@ use Rattle.plan_store.specs.Contents.{content_of}
 use Rattle.table_writing.specs.Redefining.{written}
 use Rattle.table_writing.specs.Taking.{TakesChange}
 use Rattle.table_writing.proofs.TakingLemmas.{begins_sound, commit_may, if_told, may_since, may_until, plan_on}
+use Rattle.table_writing.proofs.Turns.{commit_fails, on_err}
 use Rattle.table_writing.proofs.writing.commit_change.Goals as goal
 
 pub returns-in_err-commit-clause-crash : goal.returns-in_err-commit-clause-crash
@@ -37,7 +38,7 @@ returns-in_err-commit-clause-crash g c =
     (λ clean db e plan.
     let calm : HasCleanDisk mid = omega (arith, c.commit.ensures.survives.clean) in
     let starts : IsPlan start = subst (λ h. IsPlan (state g.S.Store h)) (sym begun)
-    (record { schema = plan.schema; rowids = plan.rowids }) in
+    (record { schema = plan.schema; told = plan.told; rowids = plan.rowids }) in
     let stands = c.in_ok-write_change.ensures.ok calm starts goes c.requires.storable in
     ap tables_of e ∙ stands.rows_are ∙ ap (λ h. written
     (content_of c.args.content.now) c.args.moves.now c.args.change.now
@@ -72,7 +73,7 @@ returns-clause-crash g c =
     (λ clean db e plan.
     let calm : HasCleanDisk mid = omega (arith, c.commit.ensures.survives.clean) in
     let starts : IsPlan start = subst (λ h. IsPlan (state g.S.Store h)) (sym begun)
-    (record { schema = plan.schema; rowids = plan.rowids }) in
+    (record { schema = plan.schema; told = plan.told; rowids = plan.rowids }) in
     let stands = c.in_ok-write_change.ensures.ok calm starts goes c.requires.storable in
     ap tables_of e ∙ stands.rows_are ∙ ap (λ h. written
     (content_of c.args.content.now) c.args.moves.now c.args.change.now
@@ -88,7 +89,7 @@ returns-clause-done g c clean plan =
     let same : end ≡ c.conn-2-1.given.0 = search rules in
     let goes : IsTrue c.transaction-tx.result.conn.now.in_transaction = rw begun in
     let starts : IsPlan (state g.S.Store c.transaction-tx.result.conn.now) = subst (λ h. IsPlan (state g.S.Store h))
-    (sym begun) (record { schema = plan.schema; rowids = plan.rowids }) in
+    (sym begun) (record { schema = plan.schema; told = plan.told; rowids = plan.rowids }) in
     let calm : HasCleanDisk (state g.S.Store end) = subst (λ h. HasCleanDisk (state g.S.Store h)) (sym same) clean in
     let stands = c.in_ok-write_change.ensures.ok (omega (arith, c.commit.ensures.survives.clean, calm)) starts goes
     c.requires.storable in
@@ -141,3 +142,24 @@ returns-in_err-commit-clause-fails g c clean plan own takes =
     (subst (λ h. MayFail old (state g.S.Store h) c.in_err-commit.field-0.0) same (may_since old mid
     (state g.S.Store end) _ k.counts stays k.limit (commit_may mid (state g.S.Store end) _ was.0.mode
     (c.in_err-commit.ensures.err calm))))
+
+pub returns-in_err-commit-clause-kept : goal.returns-in_err-commit-clause-kept
+returns-in_err-commit-clause-kept g c clean plan opens =
+    let begun = c.transaction-tx.ensures.begun in
+    let old = state g.S.Store c.args.conn.now in
+    let mid = state g.S.Store c.write_change.new.tx.conn.now in
+    let end = c.commit.new.self.0 in
+    let same : end ≡ c.conn-2-1.given.0 = search rules in
+    let calm : HasCleanDisk (state g.S.Store end) = subst (λ h. HasCleanDisk (state g.S.Store h)) (sym same) clean in
+    let up : IsTrue (state g.S.Store end).is_open = subst (λ h. IsTrue (state g.S.Store h).is_open) (sym same) opens in
+    let goes : IsTrue c.transaction-tx.result.conn.now.in_transaction = rw begun in
+    let starts : IsPlan (state g.S.Store c.transaction-tx.result.conn.now) = subst (λ h. IsPlan (state g.S.Store h))
+    (sym begun) (record { schema = plan.schema; told = plan.told; rowids = plan.rowids }) in
+    let still : HasCleanDisk mid = omega (arith, c.commit.ensures.survives.clean, calm) in
+    let stands = c.in_ok-write_change.ensures.ok still starts goes c.requires.storable in
+    let k = rw begun at (c.write_change.ensures.kept still) in
+    let kept : KeepsCommit old mid = record { was_open = k.was_open; committed = k.committed } in
+    on_err c.from_residual-in_err-commit.result _ (subst (λ h. ((state g.S.Store h).now ≡ old.now)
+    × ((state g.S.Store h).committed ≡ old.committed)) same (commit_fails old mid (state g.S.Store end) _
+    (c.is_autocommit-settled.ensures.settled (c.is_autocommit-settled.ensures.value ∙ ap not c.requires.mode)) kept stands.mode
+    (c.in_err-commit.ensures.err calm) up))

@@ -1,4 +1,4 @@
-use Rattle.std.proofs.Common.{◌≡◌, ◌∙◌, Bool, true, false, ap, refl, subst, sym, rules}
+use Rattle.std.proofs.Common.{◌≡◌, ◌∙◌, Bool, true, false, ap, refl, subst, sym}
 use Rattle.std.specs.Prelude.{is_some, unwrap_or, MatchBool, if◌then◌else◌, ◌||◌, ⊤}
 use Rattle.planner_machine.specs.Moves.{or_else}
 use Rattle.table_writing.specs.Taking.{TakesMeta, WritesTaking}

@@ -1,3 +1,6 @@
+use Rattle.std.proofs.Common.{subst, sym}
+use Rattle.table_schema.specs.Free.{IsFree}
+use Rattle.table_schema.proofs.MadeLemmas.{nothing_is_free}
 use Rattle.table_schema.proofs.ResultLemmas.{if_ok}
 use Rattle.plan_tables.proofs.UnopenedLemmas.{only_memory}
 use Rattle.plan_tables.proofs.opening.TableStore+MemStore.open_memory.Goals as goal
@@ -9,7 +12,8 @@ returns-in-Ok-clause-refused c =
 
 pub returns-in-Ok-clause-empty : goal.returns-in-Ok-clause-empty
 returns-in-Ok-clause-empty c =
-    if_ok c.over_connection.result _ _ (λ store over. over.opened.empty c.in-Ok.ensures.empty.2)
+    if_ok c.over_connection.result _ _ (λ store over. over.opened.empty (subst IsFree (sym c.in-Ok.ensures.empty.2)
+    nothing_is_free))
     c.over_connection.ensures.opened
 
 pub returns-in-Ok-clause-sound : goal.returns-in-Ok-clause-sound

@@ -1,0 +1,27 @@
+use Rattle.std.proofs.Common.{sym}
+use Rattle.sqlite.specs.Held.{state}
+use Rattle.table_schema.specs.Rows.{tables_of}
+use Rattle.plan_store.specs.Contents.{content_of}
+use Rattle.table_opening.proofs.OpenedLemmas.{first_told, makes_first}
+use Rattle.table_opening.proofs.opening.open_new.Goals as goal
+
+pub returns-in-Ok-clause-opened : goal.returns-in-Ok-clause-opened
+returns-in-Ok-clause-opened g c clean =
+    let made = c.in-Ok.ensures.done clean c.requires.room in
+    record {
+      is_open = c.in-Ok.ensures.stays_open clean;
+      plan = made.0;
+      settled = sym (c.in-Ok.ensures.committed clean);
+      content = first_told (tables_of (state g.S.Store c.make_first.new.conn).now.trees) (content_of c.new.result)
+          made.1 c.new.ensures;
+    }
+
+pub returns-in-Ok-clause-survives : goal.returns-in-Ok-clause-survives
+returns-in-Ok-clause-survives g c =
+    makes_first (state g.S.Store c.args.conn.now) (state g.S.Store c.make_first.new.conn) c.requires.room
+    c.make_first.ensures.crash
+
+pub returns-in-Err-clause-survives : goal.returns-in-Err-clause-survives
+returns-in-Err-clause-survives g c =
+    makes_first (state g.S.Store c.args.conn.now) (state g.S.Store c.make_first.new.conn) c.requires.room
+    c.make_first.ensures.crash

@@ -1,0 +1,42 @@
+use Rattle.std.proofs.Common.{◌∙◌, ap, subst, sym, true≢false}
+use Rattle.sqlite.proofs.Callers.{memory_is_clean}
+use Rattle.sqlite.specs.Schema.{Schema}
+use Rattle.table_schema.specs.Free.{IsFree}
+use Rattle.table_schema.specs.Schema.{HasTables}
+use Rattle.table_schema.proofs.MadeLemmas.{nothing_is_free}
+use Rattle.table_reading.specs.Reading.{HasPlan}
+use Rattle.table_opening.specs.Standing.{StandAmong}
+use Rattle.table_opening.proofs.StandingLemmas.{free_iff, made_alone, stand_iff}
+use Rattle.table_opening.proofs.schemas.find_tables.Goals as goal
+
+pub returns-then-stand_among : goal.returns-then-stand_among
+unfolding HasPlan
+returns-then-stand_among g c =
+    let empty = c.in_ok-made.ensures.empty.2 in
+    let beside = c.in_ok-make_tables.ensures.beside (memory_is_clean c.make_tables.new.conn) (subst IsFree (sym empty) nothing_is_free) in
+    let alone = c.schema-plan.ensures.value ∙ made_alone _ _ empty beside.0 in
+    let both = stand_iff c.schema-schema.result.now c.as_slice-2.result.now (c.as_slice-2.ensures ∙ ap (λ (s : Schema). s.tables) alone) in
+    subst HasTables c.schema-schema.ensures.value (both.0 (subst (λ tables. StandAmong tables c.as_slice-2.result.now)
+    c.as_slice.ensures (c.stand_among.ensures.0 c.if-stand_among.true)))
+
+pub returns-then-can_make : goal.returns-then-can_make
+returns-then-can_make g c =
+    let empty = c.in_ok-made.ensures.empty.2 in
+    let beside = c.in_ok-make_tables.ensures.beside (memory_is_clean c.make_tables.new.conn) (subst IsFree (sym empty) nothing_is_free) in
+    let alone = c.schema-plan.ensures.value ∙ made_alone _ _ empty beside.0 in
+    let both = free_iff c.schema-schema.result.now c.schema-plan.result.now alone in
+    subst IsFree c.schema-schema.ensures.value (both.0 (c.can_make.ensures.0 c.if-can_make.true))
+
+pub returns : goal.returns
+unfolding HasPlan
+returns g c =
+    let empty = c.in_ok-made.ensures.empty.2 in
+    let beside = c.in_ok-make_tables.ensures.beside (memory_is_clean c.make_tables.new.conn) (subst IsFree (sym empty) nothing_is_free) in
+    let alone = c.schema-plan.ensures.value ∙ made_alone _ _ empty beside.0 in
+    let own = sym c.schema-schema.ensures.value in
+    let plan_is = stand_iff c.schema-schema.result.now c.as_slice-2.result.now (c.as_slice-2.ensures ∙ ap (λ (s : Schema). s.tables) alone) in
+    let free_is = free_iff c.schema-schema.result.now c.schema-plan.result.now alone in (
+      λ plan. true≢false (sym (c.stand_among.ensures.1 (subst (λ tables. StandAmong tables c.as_slice-2.result.now)
+          (sym c.as_slice.ensures) (plan_is.1 (subst HasTables own plan)))) ∙ c.if-stand_among.false),
+      λ room. true≢false (sym (c.can_make.ensures.1 (free_is.1 (subst IsFree own room))) ∙ c.if-can_make.false),
+    )

@@ -1,0 +1,6 @@
+use Rattle.table_opening.specs.Standing.{IsAside}
+use Rattle.std.specs.List.{AllWithin}
+use Rattle.table_opening.proofs.standing.are_aside.Given as goal
+
+abbrev pub invariant-loop-reference : goal.invariant-loop-reference
+invariant-loop-reference l = AllWithin (IsAside l.tables) l.child.references 0 l.reference-index

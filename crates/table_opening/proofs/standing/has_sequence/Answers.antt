@@ -1,0 +1,15 @@
+use Rattle.std.proofs.Common.{◌≡◌, ◌∙◌, ap, codes, Bor, Option, Some, None, refl}
+use Rattle.std.specs.Prelude.{is_some, option_copied}
+use Rattle.table_opening.specs.Standing.{first_named}
+use Rattle.table_opening.proofs.StandingLemmas.{named_is}
+use Rattle.table_opening.proofs.standing.has_sequence.Goals as goal
+
+copied_some : {T : Type 0} (o : Option (Bor T)) → is_some o ≡ is_some (option_copied o)
+copied_some None = refl
+copied_some (Some x) = refl
+
+pub returns : goal.returns
+returns c =
+    let wanted = codes "sqlite_sequence" in
+    c.is_some.ensures ∙ copied_some c.first_named.result ∙ ap is_some (c.first_named.ensures
+    ∙ (ap (λ tables. first_named tables wanted) c.as_slice.ensures ∙ named_is c.args.schema.now wanted))

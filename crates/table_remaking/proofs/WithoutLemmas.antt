@@ -1,0 +1,233 @@
+-- Where tables of schema 1 are taken away, the others stand still, each perhaps at another place.
+use Rattle.std.proofs.Common.{◌≡◌, ◌≢◌, ◌⊎◌, ◌||◌, ◌==◌, ◌∙◌, ◌+◌, ℕ, zero, suc, Bool, true, false, not, inl, inr}
+use Rattle.std.proofs.Common.{List, [], ◌∷◌, filter, find, Option, Some, None, slice_get, refl, sym, ap, subst, arith, true≢false}
+use Rattle.std.specs.List.{AllByRecursion, list_any, position_from}
+use Rattle.std.proofs.lemmas.Bool.{and_left, cases_Bool, eq-eqb, ne_eqb}
+use Rattle.sqlite.specs.Does.{is_acted_on}
+use Rattle.sqlite.specs.Schema.{Schema}
+use Rattle.sqlite.specs.Table.{Table as Described}
+use Rattle.sqlite_catalog.specs.Change.{is_used, without_table}
+use Rattle.sqlite_catalog.proofs.ListFacts.{filter_all, find_within}
+use Rattle.sqlite_catalog.proofs.StepLemmas.{no_view, same_itself}
+use Rattle.sqlite_rules.proofs.ListLemmas.{all_from, all_has}
+use Rattle.sqlite_rules.specs.Lists.{Has}
+use Rattle.sqlite_schema.specs.Names.{same_name, view_named}
+use Rattle.sqlite_schema.specs.declared.schema.Keys.TheVariants.{Enforced}
+use Rattle.sqlite_schema.specs.declared.schema.Reference.{Reference}
+use Rattle.table_schema.specs.Free.{plan_names}
+use Rattle.table_schema.specs.Made.{later}
+use Rattle.table_schema.specs.Places.{StandsAt}
+use Rattle.table_schema.specs.Schema.{IsAside, all_tables, name, table_at, to_run_cycle}
+use Rattle.table_schema.specs.declared.tables.Table.{Table}
+use Rattle.table_schema.specs.declared.tables.Table.TheVariants.{Meta, CalendarEntry, Period, Application}
+use Rattle.table_schema.specs.declared.tables.Table.TheVariants.{RunCycle, Offset, Predecessor, LinkInForce}
+use Rattle.table_schema.specs.declared.tables.Table.TheVariants.{LongTerm, Current, History, Deletion}
+use Rattle.table_schema.specs.declared.tables.Table.TheVariants.{Dependency, Job}
+use Rattle.table_remaking.specs.FirstSchema.{CanRemake, HasFirstTables, first_table_at, is_among, without}
+
+-- ---- of a list
+
+kept_at : {X : Type 0} (p q : X → Bool) (xs : List X) (x : X) (from at : ℕ) → position_from p from xs ≡ Some (from + at)
+    → slice_get xs at ≡ Some x → p x ≡ true → q x ≡ true
+    → (k : ℕ) × ((start : ℕ) → position_from p start (filter q xs) ≡ Some (start + k)) × (slice_get (filter q xs) k ≡ Some x)
+kept_at p q [] x from at placed got is kept = absurd (cc)
+kept_at p q (y ∷ ys) x from zero placed got is kept =
+    let same : y ≡ x = cc in (
+      0,
+      λ start. let e : start ≡ start + 0 = omega arith in rw (ap q same ∙ kept, ap p same ∙ is) (ap Some e),
+      rw (ap q same ∙ kept) (ap Some same),
+    )
+kept_at p q (y ∷ ys) x from (suc at) placed got is kept = elim (cases_Bool (p y)) [
+  | inl here ↦ let e : from ≡ from + suc at = same_of (rw here at placed) in absurd (omega (arith, e))
+  | inr away ↦
+      let e : from + suc at ≡ from + 1 + at = omega arith in
+      let r = kept_at p q ys x (from + 1) at (rw away at placed ∙ ap Some e) got is kept in
+      elim (cases_Bool (q y)) [
+        | inl stays ↦ (
+          suc r.0,
+          λ start. let f : start + 1 + r.0 ≡ start + suc r.0 = omega arith in
+              rw (stays, away) (r.1 (start + 1) ∙ ap Some f),
+          rw stays r.2,
+        )
+        | inr goes ↦ (r.0, λ start. rw goes (r.1 start), rw goes r.2)
+      ]
+]
+  where
+    same_of : {a b : ℕ} → ◌≡◌ {A = Option ℕ} (Some a) (Some b) → a ≡ b
+    same_of e = cc
+
+-- what is left of a list was there, and passes
+has_left : {X : Type 0} (q : X → Bool) (xs : List X) (x : X) → Has (filter q xs) x → Has xs x × (q x ≡ true)
+has_left q [] x has = absurd has
+has_left q (y ∷ ys) x has = elim (cases_Bool (q y)) [
+  | inl stays ↦ elim (rw stays at has) [
+    | inl same ↦ (inl same, ap q same ∙ stays)
+    | inr more ↦ let r = has_left q ys x more in (inr r.0, r.1)
+  ]
+  | inr goes ↦ let r = has_left q ys x (rw goes at has) in (inr r.0, r.1)
+]
+
+pub all_left : {X : Type 0} (P : X → Type 0) (q : X → Bool) (xs : List X) → AllByRecursion P xs
+    → AllByRecursion P (filter q xs)
+all_left P q xs all = all_from P (filter q xs) (λ x has. all_has P xs x all (has_left q xs x has).0)
+
+filter_both : {X : Type 0} (a b : X → Bool) (xs : List X) → filter (λ x. not (a x)) (filter (λ x. not (b x)) xs)
+    ≡ filter (λ x. not (a x || b x)) xs
+filter_both a b [] = refl
+filter_both a b (x ∷ xs) = elim (cases_Bool (b x)) [
+  | inl gone ↦ elim (cases_Bool (a x)) [
+    | inl too ↦ rw (gone, too) (filter_both a b xs)
+    | inr not_so ↦ rw (gone, not_so) (filter_both a b xs)
+  ]
+  | inr left ↦ elim (cases_Bool (a x)) [
+    | inl gone ↦ rw (left, gone) (filter_both a b xs)
+    | inr too ↦ rw (left, too) (ap (λ ys. x ∷ ys) (filter_both a b xs))
+  ]
+]
+
+none_of : {X : Type 0} (p : X → Bool) (xs : List X) → AllByRecursion (λ x. p x ≡ false) xs → list_any p xs ≡ false
+none_of p [] all = refl
+none_of p (x ∷ xs) all = rw all.0 (none_of p xs all.1)
+
+-- ---- of a schema
+
+pub none_gone : (schema : Schema) (trees : Table → ℕ) → without trees [] schema ≡ schema
+none_gone schema trees = λ i. record schema {
+  tables = filter_all (λ _. true) schema.tables (λ x has. refl) i;
+  indexes = filter_all (λ _. true) schema.indexes (λ x has. refl) i;
+}
+
+pub one_more_gone : (schema : Schema) (trees : Table → ℕ) (t : Table) (gone : List Table)
+    → without_table (without trees gone schema) (trees t) ≡ without trees (t ∷ gone) schema
+one_more_gone schema trees t gone = λ i. record schema {
+  tables = filter_both (λ d. d.tree == trees t) (λ d. is_among trees gone d.tree) schema.tables i;
+  indexes = filter_both (λ x. x.table == trees t) (λ x. is_among trees gone x.table) schema.indexes i;
+}
+
+not_so : (b : Bool) → not b ≡ false → b ≡ true
+not_so true h = refl
+not_so false h = absurd (cc)
+
+stands_left : (schema : Schema) (trees : Table → ℕ) (gone : List Table) (table : Described) (at : ℕ)
+    → StandsAt schema table at → is_among trees gone table.tree ≡ false
+    → (k : ℕ) × StandsAt (without trees gone schema) table k
+stands_left schema trees gone table at it other =
+    let e : at ≡ 0 + at = omega arith in
+    let r = kept_at (λ (d : Described). same_name d.name table.name) (λ (d : Described). not (is_among trees gone d.tree))
+    schema.tables table 0 at (it.named ∙ ap Some e) it.got (same_itself table.name) (ap not other) in
+    let f : 0 + r.0 ≡ r.0 = omega arith in (
+      r.0,
+      record {
+        named = r.1 0 ∙ ap Some f;
+        got = r.2;
+        found = find_within (λ (d : Described). d.tree == table.tree) (λ (d : Described). not (is_among trees gone d.tree))
+            schema.tables (λ x h away. ne_eqb x.tree table.tree (λ same. true≢false (sym (not_so (is_among trees gone
+            x.tree) away) ∙ ap (is_among trees gone) same ∙ other))) ∙ it.found;
+        stored = it.stored;
+      },
+    )
+
+-- ---- of schema 1
+
+names_after : (t : Table) → AllByRecursion (λ u. same_name (name u) (name t) ≡ false) (later t)
+unfolding same_name
+names_after Meta = (refl, (refl, (refl, (refl, (refl, (refl, (refl, (refl, (refl, (refl, (refl, (refl, (refl, tt)))))))))))))
+names_after CalendarEntry = (refl, (refl, (refl, (refl, (refl, (refl, (refl, (refl, (refl, (refl, (refl, (refl, tt))))))))))))
+names_after Period = (refl, (refl, (refl, (refl, (refl, (refl, (refl, (refl, (refl, (refl, (refl, tt)))))))))))
+names_after Application = (refl, (refl, (refl, (refl, (refl, (refl, (refl, (refl, (refl, (refl, tt))))))))))
+names_after RunCycle = (refl, (refl, (refl, (refl, (refl, (refl, (refl, (refl, (refl, tt)))))))))
+names_after Offset = (refl, (refl, (refl, (refl, (refl, (refl, (refl, (refl, tt))))))))
+names_after Predecessor = (refl, (refl, (refl, (refl, (refl, (refl, (refl, tt)))))))
+names_after LinkInForce = (refl, (refl, (refl, (refl, (refl, (refl, tt))))))
+names_after LongTerm = (refl, (refl, (refl, (refl, (refl, tt)))))
+names_after Current = (refl, (refl, (refl, (refl, tt))))
+names_after History = (refl, (refl, (refl, tt)))
+names_after Deletion = (refl, (refl, tt))
+names_after Dependency = (refl, tt)
+names_after Job = tt
+
+-- the run cycles alone are referred to
+refers_to : (t : Table) → (same_name (name t) (name RunCycle) ≡ false) ⊎ (t ≡ RunCycle)
+unfolding same_name
+refers_to Meta = inl refl
+refers_to CalendarEntry = inl refl
+refers_to Period = inl refl
+refers_to Application = inl refl
+refers_to RunCycle = inr refl
+refers_to Offset = inl refl
+refers_to Predecessor = inl refl
+refers_to LinkInForce = inl refl
+refers_to LongTerm = inl refl
+refers_to Current = inl refl
+refers_to History = inl refl
+refers_to Deletion = inl refl
+refers_to Dependency = inl refl
+refers_to Job = inl refl
+
+-- the name of each is free once all are taken away
+free_name : (schema : Schema) (t : Table) → AllByRecursion (λ n. is_used schema n ≡ false) plan_names
+    → is_used schema (name t) ≡ false
+free_name schema Meta h = h.0
+free_name schema CalendarEntry h = h.1.0
+free_name schema Period h = h.1.1.0
+free_name schema Application h = h.1.1.1.0
+free_name schema RunCycle h = h.1.1.1.1.0
+free_name schema Offset h = h.1.1.1.1.1.0
+free_name schema Predecessor h = h.1.1.1.1.1.1.0
+free_name schema LinkInForce h = h.1.1.1.1.1.1.1.0
+free_name schema LongTerm h = h.1.1.1.1.1.1.1.1.0
+free_name schema Current h = h.1.1.1.1.1.1.1.1.1.0
+free_name schema History h = h.1.1.1.1.1.1.1.1.1.1.0
+free_name schema Deletion h = h.1.1.1.1.1.1.1.1.1.1.1.0
+free_name schema Dependency h = h.1.1.1.1.1.1.1.1.1.1.1.1.0
+free_name schema Job h = h.1.1.1.1.1.1.1.1.1.1.1.1.1.0
+
+some_same : {X : Type 0} {a b : X} → ◌≡◌ {A = Option X} (Some a) (Some b) → a ≡ b
+some_same e = cc
+
+module _ (schema : Schema) (has : HasFirstTables schema) where
+  -- two tables have two trees
+  trees_differ : (t u : Table) → same_name (name u) (name t) ≡ false → has.trees t ≢ has.trees u
+  trees_differ t u other same =
+      let one : first_table_at (has.trees t) t ≡ first_table_at (has.trees u) u = some_same (sym (has.stands t).found
+      ∙ ap (λ n. find (λ (d : Described). d.tree == n) schema.tables) same ∙ (has.stands u).found) in
+      true≢false (sym (same_itself (name t)) ∙ ap (λ (d : Described). same_name d.name (name t)) one ∙ other)
+
+  not_among : (t : Table) (us : List Table) → AllByRecursion (λ u. same_name (name u) (name t) ≡ false) us
+      → is_among has.trees us (has.trees t) ≡ false
+  not_among t us all = none_of (λ u. has.trees t == has.trees u) us (all_from _ us (λ u there.
+      ne_eqb (has.trees t) (has.trees u) (trees_differ t u (all_has _ us u all there))))
+
+  -- it still stands where those after it are taken away
+  pub still_there : (t : Table)
+      → (k : ℕ) × StandsAt (without has.trees (later t) schema) (first_table_at (has.trees t) t) k
+  still_there t = stands_left schema has.trees (later t) (first_table_at (has.trees t) t) (has.at t) (has.stands t)
+      (not_among t (later t) (names_after t))
+
+  -- and then no table refers to it
+  pub unacted : (t : Table)
+      → is_acted_on (without has.trees (later t) schema) Enforced (first_table_at (has.trees t) t) ≡ false
+  unacted t = none_of _ (without has.trees (later t) schema).tables (all_from _ (without has.trees (later t)
+      schema).tables (λ d there.
+      let was = has_left (λ (d : Described). not (is_among has.trees (later t) d.tree)) schema.tables d there in
+      none_of _ d.references (all_from _ d.references (λ ref here. and_left _ _ (go d ref (refers_to t) was.1
+      (all_has _ d.references ref (all_has _ schema.tables d has.refer was.0) here))))))
+    where
+      go : (d : Described) (ref : Reference) → (same_name (name t) (name RunCycle) ≡ false) ⊎ (t ≡ RunCycle)
+          → not (is_among has.trees (later t) d.tree) ≡ true
+          → IsAside ref ⊎ ((d ≡ table_at (has.trees Offset) Offset) × (ref ≡ to_run_cycle))
+          → same_name (name t) ref.parent ≡ false
+      go d ref to left (inl aside) = aside t
+      go d ref (inl other) left (inr (is, own)) =
+          ap (λ (r : Reference). same_name (name t) r.parent) own ∙ other
+      go d ref (inr cycle) left (inr (is, own)) =
+          let gone : is_among has.trees (later RunCycle) (has.trees Offset) ≡ true =
+          rw (eq-eqb (has.trees Offset) (has.trees Offset) refl) refl in
+          absurd (true≢false (sym left ∙ ap not (subst (λ u. is_among has.trees (later u) d.tree ≡ true) (sym cycle)
+          (ap (λ (d : Described). is_among has.trees (later RunCycle) d.tree) is ∙ gone))))
+
+-- no view has its name
+pub unviewed : (schema : Schema) (can : CanRemake schema) (gone : List Table) (t : Table)
+    → view_named (without can.has.trees gone schema) (name t) ≡ None
+unviewed schema can gone t =
+    no_view (without can.has.trees all_tables schema) (name t) (free_name _ t can.free.names)

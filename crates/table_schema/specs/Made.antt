@@ -1,0 +1,88 @@
+-- Tables of a plan that are made beside others, inside a transaction.
+use Rattle.std.specs.Prelude.{◌≡◌, List, [], ◌∷◌, ◌++◌, IsTrue, ⊤}
+use Rattle.sqlite.specs.Change.{KeepsRows, created, next_tree}
+use Rattle.sqlite.specs.Effect.{Database, IsDatabase}
+use Rattle.sqlite.specs.Schema.{Schema}
+use Rattle.sqlite.specs.State.{State}
+use Rattle.sqlite.specs.Table.{Table as Described}
+use Rattle.table_schema.specs.Free.{IsFree, with_plan, with_tables}
+use Rattle.table_schema.specs.Rows.{IsPlan, no_rows, tables_of}
+use Rattle.table_schema.specs.Schema.{HasOwnIndexes, table_at}
+use Rattle.table_schema.specs.declared.tables.Table.{Table}
+use Rattle.table_schema.specs.declared.tables.Table.TheVariants.{Meta, CalendarEntry, Period, Application}
+use Rattle.table_schema.specs.declared.tables.Table.TheVariants.{RunCycle, Offset, Predecessor, LinkInForce}
+use Rattle.table_schema.specs.declared.tables.Table.TheVariants.{LongTerm, Current, History, Deletion}
+use Rattle.table_schema.specs.declared.tables.Table.TheVariants.{Dependency, Job}
+
+-- the tables that are made before it
+abbrev pub earlier : Table → List Table
+earlier Meta = []
+earlier CalendarEntry = Meta ∷ []
+earlier Period = Meta ∷ CalendarEntry ∷ []
+earlier Application = Meta ∷ CalendarEntry ∷ Period ∷ []
+earlier RunCycle = Meta ∷ CalendarEntry ∷ Period ∷ Application ∷ []
+earlier Offset = Meta ∷ CalendarEntry ∷ Period ∷ Application ∷ RunCycle ∷ []
+earlier Predecessor = Meta ∷ CalendarEntry ∷ Period ∷ Application ∷ RunCycle ∷ Offset ∷ []
+earlier LinkInForce = Meta ∷ CalendarEntry ∷ Period ∷ Application ∷ RunCycle ∷ Offset ∷ Predecessor ∷ []
+earlier LongTerm = Meta ∷ CalendarEntry ∷ Period ∷ Application ∷ RunCycle ∷ Offset ∷ Predecessor ∷ LinkInForce ∷ []
+earlier Current = Meta ∷ CalendarEntry ∷ Period ∷ Application ∷ RunCycle ∷ Offset ∷ Predecessor ∷ LinkInForce ∷ LongTerm ∷ []
+earlier History = Meta ∷ CalendarEntry ∷ Period ∷ Application ∷ RunCycle ∷ Offset ∷ Predecessor ∷ LinkInForce ∷ LongTerm ∷ Current ∷ []
+earlier Deletion = Meta ∷ CalendarEntry ∷ Period ∷ Application ∷ RunCycle ∷ Offset ∷ Predecessor ∷ LinkInForce ∷ LongTerm ∷ Current ∷ History ∷ []
+earlier Dependency = Meta ∷ CalendarEntry ∷ Period ∷ Application ∷ RunCycle ∷ Offset ∷ Predecessor ∷ LinkInForce ∷ LongTerm ∷ Current ∷ History ∷ Deletion ∷ []
+earlier Job = Meta ∷ CalendarEntry ∷ Period ∷ Application ∷ RunCycle ∷ Offset ∷ Predecessor ∷ LinkInForce ∷ LongTerm ∷ Current ∷ History ∷ Deletion ∷ Dependency ∷ []
+
+-- the tables that are made after it
+abbrev pub later : Table → List Table
+later Meta = CalendarEntry ∷ Period ∷ Application ∷ RunCycle ∷ Offset ∷ Predecessor ∷ LinkInForce ∷ LongTerm ∷ Current ∷ History ∷ Deletion ∷ Dependency ∷ Job ∷ []
+later CalendarEntry = Period ∷ Application ∷ RunCycle ∷ Offset ∷ Predecessor ∷ LinkInForce ∷ LongTerm ∷ Current ∷ History ∷ Deletion ∷ Dependency ∷ Job ∷ []
+later Period = Application ∷ RunCycle ∷ Offset ∷ Predecessor ∷ LinkInForce ∷ LongTerm ∷ Current ∷ History ∷ Deletion ∷ Dependency ∷ Job ∷ []
+later Application = RunCycle ∷ Offset ∷ Predecessor ∷ LinkInForce ∷ LongTerm ∷ Current ∷ History ∷ Deletion ∷ Dependency ∷ Job ∷ []
+later RunCycle = Offset ∷ Predecessor ∷ LinkInForce ∷ LongTerm ∷ Current ∷ History ∷ Deletion ∷ Dependency ∷ Job ∷ []
+later Offset = Predecessor ∷ LinkInForce ∷ LongTerm ∷ Current ∷ History ∷ Deletion ∷ Dependency ∷ Job ∷ []
+later Predecessor = LinkInForce ∷ LongTerm ∷ Current ∷ History ∷ Deletion ∷ Dependency ∷ Job ∷ []
+later LinkInForce = LongTerm ∷ Current ∷ History ∷ Deletion ∷ Dependency ∷ Job ∷ []
+later LongTerm = Current ∷ History ∷ Deletion ∷ Dependency ∷ Job ∷ []
+later Current = History ∷ Deletion ∷ Dependency ∷ Job ∷ []
+later History = Deletion ∷ Dependency ∷ Job ∷ []
+later Deletion = Dependency ∷ Job ∷ []
+later Dependency = Job ∷ []
+later Job = []
+
+abbrev pub up_to : Table → List Table
+up_to t = earlier t ++ t ∷ []
+
+-- each of the tables is so, in the tree in which it is made
+abbrev pub AllMade : (Described → Type 0) → Schema → List Table → Type 0
+AllMade P schema [] = ⊤
+AllMade P schema (t ∷ ts) = P (table_at (next_tree schema) t) × AllMade P (created schema (table_at 0 t)) ts
+
+-- once a table is made, the database obeys its rules
+abbrev pub IsWritten : List Table → Database → Type 0
+IsWritten [] db = ⊤
+IsWritten (t ∷ ts) db = IsDatabase db
+
+-- a transaction begins over a database in which the tables of a plan can be made
+pub record IsReady (base : Database) (s : State) : Type 0 where
+  pub free : IsFree base.schema
+  pub is : s.now ≡ base
+  pub mode : IsTrue s.in_transaction
+
+-- these tables are made, without rows; the others stand as they stood, with their rows
+pub record IsMade (done : List Table) (base : Database) (s : State) : Type 0 where
+  pub free : IsFree base.schema
+  pub schema : s.now.schema ≡ with_tables base.schema done
+  pub empty : AllMade (λ t. s.now.trees t.tree ≡ []) base.schema done
+  pub others : KeepsRows base.schema.tables base.trees s.now.trees
+  pub sound : IsWritten done s.now
+  pub mode : IsTrue s.in_transaction
+
+-- the tables of a plan are made, without rows; the others stand as they stood, with their rows
+pub record IsMadeWhole (base : Database) (s : State) : Type 0 where
+  pub free : IsFree base.schema
+  pub schema : s.now.schema ≡ with_plan base.schema
+  pub plan : IsPlan s
+  pub rows_are : tables_of s.now.trees ≡ no_rows
+  pub others : KeepsRows base.schema.tables base.trees s.now.trees
+  pub own : HasOwnIndexes s.now.schema
+  pub sound : IsDatabase s.now
+  pub mode : IsTrue s.in_transaction
