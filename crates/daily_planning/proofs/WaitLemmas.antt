@@ -1,18 +1,32 @@
 -- The least predecessor that isn't complete.
 use Rattle.std.proofs.Common.{◌≡◌, ◌↔◌, ℕ, ◌+◌, ◌<◌, ◌≤◌, List, length, get_or, refl, arith, sym, ap, subst, ◌∙◌, inl}
-use Rattle.std.proofs.Common.{inr}
+use Rattle.std.proofs.Common.{inr, Some, None, Option}
 use Rattle.std.specs.List.{AllWithin, Contains}
 use Rattle.std.specs.Ordering.{MatchOrdering}
 use Rattle.std.specs.declared.cmp.Ordering.TheVariants.{Less}
 use Rattle.std.proofs.lemmas.List.{get_or_default}
 use Rattle.std.proofs.lemmas.Bool.{cases_eq, cases_lt}
+use Rattle.occurrences.specs.Place.{IsComplete, IsLive, IsOpen}
+use Rattle.occurrences.specs.Status.{changed_status}
+use Rattle.occurrences.specs.declared.place.Place.{Place}
+use Rattle.occurrences.specs.declared.place.Place.TheVariants.{LongTerm, Current, History, Deleted}
+use Rattle.occurrences.specs.declared.row.Row.{Row}
+use Rattle.occurrences.specs.declared.status.Action.TheVariants.{Start}
+use Rattle.occurrences.specs.declared.status.Status.{Status}
+use Rattle.occurrences.specs.declared.status.Status.TheVariants.{W, S, E, C, D}
 use Rattle.external_dependencies.specs.Pair.{PairBefore, pair_cmp}
 use Rattle.external_dependencies.specs.Rising.{IsRising}
+use Rattle.external_dependencies.specs.declared.live.Arrival.{Arrival}
 use Rattle.external_dependencies.specs.declared.pairs.Pair.{Pair}
+use Rattle.external_dependencies.specs.declared.rows.PlacedRow.{PlacedRow}
 use Rattle.external_dependencies.proofs.LexLemmas.{pairs_ordered}
 use Rattle.planner_machine.specs.Act.{IsLeastUncompleted, IsUncompleted}
-use Rattle.planner_machine.specs.Content.{Content}
+use Rattle.planner_machine.specs.Content.{Content, Seat, Sets, StandsAt, alone, seat}
 use Rattle.planner_machine.specs.Pairs.{IsCompleteAt, pair_of}
+use Rattle.planner_machine.specs.Sound.{IsSound}
+use Rattle.planner_machine.proofs.SeatLemmas.{one_place}
+use Rattle.plan_store.proofs.PlaceLemmas.{stands_cp}
+use Rattle.daily_planning.specs.Actions.{LivesAt}
 
 module _ (c : Content) (serial : ℕ) (list : List Pair) (rising : IsRising pair_cmp list)
     (all : (pair : Pair) → Contains list pair ↔ (Contains c.pairs pair × (pair.successor ≡ serial))) where
@@ -79,3 +93,43 @@ module _ (c : Content) (serial : ℕ) (list : List Pair) (rising : IsRising pair
                   omega (arith, below)
             ]
           ]
+
+-- only what waits is started
+pub started_waits : (was now : Status) → changed_status was Start ≡ Some now → was ≡ W
+started_waits W now is = refl
+started_waits S now is = cc
+started_waits E now is = cc
+started_waits C now is = cc
+started_waits D now is = cc
+
+-- the predecessors of what waits live
+pub predecessor_lives : (c : Content) → IsSound c → (row : Row)
+    → c.sets.cp row.serial ≡ Some (record { row = row; status = W }) → (pair : Pair) → Contains c.pairs pair
+    → pair.successor ≡ row.serial → LivesAt c.sets pair.predecessor
+predecessor_lives c sound row waits pair there own = elim ((sound.pairs.settled.exactly pair).0 there) [
+  | inl is ↦
+      let (serial, p, stands, live, arrives) = is.nearest.live in
+      let same : serial ≡ pair.predecessor = sym (sound.serials.numbered serial p stands)
+      ∙ ap (λ (a : Arrival). a.serial) arrives ∙ is.predecessor in
+      (p, subst (λ n. StandsAt c.sets n p) same stands, live)
+  | inr is ↦
+      let at = stands_cp c.sets sound.serials row.serial (record { row = row; status = W }) waits in
+      let one = one_place c.sets row.serial (record { row = row; place = Current W }) is.placed at
+      (subst (λ n. StandsAt c.sets n is.placed) own is.stands) in
+      absurd (is.waits_no_more (subst (λ (p : PlacedRow). IsOpen p.place) one refl))
+]
+
+-- what lives and is shown in no plan and not in history is complete
+pub unshown_complete : (s : Sets) (serial : ℕ) → s.ltp serial ≡ None → s.cp serial ≡ None → LivesAt s serial
+    → IsCompleteAt s serial
+unshown_complete s serial no_ltp no_cp (p, stands, live) = (p, stands, by_place p.place p.row stands live)
+  where
+    no : {X : Type 0} (o : Option X) (x : X) → o ≡ None → o ≡ Some x → ⊥
+    no o x none some = cc
+
+    by_place : (place : Place) (row : Row) → seat s serial ≡ alone row place → IsLive place → IsComplete place
+    by_place LongTerm row at live = absurd (no (s.ltp serial) row no_ltp (ap (λ (x : Seat). x.ltp) at))
+    by_place (Current status) row at live =
+        absurd (no (s.cp serial) (record { row = row; status = status }) no_cp (ap (λ (x : Seat). x.cp) at))
+    by_place History row at live = tt
+    by_place (Deleted reason) row at live = absurd live

@@ -1,5 +1,6 @@
 -- What an action on an occurrence of the current plan changes.
 use Rattle.std.specs.Prelude.{◌≡◌, ◌≢◌, ◌↔◌, ℕ, [], ◌∷◌, List, Contains, Option, Some, None}
+use Rattle.occurrences.specs.Place.{IsLive}
 use Rattle.occurrences.specs.Status.{changed_status}
 use Rattle.occurrences.specs.declared.place.CurrentRow.{CurrentRow}
 use Rattle.occurrences.specs.declared.row.Row.{Row}
@@ -10,14 +11,19 @@ use Rattle.occurrences.specs.declared.status.Status.TheVariants.{D}
 use Rattle.external_dependencies.specs.Change.{Leads}
 use Rattle.external_dependencies.specs.declared.change.PairChange.{PairChange}
 use Rattle.external_dependencies.specs.declared.pairs.Pair.{Pair}
+use Rattle.external_dependencies.specs.declared.rows.PlacedRow.{PlacedRow}
 use Rattle.planner_machine.specs.Act.{IsLeastUncompleted, IsUncompleted, action_move}
-use Rattle.planner_machine.specs.Content.{Content}
+use Rattle.planner_machine.specs.Content.{Content, Sets, StandsAt}
 use Rattle.planner_machine.specs.Moves.{each}
 use Rattle.planner_machine.specs.Pairs.{ArePairs}
 use Rattle.plan_store.specs.Changes.{LeadsOn, MovesNothing, pairs_after}
 use Rattle.plan_pairs.specs.RowPairs.{IsRowPair}
 use Rattle.plan_store.specs.declared.changes.Change.{Change}
 use Rattle.plan_store.specs.declared.changes.DefinitionChange.TheVariants.{AsBefore}
+
+-- the occurrence of the serial lives
+abbrev pub LivesAt : Sets → ℕ → Type 0
+LivesAt s serial = (p : PlacedRow) × StandsAt s serial p × IsLive p.place
 
 -- the predecessor that forbids the action on the occurrence of the serial: the least that isn't complete, which only a
 -- start asks for; or that there is none

@@ -1,15 +1,18 @@
-ghost use Rattle.std.specs.Prelude.{◌≡◌, ◌≢◌, ◌↔◌, IfOk, IsTrue, None, Some};
+ghost use Rattle.std.specs.Prelude.{◌≡◌, ◌≢◌, ◌↔◌, IfOk, IsTrue, None, Some, true};
 ghost use Rattle.planner_machine.specs.Act.{cp_action as decided};
 ghost use Rattle.planner_machine.specs.Content.{Content};
 ghost use Rattle.planner_machine.specs.Pairs.{IsCompleteAt};
 ghost use Rattle.planner_machine.specs.Sound.{AreNumbered, IsSound};
 ghost use Rattle.plan_store.specs.Changes.{LeadsOn, pairs_after};
 ghost use Rattle.plan_store.specs.Verdicts.{VerdictIs};
-ghost use Rattle.plan_store.specs.Views.{Hidden, IsCurrentRow, Shows, with_hidden};
-ghost use Rattle.daily_planning.specs.Actions.{ArePairsActed, ChangesStatus, IsActedOn, LeadsToRowPairs, WaitsFor};
+ghost use Rattle.plan_store.specs.Asked.{AsksKey};
+ghost use Rattle.plan_store.specs.Views.{Hidden, IsCurrentRow, Sees, Shows, ShowsPart, is_planned, shown};
+ghost use Rattle.plan_store.specs.Views.{with_hidden};
+ghost use Rattle.daily_planning.specs.Actions.{ArePairsActed, ChangesStatus, IsActedOn, LeadsToRowPairs, LivesAt};
+ghost use Rattle.daily_planning.specs.Actions.{WaitsFor};
 
 use external_dependencies::{PairChange, Pairs};
-use occurrences::{Action, CurrentRow, Key, Refusal, Reply, Row, Serial, next_status};
+use occurrences::{Action, CurrentRow, Key, Refusal, Reply, Row, Serial, Status, next_status};
 use plan_pairs::{pairs_without, row_pairs_of, single};
 use plan_store::{Change, Need, Verdict, View};
 use std::alloc::{AllocError, Global};
@@ -45,6 +48,7 @@ fn act(
     current: &CurrentRow,
 ) -> Result<Verdict, AllocError>
     ensures { IfOk result (λ verdict. (h : Hidden) → IsSound (with_hidden h view.now)
+        → Sees (AsksKey (with_hidden h view.now) current.now.row.key) h view.now
         → (with_hidden h view.now).sets.bounds ≢ None
         → IsCurrentRow (with_hidden h view.now).sets current.now.row.key (Some current.now)
         → VerdictIs (decided current.now.row.key action) (with_hidden h view.now) verdict) }
@@ -53,7 +57,7 @@ fn act(
         return Ok(Verdict::Refused(Refusal::StatusForbids));
     };
     let serial = current.row.serial;
-    if let Some(predecessor) = waited_for(view, action, serial) {
+    if let Some(predecessor) = waited_for(view, action, current) {
         return Ok(Verdict::Refused(Refusal::PredecessorUncompleted {
             serial: predecessor,
         }));
@@ -63,15 +67,18 @@ fn act(
     Ok(Verdict::Done(change, Reply::Changed { serial, status }))
 }
 
-// The predecessor that forbids the action on the occurrence of the serial.
-fn waited_for(view: &View<'_>, action: Action, serial: Serial) -> Option<Serial>
-    ensures { (h : Hidden) → AreNumbered (with_hidden h view.now).sets
-        → WaitsFor (with_hidden h view.now) action serial result }
+// The predecessor that forbids the action on a row of the current plan, which waits where it is to start.
+fn waited_for(view: &View<'_>, action: Action, current: &CurrentRow) -> Option<Serial>
+    ensures { (h : Hidden) → IsSound (with_hidden h view.now)
+        → Sees (AsksKey (with_hidden h view.now) current.now.row.key) h view.now
+        → (with_hidden h view.now).sets.cp current.now.row.serial ≡ Some current.now
+        → (action ≡ Action.Start → current.now.status ≡ Status.W)
+        → WaitsFor (with_hidden h view.now) action current.now.row.serial result }
 {
     if !is_start(action) {
         return None;
     }
-    for pair in view.pairs().of_successor(serial) {
+    for pair in view.pairs_of_successor(current.row.serial) {
         if !is_complete(view, pair.predecessor) {
             return Some(pair.predecessor);
         }
@@ -86,14 +93,15 @@ fn is_start(action: Action) -> bool
     action == Action::Start
 }
 
-// Whether the occurrence of the serial is complete.
+// Whether the live occurrence of the serial is complete: what stands in no plan stands in history.
 fn is_complete(view: &View<'_>, serial: Serial) -> bool
-    ensures { (h : Hidden) → AreNumbered (with_hidden h view.now).sets
+    ensures { (h : Hidden) → AreNumbered (with_hidden h view.now).sets → ShowsPart h view.now
+        → LivesAt (with_hidden h view.now).sets serial
         → IsTrue result ↔ IsCompleteAt (with_hidden h view.now).sets serial }
 {
     match view.placed(serial) {
         Some(placed) => placed.place.is_complete(),
-        None => false,
+        None => true,
     }
 }
 
@@ -105,6 +113,7 @@ fn status_change(
     changed: &CurrentRow,
 ) -> Result<Change, AllocError>
     ensures { IfOk result (λ change. (h : Hidden) → IsSound (with_hidden h view.now)
+        → Sees (AsksKey (with_hidden h view.now) changed.now.row.key) h view.now
         → IsActedOn (with_hidden h view.now) action changed.now
         → ChangesStatus (with_hidden h view.now) action changed.now change) }
 {
@@ -124,10 +133,12 @@ fn acted_pairs(
     changed: &CurrentRow,
 ) -> Result<PairChange, AllocError>
     ensures pairs { IfOk result (λ change. (h : Hidden) → IsSound (with_hidden h view.now)
+        → Sees (AsksKey (with_hidden h view.now) changed.now.row.key) h view.now
         → IsActedOn (with_hidden h view.now) action changed.now
         → ArePairsActed (with_hidden h view.now) action changed.now
         (pairs_after change (with_hidden h view.now).pairs)) }
     ensures leads { IfOk result (λ change. (h : Hidden) → IsSound (with_hidden h view.now)
+        → Sees (AsksKey (with_hidden h view.now) changed.now.row.key) h view.now
         → IsActedOn (with_hidden h view.now) action changed.now
         → LeadsOn (with_hidden h view.now).pairs change) }
 {
@@ -145,10 +156,12 @@ fn acted_pairs(
 // No pair of another row is looked at.
 fn reset_pairs(alloc: Global, view: &View<'_>, row: &Row) -> Result<PairChange, AllocError>
     ensures { IfOk result (λ change. (h : Hidden) → IsSound (with_hidden h view.now)
+        → Sees (AsksKey (with_hidden h view.now) row.now.key) h view.now
+        → is_planned (shown view.now).sets.ltp (shown view.now).sets.cp row.now.serial ≡ true
         → LeadsToRowPairs (with_hidden h view.now) row.now change) }
 {
     let mut had = Vec::new(alloc);
-    had.extend_from_slice(view.pairs().of_successor(row.serial))?;
+    had.extend_from_slice(view.pairs_of_successor(row.serial))?;
     let had = Pairs::from_vec(had);
     let now = row_pairs_of(alloc, view, row)?;
     PairChange::between(alloc, &had, &now)

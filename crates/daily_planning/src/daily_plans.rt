@@ -29,7 +29,7 @@ pub fn extend(alloc: Global, view: &View<'_>, to: Moment) -> Result<Verdict, All
 
 // The same over any window that shows at least what it asks.
 fn extend_to(alloc: Global, view: &View<'_>, to: Moment) -> Result<Verdict, AllocError>
-    ensures { IfOk result (λ verdict. (c : Content) → ShowsAtLeast (Daily to) view.now c → IsSound c →
+    ensures { IfOk result (λ verdict. (c : Content) → ShowsAtLeast to view.now c → IsSound c →
         VerdictIs (dp_extend to) c verdict) }
 {
     let Some(bounds) = view.bounds() else {
@@ -105,7 +105,7 @@ fn daily_plan(
     bounds: &Bounds,
     to: Moment,
 ) -> Result<(Change, Reply), AllocError>
-    ensures { IfOk result (λ done. (c : Content) → ShowsAtLeast (Daily to) view.now c → IsSound c →
+    ensures { IfOk result (λ done. (c : Content) → ShowsAtLeast to view.now c → IsSound c →
         c.sets.bounds ≡ Some bounds.now → DoesDaily to c done.0 done.1) }
 {
     let moved = view.ltp_before(alloc, to)?;

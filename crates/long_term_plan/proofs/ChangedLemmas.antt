@@ -27,7 +27,7 @@ use Rattle.plan_store.specs.Changes.{Fits, LeadsOn, MovesNothing, pairs_after, s
 use Rattle.plan_store.specs.Views.{IsAny, ListsSet}
 use Rattle.plan_store.specs.declared.changes.Change.{Change}
 use Rattle.plan_store.specs.declared.changes.DefinitionChange.TheVariants.{AsBefore}
-use Rattle.plan_pairs.specs.LiveRows.{HasLists}
+use Rattle.plan_pairs.specs.LiveRows.{AreCompleted, HasLists}
 use Rattle.plan_pairs.proofs.RowLemmas.{of_set}
 use Rattle.plan_pairs.proofs.SetLemmas.{fits_nothing, fits_put, moves_nothing, moves_put}
 use Rattle.long_term_plan.specs.Making.{MakesSets, numbered}
@@ -126,7 +126,7 @@ module _ (all : Definitions) (c : Sets) (sound : RowsSound c) (rows : List Row)
 
     -- the rows of the plans and of history then
     pub lists_then : RowsSound target → (cp : List CurrentRow) → ListsSet of_current c.cp IsAny cp
-        → (history : List Row) → ListsSet of_row c.history IsAny history
+        → (history : List Row) → AreCompleted c history
         → HasLists target (planned ++ numbered c.issued new) cp history
     lists_then keeps cp cp_are history history_are = record {
       sound = keeps;
@@ -136,7 +136,7 @@ module _ (all : Definitions) (c : Sets) (sound : RowsSound c) (rows : List Row)
           (of_set of_current c.cp cp cp_are x);
       history = λ x. subst (λ (o : Option Row). Contains history x ↔ (o ≡ Some x))
           (history_stays mid mid_sound new x.serial (made c.issued new x.serial) refl)
-          (of_set of_row c.history history history_are x);
+          (history_are x);
     }
 
     -- how many rows the plans have then

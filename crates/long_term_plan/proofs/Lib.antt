@@ -10,6 +10,7 @@ mod PartingLemmas
 mod ModifyingLemmas
 mod ChangedLemmas
 mod TurnedLemmas
+mod HeldLemmas
 mod LookedLemmas
 mod ModifyPlanLemmas
 mod ModifyAllLemmas

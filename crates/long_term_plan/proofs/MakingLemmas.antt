@@ -28,7 +28,7 @@ use Rattle.plan_store.specs.Changes.{sets_after}
 use Rattle.plan_store.specs.Views.{IsAny, ListsSet}
 use Rattle.plan_store.specs.declared.changes.Change.{Change}
 use Rattle.plan_store.specs.declared.changes.DefinitionChange.TheVariants.{AsBefore}
-use Rattle.plan_pairs.specs.LiveRows.{HasLists}
+use Rattle.plan_pairs.specs.LiveRows.{AreCompleted, HasLists}
 use Rattle.plan_pairs.proofs.RowLemmas.{of_set}
 use Rattle.long_term_plan.specs.Drafting.{AreNew, NamesFor}
 use Rattle.long_term_plan.specs.Making.{AreDaysAdded, MakesSets, numbered, planned_sets}
@@ -127,7 +127,7 @@ module _ (c : Sets) (sound : RowsSound c) (new : List Draft) where
 
     -- the long-term plan then has the rows that it had and those that are made, and the others stay
     pub lists_then : (cp : List CurrentRow) → ListsSet of_current c.cp IsAny cp → (history : List Row)
-        → ListsSet of_row c.history IsAny history
+        → AreCompleted c history
         → HasLists (planned_sets b new c) (rows ++ numbered c.issued new) cp history
     lists_then cp cp_are history history_are = record {
       sound = keeps;
@@ -135,7 +135,7 @@ module _ (c : Sets) (sound : RowsSound c) (new : List Draft) where
       cp = λ x. subst (λ (o : Option CurrentRow). Contains cp x ↔ (o ≡ Some x))
           (cp_stays x.row.serial (made c.issued new x.row.serial) refl) (of_set of_current c.cp cp cp_are x);
       history = λ x. subst (λ (o : Option Row). Contains history x ↔ (o ≡ Some x))
-          (history_stays x.serial (made c.issued new x.serial) refl) (of_set of_row c.history history history_are x);
+          (history_stays x.serial (made c.issued new x.serial) refl) (history_are x);
     }
 
 module _ (c : Content) (sound : IsSound c) (b : Bounds) (links : List Link) (new : List Draft) (change : Change)

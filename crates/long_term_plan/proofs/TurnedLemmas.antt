@@ -14,7 +14,7 @@ use Rattle.planner_machine.specs.RowsSound.{RowsSound}
 use Rattle.planner_machine.proofs.SoundLemmas.{rows_sound}
 use Rattle.keyed_lists.specs.Rows.{of_current, of_row}
 use Rattle.plan_store.specs.Views.{IsAny, ListsSet}
-use Rattle.plan_pairs.specs.LiveRows.{HasLists}
+use Rattle.plan_pairs.specs.LiveRows.{AreCompleted, HasLists}
 use Rattle.plan_pairs.specs.Turns.{ArePlanned, HasItself, IsTouchOf}
 use Rattle.plan_pairs.proofs.RowLemmas.{of_set}
 use Rattle.plan_pairs.proofs.TurnLemmas.{IsTurnTo, all_stay, turn_to}
@@ -73,13 +73,13 @@ module _ (c : Sets) (sound : RowsSound c) (rows : List Row) (lists : ListsSet of
 -- from the content before the statement to the sets after it
 module _ (c : Content) (sound : IsSound c) (rows : List Row) (lists : ListsSet of_row c.sets.ltp IsAny rows)
     (current : List CurrentRow) (current_are : ListsSet of_current c.sets.cp IsAny current) (completed : List Row)
-    (completed_are : ListsSet of_row c.sets.history IsAny completed) where
+    (completed_are : AreCompleted c.sets completed) where
   has_lists : HasLists c.sets rows current completed
   has_lists = record {
     sound = rows_sound c sound;
     ltp = of_set of_row c.sets.ltp rows lists;
     cp = of_set of_current c.sets.cp current current_are;
-    history = of_set of_row c.sets.history completed completed_are;
+    history = completed_are;
   }
 
   pub turned : (s : Sets) (stay gone made : List Row) → HasLists s (stay ++ made) current completed
@@ -89,8 +89,8 @@ module _ (c : Content) (sound : IsSound c) (rows : List Row) (lists : ListsSet o
   turned s stay gone made has plan touch links is =
       turn_to c.sets s rows stay gone made current completed has_lists has plan touch c.in_force links is
 
-  pub rows_made : (s : Sets) (new : List Draft) → HasLists s (rows ++ numbered c.sets.issued new) current completed
-      → (touch : Touch) (links : List Link) → IsTouchOf [] (numbered c.sets.issued new) c.in_force links touch
-      → IsTurnTo c.sets s c.in_force links touch (rows ++ numbered c.sets.issued new) current completed
-  rows_made s new has touch links is = turned s rows [] (numbered c.sets.issued new) has
-      (all_stay rows (numbered c.sets.issued new) (new_serials c.sets (rows_sound c sound) rows lists new)) touch links is
+-- what is made comes, and all else stays
+pub rows_made : (c : Content) → IsSound c → (rows : List Row) → ListsSet of_row c.sets.ltp IsAny rows
+    → (new : List Draft) → ArePlanned rows rows [] (numbered c.sets.issued new)
+rows_made c sound rows lists new =
+    all_stay rows (numbered c.sets.issued new) (new_serials c.sets (rows_sound c sound) rows lists new)

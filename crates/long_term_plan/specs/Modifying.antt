@@ -22,7 +22,7 @@ use Rattle.planner_machine.specs.ModifyOne.{IsThatApp, is_that_app}
 use Rattle.planner_machine.specs.Moves.{each, size, with_made}
 use Rattle.planner_machine.specs.Plans.{HoldTooMany}
 use Rattle.keyed_lists.specs.Rows.{HasEachOnce, of_current, of_row}
-use Rattle.plan_pairs.specs.LiveRows.{HasLists}
+use Rattle.plan_pairs.specs.LiveRows.{AreCompleted, HasLists}
 use Rattle.plan_store.specs.Views.{IsAny, ListsSet}
 use Rattle.plan_store.specs.declared.changes.Verdict.{Verdict}
 use Rattle.plan_store.specs.declared.changes.Verdict.TheVariants.{Done, Refused}
@@ -75,7 +75,7 @@ pub record PartsPlan (s : Sets) (only : Option (List ℕ)) (named : List Draft) 
 -- the sets have these rows in the long-term plan, and in the current plan and history what the sets before have
 abbrev pub HavePlanned : Sets → List Row → Sets → Type 0
 HavePlanned before planned s = (cp : List CurrentRow) → ListsSet of_current before.cp IsAny cp → (history : List Row)
-    → ListsSet of_row before.history IsAny history → HasLists s planned cp history
+    → AreCompleted before history → HasLists s planned cp history
 
 -- the plans would hold more rows than they may, or the serials would pass the greatest
 abbrev pub AreTooMany : Sets → ℕ → ℕ → Type 0

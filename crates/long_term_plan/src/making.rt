@@ -7,7 +7,9 @@ ghost use Rattle.planner_machine.specs.declared.limits.TheConstants.{MOST_PLANNE
 ghost use Rattle.planner_machine.specs.Moves.{numbered_row};
 ghost use Rattle.planner_machine.specs.Plans.{HoldTooMany};
 ghost use Rattle.planner_machine.specs.Sound.{IsSound};
-ghost use Rattle.plan_store.specs.Views.{Hidden, ShowsDeleted, shown, with_hidden};
+ghost use Rattle.plan_store.specs.Asked.{AsksPlan};
+ghost use Rattle.plan_store.specs.Views.{Hidden, Sees, ShowsDeleted, shown, with_hidden};
+ghost use Rattle.plan_pairs.specs.Turns.{AreKnownLinks};
 ghost use Rattle.occurrences.specs.declared.key.Key.{Key as KeyValue};
 ghost use Rattle.long_term_plan.specs.Making.{AddsDays, AreDaysAdded, KeepsRowsSound, MakesDrafts, numbered};
 ghost use Rattle.long_term_plan.specs.Making.{planned_sets};
@@ -15,7 +17,7 @@ ghost use Rattle.long_term_plan.specs.Making.{planned_sets};
 use crate::drafts::{named_drafts, new_drafts};
 use external_dependencies::Links;
 use occurrences::{GREATEST_SERIAL, Refusal, Reply, Row, Serial};
-use plan_pairs::{live_rows_with, pair_change, touch_of};
+use plan_pairs::{live_rows_with, pair_change, pairs_of_plans, touch_of};
 use plan_store::{Change, DefinitionChange, Moves, Verdict, View};
 use planner_machine::{Bounds, Draft, MOST_PLANNED_ROWS};
 use std::alloc::{AllocError, Global};
@@ -32,6 +34,8 @@ pub(crate) fn add_days(
 ) -> Result<Verdict, AllocError>
     requires { bounds.now.last_day ≤ last_kept_day }
     ensures { IfOk result (λ verdict. (h : Hidden) → IsSound (with_hidden h view.now)
+        → Sees (AsksPlan (with_hidden h view.now)) h view.now
+        → AreKnownLinks (with_hidden h view.now) links
         → ((key : KeyValue) → first ≤ key.ia → ShowsDeleted h view.now key)
         → ((new : List DraftValue) → AreDaysAdded (with_hidden h view.now) bounds.now first new
         → KeepsRowsSound (with_hidden h view.now) bounds.now new)
@@ -70,6 +74,8 @@ fn make_drafts(
 ) -> Result<Verdict, AllocError>
     requires { (shown view.now).sets.issued + length new.items ≤ GREATEST_SERIAL }
     ensures { IfOk result (λ verdict. (h : Hidden) → IsSound (with_hidden h view.now)
+        → Sees (AsksPlan (with_hidden h view.now)) h view.now
+        → AreKnownLinks (with_hidden h view.now) links
         → KeepsRowsSound (with_hidden h view.now) bounds.now new.items
         → MakesDrafts (with_hidden h view.now) bounds.now links new.items verdict) }
 {
@@ -77,8 +83,9 @@ fn make_drafts(
     let rows = numbered_rows(alloc, view.issued(), new.as_slice())?;
     drop(new);
     let touch = touch_of(alloc, &[], &rows, view.in_force(), &links)?;
-    let live = live_rows_with(alloc, view.ltp(), &rows, view.cp(), view.history())?;
-    let pairs = pair_change(alloc, view.pairs(), &live, &links, &touch)?;
+    let live = live_rows_with(alloc, view.ltp(), &rows, view.cp(), view.lasts())?;
+    let before = pairs_of_plans(alloc, view)?;
+    let pairs = pair_change(alloc, &before, &live, &links, &touch)?;
     let change = Change {
         definitions: DefinitionChange::AsBefore,
         bounds: Some(*bounds),

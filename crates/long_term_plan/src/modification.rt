@@ -15,9 +15,10 @@ ghost use Rattle.planner_machine.specs.Sound.{IsSound};
 ghost use Rattle.keyed_lists.specs.Rows.{of_row};
 ghost use Rattle.plan_store.specs.Changes.{LeadsOn, pairs_after};
 ghost use Rattle.plan_store.specs.Verdicts.{VerdictIs};
-ghost use Rattle.plan_store.specs.Views.{Hidden, IsAny, ListsSet, Shows, ShowsDeleted, shown, with_hidden};
+ghost use Rattle.plan_store.specs.Asked.{AsksPlan};
+ghost use Rattle.plan_store.specs.Views.{Hidden, IsAny, ListsSet, Sees, Shows, ShowsDeleted, shown, with_hidden};
 ghost use Rattle.occurrences.specs.declared.key.Key.{Key as KeyValue};
-ghost use Rattle.plan_pairs.specs.Turns.{ArePlanned};
+ghost use Rattle.plan_pairs.specs.Turns.{AreKnownLinks, ArePlanned};
 ghost use Rattle.long_term_plan.specs.Drafting.{AreInOrder};
 ghost use Rattle.long_term_plan.specs.Modifying.{AreAsked, AreModifying, AreOf, AreTooMany, HavePlanned, Looks};
 ghost use Rattle.long_term_plan.specs.Modifying.{ModifiesPlan, ModifiesRows, modified_sets, outcome};
@@ -32,7 +33,8 @@ use app_occurrences::active;
 use external_dependencies::{Links, PairChange, find_loop};
 use occurrences::{Deletion, GREATEST_SERIAL, Reason, Refusal, Reply, Row};
 use plan_pairs::{
-    are_few, live_rows_of, live_rows_with, pair_change, reached_apps, single, touch_of,
+    are_few, live_rows_of, live_rows_with, pair_change, pairs_of_apps, pairs_of_plans,
+    reached_apps, single, touch_of,
 };
 use plan_store::{Change, DefinitionChange, Moves, Need, Verdict, View};
 use planner_machine::{Bounds, Draft, MOST_PLANNED_ROWS};
@@ -94,6 +96,8 @@ fn modify(
     links: Links,
 ) -> Result<Verdict, AllocError>
     ensures { IfOk result (λ verdict. (h : Hidden) → IsSound (with_hidden h view.now)
+        → Sees (AsksPlan (with_hidden h view.now)) h view.now
+        → AreKnownLinks (with_hidden h view.now) links
         → (with_hidden h view.now).sets.bounds ≡ Some bounds.now
         → ((key : KeyValue) → bounds.now.plan_end ≤ key.ia → ShowsDeleted h view.now key)
         → ModifiesPlan (with_hidden h view.now) only.now links verdict) }
@@ -164,7 +168,9 @@ fn pairs_then(
     links: &Links,
 ) -> Result<PairChange, AllocError>
     ensures { AreInOrder named.items → ListsSet of_row (shown view.now).sets.ltp IsAny rows.now
-        → IfOk result (λ change. (h : Hidden) → IsSound (with_hidden h view.now) → (s : Sets)
+        → IfOk result (λ change. (h : Hidden) → IsSound (with_hidden h view.now)
+        → Sees (AsksPlan (with_hidden h view.now)) h view.now
+        → AreKnownLinks (with_hidden h view.now) links.now → (s : Sets)
         → ArePlanned rows.now (filter_map (outcome only.now named.items) rows.now) gone.now put.now
         → HavePlanned (with_hidden h view.now).sets
         (filter_map (outcome only.now named.items) rows.now ++ put.now) s
@@ -173,18 +179,24 @@ fn pairs_then(
         × LeadsOn (with_hidden h view.now).pairs change) }
 {
     let current = view.cp();
-    let completed = view.history();
+    let lasts = view.lasts();
     let touch = touch_of(alloc, gone, put, view.in_force(), links)?;
     let apps = reached_apps(alloc, links, &touch)?;
-    let live = if are_few(view, &apps) {
+    let few = are_few(view, &apps);
+    let live = if few {
         let planned = planned_of(alloc, view, &apps, only, &named, put)?;
         live_rows_of(alloc, view, &apps, &planned)?
     } else {
         let kept = staying_rows(alloc, rows, only, &named)?;
-        live_rows_with(alloc, &kept, put, current, completed)?
+        live_rows_with(alloc, &kept, put, current, lasts)?
     };
     drop(named);
-    pair_change(alloc, view.pairs(), &live, links, &touch)
+    let before = if few {
+        pairs_of_apps(alloc, view, &apps)?
+    } else {
+        pairs_of_plans(alloc, view)?
+    };
+    pair_change(alloc, &before, &live, links, &touch)
 }
 
 // The rows of the long-term plan then of these applications, of which are all that are made.

@@ -10,6 +10,7 @@ use Rattle.occurrences.specs.declared.place.Place.{Place}
 use Rattle.occurrences.specs.declared.place.Place.TheVariants.{LongTerm, Current, History, Deleted}
 use Rattle.occurrences.specs.declared.row.Row.{Row}
 use Rattle.occurrences.specs.declared.status.Status.TheVariants.{W, D}
+use Rattle.external_dependencies.specs.Link.{Lists}
 use Rattle.external_dependencies.specs.Nearest.{IsNearestAnswer, arrival_of}
 use Rattle.external_dependencies.specs.declared.links.Link.{Link}
 use Rattle.external_dependencies.specs.declared.live.Arrival.{Arrival}
@@ -20,9 +21,10 @@ use Rattle.planner_machine.specs.Sound.{AreNumbered}
 use Rattle.planner_machine.proofs.SeatLemmas.{one_place}
 use Rattle.keyed_lists.specs.Rows.{of_current, of_row}
 use Rattle.external_dependencies.specs.Touch.{IsWithin}
-use Rattle.plan_store.specs.Views.{IsFoundAt, ListsSet}
-use Rattle.plan_store.proofs.PlaceLemmas.{live_outside, stands_cp, stands_ltp}
-use Rattle.plan_pairs.specs.Gathering.{AddsLive, Gathers, HoldsList, HoldsNearest, HoldsReachedRows, IsOpenBetween}
+use Rattle.plan_store.specs.Slices.{HaveOneApp}
+use Rattle.plan_store.specs.Views.{ListsSet}
+use Rattle.plan_store.proofs.PlaceLemmas.{stands_cp, stands_ltp}
+use Rattle.plan_pairs.specs.Gathering.{AddsBetween, AddsLive, Gathers, HoldsList, HoldsNearest, HoldsReachedRows, IsOpenBetween}
 use Rattle.plan_pairs.specs.Gathering.{StandsLive}
 use Rattle.plan_pairs.specs.LiveRows.{AddsCurrent, AddsRows}
 use Rattle.plan_pairs.specs.Spans.{ArrivesBetween}
@@ -32,6 +34,11 @@ pub each_more : {X : Type 0} (P : X → Type 0) (xs : List X) (x : X) → ((y : 
     → (y : X) → Contains (xs ++ x ∷ []) y → P y
 each_more P xs x each one y there =
     elim (Contains-push_cases xs x y there) [ inl old ↦ each y old | inr same ↦ subst P same one ]
+
+-- the rows of a window's list are of one application
+pub one_app : {X : Type 0} (row_of : X → Row) (set : ℕ → Option X) (app : List ℕ) (xs : List X)
+    → ListsSet row_of set (λ x. (row_of x).key.app ≡ app) xs → HaveOneApp row_of xs
+one_app row_of set app xs lists x y at_x at_y = ((lists.exactly x).0 at_x).1 ∙ sym ((lists.exactly y).0 at_y).1
 
 -- the list has the rows of a set that are of the application and arrive in the stretch
 abbrev pub HasBetween : {X : Type 0} → (X → Row) → (ℕ → Option X) → List ℕ → ℕ → Option ℕ → List X → Type 0
@@ -108,16 +115,13 @@ module _ (s : Sets) where
             λ other here may. (answer.0, (p, Contains-push rows p, alive, so), answer.1),
           )
 
-      pub nearest_unplaced : IsFoundAt s serial None → ⊥
-      nearest_unplaced nothing = let (q, at, live, arrives) = near_stands in nothing q at (live_outside q.place live)
-
     -- the live rows of an application in a stretch
     module _ (app : List ℕ) (first : ℕ) (last : Option ℕ) (planned : List Row) (current : List CurrentRow)
         (in_ltp : HasBetween of_row s.ltp app first last planned)
         (in_cp : HasBetween of_current s.cp app first last current)
         (old between new : List PlacedRow) (to_ltp : AddsRows planned LongTerm old between)
         (to_cp : AddsCurrent current between new) where
-      pub between_adds : AddsLive s old new
+      between_adds : AddsLive s old new
       between_adds = record {
         stay = λ p there. (to_cp p).1 (inl ((to_ltp p).1 (inl there)));
         come = λ p there. elim ((to_cp p).0 there) [
@@ -130,6 +134,18 @@ module _ (s : Sets) where
             | inr planned' ↦
                 let at = stands_ltp s numbered p.row.serial p.row ((in_ltp p.row).0 planned'.0).0 in
                 inr (at ∙ ap (alone p.row) (sym planned'.1), subst IsLive (sym planned'.1) tt)
+          ]
+        ];
+      }
+
+      pub between_only : AddsBetween s app first last old new
+      between_only = record {
+        adds = between_adds;
+        only = λ p there. elim ((to_cp p).0 there) [
+          | inr now ↦ inr ((in_cp (record { row = p.row; status = now.status })).0 now.listed).1
+          | inl so_far ↦ elim ((to_ltp p).0 so_far) [
+            | inl before ↦ inl before
+            | inr planned' ↦ inr ((in_ltp p.row).0 planned'.0).1
           ]
         ];
       }
@@ -161,6 +177,17 @@ module _ (c : Content) where
       → HoldsList c new row
   list_more old new adds row holds app listed = nearest_more c.sets old new adds row.key app (holds app listed)
 
+  -- a link of the application's list
+  pub lists_link : (app : List ℕ) (list : List Link)
+      → ((link : Link) → Contains list link ↔ (Contains c.in_force link × (link.app ≡ app))) → (link : Link)
+      → Contains list link → Lists c.in_force app link.predecessor
+  lists_link app list is link there =
+      let (listed, of_app) = (is link).0 there in (
+        link.within,
+        subst (Contains c.in_force)
+            (λ i. record { app = of_app i; predecessor = link.predecessor; within = link.within }) listed,
+      )
+
   -- all links of the row's list
   pub by_list : (rows : List PlacedRow) (row : Row) (list : List Link)
       → ((link : Link) → Contains list link ↔ (Contains c.in_force link × (link.app ≡ row.key.app)))
@@ -177,9 +204,24 @@ module _ (c : Content) where
         → ((p : PlacedRow) → Contains rows p → StandsLive c.sets p)
         → ((link : Link) → Contains naming link → (p : PlacedRow)
         → IsOpenBetween c.sets link.app row.key.ia last p → Contains rows p)
+        → ((p : PlacedRow) → Contains rows p → (link : Link) × Contains naming link
+        × ArrivesBetween link.app row.key.ia last p.row)
         → HoldsReachedRows c row last rows
-    by_naming rows naming is live holds = record {
+    by_naming rows naming is live holds from = record {
       live = live;
+      only = λ p there waits.
+          let (link, named, arrives) = from p there in
+          let (listed, of_row) = (is link).0 named in
+          let whole : link ≡ record { app = p.row.key.app; predecessor = row.key.app; within = link.within } =
+          λ i. record { app = sym arrives.of_app i; predecessor = of_row i; within = link.within } in
+          record {
+            listed = (link.within, subst (Contains c.in_force) whole listed);
+            waits = record {
+              stands = (live p there).0;
+              waits = waits;
+              arrives = record { of_app = refl; begun = arrives.begun; within = arrives.within };
+            };
+          };
       reached = λ p at.
           let (within, listed) = at.listed in
           let link : Link = record { app = p.row.key.app; predecessor = row.key.app; within = within } in

@@ -1,87 +1,25 @@
--- The rows that are handed over hold what a change reaches: all of them, or those of the applications that it reaches
--- and of those that their lists name.
-use Rattle.std.proofs.Common.{◌≡◌, ◌↔◌, ◌⊎◌, ℕ, None, List, [], ◌∷◌, ◌++◌, refl, sym, ap, subst, ◌∙◌, inl, inr}
+-- The rows of the applications that a change reaches and of those that their lists name.
+use Rattle.std.proofs.Common.{◌≡◌, ◌↔◌, ◌⊎◌, ℕ, List, [], ◌∷◌, ◌++◌, refl, sym, ap, subst, ◌∙◌, inl, inr}
 use Rattle.std.specs.List.{Contains}
 use Rattle.std.proofs.lemmas.List.Elements.{Contains-append_left, Contains-append_right, Contains-push}
 use Rattle.std.proofs.lemmas.List.Elements.{Contains-push_cases}
-use Rattle.occurrences.specs.Place.{IsOpen}
 use Rattle.occurrences.specs.declared.place.CurrentRow.{CurrentRow}
 use Rattle.occurrences.specs.declared.place.Place.TheVariants.{LongTerm, History}
 use Rattle.occurrences.specs.declared.row.Row.{Row}
 use Rattle.external_dependencies.specs.Link.{Lists}
-use Rattle.external_dependencies.specs.Nearest.{IsLiveIn, IsNearest}
-use Rattle.external_dependencies.specs.Reached.{HoldsReached}
 use Rattle.external_dependencies.specs.Settled.{IsOnce}
 use Rattle.external_dependencies.specs.Touch.{IsAnew, MayReach}
-use Rattle.occurrences.specs.declared.key.Key.{Key}
 use Rattle.external_dependencies.specs.declared.links.Link.{Link}
-use Rattle.external_dependencies.specs.declared.live.Arrival.{Arrival}
-use Rattle.external_dependencies.specs.declared.pairs.Pair.{Pair}
 use Rattle.external_dependencies.specs.declared.rows.PlacedRow.{PlacedRow}
 use Rattle.external_dependencies.specs.declared.touch.Touch.{Touch}
 use Rattle.keyed_lists.specs.Rows.{of_current, of_row}
 use Rattle.planner_machine.specs.Content.{Sets}
 use Rattle.plan_store.specs.Views.{IsAny, ListsSet}
 use Rattle.plan_pairs.specs.ByApplications.{HasReached, HasWithList}
-use Rattle.plan_pairs.specs.LiveRows.{AddsCurrent, AddsRows, AreLiveRows, IsCurrentIn}
+use Rattle.plan_pairs.specs.LiveRows.{AddsCurrent, AddsRows, IsCurrentIn}
 use Rattle.plan_pairs.specs.Turns.{IsBeside, IsTouchOf}
 use Rattle.plan_pairs.proofs.ListLemmas.{none}
 use Rattle.plan_pairs.proofs.TurnLemmas.{AreListed}
-
--- rows of some applications, with each that is reached and with all that its list names
-module _ (touch : Touch) (links : List Link) (now rows : List PlacedRow) (old : List Pair) (Passes : List ℕ → Type 0)
-    (are : (p : PlacedRow) → Contains rows p ↔ (Contains now p × Passes p.row.key.app))
-    (pass : (q : PlacedRow) → Contains now q → IsOpen q.place → MayReach touch links q.row
-    → Passes q.row.key.app × ((app : List ℕ) → Lists links q.row.key.app app → Passes app)) where
-  part : (q : PlacedRow) → Contains rows q → Contains now q
-  part q there = ((are q).0 there).0
-
-  live_now : (a : Arrival) → IsLiveIn rows a → IsLiveIn now a
-  live_now a (p, there, live, arrives) = (p, part p there, live, arrives)
-
-  live_there : (app : List ℕ) → Passes app → (a : Arrival) → a.app ≡ app → IsLiveIn now a → IsLiveIn rows a
-  live_there app passes a of_app (p, there, live, arrives) =
-      let same : p.row.key.app ≡ app = ap (λ (x : Arrival). x.app) arrives ∙ of_app in
-      (p, (are p).1 (there, subst Passes (sym same) passes), live, arrives)
-
-  same_nearest : (key : Key) (app : List ℕ) → Passes app → (near : Arrival)
-      → IsNearest (IsLiveIn rows) key app None near ↔ IsNearest (IsLiveIn now) key app None near
-  same_nearest key app passes near = (
-    (λ is. record {
-      live = live_now near is.live;
-      candidate = is.candidate;
-      greatest = λ other here may. is.greatest other (live_there app passes other may.of_app here) may;
-      last = λ other here may. is.last other (live_there app passes other may.of_app here) may;
-    }),
-    λ is. record {
-      live = live_there app passes near is.candidate.of_app is.live;
-      candidate = is.candidate;
-      greatest = λ other here. is.greatest other (live_now other here);
-      last = λ other here. is.last other (live_now other here);
-    },
-  )
-
-  pub some_hold : HoldsReached touch links now old rows old
-  some_hold = record {
-    rows_stand = part;
-    reached = λ q there is_open reach. (are q).1 (there, (pass q there is_open reach).0);
-    nearest = λ q there is_open reach app listed near. same_nearest q.row.key app
-        ((pass q there is_open reach).1 app listed) near;
-    pairs_stood = λ pair there. there;
-    had = λ pair there _. there;
-  }
-
--- two lists of the live occurrences have the same, so that either holds all that is reached
-pub live_hold : (s : Sets) (touch : Touch) (links : List Link) (now rows : List PlacedRow) (old : List Pair)
-    → AreLiveRows s now → AreLiveRows s rows → HoldsReached touch links now old rows old
-live_hold s touch links now rows old are are' = some_hold touch links now rows old (λ app. Unit {0}) same
-    (λ q there is_open reach. (tt, λ app listed. tt))
-  where
-    same : (p : PlacedRow) → Contains rows p ↔ (Contains now p × Unit {0})
-    same p = (
-      (λ there. let is = are'.only p there in ((are.all p.row.serial p is.0 is.1).0, tt)),
-      λ both. let is = are.only p both.0 in (are'.all p.row.serial p is.0 is.1).0,
-    )
 
 -- ---- by applications
 
@@ -101,7 +39,7 @@ module _ (touch : Touch) (was_links links : List Link) (gone made stay : List Ro
       begun.of_app ∙ ap (λ (x : PlacedRow). x.row.key.app) one in
       subst (HasWithList links apps) app (has.touched begun.stretch begun.listed)
 
-  of_reached : (q : PlacedRow) → Contains now q → MayReach touch links q.row → HasWithList links apps q.row.key.app
+  pub of_reached : (q : PlacedRow) → Contains now q → MayReach touch links q.row → HasWithList links apps q.row.key.app
   of_reached q there (inl anew) = of_made q there anew
   of_reached q there (inr (inl changed)) = has.changed q.row.key.app changed
   of_reached q there (inr (inr (link, in_links, (of_app, (s, in_stretches, (app, holds)))))) =
@@ -111,26 +49,11 @@ module _ (touch : Touch) (was_links links : List Link) (gone made stay : List Ro
       ) in
       has.naming s q.row.key.app in_stretches lists
 
-  pub gathered_hold : (old : List Pair) (planned : List Row) (rows : List PlacedRow)
-      → ((row : Row) → Contains planned row ↔ (Contains (stay ++ made) row × Contains apps row.key.app))
-      → ((p : PlacedRow) → Contains rows p ↔ ((Contains planned p.row × (p.place ≡ LongTerm))
-      ⊎ (IsBeside current completed p × Contains apps p.row.key.app)))
-      → HoldsReached touch links now old rows old
-  gathered_hold old planned rows are_planned are = some_hold touch links now rows old (Contains apps) exactly
-      (λ q there is_open reach. of_reached q there reach)
-    where
-      exactly : (p : PlacedRow) → Contains rows p ↔ (Contains now p × Contains apps p.row.key.app)
-      exactly p = (
-        (λ there. elim ((are p).0 there) [
-          | inl first ↦ let both = (are_planned p.row).0 first.0 in
-              ((listed p).1 (inl (both.0, first.1)), both.1)
-          | inr beside ↦ ((listed p).1 (inr beside.0), beside.1)
-        ]),
-        λ both. elim ((listed p).0 both.0) [
-          | inl first ↦ (are p).1 (inl ((are_planned p.row).1 (first.0, both.1), first.1))
-          | inr beside ↦ (are p).1 (inr (beside, both.1))
-        ],
-      )
+  -- the application of what goes is one of these
+  pub gone_app : (row : Row) → Contains gone row → Contains apps row.key.app
+  gone_app row there =
+      let begun = is.begun row (inl there) in
+      subst (Contains apps) begun.of_app (has.touched begun.stretch begun.listed).0
 
 -- ---- the rows of one application after another
 

@@ -1,5 +1,5 @@
 -- Rows that are gathered for an addition or a withdrawal hold all that it reaches.
-use Rattle.std.proofs.Common.{◌≡◌, ◌≢◌, ◌↔◌, ℕ, ◌<◌, ◌≤◌, Bool, List, [], ◌∷◌, ◌++◌, Option, Some, None, filter, refl}
+use Rattle.std.proofs.Common.{◌≡◌, ◌≢◌, ◌↔◌, ◌⊎◌, ℕ, ◌+◌, ◌<◌, ◌≤◌, Bool, true, List, [], ◌∷◌, ◌++◌, Option, Some, None, filter, refl}
 use Rattle.std.proofs.Common.{sym, ap, subst, ◌∙◌, inl, inr, arith}
 use Rattle.std.specs.Prelude.{nat_eq, not}
 use Rattle.std.specs.List.{Contains}
@@ -7,12 +7,14 @@ use Rattle.std.proofs.lemmas.Bool.{cases_eq, cases_lt}
 use Rattle.std.proofs.lemmas.List.Elements.{Contains-append_left, Contains-push, Contains-push_cases}
 use Rattle.occurrences.specs.Place.{IsOpen}
 use Rattle.occurrences.specs.declared.key.Key.{Key}
+use Rattle.occurrences.specs.declared.place.Place.TheVariants.{LongTerm, Current}
 use Rattle.occurrences.specs.declared.row.Row.{Row}
 use Rattle.external_dependencies.specs.Link.{Lists}
 use Rattle.external_dependencies.specs.Nearest.{IsCandidate, IsLiveIn, IsNearest, arrival_of}
-use Rattle.external_dependencies.specs.Reached.{HoldsReached}
+use Rattle.external_dependencies.specs.Reached.{HasSerialOf, HoldsReached}
 use Rattle.external_dependencies.specs.Touch.{IsBorder, IsCoveredByList, IsWithin, MayReach}
 use Rattle.external_dependencies.specs.declared.live.Arrival.{Arrival}
+use Rattle.external_dependencies.specs.declared.pairs.Pair.{Pair}
 use Rattle.external_dependencies.specs.declared.rows.PlacedRow.{PlacedRow}
 use Rattle.external_dependencies.specs.declared.touch.Stretch.{Stretch}
 use Rattle.external_dependencies.specs.declared.touch.Touch.{Touch}
@@ -20,12 +22,16 @@ use Rattle.external_dependencies.proofs.HoldsLemmas.{IsNoLater, no_later_itself,
 use Rattle.external_dependencies.proofs.TouchLemmas.{stretch_at}
 use Rattle.planner_machine.specs.Content.{Content, Sets, StandsAt}
 use Rattle.planner_machine.specs.Pairs.{LiveAt}
-use Rattle.planner_machine.specs.Sound.{IsSound}
+use Rattle.planner_machine.specs.Sound.{AreNumbered, IsSound}
 use Rattle.planner_machine.proofs.SeatLemmas.{one_place}
+use Rattle.plan_store.specs.Asked.{IsPlannedAt}
+use Rattle.plan_store.specs.Spans.{IsNextPlanned}
+use Rattle.plan_store.specs.Views.{is_planned, planned_pairs}
+use Rattle.plan_store.proofs.PlaceLemmas.{stands_cp, stands_ltp}
+use Rattle.plan_pairs.proofs.PartLemmas.{is_planned_pair, open_planned, shown_stood, unissued_pair}
 use Rattle.plan_pairs.specs.Additions.{IsAddable, IsTouchOfNew, place_in}
 use Rattle.plan_pairs.specs.Gathering.{HoldsNearest, HoldsWith, HoldsWithout, IsReached}
 use Rattle.plan_pairs.specs.LiveRows.{AreLiveRows}
-use Rattle.plan_pairs.specs.Spans.{IsNextAfter}
 use Rattle.plan_pairs.specs.Withdrawals.{IsTouchOfWithdrawn, LosesRow}
 use Rattle.plan_pairs.specs.declared.additions.Plan.{Plan}
 use Rattle.plan_pairs.proofs.ListLemmas.{filter_has, filter_keeps, none, only_one}
@@ -33,16 +39,37 @@ use Rattle.plan_pairs.proofs.ScratchLemmas.{live_from, live_to}
 use Rattle.plan_pairs.proofs.TouchLemmas.{row_with}
 use Rattle.plan_pairs.proofs.WithdrawalLemmas.{is_other, other_is}
 
+-- a live occurrence of the plans lives
+planned_live : (s : Sets) → AreNumbered s → (app : List ℕ) (ia : ℕ) → IsPlannedAt s app ia
+    → (n : Arrival) × LiveAt s n × (n.app ≡ app) × (n.ia ≡ ia)
+planned_live s numbered app ia (inl (serial, row, at, of_app, is)) = (
+  arrival_of row,
+  (serial, record { row = row; place = LongTerm }, stands_ltp s numbered serial row at, tt, refl),
+  of_app,
+  is,
+)
+planned_live s numbered app ia (inr (serial, current, at, live, of_app, is)) = (
+  arrival_of current.row,
+  (
+    serial,
+    record { row = current.row; place = Current current.status },
+    stands_cp s numbered serial current at,
+    live,
+    refl,
+  ),
+  of_app,
+  is,
+)
+
 -- the next occurrence of the application is a border, where it stands before and after
-pub next_borders : (s : Sets) (row : Row) (was now : List PlacedRow)
+pub next_borders : (s : Sets) → AreNumbered s → (row : Row) (was now : List PlacedRow)
     → ((n : Arrival) → LiveAt s n → row.key.ia < n.ia → IsLiveIn was n × IsLiveIn now n) → (last : Option ℕ)
-    → IsNextAfter s row.key.app row.key.ia last → IsBorder was now (arrival_of row) last
-next_borders s row was now lives None is = tt
-next_borders s row was now lives (Some next) is =
-    let at = is.at in
-    let later = is.later in
-    let both = lives is.arrival is.live (omega arith) in
-    (is.arrival, both.0, both.1, is.of_app, is.at, is.later)
+    → IsNextPlanned s row.key.app row.key.ia last → IsBorder was now (arrival_of row) last
+next_borders s numbered row was now lives None is = tt
+next_borders s numbered row was now lives (Some next) (planned, later, least) =
+    let (n, live, of_app, at) = planned_live s numbered row.key.app next planned in
+    let both = lives n live (omega (arith, at, later)) in
+    (n, both.0, both.1, of_app, at, later)
 
 -- what is nearest is not before any other that may precede
 no_later : (s : Sets) (key : Key) (app : List ℕ) (near other : Arrival) → IsNearest (LiveAt s) key app None near
@@ -147,9 +174,9 @@ module _ (c : Content) (sound : IsSound c) (plan : Plan) (row : Row) (able : IsA
   abbrev now : List PlacedRow
   now = before ++ new ∷ []
 
-  pub addition_borders : IsNextAfter c.sets row.key.app row.key.ia last
+  pub addition_borders : IsNextPlanned c.sets row.key.app row.key.ia last
       → IsBorder before (before ++ (record { row = row; place = place_in plan }) ∷ []) (arrival_of row) last
-  addition_borders is = next_borders c.sets row before now (λ n live after.
+  addition_borders is = next_borders c.sets sound.serials row before now (λ n live after.
       let here = live_to c.sets before were n live in
       (here, (here.0, Contains-append_left before (new ∷ []) here.0 here.1, here.2, here.3))) last is
 
@@ -191,7 +218,7 @@ module _ (c : Content) (sound : IsSound c) (plan : Plan) (row : Row) (able : IsA
       | inr same ↦ (other, (p, subst (Contains rows) same new_in, live, arrives), (may, no_later_itself other))
     ]
 
-    pub addition_holds : HoldsReached touch c.in_force
+    addition_holds : HoldsReached touch c.in_force
         (before ++ (record { row = row; place = place_in plan }) ∷ []) c.pairs rows c.pairs
     addition_holds = record {
       rows_stand = part;
@@ -211,6 +238,42 @@ module _ (c : Content) (sound : IsSound c) (plan : Plan) (row : Row) (able : IsA
       had = λ pair there _. there;
     }
 
+    -- pairs of the plans that have those of the gathered rows have those of all that it reaches
+    module _ (shown pairs : List Pair) (is_shown : shown ≡ planned_pairs c.sets.ltp c.sets.cp c.pairs)
+        (exactly : (pair : Pair) → Contains pairs pair
+        ↔ (Contains shown pair × (HasSerialOf rows pair.successor ⊎ (pair.successor ≡ row.serial)))) where
+      had : (pair : Pair) → Contains c.pairs pair → (q : PlacedRow) → Contains now q → q.row.serial ≡ pair.successor
+          → IsOpen q.place → Contains rows q → Contains pairs pair
+      had pair old q there same waits held = elim (Contains-push_cases before new q there) [
+        | inl stood ↦
+            let planned = open_planned c.sets q.row q.place (were.only q stood).0 waits in
+            (exactly pair).1 (
+              is_planned_pair c.sets shown c.pairs is_shown pair old
+                  (subst (λ n. is_planned c.sets.ltp c.sets.cp n ≡ true) same planned),
+              inl (q, held, same),
+            )
+        | inr made ↦
+            let serial : pair.successor ≡ row.serial = sym same ∙ ap (λ (x : PlacedRow). x.row.serial) (sym made) in
+            absurd (unissued_pair c sound pair old (serial ∙ new_serial))
+      ]
+        where
+          new_serial : row.serial ≡ c.sets.issued + 1
+          new_serial = ap (λ (r : Row). r.serial) able.numbered
+
+      pub addition_held : HoldsReached touch c.in_force
+          (before ++ (record { row = row; place = place_in plan }) ∷ []) c.pairs rows pairs
+      addition_held = record {
+        rows_stand = addition_holds.rows_stand;
+        reached = addition_holds.reached;
+        nearest = addition_holds.nearest;
+        pairs_stood = λ pair there. shown_stood c.sets shown c.pairs is_shown pair ((exactly pair).0 there).0;
+        had = λ pair old which. elim which [
+          | inl (q, there, same, waits, may) ↦ had pair old q there same waits
+              (addition_holds.reached q there waits may)
+          | inr gone ↦ absurd (none pair.successor (subst (λ (ns : List ℕ). Contains ns pair.successor) is.withdrawn gone))
+        ];
+      }
+
 -- a withdrawal
 module _ (c : Content) (sound : IsSound c) (s' : Sets) (row : Row) (loses : LosesRow c.sets s' row)
     (before : List PlacedRow) (were : AreLiveRows c.sets before) (last : Option ℕ) where
@@ -223,9 +286,9 @@ module _ (c : Content) (sound : IsSound c) (s' : Sets) (row : Row) (loses : Lose
       ap (λ (x : PlacedRow). x.row) (one_place c.sets row.serial p loses.placed
       (subst (λ n. StandsAt c.sets n p) same stands) loses.stood) ∙ loses.of_row
 
-  pub withdrawal_borders : IsNextAfter c.sets row.key.app row.key.ia last
+  pub withdrawal_borders : IsNextPlanned c.sets row.key.app row.key.ia last
       → IsBorder before (filter (λ (p : PlacedRow). not (nat_eq p.row.serial row.serial)) before) (arrival_of row) last
-  withdrawal_borders is = next_borders c.sets row before (filter others before) (λ n live after.
+  withdrawal_borders is = next_borders c.sets sound.serials row before (filter others before) (λ n live after.
       let here = live_to c.sets before were n live in
       let apart : here.0.row.serial ≢ row.serial = λ same.
       let moments : row.key.ia ≡ n.ia = ap (λ (r : Row). r.key.ia) (sym (is_row here.0
@@ -321,7 +384,7 @@ module _ (c : Content) (sound : IsSound c) (s' : Sets) (row : Row) (loses : Lose
               before_row key app near nearest was other lives may earlier
         ]
 
-    pub withdrawal_holds : HoldsReached touch c.in_force
+    withdrawal_holds : HoldsReached touch c.in_force
         (filter (λ (p : PlacedRow). not (nat_eq p.row.serial row.serial)) before) c.pairs rows c.pairs
     withdrawal_holds = record {
       rows_stand = left_part;
@@ -332,3 +395,33 @@ module _ (c : Content) (sound : IsSound c) (s' : Sets) (row : Row) (loses : Lose
       pairs_stood = λ pair there. there;
       had = λ pair there _. there;
     }
+
+    -- and so of a withdrawal
+    module _ (shown pairs : List Pair) (is_shown : shown ≡ planned_pairs c.sets.ltp c.sets.cp c.pairs)
+        (exactly : (pair : Pair) → Contains pairs pair
+        ↔ (Contains shown pair × (HasSerialOf rows pair.successor ⊎ (pair.successor ≡ row.serial)))) where
+      pub withdrawal_held : HoldsReached touch c.in_force
+          (filter (λ (p : PlacedRow). not (nat_eq p.row.serial row.serial)) before) c.pairs rows pairs
+      withdrawal_held = record {
+        rows_stand = withdrawal_holds.rows_stand;
+        reached = withdrawal_holds.reached;
+        nearest = withdrawal_holds.nearest;
+        pairs_stood = λ pair there. shown_stood c.sets shown c.pairs is_shown pair ((exactly pair).0 there).0;
+        had = λ pair old which. elim which [
+          | inl (q, there, same, waits, may) ↦
+              let planned = open_planned c.sets q.row q.place (were.only q (filter_has others before q there).0).0 waits in
+              (exactly pair).1 (
+                is_planned_pair c.sets shown c.pairs is_shown pair old
+                    (subst (λ n. is_planned c.sets.ltp c.sets.cp n ≡ true) same planned),
+                inl (q, withdrawal_holds.reached q there waits may, same),
+              )
+          | inr gone ↦
+              let same : row.serial ≡ pair.successor =
+              only_one row.serial pair.successor (subst (λ (ns : List ℕ). Contains ns pair.successor) is.withdrawn gone) in
+              (exactly pair).1 (
+                is_planned_pair c.sets shown c.pairs is_shown pair old
+                    (subst (λ n. is_planned c.sets.ltp c.sets.cp n ≡ true) same loses.planned),
+                inr (sym same),
+              )
+        ];
+      }

@@ -19,6 +19,7 @@ use Rattle.planner_machine.proofs.SeatLemmas.{cases_issued}
 use Rattle.plan_store.specs.Views.{IsAny, ListsSet}
 use Rattle.plan_pairs.proofs.ListLemmas.{none}
 use Rattle.plan_pairs.specs.LiveRows.{AddsCurrent, AddsRows, AreLiveRows, HasLists, IsCurrentIn}
+use Rattle.plan_pairs.specs.Turns.{IsListed}
 
 pub rows_none : (place : Place) (old : List PlacedRow) → AddsRows [] place old old
 rows_none place old p =
@@ -200,6 +201,27 @@ module _ (s : Sets) (planned : List Row) (cp : List CurrentRow) (history : List 
 
   pub are_live : AreLiveRows s r3
   are_live = record { all = λ serial p stands live. all_live serial p.row p.place stands live; only = only_live }
+
+-- the lists, one after another, have what they list
+pub are_listed : (planned : List Row) (current : List CurrentRow) (completed : List Row) (r1 r2 r3 : List PlacedRow)
+    → AddsRows planned LongTerm [] r1 → AddsCurrent current r1 r2 → AddsRows completed History r2 r3
+    → (p : PlacedRow) → Contains r3 p ↔ IsListed planned current completed p
+are_listed planned current completed r1 r2 r3 a1 a2 a3 p = (
+  (λ there. elim ((a3 p).0 there) [
+    | inr done ↦ inr (inr done)
+    | inl in_2 ↦ elim ((a2 p).0 in_2) [
+      | inr now ↦ inr (inl now)
+      | inl in_1 ↦ elim ((a1 p).0 in_1) [ inl nothing ↦ absurd (none p nothing) | inr first ↦ inl first ]
+    ]
+  ]),
+  λ is. elim is [
+    | inl first ↦ (a3 p).1 (inl ((a2 p).1 (inl ((a1 p).1 (inr first)))))
+    | inr beside ↦ elim beside [
+      | inl now ↦ (a3 p).1 (inl ((a2 p).1 (inr now)))
+      | inr done ↦ (a3 p).1 (inr done)
+    ]
+  ],
+)
 
 -- the list of a whole set
 pub of_set : {X : Type 0} (row_of : X → Row) (set : ℕ → Option X) (xs : List X) → ListsSet row_of set IsAny xs

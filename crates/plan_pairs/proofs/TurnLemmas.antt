@@ -1,8 +1,7 @@
 -- The live occurrences before and after a planning statement, and that the touch names all that it touches.
-use Rattle.std.proofs.Common.{◌≡◌, ◌≢◌, ◌↔◌, ◌⊎◌, ℕ, ◌≤◌, List, [], ◌∷◌, ◌++◌, refl, sym, ap, subst, ◌∙◌, inl, inr, None}
+use Rattle.std.proofs.Common.{◌≡◌, ◌≢◌, ◌↔◌, ◌⊎◌, List, [], ◌∷◌, ◌++◌, refl, sym, ap, ◌∙◌, inl, inr}
 use Rattle.std.specs.List.{Contains}
 use Rattle.std.proofs.lemmas.List.Elements.{Contains-append_cases, Contains-append_left, Contains-append_right}
-use Rattle.occurrences.specs.Place.{IsLive, IsOpen}
 use Rattle.occurrences.specs.declared.place.CurrentRow.{CurrentRow}
 use Rattle.occurrences.specs.declared.place.Place.{Place}
 use Rattle.occurrences.specs.declared.place.Place.TheVariants.{LongTerm, Current, History}
@@ -20,7 +19,7 @@ use Rattle.planner_machine.specs.Content.{Sets}
 use Rattle.plan_pairs.specs.LiveRows.{AddsCurrent, AddsRows, AreLiveRows, HasLists, IsCurrentIn}
 use Rattle.plan_pairs.specs.Turns.{ArePlanned, HasItself, IsBeside, IsListed, IsTouchOf, IsTurn}
 use Rattle.plan_pairs.proofs.ListLemmas.{none}
-use Rattle.plan_pairs.proofs.RowLemmas.{are_live, current_more, current_none, current_skip, rows_both, rows_more, rows_none}
+use Rattle.plan_pairs.proofs.RowLemmas.{are_listed, are_live, current_more, current_none, current_skip, rows_both, rows_more, rows_none}
 use Rattle.plan_pairs.proofs.TouchLemmas.{live_once}
 
 -- ---- the live occurrences as a list
@@ -117,22 +116,7 @@ live_list s planned current completed has =
     record {
       rows = r3;
       live = are_live s planned current completed has r1 r2 r3 a1 a2 a3;
-      listed = λ p. (
-        (λ there. elim ((a3 p).0 there) [
-          | inr done ↦ inr (inr done)
-          | inl in_2 ↦ elim ((a2 p).0 in_2) [
-            | inr now ↦ inr (inl now)
-            | inl in_1 ↦ elim ((a1 p).0 in_1) [ inl nothing ↦ absurd (none p nothing) | inr first ↦ inl first ]
-          ]
-        ]),
-        λ is. elim is [
-          | inl first ↦ (a3 p).1 (inl ((a2 p).1 (inl ((a1 p).1 (inr first)))))
-          | inr beside ↦ elim beside [
-            | inl now ↦ (a3 p).1 (inl ((a2 p).1 (inr now)))
-            | inr done ↦ (a3 p).1 (inr done)
-          ]
-        ],
-      );
+      listed = are_listed planned current completed r1 r2 r3 a1 a2 a3;
     }
 
 -- what stands beside the long-term plan does not stand in it

@@ -9,6 +9,8 @@ use Rattle.external_dependencies.specs.declared.live.Arrival.{Arrival}
 use Rattle.external_dependencies.specs.declared.rows.PlacedRow.{PlacedRow}
 use Rattle.planner_machine.specs.Content.{Content, Sets, StandsAt}
 use Rattle.planner_machine.specs.Pairs.{LiveAt}
+use Rattle.plan_store.specs.Views.{Hidden, ShowsNearest, with_hidden}
+use Rattle.plan_store.specs.declared.views.View.{View}
 use Rattle.plan_pairs.specs.Additions.{place_in}
 use Rattle.plan_pairs.specs.Spans.{ArrivesBetween}
 use Rattle.plan_pairs.specs.declared.additions.Plan.{Plan}
@@ -21,6 +23,12 @@ StandsLive s p = StandsAt s p.row.serial p × IsLive p.place
 pub record AddsLive (s : Sets) (old new : List PlacedRow) : Type 0 where
   pub stay : (p : PlacedRow) → Contains old p → Contains new p
   pub come : (p : PlacedRow) → Contains new p → Contains old p ⊎ StandsLive s p
+
+-- live occurrences of the application that arrive in the stretch come to the rows, and none leaves them
+pub record AddsBetween (s : Sets) (app : List ℕ) (first : ℕ) (last : Option ℕ) (old new : List PlacedRow) : Type 0
+  where
+    pub adds : AddsLive s old new
+    pub only : (p : PlacedRow) → Contains new p → Contains old p ⊎ ArrivesBetween app first last p.row
 
 -- where anything may precede the key in the application, were there no limit, the rows have what is nearest to it
 abbrev pub HoldsNearest : Sets → List PlacedRow → Key → List ℕ → Type 0
@@ -43,9 +51,19 @@ pub record IsReached (c : Content) (row : Row) (last : Option ℕ) (p : PlacedRo
   pub listed : Lists c.in_force p.row.key.app row.key.app
   pub waits : IsOpenBetween c.sets p.row.key.app row.key.ia last p
 
--- the rows are live, and all that are reached are among them
+-- the window shows of history what may precede the row in each application of its list
+abbrev pub ShowsList : Hidden → View → Row → Type 0
+ShowsList h view row = (app : List ℕ) → Lists (with_hidden h view).in_force row.key.app app
+    → ShowsNearest h view row.key app
+
+-- and so for each row that is reached
+abbrev pub ShowsReached : Hidden → View → Row → Option ℕ → Type 0
+ShowsReached h view row last = (p : PlacedRow) → IsReached (with_hidden h view) row last p → ShowsList h view p.row
+
+-- the rows are live, and all that are reached are among them, and no other open ones
 pub record HoldsReachedRows (c : Content) (row : Row) (last : Option ℕ) (rows : List PlacedRow) : Type 0 where
   pub live : (p : PlacedRow) → Contains rows p → StandsLive c.sets p
+  pub only : (p : PlacedRow) → Contains rows p → IsOpen p.place → IsReached c row last p
   pub reached : (p : PlacedRow) → IsReached c row last p → Contains rows p
 
 -- the rows are live, and all that are reached are among them, with what is nearest to them

@@ -2,6 +2,7 @@ pub mod Additions
 pub mod ByApplications
 pub mod Gathering
 pub mod LiveRows
+pub mod Planned
 pub mod RowPairs
 pub mod Spans
 pub mod Turns

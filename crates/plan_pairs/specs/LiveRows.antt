@@ -27,6 +27,10 @@ pub record HasLists (s : Sets) (planned : List Row) (current : List CurrentRow) 
   pub cp : (x : CurrentRow) → Contains current x ↔ (s.cp x.row.serial ≡ Some x)
   pub history : (row : Row) → Contains completed row ↔ (s.history row.serial ≡ Some row)
 
+-- the list has exactly the rows of history
+abbrev pub AreCompleted : Sets → List Row → Type 0
+AreCompleted s completed = (row : Row) → Contains completed row ↔ (s.history row.serial ≡ Some row)
+
 -- the rows of the list are added, in that place
 abbrev pub AddsRows : List Row → Place → List PlacedRow → List PlacedRow → Type 0
 AddsRows list place old new =

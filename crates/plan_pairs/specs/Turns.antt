@@ -11,7 +11,8 @@ use Rattle.external_dependencies.specs.declared.live.Arrival.{Arrival}
 use Rattle.external_dependencies.specs.declared.rows.PlacedRow.{PlacedRow}
 use Rattle.external_dependencies.specs.declared.touch.Stretch.{Stretch}
 use Rattle.external_dependencies.specs.declared.touch.Touch.{Touch}
-use Rattle.planner_machine.specs.Content.{Sets}
+use Rattle.planner_machine.specs.Content.{Content, Sets}
+use Rattle.planner_machine.specs.InForce.{IsDefinedLink}
 use Rattle.plan_pairs.specs.LiveRows.{AreLiveRows, IsCurrentIn}
 
 -- one of the rows has the serial
@@ -25,6 +26,10 @@ pub record IsBegun (stretches : List Stretch) (a : Arrival) : Type 0 where
   pub of_app : stretch.app ≡ a.app
   pub begun : stretch.first ≤ a.ia
   pub endless : stretch.last ≡ None
+
+-- each of the links stands in force, or is defined
+abbrev pub AreKnownLinks : Content → List Link → Type 0
+AreKnownLinks c links = (link : Link) → Contains links link → Contains c.in_force link ⊎ IsDefinedLink c.definitions link
 
 -- the touch names the rows that go, those that are made, the application of each where they begin, and each application
 -- whose list changes; what it may reach has no end

@@ -4,14 +4,15 @@ ghost use Rattle.planner_machine.specs.Content.{Content};
 ghost use Rattle.planner_machine.specs.Sound.{AreNumbered, IsSound};
 ghost use Rattle.plan_store.specs.Changes.{LeadsOn, pairs_after};
 ghost use Rattle.plan_store.specs.Verdicts.{VerdictIs};
-ghost use Rattle.plan_store.specs.Views.{Hidden, Shows, with_hidden};
+ghost use Rattle.plan_store.specs.Asked.{AsksKey};
+ghost use Rattle.plan_store.specs.Views.{Hidden, Sees, Shows, ShowsPart, with_hidden};
 ghost use Rattle.plan_pairs.specs.Additions.{AddsRow, ArePairsWith, IsAddable, IsNewRow, IsNewSerial, IsPutIn};
 ghost use Rattle.plan_pairs.specs.Additions.{IsTouchOfNew, place_in};
-ghost use Rattle.plan_pairs.specs.Gathering.{HoldsWith};
+ghost use Rattle.plan_pairs.specs.Gathering.{HoldsWith, ShowsList, ShowsReached};
 
 use crate::gathering::{gather, push_list};
+use crate::planned::pairs_of_rows;
 use crate::singles::{push_item, single};
-use crate::spans::next_arrival;
 use app_occurrences::active;
 use external_dependencies::{PairChange, PlacedRow, Rows, Stretch, Touch, resolve_touched};
 use occurrences::{CurrentRow, Key, Origin, Place, Refusal, Reply, Row, Serial, Status};
@@ -58,6 +59,7 @@ pub fn add(alloc: Global, view: &View<'_>, plan: Plan, key: &Key) -> Result<Verd
 // The row that is added under the key, or why none is.
 fn new_row(view: &View<'_>, plan: Plan, key: &Key) -> Result<Row, Refusal>
     ensures { (h : Hidden) → IsSound (with_hidden h view.now)
+        → Sees (AsksKey (with_hidden h view.now) key.now) h view.now
         → IsNewRow (with_hidden h view.now) plan key.now result }
 {
     let Some(bounds) = view.bounds() else {
@@ -110,6 +112,7 @@ fn new_serial(view: &View<'_>) -> Option<Serial>
 // The row comes to the plan.
 fn add_row(alloc: Global, view: &View<'_>, plan: Plan, row: &Row) -> Result<Verdict, AllocError>
     ensures { IfOk result (λ verdict. (h : Hidden) → IsSound (with_hidden h view.now)
+        → Sees (AsksKey (with_hidden h view.now) row.now.key) h view.now
         → IsAddable (with_hidden h view.now) plan row.now
         → AddsRow (with_hidden h view.now) plan row.now verdict) }
 {
@@ -148,15 +151,17 @@ fn pairs_with(
     row: &Row,
 ) -> Result<PairChange, AllocError>
     ensures { IfOk result (λ change. (h : Hidden) → IsSound (with_hidden h view.now)
+        → Sees (AsksKey (with_hidden h view.now) row.now.key) h view.now
         → IsAddable (with_hidden h view.now) plan row.now
         → ArePairsWith (with_hidden h view.now) plan row.now
         (pairs_after change (with_hidden h view.now).pairs)
         × LeadsOn (with_hidden h view.now).pairs change) }
 {
-    let last = next_arrival(view, &row.key.app, row.key.ia);
+    let last = view.next_planned(&row.key.app, row.key.ia);
     let rows = rows_with(alloc, view, plan, row, &last)?;
     let touch = touch_of(alloc, row, &last)?;
-    resolve_touched(alloc, &rows, view.in_force(), view.pairs(), &touch)
+    let pairs = pairs_of_rows(alloc, view, rows.as_slice(), row.serial)?;
+    resolve_touched(alloc, &rows, view.in_force(), &pairs, &touch)
 }
 
 // The rows that hold what the addition reaches.
@@ -168,6 +173,7 @@ fn rows_with(
     last: &Option<Moment>,
 ) -> Result<Rows, AllocError>
     ensures { IfOk result (λ rows. (h : Hidden) → AreNumbered (with_hidden h view.now).sets
+        → ShowsPart h view.now → ShowsReached h view.now row.now last.now → ShowsList h view.now row.now
         → HoldsWith (with_hidden h view.now) plan row.now last.now rows) }
 {
     let mut rows = gather(alloc, view, row, last)?;

@@ -88,10 +88,10 @@ fn in_order<T: Ord + Copy>(mut items: Vec<T>) -> Vec<T>
 
 /// Whether these applications have at most half of the live rows, so that it is worth while to gather them.
 pub fn are_few(view: &View<'_>, apps: &[App]) -> bool {
-    let all = view.ltp().len() + view.cp().len() + view.history().len();
+    let all = view.ltp().len() + view.cp().len() + view.lasts().len();
     let mut count: usize = 0;
     for app in apps {
-        let rows = view.ltp_of(app).len() + view.cp_of(app).len() + view.history_of(app).len();
+        let rows = view.ltp_of(app).len() + view.cp_of(app).len() + view.lasts_of(app).len();
         count = count.saturating_add(rows);
     }
     count <= all / 2
@@ -110,7 +110,7 @@ pub fn live_rows_of(
     push_rows(&mut rows, planned, Place::LongTerm)?;
     for app in apps {
         push_current(&mut rows, view.cp_of(app))?;
-        push_rows(&mut rows, view.history_of(app), Place::History)?;
+        push_rows(&mut rows, view.lasts_of(app), Place::History)?;
     }
     Ok(Rows::from_vec(rows))
 }

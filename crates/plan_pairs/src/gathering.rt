@@ -2,15 +2,15 @@ ghost use Rattle.std.specs.Prelude.{Contains, IfOk, OnOk};
 ghost use Rattle.external_dependencies.specs.declared.rows.PlacedRow.{PlacedRow as PlacedValue};
 ghost use Rattle.occurrences.specs.Place.{IsOpen};
 ghost use Rattle.planner_machine.specs.Sound.{AreNumbered};
-ghost use Rattle.plan_store.specs.Views.{Hidden, with_hidden};
-ghost use Rattle.plan_pairs.specs.Gathering.{AddsLive, Gathers, HoldsList, HoldsNearest, HoldsReachedRows, IsOpenBetween};
+ghost use Rattle.plan_store.specs.Views.{Hidden, ShowsNearest, ShowsPart, with_hidden};
+ghost use Rattle.plan_pairs.specs.Gathering.{AddsBetween, AddsLive, Gathers, HoldsList, HoldsNearest, HoldsReachedRows, IsOpenBetween};
+ghost use Rattle.plan_pairs.specs.Gathering.{ShowsList, ShowsReached};
 
 use crate::listing::{copied, push_current, push_rows};
 use crate::singles::push_item;
-use crate::spans::between;
 use external_dependencies::PlacedRow;
 use occurrences::{Key, Place, Row};
-use plan_store::View;
+use plan_store::{View, between};
 use std::alloc::{AllocError, Global};
 use work_calendars::{App, Moment};
 
@@ -24,6 +24,7 @@ pub(crate) fn gather(
     last: &Option<Moment>,
 ) -> Result<Vec<PlacedRow>, AllocError>
     ensures { IfOk result (λ rows. (h : Hidden) → AreNumbered (with_hidden h view.now).sets
+        → ShowsPart h view.now → ShowsReached h view.now row.now last.now
         → Gathers (with_hidden h view.now) row.now last.now rows.items) }
 {
     let reached = reached_rows(alloc, view, row, last)?;
@@ -59,7 +60,7 @@ fn push_between(
     rows: &mut Vec<PlacedRow>,
 ) -> Result<(), AllocError>
     ensures { OnOk result ((h : Hidden) → AreNumbered (with_hidden h view.now).sets
-        → AddsLive (with_hidden h view.now).sets rows.old.items rows.new.items
+        → AddsBetween (with_hidden h view.now).sets app.now first last.now rows.old.items rows.new.items
         × ((p : PlacedValue) → IsOpenBetween (with_hidden h view.now).sets app.now first last.now p
         → Contains rows.new.items p)) }
 {
@@ -77,6 +78,8 @@ fn push_lists(
     rows: &mut Vec<PlacedRow>,
 ) -> Result<(), AllocError>
     ensures { OnOk result ((h : Hidden) → AreNumbered (with_hidden h view.now).sets
+        → ShowsPart h view.now
+        → ((p : PlacedValue) → Contains reached.now p → IsOpen p.place → ShowsList h view.now p.row)
         → AddsLive (with_hidden h view.now).sets rows.old.items rows.new.items
         × ((p : PlacedValue) → Contains reached.now p → IsOpen p.place
         → HoldsList (with_hidden h view.now) rows.new.items p.row)) }
@@ -96,6 +99,7 @@ pub(crate) fn push_list(
     rows: &mut Vec<PlacedRow>,
 ) -> Result<(), AllocError>
     ensures { OnOk result ((h : Hidden) → AreNumbered (with_hidden h view.now).sets
+        → ShowsPart h view.now → ShowsList h view.now row.now
         → AddsLive (with_hidden h view.now).sets rows.old.items rows.new.items
         × HoldsList (with_hidden h view.now) rows.new.items row.now) }
 {
@@ -113,6 +117,7 @@ pub(crate) fn push_nearest(
     rows: &mut Vec<PlacedRow>,
 ) -> Result<(), AllocError>
     ensures { OnOk result ((h : Hidden) → AreNumbered (with_hidden h view.now).sets
+        → ShowsPart h view.now → ShowsNearest h view.now key.now app.now
         → AddsLive (with_hidden h view.now).sets rows.old.items rows.new.items
         × HoldsNearest (with_hidden h view.now).sets rows.new.items key.now app.now) }
 {

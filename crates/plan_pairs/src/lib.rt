@@ -5,8 +5,9 @@
 //! ```text
 //! // what leads from the pairs before some rows joined the long-term plan to those after it
 //! let touch = touch_of(alloc, &[], &made, view.in_force(), &links)?;
-//! let rows = live_rows_with(alloc, view.ltp(), &made, view.cp(), view.history())?;
-//! let change = pair_change(alloc, view.pairs(), &rows, &links, &touch)?;
+//! let rows = live_rows_with(alloc, view.ltp(), &made, view.cp(), view.lasts())?;
+//! let pairs = pairs_of_plans(alloc, view)?;
+//! let change = pair_change(alloc, &pairs, &rows, &links, &touch)?;
 //! ```
 #![tactic(auto)]
 
@@ -15,10 +16,10 @@ mod by_applications;
 mod change;
 mod gathering;
 mod listing;
+mod planned;
 mod row_pairs;
 mod scratch;
 mod singles;
-mod spans;
 mod touches;
 mod withdrawals;
 
@@ -26,6 +27,7 @@ pub use additions::{Plan, add};
 pub use by_applications::{are_few, live_rows_of, reached_apps};
 pub use change::pair_change;
 pub use listing::{live_rows, live_rows_with};
+pub use planned::{pairs_of_apps, pairs_of_plans};
 pub use row_pairs::row_pairs_of;
 pub use scratch::settled_pairs;
 pub use singles::single;

@@ -1,6 +1,8 @@
-ghost use Rattle.std.specs.Prelude.{◌≡◌, ◌++◌, IfOk, OnOk};
+ghost use Rattle.std.specs.Prelude.{◌≡◌, ◌++◌, ◌↔◌, Contains, IfOk, OnOk};
+ghost use Rattle.external_dependencies.specs.declared.rows.PlacedRow.{PlacedRow as PlacedValue};
 ghost use Rattle.planner_machine.specs.Content.{Sets};
 ghost use Rattle.plan_pairs.specs.LiveRows.{AddsCurrent, AddsRows, AreLiveRows, HasLists};
+ghost use Rattle.plan_pairs.specs.Turns.{IsListed};
 
 use external_dependencies::{PlacedRow, Rows};
 use occurrences::{CurrentRow, Place, Row};
@@ -13,8 +15,10 @@ pub fn live_rows(
     current: &[CurrentRow],
     history: &[Row],
 ) -> Result<Rows, AllocError>
-    ensures { IfOk result (λ rows. (s : Sets) → HasLists s planned.now current.now history.now
+    ensures live { IfOk result (λ rows. (s : Sets) → HasLists s planned.now current.now history.now
         → AreLiveRows s rows) }
+    ensures listed { IfOk result (λ rows. (p : PlacedValue) → Contains rows p
+        ↔ IsListed planned.now current.now history.now p) }
 {
     live_rows_with(alloc, planned, &[], current, history)
 }
@@ -27,8 +31,10 @@ pub fn live_rows_with(
     current: &[CurrentRow],
     history: &[Row],
 ) -> Result<Rows, AllocError>
-    ensures { IfOk result (λ rows. (s : Sets) → HasLists s (planned.now ++ made.now) current.now history.now
-        → AreLiveRows s rows) }
+    ensures live { IfOk result (λ rows. (s : Sets)
+        → HasLists s (planned.now ++ made.now) current.now history.now → AreLiveRows s rows) }
+    ensures listed { IfOk result (λ rows. (p : PlacedValue) → Contains rows p
+        ↔ IsListed (planned.now ++ made.now) current.now history.now p) }
 {
     let count = planned.len() + made.len() + current.len() + history.len();
     let mut rows = Vec::with_capacity(alloc, count)?;

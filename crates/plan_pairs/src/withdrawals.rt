@@ -4,12 +4,13 @@ ghost use Rattle.planner_machine.specs.Content.{Sets};
 ghost use Rattle.planner_machine.specs.Pairs.{ArePairs};
 ghost use Rattle.planner_machine.specs.Sound.{AreNumbered, IsSound};
 ghost use Rattle.plan_store.specs.Changes.{LeadsOn, pairs_after};
-ghost use Rattle.plan_store.specs.Views.{Hidden, with_hidden};
-ghost use Rattle.plan_pairs.specs.Gathering.{HoldsWithout};
+ghost use Rattle.plan_store.specs.Asked.{AsksKey};
+ghost use Rattle.plan_store.specs.Views.{Hidden, Sees, ShowsNearest, ShowsPart, with_hidden};
+ghost use Rattle.plan_pairs.specs.Gathering.{HoldsWithout, ShowsReached};
 ghost use Rattle.plan_pairs.specs.Withdrawals.{IsTouchOfWithdrawn, LosesRow};
 
 use crate::gathering::{gather, push_nearest};
-use crate::spans::next_arrival;
+use crate::planned::pairs_of_rows;
 use external_dependencies::{PairChange, Rows, Stretch, Touch, resolve_touched};
 use occurrences::{Row, Serial};
 use plan_store::View;
@@ -19,16 +20,18 @@ use work_calendars::Moment;
 /// What leads from the pairs before a statement to those after it, and no more, where the row lives no longer and all
 /// others stay as they are.
 pub fn pairs_without(alloc: Global, view: &View<'_>, row: &Row) -> Result<PairChange, AllocError>
-    ensures { IfOk result (λ change. (h : Hidden) → IsSound (with_hidden h view.now) → (s : Sets)
+    ensures { IfOk result (λ change. (h : Hidden) → IsSound (with_hidden h view.now)
+        → Sees (AsksKey (with_hidden h view.now) row.now.key) h view.now → (s : Sets)
         → LosesRow (with_hidden h view.now).sets s row.now
         → ArePairs (with_hidden h view.now).pairs (with_hidden h view.now).in_force s
         (pairs_after change (with_hidden h view.now).pairs)
         × LeadsOn (with_hidden h view.now).pairs change) }
 {
-    let last = next_arrival(view, &row.key.app, row.key.ia);
+    let last = view.next_planned(&row.key.app, row.key.ia);
     let rows = rows_without(alloc, view, row, &last)?;
     let touch = touch_of(alloc, row, &last)?;
-    resolve_touched(alloc, &rows, view.in_force(), view.pairs(), &touch)
+    let pairs = pairs_of_rows(alloc, view, rows.as_slice(), row.serial)?;
+    resolve_touched(alloc, &rows, view.in_force(), &pairs, &touch)
 }
 
 // The rows that hold what the withdrawal reaches. In place of the row itself they have what stands before it.
@@ -39,6 +42,8 @@ fn rows_without(
     last: &Option<Moment>,
 ) -> Result<Rows, AllocError>
     ensures { IfOk result (λ rows. (h : Hidden) → AreNumbered (with_hidden h view.now).sets
+        → ShowsPart h view.now → ShowsReached h view.now row.now last.now
+        → ShowsNearest h view.now row.now.key row.now.key.app
         → HoldsWithout (with_hidden h view.now) row.now last.now rows) }
 {
     let mut rows = gather(alloc, view, row, last)?;

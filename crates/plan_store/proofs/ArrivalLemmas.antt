@@ -1,7 +1,7 @@
 -- The greatest of some arrivals.
 use Rattle.std.proofs.Common.{true, false, ◌≡◌, ◌≢◌, ◌↔◌, ℕ, ◌+◌, ◌<◌, ◌≤◌, ◌⊎◌, List, length, get_or, refl, sym, ap}
 use Rattle.std.proofs.Common.{subst, ◌∙◌, inl, inr, arith, Some, None, Option, Ordering}
-use Rattle.std.specs.Prelude.{nat_eq, if◌then◌else◌}
+use Rattle.std.specs.Prelude.{nat_eq, if◌then◌else◌, IfSome}
 use Rattle.std.specs.declared.cmp.Ordering.TheVariants.{Less, Equal, Greater}
 use Rattle.std.specs.List.{Contains}
 use Rattle.std.specs.Cmp.Lexicographic.{bytes_decides, pointwise, slice_cmp}
@@ -26,9 +26,11 @@ use Rattle.keyed_lists.specs.Keyed.{IsKeyed}
 use Rattle.keyed_lists.specs.Rows.{AreRows, look_up, of_current, of_row}
 use Rattle.external_dependencies.proofs.NearestLemmas.{answer_none, arrival_ties}
 use Rattle.plan_store.specs.Arrivals.{IsGreatestOf, arrives, arrives_live, later_of}
+use Rattle.plan_store.specs.Asked.{HasLast, IsNoLater}
 use Rattle.plan_store.specs.Slices.{HaveOneApp}
-use Rattle.plan_store.specs.Views.{IsLastBefore}
-use Rattle.plan_store.proofs.LookLemmas.{look_has, look_some}
+use Rattle.plan_store.specs.Views.{IsLastBefore, IsUnshown, shown}
+use Rattle.plan_store.specs.declared.views.View.{View}
+use Rattle.plan_store.proofs.LookLemmas.{look_has, look_none, look_some}
 use Rattle.plan_store.proofs.OrderLemmas.{arrival_total}
 use Rattle.plan_store.proofs.PlaceLemmas.{stands_cp, stands_history, stands_ltp}
 
@@ -159,18 +161,20 @@ module _ (b a : Arrival) (one : b.app ≡ a.app) (not_above : arrival_cmp b a �
         absurd (rest_not_above (ap (λ o. ordering_then o (nat_cmp b.serial a.serial)) tie ∙ e))
   ] refl
 
--- the last arrival before a minute, from the parts of the three lists
+-- the last arrival before a minute, from the parts of three lists: of history those rows that are shown
 module _ (s : Sets) (numbered : AreNumbered s) (app : List ℕ) (minute : ℕ)
-    (ltp history : List Row) (cp : List CurrentRow)
-    (ltp_rows : AreRows of_row ltp) (cp_rows : AreRows of_current cp) (history_rows : AreRows of_row history)
+    (ltp lasts : List Row) (cp : List CurrentRow)
+    (ltp_rows : AreRows of_row ltp) (cp_rows : AreRows of_current cp) (last_rows : AreRows of_row lasts)
     (ltp_is : (serial : ℕ) → look_up (λ (row : Row). row.serial) ltp serial ≡ s.ltp serial)
     (cp_is : (serial : ℕ) → look_up (λ (current : CurrentRow). current.row.serial) cp serial ≡ s.cp serial)
-    (history_is : (serial : ℕ) → look_up (λ (row : Row). row.serial) history serial ≡ s.history serial)
+    (part : (serial : ℕ) (row : Row) → look_up (λ (row : Row). row.serial) lasts serial ≡ Some row
+    → s.history serial ≡ Some row)
+    (last : HasLast s.history (look_up (λ (row : Row). row.serial) lasts) app minute)
     (ltp_part history_part : List Row) (cp_part : List CurrentRow)
     (of_ltp : (row : Row) → Contains ltp_part row ↔ (Contains ltp row × (row.key.app ≡ app) × (row.key.ia < minute)))
     (of_cp : (current : CurrentRow) → Contains cp_part current ↔ (Contains cp current × (current.row.key.app ≡ app)
     × (current.row.key.ia < minute)))
-    (of_history : (row : Row) → Contains history_part row ↔ (Contains history row × (row.key.app ≡ app)
+    (of_history : (row : Row) → Contains history_part row ↔ (Contains lasts row × (row.key.app ≡ app)
     × (row.key.ia < minute))) where
   abbrev pub Some_of : Arrival → Type 0
   Some_of a = arrives ltp_part a ⊎ (arrives_live cp_part a ⊎ arrives history_part a)
@@ -210,8 +214,7 @@ module _ (s : Sets) (numbered : AreNumbered s) (app : List ℕ) (minute : ℕ)
           row.serial,
           record { row = row; place = History },
           stands_history s numbered row.serial row
-              (sym (history_is row.serial) ∙ look_has (λ (row : Row). row.serial) history history_rows.one_each row
-              at.0),
+              (part row.serial row (look_has (λ (row : Row). row.serial) lasts last_rows.one_each row at.0)),
           tt,
           is,
         ),
@@ -219,52 +222,78 @@ module _ (s : Sets) (numbered : AreNumbered s) (app : List ℕ) (minute : ℕ)
         subst (λ (b : Arrival). b.ia < minute) is at.2,
       )
 
-  -- what is live, of the application and in time is in one of the parts
-  found : (a : Arrival) → LiveAt s a → a.app ≡ app → a.ia < minute → Some_of a
+  -- one of the parts has an arrival that is no earlier
+  record IsBehind (a b : Arrival) : Type 0 where
+    some : Some_of b
+    ia : a.ia ≤ b.ia
+    serial : a.ia ≡ b.ia → a.serial ≤ b.serial
+
+  itself : (a : Arrival) → Some_of a → IsBehind a a
+  itself a among = record { some = among; ia = omega arith; serial = λ _. omega arith }
+
+  -- so has it for what is live, of the application and in time
+  found : (a : Arrival) → LiveAt s a → a.app ≡ app → a.ia < minute → (b : Arrival) × IsBehind a b
   found a (serial, p, stands, live, is) of_app in_time = by_place p.place p.row stands live is
     where
-      in_ltp : (row : Row) → s.ltp serial ≡ Some row → arrival_of row ≡ a → Some_of a
-      in_ltp row at same = inl (
-        row,
-        (of_ltp row).1 (
-          (look_some (λ (row : Row). row.serial) ltp serial row (ltp_is serial ∙ at)).0,
-          ap (λ (b : Arrival). b.app)
-              same ∙ of_app,
-          subst (λ (b : Arrival). b.ia < minute) (sym same) in_time,
-        ),
-        same,
+      in_ltp : (row : Row) → s.ltp serial ≡ Some row → arrival_of row ≡ a → (b : Arrival) × IsBehind a b
+      in_ltp row at same = (
+        a,
+        itself a (inl (
+          row,
+          (of_ltp row).1 (
+            (look_some (λ (row : Row). row.serial) ltp serial row (ltp_is serial ∙ at)).0,
+            ap (λ (b : Arrival). b.app)
+                same ∙ of_app,
+            subst (λ (b : Arrival). b.ia < minute) (sym same) in_time,
+          ),
+          same,
+        )),
       )
 
       in_cp : (current : CurrentRow) → s.cp serial ≡ Some current → current.status ≢ D → arrival_of current.row ≡ a
-          → Some_of a
-      in_cp current at not_deleted same =
-          inr (inl (
-            current,
-            (of_cp current).1 (
-              (look_some (λ (current : CurrentRow). current.row.serial) cp serial current (cp_is serial ∙ at)).0,
-              ap
-                  (λ (b : Arrival). b.app) same ∙ of_app,
-              subst (λ (b : Arrival). b.ia < minute) (sym same) in_time,
-            ),
-            not_deleted,
-            same,
-          ))
+          → (b : Arrival) × IsBehind a b
+      in_cp current at not_deleted same = (
+        a,
+        itself a (inr (inl (
+          current,
+          (of_cp current).1 (
+            (look_some (λ (current : CurrentRow). current.row.serial) cp serial current (cp_is serial ∙ at)).0,
+            ap
+                (λ (b : Arrival). b.app) same ∙ of_app,
+            subst (λ (b : Arrival). b.ia < minute) (sym same) in_time,
+          ),
+          not_deleted,
+          same,
+        ))),
+      )
 
-      in_history : (row : Row) → s.history serial ≡ Some row → arrival_of row ≡ a → Some_of a
-      in_history row at same = inr (inr (
-        row,
-        (of_history row).1 (
-          (look_some (λ (row : Row). row.serial) history serial row
-              (history_is serial ∙ at)).0,
-          ap (λ (b : Arrival). b.app) same ∙ of_app,
-          subst (λ (b : Arrival). b.ia < minute)
-              (sym same) in_time,
-        ),
-        same,
-      ))
+      later : (row r : Row) → arrival_of row ≡ a → row.serial ≡ a.serial → IsNoLater row r → Some_of (arrival_of r)
+          → IsBehind a (arrival_of r)
+      later row r same serials (inl earlier) among =
+          let ia : row.key.ia ≡ a.ia = ap (λ (b : Arrival). b.ia) same in record {
+            some = among;
+            ia = omega (arith, ia, earlier);
+            serial = λ tie. absurd (omega (arith, ia, earlier, tie));
+          }
+      later row r same serials (inr (tie, le)) among =
+          let ia : row.key.ia ≡ a.ia = ap (λ (b : Arrival). b.ia) same in record {
+            some = among;
+            ia = omega (arith, ia, tie);
+            serial = λ _. omega (arith, serials, le);
+          }
+
+      in_history : (row : Row) → s.history serial ≡ Some row → arrival_of row ≡ a → (b : Arrival) × IsBehind a b
+      in_history row at same =
+          let (r, there, of_one, early, no_later) = last serial row at (ap (λ (b : Arrival). b.app) same ∙ of_app)
+          (subst (λ (b : Arrival). b.ia < minute) (sym same) in_time) in
+          let listed = (look_some (λ (row : Row). row.serial) lasts r.serial r there).0 in (
+            arrival_of r,
+            later row r same (ap (λ (b : Arrival). b.serial) same) no_later
+                (inr (inr (r, (of_history r).1 (listed, of_one, early), refl))),
+          )
 
       by_place : (place : Place) (row : Row) → seat s serial ≡ alone row place → IsLive place → arrival_of row ≡ a
-          → Some_of a
+          → (b : Arrival) × IsBehind a b
       by_place LongTerm row stands live same = in_ltp row (ap (λ (x : Seat). x.ltp) stands) same
       by_place (Current status) row stands live same = in_cp (record { row = row; status = status })
           (ap (λ (x : Seat). x.cp) stands) live same
@@ -273,7 +302,7 @@ module _ (s : Sets) (numbered : AreNumbered s) (app : List ℕ) (minute : ℕ)
 
   pub last_is : (answer : Option Arrival) → IsGreatestOf Some_of answer → IsLastBefore s app minute answer
   last_is None none = λ other live of_app. elim (cases_lt other.ia minute) [
-    | inl in_time ↦ absurd (none other (found other live of_app in_time))
+    | inl in_time ↦ let (b, behind) = found other live of_app in_time in absurd (none b behind.some)
     | inr late ↦ late
   ]
   last_is (Some near) is =
@@ -282,11 +311,61 @@ module _ (s : Sets) (numbered : AreNumbered s) (app : List ℕ) (minute : ℕ)
         live = good.0;
         of_app = good.1;
         in_time = good.2;
-        greatest = λ other live of_app in_time. ia_below other near (of_app ∙ sym good.1)
-            (is.1 other (found other live of_app in_time));
-        last = λ other live of_app same. serial_below other near (of_app ∙ sym good.1)
-            (is.1 other (found other live of_app (subst (λ n. n < minute) (sym same) good.2))) same;
+        greatest = λ other live of_app in_time.
+            let (b, behind) = found other live of_app in_time in
+            let le = behind.ia in
+            let below = ia_below b near ((fits b behind.some).1 ∙ sym good.1) (is.1 b behind.some) in
+            omega (arith, le, below);
+        last = λ other live of_app same.
+            let (b, behind) = found other live of_app (subst (λ n. n < minute) (sym same) good.2) in
+            let one : b.app ≡ near.app = (fits b behind.some).1 ∙ sym good.1 in
+            let le = behind.ia in
+            let below = ia_below b near one (is.1 b behind.some) in
+            let tie : b.ia ≡ near.ia = omega (arith, le, below, same) in
+            let serials = serial_below b near one (is.1 b behind.some) tie in
+            let own = behind.serial (omega (arith, tie, same)) in
+            omega (arith, serials, own);
       }
+
+-- what one of the parts has is shown
+pub part_shown : (ltp lasts : List Row) (cp : List CurrentRow) (ltp_part history_part : List Row)
+    (cp_part : List CurrentRow) → ((row : Row) → Contains ltp_part row → Contains ltp row)
+    → ((current : CurrentRow) → Contains cp_part current → Contains cp current)
+    → ((row : Row) → Contains history_part row → Contains lasts row) → (answer : Option Arrival)
+    → IsGreatestOf (λ a. arrives ltp_part a ⊎ (arrives_live cp_part a ⊎ arrives history_part a)) answer
+    → IfSome answer (λ near. look_up (λ (row : Row). row.serial) ltp near.serial ≡ None
+    → look_up (λ (current : CurrentRow). current.row.serial) cp near.serial ≡ None
+    → look_up (λ (row : Row). row.serial) lasts near.serial ≡ None → ⊥)
+part_shown ltp lasts cp ltp_part history_part cp_part in_ltp in_cp in_lasts None is = tt
+part_shown ltp lasts cp ltp_part history_part cp_part in_ltp in_cp in_lasts (Some near) is = elim is.0 [
+  | inl (row, there, same) ↦ λ no _ _. look_none (λ (row : Row). row.serial) ltp near.serial no row
+      (in_ltp row there) (ap (λ (b : Arrival). b.serial) same)
+  | inr (inl (current, there, live, same)) ↦ λ _ no _. look_none (λ (current : CurrentRow). current.row.serial) cp
+      near.serial no current (in_cp current there) (ap (λ (b : Arrival). b.serial) same)
+  | inr (inr (row, there, same)) ↦ λ _ _ no. look_none (λ (row : Row). row.serial) lasts near.serial no row
+      (in_lasts row there) (ap (λ (b : Arrival). b.serial) same)
+]
+
+pub unshown_near : (view : View) (answer : Option Arrival)
+    → IfSome answer (λ near. look_up (λ (row : Row). row.serial) view.ltp.now near.serial ≡ None
+    → look_up (λ (current : CurrentRow). current.row.serial) view.cp.now near.serial ≡ None
+    → look_up (λ (row : Row). row.serial) view.lasts.now near.serial ≡ None → ⊥)
+    → IfSome answer (λ near. IsUnshown (shown view).sets near.serial → ⊥)
+unshown_near view None is = tt
+unshown_near view (Some near) is = λ none. is none.ltp none.cp none.history
+
+-- where no row that is shown has the key, none of history has it
+pub unshown_key : (history shown : ℕ → Option Row) (key : Key) → HasLast history shown key.app (key.ia + 1)
+    → ((serial : ℕ) (row : Row) → shown serial ≡ Some row → row.key ≢ key) → (serial : ℕ) (row : Row)
+    → history serial ≡ Some row → row.key ≢ key
+unshown_key history shown key last none serial row at keyed =
+    let ia : row.key.ia ≡ key.ia = ap (λ (k : Key). k.ia) keyed in
+    let (r, there, of_app, early, no_later) = last serial row at (ap (λ (k : Key). k.app) keyed) (omega (arith, ia)) in
+    let tie : r.key.ia ≡ key.ia = elim no_later [
+      | inl earlier ↦ absurd (omega (arith, earlier, early, ia))
+      | inr both ↦ sym both.0 ∙ ia
+    ] in
+    none r.serial r there (λ i. record { ia = tie i; app = of_app i })
 
 -- the rows of an application before a minute, of all rows
 pub part_of : {X : Type 0} (row_of : X → Row) (xs rows part : List X) (app : List ℕ) (minute : ℕ)

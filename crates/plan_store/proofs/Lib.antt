@@ -6,6 +6,7 @@ mod ListedLemmas
 mod ListingLemmas
 pub mod LookLemmas
 mod MoveLemmas
+mod NotedLemmas
 mod OrderLemmas
 pub mod PairLemmas
 pub mod PlaceLemmas
@@ -14,5 +15,6 @@ mod SerialLemmas
 mod ShownLemmas
 mod SliceLemmas
 mod SomeListing
+pub mod SpanLemmas
 pub mod ViewLemmas
 pub mod WindowLemmas

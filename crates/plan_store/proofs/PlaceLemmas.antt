@@ -10,7 +10,7 @@ use Rattle.occurrences.specs.declared.row.Row.{Row}
 use Rattle.external_dependencies.specs.declared.rows.PlacedRow.{PlacedRow}
 use Rattle.planner_machine.specs.Content.{Seat, Sets, StandsAt, alone, empty_seat, seat}
 use Rattle.planner_machine.specs.Sound.{AreNumbered}
-use Rattle.plan_store.specs.Views.{IsCurrentRow, IsFoundAt, IsLiveRow, IsOutsideDeletions, IsPlannedRow}
+use Rattle.plan_store.specs.Views.{IsCurrentRow, IsLiveRow, IsOutsideDeletions, IsPlannedRow}
 use Rattle.plan_store.proofs.ViewLemmas.{issued_from}
 
 some_is : {X : Type 0} (o : Option X) (x y : X) → o ≡ Some x → o ≡ Some y → x ≡ y
@@ -104,18 +104,6 @@ live_none s key planned current history serial p stands live keyed = by_place p.
         (ap (λ (x : Seat). x.cp) stands) keyed live
     by_place History row stands live keyed = history serial row (ap (λ (x : Seat). x.history) stands) keyed
     by_place (Deleted reason) row stands live keyed = live
-
--- nothing stands in a plan or in history under the serial
-pub found_none : (s : Sets) (serial : ℕ) → s.ltp serial ≡ None → s.cp serial ≡ None → s.history serial ≡ None
-    → IsFoundAt s serial None
-found_none s serial no_ltp no_cp no_history p stands kept = by_place p.place p.row stands kept
-  where
-    by_place : (place : Place) (row : Row) → seat s serial ≡ alone row place → IsOutsideDeletions place → ⊥
-    by_place LongTerm row stands kept = none_some (s.ltp serial) row no_ltp (ap (λ (x : Seat). x.ltp) stands)
-    by_place (Current status) row stands kept = none_some (s.cp serial) (record { row = row; status = status }) no_cp
-        (ap (λ (x : Seat). x.cp) stands)
-    by_place History row stands kept = none_some (s.history serial) row no_history (ap (λ (x : Seat). x.history) stands)
-    by_place (Deleted reason) row stands kept = kept
 
 -- what is live or complete is not in the deletions
 pub live_outside : (place : Place) → IsLive place → IsOutsideDeletions place

@@ -1,7 +1,7 @@
 -- Lists of rows as parts of a set.
 use Rattle.std.proofs.Common.{◌≡◌, ◌≢◌, ◌↔◌, ℕ, zero, suc, ◌+◌, ◌<◌, ◌≤◌, true, false, Bool, List, [], ◌∷◌, length}
 use Rattle.std.proofs.Common.{get_or, refl, sym, ap, ap₂, subst, ◌∙◌, inl, inr, arith, Some, None, Option}
-use Rattle.std.specs.Prelude.{nat_eq, if◌then◌else◌, filter, IsTrue, MatchOption}
+use Rattle.std.specs.Prelude.{nat_eq, if◌then◌else◌, filter, is_some, IsTrue, MatchOption}
 use Rattle.std.specs.List.{Contains}
 use Rattle.std.specs.declared.cmp.Ordering.TheVariants.{Less, Equal}
 use Rattle.std.proofs.lemmas.Bool.{cases_lt, cases_eq, eq-eqb, ne_eqb}
@@ -21,7 +21,7 @@ use Rattle.planner_machine.specs.Content.{Seat, Sets, empty_seat, seat}
 use Rattle.planner_machine.specs.Moves.{bit, keep, size}
 use Rattle.planner_machine.specs.Sound.{AreNumbered}
 use Rattle.keyed_lists.specs.Keyed.{IsKeyed}
-use Rattle.keyed_lists.specs.Rows.{AreRows, HasEachOnce, look_up, of_current, of_deletion, of_row}
+use Rattle.keyed_lists.specs.Rows.{AreRows, HasEachOnce, OneEach, look_up, of_current, of_deletion, of_row}
 use Rattle.plan_store.specs.Views.{IsAny, IsCurrentRow, IsDeletedKey, IsPlannedRow, ListsSet}
 use Rattle.plan_store.proofs.LookLemmas.{look_some, look_none, look_lacks, look_has, look_at}
 use Rattle.plan_store.proofs.OrderLemmas.{arrival_total}
@@ -97,6 +97,13 @@ module _ {X : Type 0} (row_of : X → Row) where
       let more = size_with (serial_of x) x (look_up serial_of xs) n here.0 here.1
       (look_lacks serial_of xs (serial_of x) (once_first x xs once)) in
       omega arith
+
+  -- what is found of a serial tells whether the set has it
+  pub found_is : (xs : List X) → OneEach serial_of xs → (serial : ℕ) (o : Option X)
+      → MatchOption o ((x : X) → Contains xs x → serial_of x ≢ serial) (λ x. Contains xs x × (serial_of x ≡ serial))
+      → is_some o ≡ is_some (look_up serial_of xs serial)
+  found_is xs one serial None lacks = rw (look_lacks serial_of xs serial lacks) refl
+  found_is xs one serial (Some x) is = rw (look_at serial_of xs one x serial is.0 is.1) refl
 
   -- all rows of a set
   pub lists_all : (xs : List X) → AreRows row_of xs → ListsSet row_of (look_up serial_of xs) IsAny xs

@@ -2,7 +2,7 @@
 use Rattle.std.proofs.Common.{◌≡◌, ◌<◌, ◌≤◌, ℕ, ltb, Bool, true, false, List, [], ◌∷◌, Contains, Option, None, Some}
 use Rattle.std.proofs.Common.{ap, sym, subst}
 use Rattle.std.proofs.Common.{◌∙◌, arith, refl}
-use Rattle.std.specs.Prelude.{filter, if◌then◌else◌}
+use Rattle.std.specs.Prelude.{filter, if◌then◌else◌, OnOk, Result, Ok, Err}
 use Rattle.std.proofs.lemmas.Bool.{le-ltb, lt-ltb, ltb-true}
 use Rattle.occurrences.specs.declared.key.Key.{Key as KeyValue}
 use Rattle.occurrences.specs.declared.place.Deletion.{Deletion}
@@ -19,9 +19,11 @@ use Rattle.keyed_lists.specs.declared.seats.Seat.{Seat}
 use Rattle.keyed_lists.proofs.KeyLemmas.{contains_filter, filter_contains}
 use Rattle.occurrences.specs.declared.place.CurrentRow.{CurrentRow}
 use Rattle.plan_store.specs.Contents.{content_of}
-use Rattle.plan_store.specs.Views.{IsAny, IsDeletedKey, ListsSet, Shows, ShowsAtLeast, ShowsDeleted, bars, bars_from}
-use Rattle.plan_store.specs.Views.{deletion_serial, is_by_operator, named, row_serial, shown}
-use Rattle.plan_store.specs.Views.{with_deletions, with_hidden, with_plans_alone}
+use Rattle.plan_store.specs.Asked.{AsksKey, AsksPlan, HasLasts}
+use Rattle.plan_store.specs.Views.{Asks, HasAsked, Hidden, IsAny, IsDeletedKey, ListsSet, Sees, Shows, ShowsAtLeast}
+use Rattle.plan_store.specs.Views.{ShowsDeleted, ShowsPart, bars, bars_from, deletion_serial, hidden_of}
+use Rattle.plan_store.specs.Views.{is_by_operator, named, planned_pairs, row_serial, shown}
+use Rattle.plan_store.specs.Views.{with_hidden, with_part, with_plans_alone, with_these}
 use Rattle.plan_store.specs.declared.contents.Content.{Content as Kept}
 use Rattle.plan_store.specs.declared.stores.Need.{Need}
 use Rattle.plan_store.specs.declared.stores.Need.TheVariants.{Daily, Definitions, Key, LongTerm}
@@ -51,6 +53,26 @@ no_rows row_of = record {
 pub no_seats : {X : Type 0} (row_of : X → Row) (seats : List Seat) → HasSeats row_of [] seats
 no_seats row_of seats x (k, lt, at) = absurd (omega arith)
 
+-- a window that shows no row of history where none is asked for shows what the need names
+pub shows_none : (need : Need) (view : View) (c : Content) → ((app : List ℕ) (minute : ℕ) → Asks need c app minute → ⊥)
+    → (shown view).sets.history ≡ (λ _. None) → shown view ≡ named need (shown view).sets.history c
+    → Shows need view c
+shows_none need view c asks none is = record {
+  is = is;
+  lasts = record {
+    only = λ serial row there. absurd (no (subst (λ (h : ℕ → Option Row). h serial ≡ Some row) none there));
+    lasts = λ app minute asked. absurd (asks app minute asked);
+  };
+}
+  where
+    no : {row : Row} → None ≡ Some row → ⊥
+    no is = cc
+
+pub shows_definitions : (view : View) (c : Content)
+    → shown view ≡ with_plans_alone (λ _. None) (λ _. None) c → Shows Definitions view c
+shows_definitions view c is = shows_none Definitions view c (λ _ _ asked. asked) (ap (λ (x : Content). x.sets.history) is)
+    is
+
 -- the rows that arrive before a moment, as the buffer has them
 module _ (t : ℕ) (kept : Kept) (early : List Row) (is : early ≡ filter (arrives_before t) kept.ltp.items) where
   pub early_rows : AreRows of_row early
@@ -66,9 +88,43 @@ module _ (t : ℕ) (kept : Kept) (early : List Row) (is : early ≡ filter (arri
       ∙ look_filter of_row (arrives_before t) kept.ltp.items kept.ltp_rows serial
 
   -- so they stand in a window for a daily plan
-  pub early_named : with_plans_alone (look_up row_serial early) (content_of kept).sets.cp (content_of kept)
-      ≡ named (Daily t) (content_of kept)
-  early_named i = with_plans_alone (λ serial. early_look serial i) (content_of kept).sets.cp (content_of kept)
+  early_named : (history : ℕ → Option Row)
+      → with_plans_alone (look_up row_serial early) (content_of kept).sets.cp (content_of kept)
+      ≡ named (Daily t) history (content_of kept)
+  early_named history i = with_plans_alone (λ serial. early_look serial i) (content_of kept).sets.cp (content_of kept)
+
+  pub shows_early : (view : View)
+      → shown view ≡ with_plans_alone (look_up row_serial early) (content_of kept).sets.cp (content_of kept)
+      → Shows (Daily t) view (content_of kept)
+  shows_early view is' = shows_none (Daily t) view (content_of kept) (λ _ _ asked. asked)
+      (ap (λ (x : Content). x.sets.history) is') (is' ∙ early_named (shown view).sets.history)
+
+pub on_ok : {T E : Type 0} (r : Result T E) {A B : Type 0} → (A → B) → OnOk r A → OnOk r B
+on_ok (Ok t) f a = f a
+on_ok (Err e) f a = tt
+
+-- what was filled in where memory was not refused
+pub has_asked : {T E : Type 0} (need : Need) (kept : Kept) (r : Result T E)
+    → OnOk r (AreRows of_row kept.buffer.lasts.items)
+    → OnOk r ((row : Row) → Contains kept.buffer.lasts.items row → Contains kept.history.items row)
+    → OnOk r (HasLasts (Asks need (content_of kept)) (content_of kept).sets.history
+    (look_up row_serial kept.buffer.lasts.items)) → OnOk r (HasAsked need kept)
+has_asked need kept (Ok t) rows part lasts = record { rows = rows; part = part; lasts = lasts }
+has_asked need kept (Err e) rows part lasts = tt
+
+-- a window that has the rows of history that were asked for shows what the need names
+shows_lasts : (need : Need) (view : View) (kept : Kept) → HasAsked need kept
+    → shown view ≡ named need (look_up row_serial kept.buffer.lasts.items) (content_of kept)
+    → (shown view).sets.history ≡ look_up row_serial kept.buffer.lasts.items → Shows need view (content_of kept)
+shows_lasts need view kept asked is history = record {
+  is = subst (λ h. shown view ≡ named need h (content_of kept)) (sym history) is;
+  lasts = subst (HasLasts (Asks need (content_of kept)) (content_of kept).sets.history) (sym history) asked.lasts;
+}
+
+pub shows_key : (key : KeyValue) (view : View) (kept : Kept) → HasAsked (Key key) kept → shown view ≡ with_part
+    (look_up row_serial kept.buffer.lasts.items) (look_up deletion_serial []) (content_of kept)
+    → Shows (Key key) view (content_of kept)
+shows_key key view kept asked is = shows_lasts (Key key) view kept asked is (ap (λ (x : Content). x.sets.history) is)
 
 -- what keeps keys from being made, as the buffer has it
 module _ (kept : Kept) (barring : List Deletion) (is : barring ≡ filter (bars kept.bounds) kept.deletions.items) where
@@ -87,9 +143,15 @@ module _ (kept : Kept) (barring : List Deletion) (is : barring ≡ filter (bars 
       ∙ look_filter of_deletion (bars kept.bounds) kept.deletions.items kept.deletion_rows serial
 
   -- so it stands in a window of the long-term plan
-  pub barring_named : with_deletions (look_up deletion_serial barring) (content_of kept)
-      ≡ named LongTerm (content_of kept)
-  barring_named i = with_deletions (λ serial. barring_look serial i) (content_of kept)
+  barring_named : (history : ℕ → Option Row) → with_part history (look_up deletion_serial barring) (content_of kept)
+      ≡ named LongTerm history (content_of kept)
+  barring_named history i = with_part history (λ serial. barring_look serial i) (content_of kept)
+
+  pub shows_plan : (view : View) → HasAsked LongTerm kept → shown view ≡ with_part
+      (look_up row_serial kept.buffer.lasts.items) (look_up deletion_serial barring) (content_of kept)
+      → Shows LongTerm view (content_of kept)
+  shows_plan view asked is' = shows_lasts LongTerm view kept asked
+      (is' ∙ barring_named (look_up row_serial kept.buffer.lasts.items)) (ap (λ (x : Content). x.sets.history) is')
 
 -- the rows of a list that arrive before a moment
 pub lists_early : (t : ℕ) (xs : List Row) → AreRows of_row xs → (found : List Row)
@@ -145,34 +207,49 @@ module _ (t : ℕ) (s s' : ℕ → Option Row) (same : (serial : ℕ) → moved 
     );
   }
 
--- what a need names of what it names is that
-named_twice : (need : Need) (c : Content) → named need (named need c) ≡ named need c
-named_twice Definitions c = refl
-named_twice (Key key) c = refl
-named_twice LongTerm c =
-    λ i. with_deletions (λ serial. kept_twice (bars c.sets.bounds) (c.sets.deletions serial) i) c
-named_twice (Daily t) c =
-    λ i. with_plans_alone (λ serial. kept_twice (arrives_before t) (c.sets.ltp serial) i) c.sets.cp c
+-- what a window shows that hides history, deletions and pairs, with them, is the content
+pub seen_is : {history : ℕ → Option Row} {deletions : ℕ → Option Deletion} (view : View) (c : Content)
+    → shown view ≡ with_part history deletions c → with_hidden (hidden_of c) view ≡ c
+seen_is view c is = ap (with_these (hidden_of c)) is
 
--- what a window shows that hides deletions, with them, is the content
-pub seen_is : {d : ℕ → Option Deletion} (view : View) (c : Content) → shown view ≡ with_deletions d c
-    → with_hidden c.sets.deletions view ≡ c
-seen_is view c shows = ap (with_deletions c.sets.deletions) shows
+module _ {history : ℕ → Option Row} {deletions : ℕ → Option Deletion} (need : Need) (view : View) (c : Content)
+    (is : shown view ≡ with_part history deletions c)
+    (lasts : HasLasts (Asks need c) c.sets.history (shown view).sets.history) where
+  -- and of what it hides it shows what the need asks
+  sees : Sees (Asks need (with_hidden (hidden_of c) view)) (hidden_of c) view
+  sees = record {
+    pairs = ap (λ (x : Content). x.pairs) is ∙ sym (ap (λ (x : Content). planned_pairs x.sets.ltp x.sets.cp c.pairs) is);
+    lasts = subst (λ (x : Content). HasLasts (Asks need x) c.sets.history (shown view).sets.history)
+        (sym (seen_is view c is)) lasts;
+  }
+
+pub sees_key : (key : KeyValue) (view : View) (c : Content) → Shows (Key key) view c
+    → Sees (AsksKey (with_hidden (hidden_of c) view) key) (hidden_of c) view
+sees_key key view c shows = sees (Key key) view c shows.is shows.lasts
+
+pub sees_plan : (view : View) (c : Content) → Shows LongTerm view c
+    → Sees (AsksPlan (with_hidden (hidden_of c) view)) (hidden_of c) view
+sees_plan view c shows = sees LongTerm view c shows.is shows.lasts
+
+-- what a window shows of history stands there
+pub shows_part : (Asked : List ℕ → ℕ → Type 0) (hidden : Hidden) (view : View) → Sees Asked hidden view
+    → ShowsPart hidden view
+shows_part Asked hidden view sees serial row there = (sees.lasts.only serial row there).0
 
 -- a window of the long-term plan shows whether an operator deleted an occurrence of a key that arrives from the plan
 -- end on
 module _ (view : View) (c : Content) (shows : Shows LongTerm view c) (key : KeyValue) where
   shown_was : IsDeletedKey (shown view).sets key → IsDeletedKey c.sets key
   shown_was there =
-      let (serial, deletion, at, reason, keyed) = subst (λ (x : Content). IsDeletedKey x.sets key) shows there in
+      let (serial, deletion, at, reason, keyed) = subst (λ (x : Content). IsDeletedKey x.sets key) shows.is there in
       (serial, deletion, (kept_is (bars c.sets.bounds) (c.sets.deletions serial) deletion at).0, reason, keyed)
 
   pub shows_deleted : (b : Bounds) → c.sets.bounds ≡ Some b → b.plan_end ≤ key.ia
-      → ShowsDeleted c.sets.deletions view key
+      → ShowsDeleted (hidden_of c) view key
   shows_deleted b bounded late = (
     (λ (serial, deletion, at, reason, keyed).
         let from : b.plan_end ≤ deletion.row.key.ia = subst (λ (k : KeyValue). b.plan_end ≤ k.ia) (sym keyed) late in
-        subst (λ (x : Content). IsDeletedKey x.sets key) (sym shows) (
+        subst (λ (x : Content). IsDeletedKey x.sets key) (sym shows.is) (
           serial,
           deletion,
           is_kept (bars c.sets.bounds) (c.sets.deletions serial) deletion at
@@ -184,7 +261,7 @@ module _ (view : View) (c : Content) (shows : Shows LongTerm view c) (key : KeyV
   )
 
   -- and so it does where nothing is planned
-  pub shows_none_deleted : IsUnplanned c → ShowsDeleted c.sets.deletions view key
+  pub shows_none_deleted : IsUnplanned c → ShowsDeleted (hidden_of c) view key
   shows_none_deleted none = ((λ there. absurd (nothing there)), λ there. absurd (nothing (shown_was there)))
     where
       nothing : IsDeletedKey c.sets key → ⊥
@@ -192,16 +269,18 @@ module _ (view : View) (c : Content) (shows : Shows LongTerm view c) (key : KeyV
           let empty : c.sets.deletions serial ≡ None = ap (λ (s : Places). s.deletions) (none.rows serial) in
           cc
 
--- a window that shows what a need names shows at least that
-pub shows_at_least : (need : Need) (view : View) (c : Content) → Shows need view c → ShowsAtLeast need view c
-shows_at_least need view c shows = ap (named need) shows ∙ named_twice need c
+-- a window for a daily plan shows at least what that asks
+pub shows_at_least : (t : ℕ) (view : View) (c : Content) → Shows (Daily t) view c → ShowsAtLeast t view c
+shows_at_least t view c shows =
+    ap (named (Daily t) (λ _. None)) shows.is
+    ∙ (λ i. with_plans_alone (λ serial. kept_twice (arrives_before t) (c.sets.ltp serial) i) c.sets.cp c)
 
--- and one of the long-term plan shows at least what a daily plan asks
-pub long_at_least : (t : ℕ) (view : View) (c : Content) → Shows LongTerm view c → ShowsAtLeast (Daily t) view c
-long_at_least t view c shows = ap (named (Daily t)) shows
+-- and so does one of the long-term plan
+pub long_at_least : (t : ℕ) (view : View) (c : Content) → Shows LongTerm view c → ShowsAtLeast t view c
+long_at_least t view c shows = ap (named (Daily t) (λ _. None)) shows.is
 
 -- a window that shows at least what a daily plan to t asks
-module _ (t : ℕ) (view : View) (c : Content) (shows : ShowsAtLeast (Daily t) view c) where
+module _ (t : ℕ) (view : View) (c : Content) (shows : ShowsAtLeast t view c) where
   -- has the rows of the long-term plan that arrive before t
   pub daily_same : (serial : ℕ) → moved t ((shown view).sets.ltp serial) ≡ moved t (c.sets.ltp serial)
   daily_same serial = ap (λ (x : Content). x.sets.ltp serial) shows

@@ -1,4 +1,5 @@
 pub mod Arrivals
+pub mod Asked
 pub mod Changes
 pub mod Contents
 pub mod Faults
@@ -6,8 +7,10 @@ pub mod Jobs
 pub mod Listed
 pub mod Listings
 pub mod Lists
+pub mod Noted
 pub mod Room
 pub mod Slices
+pub mod Spans
 pub mod Stores
 pub mod Verdicts
 pub mod Views

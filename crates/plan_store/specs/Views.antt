@@ -1,6 +1,6 @@
 -- What a window shows, and what its calls answer.
 use Rattle.std.specs.Prelude.{◌≡◌, ◌≢◌, ◌↔◌, ℕ, ◌≤◌, ◌<◌, List, [], Contains, Option, Some, None, filter, Bool}
-use Rattle.std.specs.Prelude.{◌&&◌, not, true, false}
+use Rattle.std.specs.Prelude.{◌&&◌, ◌||◌, is_some, not, true, false}
 use Rattle.occurrences.specs.Place.{IsLive}
 use Rattle.occurrences.specs.declared.key.Key.{Key}
 use Rattle.occurrences.specs.declared.place.Deletion.{Deletion}
@@ -11,6 +11,7 @@ use Rattle.occurrences.specs.declared.place.Reason.TheVariants.{Operator, Plan, 
 use Rattle.occurrences.specs.declared.row.Row.{Row}
 use Rattle.occurrences.specs.declared.status.Status.TheVariants.{D}
 use Rattle.external_dependencies.specs.declared.live.Arrival.{Arrival}
+use Rattle.external_dependencies.specs.declared.pairs.Pair.{Pair}
 use Rattle.external_dependencies.specs.declared.rows.PlacedRow.{PlacedRow}
 use Rattle.planner_machine.specs.Content.{Content, Sets, StandsAt}
 use Rattle.planner_machine.specs.Pairs.{LiveAt}
@@ -19,7 +20,9 @@ use Rattle.planner_machine.specs.DailyPlan.{arrives_before, moved}
 use Rattle.planner_machine.specs.Moves.{keep}
 use Rattle.planner_machine.specs.declared.content.Bounds.{Bounds}
 use Rattle.planner_machine.specs.declared.job.Job.{Job}
-use Rattle.keyed_lists.specs.Rows.{AreRows, look_up}
+use Rattle.keyed_lists.specs.Rows.{AreRows, look_up, of_row}
+use Rattle.plan_store.specs.Asked.{AsksKey, AsksPlan, HasLast, HasLasts, IsLimit}
+use Rattle.plan_store.specs.Contents.{content_of}
 use Rattle.plan_store.specs.declared.contents.Content.{Content as Kept}
 use Rattle.plan_store.specs.declared.stores.Need.{Need}
 use Rattle.plan_store.specs.declared.stores.Need.TheVariants as need
@@ -34,6 +37,14 @@ current_serial current = current.row.serial
 abbrev pub deletion_serial : Deletion → ℕ
 deletion_serial deletion = deletion.row.serial
 
+-- the serial stands in one of the plans
+abbrev pub is_planned : (ℕ → Option Row) → (ℕ → Option CurrentRow) → ℕ → Bool
+is_planned ltp cp serial = is_some (ltp serial) || is_some (cp serial)
+
+-- those of the pairs whose successor stands in one of the plans
+abbrev pub planned_pairs : (ℕ → Option Row) → (ℕ → Option CurrentRow) → List Pair → List Pair
+planned_pairs ltp cp pairs = filter (λ (pair : Pair). is_planned ltp cp pair.successor) pairs
+
 -- what the window shows, as a content; of the jobs none of its calls tells anything
 abbrev pub shown : View → Content
 shown view = record {
@@ -43,11 +54,11 @@ shown view = record {
     issued = view.content.now.issued;
     ltp = look_up row_serial view.ltp.now;
     cp = look_up current_serial view.cp.now;
-    history = look_up row_serial view.history.now;
+    history = look_up row_serial view.lasts.now;
     deletions = look_up deletion_serial view.deletions.now;
   };
   in_force = view.content.now.in_force;
-  pairs = view.pairs.now;
+  pairs = planned_pairs (look_up row_serial view.ltp.now) (look_up current_serial view.cp.now) view.pairs.now;
   jobs = look_up (λ (job : Job). job.number) view.content.now.jobs.items;
 }
 
@@ -68,22 +79,40 @@ with_plans_alone ltp cp c = record {
   jobs = c.jobs;
 }
 
--- the content with these deletions
-abbrev pub with_deletions : (ℕ → Option Deletion) → Content → Content
-with_deletions deletions c = record {
+-- what a window hides that shows the plans: it shows of history, of the deletions and of the pairs a part
+pub record Hidden : Type 0 where
+  pub history : ℕ → Option Row
+  pub deletions : ℕ → Option Deletion
+  pub pairs : List Pair
+
+-- the content with these in place of its own
+abbrev pub with_these : Hidden → Content → Content
+with_these these c = record {
   definitions = c.definitions;
   sets = record {
     bounds = c.sets.bounds;
     issued = c.sets.issued;
     ltp = c.sets.ltp;
     cp = c.sets.cp;
-    history = c.sets.history;
-    deletions = deletions;
+    history = these.history;
+    deletions = these.deletions;
   };
   in_force = c.in_force;
-  pairs = c.pairs;
+  pairs = these.pairs;
   jobs = c.jobs;
 }
+
+-- those of the content
+abbrev pub hidden_of : Content → Hidden
+hidden_of c = record { history = c.sets.history; deletions = c.sets.deletions; pairs = c.pairs }
+
+-- the content with these rows in history, these deletions, and of the pairs those of the plans
+abbrev pub with_part : (ℕ → Option Row) → (ℕ → Option Deletion) → Content → Content
+with_part history deletions c = with_these (record {
+  history = history;
+  deletions = deletions;
+  pairs = planned_pairs c.sets.ltp c.sets.cp c.pairs;
+}) c
 
 abbrev pub is_by_operator : Reason → Bool
 is_by_operator Operator = true
@@ -99,36 +128,65 @@ abbrev pub bars : Option Bounds → Deletion → Bool
 bars None deletion = false
 bars (Some b) deletion = bars_from b.plan_end deletion
 
--- what a need names of a content: of a daily plan the rows of the current plan, and those of the long-term plan that
--- arrive before its moment; of one key all but the deletions; of the long-term plan all but such deletions as keep no
--- key from being made
-abbrev pub named : Need → Content → Content
-named need.Definitions c = with_plans_alone (λ _. None) (λ _. None) c
-named (need.Key key) c = with_deletions (λ _. None) c
-named need.LongTerm c = with_deletions (λ serial. keep (bars c.sets.bounds) (c.sets.deletions serial)) c
-named (need.Daily t) c = with_plans_alone (λ serial. moved t (c.sets.ltp serial)) c.sets.cp c
+-- what a need names of a content, where these rows of history are shown: of a daily plan the rows of the current plan,
+-- and those of the long-term plan that arrive before its moment; of one key both plans and their pairs; of the
+-- long-term plan also such deletions as keep a key from being made
+abbrev pub named : Need → (ℕ → Option Row) → Content → Content
+named need.Definitions history c = with_plans_alone (λ _. None) (λ _. None) c
+named (need.Key key) history c = with_part history (λ _. None) c
+named need.LongTerm history c = with_part history (λ serial. keep (bars c.sets.bounds) (c.sets.deletions serial)) c
+named (need.Daily t) history c = with_plans_alone (λ serial. moved t (c.sets.ltp serial)) c.sets.cp c
+
+-- what it asks of history
+abbrev pub Asks : Need → Content → List ℕ → ℕ → Type 0
+Asks need.Definitions c app minute = ⊥
+Asks (need.Key key) c app minute = AsksKey c key app minute
+Asks need.LongTerm c app minute = AsksPlan c app minute
+Asks (need.Daily t) c app minute = ⊥
 
 -- the window shows what the need names of the content, and no more
-abbrev pub Shows : Need → View → Content → Type 0
-Shows need view c = shown view ≡ named need c
+pub record Shows (need : Need) (view : View) (c : Content) : Type 0 where
+  pub is : shown view ≡ named need (shown view).sets.history c
+  pub lasts : HasLasts (Asks need c) c.sets.history (shown view).sets.history
 
--- what a window hides that shows the plans and history: deletions
-abbrev pub Hidden : Type 0
-Hidden = ℕ → Option Deletion
-
--- what the window shows, beside what it hides
+-- what the window shows, with what it hides
 abbrev pub with_hidden : Hidden → View → Content
-with_hidden hidden view = with_deletions hidden (shown view)
+with_hidden hidden view = with_these hidden (shown view)
 
--- the window shows at least what the need names of the content: what the need names of what is shown
-abbrev pub ShowsAtLeast : Need → View → Content → Type 0
-ShowsAtLeast need view c = named need (shown view) ≡ named need c
+-- of what it hides the window shows the pairs of the plans, and of history what is asked for, and no more
+pub record Sees (Asked : List ℕ → ℕ → Type 0) (hidden : Hidden) (view : View) : Type 0 where
+  pub pairs : (shown view).pairs ≡ planned_pairs (shown view).sets.ltp (shown view).sets.cp hidden.pairs
+  pub lasts : HasLasts Asked hidden.history (shown view).sets.history
+
+-- what the window shows of history stands there
+abbrev pub ShowsPart : Hidden → View → Type 0
+ShowsPart hidden view = (serial : ℕ) (row : Row) → (shown view).sets.history serial ≡ Some row
+    → hidden.history serial ≡ Some row
+
+-- and it shows the last of the application before the minute
+abbrev pub ShowsLast : Hidden → View → List ℕ → ℕ → Type 0
+ShowsLast hidden view app minute = HasLast hidden.history (shown view).sets.history app minute
+
+-- so where the minute is the one before which arrives what may precede the key
+abbrev pub ShowsNearest : Hidden → View → Key → List ℕ → Type 0
+ShowsNearest hidden view key app = (minute : ℕ) → IsLimit key app minute → ShowsLast hidden view app minute
+
+-- the window shows at least what a daily plan to the moment asks
+abbrev pub ShowsAtLeast : ℕ → View → Content → Type 0
+ShowsAtLeast t view c = named (need.Daily t) (λ _. None) (shown view) ≡ named (need.Daily t) (λ _. None) c
 
 -- what a window for the need shows that is no part of a list was made ready
+pub record HasAsked (need : Need) (kept : Kept) : Type 0 where
+  pub rows : AreRows of_row kept.buffer.lasts.items
+  pub part : (row : Row) → Contains kept.buffer.lasts.items row → Contains kept.history.items row
+  pub lasts : HasLasts (Asks need (content_of kept)) (content_of kept).sets.history
+      (look_up row_serial kept.buffer.lasts.items)
+
 abbrev pub IsFilled : Need → Kept → Type 0
 IsFilled need.Definitions kept = Unit {0}
-IsFilled (need.Key key) kept = Unit {0}
-IsFilled need.LongTerm kept = kept.buffer.barring.items ≡ filter (bars kept.bounds) kept.deletions.items
+IsFilled (need.Key key) kept = HasAsked (need.Key key) kept
+IsFilled need.LongTerm kept = HasAsked need.LongTerm kept
+    × (kept.buffer.barring.items ≡ filter (bars kept.bounds) kept.deletions.items)
 IsFilled (need.Daily t) kept = kept.buffer.early.items ≡ filter (arrives_before t) kept.ltp.items
 
 -- the list has exactly the rows of the set that pass, by application, input arrival and serial
@@ -170,10 +228,16 @@ IsOutsideDeletions (Current status) = Unit {0}
 IsOutsideDeletions History = Unit {0}
 IsOutsideDeletions (Deleted reason) = ⊥
 
--- the occurrence of the serial in a plan or in history, and where it stands, or that there is none
-abbrev pub IsFoundAt : Sets → ℕ → Option PlacedRow → Type 0
-IsFoundAt s serial (Some p) = StandsAt s serial p × IsOutsideDeletions p.place
-IsFoundAt s serial None = (p : PlacedRow) → StandsAt s serial p → IsOutsideDeletions p.place → ⊥
+-- the serial stands in no plan, and not in history
+pub record IsUnshown (s : Sets) (serial : ℕ) : Type 0 where
+  pub ltp : s.ltp serial ≡ None
+  pub cp : s.cp serial ≡ None
+  pub history : s.history serial ≡ None
+
+-- the occurrence of the serial in a plan or in what is shown of history, and where it stands, or that there is none
+abbrev pub IsFoundAt : Hidden → View → ℕ → Option PlacedRow → Type 0
+IsFoundAt hidden view serial (Some p) = StandsAt (with_hidden hidden view).sets serial p × IsOutsideDeletions p.place
+IsFoundAt hidden view serial None = IsUnshown (shown view).sets serial
 
 -- an operator deleted an occurrence of the key
 abbrev pub IsDeletedKey : Sets → Key → Type 0

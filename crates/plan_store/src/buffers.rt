@@ -9,6 +9,9 @@ use std::alloc::Global;
 pub(crate) struct Buffer {
     // the rows of the long-term plan that the latest daily window shows
     pub(crate) early: Vec<Row>,
+    // the rows of history that the latest window on a key or of the long-term plan shows, and their places
+    pub(crate) lasts: Vec<Row>,
+    pub(crate) places: Vec<usize>,
     // the deletions that the latest window of the long-term plan shows
     pub(crate) barring: Vec<Deletion>,
     // the pairs of a window that shows none
@@ -21,6 +24,8 @@ impl Buffer {
     pub(crate) fn new(alloc: Global) -> Buffer {
         Buffer {
             early: Vec::new(alloc),
+            lasts: Vec::new(alloc),
+            places: Vec::new(alloc),
             barring: Vec::new(alloc),
             no_pairs: Pairs::new(alloc),
         }

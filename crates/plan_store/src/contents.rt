@@ -1,8 +1,9 @@
-ghost use Rattle.std.specs.Prelude.{◌≡◌, [], Contains, OnOk, OnErr, IfOk, option_copied, unwrap_or};
+ghost use Rattle.std.specs.Prelude.{◌≡◌, [], Contains, OnOk, OnErr, IfOk, filter, option_copied, unwrap_or};
 
 use crate::buffers::Buffer;
 use crate::changes::{Change, DefinitionChange};
 use crate::jobs::{find_job, keep_job};
+use crate::lasts::{key_lasts, plan_lasts};
 use crate::moving::move_rows;
 use crate::pairs::change_pairs;
 use crate::room::{Room, grow};
@@ -12,7 +13,7 @@ use crate::views::View;
 use app_definitions::Definitions;
 use external_dependencies::{Links, Pairs};
 use keyed_lists::{Seat, note_rows};
-use occurrences::{CurrentRow, Deletion, Row};
+use occurrences::{CurrentRow, Deletion, Key, Row};
 use planner_machine::{Bounds, Job};
 use std::alloc::{AllocError, Global};
 use std::mem::replace;
@@ -71,8 +72,9 @@ impl Content {
     ghost use Rattle.planner_machine.specs.Content.{nothing_known};
     ghost use Rattle.plan_store.specs.Contents.{content_of};
     ghost use Rattle.keyed_lists.specs.Rows.{look_up};
-    ghost use Rattle.plan_store.specs.Views.{IsFilled, Shows, current_serial, deletion_serial, row_serial, shown};
-    ghost use Rattle.plan_store.specs.Views.{with_deletions, with_plans_alone};
+    ghost use Rattle.plan_store.specs.Views.{HasAsked, IsFilled, Shows, bars, current_serial, deletion_serial};
+    ghost use Rattle.plan_store.specs.Views.{row_serial, shown, with_part, with_plans_alone};
+    ghost use Rattle.occurrences.specs.declared.row.Row.{Row as RowValue};
     ghost use Rattle.plan_store.specs.Room.{HasPutSeats, HasRoom, HasRowRoom, HasSame, with_definitions, with_pairs_of};
     ghost use Rattle.plan_store.specs.declared.changes.DefinitionChange.TheVariants.{AsBefore};
 
@@ -97,23 +99,62 @@ impl Content {
     }
 
     /// Makes ready what a window for the need shows that is no part of a list: for a daily plan the rows of the
-    /// long-term plan that arrive before its end, and for the long-term plan what an operator deleted from the plan end
-    /// on. The content stays as it is.
+    /// long-term plan that arrive before its end, for a key and for the long-term plan the rows of history that are asked
+    /// for, and for the long-term plan what an operator deleted from the plan end on. The content stays as it is.
     pub fn fill_window(&mut self, need: &Need) -> Result<(), AllocError>
         ensures same { content_of self.new ≡ content_of self.old }
         ensures filled { OnOk result (IsFilled need.now self.new) }
     {
         match need {
             Need::Daily(moment) => arriving_before(&mut self.buffer.early, &self.ltp, *moment),
-            Need::LongTerm => self.fill_barring(),
-            Need::Definitions | Need::Key(_) => Ok(()),
+            Need::Key(key) => self.fill_for_key(key),
+            Need::LongTerm => {
+                self.fill_barring()?;
+                self.fill_for_plan()
+            }
+            Need::Definitions => Ok(()),
         }
+    }
+
+    // Fills the buffer with the rows of history that a statement on the key asks for.
+    fn fill_for_key(&mut self, key: &Key) -> Result<(), AllocError>
+        ensures same { content_of self.new ≡ content_of self.old }
+        ensures filled { OnOk result (HasAsked (Need.Key key.now) self.new) }
+    {
+        key_lasts(
+            &mut self.buffer.lasts,
+            &mut self.buffer.places,
+            &self.history,
+            &self.ltp,
+            &self.cp,
+            &self.in_force,
+            key,
+        )
+    }
+
+    // Fills the buffer with the rows of history that a statement on the long-term plan asks for.
+    fn fill_for_plan(&mut self) -> Result<(), AllocError>
+        ensures same { content_of self.new ≡ content_of self.old }
+        ensures filled { OnOk result (HasAsked Need.LongTerm self.new) }
+        ensures barring { self.new.buffer.barring ≡ self.old.buffer.barring }
+        ensures kept { self.new.deletions ≡ self.old.deletions }
+    {
+        plan_lasts(
+            &mut self.buffer.lasts,
+            &mut self.buffer.places,
+            &self.history,
+            &self.cp,
+            self.bounds,
+            &self.in_force,
+            &self.definitions,
+        )
     }
 
     // Fills the buffer with what an operator deleted from the plan end on, if there is a plan.
     fn fill_barring(&mut self) -> Result<(), AllocError>
         ensures same { content_of self.new ≡ content_of self.old }
-        ensures filled { OnOk result (IsFilled Need.LongTerm self.new) }
+        ensures filled { OnOk result (self.new.buffer.barring.items
+            ≡ filter (bars self.new.bounds) self.new.deletions.items) }
     {
         match self.bounds {
             Some(bounds) => barring(&mut self.buffer.barring, &self.deletions, bounds.plan_end),
@@ -132,8 +173,8 @@ impl Content {
         match need {
             Need::Definitions => self.window_of_plans(&[], &[]),
             Need::Daily(_) => self.window_of_plans(&self.buffer.early, &self.cp),
-            Need::Key(_) => self.window_of_deletions(&[]),
-            Need::LongTerm => self.window_of_deletions(&self.buffer.barring),
+            Need::Key(_) => self.window_of_lasts(&[]),
+            Need::LongTerm => self.window_of_lasts(&self.buffer.barring),
         }
     }
 
@@ -150,24 +191,27 @@ impl Content {
             content: self,
             ltp,
             cp,
-            history: &[],
+            lasts: &[],
             deletions: &[],
             pairs: &self.buffer.no_pairs,
         }
     }
 
-    // A window of these deletions, all other rows, and all pairs.
-    fn window_of_deletions<'a>(&'a self, deletions: &'a [Deletion]) -> View<'a>
+    // A window of both plans and their pairs, the rows of history that were asked for, and these deletions.
+    fn window_of_lasts<'a>(&'a self, deletions: &'a [Deletion]) -> View<'a>
+        requires lasts { AreRows of_row self.now.buffer.lasts.items }
+        requires part { (row : RowValue) → Contains self.now.buffer.lasts.items row
+            → Contains self.now.history.items row }
         requires rows { AreRows of_deletion deletions.now }
         requires seats { HasSeats of_deletion deletions.now self.now.seats.items }
-        ensures { shown result
-            ≡ with_deletions (look_up deletion_serial deletions.now) (content_of self.now) }
+        ensures { shown result ≡ with_part (look_up row_serial self.now.buffer.lasts.items)
+            (look_up deletion_serial deletions.now) (content_of self.now) }
     {
         View {
             content: self,
             ltp: &self.ltp,
             cp: &self.cp,
-            history: &self.history,
+            lasts: &self.buffer.lasts,
             deletions,
             pairs: &self.pairs,
         }

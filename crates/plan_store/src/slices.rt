@@ -1,5 +1,5 @@
 ghost use Rattle.std.specs.Prelude.{◌≡◌, ◌≢◌, ◌↔◌, ◌<◌, length, Contains, MatchOption, IsTrue, OnOk, filter};
-ghost use Rattle.std.specs.Prelude.{◌++◌, not};
+ghost use Rattle.std.specs.Prelude.{◌++◌, ◌≤◌, not};
 ghost use Rattle.occurrences.specs.declared.place.CurrentRow.{CurrentRow as CurrentValue};
 ghost use Rattle.occurrences.specs.declared.place.Deletion.{Deletion as DeletionValue};
 ghost use Rattle.planner_machine.specs.DailyPlan.{arrives_before};
@@ -112,7 +112,7 @@ pub(crate) fn has_operator(rows: &[Deletion]) -> bool
 }
 
 // The rows at the front that are of the first row's application.
-fn front_app<T: PlanRow>(rows: &[T]) -> &[T]
+pub(crate) fn front_app<T: PlanRow>(rows: &[T]) -> &[T]
     requires some { 0 < length rows.now }
     requires keyed { IsKeyed arrival_cmp (λ x. arrival_of (T.row_of x)) rows.now }
     ensures some { 0 < length result.now }
@@ -145,8 +145,12 @@ pub(crate) fn arriving_before(
 }
 
 // The rows of one application that arrive at that minute or after it.
-fn from_on<'a, T: PlanRow>(rows: &'a [T], first: u32) -> &'a [T]
-    ensures { IsKeyed arrival_cmp (λ x. arrival_of (T.row_of x)) rows.now
+pub(crate) fn from_on<'a, T: PlanRow>(rows: &'a [T], first: u32) -> &'a [T]
+    ensures keyed { IsKeyed arrival_cmp (λ x. arrival_of (T.row_of x)) rows.now → IsKeyed arrival_cmp
+        (λ x. arrival_of (T.row_of x)) result.now }
+    ensures all { IsKeyed arrival_cmp (λ x. arrival_of (T.row_of x)) rows.now → HaveOneApp T.row_of rows.now
+        → (x : T) → Contains result.now x ↔ (Contains rows.now x × (first ≤ (T.row_of x).key.ia)) }
+    ensures value { IsKeyed arrival_cmp (λ x. arrival_of (T.row_of x)) rows.now
         → HaveOneApp T.row_of rows.now
         → result.now ≡ filter (λ x. not (arrives_before first (T.row_of x))) rows.now }
 {

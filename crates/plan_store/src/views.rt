@@ -1,4 +1,4 @@
-ghost use Rattle.std.specs.Prelude.{◌≡◌, ◌↔◌, ◌+◌, ◌<◌, length, filter, nat_eq, Contains, IsTrue, IfOk};
+ghost use Rattle.std.specs.Prelude.{◌≡◌, ◌↔◌, ◌+◌, ◌<◌, length, true, Contains, IsTrue, IfOk, IfSome};
 ghost use Rattle.external_dependencies.specs.Pair.{pair_cmp};
 ghost use Rattle.external_dependencies.specs.Rising.{IsRising};
 ghost use Rattle.external_dependencies.specs.declared.pairs.Pair.{Pair as PairValue};
@@ -12,6 +12,7 @@ use crate::contents::Content;
 use crate::slices::{
     arriving_before, before, first_live, first_of, has_operator, of_app, of_key, of_serial,
 };
+use crate::spans::next_planned;
 use app_definitions::Definitions;
 use external_dependencies::{Arrival, Links, Pair, Pairs, PlacedRow, arrives_within};
 use occurrences::{CurrentRow, Deletion, Key, Place, Row, Serial};
@@ -19,36 +20,24 @@ use planner_machine::Bounds;
 use std::alloc::{AllocError, Global};
 use work_calendars::{App, Moment, Within};
 
-// Those of the pairs that have the predecessor.
-fn pairs_before(alloc: Global, pairs: &[Pair], predecessor: Serial) -> Result<Vec<Pair>, AllocError>
-    ensures { IfOk result (λ found.
-        found.items ≡ filter (λ (pair : PairValue). nat_eq pair.predecessor predecessor) pairs.now) }
-{
-    pairs
-        .iter()
-        .copied()
-        .filter(|pair| pair.predecessor == predecessor)
-        .collect(alloc)
-}
-
 /// What a decision sees of a content: what its need names, and no more. It is lent by a store, and holds no copy.
 #[derive(Clone, Copy)]
 pub struct View<'a> {
     // of this the definitions, the bounds, the number of serials issued and the lists in force are seen, by any need
     pub(crate) content: &'a Content,
-    // and these rows and pairs
+    // and these rows, and of these pairs those whose successor is a row of the plans that is seen
     pub(crate) ltp: &'a [Row],
     pub(crate) cp: &'a [CurrentRow],
-    pub(crate) history: &'a [Row],
+    pub(crate) lasts: &'a [Row],
     pub(crate) deletions: &'a [Deletion],
     pub(crate) pairs: &'a Pairs,
     ghost ltp_rows: { AreRows of_row ltp.now },
     ghost cp_rows: { AreRows of_current cp.now },
-    ghost history_rows: { AreRows of_row history.now },
+    ghost last_rows: { AreRows of_row lasts.now },
     ghost deletion_rows: { AreRows of_deletion deletions.now },
     ghost ltp_seats: { HasSeats of_row ltp.now content.now.seats.items },
     ghost cp_seats: { HasSeats of_current cp.now content.now.seats.items },
-    ghost history_seats: { HasSeats of_row history.now content.now.seats.items },
+    ghost last_seats: { HasSeats of_row lasts.now content.now.seats.items },
     ghost deletion_seats: { HasSeats of_deletion deletions.now content.now.seats.items },
 }
 
@@ -57,8 +46,9 @@ ghost use Rattle.keyed_lists.specs.Seats.{HasSeats};
 
 impl<'a> View<'a> {
     ghost use Rattle.plan_store.specs.Views.{Hidden, IsAny, IsCurrentRow, IsDeletedKey, IsFoundAt, IsLastBefore};
-    ghost use Rattle.plan_store.specs.Views.{IsLiveRow};
-    ghost use Rattle.plan_store.specs.Views.{IsPlannedRow, ListsSet, shown, with_hidden};
+    ghost use Rattle.plan_store.specs.Views.{IsLiveRow, IsPlannedRow, IsUnshown, ListsSet, ShowsLast, ShowsNearest};
+    ghost use Rattle.plan_store.specs.Spans.{IsNextPlanned};
+    ghost use Rattle.plan_store.specs.Views.{ShowsPart, is_planned, shown, with_hidden};
 
     /// The definitions.
     pub fn definitions(&self) -> &'a Definitions
@@ -88,34 +78,34 @@ impl<'a> View<'a> {
         &self.content.in_force
     }
 
-    /// The pairs of successors and predecessors.
-    pub fn pairs(&self) -> &'a Pairs
-        ensures { result.now ≡ (shown self.now).pairs }
+    // Whether the serial stands in one of the plans.
+    fn is_planned(&self, serial: Serial) -> bool
+        ensures { result ≡ is_planned (shown self.now).sets.ltp (shown self.now).sets.cp serial }
     {
-        self.pairs
+        of_serial(self.ltp, &self.content.seats, serial).is_some()
+            || of_serial(self.cp, &self.content.seats, serial).is_some()
     }
 
-    /// The pairs of one successor.
+    /// The pairs of one successor, which stands in one of the plans; none of any other.
     pub fn pairs_of_successor(&self, successor: Serial) -> &'a [Pair]
         ensures rising { IsRising pair_cmp result.now }
         ensures all { (pair : PairValue) → Contains result.now pair
             ↔ (Contains (shown self.now).pairs pair × (pair.successor ≡ successor)) }
     {
-        self.pairs.of_successor(successor)
+        if !self.is_planned(successor) {
+            return &[];
+        }
+        self.pairs_of_planned(successor)
     }
 
-    /// The pairs of one predecessor, in rising order. Looks at each pair once: no statement asks for them as yet, and
-    /// of many predecessors `Followers` tells more quickly.
-    pub fn pairs_of_predecessor(
-        &self,
-        alloc: Global,
-        predecessor: Serial,
-    ) -> Result<Vec<Pair>, AllocError>
-        ensures rising { IfOk result (λ found. IsRising pair_cmp found.items) }
-        ensures all { IfOk result (λ found. (pair : PairValue) → Contains found.items pair
-            ↔ (Contains (shown self.now).pairs pair × (pair.predecessor ≡ predecessor))) }
+    /// The pairs of one successor that is known to stand in one of the plans.
+    pub fn pairs_of_planned(&self, successor: Serial) -> &'a [Pair]
+        requires { is_planned (shown self.now).sets.ltp (shown self.now).sets.cp successor ≡ true }
+        ensures rising { IsRising pair_cmp result.now }
+        ensures all { (pair : PairValue) → Contains result.now pair
+            ↔ (Contains (shown self.now).pairs pair × (pair.successor ≡ successor)) }
     {
-        pairs_before(alloc, self.pairs.as_slice(), predecessor)
+        self.pairs.of_successor(successor)
     }
 
     /// The rows of the long-term plan.
@@ -136,11 +126,11 @@ impl<'a> View<'a> {
         self.cp
     }
 
-    /// The rows of history.
-    pub fn history(&self) -> &'a [Row]
+    /// Of history the rows that the need asks for: of applications the last before some moments.
+    pub fn lasts(&self) -> &'a [Row]
         ensures { ListsSet of_row (shown self.now).sets.history IsAny result.now }
     {
-        self.history
+        self.lasts
     }
 
     /// The rows of an application in the long-term plan.
@@ -157,11 +147,11 @@ impl<'a> View<'a> {
         of_app(self.cp, app)
     }
 
-    /// The rows of an application in history.
-    pub fn history_of(&self, app: &App) -> &'a [Row]
+    /// Of history the rows of an application that the need asks for.
+    pub fn lasts_of(&self, app: &App) -> &'a [Row]
         ensures { ListsSet of_row (shown self.now).sets.history (λ row. row.key.app ≡ app.now) result.now }
     {
-        of_app(self.history, app)
+        of_app(self.lasts, app)
     }
 
     /// The rows of the long-term plan that arrive before the moment, as a list of their own, which the change of a
@@ -173,6 +163,13 @@ impl<'a> View<'a> {
         let mut found = Vec::new(alloc);
         arriving_before(&mut found, self.ltp, moment)?;
         Ok(found)
+    }
+
+    /// When the next live occurrence of the application in the two plans arrives after the moment.
+    pub fn next_planned(&self, app: &App, moment: Moment) -> Option<Moment>
+        ensures { IsNextPlanned (shown self.now).sets app.now moment result }
+    {
+        next_planned(self.ltp, self.cp, app, moment)
     }
 
     /// The row of the long-term plan that has the key.
@@ -189,9 +186,11 @@ impl<'a> View<'a> {
         first_live(of_key(self.cp, key))
     }
 
-    /// The live occurrence that has the key, and where it stands.
+    /// The live occurrence that has the key, and where it stands, where the window shows the last of its application up
+    /// to it.
     pub fn live_row(&self, key: &Key) -> Option<PlacedRow>
-        ensures { (h : Hidden) → AreNumbered (with_hidden h self.now).sets
+        ensures { (h : Hidden) → AreNumbered (with_hidden h self.now).sets → ShowsPart h self.now
+            → ShowsLast h self.now key.now.app (key.now.ia + 1)
             → IsLiveRow (with_hidden h self.now).sets key.now result }
     {
         if let Some(row) = self.ltp_row(key) {
@@ -206,24 +205,24 @@ impl<'a> View<'a> {
                 place: Place::Current(current.status),
             });
         }
-        let row = first_of(of_key(self.history, key))?;
+        let row = first_of(of_key(self.lasts, key))?;
         Some(PlacedRow {
             row,
             place: Place::History,
         })
     }
 
-    /// Whether an operator deleted an occurrence of the key.
+    /// Whether the window shows that an operator deleted an occurrence of the key.
     pub fn is_deleted_by_operator(&self, key: &Key) -> bool
         ensures { IsTrue result ↔ IsDeletedKey (shown self.now).sets key.now }
     {
         has_operator(of_key(self.deletions, key))
     }
 
-    /// The occurrence of the serial in a plan or in history, and where it stands.
+    /// The occurrence of the serial in a plan, or among the rows of history that are shown, and where it stands.
     pub fn placed(&self, serial: Serial) -> Option<PlacedRow>
-        ensures { (h : Hidden) → AreNumbered (with_hidden h self.now).sets
-            → IsFoundAt (with_hidden h self.now).sets serial result }
+        ensures { (h : Hidden) → AreNumbered (with_hidden h self.now).sets → ShowsPart h self.now
+            → IsFoundAt h self.now serial result }
     {
         if let Some(row) = of_serial(self.ltp, &self.content.seats, serial) {
             return Some(PlacedRow {
@@ -237,7 +236,7 @@ impl<'a> View<'a> {
                 place: Place::Current(current.status),
             });
         }
-        let row = of_serial(self.history, &self.content.seats, serial)?;
+        let row = of_serial(self.lasts, &self.content.seats, serial)?;
         Some(PlacedRow {
             row,
             place: Place::History,
@@ -246,18 +245,22 @@ impl<'a> View<'a> {
 
     // The live occurrence of the application that arrives last before the minute.
     fn last_before(&self, app: &App, minute: u32) -> Option<Arrival>
-        ensures { (h : Hidden) → AreNumbered (with_hidden h self.now).sets
+        ensures last { (h : Hidden) → AreNumbered (with_hidden h self.now).sets → ShowsPart h self.now
+            → ShowsLast h self.now app.now minute
             → IsLastBefore (with_hidden h self.now).sets app.now minute result }
+        ensures shown { IfSome result (λ near. IsUnshown (shown self.now).sets near.serial → ⊥) }
     {
         let ltp = last_of(before(of_app(self.ltp, app), minute));
         let cp = last_live(before(of_app(self.cp, app), minute));
-        let history = last_of(before(of_app(self.history, app), minute));
+        let history = last_of(before(of_app(self.lasts, app), minute));
         later(ltp, later(cp, history))
     }
 
-    /// Of the live occurrences of the application that arrive at or before the moment, the one that arrives last.
+    /// Of the live occurrences of the application that arrive at or before the moment, the one that arrives last, where
+    /// the window shows that of history.
     pub fn last_arrival(&self, app: &App, moment: Moment) -> Option<Arrival>
-        ensures { (h : Hidden) → AreNumbered (with_hidden h self.now).sets
+        ensures { (h : Hidden) → AreNumbered (with_hidden h self.now).sets → ShowsPart h self.now
+            → ShowsLast h self.now app.now (moment + 1)
             → IsLastBefore (with_hidden h self.now).sets app.now (moment + 1) result }
     {
         self.last_before(app, moment.number() + 1)
@@ -265,10 +268,13 @@ impl<'a> View<'a> {
 
     /// The nearest predecessor, in an application, of the occurrence with that key: of the live occurrences of the
     /// application that arrive at or before it, the one that arrives last; in its own application only those that
-    /// arrive before it count, and where there is a limit none that arrives more than so many hours before it.
+    /// arrive before it count, and where there is a limit none that arrives more than so many hours before it. Of
+    /// history those count that the window shows.
     pub fn nearest(&self, key: &Key, app: &App, within: Option<Within>) -> Option<Serial>
-        ensures { (h : Hidden) → AreNumbered (with_hidden h self.now).sets
+        ensures nearest { (h : Hidden) → AreNumbered (with_hidden h self.now).sets → ShowsPart h self.now
+            → ShowsNearest h self.now key.now app.now
             → IsNearestAnswer (LiveAt (with_hidden h self.now).sets) key.now app.now within result }
+        ensures shown { IfSome result (λ serial. IsUnshown (shown self.now).sets serial → ⊥) }
     {
         let arrival = key.ia.number();
         let limit = if *app == key.app {

@@ -6,7 +6,7 @@ use Rattle.planner_machine.specs.Content.{Content, Seat}
 use Rattle.planner_machine.specs.Sound.{IsSound}
 use Rattle.planner_machine.specs.declared.content.Bounds.{Bounds}
 use Rattle.plan_store.specs.Views.{IsAny, ListsSet, Shows, shown}
-use Rattle.plan_store.specs.declared.stores.Need.TheVariants.{Daily, Definitions}
+use Rattle.plan_store.specs.declared.stores.Need.TheVariants.{Definitions}
 use Rattle.plan_store.specs.declared.views.View.{View}
 use Rattle.plan_store.proofs.WindowLemmas.{daily_cp, shows_at_least}
 use Rattle.daily_planning.specs.DailyPlans.{replan_need}
@@ -22,17 +22,17 @@ module _ (view : View) (c : Content) (sound : IsSound c) (rows : List CurrentRow
       let empty : c.sets.cp ≡ (λ (_ : ℕ). None) =
       λ i serial. (ap (λ (s : Seat). s.cp) ((sound.bounds.before none).rows serial)) i in
       subst (λ (cp : ℕ → Option CurrentRow). ListsSet of_current cp IsAny rows) (sym empty)
-      (subst (λ (x : Content). ListsSet of_current x.sets.cp IsAny rows) shows lists)
+      (subst (λ (x : Content). ListsSet of_current x.sets.cp IsAny rows) shows.is lists)
 
   replanned : (bounds : Option Bounds) → c.sets.bounds ≡ bounds → Shows (replan_need bounds) view c
       → ListsSet of_current c.sets.cp IsAny rows
   replanned (Some b) is shows =
-      daily_cp b.plan_end view c (shows_at_least (Daily b.plan_end) view c shows) rows lists
+      daily_cp b.plan_end view c (shows_at_least b.plan_end view c shows) rows lists
   replanned None is shows = none_current is shows
 
   pub lists_current : (function : DailyFunction) → Shows (need_of_daily c.sets.bounds function) view c
       → ListsSet of_current c.sets.cp IsAny rows
-  lists_current (Extend to) shows = daily_cp to view c (shows_at_least (Daily to) view c shows) rows lists
+  lists_current (Extend to) shows = daily_cp to view c (shows_at_least to view c shows) rows lists
   lists_current (ExtendBy days count) shows =
-      subst (λ (x : Content). ListsSet of_current x.sets.cp IsAny rows) shows lists
+      subst (λ (x : Content). ListsSet of_current x.sets.cp IsAny rows) shows.is lists
   lists_current Replan shows = replanned c.sets.bounds refl shows

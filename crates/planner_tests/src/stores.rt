@@ -18,7 +18,7 @@ fn lacks_key(view: &View<'_>, key: &Key) -> bool {
 fn has_no_rows(view: &View<'_>, serial: Serial) -> bool {
     view.ltp().is_empty()
         && view.cp().is_empty()
-        && view.history().is_empty()
+        && view.lasts().is_empty()
         && view.placed(serial).is_none()
 }
 

@@ -1,13 +1,13 @@
 //! Windows over a plan: they show what their need names, and no more.
 use crate::plans::planned;
-use occurrences::{CurrentRow, Key, Row};
+use occurrences::{CurrentRow, Key, Row, Serial};
 use plan_store::{ListStore, Need, PlanStore, View};
 use std::alloc::Global;
 use std::test::Fail;
 use work_calendars::{App, Moment};
 
-/// A and B follow A, on two days, of which the first is planned. A is complete and then history, B has started: its
-/// pair is kept.
+/// A and B follow A, on two days, of which the first is planned. A is complete and then history; B, which could not start
+/// before it, waits.
 const KEPT_PAIRS: &[u8] = b"define calendars --job 1\nDEFAULT,SAT,FREE\nDEFAULT,SUN,FREE\n/*\n\
     define periods --job 2\nDAY,A,2024-01-01,1\n/*\n\
     define applications --job 3\nA,A,\nB,A,\n/*\n\
@@ -40,9 +40,28 @@ fn runs(view: &View<'_>, serials: &[u32]) -> bool {
             .all(|(current, serial)| current.row.serial.get() == *serial)
 }
 
-// Whether the window shows no row of history, and no pair.
+// Whether these are the rows of history that the window shows.
+fn lasts(view: &View<'_>, serials: &[u32]) -> bool {
+    let rows: &[Row] = view.lasts();
+    rows.len() == serials.len()
+        && rows
+            .iter()
+            .zip(serials.iter())
+            .all(|(row, serial)| row.serial.get() == *serial)
+}
+
+// How many pairs the window shows of the successor.
+fn pairs_of(view: &View<'_>, serial: u32) -> usize {
+    match Serial::new(serial) {
+        Some(successor) => view.pairs_of_successor(successor).len(),
+        None => 0,
+    }
+}
+
+// Whether the window shows no row of history, and no pair of the four occurrences.
 fn shows_no_more(view: &View<'_>) -> bool {
-    view.history().is_empty() && view.pairs().as_slice().is_empty()
+    let none = pairs_of(view, 1) == 0 && pairs_of(view, 2) == 0;
+    lasts(view, &[]) && none && pairs_of(view, 3) == 0 && pairs_of(view, 4) == 0
 }
 
 // Whether the window shows these rows of the plans alone.
@@ -94,10 +113,10 @@ fn a_window_for_definitions_shows_no_row(rt: HostRuntime) -> Result<(), Fail> {
     Ok(())
 }
 
-// Whether the window shows all rows of the plans and of history, and all pairs, of that plan.
+// Whether the window shows all rows of the plans, the one of history, and the pair of each row of the plans.
 fn shows_all(view: &View<'_>) -> bool {
-    let pairs = view.pairs().as_slice().len();
-    plans(view, &[3, 4]) && runs(view, &[2]) && view.history().len() == 1 && pairs == 3
+    let pairs = pairs_of(view, 2) == 1 && pairs_of(view, 3) == 1 && pairs_of(view, 4) == 1;
+    plans(view, &[3, 4]) && runs(view, &[2]) && lasts(view, &[1]) && pairs
 }
 
 // Whether one on the key does, after one for a daily plan.
@@ -118,6 +137,61 @@ fn a_window_after_another_shows_its_own(rt: HostRuntime) -> Result<(), Fail> {
     let ia = Moment::from_text("2024-01-02/08.00").ok_or("a moment")?;
     let app = App::from_text("A").ok_or("a name")?;
     assert!(rt; key_shows_all(rt.alloc(), to, &Key { ia, app })?);
+    Ok(())
+}
+
+/// B is complete and then history too, and keeps its pair there.
+const COMPLETED: &[u8] = b"cp-start --app B --ia 2024-01-01/08.00 --job 16\n\
+    cp-complete --app B --ia 2024-01-01/08.00 --job 17\n\
+    dp-replan --job 18\n";
+
+// Whether a window on the key shows of history the one row that is asked for, and no pair of a row of history.
+fn key_shows_a_part(alloc: Global, key: &Key) -> Result<bool, Fail> {
+    let mut store = planned(alloc, &[KEPT_PAIRS, COMPLETED])?;
+    match store.read_window(Need::Key(*key)) {
+        Ok(view) => Ok(lasts(&view, &[1]) && pairs_of(&view, 2) == 0 && pairs_of(&view, 4) == 1),
+        Err(_) => Err("a window".into()),
+    }
+}
+
+#[test]
+fn a_window_on_a_key_shows_no_pair_of_history(rt: HostRuntime) -> Result<(), Fail> {
+    let ia = Moment::from_text("2024-01-02/08.00").ok_or("a moment")?;
+    let app = App::from_text("A").ok_or("a name")?;
+    assert!(rt; key_shows_a_part(rt.alloc(), &Key { ia, app })?);
+    Ok(())
+}
+
+/// A runs each day, and has run on the first two.
+const RUN_TWICE: &[u8] = b"define calendars --job 1\nDEFAULT,SAT,FREE\nDEFAULT,SUN,FREE\n/*\n\
+    define periods --job 2\nDAY,A,2024-01-01,1\n/*\n\
+    define applications --job 3\nA,A,\n/*\n\
+    define run-cycles --job 4\nA,RC,N,DAY,4,1,2024-01-01,,08.00,0,18.00\n/*\n\
+    ltp-create --from 2024-01-01 --to 2024-01-04 --job 5\n\
+    dp-extend --to 2024-01-03/00.00 --job 6\n\
+    cp-start --app A --ia 2024-01-01/08.00 --job 7\n\
+    cp-complete --app A --ia 2024-01-01/08.00 --job 8\n\
+    cp-start --app A --ia 2024-01-02/08.00 --job 9\n\
+    cp-complete --app A --ia 2024-01-02/08.00 --job 10\n\
+    dp-replan --job 11\n";
+
+// Whether a window for the need shows these rows of history, over that plan.
+fn shows_lasts(alloc: Global, need: Need, serials: &[u32]) -> Result<bool, Fail> {
+    let mut store = planned(alloc, &[RUN_TWICE])?;
+    match store.read_window(need) {
+        Ok(view) => Ok(lasts(&view, serials)),
+        Err(_) => Err("a window".into()),
+    }
+}
+
+#[test]
+fn a_window_shows_the_last_of_history(rt: HostRuntime) -> Result<(), Fail> {
+    let app = App::from_text("A").ok_or("a name")?;
+    let second = Moment::from_text("2024-01-02/07.59").ok_or("a moment")?;
+    let third = Moment::from_text("2024-01-03/08.00").ok_or("a moment")?;
+    assert!(rt; shows_lasts(rt.alloc(), Need::Key(Key { ia: second, app }), &[1])?);
+    assert!(rt; shows_lasts(rt.alloc(), Need::Key(Key { ia: third, app }), &[2])?);
+    assert!(rt; shows_lasts(rt.alloc(), Need::LongTerm, &[2])?);
     Ok(())
 }
 

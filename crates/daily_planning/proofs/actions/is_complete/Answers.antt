@@ -1,14 +1,14 @@
-use Rattle.std.proofs.Common.{subst}
+use Rattle.std.proofs.Common.{subst, true}
 use Rattle.occurrences.specs.Place.{IsComplete}
 use Rattle.external_dependencies.specs.declared.rows.PlacedRow.{PlacedRow}
 use Rattle.plan_store.specs.Views.{with_hidden}
-use Rattle.plan_store.proofs.PlaceLemmas.{complete_outside}
 use Rattle.planner_machine.proofs.SeatLemmas.{one_place}
+use Rattle.daily_planning.proofs.WaitLemmas.{unshown_complete}
 use Rattle.daily_planning.proofs.actions.is_complete.Goals as goal
 
 pub returns-in-Some : goal.returns-in-Some
-returns-in-Some c h numbered =
-    let at = c.in-Some.ensures h numbered in
+returns-in-Some c h numbered part lives =
+    let at = c.in-Some.ensures h numbered part in
     let is = c.is_complete.ensures in (
       (λ yes. (c.in-Some.placed, at.0, is.0 yes)),
       λ (p, stands, complete). is.1 (subst (λ (q : PlacedRow). IsComplete q.place)
@@ -16,7 +16,8 @@ returns-in-Some c h numbered =
     )
 
 pub returns-in-None : goal.returns-in-None
-returns-in-None c h numbered = (
-  (λ yes. absurd (let no : ⊥ = cc in no)),
-  λ (p, stands, complete). absurd (c.in-None.ensures h numbered p stands (complete_outside p.place complete)),
-)
+returns-in-None c h numbered part lives =
+    let none = c.in-None.ensures h numbered part in (
+      (λ _. unshown_complete (with_hidden h c.args.view.now).sets c.args.serial none.ltp none.cp lives),
+      λ _ i. true,
+    )

@@ -1,7 +1,7 @@
 use Rattle.daily_planning.proofs.actions.status_change.Goals as goal
 
 pub returns : goal.returns
-returns c h sound acted =
+returns c h sound sees acted =
     let nothing = c.none-change.ensures in
     record {
       definitions = nothing.definitions;
@@ -15,6 +15,6 @@ returns c h sound acted =
       history = nothing.history;
       deletions = nothing.deletions;
       job = nothing.job;
-      pairs = c.in_ok-pairs.ensures.pairs h sound acted;
-      leads = c.in_ok-pairs.ensures.leads h sound acted;
+      pairs = c.in_ok-pairs.ensures.pairs h sound sees acted;
+      leads = c.in_ok-pairs.ensures.leads h sound sees acted;
     }

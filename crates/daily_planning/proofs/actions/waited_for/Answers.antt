@@ -1,43 +1,70 @@
-use Rattle.std.proofs.Common.{◌≡◌, ◌↔◌, ◌∙◌, List, subst, sym, arith}
+use Rattle.std.proofs.Common.{◌≡◌, ◌↔◌, ◌∙◌, List, Some, subst, sym, arith}
 use Rattle.std.proofs.lemmas.Bool.{false≢true}
 use Rattle.std.specs.List.{Contains}
+use Rattle.occurrences.specs.declared.place.CurrentRow.{CurrentRow}
+use Rattle.occurrences.specs.declared.status.Status.{Status}
+use Rattle.occurrences.specs.declared.status.Status.TheVariants.{W}
 use Rattle.external_dependencies.specs.declared.pairs.Pair.{Pair}
-use Rattle.plan_store.specs.Views.{with_hidden}
-use Rattle.daily_planning.proofs.WaitLemmas.{first_waits, more_done, none_waits}
+use Rattle.plan_store.specs.Asked.{AsksKey}
+use Rattle.plan_store.specs.Views.{shown, with_hidden}
+use Rattle.plan_store.proofs.WindowLemmas.{shows_part}
+use Rattle.plan_pairs.proofs.PartLemmas.{pairs_are, planned_cp}
+use Rattle.daily_planning.proofs.WaitLemmas.{first_waits, more_done, none_waits, predecessor_lives}
 use Rattle.daily_planning.proofs.actions.waited_for.Goals as goal
 
 pub loop-pair-init : goal.loop-pair-init
-loop-pair-init c h numbered k d low lt = absurd (omega (arith, lt))
+loop-pair-init c h sound sees at waits k d low lt = absurd (omega (arith, lt))
 
 pub returns-then-not-is_complete : goal.returns-then-not-is_complete
-returns-then-not-is_complete c h numbered =
-    let list = c.of_successor-pair-items.result.now in
-    let of = subst (λ (ps : List Pair). (pair : Pair) → Contains list pair
-    ↔ (Contains ps pair × (pair.successor ≡ c.args.serial))) c.pairs.ensures
-    c.of_successor-pair-items.ensures.all in (
-      c.is_start.ensures.0 c.if-not-is_start.false,
-      first_waits (with_hidden h c.args.view.now) c.args.serial list c.of_successor-pair-items.ensures.rising of
-          c.loop-pair.pair-index c.loop-pair-test.true (c.loop-pair.invariant h numbered) c.pair-item.result
+returns-then-not-is_complete c h sound sees at waits =
+    let view = c.args.view.now in
+    let content = with_hidden h view in
+    let current = c.args.current.now in
+    let list = c.pairs_of_successor-pair-items.result.now in
+    let of = pairs_are content.sets (shown view).pairs content.pairs list sees.pairs current.row.serial
+    (planned_cp content.sets current.row.serial current at) c.pairs_of_successor-pair-items.ensures.all in
+    let start = c.is_start.ensures.0 c.if-not-is_start.false in
+    let pair = c.pair-item.result in
+    let there = (of pair).0 (c.loop-pair.pair-index, c.loop-pair-test.true, sym c.pair-item.is) in
+    let is : content.sets.cp current.row.serial ≡ Some (record { row = current.row; status = W }) =
+    subst (λ (st : Status). content.sets.cp current.row.serial ≡ Some (record { row = current.row; status = st }))
+    (waits start) at in
+    let lives = predecessor_lives content sound current.row is pair there.0 there.1 in (
+      start,
+      first_waits content current.row.serial list c.pairs_of_successor-pair-items.ensures.rising of
+          c.loop-pair.pair-index c.loop-pair-test.true (c.loop-pair.invariant h sound sees at (waits start)) pair
           (sym c.pair-item.is)
-          (λ complete. false≢true (sym c.if-not-is_complete.true ∙ (c.is_complete.ensures h numbered).1 complete)),
+          (λ complete. false≢true (sym c.if-not-is_complete.true ∙ (c.is_complete.ensures h sound.serials
+          (shows_part (AsksKey content current.row.key) h view sees) lives).1 complete)),
     )
 
 pub loop-pair-preserved : goal.loop-pair-preserved
-loop-pair-preserved c h numbered =
-    let list = c.of_successor-pair-items.result.now in
-    let of = subst (λ (ps : List Pair). (pair : Pair) → Contains list pair
-    ↔ (Contains ps pair × (pair.successor ≡ c.args.serial))) c.pairs.ensures
-    c.of_successor-pair-items.ensures.all in
-    more_done (with_hidden h c.args.view.now) c.args.serial list c.of_successor-pair-items.ensures.rising of
-    c.loop-pair.pair-index c.loop-pair-test.true (c.loop-pair.invariant h numbered) c.pair-item.result
+loop-pair-preserved c h sound sees at waits =
+    let view = c.args.view.now in
+    let content = with_hidden h view in
+    let current = c.args.current.now in
+    let list = c.pairs_of_successor-pair-items.result.now in
+    let of = pairs_are content.sets (shown view).pairs content.pairs list sees.pairs current.row.serial
+    (planned_cp content.sets current.row.serial current at) c.pairs_of_successor-pair-items.ensures.all in
+    let pair = c.pair-item.result in
+    let there = (of pair).0 (c.loop-pair.pair-index, c.loop-pair-test.true, sym c.pair-item.is) in
+    let is : content.sets.cp current.row.serial ≡ Some (record { row = current.row; status = W }) =
+    subst (λ (st : Status). content.sets.cp current.row.serial ≡ Some (record { row = current.row; status = st }))
+    waits at in
+    let lives = predecessor_lives content sound current.row is pair there.0 there.1 in
+    more_done content current.row.serial list c.pairs_of_successor-pair-items.ensures.rising of
+    c.loop-pair.pair-index c.loop-pair-test.true (c.loop-pair.invariant h sound sees at waits) pair
     (sym c.pair-item.is)
-    ((c.is_complete.ensures h numbered).0 c.if-not-is_complete.false)
+    ((c.is_complete.ensures h sound.serials (shows_part (AsksKey content current.row.key) h view sees) lives).0
+    c.if-not-is_complete.false)
 
 pub returns : goal.returns
-returns c h numbered start n waits =
-    let list = c.of_successor-pair-items.result.now in
-    let of = subst (λ (ps : List Pair). (pair : Pair) → Contains list pair
-    ↔ (Contains ps pair × (pair.successor ≡ c.args.serial))) c.pairs.ensures
-    c.of_successor-pair-items.ensures.all in
-    none_waits (with_hidden h c.args.view.now) c.args.serial list c.of_successor-pair-items.ensures.rising of
-    (λ k d low lt. c.loop-pair.invariant h numbered k d low (omega arith)) n waits
+returns c h sound sees at waits start n uncompleted =
+    let view = c.args.view.now in
+    let content = with_hidden h view in
+    let current = c.args.current.now in
+    let list = c.pairs_of_successor-pair-items.result.now in
+    let of = pairs_are content.sets (shown view).pairs content.pairs list sees.pairs current.row.serial
+    (planned_cp content.sets current.row.serial current at) c.pairs_of_successor-pair-items.ensures.all in
+    none_waits content current.row.serial list c.pairs_of_successor-pair-items.ensures.rising of
+    (λ k d low lt. c.loop-pair.invariant h sound sees at (waits start) k d low (omega arith)) n uncompleted

@@ -1,11 +1,13 @@
 use Rattle.std.proofs.Common.{◌≡◌, ◌≢◌, ◌∙◌, true, false, refl, subst, sym, Option, None, Some}
 use Rattle.std.specs.Prelude.{IfOk, Result, Ok, Err, is_some}
+use Rattle.occurrences.specs.declared.key.Key.{Key}
 use Rattle.planner_machine.specs.Content.{Content}
 use Rattle.planner_machine.specs.Delete.{ltp_delete}
 use Rattle.planner_machine.specs.Sound.{IsSound}
 use Rattle.plan_store.specs.Verdicts.{VerdictIs}
-use Rattle.plan_store.specs.Views.{IsPlannedRow, shown, with_hidden}
-use Rattle.plan_store.proofs.WindowLemmas.{seen_is}
+use Rattle.plan_store.specs.Asked.{AsksKey}
+use Rattle.plan_store.specs.Views.{IsPlannedRow, Sees, hidden_of, shown, with_hidden}
+use Rattle.plan_store.proofs.WindowLemmas.{seen_is, sees_key}
 use Rattle.long_term_plan.proofs.DeleteLemmas.{least_no_plan, least_no_row, no_row, verdict_is}
 use Rattle.long_term_plan.proofs.deletion.delete.Goals as goal
 
@@ -24,15 +26,15 @@ some_is (Some x) is same = cc
 pub returns-then-is_none : goal.returns-then-is_none
 returns-then-is_none c content shows sound =
     let none = sym c.bounds.ensures ∙ none_is c.bounds.result c.if-is_none.ensures in
-    ((subst (λ (x : Content). x.sets.bounds ≡ None) shows none, least_no_plan c.args.key.now content), refl)
+    ((subst (λ (x : Content). x.sets.bounds ≡ None) shows.is none, least_no_plan c.args.key.now content), refl)
 
 pub returns-in_default : goal.returns-in_default
 returns-in_default c content shows sound =
     let some : (shown c.args.view.now).sets.bounds ≢ None =
     λ none. some_is c.bounds.result c.if-is_none.ensures (c.bounds.ensures ∙ none) in
-    let bounded = subst (λ (x : Content). x.sets.bounds ≢ None) shows some in (
+    let bounded = subst (λ (x : Content). x.sets.bounds ≢ None) shows.is some in (
       (
-        no_row content c.args.key.now (subst (λ (x : Content). IsPlannedRow x.sets c.args.key.now None) shows
+        no_row content c.args.key.now (subst (λ (x : Content). IsPlannedRow x.sets c.args.key.now None) shows.is
             c.in_default.ensures),
         least_no_row c.args.key.now content bounded,
       ),
@@ -44,7 +46,10 @@ returns c = weaker c.delete_row.result _ _ (λ verdict done content shows sound.
     let some : (shown c.args.view.now).sets.bounds ≢ None =
     λ none. some_is c.bounds.result c.if-is_none.ensures (c.bounds.ensures ∙ none) in
     let P : Content → Type 0 = λ x. IsSound x → VerdictIs (ltp_delete c.args.key.now) x verdict in
-    let h = content.sets.deletions in
-    subst P (seen_is c.args.view.now content shows) (λ is.
+    let h = hidden_of content in
+    let sees : Sees (AsksKey (with_hidden h c.args.view.now) c.in-Some.row.key) h c.args.view.now =
+    subst (λ (k : Key). Sees (AsksKey (with_hidden h c.args.view.now) k) h c.args.view.now) (sym c.in-Some.ensures.1)
+    (sees_key c.args.key.now c.args.view.now content shows) in
+    subst P (seen_is c.args.view.now content shows.is) (λ is.
     verdict_is (with_hidden h c.args.view.now) is c.args.key.now c.in-Some.row some c.in-Some.ensures.0
-    c.in-Some.ensures.1 verdict (done h is c.in-Some.ensures.0)) sound) c.delete_row.ensures
+    c.in-Some.ensures.1 verdict (done h is sees c.in-Some.ensures.0)) sound) c.delete_row.ensures

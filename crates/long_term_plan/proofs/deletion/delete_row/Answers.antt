@@ -7,7 +7,7 @@ use Rattle.long_term_plan.proofs.DeleteLemmas.{deletion_loses}
 use Rattle.long_term_plan.proofs.deletion.delete_row.Goals as goal
 
 pub returns : goal.returns
-returns c h sound stands =
+returns c h sound sees stands =
     let content = with_hidden h c.args.view.now in
     let s = each (delete_move c.args.row.now.key) content.sets in
     let loses = deletion_loses content.sets (rows_sound content sound) c.args.row.now stands in (
@@ -29,8 +29,8 @@ returns c h sound stands =
         issued = refl;
         in_force = refl;
         job = refl;
-        pairs = (c.in_ok-pairs.ensures h sound s loses).0;
-        leads = (c.in_ok-pairs.ensures h sound s loses).1;
+        pairs = (c.in_ok-pairs.ensures h sound sees s loses).0;
+        leads = (c.in_ok-pairs.ensures h sound sees s loses).1;
       },
       refl,
     )

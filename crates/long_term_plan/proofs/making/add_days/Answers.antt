@@ -26,7 +26,7 @@ named_drafts-requires-clause-apart c =
     (own_names (λ (name : List ℕ). name) c.in_ok-apps.apps.items c.in_ok-apps.ensures.rising)
 
 pub returns-then-would_hold_too_many : goal.returns-then-would_hold_too_many
-returns-then-would_hold_too_many c h sound deleted keeps =
+returns-then-would_hold_too_many c h sound sees known deleted keeps =
     let content = with_hidden h c.args.view.now in
     let new = c.as_slice-3.result.now in
     let are_new = c.in_ok-new.ensures h (λ draft there. deleted draft.key (named_late content sound
@@ -48,7 +48,7 @@ outcome c b links new (Done change reply) few made = (few, made)
 outcome c b links new (Refused refusal) few made = absurd made
 
 pub returns : goal.returns
-returns c = weaker c.make_drafts.result _ _ (λ verdict made h sound deleted keeps.
+returns c = weaker c.make_drafts.result _ _ (λ verdict made h sound sees known deleted keeps.
     let content = with_hidden h c.args.view.now in
     let b = c.args.bounds.now in
     let new = c.in_ok-new.new.items in
@@ -66,5 +66,5 @@ returns c = weaker c.make_drafts.result _ _ (λ verdict made h sound deleted kee
       outcome = outcome content b c.args.links new verdict
           (λ over. false≢true (sym c.if-would_hold_too_many.false ∙ (c.would_hold_too_many.ensures.too_many h sound).1
           (subst (λ (ds : List Draft). HoldTooMany (planned_sets b ds content.sets)) tested over)))
-          (made h sound (keeps new are));
+          (made h sound sees known (keeps new are));
     }) c.make_drafts.ensures

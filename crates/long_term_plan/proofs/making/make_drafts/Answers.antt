@@ -1,54 +1,56 @@
-use Rattle.std.proofs.Common.{◌≡◌, ◌+◌, ◌++◌, ◌∙◌, [], List, Some, ap, length, refl, subst, sym}
-use Rattle.external_dependencies.specs.Reached.{HoldsReached}
+use Rattle.std.proofs.Common.{◌≡◌, ◌↔◌, ◌+◌, ◌++◌, ◌∙◌, [], List, Some, ap, length, refl, subst}
+use Rattle.std.specs.List.{Contains}
 use Rattle.external_dependencies.specs.declared.links.Link.{Link}
-use Rattle.external_dependencies.specs.declared.pairs.Pair.{Pair}
+use Rattle.external_dependencies.specs.declared.rows.PlacedRow.{PlacedRow}
 use Rattle.occurrences.specs.declared.reply.Reply.TheVariants.{Made}
 use Rattle.occurrences.specs.declared.row.Row.{Row}
-use Rattle.planner_machine.specs.Pairs.{ArePairs}
 use Rattle.planner_machine.proofs.SoundLemmas.{rows_sound}
-use Rattle.plan_store.specs.Changes.{LeadsOn, pairs_after}
 use Rattle.plan_store.specs.Views.{with_hidden}
-use Rattle.plan_pairs.specs.LiveRows.{HasLists}
-use Rattle.plan_pairs.specs.Turns.{IsTouchOf, IsTurn}
-use Rattle.plan_pairs.proofs.GatheredLemmas.{live_hold}
+use Rattle.plan_pairs.specs.Turns.{IsListed, IsTouchOf}
 use Rattle.long_term_plan.specs.Making.{numbered, planned_sets}
+use Rattle.long_term_plan.specs.Modifying.{HavePlanned}
+use Rattle.long_term_plan.proofs.HeldLemmas.{held, turn_seen}
 use Rattle.long_term_plan.proofs.MakingLemmas.{lists_then, making_is}
 use Rattle.long_term_plan.proofs.TurnedLemmas.{rows_made}
 use Rattle.long_term_plan.proofs.making.make_drafts.Goals as goal
 
 pub returns : goal.returns
-returns c h sound keeps =
-    let content = with_hidden h c.args.view.now in
+returns c h sound sees known keeps =
+    let view = c.args.view.now in
+    let content = with_hidden h view in
     let b = c.args.bounds.now in
     let links = c.args.links in
     let new = c.args.new.items in
     let s = planned_sets b new content.sets in
-    let rows = rows_sound content sound in
-    let change = c.in_ok-pairs.pairs in
+    let rows = c.ltp.result.now in
+    let sound_rows = rows_sound content sound in
     let touch = c.in_ok-touch.touch in
-    let lists = lists_then content.sets rows new b keeps c.ltp.result.now c.ltp.ensures.rows c.cp.result.now
-    c.cp.ensures.rows c.history.result.now c.history.ensures in
-    let put : c.in_ok-rows.rows.items ≡ numbered content.sets.issued new =
+    let made = numbered content.sets.issued new in
+    let put : c.in_ok-rows.rows.items ≡ made =
     c.in_ok-rows.ensures ∙ ap (λ l. numbered c.issued.result l) c.as_slice.ensures.value
     ∙ ap (λ n. numbered n new) c.issued.ensures in
-    let planned : c.ltp.result.now ++ c.deref-2.result.now ≡ c.ltp.result.now ++ numbered content.sets.issued new =
-    ap (λ l. c.ltp.result.now ++ l) (c.deref-2.ensures.value ∙ put) in
-    let live = c.in_ok-live.ensures s
-    (subst (λ (list : List Row). HasLists s list c.cp.result.now c.history.result.now) (sym planned) lists) in
-    let made : c.len-made.result ≡ length new = c.len-made.ensures ∙ c.args.new.ok.0 in
-    let touches : IsTouchOf [] (numbered content.sets.issued new) content.in_force links touch =
+    let count : c.len-made.result ≡ length new = c.len-made.ensures ∙ c.args.new.ok.0 in
+    let touches : IsTouchOf [] made content.in_force links touch =
     subst (λ (rs : List Row). IsTouchOf [] rs content.in_force links touch) (c.deref.ensures.value ∙ put)
     (subst (λ (was : List Link). IsTouchOf [] c.deref.result.now was links touch) c.in_force.ensures
     c.in_ok-touch.ensures) in
-    let to = rows_made content sound c.ltp.result.now c.ltp.ensures.rows c.cp.result.now c.cp.ensures.rows
-    c.history.result.now c.history.ensures s new lists touch links touches in
-    let holds = live_hold s touch links to.now c.in_ok-live.live content.pairs to.turn.after live in
-    let led = subst (λ (old : List Pair). ArePairs old content.in_force content.sets old
-    → IsTurn content.sets s content.in_force links touch to.now
-    → HoldsReached touch links to.now old c.in_ok-live.live old
-    → ArePairs old links s (pairs_after change old) × LeadsOn old change) c.pairs.ensures
-    (c.in_ok-pairs.ensures content.sets s content.in_force to.now) in
-    let pairs = led sound.pairs.settled to.turn holds in (
+    let have : HavePlanned content.sets (rows ++ made) s = λ cp cp_are history history_are.
+    lists_then content.sets sound_rows new b keeps rows c.ltp.ensures.rows cp cp_are history history_are in
+    let plan = rows_made content sound rows c.ltp.ensures.rows new in
+    let to = turn_seen h view sound sees links known rows c.ltp.ensures.rows c.cp.result.now c.cp.ensures.rows
+    c.lasts.result.now c.lasts.ensures s rows [] made have plan touch touches in
+    let listed : (p : PlacedRow) → Contains c.in_ok-live.live p
+    ↔ IsListed (rows ++ made) c.cp.result.now c.lasts.result.now p =
+    subst (λ (l : List Row). (p : PlacedRow) → Contains c.in_ok-live.live p
+    ↔ IsListed (rows ++ l) c.cp.result.now c.lasts.result.now p) (c.deref-2.ensures.value ∙ put)
+    c.in_ok-live.ensures.listed in
+    let holds = held h view sound sees links known rows c.ltp.ensures.rows c.cp.result.now c.cp.ensures.rows
+    c.lasts.result.now c.lasts.ensures s rows [] made have plan touch touches (λ app. Unit {0}) c.in_ok-live.live
+    (λ p. ((λ there. ((listed p).0 there, tt)), λ both. (listed p).1 both.0))
+    (λ q there is_open reach. (tt, λ app names. tt)) (λ app. Unit {0}) c.in_ok-before.before
+    (λ q there is_open reach. tt) (λ row there. tt) (λ pair there. (c.in_ok-before.ensures pair).0 there)
+    (λ pair there app among planned. (c.in_ok-before.ensures pair).1 there) in
+    let pairs = c.in_ok-pairs.ensures content.sets s content.in_force to.now h.pairs sound.pairs.settled to.turn holds in (
       making_is content sound b links new _ (record {
         gone = c.new.ensures.items;
         unchanged = c.new-2.ensures.items;
@@ -66,12 +68,12 @@ returns c h sound keeps =
         };
         bounds = refl;
         issued = ap (λ n. Some (n + c.len-made.result)) c.issued-2.ensures
-            ∙ ap (λ n. Some (content.sets.issued + n)) made;
+            ∙ ap (λ n. Some (content.sets.issued + n)) count;
         in_force = refl;
         definitions = refl;
         job = refl;
         pairs = pairs.0;
         leads = pairs.1;
       }),
-      ap (λ n. Made n 0) made,
+      ap (λ n. Made n 0) count,
     )

@@ -47,7 +47,7 @@ change_rows-requires c =
     omega (arith, few, count)
 
 pub returns-then-are_too_many : goal.returns-then-are_too_many
-returns-then-are_too_many c h sound planned deleted =
+returns-then-are_too_many c h sound sees known planned deleted =
     let content = with_hidden h c.args.view.now in
     let only = c.args.only.now in
     let rows = c.ltp-rows.result.now in
@@ -92,7 +92,7 @@ done c links only named new (Done change reply) few made = (few, made)
 done c links only named new (Refused refusal) few made = absurd made
 
 pub returns : goal.returns
-returns c = weaker c.change_rows.result _ _ (λ verdict made h sound planned deleted.
+returns c = weaker c.change_rows.result _ _ (λ verdict made h sound sees known planned deleted.
     let content = with_hidden h c.args.view.now in
     let only = c.args.only.now in
     let rows = c.ltp-rows.result.now in
@@ -144,7 +144,7 @@ returns c = weaker c.change_rows.result _ _ (λ verdict made h sound planned del
     (subst (λ (l : List Row). ArePlanned rows kept gone l) (sym (c.deref-8.ensures.value ∙ put))
     (modifying_planned content.sets (rows_sound content sound) rows c.ltp-rows.ensures.rows only named kept gone changed
     parts.parts new)) in
-    let led = c.in_ok-pairs.ensures are_named.rising c.ltp-rows.ensures.rows h sound s plan
+    let led = c.in_ok-pairs.ensures are_named.rising c.ltp-rows.ensures.rows h sound sees known s plan
     (λ cp cp_are history history_are. subst (λ (l : List Row). HasLists s (kept ++ l) cp history)
     (sym (c.deref-8.ensures.value ∙ put)) (lists cp cp_are history history_are)) in
     record {

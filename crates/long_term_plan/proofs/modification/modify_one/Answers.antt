@@ -12,10 +12,11 @@ use Rattle.planner_machine.specs.Plans.{IsPlannedApp}
 use Rattle.planner_machine.specs.Content.{Content}
 use Rattle.planner_machine.specs.Sound.{IsSound}
 use Rattle.plan_store.specs.Verdicts.{VerdictIs}
-use Rattle.plan_store.specs.Views.{with_hidden}
-use Rattle.plan_store.proofs.WindowLemmas.{seen_is, shows_deleted}
+use Rattle.plan_store.specs.Views.{hidden_of, with_hidden}
+use Rattle.plan_store.proofs.WindowLemmas.{seen_is, sees_plan, shows_deleted}
 use Rattle.plan_store.specs.declared.changes.Verdict.TheVariants.{Refused}
 use Rattle.long_term_plan.specs.Making.{LacksOwnDefinition}
+use Rattle.long_term_plan.proofs.HeldLemmas.{known_one}
 use Rattle.long_term_plan.proofs.ModifyOneLemmas.{lacks, loops, not_active, verdict_is}
 use Rattle.long_term_plan.proofs.modification.modify_one.Goals as goal
 
@@ -41,19 +42,19 @@ puts_in app all all' before before' links same same' puts =
 
 pub returns-in-Some-lacking_own_definition : goal.returns-in-Some-lacking_own_definition
 returns-in-Some-lacking_own_definition c content shows sound =
-    let view = with_hidden content.sets.deletions c.args.view.now in
+    let view = with_hidden (hidden_of content) c.args.view.now in
     let app = c.args.app.now in
     let planned : view.sets.bounds ≡ Some c.in-Some.bounds = sym c.bounds.ensures ∙ c.in-Some.is in
     let refusal = c.in-Some-lacking_own_definition.refusal in
     let lacking : LacksOwnDefinition view.definitions app (Some refusal) =
     subst (λ (all : Definitions). LacksOwnDefinition all app (Some refusal)) c.definitions-all.ensures
     c.in-Some-lacking_own_definition.ensures in
-    subst (λ x. VerdictIs (modify_one app) x (Refused refusal)) (seen_is c.args.view.now content shows)
+    subst (λ x. VerdictIs (modify_one app) x (Refused refusal)) (seen_is c.args.view.now content shows.is)
     (lacks app view c.in-Some.bounds planned refusal lacking, refl)
 
 pub returns-in-Some-2 : goal.returns-in-Some-2
 returns-in-Some-2 c content shows sound =
-    let view = with_hidden content.sets.deletions c.args.view.now in
+    let view = with_hidden (hidden_of content) c.args.view.now in
     let app = c.args.app.now in
     let planned : view.sets.bounds ≡ Some c.in-Some.bounds = sym c.bounds.ensures ∙ c.in-Some.is in
     let defined : LacksOwnDefinition view.definitions app None =
@@ -63,12 +64,12 @@ returns-in-Some-2 c content shows sound =
     c.in_ok-links.links c.definitions-all.ensures c.in_force.ensures c.in_ok-links.ensures in
     let least : IsLeastOnLoop c.in_ok-links.links (Some c.in-Some-2.least) =
     subst (λ (o : Option (List ℕ)). IsLeastOnLoop c.in_ok-links.links o) c.in-Some-2.is c.in_ok-least.ensures in
-    subst (λ x. VerdictIs (modify_one app) x (Refused (Loop c.in-Some-2.least))) (seen_is c.args.view.now content shows)
+    subst (λ x. VerdictIs (modify_one app) x (Refused (Loop c.in-Some-2.least))) (seen_is c.args.view.now content shows.is)
     (loops app view c.in-Some.bounds planned defined c.in_ok-links.links puts c.in-Some-2.least least, refl)
 
 pub returns-then-is_none : goal.returns-then-is_none
 returns-then-is_none c content shows sound =
-    let view = with_hidden content.sets.deletions c.args.view.now in
+    let view = with_hidden (hidden_of content) c.args.view.now in
     let app = c.args.app.now in
     let planned : view.sets.bounds ≡ Some c.in-Some.bounds = sym c.bounds.ensures ∙ c.in-Some.is in
     let defined : LacksOwnDefinition view.definitions app None =
@@ -81,14 +82,14 @@ returns-then-is_none c content shows sound =
     let inactive : IsPlannedApp view.definitions app → ⊥ =
     subst (λ (all : Definitions). IsPlannedApp all app → ⊥) c.definitions-all.ensures
     (no_active c.definitions-all.result.now app c.active.result c.if-is_none.ensures c.active.ensures.none) in
-    subst (λ x. VerdictIs (modify_one app) x (Refused NoActiveApplication)) (seen_is c.args.view.now content shows)
+    subst (λ x. VerdictIs (modify_one app) x (Refused NoActiveApplication)) (seen_is c.args.view.now content shows.is)
     (not_active app view c.in-Some.bounds planned defined c.in_ok-links.links puts none inactive, refl)
 
 pub returns : goal.returns
 returns c = weaker c.modify.result _ _ (λ verdict modifies content shows sound.
-    let view = with_hidden content.sets.deletions c.args.view.now in
+    let view = with_hidden (hidden_of content) c.args.view.now in
     let app = c.args.app.now in
-    let sound_view : IsSound view = subst IsSound (sym (seen_is c.args.view.now content shows)) sound in
+    let sound_view : IsSound view = subst IsSound (sym (seen_is c.args.view.now content shows.is)) sound in
     let planned : view.sets.bounds ≡ Some c.in-Some.bounds = sym c.bounds.ensures ∙ c.in-Some.is in
     let defined : LacksOwnDefinition view.definitions app None =
     subst (λ (all : Definitions). LacksOwnDefinition all app None) c.definitions-all.ensures
@@ -100,9 +101,10 @@ returns c = weaker c.modify.result _ _ (λ verdict modifies content shows sound.
     let active : IsPlannedApp view.definitions app =
     subst (λ (all : Definitions). IsPlannedApp all app) c.definitions-all.ensures
     (one_active c.definitions-all.result.now app c.active.result c.if-is_none.ensures c.active.ensures.found) in
-    subst (λ x. VerdictIs (modify_one app) x verdict) (seen_is c.args.view.now content shows)
+    subst (λ x. VerdictIs (modify_one app) x verdict) (seen_is c.args.view.now content shows.is)
     (verdict_is app view c.in-Some.bounds planned defined c.in_ok-links.links puts sound_view none active verdict
-    (modifies content.sets.deletions sound_view planned
+    (modifies (hidden_of content) sound_view (sees_plan c.args.view.now content shows)
+    (known_one app view c.in_ok-links.links puts) planned
     (λ key. shows_deleted c.args.view.now content shows key c.in-Some.bounds
     (subst (λ (x : Content). x.sets.bounds ≡ Some c.in-Some.bounds)
-    (seen_is c.args.view.now content shows) planned))))) c.modify.ensures
+    (seen_is c.args.view.now content shows.is) planned))))) c.modify.ensures

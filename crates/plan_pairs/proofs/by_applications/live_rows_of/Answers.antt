@@ -27,7 +27,7 @@ loop-app-preserved c current current_are completed completed_are =
     take_more apps index app c.loop-app-test.true ∙ ap (λ x. take index apps ++ x ∷ []) (sym c.app-item.is) in
     let more = one_more s planned current current_are completed completed_are (take index apps)
     c.loop-app.rows.items (c.loop-app.invariant current current_are completed completed_are) app
-    c.cp_of.result.now c.cp_of.ensures c.history_of.result.now c.history_of.ensures
+    c.cp_of.result.now c.cp_of.ensures c.lasts_of.result.now c.lasts_of.ensures
     c.push_current.new.rows.items c.push_rows-in-loop-app.new.rows.items c.in_ok-push_current.ensures
     c.in_ok-push_rows-2.ensures in
     subst (λ xs. AreSoFar s planned current current_are completed completed_are xs

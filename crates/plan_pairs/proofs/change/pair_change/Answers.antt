@@ -7,12 +7,11 @@ weaker (Ok a) P Q f is = f a is
 weaker (Err e) P Q f is = tt
 
 pub returns : goal.returns
-returns c = weaker c.resolve_touched.result _ _ (λ change leads s s' was_links now pairs turn holds.
-    let old = c.args.before.now in
+returns c = weaker c.resolve_touched.result _ _ (λ change leads s s' was_links now old are turn holds.
     let links = c.args.links.now in
-    let settled = are_settled s turn.was turn.before was_links old pairs in
+    let settled = are_settled s turn.was turn.before was_links old are in
     let exact = leads turn.was now was_links old turn.touches settled holds in (
-      pairs_led s' now turn.after links old pairs.rising change exact,
+      pairs_led s' now turn.after links old are.rising change exact,
       led_on change old _ exact,
     ))
     c.resolve_touched.ensures

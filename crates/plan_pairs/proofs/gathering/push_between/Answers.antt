@@ -1,7 +1,6 @@
 use Rattle.keyed_lists.specs.Rows.{of_current, of_row}
 use Rattle.plan_store.specs.Views.{with_hidden}
-use Rattle.plan_pairs.proofs.GatherLemmas.{between_adds, between_holds, has_between}
-use Rattle.plan_pairs.proofs.SpanLemmas.{one_app}
+use Rattle.plan_pairs.proofs.GatherLemmas.{between_holds, between_only, has_between, one_app}
 use Rattle.plan_pairs.proofs.gathering.push_between.Goals as goal
 
 pub returns : goal.returns
@@ -21,7 +20,7 @@ returns c h numbered =
     let old = c.args.rows.now.items in
     let middle = c.push_rows.new.rows.items in
     let new = c.push_current.new.rows.items in
-    let adds = between_adds s numbered app first last planned current in_ltp in_cp old middle new
+    let adds = between_only s numbered app first last planned current in_ltp in_cp old middle new
     c.in_ok-push_rows.ensures c.in_ok-push_current.ensures in
     let holds = between_holds s numbered app first last planned current in_ltp in_cp old middle new
     c.in_ok-push_rows.ensures c.in_ok-push_current.ensures in

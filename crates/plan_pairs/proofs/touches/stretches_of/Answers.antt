@@ -1,4 +1,4 @@
-use Rattle.std.proofs.Common.{◌≡◌, ◌⊎◌, ◌++◌, ◌∙◌, List, ap, ap₂, inl, inr, map, subst, sym}
+use Rattle.std.proofs.Common.{◌≡◌, ◌⊎◌, ◌++◌, ◌∙◌, List, ap₂, inl, inr, map, subst, sym}
 use Rattle.std.specs.Prelude.{IfOk, Result, Ok, Err}
 use Rattle.std.specs.List.{Contains}
 use Rattle.std.proofs.lemmas.List.Elements.{Contains-append_left, Contains-append_right}
@@ -6,7 +6,6 @@ use Rattle.std.proofs.lemmas.List.Sorted.{Contains-permutation}
 use Rattle.occurrences.specs.declared.row.Row.{Row}
 use Rattle.external_dependencies.specs.Nearest.{arrival_of}
 use Rattle.external_dependencies.specs.declared.live.Arrival.{Arrival}
-use Rattle.plan_pairs.specs.Turns.{IsBegun}
 use Rattle.plan_pairs.proofs.TouchedLemmas.{map_has}
 use Rattle.plan_pairs.proofs.touches.stretches_of.Goals as goal
 

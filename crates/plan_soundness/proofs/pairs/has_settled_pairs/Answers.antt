@@ -17,7 +17,7 @@ returns c sound =
     subst (λ (l : List Row). HasLists s l c.deref-2.result.now c.deref-3.result.now) (sym c.deref.ensures.value)
     (subst (λ (l : List CurrentRow). HasLists s kept.ltp.items l c.deref-3.result.now) (sym c.deref-2.ensures.value)
     (subst (λ (l : List Row). HasLists s kept.ltp.items kept.cp.items l) (sym c.deref-3.ensures.value) lists)) in
-    let live = c.in_ok-rows.ensures s lent in
+    let live = c.in_ok-rows.ensures.live s lent in
     let after = c.in_ok-settled.ensures s live in
     let rising = c.same_pairs.ensures.1 in (
       λ yes. let both = c.same_pairs.ensures.0.0 yes in

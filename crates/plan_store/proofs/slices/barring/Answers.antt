@@ -18,7 +18,7 @@ loop-at-preserved c =
     let by_operator = λ (x : Deletion). is_by_operator x.reason in
     let late : c.from_on.result.now ≡ filter (λ (x : Deletion). not (arrives_before c.args.moment x.row)) part =
     subst (λ m. c.from_on.result.now ≡ filter (λ (x : Deletion). not (arrives_before m x.row)) part)
-    c.number.ensures.value (c.from_on.ensures c.front_app-of_one.ensures.keyed c.front_app-of_one.ensures.one) in
+    c.number.ensures.value (c.from_on.ensures.value c.front_app-of_one.ensures.keyed c.front_app-of_one.ensures.one) in
     filter_part (bars_from c.args.moment) xs part (filter by_operator c.from_on.result.now) c.loop-at.found.items
     c.push_operators.new.found.items start c.loop-at.invariant.0 is_front
     (ap (filter by_operator) late

@@ -9,4 +9,4 @@ returns-in-Ok g c =
     read_printed _ _ _ _ _ _ _ _ reads c.in-Ok.printed _ (λ honest.
     let shows = rw c.in_ok-view.was at reads.right honest in
     c.in-Ok.ensures (g.S.PlanStore.content c.args.store.now)
-    (sym (c.definitions.ensures ∙ ap (λ (x : Content). x.definitions) shows)))
+    (sym (c.definitions.ensures ∙ ap (λ (x : Content). x.definitions) shows.is)))

@@ -11,7 +11,7 @@ returns c c' shows =
     let d = Removed c.args.kind c.args.name.now in
     let only = redefines c.none-change.result d c.none-change.ensures in
     let defined : IsDefined c'.definitions c.args.kind c.args.name.now =
-    subst (λ (x : Content). IsDefined x.definitions c.args.kind c.args.name.now) shows
+    subst (λ (x : Content). IsDefined x.definitions c.args.kind c.args.name.now) shows.is
     (subst (λ d. IsDefined d c.args.kind c.args.name.now) c.definitions.ensures
     (c.is_defined.ensures.0 c.if-not-is_defined.false)) in (
       fits_redefined _ d only c',

@@ -1,8 +1,9 @@
-use Rattle.std.proofs.Common.{◌∙◌, subst, sym}
+use Rattle.std.proofs.Common.{◌∙◌, refl, subst, sym}
 use Rattle.plan_store.specs.Contents.{content_of}
 use Rattle.plan_store.specs.Views.{Shows}
-use Rattle.plan_store.proofs.WindowLemmas.{barring_named, barring_rows, barring_seats}
-use Rattle.plan_store.proofs.WindowLemmas.{early_named, early_rows, early_seats}
+use Rattle.plan_store.specs.declared.stores.Need.TheVariants.{Definitions}
+use Rattle.plan_store.proofs.WindowLemmas.{barring_rows, barring_seats, early_rows, early_seats}
+use Rattle.plan_store.proofs.WindowLemmas.{shows_definitions, shows_early, shows_plan}
 use Rattle.plan_store.proofs.contents.Content.window.Goals as goal
 
 pub window_of_plans-requires-in-Daily-clause-ltp_rows : goal.window_of_plans-requires-in-Daily-clause-ltp_rows
@@ -15,28 +16,34 @@ window_of_plans-requires-in-Daily-clause-ltp_seats c =
     early_seats _ c.args.self.now c.deref.result.now
     (c.deref.ensures.value ∙ (rw c.in-Daily.is at c.requires))
 
-pub window_of_deletions-requires-in-LongTerm-clause-rows :
-    goal.window_of_deletions-requires-in-LongTerm-clause-rows
-window_of_deletions-requires-in-LongTerm-clause-rows c =
-    barring_rows c.args.self.now c.deref-in-LongTerm.result.now
-    (c.deref-in-LongTerm.ensures.value ∙ (rw c.in-LongTerm.is at c.requires))
+pub window_of_lasts-requires-in-LongTerm-clause-rows : goal.window_of_lasts-requires-in-LongTerm-clause-rows
+window_of_lasts-requires-in-LongTerm-clause-rows c =
+    let filled = rw c.in-LongTerm.is at c.requires in
+    barring_rows c.args.self.now c.deref-in-LongTerm.result.now (c.deref-in-LongTerm.ensures.value ∙ filled.1)
 
-pub window_of_deletions-requires-in-LongTerm-clause-seats :
-    goal.window_of_deletions-requires-in-LongTerm-clause-seats
-window_of_deletions-requires-in-LongTerm-clause-seats c =
-    barring_seats c.args.self.now c.deref-in-LongTerm.result.now
-    (c.deref-in-LongTerm.ensures.value ∙ (rw c.in-LongTerm.is at c.requires))
+pub window_of_lasts-requires-in-LongTerm-clause-seats : goal.window_of_lasts-requires-in-LongTerm-clause-seats
+window_of_lasts-requires-in-LongTerm-clause-seats c =
+    let filled = rw c.in-LongTerm.is at c.requires in
+    barring_seats c.args.self.now c.deref-in-LongTerm.result.now (c.deref-in-LongTerm.ensures.value ∙ filled.1)
+
+pub returns-in-Definitions : goal.returns-in-Definitions
+returns-in-Definitions c =
+    let kept = c.args.self.now in
+    subst (λ n. Shows n c.window_of_plans.result (content_of kept)) (sym c.in-Definitions.is)
+    (shows_definitions c.window_of_plans.result (content_of kept) c.window_of_plans.ensures)
 
 pub returns-in-LongTerm : goal.returns-in-LongTerm
 returns-in-LongTerm c =
     let kept = c.args.self.now in
-    subst (λ n. Shows n c.window_of_deletions-in-LongTerm.result (content_of kept)) (sym c.in-LongTerm.is)
-    (c.window_of_deletions-in-LongTerm.ensures ∙ barring_named kept c.deref-in-LongTerm.result.now
-    (c.deref-in-LongTerm.ensures.value ∙ (rw c.in-LongTerm.is at c.requires)))
+    let filled = rw c.in-LongTerm.is at c.requires in
+    subst (λ n. Shows n c.window_of_lasts-in-LongTerm.result (content_of kept)) (sym c.in-LongTerm.is)
+    (shows_plan kept c.deref-in-LongTerm.result.now (c.deref-in-LongTerm.ensures.value ∙ filled.1)
+    c.window_of_lasts-in-LongTerm.result filled.0 c.window_of_lasts-in-LongTerm.ensures)
 
 pub returns-in-Daily : goal.returns-in-Daily
 returns-in-Daily c =
     let kept = c.args.self.now in
     let shows = rw c.deref-in-Daily.ensures.value at c.window_of_plans-in-Daily.ensures in
     subst (λ n. Shows n c.window_of_plans-in-Daily.result (content_of kept)) (sym c.in-Daily.is)
-    (shows ∙ early_named _ kept c.deref.result.now (c.deref.ensures.value ∙ (rw c.in-Daily.is at c.requires)))
+    (shows_early _ kept c.deref.result.now (c.deref.ensures.value ∙ (rw c.in-Daily.is at c.requires))
+    c.window_of_plans-in-Daily.result shows)

@@ -2,11 +2,11 @@ use Rattle.occurrences.specs.declared.place.CurrentRow.{CurrentRow}
 use Rattle.occurrences.specs.declared.row.Row.{Row}
 use Rattle.plan_store.specs.Views.{with_hidden}
 use Rattle.plan_store.proofs.LookLemmas.{look_at, look_lacks}
-use Rattle.plan_store.proofs.PlaceLemmas.{found_none, stands_cp, stands_history, stands_ltp}
+use Rattle.plan_store.proofs.PlaceLemmas.{stands_cp, stands_history, stands_ltp}
 use Rattle.plan_store.proofs.views.View.placed.Goals as goal
 
 pub returns-in-Some : goal.returns-in-Some
-returns-in-Some c hidden numbered =
+returns-in-Some c hidden numbered part =
     let view = c.args.self.now in
     let is = c.in-Some.ensures in (
       stands_ltp (with_hidden hidden view).sets numbered c.args.serial c.in-Some.row
@@ -15,7 +15,7 @@ returns-in-Some c hidden numbered =
     )
 
 pub returns-in-Some-of_serial : goal.returns-in-Some-of_serial
-returns-in-Some-of_serial c hidden numbered =
+returns-in-Some-of_serial c hidden numbered part =
     let view = c.args.self.now in
     let is = c.in-Some-of_serial.ensures in (
       stands_cp (with_hidden hidden view).sets numbered c.args.serial c.in-Some-of_serial.current
@@ -25,20 +25,21 @@ returns-in-Some-of_serial c hidden numbered =
     )
 
 pub returns : goal.returns
-returns c hidden numbered =
+returns c hidden numbered part =
     let view = c.args.self.now in
     let is = c.in_ok-row.ensures in (
       stands_history (with_hidden hidden view).sets numbered c.args.serial c.in_ok-row.row
-          (look_at (λ (x : Row). x.serial) view.history.now view.history_rows.one_each c.in_ok-row.row c.args.serial
-          is.0 is.1),
+          (part c.args.serial c.in_ok-row.row (look_at (λ (x : Row). x.serial) view.lasts.now view.last_rows.one_each
+          c.in_ok-row.row c.args.serial is.0 is.1)),
       tt,
     )
 
 pub returns-in_err-row : goal.returns-in_err-row
-returns-in_err-row c hidden numbered =
+returns-in_err-row c hidden numbered part =
     let view = c.args.self.now in
     let serial = c.args.serial in
-    rw c.from_residual.ensures (found_none (with_hidden hidden view).sets serial
-    (look_lacks (λ (x : Row). x.serial) view.ltp.now serial c.in_default.ensures)
-    (look_lacks (λ (x : CurrentRow). x.row.serial) view.cp.now serial c.in_default-of_serial.ensures)
-    (look_lacks (λ (x : Row). x.serial) view.history.now serial c.in_err-row.ensures))
+    rw c.from_residual.ensures (record {
+      ltp = look_lacks (λ (x : Row). x.serial) view.ltp.now serial c.in_default.ensures;
+      cp = look_lacks (λ (x : CurrentRow). x.row.serial) view.cp.now serial c.in_default-of_serial.ensures;
+      history = look_lacks (λ (x : Row). x.serial) view.lasts.now serial c.in_err-row.ensures;
+    })

@@ -1,8 +1,0 @@
-use Rattle.keyed_lists.specs.Rows.{of_row}
-use Rattle.plan_store.proofs.ViewLemmas.{lists_all}
-use Rattle.plan_store.proofs.views.View.history.Goals as goal
-
-pub returns : goal.returns
-returns c =
-    let view = c.args.self.now in
-    lists_all of_row view.history.now view.history_rows

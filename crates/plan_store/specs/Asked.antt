@@ -1,0 +1,84 @@
+-- What a statement asks of history: of an application the row that arrives last before a minute.
+use Rattle.std.specs.Prelude.{◌≡◌, ◌≢◌, ◌⊎◌, ℕ, ◌+◌, ◌<◌, ◌≤◌, List, Option, Some}
+use Rattle.app_definitions.specs.declared.definitions.Definitions.{Definitions}
+use Rattle.occurrences.specs.declared.key.Key.{Key}
+use Rattle.occurrences.specs.declared.place.CurrentRow.{CurrentRow}
+use Rattle.occurrences.specs.declared.row.Row.{Row}
+use Rattle.occurrences.specs.declared.status.Status.TheVariants.{D, W}
+use Rattle.external_dependencies.specs.Link.{Lists}
+use Rattle.external_dependencies.specs.declared.links.Link.{Link}
+use Rattle.planner_machine.specs.Content.{Content, Sets}
+use Rattle.planner_machine.specs.InForce.{IsDefinedLink}
+use Rattle.planner_machine.specs.declared.content.Bounds.{Bounds}
+
+-- the first arrives earlier, or at the same moment under no greater serial
+abbrev pub IsNoLater : Row → Row → Type 0
+IsNoLater a b = (a.key.ia < b.key.ia) ⊎ ((a.key.ia ≡ b.key.ia) × (a.serial ≤ b.serial))
+
+-- of the rows of the application that arrive before the minute, the one that arrives last
+pub record IsLastOf (history : ℕ → Option Row) (app : List ℕ) (minute : ℕ) (row : Row) : Type 0 where
+  pub stands : history row.serial ≡ Some row
+  pub of_app : row.key.app ≡ app
+  pub in_time : row.key.ia < minute
+  pub last : (serial : ℕ) (other : Row) → history serial ≡ Some other → other.key.app ≡ app → other.key.ia < minute
+      → IsNoLater other row
+
+-- before this minute arrives what may precede the key in the application
+abbrev pub IsLimit : Key → List ℕ → ℕ → Type 0
+IsLimit key app minute = ((app ≡ key.app) × (minute ≡ key.ia)) ⊎ ((app ≢ key.app) × (minute ≡ key.ia + 1))
+
+-- a live occurrence of the application arrives then in one of the plans
+abbrev pub IsPlannedAt : Sets → List ℕ → ℕ → Type 0
+IsPlannedAt s app ia =
+    ((serial : ℕ) × (row : Row) × (s.ltp serial ≡ Some row) × (row.key.app ≡ app) × (row.key.ia ≡ ia))
+    ⊎ ((serial : ℕ) × (current : CurrentRow) × (s.cp serial ≡ Some current) × (current.status ≢ D)
+    × (current.row.key.app ≡ app) × (current.row.key.ia ≡ ia))
+
+-- the row is open: it stands in the long-term plan, or waits in the current plan
+abbrev pub IsOpenRow : Sets → Row → Type 0
+IsOpenRow s row = (s.ltp row.serial ≡ Some row) ⊎ (s.cp row.serial ≡ Some (record { row = row; status = W }))
+
+-- a change under the key may reach the open row: its list names the application of the key, and it arrives from the key
+-- on, and no later than the next live occurrence of that application in the plans
+pub record IsReachedBy (c : Content) (key : Key) (row : Row) : Type 0 where
+  pub opened : IsOpenRow c.sets row
+  pub names : Lists c.in_force row.key.app key.app
+  pub begun : key.ia ≤ row.key.ia
+  pub within : (ia : ℕ) → IsPlannedAt c.sets key.app ia → key.ia < ia → row.key.ia ≤ ia
+
+-- what may precede the key in an application of its list
+abbrev pub AsksList : List Link → Key → List ℕ → ℕ → Type 0
+AsksList links key app minute = Lists links key.app app × IsLimit key app minute
+
+-- the predecessor stands in the list that is defined for the application
+abbrev pub ListsDefined : Definitions → List ℕ → List ℕ → Type 0
+ListsDefined all app predecessor = (within : Option ℕ)
+    × IsDefinedLink all (record { app = app; predecessor = predecessor; within = within })
+
+-- what a statement on one key asks: the last of its application up to the key and before it, and what may precede the
+-- key, and each row that the statement may reach, in the applications of their lists
+abbrev pub AsksKey : Content → Key → List ℕ → ℕ → Type 0
+AsksKey c key app minute =
+    ((app ≡ key.app) × ((minute ≡ key.ia) ⊎ (minute ≡ key.ia + 1)))
+    ⊎ (AsksList c.in_force key app minute
+    ⊎ ((row : Row) × IsReachedBy c key row × AsksList c.in_force row.key app minute))
+
+-- what a statement on the long-term plan asks: the last of each application before the plan end, and what may precede
+-- each row that waits in the current plan, in the applications of its lists, in force or defined
+abbrev pub AsksPlan : Content → List ℕ → ℕ → Type 0
+AsksPlan c app minute =
+    ((bounds : Bounds) × (c.sets.bounds ≡ Some bounds) × (minute ≡ bounds.plan_end))
+    ⊎ ((row : Row) × (c.sets.cp row.serial ≡ Some (record { row = row; status = W }))
+    × (Lists c.in_force row.key.app app ⊎ ListsDefined c.definitions row.key.app app) × IsLimit row.key app minute)
+
+-- each row of the application that arrives before the minute has one that is shown, and that arrives no earlier
+abbrev pub HasLast : (history shown : ℕ → Option Row) → List ℕ → ℕ → Type 0
+HasLast history shown app minute = (serial : ℕ) (row : Row) → history serial ≡ Some row → row.key.app ≡ app
+    → row.key.ia < minute
+    → (r : Row) × (shown r.serial ≡ Some r) × (r.key.app ≡ app) × (r.key.ia < minute) × IsNoLater row r
+
+-- of history the rows are shown that are asked for, and no others
+pub record HasLasts (Asked : List ℕ → ℕ → Type 0) (history shown : ℕ → Option Row) : Type 0 where
+  pub only : (serial : ℕ) (row : Row) → shown serial ≡ Some row → (history serial ≡ Some row)
+      × ((app : List ℕ) × (minute : ℕ) × Asked app minute × IsLastOf history app minute row)
+  pub lasts : (app : List ℕ) (minute : ℕ) → Asked app minute → HasLast history shown app minute
