@@ -10,7 +10,6 @@ use Rattle.std.specs.Ordering.{nat_cmp, eq_by_cmp}
 use Rattle.std.specs.Cmp.{Equal-is, eq_by_cmp_equiv}
 use Rattle.std.specs.Cmp.Lexicographic.{pointwise, slice_cmp, nat_list_cmp_total}
 use Rattle.plan_periods.specs.declared.periods.Period.{Period}
-use Rattle.work_calendars.specs.Name.{IsName, IsShort}
 use Rattle.work_calendars.specs.WorkIndex.{is_work_in}
 use Rattle.run_cycles.specs.NamedDay.{NamesDay}
 use Rattle.run_cycles.specs.Occurrence.{PeriodMap, NamesAt, GivesAt, TakesAt, IsGivenBy, IsOccurrence, IsNameAtMost}
@@ -23,12 +22,6 @@ use Rattle.app_occurrences.specs.NamedOccurrences.{work_of}
 use Rattle.definition_records.specs.declared.applications.Application.{Application}
 use Rattle.app_definitions.specs.declared.definitions.Definitions.{Definitions}
 use Rattle.definition_records.proofs.ByNameLemmas.{get-inserted, name_itself, same_name}
-
--- a short name is a name
-pub short_is_name : (text : List ℕ) → IsShort text → IsName text
-short_is_name text short =
-    let fits = short.fits in
-    record { not_empty = short.not_empty; fits = omega arith; alphabet = short.alphabet; start = short.start }
 
 -- ---- facts about run cycles of a list
 

@@ -1,7 +1,7 @@
 -- What a daily plan changes, and that it is a daily plan.
 use Rattle.std.proofs.Common.{◌≡◌, ◌↔◌, ℕ, ◌<◌, Bool, true, false, not, List, [], length, map, refl, sym, ap, subst}
 use Rattle.std.proofs.Common.{◌∙◌, Option, Some, None}
-use Rattle.std.specs.Prelude.{nat_lt, option_map, is_some, filter, if◌then◌else◌}
+use Rattle.std.specs.Prelude.{option_map, is_some, filter, if◌then◌else◌}
 use Rattle.std.specs.List.{Contains}
 use Rattle.std.proofs.lemmas.Bool.{ltb-true, lt-ltb}
 use Rattle.std.proofs.lemmas.List.{length-map}

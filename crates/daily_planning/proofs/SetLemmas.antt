@@ -134,13 +134,6 @@ module _ {X : Type 0} (row_of : X → Row) where
           ∙ size_same (look_up serial_of (filter p xs)) (λ serial. keep p (set serial)) n
           (λ serial le. look_filter serial)
 
-pub map_contains : {X Y : Type 0} (f : X → Y) (xs : List X) (x : X) → Contains xs x → Contains (map f xs) (f x)
-map_contains f [] x there = absurd (nothing x there)
-map_contains f (y ∷ ys) x there = elim (contains_cases y x ys there) [
-  | inl same ↦ subst (Contains (map f (y ∷ ys))) (ap f same) (contains_first (f y) (map f ys))
-  | inr rest ↦ contains_later (f y) (f x) (map f ys) (map_contains f ys x rest)
-]
-
 module _ {X Y : Type 0} (of_x : X → Row) (of_y : Y → Row) (f : X → Y)
     (same : (x : X) → (of_y (f x)).serial ≡ (of_x x).serial) where
   pub look_map : (xs : List X) (serial : ℕ) → look_up (λ y. (of_y y).serial) (map f xs) serial ≡ option_map f

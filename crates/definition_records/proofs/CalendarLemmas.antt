@@ -1,7 +1,7 @@
 -- What a calendar lists after a record more.
-use Rattle.std.proofs.Common.{◌≡◌, ◌≢◌, inl, inr, sym, ap, refl, ◌∙◌, ℕ, zero, suc, ◌<◌, List, [], ◌∷◌, ◌++◌, length}
+use Rattle.std.proofs.Common.{◌≡◌, inl, inr, sym, ap, refl, ◌∙◌, ℕ, zero, suc, ◌<◌, List, [], ◌∷◌, ◌++◌, length}
 use Rattle.std.proofs.Common.{cond, true, false, Bool, Option, Some, None, arith}
-use Rattle.std.specs.Prelude.{IsTrue, ◌↔◌, is_some, nat_eq, not, codes}
+use Rattle.std.specs.Prelude.{IsTrue, ◌↔◌, is_some, nat_eq, not}
 use Rattle.std.specs.List.{slice_index_or}
 use Rattle.std.specs.FinMap as map
 use Rattle.std.specs.Cmp.{nat_cmp_total, unsigned_ties}
@@ -171,9 +171,3 @@ date-taken c before row day b false about status of e is =
     let new = new-unlisted (map.get c.dates day) (λ text. SpellsDay text day) before row
     (λ s t. SpellsDay-one_text s t day) about (of.dates day) in
     (λ yes. record { entry = inr (day, about); status = status; new = new.0 (sym e) }, λ fits. is)
-
--- a text that is none of the seven
-pub no_weekday : (text : List ℕ) → text ≢ codes "MON" → text ≢ codes "TUE" → text ≢ codes "WED" → text ≢ codes "THU"
-    → text ≢ codes "FRI" → text ≢ codes "SAT" → text ≢ codes "SUN"
-    → (w : ℕ) → IsWeekdayText text w → ⊥
-no_weekday text a b c d e f g w h = seven (λ w. text ≢ slice_index_or weekday_letters w []) a b c d e f g w h.0 h.1

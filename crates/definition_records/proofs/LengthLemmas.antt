@@ -1,5 +1,5 @@
 -- Records as long as the first one of their block, by the length that the reader expects.
-use Rattle.std.proofs.Common.{◌≡◌, ◌∙◌, sym, subst, ℕ, List, [], ◌∷◌, ◌++◌, length, Option, None, Some}
+use Rattle.std.proofs.Common.{◌≡◌, ◌∙◌, sym, subst, ℕ, [], ◌∷◌, ◌++◌, length, Option, None, Some}
 use Rattle.std.specs.Prelude.{IfSome}
 use Rattle.definition_records.specs.ByName.{IsAsLong}
 use Rattle.definition_records.specs.Records.{Record, Records}

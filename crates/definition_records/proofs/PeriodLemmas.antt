@@ -1,13 +1,12 @@
 -- What a period is after a record more.
-use Rattle.std.proofs.Common.{◌≡◌, ◌≢◌, ◌⊎◌, inl, inr, ap, refl, ◌∙◌, ℕ, ◌+◌, ◌-◌, ◌<◌, ◌≤◌, List, [], ◌∷◌, ◌++◌}
-use Rattle.std.proofs.Common.{length, Bool, true, false, Option, Some, None, Result, Ok, Err, arith, length-append}
-use Rattle.std.specs.Prelude.{IsTrue, ◌↔◌, IfSome, IfOk, OnErr, codes}
+use Rattle.std.proofs.Common.{◌≡◌, ◌≢◌, ◌⊎◌, inl, inr, ap, refl, ◌∙◌, ℕ, ◌-◌, ◌<◌, ◌≤◌, List, [], ◌∷◌, ◌++◌}
+use Rattle.std.proofs.Common.{length, Bool, Option, Some, None, arith, length-append}
+use Rattle.std.specs.Prelude.{IsTrue, ◌↔◌, IfSome, codes}
 use Rattle.std.specs.List.{slice_index_or}
 use Rattle.std.proofs.lemmas.Bool.{cases_lt}
-use Rattle.std.proofs.lemmas.List.{get_or_append_left, get_or_default}
-use Rattle.std.proofs.lemmas.List.Elements.{All-push}
+use Rattle.std.proofs.lemmas.List.{get_or_append_left}
 use Rattle.std.proofs.Math.Seq.{get_or-append_seam}
-use Rattle.plan_periods.specs.Period.{Entry, EndsFromOrigin, HasRisingOrigins, IsSoundList}
+use Rattle.plan_periods.specs.Period.{Entry}
 use Rattle.work_calendars.specs.Spelling.{SpellsDay}
 use Rattle.work_calendars.proofs.SpellingFacts.{SpellsDay-one_day, length-SpellsDay}
 use Rattle.definition_records.specs.Fields.{field, SpellsOptionalDay}
@@ -61,11 +60,6 @@ GiveEntries-push before entries row e all gives =
       each = λ k h. either_end before entries row e k all.same_length (all.each k) gives h (cases_lt k (length before));
     }
 
--- the entry of one record
-pub GiveEntries-one : (row : Record) (e : Entry) → GivesEntry row e → GiveEntries (row ∷ []) (e ∷ [])
-GiveEntries-one row e gives = GiveEntries-push [] [] row e
-    (record { same_length = refl; each = λ k h. absurd (omega (arith, h)) }) gives
-
 -- later than the last entry is later than the last record
 pub later-records : (first : Record) (more : Records) (entries : List Entry) (e : Entry)
     → GiveEntries (first ∷ more) entries → IsLater entries e ↔ IsLaterThan (first ∷ more) e.0
@@ -96,51 +90,8 @@ goes_on-taken (first ∷ more) row entries e b some is n all gives told =
           omega (arith, h, same))),
     )
 
-rising_at : (entries : List Entry) (e : Entry) (k : ℕ) (d : Entry) → HasRisingOrigins entries → IsLater entries e
-    → k + 1 < length entries + 1 → (k + 1 < length entries) ⊎ (length entries ≤ k + 1)
-    → (slice_index_or (entries ++ e ∷ []) k d).0 < (slice_index_or (entries ++ e ∷ []) (k + 1) d).0
-rising_at entries e k d rising later h (inl lt) =
-    let lt2 : k < length entries = omega (arith, lt) in
-    rw (get_or_append_left entries (e ∷ []) d k lt2, get_or_append_left entries (e ∷ []) d (k + 1) lt) (rising k d lt)
-rising_at entries e k d rising later h (inr ge) =
-    let lt2 : k < length entries = omega (arith, h) in
-    let at : k + 1 ≡ length entries = omega (arith, h, ge) in
-    let last : length entries - 1 ≡ k = omega (arith, at) in
-    let here : slice_index_or (entries ++ e ∷ []) (k + 1) d ≡ e =
-    ap (λ n. slice_index_or (entries ++ e ∷ []) n d) at ∙ get_or-append_seam entries e [] d in
-    rw (here, get_or_append_left entries (e ∷ []) d k lt2, get_or_default entries k d (0, None) lt2)
-    (rw last at (later (omega (arith, lt2))))
-
--- a sound list stays sound with a later entry whose end is not before its origin
-pub IsSoundList-push : (entries : List Entry) (e : Entry) → IsSoundList entries → EndsFromOrigin e → IsLater entries e
-    → IsSoundList (entries ++ e ∷ [])
-IsSoundList-push entries e sound ends later =
-    let long = length-append entries (e ∷ []) in (
-      omega (arith, long),
-      All-push EndsFromOrigin entries e sound.1 ends,
-      λ k d h. rising_at entries e k d sound.2 later (omega (arith, h, long)) (cases_lt (k + 1) (length entries)),
-    )
-
--- one entry is a sound list
-pub IsSoundList-one : (e : Entry) → EndsFromOrigin e → IsSoundList (e ∷ [])
-IsSoundList-one e ends = (
-  omega arith,
-  All-push EndsFromOrigin [] e (λ k d h. absurd (omega (arith, h))) ends,
-  λ k d h. absurd (omega (arith, h)),
-)
-
 -- the first record stays the first
 pub first-kept : (before : Records) (row : Record) → before ≢ []
     → slice_index_or (before ++ row ∷ []) 0 [] ≡ slice_index_or before 0 []
 first-kept [] row some = absurd (some refl)
 first-kept (first ∷ more) row some = refl
-
--- a list that takes a later entry alone stays sound, whatever the answer
-pub sound-pushed : {E : Type 0} (r : Result Bool E) (old new : List Entry) (e : Entry)
-    → IfOk r (λ taken. IsTrue taken ↔ IsLater old e) → IfOk r (λ taken. IsTrue taken → new ≡ old ++ e ∷ [])
-    → IfOk r (λ taken. taken ≡ false → new ≡ old) → OnErr r (new ≡ old)
-    → IsSoundList old → EndsFromOrigin e → IsSoundList new
-sound-pushed (Ok true) old new e later pushed refused err sound ends =
-    rw (pushed refl) (IsSoundList-push old e sound ends (later.0 refl))
-sound-pushed (Ok false) old new e later pushed refused err sound ends = rw (refused refl) sound
-sound-pushed (Err x) old new e later pushed refused err sound ends = rw err sound

@@ -1,21 +1,18 @@
 -- The predecessors of an application, with one record more.
-use Rattle.std.proofs.Common.{◌≡◌, ◌∙◌, refl, sym, ap, subst, inl, inr, ℕ, ◌<◌, List, [], ◌∷◌, ◌++◌, length, get_or, arith}
-use Rattle.std.proofs.Common.{Some}
-use Rattle.std.specs.Prelude.{◌↔◌, Contains, IsSome, IfSome}
+use Rattle.std.proofs.Common.{◌≡◌, ◌∙◌, sym, ap, subst, inl, inr, ℕ, ◌<◌, List, [], ◌∷◌, ◌++◌, length, get_or}
+use Rattle.std.specs.Prelude.{Contains}
 use Rattle.std.specs.List.{HoldsAt, insert}
 use Rattle.std.proofs.lemmas.List.Elements.{Contains-append_left, Contains-get_or, Contains-push, Contains-push_cases}
-use Rattle.work_calendars.specs.Name.{IsName}
-use Rattle.work_calendars.specs.Within.{IsWithinHours}
-use Rattle.definition_records.specs.Fields.{field, IsEmptyOr, number_value}
+use Rattle.definition_records.specs.Fields.{field}
 use Rattle.definition_records.specs.Predecessors.{predecessor_of, predecessors_of, named_by, FitsPredecessors}
-use Rattle.definition_records.specs.Predecessors.{ArePredecessorsOf, IsPredecessorRecord, IsWithinText, within_of}
+use Rattle.definition_records.specs.Predecessors.{ArePredecessorsOf, IsPredecessorRecord}
 use Rattle.definition_records.specs.Rising.{IsPlaceFor}
 use Rattle.definition_records.specs.declared.predecessors.Predecessor.{Predecessor}
 use Rattle.definition_records.proofs.RisingLemmas.{none_named, rising-insert, Contains-insert_cases}
 use Rattle.definition_records.proofs.RisingLemmas.{Contains-insert_new}
 use Rattle.definition_records.proofs.RisingLemmas.{Contains-insert_old, Contains-map, Contains-map_back}
 use Rattle.definition_records.specs.Records.{Record, Records}
-use Rattle.definition_records.specs.declared.columns.TheConstants.{PREDECESSOR, PREDECESSOR_WITHIN}
+use Rattle.definition_records.specs.declared.columns.TheConstants.{PREDECESSOR}
 
 -- the name that a record gives
 abbrev named : Record → List ℕ
@@ -52,14 +49,6 @@ predecessors-more listed before p row place of free are =
           (Contains-insert_new listed place p)
     ]
 
--- the first record
-pub predecessors-one : (p : Predecessor) (row : Record) → p ≡ predecessor_of row
-    → ArePredecessorsOf (p ∷ []) (row ∷ [])
-predecessors-one p row of = record {
-  rising = λ i j d lt within. absurd (omega (arith, lt, within));
-  exactly = λ q. ((λ has. subst (λ x. Contains (x ∷ []) q) of has), λ has. subst (λ x. Contains (x ∷ []) q) (sym of) has);
-}
-
 -- a record with a new name is good
 pub predecessors-fit : (listed : List Predecessor) (before : Records) (p : Predecessor) (row : Record) (place : ℕ)
     → IsPredecessorRecord row → p ≡ predecessor_of row → IsPlaceFor name_of listed p.name place
@@ -81,9 +70,3 @@ predecessors-no_fit listed before p row k of lt at are fits =
     let (r, there, same) = Contains-map_back predecessor_of before q ((are.exactly q).0 (Contains-get_or listed k p lt)) in
     fits.new (subst (Contains (named_by before)) (ap name_of same ∙ at p ∙ ap name_of of)
     (Contains-map named before r there))
-
--- the limit that bytes spell
-pub some_text : (bytes : List ℕ) (value : ℕ) → (bytes ≡ [] → ⊥) → value ≡ number_value bytes
-    → Some value ≡ within_of bytes
-some_text [] value some is = absurd (some refl)
-some_text (b ∷ bytes) value some is = ap Some is

@@ -96,9 +96,6 @@ rising-insert {X} name_of xs y i place rising a b d lt within = at (three a i) (
     long : length (insert xs i y) ≡ length xs + 1
     long = length-insert xs i y place.within
 
-    goal : X → X → Type 0
-    goal x z = IsBelow (name_of x) (name_of z)
-
     here : get_or (insert xs i y) i d ≡ y
     here = get_or-insert_at xs i y d place.within
 

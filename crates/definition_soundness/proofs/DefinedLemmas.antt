@@ -119,10 +119,6 @@ later_fits : (rows : Records) (row : Record) → 0 < length rows → FitsPeriod 
 later_fits [] row some fits = absurd (omega (arith, some))
 later_fits (first ∷ more) row some fits = fits
 
-none_of : (rows : Records) → length rows ≡ 0 → rows ≡ []
-none_of [] none = refl
-none_of (x ∷ rows) none = absurd (omega (arith, none))
-
 some_of : (rows : Records) → rows ≢ [] → 0 < length rows
 some_of [] some = absurd (some refl)
 some_of (x ∷ rows) some = omega arith

@@ -1,5 +1,5 @@
 -- What is found anew where a change reaches leads exactly from the pairs before to those after.
-use Rattle.std.proofs.Common.{◌≡◌, ◌↔◌, ◌⊎◌, ℕ, List, Option, refl, sym, ap, subst, ◌∙◌, inl, inr, arith}
+use Rattle.std.proofs.Common.{◌≡◌, ◌↔◌, ◌⊎◌, ℕ, List, Option, sym, subst, ◌∙◌, inl, inr}
 use Rattle.std.specs.List.{Contains}
 use Rattle.occurrences.specs.Place.{IsLive, IsOpen}
 use Rattle.external_dependencies.specs.declared.change.PairChange.{PairChange}
@@ -14,7 +14,7 @@ use Rattle.external_dependencies.specs.Pair.{IsPairAmong, IsPairOf}
 use Rattle.external_dependencies.specs.declared.touch.Touch.{Touch}
 use Rattle.external_dependencies.specs.Change.{LeadsExactly}
 use Rattle.external_dependencies.specs.Reached.{AreAsked, HasSerialOf, HoldsReached, IsReachedIn}
-use Rattle.external_dependencies.specs.Settled.{AreSettled, IsKeptIn, IsSettledPair}
+use Rattle.external_dependencies.specs.Settled.{AreSettled, IsSettledPair}
 use Rattle.external_dependencies.specs.Touch.{MayReach, Touches}
 use Rattle.external_dependencies.proofs.NearestLemmas.{limited_alike}
 use Rattle.external_dependencies.proofs.ToldLemmas.{decide_open, decide_pairs, decide_reaches, member, open_lives}
@@ -35,9 +35,6 @@ module _ (touch : Touch) (was now : List PlacedRow) (was_links links : List Link
     (asked : List PlacedRow) (are_asked : AreAsked touch links rows asked)
     (had : List Pair) (are_had : AreHad touch links rows pairs had)
     (found : List Pair) (are_found : AreFound rows asked links found) where
-  IsNew : Pair → Type 0
-  IsNew = IsSettledPair old now links
-
   -- with a limit too, the rows have whatever is nearest
   alike : (q : PlacedRow) → Contains now q → IsOpen q.place → MayReach touch links q.row → (app : List ℕ)
       (within : Option ℕ) → ListsWithin links q.row.key.app app within → (near : Arrival)

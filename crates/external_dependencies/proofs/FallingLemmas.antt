@@ -1,9 +1,8 @@
 -- Numbers that fall along the edges of a graph, and walks that come back.
-use Rattle.std.proofs.Common.{◌≡◌, ◌≢◌, ℕ, ◌+◌, ◌<◌, ◌≤◌, Bool, true, false, List, [], ◌∷◌, length, get_or, set, refl}
-use Rattle.std.proofs.Common.{sym, ap, subst, ◌∙◌, inl, inr, arith, length-set}
-use Rattle.std.proofs.lemmas.Bool.{cases_eq, cases_lt, cases_order, false≢true}
-use Rattle.std.proofs.lemmas.List.{get_or-set_same, get_or-set_other}
-use Rattle.external_dependencies.specs.Falling.{AreShared, FallAlong, IsMarked}
+use Rattle.std.proofs.Common.{◌≡◌, ◌≢◌, ℕ, ◌<◌, ◌≤◌, Bool, true, false, List, [], ◌∷◌, length, get_or, refl}
+use Rattle.std.proofs.Common.{sym, subst, ◌∙◌, inl, inr, arith}
+use Rattle.std.proofs.lemmas.Bool.{cases_order, false≢true}
+use Rattle.external_dependencies.specs.Falling.{AreShared, FallAlong}
 use Rattle.external_dependencies.specs.Walk.{Edge, IsWalk, ReturnsTo}
 
 module _ (g : List (List ℕ)) (numbers : List ℕ) (fall : FallAlong g numbers) where
@@ -38,47 +37,3 @@ lone_from_shared numbers shared are count fits unmarked i j lt_i lt_j differ sam
       false≢true (sym (unmarked i lt_i) ∙ subst (λ n. get_or shared n false ≡ true) (sym same)
       (are.twice j i above (omega arith) (sym same)))
 ]
-
--- a mark stays when another is made
-pub mark_stays : (marks : List Bool) (number other : ℕ) → number < length marks → IsMarked marks other
-    → IsMarked (set marks number true) other
-mark_stays marks number other lt marked = elim (cases_eq other number) [
-  | inl same ↦ subst (IsMarked (set marks number true)) (sym same) (get_or-set_same marks number true false lt)
-  | inr differ ↦ get_or-set_other marks number other true false differ ∙ marked
-]
-
-module _ (numbers : List ℕ) (done : ℕ) (seen shared : List Bool)
-    (all_seen : (k : ℕ) → k < done → IsMarked seen (get_or numbers k 0)) (so_far : AreShared numbers done shared) where
-  -- a number that was not seen before
-  pub shared_new : get_or seen (get_or numbers done 0) false ≡ false → AreShared numbers (done + 1) shared
-  shared_new unseen = record { same_length = so_far.same_length; twice = twice }
-    where
-      twice : (i j : ℕ) → i < j → j < done + 1 → get_or numbers i 0 ≡ get_or numbers j 0
-          → IsMarked shared (get_or numbers i 0)
-      twice i j below lt same = elim (cases_lt j done) [
-        | inl old ↦ so_far.twice i j below old same
-        | inr new ↦
-            let here : j ≡ done = omega arith in
-            absurd (false≢true (sym unseen ∙ subst (λ n. IsMarked seen n) (same ∙ ap (λ k. get_or numbers k 0) here)
-            (all_seen i (omega arith))))
-      ]
-
-  -- a number that was seen is marked
-  pub shared_again : get_or numbers done 0 < length shared
-      → AreShared numbers (done + 1) (set shared (get_or numbers done 0) true)
-  shared_again in_range = record {
-    same_length = length-set shared (get_or numbers done 0) true ∙ so_far.same_length;
-    twice = twice;
-  }
-    where
-      twice : (i j : ℕ) → i < j → j < done + 1 → get_or numbers i 0 ≡ get_or numbers j 0
-          → IsMarked (set shared (get_or numbers done 0) true) (get_or numbers i 0)
-      twice i j below lt same = elim (cases_lt j done) [
-        | inl old ↦ mark_stays shared (get_or numbers done 0) (get_or numbers i 0) in_range
-            (so_far.twice i j below old same)
-        | inr new ↦
-            let here : j ≡ done = omega arith in
-            subst (IsMarked (set shared (get_or numbers done 0) true))
-            (sym (same ∙ ap (λ k. get_or numbers k 0) here))
-            (get_or-set_same shared (get_or numbers done 0) true false in_range)
-      ]

@@ -16,10 +16,6 @@ pub link_is : (link : Link) (app predecessor : List ℕ) → link.app ≡ app �
 link_is link app predecessor same_app same_predecessor =
     λ i. record { app = same_app i; predecessor = same_predecessor i; within = link.within }
 
--- before the first application
-pub graph_none : (links : List Link) (names : List (List ℕ)) → IsGraphOf links names 0 []
-graph_none links names = record { same_length = refl; edges = λ from to lt. absurd (omega arith) }
-
 -- one more application, with the places of its list
 pub graph_more : (links : List Link) (names : List (List ℕ)) (done : ℕ) (graph : List (List ℕ))
     → IsGraphOf links names done graph → (name : List ℕ) → name ≡ get_or names done [] → (list : List Link)

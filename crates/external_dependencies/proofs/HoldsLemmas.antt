@@ -1,9 +1,8 @@
 -- When the rows handed in have the nearest predecessor that all rows have: where each candidate among all is no later
 -- than some candidate among those handed in.
-use Rattle.std.proofs.Common.{◌≡◌, ◌↔◌, ◌⊎◌, ℕ, ◌≤◌, ◌<◌, List, Option, Some, None, refl, sym, ap, subst, ◌∙◌, inl, inr, arith}
+use Rattle.std.proofs.Common.{◌≡◌, ◌↔◌, ℕ, ◌≤◌, List, Option, Some, None, sym, ap, subst, ◌∙◌, inl, inr, arith}
 use Rattle.std.specs.List.{Contains}
-use Rattle.std.proofs.lemmas.Bool.{cases_lt}
-use Rattle.occurrences.specs.Place.{IsLive, IsOpen}
+use Rattle.occurrences.specs.Place.{IsLive}
 use Rattle.occurrences.specs.declared.key.Key.{Key}
 use Rattle.external_dependencies.specs.declared.live.Arrival.{Arrival}
 use Rattle.external_dependencies.specs.declared.rows.PlacedRow.{PlacedRow}

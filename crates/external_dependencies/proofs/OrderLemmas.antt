@@ -24,9 +24,6 @@ name_ties = slice_cmp-IsAntisymmetric nat_cmp-IsAntisymmetric
 pub less_not_equal : Less ≡ Equal → ⊥
 less_not_equal is = cc
 
-pub less_not_greater : Less ≡ Greater → ⊥
-less_not_greater is = cc
-
 pub equal_not_greater : Equal ≡ Greater → ⊥
 equal_not_greater is = cc
 

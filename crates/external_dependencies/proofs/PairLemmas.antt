@@ -36,10 +36,6 @@ pub pair_is : (pair : Pair) (successor predecessor : ℕ) → successor ≡ pair
 pair_is pair successor predecessor same_successor same_predecessor =
     λ i. record { successor = same_successor i; predecessor = same_predecessor i }
 
--- the live arrivals of the rows so far
-pub live_none : (arrival : Arrival) → Contains [] arrival ↔ IsLiveIn [] arrival
-live_none arrival = ((λ here. absurd (contains_nil arrival here)), λ is. absurd (contains_nil is.0 is.1))
-
 module _ (rows : List PlacedRow) (arrivals : List Arrival)
     (so_far : (arrival : Arrival) → Contains arrivals arrival ↔ IsLiveIn rows arrival) (placed : PlacedRow) where
   pub live_more : IsLive placed.place → (arrival : Arrival)
@@ -79,12 +75,6 @@ module _ (rows : List PlacedRow) (arrivals : List Arrival)
 abbrev pub ArePairs : List Arrival → Row → List Link → List Pair → List Pair → Type 0
 ArePairs live row list old now = (pair : Pair) → Contains now pair ↔ (Contains old pair ⊎ IsPairFrom live row list pair)
 
-pub pairs_none : (live : List Arrival) (row : Row) (old : List Pair) → ArePairs live row [] old old
-pairs_none live row old pair = (
-  (λ here. inl here),
-  λ is. elim is [ inl here ↦ here | inr from ↦ absurd (contains_nil from.link from.listed) ],
-)
-
 module _ (live : List Arrival) (row : Row) (list : List Link) (old now : List Pair)
     (so_far : ArePairs live row list old now) (link : Link) where
   -- a pair by the links so far is one by more links
@@ -103,9 +93,6 @@ module _ (live : List Arrival) (row : Row) (list : List Link) (old now : List Pa
       → ArePairs live row (list ++ link ∷ []) old (now ++ record { successor = row.serial; predecessor = serial } ∷ [])
   pairs_more serial found pair = (forward, backward)
     where
-      new : Pair
-      new = record { successor = row.serial; predecessor = serial }
-
       forward : Contains (now ++ record { successor = row.serial; predecessor = serial } ∷ []) pair
           → Contains old pair ⊎ IsPairFrom live row (list ++ link ∷ []) pair
       forward here = elim (Contains-push_cases now
@@ -185,9 +172,6 @@ module _ (live : List Arrival) (row : Row) (list : List Link) (old now : List Pa
 -- the pairs from scratch of the rows so far, with the live ones of all rows
 abbrev pub AreAllPairs : List PlacedRow → List PlacedRow → List Link → List Pair → Type 0
 AreAllPairs all rows links pairs = (pair : Pair) → Contains pairs pair ↔ IsPairAmong all rows links pair
-
-pub all_none : (all : List PlacedRow) (links : List Link) → AreAllPairs all [] links []
-all_none all links pair = ((λ here. absurd (contains_nil pair here)), λ is. absurd (contains_nil is.placed is.stands))
 
 module _ (all rows : List PlacedRow) (links : List Link) (pairs : List Pair)
     (so_far : AreAllPairs all rows links pairs) (placed : PlacedRow) where

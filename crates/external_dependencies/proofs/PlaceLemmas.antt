@@ -18,14 +18,6 @@ use Rattle.external_dependencies.specs.Rising.{IsRising}
 use Rattle.external_dependencies.specs.Places.{ArePlaces}
 use Rattle.external_dependencies.proofs.OrderLemmas.{equal_not_greater, less_not_equal, rising_once}
 use Rattle.external_dependencies.proofs.OrderLemmas.{rising_searchable, name_ties}
-use Rattle.external_dependencies.proofs.VisitLemmas.{contains_nil}
-
--- before the first link
-pub places_none : (names : List (List ℕ)) → ArePlaces names [] []
-places_none names place = (
-  (λ here. absurd (contains_nil place here)),
-  λ facts. absurd (contains_nil facts.1.0 facts.1.1),
-)
 
 module _ (names : List (List ℕ)) (rising : IsRising (slice_cmp nat_cmp) names) (list : List Link) (found : List ℕ)
     (so_far : ArePlaces names list found) (link : Link) where

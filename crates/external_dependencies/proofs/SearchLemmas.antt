@@ -1,15 +1,14 @@
 -- The steps of a search from a node along the edges of a graph.
-use Rattle.std.proofs.Common.{◌≡◌, ◌≢◌, ℕ, ◌+◌, ◌<◌, ◌≤◌, ◌⊎◌, Bool, false, List, [], ◌∷◌, length, get_or, replicate}
+use Rattle.std.proofs.Common.{◌≡◌, ◌≢◌, ℕ, ◌+◌, ◌<◌, ◌≤◌, ◌⊎◌, Bool, List, [], ◌∷◌, length, get_or}
 use Rattle.std.proofs.Common.{map, refl, sym, ap, subst, ◌∙◌, inl, inr, arith}
 use Rattle.std.specs.List.{All, Contains}
-use Rattle.std.proofs.lemmas.List.{get_or_default, length-replicate, get_or-replicate, get_or_past, get_or-map}
-use Rattle.std.proofs.lemmas.List.Elements.{Contains-push_cases, Contains-get_or}
-use Rattle.std.proofs.lemmas.Bool.{cases_lt, cases_order, false≢true}
+use Rattle.std.proofs.lemmas.List.{get_or_default, get_or-map}
+use Rattle.std.proofs.lemmas.List.Elements.{Contains-get_or}
+use Rattle.std.proofs.lemmas.Bool.{cases_order}
 use Rattle.std.specs.Prelude.{Vec}
 use Rattle.std.specs.declared.alloc.Global.{Global}
 use Rattle.external_dependencies.specs.Walk.{items_of, IsGraph, Edge, Step, IsWalk, Reaches, ReturnsTo}
 use Rattle.external_dependencies.specs.Search.{IsReached, Visits}
-use Rattle.external_dependencies.proofs.VisitLemmas.{contains_nil}
 use Rattle.external_dependencies.proofs.WalkLemmas.{reaches-trans}
 
 -- a search that has visited the first `done` nodes of its order
@@ -24,36 +23,6 @@ pub record IsSearch (g : List (List ℕ)) (start : ℕ) (reached : List Bool) (o
   pub listed : (w : ℕ) → IsReached reached w → Contains order w
   pub closed : (j : ℕ) → j < done → (w : ℕ) → Edge g (get_or order j 0) w → get_or order j 0 ≢ w
       → IsReached reached w
-
--- nothing is marked at first
-nothing_reached : (n w : ℕ) → IsReached (replicate n false) w → ⊥
-nothing_reached n w marked = elim (cases_lt w n) [
-  | inl in_range ↦ false≢true (sym (get_or-replicate n w false false in_range) ∙ marked)
-  | inr past ↦ false≢true (sym (get_or_past (replicate n false) w false (omega (arith, length-replicate n false)))
-      ∙ marked)
-]
-
--- the only element of a list of one
-contains_one : (x w : ℕ) → Contains (x ∷ []) w → w ≡ x
-contains_one x w here = elim (Contains-push_cases [] x w here) [
-  | inl none ↦ absurd (contains_nil w none)
-  | inr same ↦ sym same
-]
-
--- a search as it begins
-pub search_begun : (g : List (List ℕ)) (start : ℕ) → start < length g
-    → IsSearch g start (replicate (length g) false) (start ∷ []) 0
-search_begun g start in_range = record {
-  same_length = length-replicate (length g) false;
-  begun = omega arith;
-  at_start = refl;
-  within = omega arith;
-  in_range = λ w here. subst (λ n. n < length g) (sym (contains_one start w here)) in_range;
-  known = λ w here. inl (contains_one start w here);
-  walked = λ w marked. absurd (nothing_reached (length g) w marked);
-  listed = λ w marked. absurd (nothing_reached (length g) w marked);
-  closed = λ j lt. absurd (omega arith);
-}
 
 module _ (g : List (List ℕ)) (start : ℕ) (reached : List Bool) (order : List ℕ) (done : ℕ)
     (search : IsSearch g start reached order done) where

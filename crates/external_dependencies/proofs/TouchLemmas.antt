@@ -1,10 +1,8 @@
 -- What touches all that a change does, by rows alone; and the changes of one row, which comes, or goes, or changes its
 -- place and lives on.
-use Rattle.std.proofs.Common.{◌≡◌, ◌≢◌, ◌↔◌, ◌⊎◌, ℕ, ◌≤◌, List, Option, Some, None, refl, sym, ap, subst, ◌∙◌, inl, inr, arith}
+use Rattle.std.proofs.Common.{◌≡◌, ◌≢◌, ◌↔◌, ◌⊎◌, ℕ, ◌≤◌, List, Option, None, refl, sym, ap, subst, ◌∙◌, inl, inr, arith}
 use Rattle.std.specs.List.{Contains}
-use Rattle.std.proofs.lemmas.Bool.{cases_eq}
 use Rattle.occurrences.specs.Place.{IsLive, IsOpen}
-use Rattle.occurrences.specs.declared.key.Key.{Key}
 use Rattle.occurrences.specs.declared.row.Row.{Row}
 use Rattle.external_dependencies.specs.declared.links.Link.{Link}
 use Rattle.external_dependencies.specs.declared.live.Arrival.{Arrival}
@@ -158,76 +156,6 @@ pub record IsReplaced (was : List PlacedRow) (old new : PlacedRow) (now : List P
   pub lived : IsLive old.place
   pub lives : IsLive new.place
 
-pub row_moves : (touch : Touch) (links : List Link) (was now : List PlacedRow) (old new : PlacedRow)
-    → IsReplaced was old new now → ((n : ℕ) → Contains touch.withdrawn.items n → ⊥)
-    → (IsOpen new.place → IsOpen old.place ⊎ IsAnew touch new.row.serial)
-    → (IsOpen old.place → IsOpen new.place ⊎ Contains touch.closed.items new.row.serial)
-    → Touches touch was now links links
-row_moves touch links was now old new is none_withdrawn opens closes = touches_of_rows touch was now links links (record {
-  once_before = is.once;
-  once_after = once_after;
-  lives_on = λ p there live. inl (on p there live (cases_eq p.row.serial old.row.serial));
-  lived = λ q there live. inl (before q live ((is.exactly q).0 there));
-  withdrawn = λ q there live gone. none_withdrawn q.row.serial gone;
-  opened = λ q there is_open. is_opened q is_open ((is.exactly q).0 there);
-  closed = λ p there is_open. is_closed p there is_open (cases_eq p.row.serial old.row.serial);
-  lists = λ app. inl (same_links links app);
-})
-  where
-    serial : new.row.serial ≡ old.row.serial
-    serial = ap (λ (r : Row). r.serial) is.same
-
-    key : new.row.key ≡ old.row.key
-    key = ap (λ (r : Row). r.key) is.same
-
-    once_after : IsOnce now
-    once_after p q p_in q_in same = either ((is.exactly p).0 p_in) ((is.exactly q).0 q_in)
-      where
-        either : (Contains was p × (p.row.serial ≢ old.row.serial)) ⊎ (new ≡ p)
-            → (Contains was q × (q.row.serial ≢ old.row.serial)) ⊎ (new ≡ q) → p ≡ q
-        either (inl p_old) (inl q_old) = is.once p q p_old.0 q_old.0 same
-        either (inl p_old) (inr q_new) =
-            absurd (p_old.1 (same ∙ ap (λ (r : PlacedRow). r.row.serial) (sym q_new) ∙ serial))
-        either (inr p_new) (inl q_old) =
-            absurd (q_old.1 (sym same ∙ ap (λ (r : PlacedRow). r.row.serial) (sym p_new) ∙ serial))
-        either (inr p_new) (inr q_new) = sym p_new ∙ q_new
-
-    on : (p : PlacedRow) → Contains was p → IsLive p.place
-        → (p.row.serial ≡ old.row.serial) ⊎ (p.row.serial ≡ old.row.serial → ⊥) → LivesIn now p.row
-    on p there live (inr apart) = lives_itself now p ((is.exactly p).1 (inl (there, apart))) live
-    on p there live (inl same) =
-        let one : p ≡ old = is.once p old there is.stood same in
-        subst (λ (r : PlacedRow). LivesIn now r.row) (sym one)
-        (new, (is.exactly new).1 (inr refl), is.lives, serial, key)
-
-    before : (q : PlacedRow) → IsLive q.place → (Contains was q × (q.row.serial ≢ old.row.serial)) ⊎ (new ≡ q)
-        → LivesIn was q.row
-    before q live (inl stood) = lives_itself was q stood.0 live
-    before q live (inr here) = subst (λ (r : PlacedRow). LivesIn was r.row) here
-        (old, is.stood, is.lived, sym serial, sym key)
-
-    is_opened : (q : PlacedRow) → IsOpen q.place → (Contains was q × (q.row.serial ≢ old.row.serial)) ⊎ (new ≡ q)
-        → IsOpenIn was q.row ⊎ IsAnew touch q.row.serial
-    is_opened q is_open (inl stood) = inl (open_itself was q stood.0 is_open)
-    is_opened q is_open (inr here) = subst (λ (r : PlacedRow). IsOpenIn was r.row ⊎ IsAnew touch r.row.serial) here
-        (elim (opens (subst (λ (r : PlacedRow). IsOpen r.place) (sym here) is_open)) [
-          | inl was_so ↦ inl (old, is.stood, was_so, sym serial, sym key)
-          | inr anew ↦ inr anew
-        ])
-
-    is_closed : (p : PlacedRow) → Contains was p → IsOpen p.place
-        → (p.row.serial ≡ old.row.serial) ⊎ (p.row.serial ≡ old.row.serial → ⊥)
-        → IsOpenIn now p.row
-        ⊎ (Contains touch.withdrawn.items p.row.serial ⊎ Contains touch.closed.items p.row.serial)
-    is_closed p there is_open (inr apart) = inl (open_itself now p ((is.exactly p).1 (inl (there, apart))) is_open)
-    is_closed p there is_open (inl same) =
-        let one : p ≡ old = is.once p old there is.stood same in
-        elim (closes (subst (λ (r : PlacedRow). IsOpen r.place) one is_open)) [
-          | inl is_so ↦ inl (subst (λ (r : PlacedRow). IsOpenIn now r.row) (sym one)
-              (new, (is.exactly new).1 (inr refl), is_so, serial, key))
-          | inr named ↦ inr (inr (subst (Contains touch.closed.items) (serial ∙ sym same) named))
-        ]
-
 -- many rows come: a planning statement that withdraws nothing
 pub record IsWithAll (rows made more : List PlacedRow) : Type 0 where
   pub exactly : (q : PlacedRow) → Contains more q ↔ (Contains rows q ⊎ Contains made q)
@@ -240,40 +168,3 @@ pub record IsAhead (stretches : List Stretch) (row : Row) : Type 0 where
   pub of_app : stretch.app ≡ row.key.app
   pub begun : stretch.first ≤ row.key.ia
   pub endless : stretch.last ≡ None
-
-pub rows_come : (touch : Touch) (was_links links : List Link) (rows made more : List PlacedRow)
-    → IsWithAll rows made more → ((n : ℕ) → Contains touch.withdrawn.items n → ⊥)
-    → ((q : PlacedRow) → Contains made q → IsAnew touch q.row.serial × IsAhead touch.stretches.items q.row)
-    → ((app : List ℕ) → HasSameList was_links links app ⊎ Contains touch.lists.items app)
-    → Touches touch rows more was_links links
-rows_come touch was_links links rows made more is none_withdrawn named lists = touches_of_rows touch rows more was_links links
-    (record {
-      once_before = λ p q p_in q_in same. is.once p q (old p p_in) (old q q_in) same;
-      once_after = is.once;
-      lives_on = λ p there live. inl (lives_itself more p (old p there) live);
-      lived = λ q there live. elim ((is.exactly q).0 there) [
-        | inl stood ↦ inl (lives_itself rows q stood live)
-        | inr new ↦ inr (marked q new)
-      ];
-      withdrawn = λ q there live gone. none_withdrawn q.row.serial gone;
-      closed = λ p there is_open. inl (open_itself more p (old p there) is_open);
-      opened = λ q there is_open. elim ((is.exactly q).0 there) [
-        | inl stood ↦ inl (open_itself rows q stood is_open)
-        | inr new ↦ inr (named q new).0
-      ];
-      lists = lists;
-    })
-  where
-    old : (p : PlacedRow) → Contains rows p → Contains more p
-    old p there = (is.exactly p).1 (inl there)
-
-    marked : (q : PlacedRow) → Contains made q → IsMarked touch.stretches.items rows more (arrival_of q.row)
-    marked q new =
-        let ahead = (named q new).1 in
-        record {
-          stretch = ahead.stretch;
-          listed = ahead.listed;
-          of_app = ahead.of_app;
-          begun = ahead.begun;
-          border = subst (IsBorder rows more (arrival_of q.row)) (sym ahead.endless) tt;
-        }

@@ -1,7 +1,7 @@
 -- The pairs of an open occurrence that a change doesn't reach are those that it had.
-use Rattle.std.proofs.Common.{◌≡◌, ◌↔◌, ◌⊎◌, ℕ, List, Option, Some, None, refl, sym, ap, subst, ◌∙◌, inl, inr, arith}
+use Rattle.std.proofs.Common.{◌≡◌, ◌↔◌, ◌⊎◌, ℕ, List, Option, Some, None, refl, sym, ap, subst, ◌∙◌, inl, inr}
 use Rattle.std.specs.List.{Contains}
-use Rattle.occurrences.specs.Place.{IsLive, IsOpen}
+use Rattle.occurrences.specs.Place.{IsOpen}
 use Rattle.occurrences.specs.declared.key.Key.{Key}
 use Rattle.external_dependencies.specs.declared.links.Link.{Link}
 use Rattle.external_dependencies.specs.declared.live.Arrival.{Arrival}
@@ -9,10 +9,9 @@ use Rattle.external_dependencies.specs.declared.pairs.Pair.{Pair}
 use Rattle.external_dependencies.specs.declared.rows.PlacedRow.{PlacedRow}
 use Rattle.external_dependencies.specs.Link.{Lists, ListsWithin}
 use Rattle.external_dependencies.specs.Nearest.{IsLiveIn, IsNearest}
-use Rattle.external_dependencies.specs.Pair.{IsPairOf}
 use Rattle.external_dependencies.specs.declared.touch.Stretch.{Stretch}
 use Rattle.external_dependencies.specs.declared.touch.Touch.{Touch}
-use Rattle.external_dependencies.specs.Settled.{AreSettled, IsKeptIn, IsSettledPair}
+use Rattle.external_dependencies.specs.Settled.{AreSettled, IsSettledPair}
 use Rattle.external_dependencies.specs.Touch.{Covers, HasSameList, IsBorder, IsMarked, IsOpenIn, MayReach, Touches}
 use Rattle.external_dependencies.proofs.StayLemmas.{nearest_stays}
 

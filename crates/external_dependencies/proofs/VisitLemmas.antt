@@ -1,6 +1,6 @@
 -- The steps of a visit to a node.
 use Rattle.std.proofs.Common.{◌≡◌, ◌≢◌, ℕ, ◌+◌, ◌<◌, ◌⊎◌, Bool, true, false, not, cond, List, [], ◌∷◌, ◌++◌, length}
-use Rattle.std.proofs.Common.{get_or, set, refl, sym, subst, ◌∙◌, inl, inr, arith, length-set, length-append}
+use Rattle.std.proofs.Common.{get_or, set, sym, subst, ◌∙◌, inl, inr, arith, length-set, length-append}
 use Rattle.std.specs.List.{Contains}
 use Rattle.std.proofs.lemmas.List.{get_or-set_same, get_or-set_other, get_or_append_left}
 use Rattle.std.proofs.lemmas.List.Elements.{Contains-push_cases, Contains-push, Contains-append_left}
@@ -11,22 +11,6 @@ use Rattle.external_dependencies.specs.Search.{IsReached, unreached, Visits}
 -- nothing lies in an empty list
 pub contains_nil : {X : Type 0} (x : X) → Contains [] x → ⊥
 contains_nil x (k, lt, at) = absurd (omega arith)
-
--- before the first target
-pub visits_none : (node start : ℕ) (reached : List Bool) (order : List ℕ)
-    → Visits [] node start reached order reached order
-visits_none node start reached order = record {
-  same_length = refl;
-  longer = omega arith;
-  same_front = λ j lt. refl;
-  all_reached = λ w here other. absurd (contains_nil w here);
-  grows = λ w marked. marked;
-  are_targets = λ w marked. inl marked;
-  are_listed = λ w marked. inl marked;
-  are_reached = λ w here. inl here;
-  listed_grows = λ w here. here;
-  work_left = refl;
-}
 
 module _ (targets : List ℕ) (node start : ℕ) (reached : List Bool) (order : List ℕ) (reached' : List Bool)
     (order' : List ℕ) (so_far : Visits targets node start reached order reached' order') (next : ℕ) where

@@ -1,6 +1,6 @@
 -- Walks, one after another, and what a walk cannot leave.
 use Rattle.std.proofs.Common.{◌≢◌, List, [], ◌∷◌, ◌++◌}
-use Rattle.external_dependencies.specs.Walk.{Step, IsWalk, Reaches}
+use Rattle.external_dependencies.specs.Walk.{IsWalk, Reaches}
 
 module _ {V : Type 0} (E : V → V → Type 0) where
   -- a walk goes on where another ends
@@ -15,9 +15,3 @@ module _ {V : Type 0} (E : V → V → Type 0) where
   -- one step reaches
   pub reaches-step : (u v : V) → E u v → u ≢ v → Reaches E u v
   reaches-step u v edge differ = ([], (edge, differ))
-
-  -- what each step keeps, a walk keeps
-  pub walk-keeps : (P : V → Type 0) → ((u v : V) → P u → Step E u v → P v) → (u v : V) (xs : List V) → P u
-      → IsWalk E u xs v → P v
-  walk-keeps P keeps u v [] here walk = keeps u v here walk
-  walk-keeps P keeps u v (x ∷ xs) here walk = walk-keeps P keeps x v xs (keeps u x here walk.0) walk.1

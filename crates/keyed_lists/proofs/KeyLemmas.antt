@@ -60,15 +60,6 @@ module _ {X : Type 0} where
         ]
       ] refl
 
-  pub is_none : (xs : List X) → length xs ≡ 0 → xs ≡ []
-  is_none [] e = refl
-  is_none (x ∷ xs) e = absurd (omega arith)
-
-  pub is_one : (xs : List X) (x : X) → length xs ≡ 1 → x ≡ get_or xs 0 x → xs ≡ x ∷ []
-  is_one [] x e at = absurd (omega arith)
-  is_one (y ∷ []) x e at = ap (λ z. z ∷ []) (sym at)
-  is_one (y ∷ z ∷ xs) x e at = absurd (omega arith)
-
 or_true : (b : Bool) → (b || true) ≡ true
 or_true true = refl
 or_true false = refl
@@ -103,9 +94,6 @@ module _ {X K : Type 0} {cmp : K → K → Ordering} (total : IsTotalOrder cmp) 
       | Equal ↦ λ is. absurd (false≢true is)
       | Greater ↦ λ is. absurd (false≢true is)
     ] is
-
-    pub reversed : (a b : K) → cmp a b ≡ Greater → cmp b a ≡ Less
-    reversed a b is = total.antisymm b a ∙ ap ordering_reverse is
 
     -- a list in the order of keys serves a search
     pub searchable : (xs : List X) → IsKeyed cmp key xs → (k : K)

@@ -1,5 +1,5 @@
 -- Creation of the long-term plan is what the machine decides.
-use Rattle.std.proofs.Common.{◌≡◌, ◌≢◌, ℕ, ◌<◌, ◌≤◌, List, length, refl, sym, subst, inl, inr, arith, None, Some}
+use Rattle.std.proofs.Common.{◌≡◌, ℕ, ◌<◌, ◌≤◌, List, length, refl, sym, subst, inl, inr, arith, None, Some}
 use Rattle.std.proofs.lemmas.Bool.{cases_lt}
 use Rattle.app_occurrences.specs.Active.{HasNoCalendar, HasNoPeriod}
 use Rattle.occurrences.specs.Refusal.{refusal_number}
@@ -48,13 +48,6 @@ module _ (from to : ℕ) (c : Content) where
       elim (cases_lt 25 n) [ inl lt ↦ absurd (p25 lt app is) | inr ge ↦ ge ]
   from_number n le p21 p22 p23 p24 p25 TooManyRows is = le
   from_number n le p21 p22 p23 p24 p25 _ is = absurd is
-
-  pub plan_exists : c.sets.bounds ≢ None → IsLeastRefusal Holds PlanExists
-  plan_exists some = (
-    some,
-    from_number 21 (omega arith) (λ lt. absurd (omega (arith, lt))) (λ lt. absurd (omega (arith, lt)))
-        (λ lt. absurd (omega (arith, lt))) (λ lt. absurd (omega (arith, lt))) (λ lt. absurd (omega (arith, lt))),
-  )
 
   module _ (unplanned : c.sets.bounds ≡ None) where
     pub lacks : (refusal : Refusal) → LacksDefinition c.definitions (Some refusal) → IsLeastRefusal Holds refusal

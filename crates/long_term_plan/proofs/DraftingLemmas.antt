@@ -292,14 +292,6 @@ new_key s key row planned absent deleted tested = (forward deleted tested, backw
         absurd (is.not_deleted serial deletion stands operator same)
     backward false tested is = refl
 
-pub old_key : (s : Sets) (key : Key) (row : Option Row) → IsPlannedRow s key row → row ≢ None
-    → IsTrue false ↔ IsNewKey s key
-old_key s key None planned stands = absurd (stands refl)
-old_key s key (Some row) planned stands = (
-  (λ no. absurd (false≢true no)),
-  λ is. absurd (is.not_planned row.serial row planned.0 planned.1),
-)
-
 -- of named drafts those of new keys are made
 pub new_are : (Names : Draft → Type 0) (s : Sets) (named new : List Draft) → AreDrafts Names named
     → AreNew s named new → AreDrafts (IsMade Names s) new

@@ -51,13 +51,6 @@ module _ (app : List ℕ) (c : Content) where
   from_number n le p20 p22 p23 p25 p26 TooManyRows is = le
   from_number n le p20 p22 p23 p25 p26 _ is = absurd is
 
-  pub no_plan : c.sets.bounds ≡ None → IsLeastRefusal Holds NoPlan
-  no_plan none = (
-    none,
-    from_number 20 (omega arith) (λ lt. absurd (omega (arith, lt))) (λ lt. absurd (omega (arith, lt)))
-        (λ lt. absurd (omega (arith, lt))) (λ lt. absurd (omega (arith, lt))) (λ lt. absurd (omega (arith, lt))),
-  )
-
   module _ (b : Bounds) (planned : c.sets.bounds ≡ Some b) where
     some : c.sets.bounds ≢ None
     some none = let no : Some b ≡ None = sym planned ∙ none in cc

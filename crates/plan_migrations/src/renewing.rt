@@ -73,6 +73,7 @@ fn renew_first<S: Alter>(alloc: Global, conn: &mut Connection<S>) -> Result<(), 
     ensures crash { Survives (state S.Store conn.old) (state S.Store conn.new)
         (MayRenew (state S.Store conn.old)) }
 {
+    // its clause says that an open connection has a database
     let _ = conn.schema();
     match read_tables(alloc, conn, &TABLES) {
         Ok(reads) => remake(alloc, conn, &reads),

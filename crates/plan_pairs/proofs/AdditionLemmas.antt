@@ -5,7 +5,6 @@ use Rattle.std.specs.Prelude.{nat_eq, unwrap_or, Ok, Err, if◌then◌else◌}
 use Rattle.std.specs.List.{Contains}
 use Rattle.std.proofs.lemmas.Bool.{cases_eq, cases_lt, eqb-true, eqb-false}
 use Rattle.std.proofs.lemmas.List.Elements.{Contains-append_left, Contains-push, Contains-push_cases}
-use Rattle.work_calendars.specs.Day.{last_day}
 use Rattle.work_calendars.specs.Minute.{minutes_per_day}
 use Rattle.work_calendars.specs.Moment.{day_of_moment, minute_of_moment, moment_of}
 use Rattle.occurrences.specs.Place.{IsLive}
@@ -34,7 +33,7 @@ use Rattle.planner_machine.specs.Moves.{bit, numbered_row, or_else, size, with_m
 use Rattle.planner_machine.specs.Pairs.{ArePairs}
 use Rattle.planner_machine.specs.Plans.{ChangesPlans, HoldTooMany, IsPlannedApp, planned}
 use Rattle.planner_machine.specs.Sound.{IsSound}
-use Rattle.planner_machine.proofs.AddLemmas.{add_sound, not_outside}
+use Rattle.planner_machine.proofs.AddLemmas.{add_sound}
 use Rattle.planner_machine.proofs.MadeLemmas.{made_follows}
 use Rattle.planner_machine.specs.RowsSound.{RowsSound}
 use Rattle.planner_machine.proofs.SeatLemmas.{cases_issued, one_place}
@@ -208,20 +207,9 @@ module _ (c : Content) (sound : IsSound c) (plan : Plan) (key : Key) where
   at_least n none out inactive live most TooManyRows q = most
   at_least n none out inactive live most _ q = absurd q
 
-  pub new_no_plan : c.sets.bounds ≡ None → IsNewRow c plan key (Err NoPlan)
-  new_no_plan none =
-      (none, at_least 20 (λ _. omega arith) (λ _ _ _. omega arith) (λ _. omega arith) (λ _. omega arith) (omega arith))
-
   module _ (b : Bounds) (bounded : c.sets.bounds ≡ Some b) where
     planned_already : {n : ℕ} → c.sets.bounds ≡ None → n ≤ 20
     planned_already none = let no : None ≡ Some b = sym none ∙ bounded in absurd cc
-
-    pub new_outside : IsOutside b key.ia (place_in plan) → IsNewRow c plan key (Err DatesOutOfRange)
-    new_outside out = (
-      (b, bounded, out),
-      at_least 24 planned_already (λ _ _ _. omega arith) (λ _. omega arith) (λ _. omega arith)
-          (omega arith),
-    )
 
     module _ (inside : IsOutside b key.ia (place_in plan) → ⊥) where
       inside_already : {n : ℕ} → (b' : Bounds) → c.sets.bounds ≡ Some b' → IsOutside b' key.ia (place_in plan) → n ≤ 24
@@ -230,32 +218,7 @@ module _ (c : Content) (sound : IsSound c) (plan : Plan) (key : Key) where
           let one : b' ≡ b = cc in
           absurd (inside (subst (λ (x : Bounds). IsOutside x key.ia (place_in plan)) one out))
 
-      -- the day after the arrival is one that calendars know
-      pub due_in_range : day_of_moment key.ia < last_day
-      due_in_range = by_plan plan inside
-        where
-          by_plan : (plan' : Plan) → (IsOutside b key.ia (place_in plan') → ⊥) → day_of_moment key.ia < last_day
-          by_plan LongTerm within =
-              let arrives = not_outside b key.ia InLongTerm within in
-              let are = sound.bounds.after b bounded in
-              omega (arith, arrives.1, are.last)
-          by_plan Current within =
-              let arrives = not_outside b key.ia (InCurrent W) within in
-              let are = sound.bounds.after b bounded in
-              omega (arith, arrives.1, are.last, are.ended)
-
-      pub new_inactive : (IsPlannedApp c.definitions key.app → ⊥) → IsNewRow c plan key (Err NoActiveApplication)
-      new_inactive inactive =
-          (inactive, at_least 26 planned_already inside_already (λ _. omega arith) (λ _. omega arith) (omega arith))
-
       module _ (active : IsPlannedApp c.definitions key.app) where
-        pub new_live : IsLiveKey c.sets key → IsNewRow c plan key (Err KeyIsLive)
-        new_live live = (
-          live,
-          at_least 27 planned_already inside_already (λ no. absurd (no active)) (λ _. omega arith)
-              (omega arith),
-        )
-
         module _ (free : IsLiveKey c.sets key → ⊥) where
           more : planned (with_made (place_in plan) (added key ∷ []) c.sets) ≡ planned c.sets + 1
           more = one_more (place_in plan) key c.sets (rows_sound c sound) b bounded inside free

@@ -6,7 +6,7 @@ use Rattle.occurrences.specs.declared.place.Place.{Place}
 use Rattle.occurrences.specs.declared.place.Place.TheVariants.{LongTerm, Current, History, Deleted}
 use Rattle.occurrences.specs.declared.row.Row.{Row}
 use Rattle.external_dependencies.specs.Touch.{IsWithin}
-use Rattle.planner_machine.specs.Content.{Content, Seat, Sets, alone, seat}
+use Rattle.planner_machine.specs.Content.{Seat, Sets, alone, seat}
 use Rattle.plan_store.specs.Asked.{AsksKey, IsOpenRow, IsPlannedAt, IsReachedBy}
 use Rattle.plan_store.specs.Spans.{IsNextPlanned}
 use Rattle.plan_store.specs.Views.{Hidden, Sees, ShowsLast, ShowsNearest, with_hidden}
@@ -30,9 +30,6 @@ upto_next s app moment None none ia within other at later = absurd (none other a
 upto_next s app moment (Some next) is ia within other at later = let le = is.2 other at later in omega (arith, within, le)
 
 module _ (h : Hidden) (view : View) (key : Key) (sees : Sees (AsksKey (with_hidden h view) key) h view) where
-  abbrev c : Content
-  c = with_hidden h view
-
   pub shows_own : ShowsLast h view key.app (key.ia + 1)
   shows_own = sees.lasts.lasts key.app (key.ia + 1) (inl (refl, inr refl))
 

@@ -1,5 +1,5 @@
 -- Pairs of what stands in the two plans, one list of rows after another.
-use Rattle.std.proofs.Common.{◌≡◌, ◌↔◌, ◌⊎◌, ◌||◌, ℕ, Bool, true, false, List, [], ◌∷◌, ◌++◌, refl, sym, ap, subst, ◌∙◌, inl, inr}
+use Rattle.std.proofs.Common.{◌≡◌, ◌↔◌, ◌⊎◌, ◌||◌, ℕ, true, false, List, [], ◌∷◌, ◌++◌, refl, sym, ap, subst, ◌∙◌, inl, inr}
 use Rattle.std.proofs.Common.{Option, Some, None}
 use Rattle.std.specs.Prelude.{is_some}
 use Rattle.std.specs.List.{Contains}
@@ -95,18 +95,6 @@ module _ (view : View) where
 
   cp_serial : (n : ℕ) (current : CurrentRow) → (shown view).sets.cp n ≡ Some current → current.row.serial ≡ n
   cp_serial n current is = (look_some current_serial _ n current is).1
-
-  pub ltp_planned : (row : Row) → (shown view).sets.ltp row.serial ≡ Some row
-      → is_planned (shown view).sets.ltp (shown view).sets.cp row.serial ≡ true
-  ltp_planned row is = rw is refl
-
-  pub cp_planned : (current : CurrentRow) → (shown view).sets.cp current.row.serial ≡ Some current
-      → is_planned (shown view).sets.ltp (shown view).sets.cp current.row.serial ≡ true
-  cp_planned current is = rw is (or_true (is_some ((shown view).sets.ltp current.row.serial)))
-    where
-      or_true : (b : Bool) → (b || true) ≡ true
-      or_true true = refl
-      or_true false = refl
 
   -- the serial of a pair that is shown is that of a row of one of the plans
   pub planned_row : (ltp : List Row) → ListsSet of_row (shown view).sets.ltp IsAny ltp → (cp : List CurrentRow)

@@ -70,9 +70,6 @@ module _ (s : Sets) (row : Row) where
         → ArePairsBy s row (list ++ link ∷ []) (now ++ (record { successor = row.serial; predecessor = serial }) ∷ [])
     by_more serial (near, nearest, same) pair = (forward, backward)
       where
-        new : Pair
-        new = record { successor = row.serial; predecessor = serial }
-
         forward : Contains (now ++ (record { successor = row.serial; predecessor = serial }) ∷ []) pair
             → IsPairBy s row (list ++ link ∷ []) pair
         forward there =

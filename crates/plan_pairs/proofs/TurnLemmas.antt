@@ -140,9 +140,6 @@ module _ (rows stay gone made : List Row) (plan : ArePlanned rows stay gone made
   now_stays : (row : Row) → Contains stay row → Contains now (planned_at row)
   now_stays row there = (are (planned_at row)).1 (inl (Contains-append_left stay made row there, refl))
 
-  now_made : (row : Row) → Contains made row → Contains now (planned_at row)
-  now_made row there = (are (planned_at row)).1 (inl (Contains-append_right stay made row there, refl))
-
   lives_now : (row : Row) → HasItself stay row → LivesIn now row
   lives_now row (x, there, serial, key) = (planned_at x, now_stays x there, tt, serial, key)
 

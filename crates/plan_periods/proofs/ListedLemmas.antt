@@ -61,23 +61,6 @@ pub some_day : (made : Option ℕ) (number : ℕ) → IsSome made ↔
 some_day None number valid value in_range = absurd (false≢true (valid.1 in_range))
 some_day (Some day) number valid value in_range = ap Some value
 
--- ---- the search
-
--- an interval that doesn't meet the range is passed over
-pub met_skip : (entries : List Entry) (from to place : ℕ) (x : Interval) →
-    listed (drop place entries) ≡ x ∷ listed (drop (place + 1) entries)
-    → meets_range from to x ≡ false → met_from entries from to place ≡ met_from entries from to (place + 1)
-met_skip entries from to place x is missed =
-    ap (filter (meets_range from to)) is ∙ ap (λ b. cond b (x ∷ met_from entries from to (place + 1))
-    (met_from entries from to (place + 1))) missed
-
-pub met_take : (entries : List Entry) (from to place : ℕ) (x : Interval) →
-    listed (drop place entries) ≡ x ∷ listed (drop (place + 1) entries)
-    → meets_range from to x ≡ true → met_from entries from to place ≡ x ∷ met_from entries from to (place + 1)
-met_take entries from to place x is met =
-    ap (filter (meets_range from to)) is ∙ ap (λ b. cond b (x ∷ met_from entries from to (place + 1))
-    (met_from entries from to (place + 1))) met
-
 -- ---- elements, by recursion
 
 abbrev Is : Interval → List Interval → Type 0

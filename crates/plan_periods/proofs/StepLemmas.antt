@@ -1,5 +1,5 @@
 -- Intervals of days: which places meet a range, and that the list of steps between two places has just those intervals.
-use Rattle.std.proofs.Common.{◌≡◌, ℕ, zero, suc, ◌+◌, ◌-◌, ◌*◌, ◌/◌, ◌<◌, ◌≤◌, min, max, Some, Option, [], ◌∷◌}
+use Rattle.std.proofs.Common.{◌≡◌, ℕ, zero, suc, ◌+◌, ◌-◌, ◌*◌, ◌/◌, ◌<◌, ◌≤◌, min, max, Some, Option, ◌∷◌}
 use Rattle.std.proofs.Common.{length, get_or, IfSome, refl, sym, ◌∙◌, ap, subst, arith}
 use Rattle.std.proofs.Math.Nat.{div-mul-le_self, lt-div-mul-add, mul-le-mul_right, lt_of_mul-lt-mul_right}
 use Rattle.std.proofs.lemmas.Nat.{div_below, le-div}
@@ -91,9 +91,6 @@ stepped_next origin n next end h =
     let first : origin + next * n + n ≡ origin + (next + 1) * n = omega arith in
     ap (λ k. stepped (origin + next * n) n k) count ∙ ap (λ day.
     step (origin + next * n) n ∷ stepped day n (end - (next + 1))) first
-
-pub stepped_end : (first n next end : ℕ) → end ≤ next → stepped first n (end - next) ≡ []
-stepped_end first n next end h = let none : end - next ≡ 0 = omega arith in ap (λ k. stepped first n k) none
 
 step_is_listed : (origin n from to start i : ℕ) → 1 ≤ n → MeetsAt origin n from to (start + i)
     → let x = step (origin + start * n + i * n) n in IsInterval (AllDays origin n) x.first x.last ×

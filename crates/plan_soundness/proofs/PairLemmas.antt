@@ -1,5 +1,5 @@
 -- The rules of pairs, over a table of rows by serials.
-use Rattle.std.proofs.Common.{◌≡◌, ℕ, zero, suc, ◌-◌, ◌≤◌, List, get_or, refl, sym, ap, subst}
+use Rattle.std.proofs.Common.{◌≡◌, ℕ, zero, suc, ◌-◌, List, get_or, refl, sym, subst}
 use Rattle.std.proofs.Common.{inl, arith, Option, None, Some}
 use Rattle.std.specs.List.{All, Contains}
 use Rattle.std.proofs.lemmas.List.Elements.{All-contains, All-contains_itself, All-weaker}
@@ -26,10 +26,6 @@ use Rattle.plan_soundness.specs.Listing.{placed_list}
 use Rattle.plan_soundness.specs.Pairs.{FitsAt, FitsRows, IsClosedPlace, at_serial}
 use Rattle.plan_soundness.specs.Seats.{IsTable}
 use Rattle.plan_soundness.proofs.NumberedLemmas.{HasRows, listed_stands, stands_listed}
-
-pub at_serial_is : (table : List (Option PlacedRow)) (n : ℕ) → 1 ≤ n → at_serial table n ≡ get_or table (n - 1) None
-at_serial_is table zero low = absurd (omega (arith, low))
-at_serial_is table (suc k) low = let same : k ≡ suc k - 1 = omega arith in ap (λ n. get_or table n None) same
 
 none_some : {X : Type 0} (o : Option X) (x : X) → o ≡ None → o ≡ Some x → ⊥
 none_some o x a b = cc

@@ -1,11 +1,11 @@
 -- A table of rows by their serials, filled row by row.
 use Rattle.std.proofs.Common.{◌≡◌, ◌≢◌, ℕ, zero, suc, ◌+◌, ◌-◌, ◌<◌, ◌≤◌, Bool, true, false, List, [], ◌∷◌, ◌++◌}
-use Rattle.std.proofs.Common.{length, get_or, set, replicate, take, refl, sym, subst, ◌∙◌, inl, inr, arith}
+use Rattle.std.proofs.Common.{length, get_or, set, take, refl, sym, subst, ◌∙◌, inl, inr, arith}
 use Rattle.std.proofs.Common.{Option, None, Some}
 use Rattle.std.specs.Prelude.{MatchBool}
 use Rattle.std.specs.List.{Contains}
 use Rattle.std.proofs.lemmas.Bool.{cases_eq}
-use Rattle.std.proofs.lemmas.List.{get_or_default, get_or-set_other, get_or-set_same, length-set, length-replicate}
+use Rattle.std.proofs.lemmas.List.{get_or_default, get_or-set_other, get_or-set_same, length-set}
 use Rattle.std.proofs.lemmas.List.Elements.{Contains-append_left, Contains-push, Contains-push_cases}
 use Rattle.external_dependencies.specs.declared.rows.PlacedRow.{PlacedRow}
 use Rattle.plan_soundness.specs.Seats.{AreSeated, IsTable, Puts}
@@ -20,21 +20,6 @@ pub record IsTableSoFar (issued : ℕ) (seen : List PlacedRow) (table : List (Op
 
 none_some : {X : Type 0} (o : Option X) (x : X) → o ≡ None → o ≡ Some x → ⊥
 none_some o x a b = cc
-
-nothing : {X : Type 0} (x : X) → Contains [] x → ⊥
-nothing x (k, lt, at) = omega arith
-
-empty_at : (n k : ℕ) (p : PlacedRow) → get_or (replicate n None) k None ≡ Some p → ⊥
-empty_at zero k p is = cc
-empty_at (suc n) zero p is = cc
-empty_at (suc n) (suc k) p is = empty_at n k p is
-
-pub table_empty : (issued : ℕ) → IsTableSoFar issued [] (replicate issued None)
-table_empty issued = record {
-  long = length-replicate issued None;
-  from = λ k p is. absurd (empty_at issued k p is);
-  kept = λ p there. absurd (nothing p there);
-}
 
 pub table_more : (issued : ℕ) (seen : List PlacedRow) (p : PlacedRow) (old new : List (Option PlacedRow))
     → IsTableSoFar issued seen old → Puts p old new true → IsTableSoFar issued (seen ++ p ∷ []) new

@@ -130,11 +130,6 @@ live_greatest rows keyed i current a in_range at live deleted is = (
       ],
 )
 
-pub none_live : (rows : List CurrentRow) → ((k : ℕ) (d : CurrentRow) → k < length rows → (get_or rows k d).status ≡ D)
-    → IsGreatestOf (arrives_live rows) None
-none_live rows deleted b (x, (k, lt, at_x), not_deleted, same) =
-    not_deleted (ap (λ (y : CurrentRow). y.status) (sym at_x) ∙ deleted k x lt)
-
 -- of one application, what does not arrive later
 module _ (b a : Arrival) (one : b.app ≡ a.app) (not_above : arrival_cmp b a ≢ Greater) where
   apps_tie : slice_cmp nat_cmp b.app a.app ≡ Equal

@@ -58,13 +58,3 @@ module _ {X : Type 0} (number_of : X → ℕ) where
   pub look_at : (xs : List X) → OneEach number_of xs → (x : X) (n : ℕ) → Contains xs x → number_of x ≡ n
       → look_up number_of xs n ≡ Some x
   look_at xs one x n there same = subst (λ m. look_up number_of xs m ≡ Some x) same (look_has xs one x there)
-
-  -- lists with the same items
-  pub look_same : (xs ys : List X) → OneEach number_of xs → OneEach number_of ys
-      → ((x : X) → Contains xs x → Contains ys x) → ((x : X) → Contains ys x → Contains xs x) → (n : ℕ)
-      → look_up number_of xs n ≡ look_up number_of ys n
-  look_same xs ys one one' to from n = elim (look_up number_of xs n) as (λ o. look_up number_of xs n ≡ o → o
-      ≡ look_up number_of ys n) [
-        | None ↦ λ e. sym (look_lacks ys n (λ z there. look_none xs n e z (from z there)))
-        | Some x ↦ λ e. let is = look_some xs n x e in sym (look_at ys one' x n (to x is.0) is.1)
-      ] refl

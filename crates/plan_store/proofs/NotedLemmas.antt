@@ -191,28 +191,6 @@ module _ (rows : List Row) where
       → Notes Asked rows places places
   notes_none Asked places held = record { stay = λ i there. there; come = λ i there. inl there; noted = held }
 
-  -- one place more
-  pub notes_one : (app : List ℕ) (minute place : ℕ) (old : List ℕ) → IsLastPlace rows app minute place
-      → Notes (IsAsked app minute) rows old (old ++ place ∷ [])
-  notes_one app minute place old is = record {
-    stay = λ i there. Contains-append_left old (place ∷ []) i there;
-    come = λ i there. elim (Contains-push_cases old place i there) [
-      | inl before ↦ inl before
-      | inr same ↦ inr (app, minute, (refl, refl), subst (λ n. IsLastPlace rows app minute n) same is)
-    ];
-    noted = λ a m asked row there of_app in_time. (
-      place,
-      Contains-push old place,
-      subst (λ b. IsLastPlace rows b m place) (sym asked.0)
-          (subst (λ n. IsLastPlace rows app n place) (sym asked.1) is),
-    );
-  }
-
-  pub notes_lack : (app : List ℕ) (minute : ℕ) (old : List ℕ) → LacksBefore rows app minute
-      → Notes (IsAsked app minute) rows old old
-  notes_lack app minute old lacks = notes_none (IsAsked app minute) old (λ a m asked row there of_app in_time.
-      absurd (lacks row there (of_app ∙ asked.0) (subst (λ n. row.key.ia < n) asked.1 in_time)))
-
   -- in other words
   pub notes_by : (P Q : List ℕ → ℕ → Type 0) (old new : List ℕ)
       → ((app : List ℕ) (minute : ℕ) → P app minute → Q app minute)
@@ -280,10 +258,6 @@ module _ (rows : List Row) where
   }
 
   module _ {X : Type 0} (Asks : X → List ℕ → ℕ → Type 0) where
-    pub notes_no_item : (places : List ℕ) → Notes (AskedByOne Asks []) rows places places
-    notes_no_item places = notes_none (AskedByOne Asks []) places (λ app minute (x, (k, lt, at), asks).
-        absurd (omega arith))
-
     -- what one more asks for
     pub notes_more : (xs : List X) (x : X) (a b c : List ℕ) → Notes (AskedByOne Asks xs) rows a b
         → Notes (Asks x) rows b c → Notes (AskedByOne Asks (xs ++ x ∷ [])) rows a c

@@ -1,6 +1,6 @@
 -- Where the rows of a content stand.
 use Rattle.std.proofs.Common.{◌≡◌, ◌≢◌, ℕ, ap, subst, Some, None, Option}
-use Rattle.occurrences.specs.Place.{IsComplete, IsLive}
+use Rattle.occurrences.specs.Place.{IsLive}
 use Rattle.occurrences.specs.declared.key.Key.{Key}
 use Rattle.occurrences.specs.declared.place.CurrentRow.{CurrentRow}
 use Rattle.occurrences.specs.declared.place.Deletion.{Deletion}
@@ -10,7 +10,7 @@ use Rattle.occurrences.specs.declared.row.Row.{Row}
 use Rattle.external_dependencies.specs.declared.rows.PlacedRow.{PlacedRow}
 use Rattle.planner_machine.specs.Content.{Seat, Sets, StandsAt, alone, empty_seat, seat}
 use Rattle.planner_machine.specs.Sound.{AreNumbered}
-use Rattle.plan_store.specs.Views.{IsCurrentRow, IsLiveRow, IsOutsideDeletions, IsPlannedRow}
+use Rattle.plan_store.specs.Views.{IsCurrentRow, IsLiveRow, IsPlannedRow}
 use Rattle.plan_store.proofs.ViewLemmas.{issued_from}
 
 some_is : {X : Type 0} (o : Option X) (x y : X) → o ≡ Some x → o ≡ Some y → x ≡ y
@@ -104,16 +104,3 @@ live_none s key planned current history serial p stands live keyed = by_place p.
         (ap (λ (x : Seat). x.cp) stands) keyed live
     by_place History row stands live keyed = history serial row (ap (λ (x : Seat). x.history) stands) keyed
     by_place (Deleted reason) row stands live keyed = live
-
--- what is live or complete is not in the deletions
-pub live_outside : (place : Place) → IsLive place → IsOutsideDeletions place
-live_outside LongTerm live = tt
-live_outside (Current status) live = tt
-live_outside History live = tt
-live_outside (Deleted reason) live = live
-
-pub complete_outside : (place : Place) → IsComplete place → IsOutsideDeletions place
-complete_outside LongTerm complete = tt
-complete_outside (Current status) complete = tt
-complete_outside History complete = tt
-complete_outside (Deleted reason) complete = complete

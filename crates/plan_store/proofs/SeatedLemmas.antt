@@ -3,7 +3,6 @@ use Rattle.std.proofs.Common.{◌≡◌, ℕ, List, true, false, refl, sym, subs
 use Rattle.std.specs.Prelude.{is_some, if◌then◌else◌}
 use Rattle.occurrences.specs.declared.row.Row.{Row}
 use Rattle.external_dependencies.specs.Nearest.{arrival_of}
-use Rattle.external_dependencies.specs.declared.live.Arrival.{Arrival}
 use Rattle.planner_machine.specs.Moves.{or_else}
 use Rattle.keyed_lists.specs.Keyed.{holds_key}
 use Rattle.keyed_lists.specs.Rows.{AreRows, look_up}
@@ -19,9 +18,6 @@ module _ {X : Type 0} (row_of : X → Row) (moves : Moves X) (old new : List X) 
 
   abbrev IsSeated : X → Type 0
   IsSeated x = holds_key seat_cmp (λ (seat : Seat). seat) seats (seat_of (row_of x)) ≡ true
-
-  seat_at : Arrival → Seat
-  seat_at a = record { serial = a.serial; ia = a.ia; app = a.app }
 
   same_seat : (x y : X) → arrival_of (row_of x) ≡ arrival_of (row_of y) → IsSeated x → IsSeated y
   same_seat x y same seated =

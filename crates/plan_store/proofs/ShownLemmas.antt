@@ -2,8 +2,8 @@
 use Rattle.std.proofs.Common.{◌≡◌, ◌⊎◌, ℕ, zero, suc, ◌+◌, ◌<◌, Bool, List, [], ◌∷◌, ◌++◌, length}
 use Rattle.std.proofs.Common.{get_or, take, drop, add-one, length-append, map, true, false, refl, sym, ap, ap₂, subst}
 use Rattle.std.proofs.Common.{◌∙◌, inl, inr, arith, Some, None, Option, Result, Ok, Err, IfOk, IfErr}
-use Rattle.std.specs.Prelude.{nat_eq, if◌then◌else◌}
-use Rattle.std.specs.Cmp.Lexicographic.{bytes_decides, pointwise}
+use Rattle.std.specs.Prelude.{if◌then◌else◌}
+use Rattle.std.specs.Cmp.Lexicographic.{bytes_decides}
 use Rattle.std.specs.List.{AllPairs, Contains}
 use Rattle.std.specs.Ordering.{MatchOrdering}
 use Rattle.std.specs.declared.cmp.Ordering.TheVariants.{Less}
@@ -39,7 +39,6 @@ use Rattle.plan_store.specs.Listings.{HandsAll, HandsPart, ShowRows, Shown, Take
 use Rattle.plan_store.specs.declared.listings.ListFault.{ListFault}
 use Rattle.plan_store.specs.declared.listings.ListFault.TheVariants.{Sink}
 use Rattle.plan_store.specs.declared.listings.SinkFault.{SinkFault}
-use Rattle.plan_store.specs.Views.{IsPlacedAt}
 use Rattle.plan_store.proofs.ListedLemmas.{from_map, pairs_map, takes_more, to_map}
 use Rattle.plan_store.proofs.LookLemmas.{look_has, look_some}
 use Rattle.plan_store.proofs.PlaceLemmas.{stands_cp, stands_deleted, stands_history, stands_ltp}
@@ -215,26 +214,6 @@ module _ (s : Sets) (numbered : AreNumbered s) where
   pub row_serial : (serial : ℕ) (row : Row) → row_at s serial ≡ Some row → row.serial ≡ serial
   row_serial serial row is = let (place, at) = row_at_some serial row is in numbered.numbered serial
       (record { row = row; place = place }) at
-
-  pub row_at_placed : (serial : ℕ) (p : PlacedRow) → IsPlacedAt s serial (Some p) → row_at s serial ≡ Some p.row
-  row_at_placed serial p at = row_at_stands s serial p at
-
-  pub row_at_none : (serial : ℕ) → IsPlacedAt s serial None → row_at s serial ≡ None
-  row_at_none serial none = elim (row_at s serial) as (λ o. row_at s serial ≡ o → o ≡ None) [
-    | None ↦ λ _. refl
-    | Some row ↦ λ e. let (place, at) = row_at_some serial row e in
-        absurd (none (record { row = row; place = place }) at)
-  ] refl
-
--- links
-pub link_apart : (app : List ℕ) (row : Row) (o : Option Row) → pointwise nat_eq row.key.app app ≡ false
-    → link_of (Some app) (Some row) o ≡ None
-link_apart app row None apart = refl
-link_apart app row (Some other) apart = rw apart refl
-
-pub link_same : (app : List ℕ) (row : Row) (other : Row) → pointwise nat_eq row.key.app app ≡ true → link_of (Some app)
-    (Some row) (Some other) ≡ Some (record { successor = row; predecessor = other })
-link_same app row other same = rw same refl
 
 pub link_unknown : (app : Option (List ℕ)) (o : Option Row) → link_of app o None ≡ None
 link_unknown app None = refl

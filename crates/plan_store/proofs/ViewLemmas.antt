@@ -132,11 +132,6 @@ module _ {X : Type 0} (row_of : X → Row) where
     );
   }
 
-  -- what a set has under a serial stands in its list
-  pub stands_in : (xs : List X) (serial : ℕ) (x : X) → look_up serial_of xs serial ≡ Some x → Contains xs x
-      × (serial_of x ≡ serial)
-  stands_in xs serial x is = look_some serial_of xs serial x is
-
 -- each row of a set has a serial that was issued
 module _ (s : Sets) (numbered : AreNumbered s) where
   pub issued_from : (serial : ℕ) → (seat s serial ≡ empty_seat → ⊥) → (1 ≤ serial) × (serial ≤ s.issued)

@@ -121,11 +121,6 @@ shows_lasts need view kept asked is history = record {
   lasts = subst (HasLasts (Asks need (content_of kept)) (content_of kept).sets.history) (sym history) asked.lasts;
 }
 
-pub shows_key : (key : KeyValue) (view : View) (kept : Kept) → HasAsked (Key key) kept → shown view ≡ with_part
-    (look_up row_serial kept.buffer.lasts.items) (look_up deletion_serial []) (content_of kept)
-    → Shows (Key key) view (content_of kept)
-shows_key key view kept asked is = shows_lasts (Key key) view kept asked is (ap (λ (x : Content). x.sets.history) is)
-
 -- what keeps keys from being made, as the buffer has it
 module _ (kept : Kept) (barring : List Deletion) (is : barring ≡ filter (bars kept.bounds) kept.deletions.items) where
   pub barring_rows : AreRows of_deletion barring

@@ -15,7 +15,6 @@ use Rattle.sqlite.specs.Order.{Row, column}
 use Rattle.sqlite.specs.Tree.{rowid}
 use Rattle.sqlite_catalog.proofs.LayoutLemmas.{ascending_filter}
 use Rattle.sqlite_keyed.proofs.ListLemmas.{all-filter}
-use Rattle.sqlite_rules.proofs.ListLemmas.{all_has}
 use Rattle.sqlite_rules.proofs.PlaceLemmas.{next_is_free}
 use Rattle.sqlite_rules.specs.Edit.{id_in, is_taken, next_rowid}
 use Rattle.sqlite_rules.specs.declared.error.Rowids.TheVariants.{Chosen}
@@ -25,9 +24,7 @@ use Rattle.sqlite_trees.specs.Tree.{IsTable}
 use Rattle.table_schema.proofs.RowLemmas.{all_placed, put_is_placed}
 use Rattle.table_schema.specs.Rows.{placed}
 use Rattle.plan_tables.specs.Room.{HasRoomAbove, HaveRoom}
-use Rattle.sqlite_rules.specs.Lists.{Has}
 use Rattle.sqlite_schema.specs.Rules.{index_reals, table_reals}
-use Rattle.sqlite_schema.specs.declared.schema.Index.{Index}
 use Rattle.sqlite_sql.specs.Catalog.{entry_of}
 use Rattle.sqlite_trees.specs.View.{IsStorable, IsStorableRow, is_int}
 use Rattle.sqlite_value.specs.declared.value.Value.{Value}

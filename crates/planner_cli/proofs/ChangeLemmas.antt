@@ -118,17 +118,6 @@ fits_redefined change d r c = record {
   job = no_job change r.job c;
 }
 
--- with a job to keep under a number that none has
-pub fits_with_job : (change : Change) (job : Job) (c : Content) → Fits change c → c.jobs job.number ≡ None
-    → Fits (record change { job = Some job }) c
-fits_with_job change job c fits new = record {
-  ltp = fits.ltp;
-  cp = fits.cp;
-  history = fits.history;
-  deletions = fits.deletions;
-  job = λ other is. let same : job ≡ other = cc is in subst (λ (j : Job). c.jobs j.number ≡ None) same new;
-}
-
 pub after_with_job : (change : Change) (job : Job) (c : Content) → (after change c).jobs ≡ c.jobs
     → after (record change { job = Some job }) c ≡ with_job job (after change c)
 after_with_job change job c jobs = λ i. record {

@@ -29,7 +29,7 @@ use Rattle.planner_cli.specs.Rows.{IsShownText}
 use Rattle.planner_cli.specs.Runs.{IsFrontOf}
 use Rattle.planner_cli.specs.Sinks.{TakesFront, TakesLine, TakesLines, WritesAll, WritesPart}
 use Rattle.planner_cli.specs.Steps.{Serves, Step}
-use Rattle.planner_cli.specs.Stores.{IsBlamed, LeavesOwn}
+use Rattle.planner_cli.specs.Stores.{LeavesOwn}
 use Rattle.planner_cli.specs.Writes.{AnswersItem, IsUnwritten, IsWritten}
 use Rattle.planner_cli.specs.declared.answers.Printed.{Printed}
 use Rattle.planner_cli.specs.declared.faults.Cause.{Cause}
@@ -146,12 +146,6 @@ module _ {K N : Type 0} (some : K) (contents : K → Option (List ℕ)) (name : 
 
 -- ---- the step of a listing
 
--- the cause that a fault of a listing is
-abbrev pub IsCauseOf : ListFault → Cause → Type 0
-IsCauseOf Faults.Memory cause = cause ≡ Memory
-IsCauseOf Faults.Device cause = cause ≡ Device Store
-IsCauseOf (Faults.Sink f) cause = cause ≡ Device Writer
-
 -- what a listing of these items answers
 abbrev listing : List Shown → List (List ℕ) → Reply
 listing items lines = record { rows = lines; line = answer_text (Ok (Rows (length items))) }
@@ -246,57 +240,6 @@ module _ {S : Type 0} (is_honest : S → Type 0) (content : S → Content) (fail
       → (front : List ℕ) × BeginsInHand c (Some item) front × Appends old new' front
   lines_begun c new' first rest whole (lines, are, appended) =
       (flat_map ended lines, inr (lines, (item, refl, begins c first rest lines whole are), refl), appended)
-
-  -- the store or the writer failed, or memory was refused, within the listing
-  pub list_ends : (fault : ListFault) (cause : Cause)
-      → (is_honest now → WritesPart (IsListing what app (content before)) old new fault)
-      → (fault ≡ Faults.Device → IsBlamed (failures before) (failures now)) → IsCauseOf fault cause
-      → AnswersItem is_honest content failures may_leave before now old new item (Err cause)
-  list_ends Faults.Memory cause part blames is =
-      subst (λ x. AnswersItem is_honest content failures may_leave before now old new item (Err x)) (sym is) (record {
-        ok = λ honest. tt;
-        err = λ honest. let p = part honest in
-            (same honest, lines_begun (content before) new p.first p.rest p.whole p.ends);
-        settled = λ honest own. tt;
-        crash = λ honest own c leaves. inl (still_own honest own c leaves);
-        blames = λ store. absurd (let h : ⊥ = cc store in h);
-        counts = counts;
-        honest = honest';
-      })
-  list_ends Faults.Device cause part blames is =
-      subst (λ x. AnswersItem is_honest content failures may_leave before now old new item (Err x)) (sym is) (record {
-        ok = λ honest. tt;
-        err = λ honest. let p = part honest in
-            (inl (same honest), lines_begun (content before) new p.first p.rest p.whole p.ends);
-        settled = λ honest own. tt;
-        crash = λ honest own c leaves. inl (still_own honest own c leaves);
-        blames = λ store. blames refl;
-        counts = counts;
-        honest = honest';
-      })
-  list_ends (Faults.Sink f) cause part blames is =
-      subst (λ x. AnswersItem is_honest content failures may_leave before now old new item (Err x)) (sym is) (record {
-        ok = λ honest. tt;
-        err = λ honest.
-            let p = part honest in
-            let (lines, are, (front, fronts, appended)) = p.ends in (
-              front,
-              inr (
-                same honest,
-                (
-                  lines,
-                  (item, refl, begins (content before) p.first p.rest lines p.whole are),
-                  fronts,
-                ),
-              ),
-              appended,
-            );
-        settled = λ honest own. tt;
-        crash = λ honest own c leaves. inl (still_own honest own c leaves);
-        blames = λ store. absurd (let h : ⊥ = cc store in h);
-        counts = counts;
-        honest = honest';
-      })
 
   module _ (count : ℕ) (all : is_honest now → WritesAll (IsListing what app (content before)) old mid count) where
     -- the reply of the listing, where its last line is printed so

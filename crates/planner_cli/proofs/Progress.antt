@@ -15,7 +15,7 @@ use Rattle.plan_store.specs.declared.stores.StoreFault.{StoreFault}
 use Rattle.plan_store.specs.declared.stores.StoreFault.TheVariants as Stores
 use Rattle.planner_cli.specs.Faults.{cause_of, read_cause, store_cause, tally_in, fault_line}
 use Rattle.planner_cli.specs.Lists.{BeginsInHand}
-use Rattle.planner_cli.specs.Runs.{Crashed, EndsBy, IsFrontOf, ItemBreaks, LeavesInHand, Ran, Stopped, WritesFault}
+use Rattle.planner_cli.specs.Runs.{Crashed, EndsBy, IsFrontOf, ItemBreaks, LeavesInHand, Stopped, WritesFault}
 use Rattle.planner_cli.specs.Runs.{ends_of, with_hand}
 use Rattle.planner_cli.specs.declared.tally.Tally.{Tally}
 use Rattle.stream_items.specs.declared.lines.ReadFault.{ReadFault}
@@ -166,28 +166,6 @@ progress_answers Step s0 s s' w0 w w' remaining b c m n one item met p read met_
           (Appends-trans w0 w w' _ _ p.written wrote);
       tally_is = tally_of-more p.replies r.reply met m n p.tally_is r.prints.accepted_is r.prints.refused_is
           more_accepted more_refused;
-    }
-
-all_read : (remaining b c : Option (List ℕ)) (done : List Item) (one : Option Item) → IfSome remaining (IsLeft done b)
-    → IfSome b (λ zs. ItemRead zs one c) → one ≡ None → IfSome remaining (λ text. items_of text ≡ done)
-all_read None b c done one so_far read none = tt
-all_read (Some text) b c done one so_far read none =
-    let (left, now, items) = so_far in
-    let last = subst (λ o. ItemRead left o c) none (subst (λ o. IfSome o (λ zs. ItemRead zs one c)) now read) in
-    items ∙ ap (λ l. done ++ l) last.0 ∙ append-nil done
-
--- the stream has ended
-pub all_done : (Step : StepOf Content) (s0 s : Content) (w0 w remaining b c : Option (List ℕ)) (tally : Tally)
-    (one : Option Item) → Progress Step s0 s w0 w remaining b tally → IfSome b (λ zs. ItemRead zs one c) → one ≡ None
-    → Ran Step (ends_of s0 s w0 w remaining) tally
-all_done Step s0 s w0 w remaining b c tally one p read none =
-    record {
-      items = p.done;
-      replies = p.replies;
-      read = all_read remaining b c p.done one p.read read none;
-      answers = p.answers;
-      written = p.written;
-      tally_is = p.tally_is;
     }
 
 kept_appends : (w w' : Option (List ℕ)) → Keeps w w' → Appends w w' []

@@ -1,6 +1,6 @@
 -- Lemmas on statements that are answered.
-use Rattle.std.proofs.Common.{◌≡◌, ◌⊎◌, ◌≤◌, ◌∙◌, ℕ, List, [], ◌∷◌, length, refl, sym, ap, subst, inl, inr, arith}
-use Rattle.std.specs.Prelude.{Err, None, Ok, Option, Some}
+use Rattle.std.proofs.Common.{◌≡◌, ◌≤◌, ◌∙◌, ℕ, List, [], ◌∷◌, length, refl, sym, ap, subst, inl, inr, arith}
+use Rattle.std.specs.Prelude.{Err, None, Ok, Some}
 use Rattle.std.proofs.lemmas.List.Elements.{All-cons}
 use Rattle.app_definitions.specs.Blocks.{IsFaultyAt, ReadsAs}
 use Rattle.app_definitions.specs.Definitions.{IsDefined, names_given}
@@ -8,7 +8,7 @@ use Rattle.app_definitions.specs.declared.definitions.Definitions.{Definitions}
 use Rattle.app_definitions.specs.declared.kinds.Block.{Block}
 use Rattle.app_definitions.specs.declared.kinds.Kind.{Kind}
 use Rattle.occurrences.specs.declared.refusal.Refusal.{Refusal}
-use Rattle.occurrences.specs.declared.refusal.Refusal.TheVariants.{FaultyData, JobWithAnotherText, NotDefined}
+use Rattle.occurrences.specs.declared.refusal.Refusal.TheVariants.{FaultyData, NotDefined}
 use Rattle.occurrences.specs.declared.reply.Reply.TheVariants.{Rows}
 use Rattle.run_cycles.specs.declared.named.Named.{Named}
 use Rattle.planner_machine.specs.Content.{Content}
@@ -20,7 +20,6 @@ use Rattle.planner_machine.specs.Laws.{IsWellFormed}
 use Rattle.planner_machine.specs.Sound.{IsSound}
 use Rattle.planner_machine.specs.Statement.{Answer, Change as MachineChange, Days, Define, DefineJob, Job, decision_of}
 use Rattle.planner_machine.specs.Stream.{IsStatement, RunsSound}
-use Rattle.planner_machine.specs.declared.job.Job.{Job as KeptJob}
 use Rattle.plan_store.specs.Changes.{after}
 use Rattle.plan_store.specs.Verdicts.{VerdictIs}
 use Rattle.plan_store.specs.declared.changes.Change.{Change}
@@ -32,7 +31,7 @@ use Rattle.planner_cli.specs.Outcomes.{answer_text, answering}
 use Rattle.planner_cli.specs.Replies.{Reply}
 use Rattle.planner_cli.specs.Rows.{AreDaysLines}
 use Rattle.planner_cli.specs.Steps.{Serves}
-use Rattle.planner_cli.specs.Verdicts.{FitsVerdict, IsKeptAnswer, answer_in, job_left, left_by}
+use Rattle.planner_cli.specs.Verdicts.{FitsVerdict, answer_in, job_left, left_by}
 use Rattle.planner_cli.proofs.ChangeLemmas.{after_with_job, keeps_jobs}
 use Rattle.app_definitions.proofs.BlockNames.{names_few}
 
@@ -191,30 +190,3 @@ left_sound runs number text change verdict c numbered fine is new sound =
     (All-cons IsStatement (Job number text change) []
     (let h = numbered.0 in omega arith, let h = numbered.1 in omega arith, fine)
     (λ k d lt. absurd (omega (arith, lt)))) (left, answers, refl)
-
--- ---- kept jobs
-
-pub kept_none : (o : Option KeptJob) (text : List ℕ) (found : Option Answer) → found ≡ None → IsKeptAnswer o text found
-    → o ≡ None
-kept_none None text found none h = refl
-kept_none (Some job) text found none (answer, is, h) =
-    absurd (let no : None ≡ Some answer = sym none ∙ is in let x : ⊥ = cc no in x)
-
-some_answer : (found : Option Answer) (a b : Answer) → found ≡ Some a → found ≡ Some b → a ≡ b
-some_answer found a b p q = let e : Some a ≡ Some b = sym p ∙ q in cc
-
-pub kept_answers : (number : ℕ) (text : List ℕ) (change : MachineChange) (c : Content) (o : Option KeptJob)
-    → c.jobs number ≡ o
-    → (found : Option Answer) (answer : Answer) → found ≡ Some answer → IsKeptAnswer o text found
-    → AnswersBoth number text change c (answering answer) c
-kept_answers number text change c None at found answer some h =
-    absurd (let no : None ≡ Some answer = sym h ∙ some in let x : ⊥ = cc no in x)
-kept_answers number text change c (Some job) at found answer some (told, is, which) = (
-  answer,
-  subst (λ o. AnswersKept number text (decision_of change) c o answer c) (sym at) (
-    refl,
-    subst (λ a. ((job.text ≡ text) × (a ≡ job.reply)) ⊎ ((job.text ≡ text → ⊥) × (a ≡ Err JobWithAnotherText)))
-        (some_answer found told answer is some) which,
-  ),
-  refl,
-)

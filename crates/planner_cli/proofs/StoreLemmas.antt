@@ -19,10 +19,6 @@ blamed_since a b c before after (inr some) = cases a refl
     cases zero is = inl (let h : a ≡ 0 = sym is in omega arith)
     cases (suc n) is = inr (omega arith)
 
-pub blamed_still : (a b c : ℕ) → b ≤ c → IsBlamed a b → IsBlamed a c
-blamed_still a b c after (inl more) = inl (let h : min (a + 1) (2 ^ 64 - 1) ≤ b = more in omega arith)
-blamed_still a b c after (inr some) = inr some
-
 -- ---- results
 
 pub if_ok : {T E : Type 0} (r : Result T E) (P Q : T → Type 0) → ((x : T) → P x → Q x) → IfOk r P → IfOk r Q
@@ -145,23 +141,6 @@ module _ {S : Type 0} (is_honest : S → Type 0) (content : S → Content) (fail
         left honest c (inl is) = inl (is ∙ same honest)
         left honest c (inr (reply, does)) = inr (reply, subst (λ b. Does b reply c) (same honest) does)
 
-  -- the store could not be read
-  pub unread : {T : Type 0} (before now : S) (fault : StoreFault)
-      (IsRight : T → Type 0)
-      (Does : Reply → Content → Type 0)
-      → Reads is_honest content failures may_leave before now (Err fault) IsRight
-      → AnswersBy is_honest content failures may_leave before now (Err fault) Does
-  unread before now fault IsRight Does reads = record {
-    answers = λ honest. tt;
-    unchanged = λ honest is. reads.same honest;
-    whole = λ honest. inl (reads.same honest);
-    settled = λ honest own. tt;
-    crash = λ honest own c leaves. inl (own c (reads.crash honest c leaves));
-    blames = reads.blames;
-    counts = reads.counts;
-    honest = reads.honest;
-  }
-
   module _ {T : Type 0} (before now : S) (read : Result T StoreFault) (IsRight : T → Type 0)
       (reads : Reads is_honest content failures may_leave before now read IsRight) where
     -- the store was read, and that is all
@@ -180,30 +159,6 @@ module _ {S : Type 0} (is_honest : S → Type 0) (content : S → Content) (fail
       counts = reads.counts;
       honest = reads.honest;
     }
-
-    pub read_refused : (Does : Reply → Content → Type 0)
-        → AnswersBy is_honest content failures may_leave before now (Err Memory) Does
-    read_refused Does = record {
-      answers = λ honest. tt;
-      unchanged = λ honest is. reads.same honest;
-      whole = λ honest. inl (reads.same honest);
-      settled = λ honest own. tt;
-      crash = λ honest own c leaves. inl (own c (reads.crash honest c leaves));
-      blames = λ is. absurd (let h : ⊥ = cc is in h);
-      counts = reads.counts;
-      honest = reads.honest;
-    }
-
-    pub read_answers : (result : Result Printed StoreFault) (reply : Reply) (Does : Reply → Content → Type 0)
-        → (is_honest now → Does reply (content before))
-        → IfOk result (λ printed. Prints reply printed.text.items printed.is_accepted)
-        → IfErr result (λ fault. fault ≡ Memory)
-        → AnswersBy is_honest content failures may_leave before now result Does
-    read_answers (Ok printed) reply Does does prints memory =
-        read_printed printed Does (λ honest. (reply, does honest, prints))
-    read_answers (Err fault) reply Does does prints memory =
-        subst (λ f. AnswersBy is_honest content failures may_leave before now (Err f) Does) (sym memory)
-        (read_refused Does)
 
 -- ---- a change that is made
 

@@ -62,9 +62,6 @@ module _ (s : Sets) (numbered : AreNumbered s) where
   unissued_none : (serial : ℕ) → s.issued < serial → s.ltp serial ≡ None
   unissued_none serial above = ap (λ (x : Seat). x.ltp) (numbered.unissued serial (inr above))
 
-  serial_of_placed : (serial : ℕ) (p : PlacedRow) → StandsAt s serial p → p.row.serial ≡ serial
-  serial_of_placed serial p stands = numbered.numbered serial p stands
-
 -- what a statement of the long-term plan does of one occurrence: nothing comes into the plan, and what goes is
 -- withdrawn
 pub record IsPlanFate (fate : Fate) : Type 0 where

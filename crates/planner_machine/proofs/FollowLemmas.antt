@@ -108,10 +108,6 @@ stay_at row place = place
 pub stays_keeps : FateKeeps Stays
 stays_keeps = going_keeps stay_at (λ row was h. h) (λ row was h. h) (λ row was h. h) (λ row was h. h)
 
--- a daily plan
-moved_ltp : (b : Bool) → (if b then Current W else LongTerm) ≡ LongTerm → LongTerm ≡ LongTerm
-moved_ltp b h = refl
-
 daily_ltp : (t : ℕ) (row : Row) (was : Place) → place_after_daily_plan t row was ≡ LongTerm → was ≡ LongTerm
 daily_ltp t row LongTerm h = refl
 daily_ltp t row (Current W) h = cc

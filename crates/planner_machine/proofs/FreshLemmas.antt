@@ -1,43 +1,35 @@
 -- Fresh content: what leaves it, and what keeps it.
-use Rattle.std.proofs.Common.{◌≡◌, ◌≢◌, ◌↔◌, ◌⊎◌, ℕ, zero, suc, ◌+◌, ◌-◌, ◌*◌, ◌<◌, ◌≤◌, true, false, List, [], ◌∷◌, length}
-use Rattle.std.proofs.Common.{refl, sym, ap, ap₂, subst, ◌∙◌, inl, inr, arith, Option, None, Some, get_or}
-use Rattle.std.specs.Prelude.{All, Bool, Contains, IsTrue, Ok, Err, if◌then◌else◌, nat_lt, slice_get}
+use Rattle.std.proofs.Common.{◌≡◌, ◌⊎◌, ℕ, zero, suc, ◌+◌, ◌<◌, ◌≤◌, true, false, List, [], ◌∷◌, length}
+use Rattle.std.proofs.Common.{refl, sym, ap, subst, ◌∙◌, inl, inr, arith, Some, get_or}
+use Rattle.std.specs.Prelude.{Contains}
 use Rattle.std.specs.List.{AllPairs}
-use Rattle.std.proofs.lemmas.Bool.{cases_eq, cases_lt, cases_order, le-ltb, false≢true}
-use Rattle.std.proofs.lemmas.List.Elements.{All-head, All-tail}
+use Rattle.std.proofs.lemmas.Bool.{cases_eq, cases_order}
 use Rattle.std.proofs.lemmas.Option.{get_or_from_slice_get, slice_get_cases}
 use Rattle.app_definitions.specs.declared.definitions.Definitions.{Definitions}
 use Rattle.occurrences.specs.Key.{KeyBefore, key_eq}
 use Rattle.occurrences.proofs.KeyLemmas.{key_strict, other_key, same_key}
 use Rattle.occurrences.specs.declared.key.Key.{Key}
-use Rattle.occurrences.specs.declared.place.Deletion.{Deletion}
 use Rattle.occurrences.specs.declared.place.Place.{Place}
 use Rattle.occurrences.specs.declared.place.Place.TheVariants.{LongTerm, Current, History, Deleted}
-use Rattle.occurrences.specs.declared.place.Reason.{Reason}
 use Rattle.occurrences.specs.declared.place.Reason.TheVariants.{Operator, Plan, Withdrawn}
-use Rattle.occurrences.specs.declared.reply.Reply.{Reply}
 use Rattle.occurrences.specs.declared.row.Origin.{Origin}
 use Rattle.occurrences.specs.declared.row.Origin.TheVariants.{Added, Generated}
 use Rattle.occurrences.specs.declared.row.Row.{Row}
 use Rattle.external_dependencies.specs.declared.rows.PlacedRow.{PlacedRow}
 use Rattle.planner_machine.specs.declared.content.Bounds.{Bounds}
 use Rattle.planner_machine.specs.declared.content.Draft.{Draft}
-use Rattle.planner_machine.specs.Content.{Content, Sets, StandsAt, midnight}
-use Rattle.planner_machine.specs.Drafts.{AreDrafts, IsMade, NamesDraft}
-use Rattle.planner_machine.specs.Fate.{Fate, IsGenerated, ModifyFate, Stays}
-use Rattle.planner_machine.specs.Fresh.{AreFresh, IsFresh, IsLeftOut, LeavesOut, NamesInPlan, StandsSo, draft_of_row}
+use Rattle.planner_machine.specs.Content.{Content, Sets, StandsAt}
+use Rattle.planner_machine.specs.Drafts.{NamesDraft}
+use Rattle.planner_machine.specs.Fate.{Fate, IsGenerated}
+use Rattle.planner_machine.specs.Fresh.{IsFresh, IsLeftOut, LeavesOut, NamesInPlan, StandsSo, draft_of_row}
 use Rattle.planner_machine.specs.Fresh.{FreshIsExact}
 use Rattle.planner_machine.specs.Laws.{Follows}
-use Rattle.planner_machine.specs.Modify.{NamesAhead}
 use Rattle.planner_machine.specs.Moves.{numbered_row}
 use Rattle.planner_machine.specs.RowsSound.{RowsSound}
 use Rattle.planner_machine.specs.Sound.{IsSound}
-use Rattle.planner_machine.proofs.AssembleLemmas.{in_deletions, in_ltp, stands_in_deletions}
-use Rattle.planner_machine.proofs.DeleteLemmas.{stands_in_ltp}
-use Rattle.planner_machine.proofs.FollowLemmas.{FateKeeps, IsMadeAt, came, draft_generated}
-use Rattle.planner_machine.proofs.ModifyLemmas.{Tests}
+use Rattle.planner_machine.proofs.AssembleLemmas.{in_deletions, in_ltp}
+use Rattle.planner_machine.proofs.FollowLemmas.{FateKeeps, came, draft_generated}
 use Rattle.planner_machine.proofs.SeatLemmas.{cases_issued, not_empty, one_place}
-use Rattle.planner_machine.proofs.SoundLemmas.{rows_sound}
 
 -- what can be told
 abbrev pub Told : Type 0 → Type 0
@@ -94,9 +86,6 @@ module _ (P : ℕ → Type 0) (decide : (n : ℕ) → Told (P n)) where
   ]
 
 module _ (s : Sets) (sound : RowsSound s) (Q : PlacedRow → Type 0) (decide : (p : PlacedRow) → Told (Q p)) where
-  At : ℕ → Type 0
-  At serial = (p : PlacedRow) × (StandsAt s serial p × Q p)
-
   at_told : (serial : ℕ) → Told ((p : PlacedRow) × (StandsAt s serial p × Q p))
   at_told serial = elim (cases_issued s.issued serial) [
     | inr past ↦ inr (λ is. not_empty s serial is.0 is.1.0 (sound.unissued serial past))

@@ -1,21 +1,17 @@
 -- Modify statements leave fresh content: of all applications from any, of one from fresh content.
-use Rattle.std.proofs.Common.{◌≡◌, ◌≢◌, ◌⊎◌, ℕ, ◌<◌, ◌≤◌, true, false, List, refl, sym, ap, subst, ◌∙◌, inl, inr, arith}
+use Rattle.std.proofs.Common.{◌≡◌, ◌≢◌, ◌⊎◌, ℕ, ◌<◌, ◌≤◌, true, false, List, refl, sym, ap, subst, ◌∙◌, inl, inr}
 use Rattle.std.proofs.Common.{Option, None, Some}
-use Rattle.std.specs.Prelude.{Bool, Contains, IsTrue}
+use Rattle.std.specs.Prelude.{Bool}
 use Rattle.std.proofs.lemmas.Bool.{false≢true}
 use Rattle.app_definitions.specs.declared.definitions.Definitions.{Definitions}
 use Rattle.occurrences.specs.declared.key.Key.{Key}
-use Rattle.occurrences.specs.declared.place.Deletion.{Deletion}
-use Rattle.occurrences.specs.declared.place.Place.{Place}
-use Rattle.occurrences.specs.declared.place.Place.TheVariants.{LongTerm, Current, History, Deleted}
+use Rattle.occurrences.specs.declared.place.Place.TheVariants.{LongTerm, Deleted}
 use Rattle.occurrences.specs.declared.place.Reason.TheVariants.{Operator, Withdrawn}
-use Rattle.occurrences.specs.declared.row.Origin.{Origin}
-use Rattle.occurrences.specs.declared.row.Origin.TheVariants.{Added}
 use Rattle.occurrences.specs.declared.row.Row.{Row}
 use Rattle.external_dependencies.specs.declared.rows.PlacedRow.{PlacedRow}
 use Rattle.planner_machine.specs.declared.content.Bounds.{Bounds}
 use Rattle.planner_machine.specs.declared.content.Draft.{Draft}
-use Rattle.planner_machine.specs.Content.{Content, Sets, StandsAt}
+use Rattle.planner_machine.specs.Content.{Sets, StandsAt}
 use Rattle.planner_machine.specs.Drafts.{AreDrafts, IsMade, NamesDraft}
 use Rattle.planner_machine.specs.Fate.{IsGenerated, IsLookedAt, ModifyFate}
 use Rattle.planner_machine.specs.Fresh.{IsLeftOut, NamesInPlan, StandsSo, draft_of_row}
@@ -25,8 +21,8 @@ use Rattle.planner_machine.specs.Moves.{numbered_row}
 use Rattle.planner_machine.specs.RowsSound.{RowsSound}
 use Rattle.planner_machine.proofs.AssembleLemmas.{stands_in_deletions}
 use Rattle.planner_machine.proofs.DeleteLemmas.{stands_in_ltp}
-use Rattle.planner_machine.proofs.FollowLemmas.{came, modify_keeps_all}
-use Rattle.planner_machine.proofs.FreshLemmas.{Told, at_ltp, both_told, key_told, left_out_added, left_out_operator}
+use Rattle.planner_machine.proofs.FollowLemmas.{came}
+use Rattle.planner_machine.proofs.FreshLemmas.{Told, both_told, key_told, left_out_added, left_out_operator}
 use Rattle.planner_machine.proofs.FreshLemmas.{ltp_told, made_stands, not_generated, one_of_key, operator_told}
 use Rattle.planner_machine.proofs.FreshLemmas.{origin_told, out_cases, some_stands}
 use Rattle.planner_machine.proofs.ModifyLemmas.{Tests}
@@ -109,12 +105,6 @@ module _ (looks : List ℕ → Bool) (Looks : List ℕ → Type 0) (tests : Test
               place = LongTerm;
             }) in
             (serial, subst (StandsAt s' serial) becomes at)
-
-    InPlan : Key → PlacedRow → Type 0
-    InPlan key p = (p.place ≡ LongTerm) × (p.row.key ≡ key)
-
-    ByOperator : Key → PlacedRow → Type 0
-    ByOperator key p = (p.place ≡ Deleted Operator) × (p.row.key ≡ key)
 
     looked_stands : (draft : Draft) → NamesInPlan all b draft → Looks draft.key.app
         → StandsSo s' draft ⊎ IsLeftOut s' draft.key

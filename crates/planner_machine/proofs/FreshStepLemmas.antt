@@ -1,21 +1,18 @@
 -- Each statement, and streams: what leaves fresh content, and what keeps it.
-use Rattle.std.proofs.Common.{◌≡◌, ◌≢◌, ◌⊎◌, ℕ, ◌+◌, ◌*◌, ◌<◌, ◌≤◌, zero, suc, true, false, List, [], ◌∷◌, refl, sym, ap, subst}
+use Rattle.std.proofs.Common.{◌≡◌, ◌≢◌, ◌⊎◌, ℕ, ◌+◌, ◌<◌, ◌≤◌, zero, suc, true, false, List, [], ◌∷◌, refl, sym, ap, subst}
 use Rattle.std.proofs.Common.{◌∙◌, inl, inr, arith, Option, None, Some}
-use Rattle.std.specs.Prelude.{All, Bool, Contains, Ok, Err, Result, if◌then◌else◌, nat_lt, option_map}
+use Rattle.std.specs.Prelude.{Bool, Contains, Ok, Err, if◌then◌else◌, nat_lt, option_map}
 use Rattle.std.proofs.lemmas.Bool.{cases_lt, le-ltb}
 use Rattle.std.proofs.lemmas.List.Elements.{All-head, All-tail}
 use Rattle.app_definitions.specs.declared.definitions.Definitions.{Definitions}
 use Rattle.app_definitions.specs.declared.kinds.Kind.{Kind}
 use Rattle.occurrences.specs.Key.{key_eq}
 use Rattle.occurrences.specs.declared.key.Key.{Key}
-use Rattle.occurrences.specs.declared.place.Deletion.{Deletion}
 use Rattle.occurrences.specs.declared.place.Place.{Place}
-use Rattle.occurrences.specs.declared.place.Place.TheVariants.{LongTerm, Current, History, Deleted}
+use Rattle.occurrences.specs.declared.place.Place.TheVariants.{LongTerm, Current, Deleted}
 use Rattle.occurrences.specs.declared.place.Reason.TheVariants.{Operator}
-use Rattle.occurrences.specs.declared.refusal.Refusal.{Refusal}
 use Rattle.occurrences.specs.declared.refusal.Refusal.TheVariants.{NoPlan, PlanEndOutOfRange, PlanExists}
 use Rattle.occurrences.specs.declared.reply.Reply.{Reply}
-use Rattle.occurrences.specs.declared.row.Origin.TheVariants.{Added}
 use Rattle.occurrences.specs.declared.row.Row.{Row}
 use Rattle.occurrences.specs.declared.status.Action.{Action}
 use Rattle.occurrences.specs.declared.status.Status.TheVariants.{W}
@@ -26,16 +23,15 @@ use Rattle.planner_machine.specs.declared.job.Job.{Job as KeptJob}
 use Rattle.planner_machine.specs.Content.{Content, Sets, StandsAt, midnight}
 use Rattle.planner_machine.specs.DailyPlan.{daily}
 use Rattle.planner_machine.specs.Decision.{Decides, trial}
-use Rattle.planner_machine.specs.Drafts.{IsMade, NamesDraft, added}
+use Rattle.planner_machine.specs.Drafts.{NamesDraft, added}
 use Rattle.planner_machine.specs.Fate.{ActionFate, DailyFate, DeletionFate, Fate, IsGenerated, Stays}
 use Rattle.planner_machine.specs.Fate.{place_after_action, place_after_daily_plan, place_after_deletion}
-use Rattle.planner_machine.specs.Fresh.{AreFresh, IsFresh, IsLeftOut, IsRefused, IsRepeated, LeavesFresh}
+use Rattle.planner_machine.specs.Fresh.{IsFresh, IsLeftOut, IsRefused, IsRepeated, LeavesFresh}
 use Rattle.planner_machine.specs.Fresh.{NamesInPlan, Redefines, RedefinesBy, StandsSo, StaysFresh, draft_of_row}
 use Rattle.planner_machine.specs.Jobs.{AnswersKept}
 use Rattle.planner_machine.specs.Laws.{Follows, IsWellFormed}
 use Rattle.planner_machine.specs.ModifyAll.{IsAnyApp, is_any_app}
 use Rattle.planner_machine.specs.ModifyOne.{IsThatApp, is_that_app}
-use Rattle.planner_machine.specs.Moves.{numbered_row}
 use Rattle.planner_machine.specs.Shown.{list_links, list_pairs, list_rows}
 use Rattle.planner_machine.specs.Days.{days}
 use Rattle.planner_machine.specs.Sound.{IsSound}
@@ -43,19 +39,19 @@ use Rattle.planner_machine.specs.Statement.{Act, Add, AddCurrent, Answer, Change
 use Rattle.planner_machine.specs.Statement.{Define, DefineJob, Delete, Extend, Job, ListLinks, ListPairs, ListRows}
 use Rattle.planner_machine.specs.Statement.{AnswersDefine, Days, ModifyAll, ModifyOne, Replan, Statement, Steps, Trial}
 use Rattle.planner_machine.specs.Statement.{Undefine, decision_of, replan_fate}
-use Rattle.planner_machine.specs.Stream.{IsStatement, Runs}
+use Rattle.planner_machine.specs.Stream.{IsStatement}
 use Rattle.planner_machine.proofs.AssembleLemmas.{stands_in_deletions}
 use Rattle.planner_machine.proofs.ChangeSoundLemmas.{change_sound}
 use Rattle.planner_machine.proofs.CreateLemmas.{no_plan}
 use Rattle.planner_machine.proofs.DeleteLemmas.{stands_in_ltp}
 use Rattle.planner_machine.proofs.FateLemmas.{change_follows}
-use Rattle.planner_machine.proofs.FollowLemmas.{action_keeps, came, daily_keeps, deletion_keeps, stays_keeps}
-use Rattle.planner_machine.proofs.FreshLemmas.{Leaves, Told, at_ltp, both_told, carried, fresh_of, key_told, ltp_told}
+use Rattle.planner_machine.proofs.FollowLemmas.{action_keeps, daily_keeps, deletion_keeps, stays_keeps}
+use Rattle.planner_machine.proofs.FreshLemmas.{Leaves, both_told, carried, fresh_of, key_told}
 use Rattle.planner_machine.proofs.FreshLemmas.{left_out_operator, made_stands, named_after, operator_told, some_stands}
 use Rattle.planner_machine.proofs.FreshModifyLemmas.{modified_named, modified_stands}
 use Rattle.planner_machine.proofs.ModifyLemmas.{any_tests, that_tests}
 use Rattle.planner_machine.proofs.NewEndLemmas.{by_end}
-use Rattle.planner_machine.proofs.SeatLemmas.{going, not_empty}
+use Rattle.planner_machine.proofs.SeatLemmas.{not_empty}
 use Rattle.planner_machine.proofs.SoundLemmas.{rows_sound}
 use Rattle.planner_machine.proofs.StepLemmas.{asks_nothing, step_keeps}
 

@@ -21,7 +21,7 @@ use Rattle.definition_records.proofs.ByNameLemmas.{same_name}
 use Rattle.definition_records.specs.Applications.{FitsApplication, IsApplicationOf}
 use Rattle.definition_records.specs.ByName.{FitsKind, IsDefinedBy, records_of}
 use Rattle.definition_records.specs.CycleRecords.{AreRunCyclesOf, FitsRunCycle, SpellsType, SpellsRunCycle}
-use Rattle.definition_records.specs.Fields.{IsEmptyOr, field, number_value}
+use Rattle.definition_records.specs.Fields.{IsEmptyOr, field}
 use Rattle.definition_records.specs.Predecessors.{ArePredecessorsOf, FitsPredecessors, IsWithinText}
 use Rattle.definition_records.specs.Predecessors.{predecessor_of, predecessors_of, within_of}
 use Rattle.definition_records.specs.declared.predecessors.Predecessor.{Predecessor}

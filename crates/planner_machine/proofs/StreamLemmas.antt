@@ -34,19 +34,6 @@ run_sound (s ∷ stream) (a ∷ az) c c' sound fine (next, d, r) =
     run_sound stream az next c' (step_keeps s (All-head IsStatement s stream fine) c sound a next d)
     (All-tail IsStatement s stream fine) r
 
--- serials are never taken back
-issued_grows : (stream : List Statement) (answers : List Answer) (c c' : Content) → IsSound c → All IsStatement stream
-    → Runs stream c answers c' → c.sets.issued ≤ c'.sets.issued
-issued_grows [] [] c c' sound fine r = subst (λ (x : Content). c.sets.issued ≤ x.sets.issued) (sym r) (omega arith)
-issued_grows [] (a ∷ az) c c' sound fine r = absurd r
-issued_grows (s ∷ stream) [] c c' sound fine r = absurd r
-issued_grows (s ∷ stream) (a ∷ az) c c' sound fine (next, d, r) =
-    let (drafts, makes, follows) = step_follows s c sound a next d in
-    let issues = follows.issues in
-    let rest = issued_grows stream az next c' (step_keeps s (All-head IsStatement s stream fine) c sound a next d)
-    (All-tail IsStatement s stream fine) r in
-    omega arith
-
 -- what stood goes on by its fates
 goes_on : (stream : List Statement) (answers : List Answer) (c c' : Content) → IsSound c → All IsStatement stream
     → (run : Runs stream c answers c') → (serial : ℕ) (p : PlacedRow) → StandsAt c.sets serial p → (q : PlacedRow)

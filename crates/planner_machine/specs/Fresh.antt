@@ -18,7 +18,7 @@ use Rattle.planner_machine.specs.Drafts.{NamesWithin}
 use Rattle.planner_machine.specs.Fate.{IsGenerated}
 use Rattle.planner_machine.specs.Moves.{numbered_row}
 use Rattle.planner_machine.specs.Sound.{IsSound}
-use Rattle.planner_machine.specs.Statement.{Answer, Change, Create, Define, DefineJob, Job, ModifyAll, Statement, Undefine}
+use Rattle.planner_machine.specs.Statement.{Answer, Change, Define, DefineJob, Job, Statement, Undefine}
 use Rattle.planner_machine.specs.Statement.{decision_of}
 use Rattle.planner_machine.specs.Stream.{IsStatement, Runs}
 

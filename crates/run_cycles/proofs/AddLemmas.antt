@@ -1,6 +1,6 @@
 -- Lists of days that grow.
 use Rattle.std.proofs.Common.{◌≡◌, ℕ, ◌+◌, ◌<◌, ◌≤◌, ◌⊎◌, ◌↔◌, ℤ, pos, negsuc, List, [], ◌∷◌, ◌++◌, length, get_or}
-use Rattle.std.proofs.Common.{take, inl, inr, ⊎_elim, sym, subst, ◌∙◌, to_z, of_z, arith, length-take}
+use Rattle.std.proofs.Common.{take, inl, inr, ⊎_elim, sym, subst, ◌∙◌, to_z, of_z, arith}
 use Rattle.std.specs.Prelude.{All, Any, Contains, OnOk, Result, Ok, Err}
 use Rattle.std.proofs.lemmas.Int.{to_z-of_z}
 use Rattle.std.proofs.lemmas.List.{take_more, take_all}
@@ -24,14 +24,6 @@ read xs i sound in' = sym (to_z-of_z w16 (get_or xs i (pos 0))
 -- nothing is added
 pub adds_none : (P : ℕ → Type 0) (xs : List ℕ) → ((d : ℕ) → ¬ (P d)) → AddsDays P xs xs
 adds_none P xs none d = ((λ h. inl h), λ s. ⊎_elim (λ h. h) (λ p. absurd (none d p)) s)
-
--- one day is added
-pub adds_one : (P : ℕ → Type 0) (xs : List ℕ) (x : ℕ) → P x → ((d : ℕ) → P d → x ≡ d) → AddsDays P xs (xs ++ x ∷ [])
-adds_one P xs x at only d = (
-  (λ h. ⊎_elim (λ a. inl a) (λ e. inr (subst P e at)) (Contains-push_cases xs x d h)),
-  λ s. ⊎_elim (λ a. Contains-append_left xs (x ∷ []) d a) (λ p. let R : ℕ →
-      Type 0 = λ z. Contains (xs ++ x ∷ []) z in subst R (only d p) (Contains-push xs x)) s,
-)
 
 -- first these and then those
 pub adds_both : (P Q R : ℕ → Type 0) (old mid new : List ℕ) →
@@ -74,9 +66,6 @@ module _ (P : ℤ → Type 0) (xs : List ℤ) (n : ℕ) (k : ℤ) (in' : n < len
         (λ p. any_of P (take n xs ++ k ∷ []) k (Contains-push (take n xs) k) p) s),
   )
 
-pub any_none : (P : ℤ → Type 0) (xs : List ℤ) → ¬ (Any P (take 0 xs))
-any_none P xs h = absurd (omega (arith, length-take 0 xs, h.2))
-
 pub any_all : (P : ℤ → Type 0) (xs : List ℤ) (n : ℕ) → length xs ≤ n → Any P (take n xs) ↔ Any P xs
 any_all P xs n whole =
     let Q : List ℤ → Type 0 = λ l. Any P l in
@@ -115,12 +104,6 @@ window_all low high P offsets n whole old new =
       (λ h. (h.0, h.1, (any_all (λ j. P (offset_of j) d) offsets n whole).0 h.2)),
       λ h. (h.0, h.1, (any_all (λ j. P (offset_of j) d) offsets n whole).1 h.2),
     ))
-
--- no offset yet
-pub window_none : (low high : ℕ) (P : Offset → ℕ → Type 0) (offsets : List ℤ) (old : List ℕ) →
-    AddsDays (IsInWindow low high P (take 0 offsets)) old old
-window_none low high P offsets old = adds_none (IsInWindow low high P (take 0 offsets)) old
-    (λ d h. any_none (λ j. P (offset_of j) d) offsets h.2)
 
 -- the same days said in other words
 pub window_same : (low high : ℕ) (P Q : Offset → ℕ → Type 0) (offsets : List ℤ) (old new : List ℕ) →

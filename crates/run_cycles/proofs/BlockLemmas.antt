@@ -12,7 +12,7 @@ use Rattle.run_cycles.specs.declared.rules.Rule.TheVariants.{WorkDaysOnly}
 use Rattle.run_cycles.specs.CountedDay.{HasPlace, IsCountedDay, work_days_among}
 use Rattle.run_cycles.specs.Offset.{Offset, FromFirst, FromLast, offset_of}
 use Rattle.run_cycles.specs.Searches.{AddsDays, IsGivenAt, IsInWindow}
-use Rattle.run_cycles.proofs.AddLemmas.{adds_both, adds_none, adds_same}
+use Rattle.run_cycles.proofs.AddLemmas.{adds_both, adds_same}
 use Rattle.run_cycles.proofs.CountLemmas.{among_origin}
 use Rattle.run_cycles.proofs.JumpLemmas.{from_first}
 
@@ -92,9 +92,6 @@ module _ (work : ℕ → Bool) (o n : ℕ) (some : 0 < n) where
     abbrev pub InBlocks : ℕ → ℕ → ℕ → Type 0
     InBlocks first next d =
         (low ≤ d) × (d < high) × ((b : ℕ) × (first ≤ b) × (b < next) × Any (λ k. At b (offset_of k) d) offsets)
-
-    pub blocks_start : (first : ℕ) (old : List ℕ) → AddsDays (InBlocks first first) old old
-    blocks_start first old = adds_none (InBlocks first first) old (λ d h. omega (arith, h.2.1, h.2.2))
 
     pub blocks_more : (first next : ℕ) → first ≤ next → (old mid new : List ℕ) →
         AddsDays (InBlocks first next) old mid → AddsDays (IsInWindow low high (At next) offsets) mid new →

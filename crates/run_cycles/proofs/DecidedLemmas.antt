@@ -19,10 +19,7 @@ use Rattle.run_cycles.specs.Occurrence.{PeriodMap, HasDeadline, HaveOwnNames, Is
 use Rattle.run_cycles.specs.Occurrence.{IsNormal, IsOccurrence, IsOccurrenceBetween, ListsInOrder, NamesAt, TakesAt}
 use Rattle.run_cycles.proofs.NameLemmas.{at_most_itself}
 use Rattle.run_cycles.proofs.OccurrenceLemmas.{one_occurrence}
-use Rattle.run_cycles.proofs.OrderLemmas.{lists_none, lists_push, lists_same}
-
-none_some : {X : Type 0} (x : X) → ¬ (None ≡ Some x)
-none_some x e = cc
+use Rattle.run_cycles.proofs.OrderLemmas.{lists_push, lists_same}
 
 -- a place that isn't the first of its day and time decides nothing
 pub not_first : (xs : List Naming) (n : ℕ) → n < length xs →
@@ -158,9 +155,6 @@ module _ (xs : List Naming) (order : InOrder xs) where
       (together_or_not (get_or xs m z) z)
 
   -- ---- the list of what is decided
-
-  pub decided_none : (n : ℕ) → n ≡ 0 → ListsInOrder (IsDecidedBefore xs n) []
-  decided_none n none = lists_none (IsDecidedBefore xs n) (λ x h. absurd (omega (arith, none, h.1)))
 
   decided_later : (n : ℕ) (x : Named) → DecidesAt xs n x → (y : Named) → IsDecidedBefore xs n y → IsEarlier y x
   decided_later n x (b, h, in', first, given, is) y (k, less, by) =

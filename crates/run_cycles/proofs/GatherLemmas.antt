@@ -1,5 +1,5 @@
 -- What is gathered on a walk over the intervals that meet a range.
-use Rattle.std.proofs.Common.{◌≡◌, ℕ, zero, suc, ◌+◌, ◌*◌, ◌<◌, ◌≤◌, ◌⊎◌, ◌↔◌, ℤ, Bool, List, [], ◌∷◌, Some, None}
+use Rattle.std.proofs.Common.{◌≡◌, ℕ, zero, suc, ◌+◌, ◌*◌, ◌<◌, ◌≤◌, ◌⊎◌, ◌↔◌, ℤ, Bool, List, [], ◌∷◌, Some}
 use Rattle.std.proofs.Common.{length, get_or, inl, inr, ⊎_elim, sym, subst, refl, arith}
 use Rattle.std.proofs.Math.Nat.{mul-le-mul_right}
 use Rattle.std.specs.Prelude.{Contains}
@@ -33,10 +33,6 @@ in_any P (y ∷ xs) x (suc k) within at p = inr (in_any P xs x k (omega (arith, 
 abbrev pub IsGathering : (ℕ → Interval → Type 0) → List ℕ → List Interval → List ℕ → List Interval → Type 0
 IsGathering G old whole days left =
     (d : ℕ) → (Contains days d ⊎ AnyIn (G d) left) ↔ (Contains old d ⊎ AnyIn (G d) whole)
-
-pub gathering_starts : (G : ℕ → Interval → Type 0) (old : List ℕ) (whole : List Interval) →
-    IsGathering G old whole old whole
-gathering_starts G old whole d = ((λ h. h), λ h. h)
 
 pub gathering_goes_on : (G : ℕ → Interval → Type 0) (old : List ℕ)
     (whole : List Interval) (days new : List ℕ) (left after : List Interval) (x : Interval) →
@@ -96,13 +92,5 @@ visits_some (AllDays o n) x before after is h = omega (arith, h)
 visits_some (Work o n) x before after is h = absurd is
 visits_some (Listed entries) x before after is h = omega (arith, h.0)
 
-pub visits_none : (period : Period) (before after : ℕ) → CountsVisits period None before after → before ≤ after
-visits_none (AllDays o n) before after h = omega (arith, h)
-visits_none (Work o n) before after h = omega (arith, h)
-visits_none (Listed entries) before after h = omega (arith, h.0)
-
 pub more_visits : (v w m : ℕ) → v + 1 ≤ w → v * m + m ≤ w * m
 more_visits v w m h = let l = mul-le-mul_right m h in omega (arith, l)
-
-pub no_fewer_visits : (v w m : ℕ) → v ≤ w → v * m ≤ w * m
-no_fewer_visits v w m h = mul-le-mul_right m h

@@ -15,5 +15,4 @@ pub mod OrderLemmas
 pub mod PeriodsLemmas
 pub mod PlaceLemmas
 pub mod ReachLemmas
-pub mod ShiftLemmas
 pub mod WalkLemmas

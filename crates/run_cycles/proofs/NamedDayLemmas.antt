@@ -1,16 +1,11 @@
 -- Which definition an offset's day goes by.
-use Rattle.std.proofs.Common.{◌≡◌, ◌≤◌, ◌↔◌, ℕ, ℤ, Bool, List, sym, subst, refl}
-use Rattle.std.specs.Prelude.{Any}
-use Rattle.work_calendars.specs.Day.{IsDay}
+use Rattle.std.proofs.Common.{◌≡◌, ℕ, Bool, refl}
 use Rattle.plan_periods.specs.declared.periods.Period.{Period}
 use Rattle.plan_periods.specs.declared.periods.Period.TheVariants.{All as AllDays, Work, Listed}
 use Rattle.run_cycles.specs.declared.rules.Rule.{Rule}
 use Rattle.run_cycles.specs.declared.rules.Rule.TheVariants.{WorkDaysOnly, Before, After, Same, Skip}
 use Rattle.run_cycles.specs.CountedDay.{IsCountedInInterval}
-use Rattle.run_cycles.specs.Offset.{Offset, offset_of}
-use Rattle.run_cycles.specs.Searches.{IsRawDayWithin}
-use Rattle.run_cycles.specs.Shift.{IsShifted}
-use Rattle.run_cycles.proofs.Iff.{Any-weaker}
+use Rattle.run_cycles.specs.Offset.{Offset}
 use Rattle.run_cycles.specs.NamedDay.{GivesDay, IsShiftedDay}
 
 -- where the work days of intervals count alone, a day is given by an interval that counts it
@@ -35,27 +30,3 @@ gives_shifted (Listed entries) Before work d k no_work no_rule = refl
 gives_shifted (Listed entries) After work d k no_work no_rule = refl
 gives_shifted (Listed entries) Same work d k no_work no_rule = refl
 gives_shifted (Listed entries) Skip work d k no_work no_rule = refl
-
-module _ (period : Period) (rule : Rule) (work : ℕ → Bool) (d low high : ℕ) (offsets : List ℤ) (no_work : (o n : ℕ) →
-    ¬ (period ≡ Work o n)) (no_rule : ¬ (rule ≡ WorkDaysOnly)) (sources : (x : ℕ) →
-    IsDay x → (IsShifted rule work x d ↔ ((low ≤ x) × (x ≤ high)))) where
-  -- the days that raw days within the range give
-  pub given_from_raw : Any (λ k. IsRawDayWithin low high period (offset_of k)) offsets ↔
-      Any (λ k. GivesDay period rule work d (offset_of k)) offsets
-  given_from_raw = (
-    Any-weaker (λ k. IsRawDayWithin low high period (offset_of k))
-        (λ k. GivesDay period rule work d (offset_of k)) offsets
-        (λ k (x, from, to, raw).
-        let P : Type 0 → Type 0 = λ T. T in
-        let given : IsShiftedDay period rule work d (offset_of k) = (x, raw, (sources x raw.0).1 (from, to)) in
-        subst P (sym (gives_shifted period rule work d (offset_of k) no_work no_rule)) given),
-    Any-weaker (λ k. GivesDay period rule work d (offset_of k))
-        (λ k. IsRawDayWithin low high period (offset_of k)) offsets
-        (λ k h.
-        let P : Type 0 → Type 0 = λ T. T in
-        let given : IsShiftedDay period rule work d (offset_of k) =
-        subst P (gives_shifted period rule work d (offset_of k) no_work no_rule) h in
-        let (x, raw, shifted) = given in
-        let within = (sources x raw.0).0 shifted in
-        (x, within.0, within.1, raw)),
-  )

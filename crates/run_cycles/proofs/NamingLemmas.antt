@@ -1,6 +1,6 @@
 -- What run cycles name, as lists of days and times.
-use Rattle.std.proofs.Common.{◌≡◌, ℕ, ◌+◌, ◌<◌, ◌≤◌, ◌⊎◌, ◌↔◌, Bool, List, [], ◌∷◌, ◌++◌, map, Option, Some, None}
-use Rattle.std.proofs.Common.{length, get_or, take, inl, inr, ⊎_elim, sym, subst, ap, ◌∙◌, arith, length-take}
+use Rattle.std.proofs.Common.{◌≡◌, ℕ, ◌+◌, ◌<◌, ◌≤◌, ◌⊎◌, ◌↔◌, Bool, List, [], ◌∷◌, ◌++◌, map, Option, Some}
+use Rattle.std.proofs.Common.{length, get_or, take, inl, inr, ⊎_elim, sym, subst, ap, ◌∙◌, arith}
 use Rattle.std.specs.Prelude.{AllPairs, Any, Contains, IsSomeAnd}
 use Rattle.std.proofs.lemmas.List.{get_or-map, length-map, take_more, take_all}
 use Rattle.std.proofs.lemmas.List.Elements.{Contains-append_left, Contains-push, Contains-push_cases}
@@ -81,27 +81,12 @@ adds_list P old new list is says x =
       λ s. subst Q (sym is) (pushed.1 (⊎_elim (λ o. inl o) (λ p. inr ((says x).1 p)) s)),
     )
 
-pub adds_nothing : (P : Naming → Type 0) (old new : List (List Naming)) →
-    new ≡ old → ((x : Naming) → ¬ (P x)) → AddsNamings P old new
-adds_nothing P old new same none x =
-    let Q : List (List Naming) → Type 0 = λ l. Any (λ s. Contains s x) l in (
-      (λ h. inl (subst Q same h)),
-      λ s. ⊎_elim (λ o. subst Q (sym same) o) (λ p. absurd (none x p)) s,
-    )
-
 -- the lists of the first n run cycles
 abbrev pub FirstLists : (RunCycle → Naming → Type 0) → List RunCycle → ℕ → List (List Naming) → Type 0
 FirstLists G cycles n lists =
     (x : Naming) → Any (λ list. Contains list x) lists ↔ Any (λ cycle. G cycle x) (take n cycles)
 
 module _ (G : RunCycle → Naming → Type 0) (cycles : List RunCycle) where
-  pub no_lists : (lists : List (List Naming)) → lists ≡ [] → FirstLists G cycles 0 lists
-  no_lists lists none x =
-      let Q : List (List Naming) → Type 0 = λ l. Any (λ s. Contains s x) l in (
-        (λ h. let out = subst Q none h in absurd (omega (arith, out.2))),
-        λ h. absurd (omega (arith, length-take 0 cycles, h.2)),
-      )
-
   pub more_lists : (n : ℕ) (c : RunCycle) → n < length cycles →
       get_or cycles n c ≡ c → (old new : List (List Naming)) →
       FirstLists G cycles n old → AddsNamings (G c) old new → FirstLists G cycles (n + 1) new
@@ -129,10 +114,6 @@ window_any from to P cycles x = (
   (λ (k, c, in', at, h). (h.0, h.1, (k, c, in', at, h.2))),
   λ (low, high, any). let (k, c, in', at, p) = any in (k, c, in', at, (low, high, p)),
 )
-
--- a run cycle whose period isn't there names nothing
-pub no_period : (o : Option Period) (P : Period → Type 0) → o ≡ None → ¬ (IsSomeAnd o P)
-no_period o P none h = let Q : Option Period → Type 0 = λ p. IsSomeAnd p P in subst Q none h
 
 pub some_period : (o : Option Period) (p : Period) (P : Period → Type 0) → o ≡ Some p → P p ↔ IsSomeAnd o P
 some_period o p P is = let Q : Option Period → Type 0 = λ q. P p ↔ IsSomeAnd q P in subst Q (sym is) ((λ h. h), λ h. h)

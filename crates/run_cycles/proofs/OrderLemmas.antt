@@ -1,16 +1,10 @@
 -- Lists of occurrences in order.
-use Rattle.std.proofs.Common.{◌≡◌, ◌<◌, ◌⊎◌, ◌↔◌, List, [], ◌∷◌, ◌++◌, get_or, subst, ⊎_elim, inl, inr, arith}
+use Rattle.std.proofs.Common.{◌≡◌, ◌⊎◌, ◌↔◌, List, [], ◌∷◌, ◌++◌, get_or, subst, ⊎_elim, inl, inr}
 use Rattle.std.specs.Prelude.{Contains}
 use Rattle.std.proofs.lemmas.List.Elements.{Contains-append_left, Contains-push, Contains-push_cases, Contains-get_or}
 use Rattle.std.proofs.lemmas.List.Quantifiers.{all_pairs_push}
 use Rattle.run_cycles.specs.declared.named.Named.{Named}
 use Rattle.run_cycles.specs.Occurrence.{IsEarlier, ListsInOrder}
-
-pub lists_none : (P : Named → Type 0) → ((x : Named) → ¬ (P x)) → ListsInOrder P []
-lists_none P none = record {
-  exactly = λ x. ((λ h. absurd (let out : h.0 < 0 = h.1 in omega arith)), λ p. absurd (none x p));
-  in_order = λ i j d h in'. absurd (omega arith);
-}
 
 pub lists_same : (P Q : Named → Type 0) (xs : List Named) → ListsInOrder P xs →
     ((x : Named) → P x ↔ Q x) → ListsInOrder Q xs

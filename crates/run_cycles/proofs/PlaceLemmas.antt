@@ -1,7 +1,6 @@
 -- Days at offsets, as numbers before an end.
-use Rattle.std.proofs.Common.{◌≡◌, ℕ, ◌+◌, ◌<◌, ◌≤◌, ◌↔◌, Bool, IsTrue, Option, Some, None, IfSome, option_map, sym}
-use Rattle.std.proofs.Common.{subst, ◌∙◌, arith}
-use Rattle.work_calendars.specs.Day.{IsDay}
+use Rattle.std.proofs.Common.{◌≡◌, ℕ, ◌+◌, ◌<◌, ◌≤◌, ◌↔◌, Option, Some, None, IfSome, option_map, sym}
+use Rattle.std.proofs.Common.{◌∙◌, arith}
 use Rattle.run_cycles.specs.Offset.{Offset, FromFirst, FromLast}
 use Rattle.run_cycles.specs.RawDay.{IsDayAt}
 use Rattle.run_cycles.specs.Searches.{IsDayAtWithin, IsPlaceAt}
@@ -18,9 +17,6 @@ place_is_day (FromFirst k) first last x =
 place_is_day (FromLast k) first None x = ((λ h. absurd h), λ h. absurd h)
 place_is_day (FromLast k) first (Some last) x = ((λ h. (h.0, h.1, h.2)), λ h. (h.0, h.1, h.2))
 
-same_some : (x y : ℕ) → Some x ≡ Some y → x ≡ y
-same_some x y e = cc
-
 none_some : {X : Type 0} (x : X) → ¬ (None ≡ Some x)
 none_some x e = cc
 
@@ -29,24 +25,3 @@ module _ (k : Offset) (first low high : ℕ) (last : Option ℕ) where
   pub none_within : (o : Option ℕ) → o ≡ None → ((x : ℕ) → IsPlaceAt k first (option_map (λ l. l + 1) last) x →
       o ≡ Some x) → ¬ (IsDayAtWithin low high k first last)
   none_within o none only h = none_some h.0 (sym none ∙ only h.0 ((place_is_day k first last h.0).1 h.4))
-
-  -- the number at the offset is the day there, which lies in the range or doesn't
-  pub some_within : (o : Option ℕ) (x : ℕ) (b : Bool) → o ≡ Some x →
-      IsPlaceAt k first (option_map (λ l. l + 1) last) x → ((y : ℕ) →
-      IsPlaceAt k first (option_map (λ l. l + 1) last) y → o ≡ Some y) →
-      IsDay low → IsDay high → (IsTrue b ↔ ((low ≤ x) × (x ≤ high))) → IsTrue b ↔ IsDayAtWithin low high k first last
-  some_within o x b is at only in_low in_high says = (
-    (λ t. let within = says.0 t in (
-      x,
-      within.0,
-      within.1,
-      (
-        omega (arith, within.0, in_low),
-        omega (arith, within.1, in_high),
-      ),
-      (place_is_day k first last x).0 at,
-    )),
-    λ h.
-        let same : x ≡ h.0 = same_some x h.0 (sym is ∙ only h.0 ((place_is_day k first last h.0).1 h.4)) in
-        says.1 (subst (λ y. (low ≤ y) × (y ≤ high)) (sym same) (h.1, h.2)),
-  )

@@ -1,7 +1,7 @@
 -- Offsets that lie within reach, and those left out, which name nothing.
 use Rattle.std.proofs.Common.{◌≡◌, ℕ, ◌+◌, ◌-◌, ◌<◌, ◌≤◌, ℤ, pos, Bool, List, [], ◌∷◌, ◌++◌, Option, Some, length}
 use Rattle.std.proofs.Common.{get_or, take, inl, inr, ⊎_elim, sym, subst, ◌∙◌, arith, length-take}
-use Rattle.std.proofs.lemmas.List.{get_or_default, take_more, take_all}
+use Rattle.std.proofs.lemmas.List.{take_more, take_all}
 use Rattle.std.proofs.lemmas.List.Elements.{Contains-append_left, Contains-push, Contains-push_cases}
 use Rattle.std.specs.Prelude.{All, Contains}
 use Rattle.plan_periods.specs.declared.periods.Period.{Period}
@@ -55,11 +55,6 @@ pub kept_all : (n : ℕ) (offsets : List ℤ) (i : ℕ) → length offsets ≤ i
 kept_all n offsets i whole kept h =
     let P : List ℤ → Type 0 = λ l. KeepsWithin n l kept in
     subst P (take_all i offsets whole) h
-
-pub kept_sound : (n : ℕ) (offsets kept : List ℤ) → All IsOffset offsets → KeepsWithin n offsets kept → All IsOffset kept
-kept_sound n offsets kept sound h i d in' =
-    let (j, in2, at) = ((h (get_or kept i d)).0 (i, in', get_or_default kept i _ d in')).0 in
-    subst IsOffset at (sound j (get_or kept i d) in2)
 
 -- the offset of a day of an interval of n days
 day_within : (k : Offset) (first n x : ℕ) → IsDayAt k first (Some (first + n - 1)) x → 1 ≤ n → IsWithin n k

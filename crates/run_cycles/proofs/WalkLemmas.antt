@@ -1,5 +1,5 @@
 -- What a walk over the intervals that meet a range finds.
-use Rattle.std.proofs.Common.{◌≡◌, ℕ, ◌≤◌, ◌↔◌, List, Bool, Option, Some, None, ℤ, IsTrue, true, false, arith}
+use Rattle.std.proofs.Common.{ℕ, ◌≤◌, ◌↔◌, List, Bool, Option, Some, None, ℤ, arith}
 use Rattle.std.specs.Prelude.{Any}
 use Rattle.plan_periods.specs.declared.intervals.Interval.{Interval}
 use Rattle.plan_periods.specs.declared.periods.Period.{Period}
@@ -9,9 +9,6 @@ use Rattle.run_cycles.specs.CountedDay.{IsCountedInInterval, IsWorkDayAt}
 use Rattle.run_cycles.specs.Offset.{Offset, FromFirst, FromLast, offset_of}
 use Rattle.run_cycles.specs.RawDay.{IsDayAt}
 use Rattle.run_cycles.specs.Searches.{IsDayAtWithin, IsRawDayWithin}
-
-pub not_found : (b : Bool) (Found : Type 0) → (IsTrue b ↔ Found) → b ≡ false → ¬ Found
-not_found b Found says is_false h = let is_true : b ≡ true = says.1 h in cc
 
 -- a day at an offset lies in the interval
 pub holds_day : (k : Offset) (first : ℕ) (end : Option ℕ) (x : ℕ) → IsDayAt k first end x → HoldsDay first end x

@@ -1,5 +1,5 @@
 -- The rows that stand for uses, and one more use.
-use Rattle.std.proofs.Common.{◌≡◌, ◌∙◌, ◌&&◌, ◌||◌, Bool, cond, true, false, not, refl, sym, ap, ℕ, List, [], ◌∷◌, ◌++◌}
+use Rattle.std.proofs.Common.{◌≡◌, ◌∙◌, ◌||◌, Bool, cond, true, false, not, refl, sym, ap, ℕ, List, [], ◌∷◌, ◌++◌}
 use Rattle.std.proofs.Common.{Option, Some, None, map, inl, inr, ◌⊎◌}
 use Rattle.std.specs.List.{fold}
 use Rattle.std.specs.Str.{bytes_eq}
@@ -7,11 +7,11 @@ use Rattle.std.proofs.lemmas.List.{map-append}
 use Rattle.clap.specs.Faults.{check_fault, defaults_fault, settle_fault, use_fault}
 use Rattle.clap.specs.Kinds.{Kinds, or_else}
 use Rattle.clap.specs.Takes.{is_given}
-use Rattle.clap.specs.Walk.{Held, Row, Rule, arg_by_id, at_row, first_of, has_row, more_values, settled, finished}
+use Rattle.clap.specs.Walk.{Held, Row, Rule, arg_by_id, at_row, has_row, more_values, settled, finished}
 use Rattle.clap.specs.Walk.{with_default, used, with_values}
 use Rattle.clap.specs.declared.builder.value_parser.Reading.TheVariants.{AsWritten}
 use Rattle.clap.specs.declared.parser.matches.ValueSource.TheVariants.{CommandLine}
-use Rattle.statement_words.specs.Grammar.{Text, Use, is_used, value_in}
+use Rattle.statement_words.specs.Grammar.{Text, Use, is_used}
 use Rattle.clap.specs.Simple.{Shape}
 use Rattle.statement_words.proofs.Rules.{IsSet, set_rule, shape_with}
 use Rattle.statement_words.proofs.Uses.{bool_cases, neither}
@@ -37,15 +37,6 @@ given-rows_for (u ∷ us) name = go (bool_cases (bytes_eq u.0 name)) (given-rows
   where
     go : (bytes_eq u.0 name ≡ true) ⊎ (bytes_eq u.0 name ≡ false) → is_given name (rows_for us) ≡ is_used name us
         → is_given name (rows_for (u ∷ us)) ≡ is_used name (u ∷ us)
-    go (inl t) rest = rw t refl
-    go (inr f) rest = rw f rest
-
-pub first-rows_for : (us : List Use) (name : Text) → first_of name (rows_for us) ≡ value_in us name
-first-rows_for [] name = refl
-first-rows_for (u ∷ us) name = go (bool_cases (bytes_eq u.0 name)) (first-rows_for us name)
-  where
-    go : (bytes_eq u.0 name ≡ true) ⊎ (bytes_eq u.0 name ≡ false) → first_of name (rows_for us) ≡ value_in us name
-        → first_of name (rows_for (u ∷ us)) ≡ value_in (u ∷ us) name
     go (inl t) rest = rw t refl
     go (inr f) rest = rw f rest
 
@@ -78,10 +69,6 @@ use_clean us name value long index required = go (bool_cases (is_used name us))
         → clean (use_fault false (set_rule name long index required) (value ∷ []) (rows_for us)) ≡ not (is_used name us)
     go (inl t) = rw (has_row-rows_for us name ∙ t, t) refl
     go (inr f) = rw (has_row-rows_for us name ∙ f, f) refl
-
-pub clean-or_else : (a b : Kinds) → clean (or_else a b) ≡ (clean a && clean b)
-clean-or_else [] b = refl
-clean-or_else (k ∷ ks) b = refl
 
 -- what is held before a word
 abbrev pub held_at : List Use → Option (Text × List Text) → Held

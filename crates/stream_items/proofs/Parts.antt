@@ -345,21 +345,6 @@ pub record Skipped (text : List ℕ) (now : Option (List ℕ)) : Type 0 where
   pub now_is : now ≡ Some left
   pub items : items_of text ≡ items_of left
 
-pub skips_nothing : (a : Option (List ℕ)) → IfSome a (λ text. Skipped text a)
-skips_nothing None = tt
-skips_nothing (Some text) = record { left = text; now_is = refl; items = refl }
-
--- one more line without an item
-pub skips_more : (text : List ℕ) (b c : Option (List ℕ)) (one : Option Item) → one ≡ None → Skipped text b
-    → IfSome b (λ zs. PartRead zs one c) → Skipped text c
-skips_more text b c one none s read =
-    let part = subst (λ o. IfSome o (λ zs. PartRead zs one c)) s.now_is read in
-    record {
-      left = part.left;
-      now_is = part.rest_is;
-      items = s.items ∙ part.items ∙ ap (λ o. listed o ++ items_of part.left) none;
-    }
-
 -- then an item
 item_met : (text : List ℕ) (b c : Option (List ℕ)) (one : Item) → Skipped text b
     → IfSome b (λ zs. PartRead zs (Some one) c) → ItemRead text (Some one) c

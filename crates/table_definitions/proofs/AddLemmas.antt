@@ -1,5 +1,5 @@
 -- Rows that are put behind others, one after another.
-use Rattle.std.proofs.Common.{◌≡◌, ◌≢◌, ◌↔◌, ◌⊎◌, inl, inr, ℕ, ◌<◌, ◌+◌, List, [], ◌∷◌, ◌++◌, Some, None, length}
+use Rattle.std.proofs.Common.{◌≡◌, ◌≢◌, ◌↔◌, ◌⊎◌, inl, inr, ℕ, ◌<◌, ◌+◌, List, [], ◌∷◌, ◌++◌, Some, length}
 use Rattle.std.proofs.Common.{zero, suc, refl, sym, ap, ◌∙◌, subst, arith, get_or}
 use Rattle.std.specs.Prelude.{slice_get, Contains, take}
 use Rattle.std.proofs.lemmas.Bool.{cases_lt}
@@ -23,15 +23,6 @@ module _ (cells : ℕ) where
       λ is. (h.rows v).1 (elim is [ inl old ↦ inl old | inr it ↦ inr ((same v).1 it) ]),
     );
     keys = λ own far. h.keys own (λ v w has is. far v w has ((same w).0 is));
-  }
-
-  pub adds_nothing : (P : Values → Type 0) (a : List Values) → ((v : Values) → P v → ⊥) → Adds cells P a a
-  adds_nothing P a none = record {
-    rows = λ v. (
-      λ has. inl has,
-      λ is. elim is [ inl old ↦ old | inr it ↦ absurd (none v it) ],
-    );
-    keys = λ own _. own;
   }
 
   pub adds_both : (P Q : Values → Type 0) (a b c : List Values)
@@ -78,9 +69,6 @@ is_some : {X : Type 0} (a b : X) → Some a ≡ Some b → a ≡ b
 is_some a b e = cc
 
 module _ (cells : ℕ) {X : Type 0} (IsAt : ℕ → X → Values → Type 0) (xs : List X) where
-  pub adds_start : (a : List Values) → Adds cells (IsOfPlace IsAt xs 0) a a
-  adds_start a = adds_nothing cells (IsOfPlace IsAt xs 0) a (λ v (place, x, under, at, is). omega (arith, under))
-
   step_to : (n : ℕ) (x : X) → slice_get xs n ≡ Some x → (v : Values) → IsOfPlace IsAt xs n v ⊎ IsAt n x v
       → IsOfPlace IsAt xs (n + 1) v
   step_to n x at v (inl (place, y, under, there, is)) = (place, y, omega (arith, under), there, is)
@@ -118,12 +106,6 @@ pub adds_named : (cells : ℕ) {D : Type 0} (IsRow : List ℕ → D → Values �
     → Adds cells (IsOfName IsRow all name) a b
 adds_named cells {D} IsRow all name d a b at h = adds_as cells (IsRow name d) (IsOfName IsRow all name) a b
     (λ v. (λ is. (d, at, is), λ (e, got, is). subst (λ z. IsRow name z v) (is_some e d (sym got ∙ at)) is)) h
-
--- there is none, where there is no definition
-pub adds_unnamed : (cells : ℕ) {D : Type 0} (IsRow : List ℕ → D → Values → Type 0) (all : ByName D) (name : List ℕ)
-    (a : List Values) → map.get all name ≡ None → Adds cells (IsOfName IsRow all name) a a
-adds_unnamed cells {D} IsRow all name a none = adds_nothing cells (IsOfName IsRow all name) a
-    (λ v (d, got, is). absurd (let h : ⊥ = cc in h))
 
 -- the rows of the definitions of all names are those of all definitions
 pub adds_all : (cells : ℕ) {D : Type 0} (IsRow : List ℕ → D → Values → Type 0) (all : ByName D) (names : List (List ℕ))
@@ -198,9 +180,6 @@ of_places {X} IsAt xs v = (
 -- ---- rows of the first numbers
 
 module _ (cells : ℕ) (Is : ℕ → Values → Type 0) where
-  pub first_none : (a : List Values) → Adds cells (IsUpTo Is 0) a a
-  first_none a = adds_nothing cells (IsUpTo Is 0) a (λ v (k, under, is). omega (arith, under))
-
   more_to : (n : ℕ) (v : Values) → IsUpTo Is n v ⊎ Is n v → IsUpTo Is (n + 1) v
   more_to n v (inl (k, under, is)) = (k, omega (arith, under), is)
   more_to n v (inr is) = (n, omega arith, is)

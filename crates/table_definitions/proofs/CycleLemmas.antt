@@ -12,7 +12,7 @@ use Rattle.table_definitions.specs.Gathering.{Alike, Joins}
 use Rattle.table_definitions.specs.Placed.{AreInOrder, ByPlace, IsListed, IsPlaced}
 use Rattle.table_definitions.specs.declared.cycle_parts.CyclePart.{CyclePart}
 use Rattle.table_definitions.specs.declared.told_cycles.ToldCycle.{ToldCycle}
-use Rattle.table_definitions.proofs.PlaceLemmas.{in_order_listed, listed_in_order}
+use Rattle.table_definitions.proofs.PlaceLemmas.{listed_in_order}
 
 pub offset_back : (name : List ℕ) (k l : ℕ) (x y : ℤ) → offset_tail name k x ≡ offset_tail name l y
     → (k ≡ l) × (x ≡ y)
@@ -83,19 +83,6 @@ no_part name row m v empty none (inl (is, long, named)) =
 no_part name row m v empty none (inr is) = none is
 
 -- ---- what was read makes a run cycle
-
-pub part_alike : (name : List ℕ) (row : Values) (m : ByPlace ℤ) (d : CyclePart) → row ≡ told_values name d.told
-    → AreInOrder d.offsets m → Alike (IsPartRow name d) (IsReadPart name row m)
-part_alike name row m d told order v = (
-  λ is. elim is [
-    | inl it ↦ inl (it ∙ sym told, nine name d.told row told, ap (λ (r : Values). column r 0) told)
-    | inr it ↦ inr ((in_order_listed (offset_tail name) (offset_back name) d.offsets m order v).0 it)
-  ],
-  λ is. elim is [
-    | inl (it, long, named) ↦ inl (it ∙ told)
-    | inr it ↦ inr ((in_order_listed (offset_tail name) (offset_back name) d.offsets m order v).1 it)
-  ],
-)
 
 module _ (name : List ℕ) (row : Values) (m : ByPlace ℤ) (d : CyclePart)
     (alike : Alike (IsPartRow name d) (IsReadPart name row m)) where

@@ -18,39 +18,14 @@ use Rattle.std.proofs.lemmas.List.{get_or-set_same, get_or-set_other}
 use Rattle.std.proofs.lemmas.Option.{get_or_from_slice_get}
 use Rattle.sqlite.specs.declared.types.Value.{Value}
 use Rattle.work_calendars.specs.Calendar.{CalendarEntries, no_entries, with_date, with_weekday}
-use Rattle.work_calendars.specs.Day.{IsDay}
 use Rattle.work_calendars.specs.declared.statuses.DayStatus.{DayStatus}
 use Rattle.work_calendars.specs.declared.statuses.DayStatus.TheVariants.{Work, Free}
-use Rattle.table_definitions.proofs.AddLemmas.{under_get}
-use Rattle.table_definitions.specs.Drafted.{IsReadApplication, IsSoundCalendar, TellsEntry}
+use Rattle.table_definitions.specs.Drafted.{IsReadApplication, TellsEntry}
 use Rattle.table_definitions.specs.Drafted.{calendar_values}
 use Rattle.table_definitions.specs.Gathering.{Alike, Joins, Within}
 
 some_is : {X : Type 0} (a b : X) → Some a ≡ Some b → a ≡ b
 some_is a b e = cc
-
--- ---- rows of some width
-
-pub width_2 : (v : Values) → length v ≡ 2 → v ≡ column v 0 ∷ column v 1 ∷ []
-width_2 [] long = absurd (omega (arith, long))
-width_2 (a ∷ []) long = absurd (omega (arith, long))
-width_2 (a ∷ b ∷ []) long = refl
-width_2 (a ∷ b ∷ c ∷ v) long = absurd (omega (arith, long))
-
-pub width_3 : (v : Values) → length v ≡ 3 → v ≡ column v 0 ∷ column v 1 ∷ column v 2 ∷ []
-width_3 [] long = absurd (omega (arith, long))
-width_3 (a ∷ []) long = absurd (omega (arith, long))
-width_3 (a ∷ b ∷ []) long = absurd (omega (arith, long))
-width_3 (a ∷ b ∷ c ∷ []) long = refl
-width_3 (a ∷ b ∷ c ∷ d ∷ v) long = absurd (omega (arith, long))
-
-pub width_4 : (v : Values) → length v ≡ 4 → v ≡ column v 0 ∷ column v 1 ∷ column v 2 ∷ column v 3 ∷ []
-width_4 [] long = absurd (omega (arith, long))
-width_4 (a ∷ []) long = absurd (omega (arith, long))
-width_4 (a ∷ b ∷ []) long = absurd (omega (arith, long))
-width_4 (a ∷ b ∷ c ∷ []) long = absurd (omega (arith, long))
-width_4 (a ∷ b ∷ c ∷ d ∷ []) long = refl
-width_4 (a ∷ b ∷ c ∷ d ∷ e ∷ v) long = absurd (omega (arith, long))
 
 -- ---- applications
 
@@ -248,17 +223,6 @@ no_entry name v is = let (k, d, s, it, tells) = entry_of name no_entries v is in
     none_listed (suc (suc (suc (suc (suc zero))))) s e = let h : ⊥ = cc in h
     none_listed (suc (suc (suc (suc (suc (suc zero)))))) s e = let h : ⊥ = cc in h
     none_listed (suc (suc (suc (suc (suc (suc (suc n))))))) s e = let h : ⊥ = cc in h
-
--- the entry of a sound calendar is in its week, or a day
-pub entry_in_range : (name : List ℕ) (c : CalendarEntries) (kind day : ℕ) (status : DayStatus)
-    → IsSoundCalendar name c → TellsEntry c kind day status → ((kind ≡ 0) × (day < 7)) ⊎ ((kind ≡ 1) × IsDay day)
-entry_in_range name c kind day status sound (inl (is, at)) = inl (
-  is,
-  let less : day < length c.weekdays =
-      under_get c.weekdays day (Some status) (reads_some c.weekdays day status at) in
-      let week = sound.week in omega (arith, less, week),
-)
-entry_in_range name c kind day status sound (inr (is, at)) = inr (is, sound.days day status at)
 
 -- of one entry there is one status
 pub one_status : (c : CalendarEntries) (kind day : ℕ) (s t : DayStatus) → TellsEntry c kind day s

@@ -85,9 +85,6 @@ module _ {X : Type 0} where
     pub long : length xs ≡ n
     pub first : (k : ℕ) → k < n → slice_get xs k ≡ map.get m k
 
-  pub first_none : (xs : List X) (m : ByPlace X) → xs ≡ [] → AreFirst xs 0 m
-  first_none xs m is = record { long = ap length is; first = λ k less. absurd (omega (arith, less)) }
-
   pub first_more : (xs : List X) (n : ℕ) (m : ByPlace X) (x : X) → AreFirst xs n m → map.get m n ≡ Some x
       → AreFirst (xs ++ x ∷ []) (n + 1) m
   first_more xs n m x h at = record {
@@ -145,13 +142,6 @@ none_placed values_of m v empty (place, x, at, is) = none_is_some (map.get m pla
 
 module _ {X : Type 0} (values_of : ℕ → X → Values)
     (back : (k l : ℕ) (x y : X) → values_of k x ≡ values_of l y → (k ≡ l) × (x ≡ y)) where
-  pub placed_has : (m : ByPlace X) (k : ℕ) (x : X) → map.get m k ≡ Some x
-      → Joins (IsPlaced values_of m) (values_of k x) (IsPlaced values_of m)
-  placed_has m k x at v = (
-    λ is. inl is,
-    λ some. elim some [ inl is ↦ is | inr is ↦ (k, x, at, is) ],
-  )
-
   pub placed_gets : (m : ByPlace X) (k : ℕ) (x : X) → map.get m k ≡ None
       → Joins (IsPlaced values_of m) (values_of k x) (IsPlaced values_of (map.insert m k x))
   placed_gets m k x none v = (

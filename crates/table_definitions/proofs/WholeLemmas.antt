@@ -7,7 +7,7 @@ use Rattle.std.specs.FinMap as maps
 use Rattle.std.specs.Map.{lookup}
 use Rattle.std.proofs.lemmas.List.{get_or-map, get_or_default, length-map}
 use Rattle.std.proofs.lemmas.List.Elements.{All-contains, Contains-append_cases, Contains-append_left}
-use Rattle.std.proofs.lemmas.List.Elements.{Contains-append_right, Contains-push, Contains-push_cases}
+use Rattle.std.proofs.lemmas.List.Elements.{Contains-append_right}
 use Rattle.sqlite.specs.Order.{Row as Values, column}
 use Rattle.sqlite.specs.declared.types.Value.TheVariants.{Text}
 use Rattle.work_calendars.specs.Name.{IsName, IsShort}
@@ -21,7 +21,7 @@ use Rattle.table_facts.specs.Facts.{IsCycleRow, IsOffsetRow}
 use Rattle.table_facts.proofs.Decoded.{text_in}
 use Rattle.table_definitions.specs.CycleParts.{IsPartRow, IsSoundPart, offset_tail}
 use Rattle.table_definitions.specs.DraftedCycles.{told_values}
-use Rattle.table_definitions.specs.Gathering.{Alike, AreSound, Joins}
+use Rattle.table_definitions.specs.Gathering.{Alike, AreSound}
 use Rattle.table_definitions.specs.Storing.{AreRowsOf}
 use Rattle.table_definitions.specs.Telling.{AreCycles}
 use Rattle.table_definitions.specs.WholeCycles.{ArePartsOf, AreSoundCycles, AreWide, HaveShortNames, IsEitherRow, IsKept}
@@ -143,33 +143,6 @@ either_tail app cycles tail = (
         inr (c, has, place, k, at, ap (λ (u : Values). let r : Values = Text app ∷ u in r) it)
   ],
 )
-
--- a row begins with its name
-row_at : (app : List ℕ) (row : Values) → column row 0 ≡ Text app → row ≡ Text app ∷ drop 1 row
-row_at app [] is = absurd (let h : ⊥ = cc in h)
-row_at app (v ∷ row) is = ap (λ u. let r : Values = u ∷ row in r) is
-
-pub kept_joins : (app : List ℕ) (tails new : List Values) (row tail : Values) → column row 0 ≡ Text app
-    → tail ≡ drop 1 row → new ≡ tails ++ tail ∷ [] → Joins (IsKept app tails) row (IsKept app new)
-kept_joins app tails new row tail named is put v = (
-  λ (w, has, at). elim (Contains-push_cases tails tail w (subst (λ l. Contains l w) put has)) [
-    | inl old ↦ inl (w, old, at)
-    | inr same ↦ inr (at ∙ ap (λ (u : Values). let r : Values = Text app ∷ u in r) (sym same ∙ is)
-        ∙ sym (row_at app row named))
-  ],
-  λ some. elim some [
-    | inl (w, has, at) ↦ (w, subst (λ l. Contains l w) (sym put) (Contains-append_left tails (tail ∷ []) w has), at)
-    | inr at ↦ (
-      tail,
-      subst (λ l. Contains l tail) (sym put) (Contains-push tails tail),
-      at ∙ row_at app row named ∙ ap (λ (u : Values). let r : Values = Text app ∷ u in r) (sym is),
-    )
-  ],
-)
-
-pub kept_nothing : (app : List ℕ) (tails : List Values) (v : Values) → tails ≡ [] → IsKept app tails v → ⊥
-kept_nothing app tails v none (tail, has, is) =
-    let (k, under, at) = subst (λ l. Contains l tail) none has in absurd (omega (arith, under))
 
 -- ---- run cycles that were made
 

@@ -1,3 +1,4 @@
+pub mod AmongLemmas
 pub mod StandingLemmas
 pub mod RowidTexts
 pub mod RowidLemmas

@@ -130,12 +130,3 @@ caused_since a b c same more limit Rows h = tt
 pub caused_by_content : (a b : State) (f : OpenFault) → (f ≡ Memory) ⊎ (f ≡ Rows) → IsCaused a b f
 caused_by_content a b f (inl is) = subst (IsCaused a b) (sym is) tt
 caused_by_content a b f (inr is) = subst (IsCaused a b) (sym is) tt
-
-pub unmade_by : (a b : State) (e : Error) → MayFail a b e → IsUnmade a b (fault_for e Unopened)
-unmade_by a b e (inl (store.OutOfMemory, is, more)) = subst (λ x. IsUnmade a b (fault_for x Unopened)) (sym is) tt
-unmade_by a b e (inl (store.Io, is, more)) = subst (λ x. IsUnmade a b (fault_for x Unopened)) (sym is) (inl more)
-unmade_by a b e (inl (store.Corrupt, is, more)) = subst (λ x. IsUnmade a b (fault_for x Unopened)) (sym is) (inl more)
-unmade_by a b e (inl (store.Full, is, more)) = subst (λ x. IsUnmade a b (fault_for x Unopened)) (sym is) (inl more)
-unmade_by a b e (inl (store.Broken, is, shut)) = subst (λ x. IsUnmade a b (fault_for x Unopened)) (sym is) (inr shut)
-unmade_by a b e (inl (store.Unstorable, is, none)) = absurd none
-unmade_by a b e (inr h) = subst (λ x. IsUnmade a b (fault_for x Unopened)) (sym h.0) h.1

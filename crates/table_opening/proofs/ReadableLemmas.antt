@@ -1,16 +1,9 @@
 -- The rows of a sound content can be read, and its definitions have their rows.
-use Rattle.std.proofs.Common.{◌≡◌, ◌↔◌, ◌∙◌, ℕ, Option, Some, None, refl, sym, ap, subst, inl, inr, arith, map}
-use Rattle.std.proofs.Common.{List, [], ◌∷◌, true, ◌≤◌, ◌<◌}
+use Rattle.std.proofs.Common.{◌≡◌, ◌∙◌, ℕ, Option, Some, None, refl, sym, ap, subst, inl, inr, arith}
+use Rattle.std.proofs.Common.{◌≤◌, ◌<◌}
 use Rattle.std.specs.Prelude.{◌^◌}
 use Rattle.std.specs.Prelude.{IfSome}
 use Rattle.std.specs.List.{Contains}
-use Rattle.std.specs.Ordering.{is_eq}
-use Rattle.std.proofs.lemmas.Cmp.{tied_itself}
-use Rattle.sqlite.specs.Order.{Row as Values, column}
-use Rattle.sqlite.specs.Tree.{rowid}
-use Rattle.sqlite_value.specs.Order.{value_cmp}
-use Rattle.sqlite_value.proofs.OrderLemmas.{value_cmp_total}
-use Rattle.keyed_lists.proofs.KeyLemmas.{contains_first, contains_later, nothing}
 use Rattle.app_definitions.specs.declared.definitions.Definitions.{Definitions}
 use Rattle.app_definitions.specs.declared.options.Options.{Options}
 use Rattle.external_dependencies.specs.declared.links.Link.{Link}
@@ -26,20 +19,17 @@ use Rattle.occurrences.specs.declared.place.Place.{Place}
 use Rattle.occurrences.specs.declared.place.Place.TheVariants.{LongTerm, Current, History, Deleted}
 use Rattle.occurrences.specs.declared.row.Row.{Row}
 use Rattle.planner_machine.specs.Content.{Content, StandsAt, Seat, alone, empty_seat, seat}
-use Rattle.planner_machine.specs.declared.content.Bounds.{Bounds}
 use Rattle.planner_machine.proofs.SeatLemmas.{cases_issued, not_empty}
-use Rattle.table_schema.specs.declared.tables.TheConstants.{SCHEMA_VERSION}
-use Rattle.table_facts.specs.Content.{meta_values}
-use Rattle.table_facts.specs.Facts.{link_values, natural}
+use Rattle.table_facts.specs.Facts.{link_values}
 use Rattle.table_facts.proofs.Decoded.{one_link}
-use Rattle.table_schema.specs.Rows.{HaveRowids, Tables, shown}
+use Rattle.table_schema.specs.Rows.{Tables}
 use Rattle.table_schema.specs.declared.tables.Table.TheVariants as table
 use Rattle.table_definitions.specs.Defined.{AreSoundDefinitions}
 use Rattle.table_definitions.specs.Storing.{HaveRows}
 use Rattle.table_definitions.specs.declared.stored.StoredRows.{StoredRows}
 use Rattle.table_reading.specs.Cells.{AreDays, IsNumberedRow, IsPair}
 use Rattle.table_reading.specs.Readable.{ArePlansReadable, ShowsLink, ShowsMeta}
-use Rattle.table_opening.specs.Held.{AreKnown, HoldSound}
+use Rattle.table_opening.specs.Held.{HoldSound}
 use Rattle.table_opening.proofs.DefinedLemmas.{sound_definitions}
 use Rattle.table_opening.specs.Stored.{TellStored}
 
@@ -89,27 +79,6 @@ taken_deletions s gone is e = let no = ap (λ (s : Seat). s.deletions) e in absu
 some_is : {X : Type 0} (o : Option X) (P : X → Type 0) → ((x : X) → o ≡ Some x → P x) → IfSome o P
 some_is None P f = tt
 some_is (Some x) P f = f x refl
-
--- one row alone has the id 1
-one_row : (rows : List Values) (w : Values) → ((v : Values) → Contains (map (shown table.Meta) rows) v ↔ (v ≡ w))
-    → column w 0 ≡ natural 1 → HaveRowids rows → map (shown table.Meta) rows ≡ w ∷ []
-one_row [] w exactly id have = absurd (nothing w ((exactly w).1 refl))
-one_row (a ∷ []) w exactly id have =
-    ap (λ (v : Values). v ∷ []) ((exactly (shown table.Meta a)).0 (contains_first (shown table.Meta a) []))
-one_row (a ∷ b ∷ rs) w exactly id have =
-    let later = map (shown table.Meta) (b ∷ rs) in
-    let here = (exactly (shown table.Meta a)).0 (contains_first (shown table.Meta a) later) in
-    let there = (exactly (shown table.Meta b)).0 (contains_later (shown table.Meta a) (shown table.Meta b) later
-    (contains_first (shown table.Meta b) (map (shown table.Meta) rs))) in
-    let one : rowid a ≡ natural 1 = ap (λ (v : Values). column v 0) here ∙ id in
-    let other : rowid b ≡ natural 1 = ap (λ (v : Values). column v 0) there ∙ id in
-    let tied : is_eq (value_cmp (rowid a) (rowid b)) ≡ true =
-    (λ i. is_eq (value_cmp (one i) (other i))) ∙ ap is_eq (tied_itself value_cmp_total (natural 1)) in
-    absurd (cc)
-
-meta_version : (bounds : Option Bounds) (issued : ℕ) (options : Options)
-    → (column (meta_values bounds issued options) 0 ≡ natural 1) × (column (meta_values bounds issued options) 1 ≡ natural SCHEMA_VERSION)
-meta_version bounds issued options = (refl, refl)
 
 module _ (all : Tables) (hold : HoldSound all) where
   abbrev c : Content
@@ -241,9 +210,12 @@ module _ (all : Tables) (hold : HoldSound all) where
           named_once c.in_force hold.told.tellable.in_force a b (shown_in_force a at_a) (shown_in_force b at_b);
     };
     pairs = record {
-      each = λ v there.
-          let fact = (hold.told.facts table.Dependency v).0 there in
-          (fact.0, pair_form fact.0 fact.1, sym fact.2);
+      shows = record {
+        each = λ v there.
+            let fact = (hold.told.facts table.Dependency v).0 there in
+            (fact.0, pair_form fact.0 fact.1, sym fact.2);
+      };
+      rowids = hold.rowids table.Dependency;
     };
     meta = meta_form;
     jobs = record {
@@ -305,9 +277,3 @@ module _ (all : Tables) (hold : HoldSound all) where
         run_cycles = sound.run_cycles;
         predecessors = sound.predecessors;
       }
-
-  pub known : AreKnown (map (shown table.Meta) (all table.Meta))
-  known =
-      let values = meta_values c.sets.bounds c.sets.issued c.definitions.options in
-      let one = meta_version c.sets.bounds c.sets.issued c.definitions.options in
-      (values, one_row (all table.Meta) values (hold.told.facts table.Meta) one.0 (hold.rowids table.Meta), one.1)

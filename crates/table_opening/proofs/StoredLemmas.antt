@@ -70,7 +70,7 @@ all_rowids all seen hidden table.LongTerm = seen.ltp
 all_rowids all seen hidden table.Current = seen.cp
 all_rowids all seen hidden table.History = seen.history
 all_rowids all seen hidden table.Deletion = seen.deletions
-all_rowids all seen hidden table.Dependency = hidden.pairs
+all_rowids all seen hidden table.Dependency = seen.pairs
 all_rowids all seen hidden table.Job = seen.jobs
 
 one_kept : (xs : List Values) (cells : Values) → IsPermutation xs (cells ∷ []) → xs ≡ cells ∷ []

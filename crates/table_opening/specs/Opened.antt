@@ -44,8 +44,8 @@ IsCaused old new Device = MoreFaults old.faults new.faults ⊎ (old.is_open ≡ 
 IsCaused old new OtherTables = IsSome old.step_limit
 IsCaused old new _ = ⊤
 
--- why a database in which nothing is in their way does not get the tables: memory is short, the device failed meanwhile, the connection was shut
--- before, or a limit on steps is set
+-- why a database in which nothing is in their way does not get the tables: memory is short, the device failed meanwhile,
+-- the connection was shut before, or a limit on steps is set
 abbrev pub IsUnmade : State → State → OpenFault → Type 0
 IsUnmade old new Memory = ⊤
 IsUnmade old new Device = MoreFaults old.faults new.faults ⊎ (old.is_open ≡ false)

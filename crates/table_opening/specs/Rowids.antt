@@ -1,15 +1,14 @@
 -- Rowids as they are shown.
-use Rattle.std.specs.Prelude.{ℕ, ◌<◌, ◌+◌, ◌*◌, List, [], ◌∷◌, pos, negsuc, codes, IsTrue}
+use Rattle.std.specs.Prelude.{ℕ, ◌<◌, List, [], ◌∷◌, codes, IsTrue}
 use Rattle.std.specs.List.{All, AllPairs}
 use Rattle.sqlite.specs.Order.{Row as Values, column}
 use Rattle.sqlite.specs.Term.{Term, col, eval_all}
 use Rattle.sqlite.specs.View.{is_int}
-use Rattle.sqlite.specs.declared.types.Value.{Value}
-use Rattle.sqlite.specs.declared.types.Value.TheVariants.{Null, Int, Real, Text, Blob}
 use Rattle.table_schema.specs.declared.tables.Table.{Table}
 use Rattle.table_schema.specs.declared.tables.Table.TheVariants.{Meta, CalendarEntry, Period, Application, RunCycle}
 use Rattle.table_schema.specs.declared.tables.Table.TheVariants.{Offset, Predecessor, LinkInForce, LongTerm, Current}
 use Rattle.table_schema.specs.declared.tables.Table.TheVariants.{History, Deletion, Dependency, Job}
+use Rattle.table_reading.specs.Rowids.{place_of}
 
 -- shows the rowids of the table
 abbrev pub rowid_sql : Table → List ℕ
@@ -34,15 +33,6 @@ rowid_terms = col 1 0 ∷ []
 -- a row as it is shown: its rowid
 abbrev pub rowid_shown : Values → Values
 rowid_shown row = eval_all rowid_terms ([] ∷ row ∷ [])
-
--- the place of an integer in the order 0, -1, 1, -2 and so on; 0 of any other value
-abbrev pub place_of : Value → ℕ
-place_of (Int (pos n)) = n * 2
-place_of (Int (negsuc n)) = n * 2 + 1
-place_of Null = 0
-place_of (Real x) = 0
-place_of (Text t) = 0
-place_of (Blob b) = 0
 
 -- each has an integer first
 abbrev pub AreIntegers : List Values → Type 0

@@ -1,5 +1,5 @@
 -- Tables that stand in a schema, or for which there is room.
-use Rattle.std.specs.Prelude.{◌≡◌, ◌⊎◌, ℕ, ◌+◌, ◌<◌, ◌≤◌, ◌^◌, false, List, length, find, Option, MatchOption}
+use Rattle.std.specs.Prelude.{◌≡◌, ◌⊎◌, ◌+◌, ◌<◌, ◌≤◌, ◌^◌, false, List, length, MatchOption}
 use Rattle.std.specs.List.{All}
 use Rattle.sqlite.specs.Change.{next_tree}
 use Rattle.sqlite.specs.Does.{lacks_sequence}
@@ -9,14 +9,11 @@ use Rattle.sqlite_schema.specs.declared.schema.Reference.{Reference}
 use Rattle.sqlite_schema.specs.declared.schema.Schema.{Schema}
 use Rattle.sqlite_schema.specs.declared.schema.Table.{Table}
 use Rattle.sqlite_trees.specs.Tree.{IsAscending}
+use Rattle.table_schema.specs.Named.{first_named}
 use Rattle.table_schema.specs.Places.{TreesDiffer}
 use Rattle.table_schema.specs.Schema.{name}
 use Rattle.table_schema.specs.declared.tables.Table.TheVariants.{Offset}
 use Rattle.table_opening.specs.Alike.{IsAlike}
-
--- the first table of the name
-abbrev pub first_named : List Table → List ℕ → Option Table
-first_named tables wanted = find (λ t. same_name t.name wanted) tables
 
 -- the first table of its name is like it
 unfoldable pub IsThere : List Table → Table → Type 0

@@ -19,7 +19,7 @@ pub record TellStored (all : Tables) (stored : StoredRows) : Type 0 where
 abbrev pub AllHaveRowids : Tables → Type 0
 AllHaveRowids all = (t : Table) → HaveRowids (all t)
 
--- so it is of the tables whose rows do not show their rowids
+-- so it is of the tables whose rows are read without their rowids
 pub record HaveHiddenRowids (all : Tables) : Type 0 where
   pub calendars : HaveRowids (all table.CalendarEntry)
   pub periods : HaveRowids (all table.Period)
@@ -28,4 +28,3 @@ pub record HaveHiddenRowids (all : Tables) : Type 0 where
   pub offsets : HaveRowids (all table.Offset)
   pub predecessors : HaveRowids (all table.Predecessor)
   pub links : HaveRowids (all table.LinkInForce)
-  pub pairs : HaveRowids (all table.Dependency)

@@ -119,6 +119,7 @@ fn read_whole<S: Alter>(alloc: Global, conn: &mut Connection<S>) -> Result<Conte
 {
     let settled = conn.is_autocommit();
     prove!(settled);
+    // its clause says that an open connection has a database
     let _ = conn.schema();
     match <(RowidPart, (PlanPart, DefinitionPart))>::read(alloc, conn) {
         Ok(Some((_, (plans, definitions)))) => {

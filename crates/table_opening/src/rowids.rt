@@ -4,12 +4,12 @@ ghost use Rattle.std.specs.Prelude.{◌≡◌, ◌↔◌, false, is_ok, map, Non
 ghost use Rattle.std.specs.List.Sorted.{IsNonDecreasingBy, IsPermutation};
 ghost use Rattle.sqlite.specs.Order.{column};
 ghost use Rattle.sqlite.specs.View.{is_int};
-ghost use Rattle.sqlite.specs.declared.types.Value.TheVariants.{Int};
 ghost use Rattle.sqlite.specs.State.{HasCleanDisk};
 ghost use Rattle.sqlite.specs.Held.{state};
 ghost use Rattle.table_schema.specs.Rows.{HaveRowids, MayFail, tables_of};
 ghost use Rattle.table_reading.specs.Reading.{HasPlan, Looks};
-ghost use Rattle.table_opening.specs.Rowids.{AreIntegers, AreRising, PlacesRise, place_of, rowid_shown};
+ghost use Rattle.table_reading.specs.Rowids.{place_of};
+ghost use Rattle.table_opening.specs.Rowids.{AreIntegers, AreRising, PlacesRise, rowid_shown};
 ghost use Rattle.table_opening.specs.Places.{table_of};
 
 use crate::rowid_texts::rowid_text;
@@ -17,19 +17,8 @@ use crate::table_places::table_at;
 use sqlite::types::ValueRef;
 use sqlite::{Alter, Connection, Error, Row as Cells};
 use std::alloc::Global;
-use table_reading::Part;
+use table_reading::{Part, place_of};
 use table_schema::Table;
-
-// The place of the integer in the order 0, -1, 1, -2 and so on.
-fn place_of(n: i64) -> u64
-    ensures { result ≡ place_of (Int n) }
-{
-    if n < 0 {
-        (n.unsigned_abs() - 1) * 2 + 1
-    } else {
-        n.unsigned_abs() * 2
-    }
-}
 
 // Whether the first cell holds an integer.
 fn is_integer(cells: &Cells) -> bool
@@ -95,6 +84,7 @@ fn select_rowids<S: Alter>(conn: &mut Connection<S>, table: Table) -> Result<Vec
         → IfErr result (MayFail (state S.Store conn.old) (state S.Store conn.new)) }
     ensures mode { conn.old.in_transaction ≡ false → conn.new.in_transaction ≡ false }
 {
+    // its clause says that an open connection has a database
     let _ = conn.schema();
     conn.query_all(rowid_text(table), &[])
 }

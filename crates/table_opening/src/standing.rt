@@ -1,6 +1,6 @@
 // Whether the tables of one schema stand in another, or can be made there.
 
-ghost use Rattle.std.specs.Prelude.{◌≡◌, ◌≢◌, ◌<◌, ◌⊎◌, ◌↔◌, false, is_some, option_copied, IsTrue};
+ghost use Rattle.std.specs.Prelude.{◌≡◌, ◌≢◌, ◌<◌, ◌⊎◌, ◌↔◌, false, is_some, IsTrue};
 ghost use Rattle.std.specs.List.{All, list_any};
 ghost use Rattle.sqlite.specs.Does.{lacks_sequence};
 ghost use Rattle.sqlite.specs.Rows.{sequence};
@@ -8,19 +8,13 @@ ghost use Rattle.sqlite_catalog.specs.Change.{is_used};
 ghost use Rattle.sqlite_trees.specs.Tree.{IsAscending};
 ghost use Rattle.table_schema.specs.Places.{TreesDiffer};
 ghost use Rattle.table_opening.specs.Standing.{AreAside, AreUnused, CanMake, FitsIn, IsAside, IsThere, OffsetsRefer};
-ghost use Rattle.table_opening.specs.Standing.{StandAmong, first_named};
+ghost use Rattle.table_opening.specs.Standing.{StandAmong};
 
 use crate::same_schema::tables::is_alike;
 use sqlite_catalog::layout::{is_used, next_tree};
 use sqlite_schema::names::same_name;
 use sqlite_schema::schema::{Index, Reference, Schema, Table};
-
-// The first table of the name.
-fn first_named<'a>(tables: &'a [Table], name: &[u8]) -> Option<&'a Table>
-    ensures { option_copied result ≡ first_named tables.now name.now }
-{
-    tables.iter().find(|t| t.is_named(name))
-}
+use table_schema::first_named;
 
 // Whether the first table of its name is like it.
 #[tactic(auto, unfolding(crate::specs::Standing::IsThere))]

@@ -18,7 +18,7 @@ ghost use Rattle.table_opening.specs.Stored.{AllHaveRowids, HaveHiddenRowids, Te
 use crate::rowids::Rowids;
 use crate::stored::Shown;
 use crate::table_places::{
-    APPLICATION, CALENDAR_ENTRY, DEPENDENCY, LINK_IN_FORCE, OFFSET, PERIOD, PREDECESSOR, RUN_CYCLE,
+    APPLICATION, CALENDAR_ENTRY, LINK_IN_FORCE, OFFSET, PERIOD, PREDECESSOR, RUN_CYCLE,
 };
 use app_definitions::Definitions;
 use plan_store::Content;
@@ -36,19 +36,16 @@ type StoredParts = (
     ),
 );
 
-// The rowids of the tables whose rows do not show them.
+// The rowids of the tables whose rows are read without them.
 type HiddenRowids = (
     (
         (Rowids<CALENDAR_ENTRY>, Rowids<PERIOD>),
         (Rowids<APPLICATION>, Rowids<RUN_CYCLE>),
     ),
-    (
-        (Rowids<OFFSET>, Rowids<PREDECESSOR>),
-        (Rowids<LINK_IN_FORCE>, Rowids<DEPENDENCY>),
-    ),
+    ((Rowids<OFFSET>, Rowids<PREDECESSOR>), Rowids<LINK_IN_FORCE>),
 );
 
-/// The tables of the plans, and the rowids that their rows show.
+/// The tables of the plans, and the rowids that are read with their rows.
 #[derive(Drop)]
 pub(crate) struct PlanPart {
     /// What they list.
@@ -113,7 +110,7 @@ impl Part for DefinitionPart {
     }
 }
 
-/// The rowids of the tables whose rows do not show them.
+/// The rowids of the tables whose rows are read without them.
 #[derive(Drop)]
 pub(crate) struct RowidPart {}
 

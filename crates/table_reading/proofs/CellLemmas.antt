@@ -2,21 +2,22 @@
 use Rattle.std.proofs.Common.{◌≡◌, [], ◌∷◌, length, refl, sym, ap, subst, ◌∙◌, arith}
 use Rattle.std.specs.Prelude.{ℕ, Option, Some, None, option_map}
 use Rattle.sqlite.specs.Order.{Row as Values, column}
-use Rattle.sqlite.specs.declared.types.Value.TheVariants.{Blob, Text}
+use Rattle.sqlite.specs.declared.types.Value.TheVariants.{Blob, Int, Text}
 use Rattle.occurrences.specs.Place.{reason_letter}
 use Rattle.occurrences.specs.Status.{status_letter}
 use Rattle.occurrences.specs.declared.place.CurrentRow.{CurrentRow}
 use Rattle.occurrences.specs.declared.place.Deletion.{Deletion}
 use Rattle.occurrences.specs.declared.row.Row.{Row}
 use Rattle.external_dependencies.specs.declared.links.Link.{Link}
-use Rattle.external_dependencies.specs.declared.pairs.Pair.{Pair}
 use Rattle.planner_machine.specs.declared.job.Job.{Job}
 use Rattle.app_definitions.specs.declared.options.Options.{Options}
 use Rattle.planner_machine.specs.declared.content.Bounds.{Bounds}
 use Rattle.table_schema.specs.declared.tables.TheConstants.{SCHEMA_VERSION}
 use Rattle.table_facts.specs.Content.{answer_text, job_values, meta_values}
-use Rattle.table_facts.specs.Facts.{current_values, deletion_values, link_values, natural, or_null, pair_values, row_values}
+use Rattle.table_facts.specs.Facts.{current_values, deletion_values, link_values, natural, or_null, row_values}
 use Rattle.table_reading.specs.Cells.{HasBounds, HasOptions, Leads}
+use Rattle.table_reading.specs.Rowids.{pair_row_values}
+use Rattle.table_reading.specs.declared.pairs.PairRow.{PairRow}
 
 pub two : (cells : Values) → length cells ≡ 2 → column cells 0 ∷ column cells 1 ∷ [] ≡ cells
 two [] len = absurd (omega arith)
@@ -85,14 +86,15 @@ pub deletion_rest : (deletion : Deletion) (cells : Values) → deletion_values d
 deletion_rest deletion cells is =
     subst (λ l. (length l ≡ 6) × (column l 5 ≡ Text (reason_letter deletion.reason ∷ []))) is (refl, refl)
 
-pub pair_from : (pair : Pair) (cells : Values) → length cells ≡ 2 → column cells 0 ≡ natural pair.successor
-    → column cells 1 ≡ natural pair.predecessor → pair_values pair ≡ cells
-pair_from pair cells len one other = (λ i. sym one i ∷ sym other i ∷ []) ∙ two cells len
+pub pair_from : (row : PairRow) (cells : Values) → length cells ≡ 3 → column cells 0 ≡ natural row.pair.successor
+    → column cells 1 ≡ natural row.pair.predecessor → column cells 2 ≡ Int row.rowid → pair_row_values row ≡ cells
+pair_from row cells len one other id = (λ i. sym one i ∷ sym other i ∷ sym id i ∷ []) ∙ three cells len
 
-pub pair_is : (pair : Pair) (cells : Values) → pair_values pair ≡ cells
-    → (length cells ≡ 2) × (column cells 0 ≡ natural pair.successor) × (column cells 1 ≡ natural pair.predecessor)
-pair_is pair cells is = subst (λ l. (length l ≡ 2) × (column l 0 ≡ natural pair.successor)
-    × (column l 1 ≡ natural pair.predecessor)) is (refl, refl, refl)
+pub pair_is : (row : PairRow) (cells : Values) → pair_row_values row ≡ cells
+    → (length cells ≡ 3) × (column cells 0 ≡ natural row.pair.successor)
+    × (column cells 1 ≡ natural row.pair.predecessor) × (column cells 2 ≡ Int row.rowid)
+pair_is row cells is = subst (λ l. (length l ≡ 3) × (column l 0 ≡ natural row.pair.successor)
+    × (column l 1 ≡ natural row.pair.predecessor) × (column l 2 ≡ Int row.rowid)) is (refl, refl, refl, refl)
 
 pub link_from : (link : Link) (cells : Values) → length cells ≡ 3 → column cells 0 ≡ Text link.app
     → column cells 1 ≡ Text link.predecessor → column cells 2 ≡ or_null (option_map natural link.within)

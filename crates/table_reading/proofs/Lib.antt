@@ -8,3 +8,6 @@ pub mod OrderLemmas
 pub mod LineLemmas
 pub mod AnswerLemmas
 pub mod LinkLemmas
+pub mod RowidLemmas
+mod PairLemmas
+mod PairTexts

@@ -1,5 +1,6 @@
 -- Readings in turn.
 use Rattle.std.proofs.Common.{◌≡◌, ◌∙◌, ◌≤◌, Bool, true, ap, arith, inl, inr, refl, subst, sym, true≢false}
+use Rattle.std.proofs.Common.{IsTrue, Result, Ok, Err, is_ok}
 use Rattle.sqlite.specs.Effect.{Database}
 use Rattle.sqlite.specs.State.{HasCause, HasCleanDisk, IsUnchanged, State}
 use Rattle.sqlite.specs.declared.error.Error.{Error}
@@ -7,10 +8,15 @@ use Rattle.sqlite_trees.specs.declared.error.StoreError.{StoreError}
 use Rattle.sqlite_trees.specs.declared.error.StoreError.TheVariants.{OutOfMemory, Io, Corrupt, Full, Broken, Unstorable}
 use Rattle.sqlite.proofs.Callers.{unchanged_then}
 use Rattle.sqlite.proofs.StateLemmas.{survives_then}
-use Rattle.std.specs.Prelude.{IsSome}
+use Rattle.std.specs.Prelude.{IfOk, IsSome}
 use Rattle.table_schema.specs.Rows.{MayFail, tables_of}
 use Rattle.table_schema.specs.Schema.{HasTables}
 use Rattle.table_reading.specs.Reading.{HasPlan, Looks}
+
+pub on_done : {A E : Type 0} (r : Result A E) (P : A → Type 0) (Q : Type 0) → ((a : A) → P a → Q) → IfOk r P
+    → IsTrue (is_ok r) → Q
+on_done (Ok a) P Q f h done = f a h
+on_done (Err e) P Q f h done = cc
 
 pub plan_still : (a b : State) → IsUnchanged a b → HasPlan a → HasPlan b
 unfolding HasPlan

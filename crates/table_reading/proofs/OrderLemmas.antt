@@ -28,7 +28,7 @@ use Rattle.table_schema.specs.declared.tables.Table.{Table}
 use Rattle.table_reading.specs.Order.{AreInOrder}
 use Rattle.table_reading.specs.Readable.{ShowsNumbers}
 
-flips : (m n : ℕ) → eqb m n ≡ eqb n m
+pub flips : (m n : ℕ) → eqb m n ≡ eqb n m
 flips m n = grind (arith, nat_tests)
 
 module _ {X : Type 0} (number_of : X → ℕ) where
@@ -46,23 +46,46 @@ module _ {X : Type 0} (number_of : X → ℕ) where
         | inr (inr above) ↦ absurd (omega (arith, above, low))
       ]
 
+  pub apart_distinct : (xs : List X) → AllPairs (λ x y. number_of x ≢ number_of y) xs
+      → IsDistinct eqb (map number_of xs)
+  unfolding IsDistinct
+  apart_distinct [] apart = tt
+  apart_distinct (x ∷ xs) apart = IsDistinct-from_apart eqb (map number_of (x ∷ xs)) (λ k l e below in_xs.
+      let within : l < length (x ∷ xs) = omega (arith, in_xs, length-map (x ∷ xs) number_of) in
+      let one = get_or-map number_of (x ∷ xs) k x e (omega (arith, below, within)) in
+      let other = get_or-map number_of (x ∷ xs) l x e within in
+      ne_eqb _ _ (λ is. apart k l x below within (sym one ∙ is ∙ other)))
+
+  pub distinct_apart : (xs : List X) → IsDistinct eqb (map number_of xs)
+      → AllPairs (λ x y. number_of x ≢ number_of y) xs
+  distinct_apart xs distinct i j d low within is =
+      let mapped : j < length (map number_of xs) = omega (arith, within, length-map xs number_of) in
+      let differ : get_or (map number_of xs) i 0 ≢ get_or (map number_of xs) j 0 =
+      eqb-false _ _ (apart_from_distinct eqb (map number_of xs) i j 0 distinct low mapped) in
+      let one = get_or-map number_of xs i d 0 (omega (arith, low, within)) in
+      let other = get_or-map number_of xs j d 0 within in
+      differ (one ∙ is ∙ sym other)
+
+  pub rise_differ : (xs : List X) → AreInOrder number_of xs → AllPairs (λ x y. number_of x ≢ number_of y) xs
+  rise_differ xs order i j d low within is = omega (arith, is, order i j d low within)
+
+  -- numbers that rise in another order differ
+  pub moved_differ : (xs sorted : List X) → IsPermutation xs sorted → AreInOrder number_of sorted
+      → AllPairs (λ x y. number_of x ≢ number_of y) xs
+  moved_differ xs sorted same order = distinct_apart xs
+      (IsDistinct-IsPermutation eqb flips _ _ (IsPermutation-map number_of sorted xs (IsPermutation-sym _ _ same))
+      (apart_distinct sorted (rise_differ sorted order)))
+
   -- sorted numbers of which no two are the same rise
   pub apart_rise : (xs sorted : List X) → IsPermutation xs sorted → IsNonDecreasingBy number_of sorted
       → AllPairs (λ x y. number_of x ≢ number_of y) xs → AreInOrder number_of sorted
   apart_rise xs sorted same order apart i j d low within =
-      let distinct : IsDistinct eqb (map number_of xs) = IsDistinct-from_apart eqb (map number_of xs) (λ k l e below in_xs.
-      let in_xs' : l < length xs = omega (arith, in_xs, length-map xs number_of) in
-      let one = get_or-map number_of xs k d e (omega (arith, below, in_xs')) in
-      let other = get_or-map number_of xs l d e in_xs' in
-      ne_eqb _ _ (λ is. apart k l d below in_xs' (sym one ∙ is ∙ other))) in
-      let distinct' = IsDistinct-IsPermutation eqb flips _ _ (IsPermutation-map number_of xs sorted same) distinct in
-      let mapped : j < length (map number_of sorted) = omega (arith, within, length-map sorted number_of) in
-      let differ = eqb-false _ _ (apart_from_distinct eqb (map number_of sorted) i j 0 distinct' low mapped) in
-      let one = get_or-map number_of sorted i d 0 (omega (arith, low, within)) in
-      let other = get_or-map number_of sorted j d 0 within in
+      let distinct = IsDistinct-IsPermutation eqb flips _ _ (IsPermutation-map number_of xs sorted same)
+      (apart_distinct xs apart) in
       let up = order i j d (omega (arith, low)) within in
-      let differ' : number_of (get_or sorted i d) ≢ number_of (get_or sorted j d) = λ is. differ (one ∙ is ∙ sym other) in
-      omega (arith, up, differ')
+      let differ : number_of (get_or sorted i d) ≢ number_of (get_or sorted j d) =
+      distinct_apart sorted distinct i j d low within in
+      omega (arith, up, differ)
 
 -- ---- rowids
 
@@ -163,32 +186,17 @@ module _ {X : Type 0} (t : Table) (values_of : X → Values) (number_of : X → 
       (subst (IsPermutation (map (λ (v : Values). nat_in (column v 0)) (map (shown t) rows))) (numbers_of_items xs)
       (IsPermutation-map (λ (v : Values). nat_in (column v 0)) _ _ same))
 
-  distinct_numbers : (xs : List X) → AreInOrder number_of xs → IsDistinct eqb (map number_of xs)
-  unfolding IsDistinct
-  distinct_numbers [] order = tt
-  distinct_numbers (x ∷ xs) order = IsDistinct-from_apart eqb (map number_of (x ∷ xs)) (λ k l e below in_xs.
-      let within : l < length (x ∷ xs) = omega (arith, in_xs, length-map (x ∷ xs) number_of) in
-      let one = get_or-map number_of (x ∷ xs) k x e (omega (arith, below, within)) in
-      let other = get_or-map number_of (x ∷ xs) l x e within in
-      let above = order k l x below within in
-      ne_eqb _ _ (λ is. omega (arith, is, one, other, above)))
-
   -- the rows of items whose numbers rise have own rowids
   pub rise_rowids : (rows : List Values) (xs : List X) → IsPermutation (map (shown t) rows) (map values_of xs)
       → AreInOrder number_of xs → HaveRowids rows
   rise_rowids rows xs same order = have_rowids rows (naturals rows xs same)
       (IsDistinct-IsPermutation eqb flips (map number_of xs) (row_numbers rows)
-      (IsPermutation-sym _ _ (same_numbers rows xs same)) (distinct_numbers xs order))
+      (IsPermutation-sym _ _ (same_numbers rows xs same))
+      (apart_distinct number_of xs (rise_differ number_of xs order)))
 
   -- the items of rows with own rowids have own numbers
   pub items_apart : (rows : List Values) (xs : List X) → IsPermutation (map (shown t) rows) (map values_of xs)
       → HaveRowids rows → AllPairs (λ x y. number_of x ≢ number_of y) xs
-  items_apart rows xs same have i j d low within is =
-      let distinct = IsDistinct-IsPermutation eqb flips (row_numbers rows) (map number_of xs) (same_numbers rows xs same)
-      (distinct_rowids rows (naturals rows xs same) have) in
-      let mapped : j < length (map number_of xs) = omega (arith, within, length-map xs number_of) in
-      let differ : get_or (map number_of xs) i 0 ≢ get_or (map number_of xs) j 0 =
-      eqb-false _ _ (apart_from_distinct eqb (map number_of xs) i j 0 distinct low mapped) in
-      let one = get_or-map number_of xs i d 0 (omega (arith, low, within)) in
-      let other = get_or-map number_of xs j d 0 within in
-      differ (one ∙ is ∙ sym other)
+  items_apart rows xs same have = distinct_apart number_of xs
+      (IsDistinct-IsPermutation eqb flips (row_numbers rows) (map number_of xs) (same_numbers rows xs same)
+      (distinct_rowids rows (naturals rows xs same) have))

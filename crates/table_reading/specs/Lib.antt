@@ -6,3 +6,4 @@ pub mod Reading
 pub mod Parts
 pub mod Readable
 pub mod Lines
+pub mod Rowids

@@ -40,5 +40,5 @@ TellRowParts all p =
 abbrev pub TellRest : Tables → Rest → Type 0
 TellRest all p =
     (ShowsOnly all table.LinkInForce (IsOneOf link_values p.0.0.links)
-    × ShowsOnly all table.Dependency (IsOneOf pair_values p.0.1.pairs.items))
+    × ShowsOnce all table.Dependency (IsOneOf pair_values p.0.1.pairs.items))
     × (TellsMetaOnce all p.1.0 × ShowsOnce all table.Job (IsOneOf job_values p.1.1.jobs.items))

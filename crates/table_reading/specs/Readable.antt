@@ -54,6 +54,6 @@ pub record ArePlansReadable (all : Tables) : Type 0 where
   pub history : ShowsEachOnce all table.History row_values IsNumberedRow
   pub deletions : ShowsEachOnce all table.Deletion deletion_values (λ (gone : Deletion). IsNumberedRow gone.row)
   pub links : ShowsLinks all
-  pub pairs : ShowsEach all table.Dependency pair_values IsPair
+  pub pairs : ShowsEachOnce all table.Dependency pair_values IsPair
   pub meta : ShowsMeta all
   pub jobs : ShowsEachOnce all table.Job job_values IsReadJob

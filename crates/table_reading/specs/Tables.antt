@@ -41,13 +41,14 @@ TellsMeta all m = ShowsOnly all table.Meta (λ v. v ≡ meta_values m.bounds m.i
 abbrev pub TellsMetaOnce : Tables → Meta → Type 0
 TellsMetaOnce all m = TellsMeta all m × HaveRowids (all table.Meta)
 
--- the tables whose rows show their rowids: integers, in none of them one twice
+-- the tables whose rows are read with their rowids: integers, in none of them one twice
 pub record HaveShownRowids (all : Tables) : Type 0 where
   pub meta : HaveRowids (all table.Meta)
   pub ltp : HaveRowids (all table.LongTerm)
   pub cp : HaveRowids (all table.Current)
   pub history : HaveRowids (all table.History)
   pub deletions : HaveRowids (all table.Deletion)
+  pub pairs : HaveRowids (all table.Dependency)
   pub jobs : HaveRowids (all table.Job)
 
 -- the tables of the plans tell what is listed

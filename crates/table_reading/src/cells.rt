@@ -1,9 +1,9 @@
 // Cells of a row.
 
-ghost use Rattle.std.specs.Prelude.{◌≡◌, ◌<◌, ◌^◌, ◌↔◌, ◌∷◌, [], ℕ, List, Option, None, IfSome, IsTrue, option_map};
+ghost use Rattle.std.specs.Prelude.{◌≡◌, ◌<◌, ◌^◌, ◌↔◌, ◌∷◌, [], ℕ, ℤ, List, Option, None, IfSome, IsTrue, option_map};
 ghost use Rattle.std.specs.Str.{IsUtf8};
 ghost use Rattle.sqlite.specs.Order.{column};
-ghost use Rattle.sqlite.specs.declared.types.Value.TheVariants.{Null, Text};
+ghost use Rattle.sqlite.specs.declared.types.Value.TheVariants.{Int, Null, Text};
 ghost use Rattle.work_calendars.specs.Moment.{IsMoment};
 ghost use Rattle.work_calendars.specs.Day.{IsDay};
 ghost use Rattle.work_calendars.specs.Name.{IsNameWithin};
@@ -29,6 +29,17 @@ pub(crate) fn number_at(cells: &Cells, at: usize) -> Option<u32>
             Ok(n) => Some(n),
             Err(_) => None,
         },
+        _ => None,
+    }
+}
+
+/// The integer in the cell, if it holds one.
+pub(crate) fn integer_at(cells: &Cells, at: usize) -> Option<i64>
+    ensures value { IfSome result (λ n. column cells.now at ≡ Int n) }
+    ensures none { result ≡ None → (n : ℤ) → column cells.now at ≡ Int n → ⊥ }
+{
+    match cells.get_ref(at) {
+        Ok(ValueRef::Int(n)) => Some(n),
         _ => None,
     }
 }

@@ -3,7 +3,9 @@
 ghost use Rattle.std.specs.Prelude.{◌≡◌, ◌≢◌, ◌↔◌, ℕ, ◌<◌, None, IfSome, IsTrue};
 ghost use Rattle.std.specs.List.{AllPairs};
 ghost use Rattle.std.specs.List.Sorted.{IsNonDecreasingBy, IsPermutation};
+ghost use Rattle.sqlite.specs.declared.types.Value.TheVariants.{Int};
 ghost use Rattle.table_reading.specs.Order.{AreInOrder};
+ghost use Rattle.table_reading.specs.Rowids.{place_of};
 
 use occurrences::{CurrentRow, Deletion, Row};
 use planner_machine::Job;
@@ -47,6 +49,17 @@ impl Numbered for Job {
 
     fn number(&self) -> u64 {
         self.number
+    }
+}
+
+/// The place of the integer in the order 0, -1, 1, -2 and so on.
+pub fn place_of(n: i64) -> u64
+    ensures { result ≡ place_of (Int n) }
+{
+    if n < 0 {
+        (n.unsigned_abs() - 1) * 2 + 1
+    } else {
+        n.unsigned_abs() * 2
     }
 }
 

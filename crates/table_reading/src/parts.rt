@@ -1,6 +1,6 @@
 // Parts of a content, each read from its table, one after another.
 
-ghost use Rattle.std.specs.Prelude.{◌≡◌, ◌∷◌, [], false, is_ok, length, None, IfErr, IfOk, IfSome};
+ghost use Rattle.std.specs.Prelude.{◌≡◌, ◌∷◌, [], false, is_ok, length, map, None, IfErr, IfOk, IfSome};
 ghost use Rattle.sqlite.specs.State.{HasCleanDisk};
 ghost use Rattle.sqlite.specs.Held.{state};
 ghost use Rattle.table_schema.specs.Rows.{MayFail, Tables, tables_of};
@@ -12,12 +12,15 @@ ghost use Rattle.table_facts.specs.Content.{job_values};
 ghost use Rattle.table_facts.specs.Facts.{row_values, current_values, deletion_values, pair_values, link_values};
 ghost use Rattle.table_reading.specs.Order.{AreInOrder, row_number, current_number, deletion_number, job_number};
 ghost use Rattle.table_reading.specs.Cells.{IsNumberedRow, IsPair, IsReadJob};
-ghost use Rattle.table_reading.specs.Readable.{ShowsEach, ShowsEachOnce, ShowsLinks, ShowsMeta};
+ghost use Rattle.table_reading.specs.Readable.{ShowsEachOnce, ShowsLinks, ShowsMeta};
 ghost use Rattle.table_reading.specs.Reading.{HasPlan, Looks};
+ghost use Rattle.table_reading.specs.Rowids.{AreApart, pair_of};
 ghost use Rattle.table_reading.specs.Tables.{IsOneOf, ShowsOnce, ShowsOnly, TellsMetaOnce};
 
 use crate::links::lists_of_links;
 use crate::meta::Meta;
+use crate::order::in_order;
+use crate::pairs::{PairRow, pairs_of, read_pairs};
 use crate::tables::{read_in_order, read_table};
 use external_dependencies::{Link, Links, Pair};
 use occurrences::{CurrentRow, Deletion, Row};
@@ -220,18 +223,32 @@ pub(crate) struct PairRows {
 }
 
 impl Part for PairRows {
-    ghost tells = { λ all part. ShowsOnly all Dependency (IsOneOf pair_values part.pairs.items) };
+    ghost tells = { λ all part. ShowsOnce all Dependency (IsOneOf pair_values part.pairs.items) };
 
     ghost in_order = { λ _. Unit {0} };
 
-    ghost readable = { λ all. ShowsEach all Dependency pair_values IsPair };
+    ghost readable = { λ all. ShowsEachOnce all Dependency pair_values IsPair };
 
     fn read<S: Alter>(alloc: Global, conn: &mut Connection<S>) -> Result<Option<PairRows>, Error> {
-        match read_table(alloc, conn, Table::Dependency) {
-            Ok(Some(pairs)) => Ok(Some(PairRows { pairs })),
+        match read_pairs(alloc, conn) {
+            Ok(Some(told)) => Ok(pair_rows(alloc, told)?),
             Ok(None) => Ok(None),
             Err(error) => Err(error),
         }
+    }
+}
+
+// The pairs that were told, if no two have the same rowid.
+fn pair_rows(alloc: Global, told: Vec<PairRow>) -> Result<Option<PairRows>, AllocError>
+    ensures same { IfOk result (λ found. IfSome found (λ part.
+        part.pairs.items ≡ map pair_of told.items)) }
+    ensures apart { IfOk result (λ found. IfSome found (λ _. AreApart told.items)) }
+    ensures none { IfOk result (λ found. found ≡ None → AreApart told.items → ⊥) }
+{
+    let pairs = pairs_of(alloc, &told)?;
+    match in_order(told) {
+        Some(_) => Ok(Some(PairRows { pairs })),
+        None => Ok(None),
     }
 }
 

@@ -50,8 +50,8 @@ fn lists_of(rows: PlanRows, rest: Rest) -> PlanLists
     }
 }
 
-/// All that the tables of the plans tell; `None` where some row of them cannot be read, two rows have one number, or two
-/// links in force have the same names and not the same limit.
+/// All that the tables of the plans tell; `None` where some row of them cannot be read, two rows have one number, two
+/// pairs have one rowid, or two links in force have the same names and not the same limit.
 pub fn read_lists<S: Alter>(
     alloc: Global,
     conn: &mut Connection<S>,

@@ -6,14 +6,13 @@ ghost use Rattle.occurrences.specs.Serial.{IsSerial};
 ghost use Rattle.occurrences.specs.declared.row.Row.{Row as RowValue};
 ghost use Rattle.occurrences.specs.declared.place.CurrentRow.{CurrentRow as CurrentValue};
 ghost use Rattle.occurrences.specs.declared.place.Deletion.{Deletion as DeletionValue};
-ghost use Rattle.external_dependencies.specs.declared.pairs.Pair.{Pair as PairValue};
 ghost use Rattle.external_dependencies.specs.declared.links.Link.{Link as LinkValue};
 ghost use Rattle.planner_machine.specs.Sound.{IsLink, IsRow};
-ghost use Rattle.table_facts.specs.Facts.{row_values, current_values, deletion_values, pair_values, link_values};
-ghost use Rattle.table_reading.specs.Cells.{IsNumberedRow, IsPair, Leads};
+ghost use Rattle.table_facts.specs.Facts.{row_values, current_values, deletion_values, link_values};
+ghost use Rattle.table_reading.specs.Cells.{IsNumberedRow, Leads};
 
 use crate::cells::{letter_at, limit_at, moment_at, name_at, origin_at, serial_at};
-use external_dependencies::{Link, Pair};
+use external_dependencies::Link;
 use occurrences::{CurrentRow, Deletion, Key, Reason, Row, Status};
 use sqlite::Row as Cells;
 use std::alloc::{AllocError, Global};
@@ -94,23 +93,6 @@ fn told_deletion(cells: &Cells) -> Option<Deletion>
     Some(Deletion { row, reason })
 }
 
-#[tactic(auto, using(crate::proofs::CellLemmas::pair_from, crate::proofs::CellLemmas::pair_is))]
-fn told_pair(cells: &Cells) -> Option<Pair>
-    ensures value { IfSome result (λ pair. pair_values pair ≡ cells.now) }
-    ensures none { result ≡ None → (pair : PairValue) → IsPair pair → pair_values pair ≡ cells.now
-        → ⊥ }
-{
-    if cells.column_count() != 2 {
-        return None;
-    }
-    let successor = serial_at(cells, 0)?;
-    let predecessor = serial_at(cells, 1)?;
-    Some(Pair {
-        successor,
-        predecessor,
-    })
-}
-
 #[tactic(auto, using(crate::proofs::CellLemmas::link_from, crate::proofs::CellLemmas::link_is))]
 fn told_link(cells: &Cells) -> Option<Link>
     ensures value { IfSome result (λ link. link_values link ≡ cells.now) }
@@ -157,16 +139,6 @@ impl Told for Deletion {
 
     fn tell(_: Global, cells: &Cells) -> Result<Option<Deletion>, AllocError> {
         Ok(told_deletion(cells))
-    }
-}
-
-impl Told for Pair {
-    ghost values = { pair_values };
-
-    ghost has_form = { IsPair };
-
-    fn tell(_: Global, cells: &Cells) -> Result<Option<Pair>, AllocError> {
-        Ok(told_pair(cells))
     }
 }
 

@@ -22,7 +22,6 @@ use Rattle.sqlite.specs.Schema.{Schema}
 use Rattle.sqlite.specs.Source.TheVariants.{Values}
 use Rattle.sqlite.specs.State.{State, EndsScope, ExecutesIn, ExecutesInside, Fails, HasCause, IsMisplaced, IsNotRun, IsUnchanged}
 use Rattle.sqlite.specs.State.{RunsCommand, is_pragma, mode_of, shows_rows, store_error, text_of}
-use Rattle.sqlite.specs.Steps.{FailsToCommit}
 use Rattle.sqlite.specs.Table.{Table as Described}
 use Rattle.sqlite.specs.Term.{Term}
 use Rattle.sqlite.specs.Tree.{Trees}
@@ -70,10 +69,6 @@ pub cause_after : (a b c : State) (e : Error) → a.faults ≤ b.faults → IsTr
     → DeviceHasCause a c e
 cause_after a b c e more stays h is =
     elim (h is) [ inl m ↦ inl (omega (arith, more, m)) | inr shut ↦ absurd (true≢false (sym stays ∙ shut)) ]
-
-pub by_commit : (a b : State) (e : Error) → FailsToCommit a b e → DeviceHasCause a b e
-by_commit a b e (inl h) = by_store a b ⊥ h.0 e h.1 h.2
-by_commit a b e (inr h) = elsewhere a b e (ap is_of_device h.0)
 
 -- ---- what a database refuses is told by other errors
 

@@ -115,9 +115,9 @@ commit_fails old mid new e settled keeps mode (inr late) is_open =
 
 -- ---- one after the other
 
-pub turns_then : {S T U : Type 0} (g : Ghosts S) (a b c : Transaction S) (t : T) (r : Result U Error)
-    (P Q R : Database → State → Type 0) → Turns g a b (Ok t) P Q → Turns g b c r Q R → Turns g a c r P R
-turns_then g a b c t r P Q R one two = record {
+pub turns_then : {S T U : Type 0} {g : Ghosts S} {a b c : Transaction S} {t : T} {r : Result U Error}
+    {P Q R : Database → State → Type 0} → Turns g a b (Ok t) P Q → Turns g b c r Q R → Turns g a c r P R
+turns_then {g = g} {a = a} {b = b} {c = c} {r = r} one two = record {
   same_reference = two.same_reference ∙ one.same_reference;
   ok = λ clean base from. two.ok clean base (one.ok (calm clean) base from);
   device = λ clean base from. if_err r _ _ (λ e h. cause_after (seen g a) (seen g b) (seen g c) e one.survives.counts
@@ -131,14 +131,14 @@ turns_then g a b c t r P Q R one two = record {
     calm clean = omega (arith, clean, two.survives.clean)
 
 -- an error is handed on
-pub turns_fail : {S T U : Type 0} (g : Ghosts S) (a b : Transaction S) (e : Error) (r : Result U Error)
-    (P Q R : Database → State → Type 0) (K : Error → Type 0) → ((x : Error) → K x → x ≡ e) → IsErrAnd r K
-    → Turns {T = T} g a b (Err e) P Q → Turns g a b r P R
-turns_fail g a b e (Ok t) P Q R K same h turns = absurd h
-turns_fail g a b e (Err x) P Q R K same h turns = record {
+pub turns_fail : {S T U : Type 0} {g : Ghosts S} {a b : Transaction S} {e : Error} {r : Result U Error}
+    {P Q R : Database → State → Type 0} → Turns {T = T} g a b (Err e) P Q → IsErrAnd r (λ x. x ≡ e)
+    → Turns g a b r P R
+turns_fail {r = Ok t} turns h = absurd h
+turns_fail {g = g} {a = a} {b = b} {r = Err x} turns h = record {
   same_reference = turns.same_reference;
   ok = λ clean base from. tt;
-  device = λ clean base from. subst (DeviceHasCause (seen g a) (seen g b)) (sym (same x h)) (turns.device clean base from);
+  device = λ clean base from. subst (DeviceHasCause (seen g a) (seen g b)) (sym h) (turns.device clean base from);
   stays_open = λ clean base from. tt;
   kept = turns.kept;
   survives = turns.survives;

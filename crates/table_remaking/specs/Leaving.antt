@@ -1,13 +1,9 @@
 -- What is left of a schema once the tables of some names are taken away.
-use Rattle.std.specs.Prelude.{ℕ, ◌==◌, Bool, false, not, List, filter, find, Option, Some, None}
+use Rattle.std.specs.Prelude.{ℕ, ◌==◌, Bool, false, not, List, filter, Option, Some, None}
 use Rattle.std.specs.List.{list_any}
-use Rattle.sqlite_schema.specs.Names.{same_name}
 use Rattle.sqlite_schema.specs.declared.schema.Schema.{Schema}
 use Rattle.sqlite_schema.specs.declared.schema.Table.{Table}
-
--- the first table of the name
-abbrev pub first_named : List Table → List ℕ → Option Table
-first_named tables wanted = find (λ t. same_name t.name wanted) tables
+use Rattle.table_schema.specs.Named.{first_named}
 
 -- a table that is found is in the tree
 abbrev pub is_in : ℕ → Option Table → Bool

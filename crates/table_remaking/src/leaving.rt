@@ -1,18 +1,13 @@
 // What is left of a schema once some of its tables are taken away.
 
-ghost use Rattle.std.specs.Prelude.{◌≡◌, not, filter, option_copied, IfOk};
-ghost use Rattle.table_remaking.specs.Leaving.{first_named, is_in, is_of, left_by};
+ghost use Rattle.std.specs.Prelude.{◌≡◌, not, filter, IfOk};
+ghost use Rattle.table_schema.specs.Named.{first_named};
+ghost use Rattle.table_remaking.specs.Leaving.{is_in, is_of, left_by};
 
 use sqlite_items::Items;
 use sqlite_schema::schema::{Index, Schema, Table};
 use std::alloc::{AllocError, Global};
-
-// The first table of the name.
-fn first_named<'a>(tables: &'a [Table], name: &[u8]) -> Option<&'a Table>
-    ensures { option_copied result ≡ first_named tables.now name.now }
-{
-    tables.iter().find(|t| t.is_named(name))
-}
+use table_schema::first_named;
 
 // Whether the first table of the name is in the tree.
 fn is_in(tables: &[Table], name: &[u8], tree: u32) -> bool

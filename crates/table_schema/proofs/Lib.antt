@@ -9,13 +9,14 @@ pub mod CycleLemmas
 pub mod DeleteTexts
 pub mod EffectLemmas
 pub mod FitLemmas
+pub mod FoundLemmas
 pub mod GoneLemmas
 pub mod InsertTexts
 pub mod MadeLemmas
 pub mod MakingLemmas
 pub mod MeaningLemmas
 pub mod NamedLemmas
-pub mod PlaceLemmas
+pub mod OnceLemmas
 pub mod PlanLemmas
 pub mod QueryLemmas
 pub mod QueryMeanings

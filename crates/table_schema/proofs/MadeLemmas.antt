@@ -109,12 +109,6 @@ can_make schema is t = after (earlier t) (t ∷ later t) schema (subst AreClear 
 
 -- ---- what is so of each
 
-front_made : (P : Described → Type 0) (us : List Table) (schema : Schema)
-    → AllByRecursion P (with_tables schema us).tables → AllByRecursion P schema.tables
-front_made P [] schema all = all
-front_made P (u ∷ us) schema all =
-    front_all P schema.tables _ (front_made P us (created schema (table_at 0 u)) all)
-
 back_made : (P : Described → Type 0) (us : List Table) (schema : Schema) → AllByRecursion P schema.tables
     → AllMade P schema us → AllByRecursion P (with_tables schema us).tables
 back_made P [] schema all news = all

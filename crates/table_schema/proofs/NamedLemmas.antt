@@ -14,7 +14,7 @@ use Rattle.table_schema.specs.Rows.{IsPlan, tables_of}
 use Rattle.table_schema.specs.Schema.{HasTables, name, table_at}
 use Rattle.table_schema.specs.declared.tables.Table.{Table}
 use Rattle.table_schema.specs.Places.{StandsAt, tree_at, tree_named}
-use Rattle.table_schema.proofs.RunCycleLemmas.{found_there}
+use Rattle.table_schema.proofs.FoundLemmas.{named_there}
 
 row_tree : (row : Row) (table : Described) → IsTableRow row table → number_in (rowid row) - 1 ≡ table.tree
 row_tree row table is = let e : table.tree + 1 - 1 ≡ table.tree = omega arith in rw is.described.id e
@@ -35,9 +35,7 @@ tree_found name table (r ∷ rs) (t ∷ ts) all h = rw all.0.described.name_is (
 pub tree_is : (schema : Schema) (table : Described) (at : ℕ) (objects : List Row) → StandsAt schema table at → AreListed objects schema
     → tree_named objects table.name ≡ table.tree
 tree_is schema table at objects it are =
-    let e : at ≡ 0 + at = omega arith in
-    tree_found table.name table (filter is_table_row objects) schema.tables are.tables
-    (found_there (λ t. same_name t.name table.name) schema.tables 0 at table (it.named ∙ ap Some e) it.got)
+    tree_found table.name table (filter is_table_row objects) schema.tables are.tables (named_there schema table at it)
 
 -- so it tells those of the tables of a plan
 pub tells : (schema : Schema) (has : HasTables schema) (objects : List Row) → AreListed objects schema → (t : Table)

@@ -1,5 +1,5 @@
 -- What one statement does to the tables of the plan, wherever each stands.
-use Rattle.std.proofs.Common.{◌≡◌, ◌≢◌, ◌⊎◌, inl, inr, ℕ, not, false, [], length, filter, slice_get, Some, Ok, refl, sym, ap, subst}
+use Rattle.std.proofs.Common.{◌≡◌, ◌≢◌, ◌⊎◌, inl, inr, ℕ, not, false, [], length, filter, Ok, refl, sym, ap, subst}
 use Rattle.std.specs.List.{AllByRecursion}
 use Rattle.sqlite.specs.Order.{Row}
 use Rattle.sqlite.specs.State.{State, Executes}
@@ -12,30 +12,14 @@ use Rattle.sqlite_schema.specs.declared.schema.Reference.{Reference}
 use Rattle.sqlite_schema.specs.declared.schema.Schema.{Schema}
 use Rattle.sqlite_schema.specs.declared.schema.Table.{Table as Described}
 use Rattle.table_schema.specs.Rows.{HaveRowids, IsAlone, matches}
-use Rattle.table_schema.specs.Schema.{HasTables, IsAside, RefersAside, name, table_at, to_run_cycle}
+use Rattle.table_schema.specs.Schema.{HasTables, IsAside, name, table_at, to_run_cycle}
 use Rattle.table_schema.specs.Texts.{delete_sql}
 use Rattle.table_schema.specs.declared.tables.Table.{Table}
 use Rattle.table_schema.specs.declared.tables.Table.TheVariants.{Meta, CalendarEntry, Period, Application, RunCycle}
 use Rattle.table_schema.specs.declared.tables.Table.TheVariants.{Offset, Predecessor, LinkInForce, LongTerm, Current}
 use Rattle.table_schema.specs.declared.tables.Table.TheVariants.{History, Deletion, Dependency, Job}
-use Rattle.sqlite.specs.Tree.{Trees}
-use Rattle.sqlite_catalog.specs.Listing.{AreListed}
-use Rattle.sqlite_trees.specs.Objects.{catalog_tree}
-use Rattle.sqlite_trees.specs.Tree.{IsTable}
-use Rattle.table_schema.proofs.PlaceLemmas.{stands_in, trees_apart}
 use Rattle.table_schema.proofs.EffectLemmas.{IsUnreferred, KeepsOthers, none_referred, takes_rows, takes_rows_by}
 use Rattle.table_schema.proofs.RunCycleLemmas.{OffsetsRefer, cycles_alone}
-
--- in a list of objects in order the plan stands where its tables are
-pub plan_stands : (schema : Schema) (db : Trees) (at tree : Table → ℕ) → AreListed (db catalog_tree) schema → IsTable (db catalog_tree)
-    → ((t : Table) → slice_get schema.tables (at t) ≡ Some (table_at (tree t) t)) → RefersAside schema (tree Offset) → HasTables schema
-plan_stands schema db at tree are rising got refer = record {
-  at = at;
-  trees = tree;
-  stands = λ t. stands_in schema db (table_at (tree t) t) (at t) are rising (got t);
-  apart = trees_apart schema db are rising;
-  refer = refer;
-}
 
 module _ (schema : Schema) (plan : HasTables schema) where
   listed : (t : Table) → Has schema.tables (table_at (plan.trees t) t)

@@ -28,10 +28,6 @@ or_false : (a b : Bool) → (a || b) ≡ false → (a ≡ false) × (b ≡ false
 or_false true b h = cc
 or_false false b h = (refl, h)
 
-not_false : (a : Bool) → not a ≡ true → a ≡ false
-not_false true h = cc
-not_false false h = refl
-
 -- where no row has the rowid of the new one, it is put without taking the place of another
 pub put_is_placed : (new : Row) (rows : List Row) → is_taken rows new ≡ false → put_row new rows ≡ placed new rows
 put_is_placed new [] h = refl

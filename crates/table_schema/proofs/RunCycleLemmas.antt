@@ -1,7 +1,7 @@
 -- Run cycles that have no offsets are taken out alone, wherever the two tables stand.
-use Rattle.std.proofs.Common.{◌≡◌, ◌⊎◌, ◌||◌, ◌+◌, ◌≤◌, ◌∙◌, inl, inr, ℕ, zero, suc, Bool, true, false, cond, nat_lt, IsTrue, List, [], ◌∷◌, ◌++◌, map, filter, find, slice_get}
-use Rattle.std.proofs.Common.{ℤ, Option, Some, None, option_and_then, unwrap_or, Ok, refl, sym, ap, subst, arith, is_eq, true≢false}
-use Rattle.std.specs.List.{AllByRecursion, cons_option, flat_map, filter_map, list_any, position_from}
+use Rattle.std.proofs.Common.{◌≡◌, ◌⊎◌, ◌||◌, ◌∙◌, inl, inr, ℕ, zero, suc, Bool, true, false, cond, nat_lt, IsTrue, List, [], ◌∷◌, ◌++◌, map, filter, find}
+use Rattle.std.proofs.Common.{ℤ, Option, Some, None, option_and_then, unwrap_or, Ok, refl, sym, ap, subst, is_eq, true≢false}
+use Rattle.std.specs.List.{AllByRecursion, cons_option, flat_map, filter_map, list_any}
 use Rattle.std.specs.List.Sorted.{IsPermutation}
 use Rattle.std.proofs.lemmas.Bool.{and_parts, eq-eqb}
 use Rattle.std.proofs.lemmas.List.Elements.{All-from_recursion, recursion_from_All}
@@ -34,6 +34,7 @@ use Rattle.table_schema.specs.declared.tables.Table.TheVariants.{Offset, RunCycl
 use Rattle.table_schema.specs.Places.{StandsAt}
 use Rattle.table_schema.specs.Places.{TreesDiffer}
 use Rattle.table_schema.proofs.EffectLemmas.{KeepsOthers, no_work}
+use Rattle.table_schema.proofs.FoundLemmas.{named_there}
 
 -- ---- actions that find no child end where they began
 
@@ -84,30 +85,6 @@ all_mapped {Y = Y} P f (x ∷ xs) all = go (f x) all.0 (all_mapped P f xs all.1)
     go : (o : Option Y) → ((y : Y) → o ≡ Some y → P y) → AllByRecursion P (filter_map f xs) → AllByRecursion P (cons_option o (filter_map f xs))
     go None here rest = rest
     go (Some y) here rest = (here y refl, rest)
-
--- the first that passes stands at its place
-at_least : {X : Type 0} (p : X → Bool) (xs : List X) (start k : ℕ) → position_from p start xs ≡ Some k → start ≤ k
-at_least p [] start k h = cc
-at_least p (x ∷ xs) start k h = go (p x) h (at_least p xs (start + 1) k)
-  where
-    go : (b : Bool) → cond b (Some start) (position_from p (start + 1) xs) ≡ Some k → (position_from p (start + 1) xs ≡ Some k → start + 1 ≤ k) → start ≤ k
-    go true h later = let e : start ≡ k = cc in omega (arith, e)
-    go false h later = omega (arith, later h)
-
-pub found_there : {X : Type 0} (p : X → Bool) (xs : List X) (start at : ℕ) (x : X) → position_from p start xs ≡ Some (start + at) → slice_get xs at ≡ Some x → find p xs ≡ Some x
-found_there p [] start at x h got = cc
-found_there p (y ∷ ys) start zero x h got = go (p y) h (at_least p ys (start + 1) (start + 0))
-  where
-    go : (b : Bool) → cond b (Some start) (position_from p (start + 1) ys) ≡ Some (start + 0) → (position_from p (start + 1) ys ≡ Some (start + 0) → start + 1 ≤ start + 0) → cond b (Some y) (find p ys) ≡ Some x
-    go true h least = got
-    go false h least = absurd (omega (arith, least h))
-found_there p (y ∷ ys) start (suc at) x h got =
-    let e : start + suc at ≡ start + 1 + at = omega arith in
-    go (p y) h (λ k. found_there p ys (start + 1) at x (k ∙ ap Some e) got)
-  where
-    go : (b : Bool) → cond b (Some start) (position_from p (start + 1) ys) ≡ Some (start + suc at) → (position_from p (start + 1) ys ≡ Some (start + suc at) → find p ys ≡ Some x) → cond b (Some y) (find p ys) ≡ Some x
-    go true h later = let e : start ≡ start + suc at = cc in absurd (omega (arith, e))
-    go false h later = later h
 
 -- ---- the rows that are taken out have the key
 
@@ -192,10 +169,8 @@ module _ (schema : Schema) (at tree n : ℕ) (it : StandsAt schema (table_at tre
   pub key_is : parent_key schema.tables to_run_cycle ≡ Some (tree, 1 ∷ 2 ∷ [], name_order)
   unfolding joined
   key_is =
-      let e : at ≡ 0 + at = omega arith in
-      let there : find (λ t. same_name t.name (name RunCycle)) schema.tables ≡ Some (table_at tree RunCycle)
-      = found_there (λ t. same_name t.name (name RunCycle)) schema.tables 0 at _ (it.named ∙ ap Some e) it.got in
-      ap (option_and_then (λ t. option_and_then (key_in t) (key_places t []))) there
+      ap (option_and_then (λ t. option_and_then (key_in t) (key_places t [])))
+      (named_there schema (table_at tree RunCycle) at it)
 
   work_is : (olds : List Row) (w : Work) → work_for schema Enforced 0 tree olds [] (table_at n Offset) to_run_cycle ≡ Some w → w ≡ their_offsets n olds
   work_is olds w h = go (list_any (loses name_order (1 ∷ 2 ∷ [])) (pairs olds [])) (rw (key_is, eq-eqb tree tree refl) at h)

@@ -1,5 +1,5 @@
 -- `SELECT columns FROM table`, as it is written.
-use Rattle.std.specs.Prelude.{◌≡◌, ℕ, Bool, false, true, not, List, [], ◌∷◌, length, map, negsuc, codes, Option, Some, None, is_some, option_map, option_and_then, unwrap_or, slice_get, Ok, ⊤, Err}
+use Rattle.std.specs.Prelude.{◌≡◌, ℕ, Bool, false, true, List, [], ◌∷◌, length, map, negsuc, codes, Option, Some, None, is_some, option_map, option_and_then, unwrap_or, slice_get, Ok, ⊤, Err}
 use Rattle.std.specs.List.{list_all}
 use Rattle.sqlite_schema.specs.Names.{column_named, place_of}
 use Rattle.sqlite_ast.specs.declared.Core.{out-Core, Core, roll-Core}
@@ -138,6 +138,3 @@ rowid_head table = unwrap_or (option_and_then (λ k. option_map (λ c. c.name) (
 
 abbrev pub rowid_output : Table → Output
 rowid_output table = record { name = rowid_head table; is_alias = false; is_column = true; term = col 1 0; carried = nothing }
-
-abbrev pub lacks_column : Table → List ℕ → Bool
-lacks_column table name = not (is_some (column_named table name))

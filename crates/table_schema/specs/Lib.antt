@@ -1,4 +1,5 @@
 pub mod Texts
+pub mod Named
 pub mod Places
 pub mod Schema
 pub mod Cells

@@ -1,5 +1,5 @@
 -- Tables of a plan that are made beside others, inside a transaction.
-use Rattle.std.specs.Prelude.{◌≡◌, List, [], ◌∷◌, ◌++◌, IsTrue, ⊤}
+use Rattle.std.specs.Prelude.{◌≡◌, ◌+◌, List, [], ◌∷◌, ◌++◌, drop, take, IsTrue, ⊤}
 use Rattle.sqlite.specs.Change.{KeepsRows, created, next_tree}
 use Rattle.sqlite.specs.Effect.{Database, IsDatabase}
 use Rattle.sqlite.specs.Schema.{Schema}
@@ -7,46 +7,16 @@ use Rattle.sqlite.specs.State.{State}
 use Rattle.sqlite.specs.Table.{Table as Described}
 use Rattle.table_schema.specs.Free.{IsFree, with_plan, with_tables}
 use Rattle.table_schema.specs.Rows.{IsPlan, no_rows, tables_of}
-use Rattle.table_schema.specs.Schema.{HasOwnIndexes, table_at}
+use Rattle.table_schema.specs.Schema.{HasOwnIndexes, all_tables, place, table_at}
 use Rattle.table_schema.specs.declared.tables.Table.{Table}
-use Rattle.table_schema.specs.declared.tables.Table.TheVariants.{Meta, CalendarEntry, Period, Application}
-use Rattle.table_schema.specs.declared.tables.Table.TheVariants.{RunCycle, Offset, Predecessor, LinkInForce}
-use Rattle.table_schema.specs.declared.tables.Table.TheVariants.{LongTerm, Current, History, Deletion}
-use Rattle.table_schema.specs.declared.tables.Table.TheVariants.{Dependency, Job}
 
 -- the tables that are made before it
 abbrev pub earlier : Table → List Table
-earlier Meta = []
-earlier CalendarEntry = Meta ∷ []
-earlier Period = Meta ∷ CalendarEntry ∷ []
-earlier Application = Meta ∷ CalendarEntry ∷ Period ∷ []
-earlier RunCycle = Meta ∷ CalendarEntry ∷ Period ∷ Application ∷ []
-earlier Offset = Meta ∷ CalendarEntry ∷ Period ∷ Application ∷ RunCycle ∷ []
-earlier Predecessor = Meta ∷ CalendarEntry ∷ Period ∷ Application ∷ RunCycle ∷ Offset ∷ []
-earlier LinkInForce = Meta ∷ CalendarEntry ∷ Period ∷ Application ∷ RunCycle ∷ Offset ∷ Predecessor ∷ []
-earlier LongTerm = Meta ∷ CalendarEntry ∷ Period ∷ Application ∷ RunCycle ∷ Offset ∷ Predecessor ∷ LinkInForce ∷ []
-earlier Current = Meta ∷ CalendarEntry ∷ Period ∷ Application ∷ RunCycle ∷ Offset ∷ Predecessor ∷ LinkInForce ∷ LongTerm ∷ []
-earlier History = Meta ∷ CalendarEntry ∷ Period ∷ Application ∷ RunCycle ∷ Offset ∷ Predecessor ∷ LinkInForce ∷ LongTerm ∷ Current ∷ []
-earlier Deletion = Meta ∷ CalendarEntry ∷ Period ∷ Application ∷ RunCycle ∷ Offset ∷ Predecessor ∷ LinkInForce ∷ LongTerm ∷ Current ∷ History ∷ []
-earlier Dependency = Meta ∷ CalendarEntry ∷ Period ∷ Application ∷ RunCycle ∷ Offset ∷ Predecessor ∷ LinkInForce ∷ LongTerm ∷ Current ∷ History ∷ Deletion ∷ []
-earlier Job = Meta ∷ CalendarEntry ∷ Period ∷ Application ∷ RunCycle ∷ Offset ∷ Predecessor ∷ LinkInForce ∷ LongTerm ∷ Current ∷ History ∷ Deletion ∷ Dependency ∷ []
+earlier t = take (place t) all_tables
 
 -- the tables that are made after it
 abbrev pub later : Table → List Table
-later Meta = CalendarEntry ∷ Period ∷ Application ∷ RunCycle ∷ Offset ∷ Predecessor ∷ LinkInForce ∷ LongTerm ∷ Current ∷ History ∷ Deletion ∷ Dependency ∷ Job ∷ []
-later CalendarEntry = Period ∷ Application ∷ RunCycle ∷ Offset ∷ Predecessor ∷ LinkInForce ∷ LongTerm ∷ Current ∷ History ∷ Deletion ∷ Dependency ∷ Job ∷ []
-later Period = Application ∷ RunCycle ∷ Offset ∷ Predecessor ∷ LinkInForce ∷ LongTerm ∷ Current ∷ History ∷ Deletion ∷ Dependency ∷ Job ∷ []
-later Application = RunCycle ∷ Offset ∷ Predecessor ∷ LinkInForce ∷ LongTerm ∷ Current ∷ History ∷ Deletion ∷ Dependency ∷ Job ∷ []
-later RunCycle = Offset ∷ Predecessor ∷ LinkInForce ∷ LongTerm ∷ Current ∷ History ∷ Deletion ∷ Dependency ∷ Job ∷ []
-later Offset = Predecessor ∷ LinkInForce ∷ LongTerm ∷ Current ∷ History ∷ Deletion ∷ Dependency ∷ Job ∷ []
-later Predecessor = LinkInForce ∷ LongTerm ∷ Current ∷ History ∷ Deletion ∷ Dependency ∷ Job ∷ []
-later LinkInForce = LongTerm ∷ Current ∷ History ∷ Deletion ∷ Dependency ∷ Job ∷ []
-later LongTerm = Current ∷ History ∷ Deletion ∷ Dependency ∷ Job ∷ []
-later Current = History ∷ Deletion ∷ Dependency ∷ Job ∷ []
-later History = Deletion ∷ Dependency ∷ Job ∷ []
-later Deletion = Dependency ∷ Job ∷ []
-later Dependency = Job ∷ []
-later Job = []
+later t = drop (place t + 1) all_tables
 
 abbrev pub up_to : Table → List Table
 up_to t = earlier t ++ t ∷ []

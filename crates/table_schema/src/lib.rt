@@ -2,11 +2,13 @@
 #![tactic(auto)]
 
 mod making;
+mod named;
 mod statements;
 mod tables;
 mod texts;
 
 pub use making::{make_all, make_tables};
+pub use named::first_named;
 pub use statements::{delete, insert, select};
 pub use tables::{SCHEMA_VERSION, Table};
 pub use texts::{create_text, select_text};

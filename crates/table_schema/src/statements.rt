@@ -72,6 +72,7 @@ pub fn select<S: Alter>(conn: &mut Connection<S>, table: Table) -> Result<Vec<Ro
     ensures survives { Survives (state S.Store conn.old) (state S.Store conn.new)
         (λ _. HasTables (state S.Store conn.old).now.schema → ⊥) }
 {
+    // its clause says that an open connection has a database
     let _ = conn.schema();
     conn.query_all(select_text(table), &[])
 }

@@ -98,11 +98,6 @@ module _ {S : Type 0} (g : Ghosts S) where
     sound = λ clean sound takes. tt;
   }
 
-  -- nothing is done
-  pub takes_nothing : {T : Type 0} (A : Tables → Type 0) (tx : Transaction S) (v : T)
-      → TakesWhere {S = S} {T = T} A g tx tx (Ok v) (λ all. all)
-  takes_nothing A tx v = record { fails = λ clean sound takes. tt; sound = λ clean sound takes. (sound, (λ o. o), refl) }
-
 -- ---- loops
 
 cut_at : {A : Type 0} (items : List A) (i : ℕ) (item : A) → i < length items → item ≡ get_or items i item

@@ -149,6 +149,7 @@ pub fn commit_change<S: Alter>(
 {
     let settled = conn.is_autocommit();
     prove!(settled);
+    // its clause says that an open connection has a database
     let _ = conn.schema();
     let mut tx = conn.transaction();
     write_change(&mut tx, alloc, content, moves, change, line)?;

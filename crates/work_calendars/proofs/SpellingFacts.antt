@@ -196,16 +196,6 @@ SpellsMinute-one_minute text c d p q =
 pub length-SpellsMinute : (text : List ℕ) (minute : ℕ) → SpellsMinute text minute → length text ≡ 5
 length-SpellsMinute text minute s = ap length s.text_is
 
-pub minute_read : (text : List ℕ) (m hour minute : ℕ) → SpellsMinute text m →
-    ReadsTwo text 0 hour → ReadsTwo text 3 minute → hour * 60 + minute ≡ m
-minute_read text m hour minute s h r =
-    let at : (k : ℕ) → slice_index text k ≡ slice_index (clock_spelling (m / 60) (m % 60)) k
-    = λ k. ap (λ t. slice_index t k) s.text_is in
-    let below : m < 1440 = s.in_range in
-    let a : hour ≡ m / 60 = h (m / 60) (omega arith) (at 0) (at 1) in
-    let b : minute ≡ m % 60 = r (m % 60) (omega arith) (at 3) (at 4) in
-    omega arith
-
 -- ---- moments
 
 pub SpellsMoment-one_text : (s t : List ℕ) (moment : ℕ) → SpellsMoment s moment → SpellsMoment t moment → s ≡ t

@@ -1,13 +1,13 @@
 -- Filling the statuses of an index: weekday by weekday, and then the listed dates.
-use Rattle.std.proofs.Common.{◌≡◌, ◌≢◌, ◌⊎◌, inl, inr, sym, ap, ◌∙◌, refl, ℕ, ◌+◌, ◌-◌, ◌<◌, Bool, false, cond, List}
-use Rattle.std.proofs.Common.{[], ◌∷◌, length, slice_set, Some, None, arith}
+use Rattle.std.proofs.Common.{◌≡◌, ◌≢◌, ◌⊎◌, inl, inr, sym, ap, ◌∙◌, ℕ, ◌+◌, ◌-◌, ◌<◌, Bool, false, cond, List}
+use Rattle.std.proofs.Common.{◌∷◌, length, slice_set, Some, None, arith}
 use Rattle.std.specs.List.{slice_index_or}
 use Rattle.std.specs.Map.{lookup}
 use Rattle.std.specs.BTreeMap.{is_at}
 use Rattle.std.specs.Ordering.{nat_cmp}
 use Rattle.std.specs.FinMap as map
 use Rattle.std.specs.FinMap.{get-empty}
-use Rattle.std.proofs.Math.ListN.{set, length-set}
+use Rattle.std.proofs.Math.ListN.{length-set}
 use Rattle.std.proofs.lemmas.Bool.{cases_eq}
 use Rattle.std.proofs.lemmas.Bool.Decides.{nat_tests}
 use Rattle.std.proofs.lemmas.List.{get_or-set_same, get_or-set_other}
@@ -82,7 +82,3 @@ StatusesBut-more c k place v left statuses b t in_range at listed is = record {
     by d h none (inr ne) =
         get_or-set_other statuses place (d - first_day) b false (λ e. ne (omega arith))
         ∙ t.are d h (ap (λ b. cond b (Some v) (lookup (is_at (nat_cmp d)) left)) (other_key d k ne) ∙ none)
-
-pub AreStatuses-all_dates : (c : CalendarEntries) (statuses : List Bool) →
-    StatusesBut c [] statuses → AreStatuses (is_work_day c) statuses
-AreStatuses-all_dates c statuses t = record { len = t.len; are = λ d h. t.are d h refl }

@@ -1,7 +1,7 @@
 use Rattle.std.proofs.Common.{arith, refl}
 use Rattle.sqlite.specs.Order.{Row as Values, column}
 use Rattle.table_reading.proofs.OrderLemmas.{rise_far}
-use Rattle.table_opening.specs.Rowids.{place_of}
+use Rattle.table_reading.specs.Rowids.{place_of}
 use Rattle.table_opening.proofs.rowids.places_rise.Goals as goal
 
 pub returns : goal.returns

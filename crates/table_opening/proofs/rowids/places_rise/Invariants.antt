@@ -1,7 +1,7 @@
 use Rattle.std.proofs.Common.{◌<◌}
 use Rattle.std.specs.List.{AllAdjacentBelow}
 use Rattle.sqlite.specs.Order.{Row as Values, column}
-use Rattle.table_opening.specs.Rowids.{place_of}
+use Rattle.table_reading.specs.Rowids.{place_of}
 use Rattle.table_opening.proofs.rowids.places_rise.Given as goal
 
 abbrev pub invariant-loop-at : goal.invariant-loop-at

@@ -4,7 +4,8 @@ use Rattle.table_schema.proofs.ResultLemmas.{if_err, if_ok}
 use Rattle.table_schema.proofs.StatementLemmas.{text_fails, text_quiet, text_stays}
 use Rattle.table_opening.specs.Rowids.{rowid_sql, rowid_terms}
 use Rattle.table_reading.specs.Reading.{HasPlan}
-use Rattle.table_opening.proofs.RowidLemmas.{on_done, reads_rowids}
+use Rattle.table_reading.proofs.LookLemmas.{on_done}
+use Rattle.table_opening.proofs.RowidLemmas.{reads_rowids}
 use Rattle.table_opening.proofs.RowidTexts.{rowid_name, rowids}
 use Rattle.table_opening.proofs.rowids.select_rowids.Goals as goal
 

@@ -1,7 +1,7 @@
 use Rattle.std.proofs.Common.{rules}
 use Rattle.std.proofs.lemmas.List.Sorted.{IsNonDecreasingBy-from_sort_by_key}
 use Rattle.sqlite.specs.Order.{Row as Values, column}
-use Rattle.table_opening.specs.Rowids.{place_of}
+use Rattle.table_reading.specs.Rowids.{place_of}
 use Rattle.table_opening.proofs.rowids.sort_rowids.Goals as goal
 
 pub returns-clause-sorted : goal.returns-clause-sorted

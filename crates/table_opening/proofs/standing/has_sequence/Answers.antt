@@ -1,7 +1,7 @@
 use Rattle.std.proofs.Common.{◌≡◌, ◌∙◌, ap, codes, Bor, Option, Some, None, refl}
 use Rattle.std.specs.Prelude.{is_some, option_copied}
-use Rattle.table_opening.specs.Standing.{first_named}
-use Rattle.table_opening.proofs.StandingLemmas.{named_is}
+use Rattle.table_schema.specs.Named.{first_named}
+use Rattle.table_schema.proofs.FoundLemmas.{named_is}
 use Rattle.table_opening.proofs.standing.has_sequence.Goals as goal
 
 copied_some : {T : Type 0} (o : Option (Bor T)) → is_some o ≡ is_some (option_copied o)

@@ -2,29 +2,19 @@ use Rattle.table_remaking.proofs.TurnLemmas.{turns_fail, turns_then}
 use Rattle.table_remaking.proofs.dropping.drop_cycles.Goals as goal
 
 pub returns-in_err-drop_last : goal.returns-in_err-drop_last
-returns-in_err-drop_last g c =
-    turns_fail g.S.Store _ _ c.in_err-drop_last.field-0.0 c.from_residual.result _ _ _ _ (λ x same. same)
-    c.from_residual.ensures.1
-    c.in_err-drop_last.ensures
+returns-in_err-drop_last g c = turns_fail c.in_err-drop_last.ensures c.from_residual.ensures.1
 
 pub returns-in_err-drop_last-2 : goal.returns-in_err-drop_last-2
 returns-in_err-drop_last-2 g c =
-    turns_fail g.S.Store _ _ c.in_err-drop_last-2.field-0.0 c.from_residual-in_err-drop_last-2.result _ _ _ _ (λ x same. same)
+    turns_fail (turns_then c.in_ok-drop_last.ensures c.in_err-drop_last-2.ensures)
     c.from_residual-in_err-drop_last-2.ensures.1
-    (turns_then g.S.Store _ c.drop_last.new.tx _ _ _ _ _ _ c.in_ok-drop_last.ensures
-    c.in_err-drop_last-2.ensures)
 
 pub returns-in_err-drop_last-3 : goal.returns-in_err-drop_last-3
 returns-in_err-drop_last-3 g c =
-    turns_fail g.S.Store _ _ c.in_err-drop_last-3.field-0.0 c.from_residual-in_err-drop_last-3.result _ _ _ _ (λ x same. same)
-    c.from_residual-in_err-drop_last-3.ensures.1
-    (turns_then g.S.Store _ c.drop_last.new.tx _ _ _ _ _ _ c.in_ok-drop_last.ensures
-    (turns_then g.S.Store _ c.drop_last-2.new.tx _ _ _ _ _ _ c.in_ok-drop_last-2.ensures
-    c.in_err-drop_last-3.ensures))
+    turns_fail (turns_then c.in_ok-drop_last.ensures (turns_then c.in_ok-drop_last-2.ensures
+    c.in_err-drop_last-3.ensures)) c.from_residual-in_err-drop_last-3.ensures.1
 
 pub returns : goal.returns
 returns g c =
-    turns_then g.S.Store _ c.drop_last.new.tx _ _ _ _ _ _ c.in_ok-drop_last.ensures
-    (turns_then g.S.Store _ c.drop_last-2.new.tx _ _ _ _ _ _ c.in_ok-drop_last-2.ensures
-    (turns_then g.S.Store _ c.drop_last-3.new.tx _ _ _ _ _ _ c.in_ok-drop_last-3.ensures
-    c.drop_last-4.ensures))
+    turns_then c.in_ok-drop_last.ensures (turns_then c.in_ok-drop_last-2.ensures (turns_then
+    c.in_ok-drop_last-3.ensures c.drop_last-4.ensures))

@@ -1,0 +1,124 @@
+// The pairs, read with the rowids of their rows.
+
+ghost use Rattle.std.specs.Prelude.{◌≡◌, false, is_ok, map, None, IfErr, IfOk, IfSome};
+ghost use Rattle.std.specs.List.Sorted.{IsPermutation};
+ghost use Rattle.sqlite.specs.State.{HasCleanDisk};
+ghost use Rattle.sqlite.specs.Held.{state};
+ghost use Rattle.table_schema.specs.Rows.{MayFail, tables_of};
+ghost use Rattle.table_schema.specs.declared.tables.Table.TheVariants.{Dependency};
+ghost use Rattle.table_facts.specs.Facts.{pair_values};
+ghost use Rattle.table_reading.specs.Cells.{IsPair};
+ghost use Rattle.table_reading.specs.Readable.{ShowsEachOnce};
+ghost use Rattle.table_reading.specs.Reading.{HasPlan, Looks};
+ghost use Rattle.table_reading.specs.Rowids.{pair_of, pair_place, pair_row_values};
+ghost use Rattle.table_reading.specs.Rowids.{pair_shown, pair_sql};
+ghost use Rattle.table_reading.specs.declared.pairs.PairRow.{PairRow as PairRowValue};
+
+use crate::cells::{integer_at, serial_at};
+use crate::loops::tell_each;
+use crate::order::{Numbered, place_of};
+use crate::told::Told;
+use external_dependencies::Pair;
+use sqlite::{Alter, Connection, Error, Row as Cells};
+use std::alloc::{AllocError, Global};
+
+/// A pair, and the rowid of its row.
+#[derive(Drop)]
+pub(crate) struct PairRow {
+    /// The pair.
+    pub pair: Pair,
+    /// The rowid of its row.
+    pub rowid: i64,
+}
+
+#[tactic(auto, using(crate::proofs::CellLemmas::pair_from, crate::proofs::CellLemmas::pair_is))]
+fn told_pair(cells: &Cells) -> Option<PairRow>
+    ensures value { IfSome result (λ row. pair_row_values row ≡ cells.now) }
+    ensures none { result ≡ None → (row : PairRowValue) → IsPair row.pair
+        → pair_row_values row ≡ cells.now → ⊥ }
+{
+    if cells.column_count() != 3 {
+        return None;
+    }
+    let successor = serial_at(cells, 0)?;
+    let predecessor = serial_at(cells, 1)?;
+    let rowid = integer_at(cells, 2)?;
+    let pair = Pair {
+        successor,
+        predecessor,
+    };
+    Some(PairRow { pair, rowid })
+}
+
+impl Told for PairRow {
+    ghost values = { pair_row_values };
+
+    ghost has_form = { λ row. IsPair row.pair };
+
+    fn tell(_: Global, cells: &Cells) -> Result<Option<PairRow>, AllocError> {
+        Ok(told_pair(cells))
+    }
+}
+
+impl Numbered for PairRow {
+    ghost number_of = { pair_place };
+
+    fn number(&self) -> u64 {
+        place_of(self.rowid)
+    }
+}
+
+// The text that shows the pairs and the rowids of their rows.
+fn pair_text() -> &'static str
+    ensures { result.now ≡ pair_sql }
+{
+    "SELECT successor, predecessor, rowid FROM dependency"
+}
+
+// The pairs and the rowids of their rows, in some order.
+fn select_pairs<S: Alter>(conn: &mut Connection<S>) -> Result<Vec<Cells>, Error>
+    ensures rows { HasCleanDisk (state S.Store conn.new) → HasPlan (state S.Store conn.old)
+        → IfOk result (λ rows. IsPermutation (map pair_shown
+        (tables_of (state S.Store conn.old).now.trees Dependency)) rows.items) }
+    ensures looks { Looks (state S.Store conn.old) (state S.Store conn.new) (is_ok result) }
+    ensures fails { HasCleanDisk (state S.Store conn.new) → HasPlan (state S.Store conn.old)
+        → IfErr result (MayFail (state S.Store conn.old) (state S.Store conn.new)) }
+    ensures mode { conn.old.in_transaction ≡ false → conn.new.in_transaction ≡ false }
+{
+    // its clause says that an open connection has a database
+    let _ = conn.schema();
+    conn.query_all(pair_text(), &[])
+}
+
+/// What the rows of the pairs tell.
+pub(crate) fn read_pairs<S: Alter>(
+    alloc: Global,
+    conn: &mut Connection<S>,
+) -> Result<Option<Vec<PairRow>>, Error>
+    ensures listed { HasCleanDisk (state S.Store conn.new) → HasPlan (state S.Store conn.old)
+        → IfOk result (λ found. IfSome found (λ told. IsPermutation (map pair_shown
+        (tables_of (state S.Store conn.old).now.trees Dependency))
+        (map pair_row_values told.items))) }
+    ensures refused { HasCleanDisk (state S.Store conn.new) → HasPlan (state S.Store conn.old)
+        → IfOk result (λ found. found ≡ None
+        → ShowsEachOnce (tables_of (state S.Store conn.old).now.trees) Dependency pair_values
+        IsPair → ⊥) }
+    ensures looks { Looks (state S.Store conn.old) (state S.Store conn.new) (is_ok result) }
+    ensures fails { HasCleanDisk (state S.Store conn.new) → HasPlan (state S.Store conn.old)
+        → IfErr result (MayFail (state S.Store conn.old) (state S.Store conn.new)) }
+    ensures mode { conn.old.in_transaction ≡ false → conn.new.in_transaction ≡ false }
+{
+    let rows = select_pairs(conn)?;
+    Ok(tell_each(alloc, &rows)?)
+}
+
+/// Their pairs alone.
+pub(crate) fn pairs_of(alloc: Global, told: &[PairRow]) -> Result<Vec<Pair>, AllocError>
+    ensures { IfOk result (λ pairs. pairs.items ≡ map pair_of told.now) }
+{
+    let mut pairs = Vec::with_capacity(alloc, told.len())?;
+    for row in told {
+        pairs.push(row.pair)?;
+    }
+    Ok(pairs)
+}
