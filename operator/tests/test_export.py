@@ -13,6 +13,7 @@ import unittest
 from contextlib import closing
 from pathlib import Path
 
+import paces
 import plans
 import sqlite3
 
@@ -230,7 +231,7 @@ class Export(unittest.TestCase):
             shown = exported(file, form)
             took = processor_time() - began
             self.assertEqual(shown.count("A599"), 333 * (2 if form == "--ics" else 1))
-            self.assertLess(took, 15, form)
+            self.assertLess(took, paces.limit(15), form)
 
 
 if __name__ == "__main__":

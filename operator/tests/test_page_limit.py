@@ -7,6 +7,7 @@ import plans  # noqa: F401  (it says where the page's modules are)
 
 import many
 import page_reader as read
+import paces
 
 
 class Limit(unittest.TestCase):
@@ -17,7 +18,7 @@ class Limit(unittest.TestCase):
         page = read.page_of(path, "--now", many.NOW, *days)
         used = resource.getrusage(resource.RUSAGE_CHILDREN)
         # what it takes of a processor, since others may use the machine
-        self.assertLessEqual(used.ru_utime + used.ru_stime - before.ru_utime - before.ru_stime, 5)
+        self.assertLessEqual(used.ru_utime + used.ru_stime - before.ru_utime - before.ru_stime, paces.limit(5))
         self.assertLessEqual(len(page.encode()), 20_000_000)
         return read.data_in(page)
 
