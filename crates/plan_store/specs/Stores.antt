@@ -1,5 +1,5 @@
 -- What a reading call of a store does.
-use Rattle.std.specs.Prelude.{◌≡◌, ◌⊎◌, ℕ, ◌<◌, ◌≤◌, IfOk, IfErr, Result, Err}
+use Rattle.std.specs.Prelude.{◌≡◌, ◌⊎◌, ℕ, ◌<◌, ◌≤◌, IfOk, IfErr, OnOk, Result, Err}
 use Rattle.std.specs.Borrow.{Fml, MutBor, RattleType}
 use Rattle.std.specs.Io.BufRead.{Rests}
 use Rattle.planner_machine.specs.Content.{Content}
@@ -9,24 +9,27 @@ use Rattle.plan_store.specs.declared.stores.StoreFault.TheVariants.{Device}
 
 -- a store before and after it is read, and what the call answers
 pub record Reads {S T : Type 0} (is_honest : S → Type 0) (content : S → Content) (failures : S → ℕ)
-    (may_leave : S → Content → Type 0) (before now : S) (result : Result T StoreFault) (IsRight : T → Type 0) : Type 0
-  where
-    -- the answer of an honest store is right, and its content stays
-    pub right : is_honest now → IfOk result IsRight
-    pub same : is_honest now → content now ≡ content before
-    -- a crash leaves no other content than before
-    pub crash : is_honest now → (c : Content) → may_leave now c → may_leave before c
-    -- the device is blamed only where it failed, then or before
-    pub blames : IfErr result (λ fault. fault ≡ Device → MoreFailures (failures before) (failures now)
-        ⊎ (0 < failures before))
-    -- and once a failure is counted, no call answers anything else
-    pub broken : 0 < failures before → result ≡ Err Device
-    pub counts : failures before ≤ failures now
-    pub honest : is_honest now → is_honest before
+    (may_leave : S → Content → Type 0) (is_clean is_whole : S → Type 0) (before now : S)
+    (result : Result T StoreFault) (IsRight : T → Type 0) : Type 0 where
+  -- the answer of an honest store is right, and its content stays
+  pub right : is_honest now → IfOk result IsRight
+  pub same : is_honest now → content now ≡ content before
+  -- a crash leaves no other content than before
+  pub crash : is_honest now → (c : Content) → may_leave now c → may_leave before c
+  -- the device is blamed only where it failed, then or before
+  pub blames : IfErr result (λ fault. fault ≡ Device → MoreFailures (failures before) (failures now)
+      ⊎ (0 < failures before))
+  -- and once a failure is counted, no call answers anything else
+  pub broken : 0 < failures before → result ≡ Err Device
+  pub counts : failures before ≤ failures now
+  pub honest : is_honest now → is_honest before
+  pub clean : is_clean now → is_clean before
+  -- a store that answers is as whole as it was
+  pub whole : OnOk result (is_whole before → is_whole now)
 
 -- a reading call that lends what it answers: so stands the store behind `lender` once the loan is given back
 abbrev pub LendsRead : {T : Type 0} (R : RattleType) (is_honest : R.Denot → Type 0) (content : R.Denot → Content)
-    (failures : R.Denot → ℕ) (may_leave : R.Denot → Content → Type 0) (before : R.Denot) (lender : MutBor R.Denot)
-    → Result T StoreFault → (T → Type 0) → Fml
-LendsRead R is_honest content failures may_leave before lender result IsRight =
-    Rests R lender (λ now. Reads is_honest content failures may_leave before now result IsRight)
+    (failures : R.Denot → ℕ) (may_leave : R.Denot → Content → Type 0) (is_clean is_whole : R.Denot → Type 0)
+    (before : R.Denot) (lender : MutBor R.Denot) → Result T StoreFault → (T → Type 0) → Fml
+LendsRead R is_honest content failures may_leave is_clean is_whole before lender result IsRight =
+    Rests R lender (λ now. Reads is_honest content failures may_leave is_clean is_whole before now result IsRight)

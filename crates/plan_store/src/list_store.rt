@@ -78,6 +78,10 @@ impl PlanStore for ListStore {
 
     ghost may_leave = { λ store c. c ≡ listed store };
 
+    ghost is_clean = { λ _. ⊤ };
+
+    ghost is_whole = { λ _. ⊤ };
+
     fn definitions(&mut self) -> Result<Definitions, StoreFault> {
         match self.content.definitions.clone() {
             Ok(definitions) => Ok(definitions),

@@ -59,29 +59,37 @@ pub trait PlanStore {
     // a crash now may leave this content
     ghost may_leave: { Self → ContentValue → Type 0 };
 
+    // its device told no wrong answer that was seen to be one
+    ghost is_clean: { Self → Type 0 };
+
+    // no failure was counted, and nothing of its device is in doubt
+    ghost is_whole: { Self → Type 0 };
+
     /// An owned copy of the definitions.
     fn definitions(&mut self) -> Result<Definitions, StoreFault>
-        ensures { Reads is_honest content failures may_leave self.old self.new result
+        ensures { Reads is_honest content failures may_leave is_clean is_whole self.old self.new result
             (λ all. all ≡ (content self.old).definitions) };
 
     /// How far the plans reach; `None` before the long-term plan is created.
     fn bounds(&mut self) -> Result<Option<Bounds>, StoreFault>
-        ensures { Reads is_honest content failures may_leave self.old self.new result
+        ensures { Reads is_honest content failures may_leave is_clean is_whole self.old self.new result
             (λ bounds. bounds ≡ (content self.old).sets.bounds) };
 
     /// An owned copy of the lists in force.
     fn links(&mut self) -> Result<Links, StoreFault>
-        ensures { Reads is_honest content failures may_leave self.old self.new result
+        ensures { Reads is_honest content failures may_leave is_clean is_whole self.old self.new result
             (λ links. links ≡ (content self.old).in_force) };
 
     /// Lends a window that shows what the need names.
     fn read_window<'a>(&'a mut self, need: Need) -> Result<View<'a>, StoreFault>
-        ensures* { sem 𝓛 (LendsRead Self.row is_honest content failures may_leave self.old self.entry result
+        ensures* { sem 𝓛 (LendsRead Self.row is_honest content failures may_leave is_clean is_whole self.old
+            self.entry result
             (λ view. Shows need view (content self.old))) };
 
     /// Lends the job that is kept under the number, if there is one.
     fn job<'a>(&'a mut self, number: u64) -> Result<Option<&'a Job>, StoreFault>
-        ensures* { sem 𝓛 (LendsRead Self.row is_honest content failures may_leave self.old self.entry result
+        ensures* { sem 𝓛 (LendsRead Self.row is_honest content failures may_leave is_clean is_whole self.old
+            self.entry result
             (λ job. option_copied job ≡ (content self.old).jobs number)) };
 
     /// Hands the sink what a listing shows, in its order, of one application or of all, and answers how many items it
@@ -105,7 +113,9 @@ pub trait PlanStore {
             (failures self.new) ⊎ (0 < failures self.old)) }
         ensures broken { 0 < failures self.old → result ≡ Err ListFault.Device }
         ensures counts { failures self.old ≤ failures self.new }
-        ensures honest { is_honest self.new → is_honest self.old };
+        ensures honest { is_honest self.new → is_honest self.old }
+        ensures clean { is_clean self.new → is_clean self.old }
+        ensures stays_whole { OnOk result (is_whole self.old → is_whole self.new) };
 
     /// Makes the change, whole or not at all.
     fn apply(&mut self, alloc: Global, change: Change) -> Result<(), StoreFault>
@@ -129,5 +139,7 @@ pub trait PlanStore {
             (failures self.new) ⊎ (0 < failures self.old)) }
         ensures broken { 0 < failures self.old → result ≡ Err StoreFault.Device }
         ensures counts { failures self.old ≤ failures self.new }
-        ensures honest { is_honest self.new → is_honest self.old };
+        ensures honest { is_honest self.new → is_honest self.old }
+        ensures clean { is_clean self.new → is_clean self.old }
+        ensures stays_whole { OnOk result (is_whole self.old → is_whole self.new) };
 }

@@ -221,6 +221,10 @@ impl<S: Alter + Drop> PlanStore for TableStore<S> {
     ghost may_leave = { λ store c. HasCleanDisk (state S.Store store.conn)
         × MayLeave (state S.Store store.conn) c };
 
+    ghost is_clean = { λ store. HasCleanDisk (state S.Store store.conn) };
+
+    ghost is_whole = { λ store. (store.failures ≡ 0) × (store.in_doubt ≡ false) };
+
     // A store that is read stays as it was. It answers that the device failed where a failure was counted before, and
     // only there.
     fn definitions(&mut self) -> Result<Definitions, StoreFault>
@@ -326,6 +330,9 @@ impl<S: Alter + Drop> PlanStore for TableStore<S> {
         ensures broken { 0 < self.old.failures → result ≡ Err StoreFault.Device }
         ensures counts { self.old.failures ≤ self.new.failures }
         ensures honest { ⊤ → ⊤ }
+        ensures clean { HasCleanDisk (state S.Store self.new.conn) → HasCleanDisk (state S.Store self.old.conn) }
+        ensures stays_whole { OnOk result ((self.old.failures ≡ 0) × (self.old.in_doubt ≡ false)
+            → (self.new.failures ≡ 0) × (self.new.in_doubt ≡ false)) }
         ensures caused { self.old.failures ≡ 0 → HasCleanDisk (state S.Store self.new.conn)
             → CanTake (state S.Store self.old.conn) (content_of self.old.lists) change
             → IfErr result (λ fault. fault ≡ StoreFault.Device

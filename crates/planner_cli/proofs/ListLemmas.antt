@@ -14,6 +14,7 @@ use Rattle.plan_store.specs.declared.listings.ListFault.{ListFault}
 use Rattle.plan_store.specs.declared.listings.ListFault.TheVariants as Faults
 use Rattle.plan_store.specs.declared.listings.What.{What}
 use Rattle.plan_store.specs.declared.listings.What.TheVariants as Whats
+use Rattle.plan_store.specs.declared.stores.PlanStore.{Ghosts}
 use Rattle.plan_store.specs.declared.stores.StoreFault.{StoreFault}
 use Rattle.plan_store.specs.declared.stores.StoreFault.TheVariants as Stores
 use Rattle.planner_machine.specs.Content.{Content}
@@ -209,16 +210,16 @@ prints_behind rows line text accepted h = record {
   refused_is = h.refused_is;
 }
 
-module _ {S : Type 0} (is_honest : S → Type 0) (content : S → Content) (failures : S → ℕ)
-    (may_leave : S → Content → Type 0) (before now : S) (old mid new : Option (List ℕ)) (item : Item)
+module _ {S : Type 0} (g : Ghosts S) (before now : S) (old mid new : Option (List ℕ)) (item : Item)
     (what : What) (app : Option (List ℕ))
     (asks : Asks item (Some (list_asked what app)))
-    (same : is_honest now → content now ≡ content before)
-    (left : is_honest now → (c : Content) → may_leave now c → may_leave before c)
-    (counts : failures before ≤ failures now) (honest' : is_honest now → is_honest before) where
+    (same : g.is_honest now → g.content now ≡ g.content before)
+    (left : g.is_honest now → (c : Content) → g.may_leave now c → g.may_leave before c)
+    (counts : g.failures before ≤ g.failures now) (honest' : g.is_honest now → g.is_honest before)
+    (clean' : g.is_clean now → g.is_clean before) where
   -- nothing changes, so neither does what a crash leaves
-  still_own : is_honest now → LeavesOwn content may_leave before → (c : Content) → may_leave now c
-      → c ≡ content before
+  still_own : g.is_honest now → LeavesOwn g before → (c : Content) → g.may_leave now c
+      → c ≡ g.content before
   still_own honest own c leaves = own c (left honest c leaves)
 
   begins : (c : Content) (first rest : List Shown) (lines : List (List ℕ)) → IsListing what app c (first ++ rest)
@@ -241,24 +242,25 @@ module _ {S : Type 0} (is_honest : S → Type 0) (content : S → Content) (fail
   lines_begun c new' first rest whole (lines, are, appended) =
       (flat_map ended lines, inr (lines, (item, refl, begins c first rest lines whole are), refl), appended)
 
-  module _ (count : ℕ) (all : is_honest now → WritesAll (IsListing what app (content before)) old mid count) where
+  module _ (count : ℕ) (all : g.is_honest now → WritesAll (IsListing what app (g.content before)) old mid count)
+      (stays : g.is_whole before → g.is_whole now) where
     -- the reply of the listing, where its last line is printed so
     abbrev IsAnswered : Printed → Type 0
     IsAnswered printed = Prints (answering (Ok (Rows count))) printed.text.items printed.is_accepted
 
     abbrev Whole : Printed → Type 0
-    Whole printed = (reply : Reply) × (lines : List (List ℕ)) × Step (content before) item reply (content now)
+    Whole printed = (reply : Reply) × (lines : List (List ℕ)) × Step (g.content before) item reply (g.content now)
         × Prints reply (flat_map ended lines ++ printed.text.items) printed.is_accepted
         × Appends old mid (flat_map ended lines)
 
-    whole_reply : (printed : Printed) → IsAnswered printed → is_honest now → Whole printed
+    whole_reply : (printed : Printed) → IsAnswered printed → g.is_honest now → Whole printed
     whole_reply printed tells honest =
         let a = all honest in
         let (lines, are, appended) = a.taken in (
           listing a.items lines,
           lines,
-          subst (Step (content before) item (listing a.items lines)) (sym (same honest))
-              (Some (list_asked what app), asks, list_served what app (content before) a.items lines a.whole are),
+          subst (Step (g.content before) item (listing a.items lines)) (sym (same honest))
+              (Some (list_asked what app), asks, list_served what app (g.content before) a.items lines a.whole are),
           prints_behind lines (answer_text (Ok (Rows (length a.items)))) printed.text.items printed.is_accepted
               (subst (λ n. Prints (answering (Ok (Rows n))) printed.text.items printed.is_accepted) a.counted tells),
           appended,
@@ -266,7 +268,7 @@ module _ {S : Type 0} (is_honest : S → Type 0) (content : S → Content) (fail
 
     list_ok : (printed : Printed) (accepted : Bool) → IsAnswered printed → Appends mid new printed.text.items
         × (accepted ≡ printed.is_accepted)
-        → AnswersItem is_honest content failures may_leave before now old new item (Ok accepted)
+        → AnswersItem g before now old new item (Ok accepted)
     list_ok printed accepted tells (appended, is) = record {
       ok = λ honest.
           let (reply, lines, step, prints, rows) = whole_reply printed tells honest in (
@@ -284,15 +286,17 @@ module _ {S : Type 0} (is_honest : S → Type 0) (content : S → Content) (fail
       blames = tt;
       counts = counts;
       honest = honest';
+      clean = clean';
+      stays_whole = stays;
     }
 
     list_part : (printed : Printed) (cause : Cause) → IsAnswered printed → IsUnwritten (Ok printed) mid new cause
-        → AnswersItem is_honest content failures may_leave before now old new item (Err cause)
+        → AnswersItem g before now old new item (Err cause)
     list_part printed cause tells (is, (front, fronts, appended)) = record {
       ok = λ honest. tt;
       err = λ honest.
           let (reply, lines, step, prints, rows) = whole_reply printed tells honest in
-          writer_breaks Step cause (content before) (content now) old new item reply (flat_map ended lines ++ front) is
+          writer_breaks Step cause (g.content before) (g.content now) old new item reply (flat_map ended lines ++ front) is
           step
           (subst (IsFrontOf (flat_map ended lines ++ front)) prints.text_is
           (front_behind (flat_map ended lines) printed.text.items front fronts))
@@ -302,20 +306,22 @@ module _ {S : Type 0} (is_honest : S → Type 0) (content : S → Content) (fail
       blames = λ store. absurd (let no : Device Writer ≡ Device Store = sym is ∙ store in let h : ⊥ = cc no in h);
       counts = counts;
       honest = honest';
+      clean = clean';
+      stays_whole = tt;
     }
 
     list_unwritten : (fault : StoreFault) (cause : Cause) → fault ≡ Stores.Memory → IsUnwritten (Err fault) mid new cause
-        → AnswersItem is_honest content failures may_leave before now old new item (Err cause)
+        → AnswersItem g before now old new item (Err cause)
     list_unwritten fault cause memory (is, kept) =
-        subst (λ x. AnswersItem is_honest content failures may_leave before now old new item (Err x))
+        subst (λ x. AnswersItem g before now old new item (Err x))
         (sym (is ∙ ap store_cause memory)) (record {
           ok = λ honest. tt;
           err = λ honest.
               let a = all honest in
               let (lines, are, appended) = a.taken in (
                 same honest,
-                lines_begun (content before) new a.items []
-                    (subst (IsListing what app (content before)) (sym (append-nil a.items)) a.whole)
+                lines_begun (g.content before) new a.items []
+                    (subst (IsListing what app (g.content before)) (sym (append-nil a.items)) a.whole)
                     (lines, are, Appends-kept old mid new (flat_map ended lines) appended kept),
               );
           settled = λ honest own. tt;
@@ -323,6 +329,8 @@ module _ {S : Type 0} (is_honest : S → Type 0) (content : S → Content) (fail
           blames = λ store. absurd (let h : ⊥ = cc store in h);
           counts = counts;
           honest = honest';
+          clean = clean';
+          stays_whole = tt;
         })
 
     -- all rows are written, and the last line is on its way
@@ -330,7 +338,7 @@ module _ {S : Type 0} (is_honest : S → Type 0) (content : S → Content) (fail
         → IfOk answered (λ printed. Prints (answering (Ok (Rows count))) printed.text.items printed.is_accepted)
         → IfErr answered (λ fault. fault ≡ Stores.Memory)
         → IfOk result (IsWritten answered mid new) → IfErr result (IsUnwritten answered mid new)
-        → AnswersItem is_honest content failures may_leave before now old new item result
+        → AnswersItem g before now old new item result
     list_written (Ok printed) (Ok accepted) tells memory ok err = list_ok printed accepted tells ok
     list_written (Ok printed) (Err cause) tells memory ok err = list_part printed cause tells err
     list_written (Err fault) (Ok accepted) tells memory ok err = absurd ok

@@ -16,7 +16,7 @@ use Rattle.planner_cli.specs.Meaning.{Answers}
 use Rattle.planner_cli.specs.Outcomes.{answering}
 use Rattle.planner_cli.specs.Plans.{AreAnswered}
 use Rattle.planner_cli.specs.Replies.{Reply}
-use Rattle.planner_cli.specs.Reruns.{EndsAsOneRun, IsCutShort, IsJobItem, RepliesAgree, RerunAfterFaults}
+use Rattle.planner_cli.specs.Reruns.{EndsAsOneRun, IsEarlierRun, IsJobItem, RepliesAgree, RerunAfterRuns}
 use Rattle.planner_cli.specs.Reruns.{RerunEndsAsOneRun}
 use Rattle.planner_cli.specs.Runs.{with_hand}
 use Rattle.planner_cli.specs.Steps.{Step}
@@ -56,7 +56,7 @@ answers_joined (item ∷ first) rest x y c middle c' (reply, others, between, is
   answers_joined first rest others y between middle c' later more,
 )
 
--- the items of the text are those that were answered before it was cut short, and others
+-- the items of the text are those that a run answered, and others
 record Kept (text : List ℕ) (c left : Content) : Type 0 where
   pub items : List Item
   pub others : List Item
@@ -85,12 +85,21 @@ kept_of text c left done rest replies hand read at =
       answers = at.answers;
     }
 
-kept : (text : List ℕ) (c left : Content) → IsCutShort text c left → Kept text c left
-kept text c left (end, w, w', fault, inl (stopped, is)) =
+kept : (text : List ℕ) (c left : Content) → IsEarlierRun text c left → Kept text c left
+kept text c left (end, w, w', inl (tally, ran, is)) =
+    subst (Kept text c) (sym is)
+    (record {
+      items = ran.items;
+      others = [];
+      told = ran.replies;
+      split = ran.read ∙ sym (append-nil ran.items);
+      answers = ran.answers;
+    })
+kept text c left (end, w, w', inr (fault, inl (stopped, is))) =
     subst (Kept text c) (sym is)
     (kept_of text c end stopped.done stopped.read.0 stopped.replies stopped.hand stopped.read.1
     (reached fault_line c end w w' (Some text) fault stopped))
-kept text c left (end, w, w', fault, inr crashed) =
+kept text c left (end, w, w', inr (fault, inr crashed)) =
     kept_of text c left crashed.stopped.done crashed.stopped.read.0 crashed.stopped.replies crashed.stopped.hand
     crashed.stopped.read.1 (reached_by_crash c end w w' (Some text) fault left crashed)
 
@@ -272,13 +281,13 @@ module _ (law : OneStatement) where
           );
         }
 
-    pub after_faults : RerunAfterFaults
-    after_faults zero text c left c' w w' tally sound is again =
+    pub after_runs : RerunAfterRuns
+    after_runs zero text c left c' w w' tally sound is again =
         subst (λ l. EndsAsOneRun l c c' again.replies) (sym again.read)
         (one_run [] again.items [] again.replies c c c' sound (refl, refl)
         (subst (λ (x : Content). Answers Step x again.items again.replies c') is again.answers))
-    after_faults (suc times) text c left c' w w' tally sound (between, cut, more) again =
+    after_runs (suc times) text c left c' w w' tally sound (between, cut, more) again =
         let k = kept text c between cut in
         before_it text c between c' again.replies sound k
-        (after_faults times text between left c' w w' tally
+        (after_runs times text between left c' w w' tally
         (answers_sound keeps k.items k.told c between sound k.answers) more again)

@@ -1,5 +1,6 @@
 -- How far a run over a store has come.
 use Rattle.std.specs.Prelude.{ℕ, ◌≤◌, List, Option}
+use Rattle.plan_store.specs.declared.stores.PlanStore.{Ghosts}
 use Rattle.planner_machine.specs.Content.{Content}
 use Rattle.planner_machine.specs.Sound.{IsSound}
 use Rattle.planner_cli.specs.Steps.{Step}
@@ -7,10 +8,12 @@ use Rattle.planner_cli.specs.Stores.{LeavesOwn}
 use Rattle.planner_cli.specs.declared.tally.Tally.{Tally}
 use Rattle.planner_cli.proofs.Progress.{Progress}
 
-pub record SoFar {S : Type 0} (is_honest : S → Type 0) (content : S → Content) (failures : S → ℕ)
-    (may_leave : S → Content → Type 0) (s0 s : S) (w0 w remaining now : Option (List ℕ)) (tally : Tally) : Type 0 where
-  pub sound : is_honest s → IsSound (content s)
-  pub counts : failures s0 ≤ failures s
-  pub honest : is_honest s → is_honest s0
-  pub settled : is_honest s → LeavesOwn content may_leave s0 → LeavesOwn content may_leave s
-  pub progress : is_honest s → Progress Step (content s0) (content s) w0 w remaining now tally
+pub record SoFar {S : Type 0} (g : Ghosts S) (s0 s : S) (w0 w remaining now : Option (List ℕ)) (tally : Tally)
+    : Type 0 where
+  pub sound : g.is_honest s → IsSound (g.content s)
+  pub counts : g.failures s0 ≤ g.failures s
+  pub honest : g.is_honest s → g.is_honest s0
+  pub clean : g.is_clean s → g.is_clean s0
+  pub whole : g.is_whole s0 → g.is_whole s
+  pub settled : g.is_honest s → LeavesOwn g s0 → LeavesOwn g s
+  pub progress : g.is_honest s → Progress Step (g.content s0) (g.content s) w0 w remaining now tally

@@ -4,6 +4,7 @@ use Rattle.std.specs.Prelude.{Bool, IfErr, IfOk, None, Option, Result, Some}
 use Rattle.occurrences.specs.declared.refusal.Refusal.TheVariants.{NotAStatement}
 use Rattle.planner_machine.specs.Content.{Content}
 use Rattle.planner_machine.specs.Statement.{Statement}
+use Rattle.plan_store.specs.declared.stores.PlanStore.{Ghosts}
 use Rattle.plan_store.specs.declared.stores.StoreFault.{StoreFault}
 use Rattle.plan_store.specs.declared.stores.StoreFault.TheVariants.{Memory}
 use Rattle.statements.specs.Statement.{Reads}
@@ -30,32 +31,31 @@ pub asks_alone : (line : List ℕ) (read : LineStatement) (s : Statement) → Re
     → asked_alone line read ≡ s → Asks (Alone line) (Some s)
 asks_alone line read s reads is = (Some read, reads, sym (ap Some is))
 
-module _ {S : Type 0} (is_honest : S → Type 0) (content : S → Content) (failures : S → ℕ)
-    (may_leave : S → Content → Type 0) where
+module _ {S : Type 0} (g : Ghosts S) where
   -- an item that asks a statement of the machine is answered as that statement is
   pub item_served : (before now : S) (result : Result Printed StoreFault) (item : Item) (s : Statement)
       → Asks item (Some s)
-      → AnswersBy is_honest content failures may_leave before now result (Serves s (content before))
-      → AnswersBy is_honest content failures may_leave before now result (Step (content before) item)
+      → AnswersBy g before now result (Serves s (g.content before))
+      → AnswersBy g before now result (Step (g.content before) item)
   item_served before now result item s asks a =
-      answers_so is_honest content failures may_leave before now result _ _ (λ honest reply c' h. (Some s, asks, h)) a
+      answers_so g before now result _ _ (λ honest reply c' h. (Some s, asks, h)) a
 
   -- and one that asks none is refused
   pub item_refused : (store : S) (result : Result Printed StoreFault) (item : Item) → Asks item None
       → IfOk result (λ printed. Prints (refusing NotAStatement) printed.text.items printed.is_accepted)
       → IfErr result (λ fault. fault ≡ Memory)
-      → AnswersBy is_honest content failures may_leave store store result (Step (content store) item)
+      → AnswersBy g store store result (Step (g.content store) item)
   item_refused store result item asks prints memory =
-      untouched is_honest content failures may_leave store result (refusing NotAStatement) _
+      untouched g store result (refusing NotAStatement) _
       (None, asks, (refl, refl)) prints memory
 
   -- the answer to a line that is read as a statement of the machine, on its way to the writer
   pub line_served : (before now : S) (old new : Option (List ℕ)) (line : List ℕ) (read : LineStatement) (s : Statement)
       (answered : Result Printed StoreFault) (result : Result Bool Cause)
       → Reads line (Some read) → asked_alone line read ≡ s
-      → AnswersBy is_honest content failures may_leave before now answered (Serves s (content before))
+      → AnswersBy g before now answered (Serves s (g.content before))
       → IfOk result (IsWritten answered old new) → IfErr result (IsUnwritten answered old new)
-      → AnswersItem is_honest content failures may_leave before now old new (Alone line) result
+      → AnswersItem g before now old new (Alone line) result
   line_served before now old new line read s answered result reads is a ok err =
-      wrote is_honest content failures may_leave before now old new (Alone line) answered result
+      wrote g before now old new (Alone line) answered result
       (item_served before now answered (Alone line) s (asks_alone line read s reads is) a) ok err

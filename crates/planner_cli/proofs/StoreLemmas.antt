@@ -1,12 +1,12 @@
 -- Lemmas on calls that answer over a store.
 use Rattle.std.proofs.Common.{◌≡◌, ◌⊎◌, ℕ, zero, suc, ◌+◌, ◌-◌, ◌^◌, ◌≤◌, ◌∙◌, refl, sym, subst, inl, inr, arith, min}
-use Rattle.std.specs.Prelude.{Err, IfErr, IfOk, Ok, OnErr, Result}
+use Rattle.std.specs.Prelude.{Err, IfErr, IfOk, Ok, OnErr, OnOk, Result}
 use Rattle.planner_machine.specs.Content.{Content}
-use Rattle.plan_store.specs.Stores.{Reads}
+use Rattle.plan_store.specs.declared.stores.PlanStore.{Ghosts}
 use Rattle.plan_store.specs.declared.stores.StoreFault.{StoreFault}
 use Rattle.plan_store.specs.declared.stores.StoreFault.TheVariants.{Device, Memory}
 use Rattle.planner_cli.specs.Replies.{Prints, Reply}
-use Rattle.planner_cli.specs.Stores.{AnswersBy, IsBlamed, LeavesOwn}
+use Rattle.planner_cli.specs.Stores.{AnswersBy, IsBlamed, LeavesOwn, ReadsBy}
 use Rattle.planner_cli.specs.declared.answers.Printed.{Printed}
 
 -- ---- counts of failures
@@ -29,6 +29,10 @@ pub if_err : {T E : Type 0} (r : Result T E) (P Q : E → Type 0) → ((x : E) �
 if_err (Ok x) P Q f h = tt
 if_err (Err e) P Q f h = f e h
 
+pub on_ok : {T E : Type 0} (r : Result T E) (P Q : Type 0) → (P → Q) → OnOk r P → OnOk r Q
+on_ok (Ok x) P Q f h = f h
+on_ok (Err e) P Q f h = tt
+
 pub on_err : {T E : Type 0} (r : Result T E) (P Q : Type 0) → (P → Q) → OnErr r P → OnErr r Q
 on_err (Ok x) P Q f h = tt
 on_err (Err e) P Q f h = f h
@@ -39,37 +43,38 @@ always_on_err (Err e) P h = h
 
 -- ---- calls
 
-module _ {S : Type 0} (is_honest : S → Type 0) (content : S → Content) (failures : S → ℕ)
-    (may_leave : S → Content → Type 0) where
+module _ {S : Type 0} (g : Ghosts S) where
   -- a reply that one may give is one that the other may give
   pub answers_so : (before now : S) (result : Result Printed StoreFault) (Does More : Reply → Content → Type 0)
-      → (is_honest now → (reply : Reply) (c : Content) → Does reply c → More reply c)
-      → AnswersBy is_honest content failures may_leave before now result Does
-      → AnswersBy is_honest content failures may_leave before now result More
+      → (g.is_honest now → (reply : Reply) (c : Content) → Does reply c → More reply c)
+      → AnswersBy g before now result Does
+      → AnswersBy g before now result More
   answers_so before now result Does More more a = record {
     answers = λ honest. if_ok result _ _
-        (λ printed h. record { reply = h.reply; gives = more honest h.reply (content now) h.gives; prints = h.prints })
+        (λ printed h. record { reply = h.reply; gives = more honest h.reply (g.content now) h.gives; prints = h.prints })
         (a.answers honest);
     unchanged = a.unchanged;
-    whole = λ honest. on_err result _ _ (λ h. left honest (content now) h) (a.whole honest);
+    whole = λ honest. on_err result _ _ (λ h. left honest (g.content now) h) (a.whole honest);
     settled = a.settled;
     crash = λ honest own. on_err result _ _ (λ h c leaves. left honest c (h c leaves)) (a.crash honest own);
     blames = a.blames;
     counts = a.counts;
     honest = a.honest;
+    clean = a.clean;
+    stays_whole = a.stays_whole;
   }
     where
-      left : is_honest now → (c : Content) → (c ≡ content before) ⊎ ((reply : Reply) × Does reply c)
-          → (c ≡ content before) ⊎ ((reply : Reply) × More reply c)
+      left : g.is_honest now → (c : Content) → (c ≡ g.content before) ⊎ ((reply : Reply) × Does reply c)
+          → (c ≡ g.content before) ⊎ ((reply : Reply) × More reply c)
       left honest c (inl same) = inl same
       left honest c (inr (reply, does)) = inr (reply, more honest reply c does)
 
   -- nothing was asked of the store
   pub untouched : (store : S) (result : Result Printed StoreFault) (reply : Reply) (Does : Reply → Content → Type 0)
-      → Does reply (content store)
+      → Does reply (g.content store)
       → IfOk result (λ printed. Prints reply printed.text.items printed.is_accepted)
       → IfErr result (λ fault. fault ≡ Memory)
-      → AnswersBy is_honest content failures may_leave store store result Does
+      → AnswersBy g store store result Does
   untouched store (Ok printed) reply Does does prints memory = record {
     answers = λ honest. record { reply = reply; gives = does; prints = prints };
     unchanged = λ honest. tt;
@@ -79,6 +84,8 @@ module _ {S : Type 0} (is_honest : S → Type 0) (content : S → Content) (fail
     blames = tt;
     counts = omega arith;
     honest = λ honest. honest;
+    clean = λ clean. clean;
+    stays_whole = λ whole. whole;
   }
   untouched store (Err fault) reply Does does prints memory = record {
     answers = λ honest. tt;
@@ -89,11 +96,13 @@ module _ {S : Type 0} (is_honest : S → Type 0) (content : S → Content) (fail
     blames = λ is. absurd (let no : Memory ≡ Device = sym memory ∙ is in let h : ⊥ = cc no in h);
     counts = omega arith;
     honest = λ honest. honest;
+    clean = λ clean. clean;
+    stays_whole = tt;
   }
 
   -- memory was refused, and nothing was asked of the store since
   pub refused_memory : (store : S) (Does : Reply → Content → Type 0)
-      → AnswersBy is_honest content failures may_leave store store (Err Memory) Does
+      → AnswersBy g store store (Err Memory) Does
   refused_memory store Does = record {
     answers = λ honest. tt;
     unchanged = λ honest is. refl;
@@ -103,51 +112,55 @@ module _ {S : Type 0} (is_honest : S → Type 0) (content : S → Content) (fail
     blames = λ is. absurd (let h : ⊥ = cc is in h);
     counts = omega arith;
     honest = λ honest. honest;
+    clean = λ clean. clean;
+    stays_whole = tt;
   }
 
   module _ {T : Type 0} (before mid : S) (read : Result T StoreFault) (IsRight : T → Type 0)
-      (reads : Reads is_honest content failures may_leave before mid read IsRight) where
+      (reads : ReadsBy g before mid read IsRight) (stays : g.is_whole before → g.is_whole mid) where
     -- the store was read before
     pub after_read : (now : S) (result : Result Printed StoreFault) (Does : Content → Reply → Content → Type 0)
-        → AnswersBy is_honest content failures may_leave mid now result (Does (content mid))
-        → AnswersBy is_honest content failures may_leave before now result (Does (content before))
+        → AnswersBy g mid now result (Does (g.content mid))
+        → AnswersBy g before now result (Does (g.content before))
     after_read now result Does a = record {
       answers = λ honest. if_ok result _ _
           (λ printed h. record {
             reply = h.reply;
-            gives = subst (λ c. Does c h.reply (content now)) (same honest) h.gives;
+            gives = subst (λ c. Does c h.reply (g.content now)) (same honest) h.gives;
             prints = h.prints;
           })
           (a.answers honest);
       unchanged = λ honest. if_err result _ _ (λ fault h is. h is ∙ same honest) (a.unchanged honest);
-      whole = λ honest. on_err result _ _ (λ h. left honest (content now) h) (a.whole honest);
+      whole = λ honest. on_err result _ _ (λ h. left honest (g.content now) h) (a.whole honest);
       settled = λ honest own. a.settled honest (read_own honest own);
       crash = λ honest own. on_err result _ _ (λ h c leaves. left honest c (h c leaves))
           (a.crash honest (read_own honest own));
-      blames = if_err result _ _ (λ fault h is. blamed_since (failures before) (failures mid) (failures now)
+      blames = if_err result _ _ (λ fault h is. blamed_since (g.failures before) (g.failures mid) (g.failures now)
           reads.counts a.counts (h is)) a.blames;
       counts = let x = reads.counts in let y = a.counts in omega arith;
       honest = λ honest. reads.honest (a.honest honest);
+      clean = λ clean. reads.clean (a.clean clean);
+      stays_whole = on_ok result _ _ (λ h whole. h (stays whole)) a.stays_whole;
     }
       where
-        same : is_honest now → content mid ≡ content before
+        same : g.is_honest now → g.content mid ≡ g.content before
         same honest = reads.same (a.honest honest)
 
-        read_own : is_honest now → LeavesOwn content may_leave before → LeavesOwn content may_leave mid
+        read_own : g.is_honest now → LeavesOwn g before → LeavesOwn g mid
         read_own honest own c leaves = own c (reads.crash (a.honest honest) c leaves) ∙ sym (same honest)
 
-        left : is_honest now → (c : Content) → (c ≡ content mid) ⊎ ((reply : Reply) × Does (content mid) reply c)
-            → (c ≡ content before) ⊎ ((reply : Reply) × Does (content before) reply c)
+        left : g.is_honest now → (c : Content) → (c ≡ g.content mid) ⊎ ((reply : Reply) × Does (g.content mid) reply c)
+            → (c ≡ g.content before) ⊎ ((reply : Reply) × Does (g.content before) reply c)
         left honest c (inl is) = inl (is ∙ same honest)
         left honest c (inr (reply, does)) = inr (reply, subst (λ b. Does b reply c) (same honest) does)
 
   module _ {T : Type 0} (before now : S) (read : Result T StoreFault) (IsRight : T → Type 0)
-      (reads : Reads is_honest content failures may_leave before now read IsRight) where
+      (reads : ReadsBy g before now read IsRight) (stays : g.is_whole before → g.is_whole now) where
     -- the store was read, and that is all
     pub read_printed : (printed : Printed) (Does : Reply → Content → Type 0)
-        → (is_honest now → (reply : Reply) × Does reply (content before)
+        → (g.is_honest now → (reply : Reply) × Does reply (g.content before)
         × Prints reply printed.text.items printed.is_accepted)
-        → AnswersBy is_honest content failures may_leave before now (Ok printed) Does
+        → AnswersBy g before now (Ok printed) Does
     read_printed printed Does told = record {
       answers = λ honest. let (reply, does, prints) = told honest in
           record { reply = reply; gives = subst (Does reply) (sym (reads.same honest)) does; prints = prints };
@@ -158,20 +171,21 @@ module _ {S : Type 0} (is_honest : S → Type 0) (content : S → Content) (fail
       blames = tt;
       counts = reads.counts;
       honest = reads.honest;
+      clean = reads.clean;
+      stays_whole = stays;
     }
 
 -- ---- a change that is made
 
-module _ {S : Type 0} (is_honest : S → Type 0) (content : S → Content) (failures : S → ℕ)
-    (may_leave : S → Content → Type 0) (before now : S) where
+module _ {S : Type 0} (g : Ghosts S) (before now : S) where
   -- it was made
   pub made : (printed : Printed) (reply : Reply) (Does : Reply → Content → Type 0)
-      → (is_honest now → Does reply (content now))
+      → (g.is_honest now → Does reply (g.content now))
       → Prints reply printed.text.items printed.is_accepted
-      → (is_honest now → LeavesOwn content may_leave now) → failures before ≤ failures now
-      → (is_honest now → is_honest before)
-      → AnswersBy is_honest content failures may_leave before now (Ok printed) Does
-  made printed reply Does does prints settled counts honest' = record {
+      → (g.is_honest now → LeavesOwn g now) → g.failures before ≤ g.failures now
+      → (g.is_honest now → g.is_honest before) → (g.is_clean now → g.is_clean before)
+      → (g.is_whole before → g.is_whole now) → AnswersBy g before now (Ok printed) Does
+  made printed reply Does does prints settled counts honest' clean' stays = record {
     answers = λ honest. record { reply = reply; gives = does honest; prints = prints };
     unchanged = λ honest. tt;
     whole = λ honest. tt;
@@ -180,18 +194,20 @@ module _ {S : Type 0} (is_honest : S → Type 0) (content : S → Content) (fail
     blames = tt;
     counts = counts;
     honest = honest';
+    clean = clean';
+    stays_whole = stays;
   }
 
   -- it may be made
   pub not_made : (fault : StoreFault) (Does : Reply → Content → Type 0)
-      → (is_honest now → fault ≡ Memory → content now ≡ content before)
-      → (is_honest now → (content now ≡ content before) ⊎ ((reply : Reply) × Does reply (content now)))
-      → (is_honest now → LeavesOwn content may_leave before → (c : Content) → may_leave now c
-      → (c ≡ content before) ⊎ ((reply : Reply) × Does reply c))
-      → (fault ≡ Device → IsBlamed (failures before) (failures now)) → failures before ≤ failures now
-      → (is_honest now → is_honest before)
-      → AnswersBy is_honest content failures may_leave before now (Err fault) Does
-  not_made fault Does unchanged whole crash blames counts honest' = record {
+      → (g.is_honest now → fault ≡ Memory → g.content now ≡ g.content before)
+      → (g.is_honest now → (g.content now ≡ g.content before) ⊎ ((reply : Reply) × Does reply (g.content now)))
+      → (g.is_honest now → LeavesOwn g before → (c : Content) → g.may_leave now c
+      → (c ≡ g.content before) ⊎ ((reply : Reply) × Does reply c))
+      → (fault ≡ Device → IsBlamed (g.failures before) (g.failures now)) → g.failures before ≤ g.failures now
+      → (g.is_honest now → g.is_honest before) → (g.is_clean now → g.is_clean before)
+      → AnswersBy g before now (Err fault) Does
+  not_made fault Does unchanged whole crash blames counts honest' clean' = record {
     answers = λ honest. tt;
     unchanged = unchanged;
     whole = whole;
@@ -200,4 +216,6 @@ module _ {S : Type 0} (is_honest : S → Type 0) (content : S → Content) (fail
     blames = blames;
     counts = counts;
     honest = honest';
+    clean = clean';
+    stays_whole = tt;
   }

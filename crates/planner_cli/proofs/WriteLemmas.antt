@@ -3,6 +3,7 @@ use Rattle.std.proofs.Common.{◌≡◌, ℕ, ◌∙◌, List, refl, sym, subst,
 use Rattle.std.specs.Prelude.{Bool, Err, IfErr, IfOk, Ok, Option, Result}
 use Rattle.std.specs.Io.KnownBytes.{Appends}
 use Rattle.planner_machine.specs.Content.{Content}
+use Rattle.plan_store.specs.declared.stores.PlanStore.{Ghosts}
 use Rattle.plan_store.specs.declared.stores.StoreFault.{StoreFault}
 use Rattle.plan_store.specs.declared.stores.StoreFault.TheVariants as Stores
 use Rattle.stream_items.specs.Items.{Item}
@@ -18,17 +19,16 @@ use Rattle.planner_cli.specs.declared.faults.Cause.TheVariants.{Device, Memory}
 use Rattle.planner_cli.specs.declared.faults.Part.TheVariants.{Store, Writer}
 use Rattle.planner_cli.proofs.Progress.{memory_breaks, store_breaks, writer_breaks}
 
-module _ {S : Type 0} (is_honest : S → Type 0) (content : S → Content) (failures : S → ℕ)
-    (may_leave : S → Content → Type 0) (before now : S) (old new : Option (List ℕ)) (item : Item) where
+module _ {S : Type 0} (g : Ghosts S) (before now : S) (old new : Option (List ℕ)) (item : Item) where
   -- the answer was made, and is written
   wrote_ok : (printed : Printed) (accepted : Bool)
-      → AnswersBy is_honest content failures may_leave before now (Ok printed) (Step (content before) item)
+      → AnswersBy g before now (Ok printed) (Step (g.content before) item)
       → Appends old new printed.text.items × (accepted ≡ printed.is_accepted)
-      → AnswersItem is_honest content failures may_leave before now old new item (Ok accepted)
+      → AnswersItem g before now old new item (Ok accepted)
   wrote_ok printed accepted a (appended, is) = record {
     ok = λ honest. (
       printed.text.items,
-      subst (Answered (Step (content before) item) (content now) printed.text.items) (sym is) (a.answers honest),
+      subst (Answered (Step (g.content before) item) (g.content now) printed.text.items) (sym is) (a.answers honest),
       appended,
     );
     err = λ honest. tt;
@@ -37,29 +37,33 @@ module _ {S : Type 0} (is_honest : S → Type 0) (content : S → Content) (fail
     blames = tt;
     counts = a.counts;
     honest = a.honest;
+    clean = a.clean;
+    stays_whole = a.stays_whole;
   }
 
   -- it was made, and the writer failed
   wrote_part : (printed : Printed) (cause : Cause)
-      → AnswersBy is_honest content failures may_leave before now (Ok printed) (Step (content before) item)
+      → AnswersBy g before now (Ok printed) (Step (g.content before) item)
       → IsUnwritten (Ok printed) old new cause
-      → AnswersItem is_honest content failures may_leave before now old new item (Err cause)
+      → AnswersItem g before now old new item (Err cause)
   wrote_part printed cause a (is, (front, begins, appended)) = record {
     ok = λ honest. tt;
     err = λ honest.
         let made = a.answers honest in
-        writer_breaks Step cause (content before) (content now) old new item made.reply front is made.gives
+        writer_breaks Step cause (g.content before) (g.content now) old new item made.reply front is made.gives
         (subst (IsFrontOf front) made.prints.text_is begins) appended;
     settled = λ honest own. tt;
     crash = λ honest own c leaves.
         let made = a.answers honest in
         inr (
           made.reply,
-          subst (Step (content before) item made.reply) (sym (a.settled honest own c leaves)) made.gives,
+          subst (Step (g.content before) item made.reply) (sym (a.settled honest own c leaves)) made.gives,
         );
     blames = λ store. absurd (let no : Device Writer ≡ Device Store = sym is ∙ store in let h : ⊥ = cc no in h);
     counts = a.counts;
     honest = a.honest;
+    clean = a.clean;
+    stays_whole = tt;
   }
 
   device_store : (fault : StoreFault) (cause : Cause) → cause ≡ store_cause fault → cause ≡ Device Store
@@ -70,41 +74,44 @@ module _ {S : Type 0} (is_honest : S → Type 0) (content : S → Content) (fail
 
   -- none was made
   wrote_none : (fault : StoreFault) (cause : Cause)
-      → AnswersBy is_honest content failures may_leave before now (Err fault) (Step (content before) item)
+      → AnswersBy g before now (Err fault) (Step (g.content before) item)
       → IsUnwritten (Err fault) old new cause
-      → AnswersItem is_honest content failures may_leave before now old new item (Err cause)
+      → AnswersItem g before now old new item (Err cause)
   wrote_none fault cause a (is, kept) = record {
     ok = λ honest. tt;
     err = λ honest.
-        store_breaks Step fault cause (content before) (content now) old new item is kept (a.unchanged honest)
+        store_breaks Step fault cause (g.content before) (g.content now) old new item is kept (a.unchanged honest)
         (a.whole honest);
     settled = λ honest own. tt;
     crash = a.crash;
     blames = λ store. a.blames (device_store fault cause is store);
     counts = a.counts;
     honest = a.honest;
+    clean = a.clean;
+    stays_whole = tt;
   }
 
   -- an answer on its way to the writer
   pub wrote : (answered : Result Printed StoreFault) (result : Result Bool Cause)
-      → AnswersBy is_honest content failures may_leave before now answered (Step (content before) item)
+      → AnswersBy g before now answered (Step (g.content before) item)
       → IfOk result (IsWritten answered old new) → IfErr result (IsUnwritten answered old new)
-      → AnswersItem is_honest content failures may_leave before now old new item result
+      → AnswersItem g before now old new item result
   wrote (Ok printed) (Ok accepted) a ok err = wrote_ok printed accepted a ok
   wrote (Ok printed) (Err cause) a ok err = wrote_part printed cause a err
   wrote (Err fault) (Ok accepted) a ok err = absurd ok
   wrote (Err fault) (Err cause) a ok err = wrote_none fault cause a err
 
 -- memory is refused, and nothing was asked of the store
-pub wrote_nothing : {S : Type 0} (is_honest : S → Type 0) (content : S → Content) (failures : S → ℕ)
-    (may_leave : S → Content → Type 0) (store : S) (w : Option (List ℕ)) (item : Item)
-    → AnswersItem is_honest content failures may_leave store store w w item (Err Memory)
-wrote_nothing is_honest content failures may_leave store w item = record {
+pub wrote_nothing : {S : Type 0} (g : Ghosts S) (store : S) (w : Option (List ℕ)) (item : Item)
+    → AnswersItem g store store w w item (Err Memory)
+wrote_nothing g store w item = record {
   ok = λ honest. tt;
-  err = λ honest. memory_breaks Step (content store) w item;
+  err = λ honest. memory_breaks Step (g.content store) w item;
   settled = λ honest own. tt;
   crash = λ honest own c leaves. inl (own c leaves);
   blames = λ store. absurd (let h : ⊥ = cc store in h);
   counts = omega arith;
   honest = λ honest. honest;
+  clean = λ clean. clean;
+  stays_whole = tt;
 }

@@ -58,7 +58,7 @@ pub record CrashedPlan (ends : Ends) (fault : RunFault) (left : Content) : Type 
 
 -- the headline: what a run does between its two ends, over a store as it was before and as it is now
 pub record RunsPlan {S : Type 0} (is_honest : S → Type 0) (failures : S → ℕ) (may_leave : S → Content → Type 0)
-    (before now : S) (ends : Ends) (result : Result Tally RunFault) : Type 0 where
+    (is_clean is_whole : S → Type 0) (before now : S) (ends : Ends) (result : Result Tally RunFault) : Type 0 where
   -- what the replies print is what was written, and nothing else; and the statements of the items lead to what the
   -- store keeps, which is sound, with each occurrence where its fates put it
   pub ran : is_honest now → IfOk result (RanPlan ends)
@@ -74,3 +74,7 @@ pub record RunsPlan {S : Type 0} (is_honest : S → Type 0) (failures : S → �
   pub blames : IfErr result (λ fault. cause_of fault ≡ Device Store → IsBlamed (failures before) (failures now))
   pub counts : failures before ≤ failures now
   pub honest : is_honest now → is_honest before
+  -- the same of what its device told, whatever the store made of it; and a run that came to its end leaves the store
+  -- as whole as it was
+  pub clean : is_clean now → is_clean before
+  pub whole : OnOk result (is_whole before → is_whole now)

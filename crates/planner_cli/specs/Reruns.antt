@@ -41,22 +41,25 @@ RerunEndsAsOneRun =
     → Answers Step c first before c1 → Answers Step c1 (first ++ rest) again c'
     → EndsAsOneRun (first ++ rest) c c' again
 
--- a fault ended a run over the text from c, and left this; or a crash after it did
-abbrev pub IsCutShort : (text : List ℕ) (c left : Content) → Type 0
-IsCutShort text c left =
-    (after : Content) × (written : Option (List ℕ)) × (written' : Option (List ℕ)) × (fault : RunFault)
+-- a run over the text from c left this: it came to its end, or a fault ended it, or a crash after a fault did
+abbrev pub IsEarlierRun : (text : List ℕ) (c left : Content) → Type 0
+IsEarlierRun text c left =
+    (after : Content) × (written : Option (List ℕ)) × (written' : Option (List ℕ))
+    × (((tally : Tally) × Ran Step (ends_of c after written written' (Some text)) tally × (left ≡ after))
+    ⊎ ((fault : RunFault)
     × ((Stopped Step fault_line (ends_of c after written written' (Some text)) fault × (left ≡ after))
-    ⊎ Crashed Step fault_line (ends_of c after written written' (Some text)) fault left)
+    ⊎ Crashed Step fault_line (ends_of c after written written' (Some text)) fault left)))
 
--- so many runs over the text were cut short, the first from c, and each other on what the one before it left
-abbrev pub AreCutShort : (times : ℕ) (text : List ℕ) (c left : Content) → Type 0
-AreCutShort zero text c left = left ≡ c
-AreCutShort (suc times) text c left =
-    (between : Content) × IsCutShort text c between × AreCutShort times text between left
+-- there were so many runs over the text, the first from c, and each other on what the one before it left
+abbrev pub AreEarlierRuns : (times : ℕ) (text : List ℕ) (c left : Content) → Type 0
+AreEarlierRuns zero text c left = left ≡ c
+AreEarlierRuns (suc times) text c left =
+    (between : Content) × IsEarlierRun text c between × AreEarlierRuns times text between left
 
--- however often runs over a text were cut short, a run over it on what is left then ends as one run from c
-abbrev pub RerunAfterFaults : Type 0
-RerunAfterFaults =
+-- however many runs over a text there were, and however each ended, a run over it on what is left then ends as one run
+-- from c
+abbrev pub RerunAfterRuns : Type 0
+RerunAfterRuns =
     (times : ℕ) (text : List ℕ) (c left c' : Content) (written written' : Option (List ℕ)) (tally : Tally) → IsSound c
-    → AreCutShort times text c left → (again : Ran Step (ends_of left c' written written' (Some text)) tally)
+    → AreEarlierRuns times text c left → (again : Ran Step (ends_of left c' written written' (Some text)) tally)
     → EndsAsOneRun (items_of text) c c' again.replies

@@ -1,6 +1,7 @@
 -- What a call that answers an item does to a store and a writer.
 use Rattle.std.specs.Prelude.{◌≡◌, ◌⊎◌, ℕ, ◌≤◌, Bool, Err, IfErr, IfOk, List, Ok, OnErr, OnOk, Option, Result}
 use Rattle.std.specs.Io.KnownBytes.{Appends, Keeps}
+use Rattle.plan_store.specs.declared.stores.PlanStore.{Ghosts}
 use Rattle.plan_store.specs.declared.stores.StoreFault.{StoreFault}
 use Rattle.planner_machine.specs.Content.{Content}
 use Rattle.stream_items.specs.Items.{Item}
@@ -15,21 +16,22 @@ use Rattle.planner_cli.specs.declared.faults.Cause.TheVariants.{Device}
 use Rattle.planner_cli.specs.declared.faults.Part.TheVariants.{Store, Writer}
 
 -- an item is answered by a step of the planner, and what its reply prints is written; or a fault ends the run
-pub record AnswersItem {S : Type 0} (is_honest : S → Type 0) (content : S → Content) (failures : S → ℕ)
-    (may_leave : S → Content → Type 0) (before now : S) (old new : Option (List ℕ)) (item : Item)
+pub record AnswersItem {S : Type 0} (g : Ghosts S) (before now : S) (old new : Option (List ℕ)) (item : Item)
     (result : Result Bool Cause) : Type 0 where
-  pub ok : is_honest now → IfOk result (λ accepted. (text : List ℕ)
-      × Answered (Step (content before) item) (content now) text accepted × Appends old new text)
-  pub err : is_honest now
-      → IfErr result (λ cause. ItemBreaks Step cause (content before) (content now) old new item)
+  pub ok : g.is_honest now → IfOk result (λ accepted. (text : List ℕ)
+      × Answered (Step (g.content before) item) (g.content now) text accepted × Appends old new text)
+  pub err : g.is_honest now
+      → IfErr result (λ cause. ItemBreaks Step cause (g.content before) (g.content now) old new item)
   -- where a crash before would have left the content alone: after an answer a crash leaves the new content alone, and
   -- after a fault the old one, or that after the item
-  pub settled : is_honest now → LeavesOwn content may_leave before → OnOk result (LeavesOwn content may_leave now)
-  pub crash : is_honest now → LeavesOwn content may_leave before → OnErr result ((c : Content) → may_leave now c
-      → (c ≡ content before) ⊎ ((reply : Reply) × Step (content before) item reply c))
-  pub blames : IfErr result (λ cause. cause ≡ Device Store → IsBlamed (failures before) (failures now))
-  pub counts : failures before ≤ failures now
-  pub honest : is_honest now → is_honest before
+  pub settled : g.is_honest now → LeavesOwn g before → OnOk result (LeavesOwn g now)
+  pub crash : g.is_honest now → LeavesOwn g before → OnErr result ((c : Content) → g.may_leave now c
+      → (c ≡ g.content before) ⊎ ((reply : Reply) × Step (g.content before) item reply c))
+  pub blames : IfErr result (λ cause. cause ≡ Device Store → IsBlamed (g.failures before) (g.failures now))
+  pub counts : g.failures before ≤ g.failures now
+  pub honest : g.is_honest now → g.is_honest before
+  pub clean : g.is_clean now → g.is_clean before
+  pub stays_whole : OnOk result (g.is_whole before → g.is_whole now)
 
 -- an answer that was made is written, and this is whether it is accepted
 abbrev pub IsWritten : Result Printed StoreFault → Option (List ℕ) → Option (List ℕ) → Bool → Type 0

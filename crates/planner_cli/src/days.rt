@@ -33,7 +33,7 @@ pub(crate) fn answer_days<S: PlanStore>(
     from: Day,
     to: Day,
 ) -> Result<Printed, StoreFault>
-    ensures { AnswersBy S.is_honest S.content S.failures S.may_leave store.old store.new result
+    ensures { AnswersBy S.PlanStore store.old store.new result
         (Serves (DaysStatement app.now from to) (S.content store.old)) }
 {
     let view = store.read_window(Need::Definitions)?;

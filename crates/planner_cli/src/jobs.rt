@@ -7,10 +7,9 @@ ghost use Rattle.planner_machine.specs.Laws.{IsWellFormed};
 ghost use Rattle.planner_machine.specs.Sound.{IsSound};
 ghost use Rattle.planner_machine.specs.Statement.{Answer as AnswerValue, decision_of};
 ghost use Rattle.plan_store.specs.Changes.{Fits, after};
-ghost use Rattle.plan_store.specs.Stores.{Reads};
 ghost use Rattle.statements.specs.JobNumber.{IsJobNumber};
 ghost use Rattle.planner_cli.specs.Outcomes.{answering};
-ghost use Rattle.planner_cli.specs.Stores.{AnswersBy};
+ghost use Rattle.planner_cli.specs.Stores.{AnswersBy, ReadsBy};
 ghost use Rattle.planner_cli.specs.Verdicts.{FitsVerdict, IsKeptAnswer, answer_in, job_change, job_left, left_by};
 
 use crate::answers::{Printed, print_alone};
@@ -32,7 +31,7 @@ pub(crate) fn answer_job<S: PlanStore>(
     requires numbered { IsJobNumber number }
     requires well_formed { IsWellFormed (job_change change) }
     requires sound { S.is_honest store.old → IsSound (S.content store.old) }
-    ensures { AnswersBy S.is_honest S.content S.failures S.may_leave store.old store.new result (λ reply c.
+    ensures { AnswersBy S.PlanStore store.old store.new result (λ reply c.
         (answer : AnswerValue)
         × AnswersJob number text (decision_of (job_change change)) (S.content store.old) answer c
         × (reply ≡ answering answer)) }
@@ -49,7 +48,7 @@ fn kept_answer<S: PlanStore>(
     number: u64,
     text: &JobText,
 ) -> Result<Option<Answer>, StoreFault>
-    ensures { Reads S.is_honest S.content S.failures S.may_leave store.old store.new result
+    ensures { ReadsBy S.PlanStore store.old store.new result
         (IsKeptAnswer ((S.content store.old).jobs number) text.now) }
 {
     match store.job(number)? {
@@ -81,7 +80,7 @@ fn perform<S: PlanStore>(
     requires well_formed { IsWellFormed (job_change change) }
     requires sound { S.is_honest store.old → IsSound (S.content store.old) }
     requires new { S.is_honest store.old → (S.content store.old).jobs number ≡ None }
-    ensures { AnswersBy S.is_honest S.content S.failures S.may_leave store.old store.new result (λ reply c.
+    ensures { AnswersBy S.PlanStore store.old store.new result (λ reply c.
         (answer : AnswerValue)
         × AnswersJob number text (decision_of (job_change change)) (S.content store.old) answer c
         × (reply ≡ answering answer)) }
@@ -104,7 +103,7 @@ fn perform_within<S: PlanStore>(
     requires sound { S.is_honest store.old → IsSound (S.content store.old) }
     requires new { S.is_honest store.old → (S.content store.old).jobs number ≡ None }
     requires reach { S.is_honest store.old → bounds ≡ (S.content store.old).sets.bounds }
-    ensures { AnswersBy S.is_honest S.content S.failures S.may_leave store.old store.new result (λ reply c.
+    ensures { AnswersBy S.PlanStore store.old store.new result (λ reply c.
         (answer : AnswerValue)
         × AnswersJob number text (decision_of (job_change change)) (S.content store.old) answer c
         × (reply ≡ answering answer)) }
@@ -129,7 +128,7 @@ fn settle<S: PlanStore>(
     requires fits { S.is_honest store.old → FitsVerdict verdict (S.content store.old) }
     requires sound { S.is_honest store.old → IsSound (job_left number text verdict (S.content store.old)) }
     requires new { S.is_honest store.old → (S.content store.old).jobs number ≡ None }
-    ensures { AnswersBy S.is_honest S.content S.failures S.may_leave store.old store.new result (λ reply c.
+    ensures { AnswersBy S.PlanStore store.old store.new result (λ reply c.
         (c ≡ job_left number text verdict (S.content store.old)) × (reply ≡ answering (answer_in verdict))) }
 {
     let (mut change, answer) = parts_of(alloc, verdict);

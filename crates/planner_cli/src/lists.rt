@@ -93,6 +93,8 @@ fn write_lines<S: PlanStore, W: Write>(
         → IsBlamed (S.failures store.old) (S.failures store.new)) }
     ensures counts { S.failures store.old ≤ S.failures store.new }
     ensures honest { S.is_honest store.new → S.is_honest store.old }
+    ensures clean { S.is_clean store.new → S.is_clean store.old }
+    ensures stays_whole { OnOk result (S.is_whole store.old → S.is_whole store.new) }
 {
     let mut sink = LineSink { writer };
     store.rows_to(alloc, what, app, &mut sink)
@@ -109,7 +111,7 @@ pub(crate) fn answer_list<S: PlanStore, W: Write>(
 ) -> Result<bool, Cause>
     requires asks { Asks (Alone line.now) (Some (list_asked what (option_copied app))) }
     requires sound { S.is_honest store.old → IsSound (S.content store.old) }
-    ensures { AnswersItem S.is_honest S.content S.failures S.may_leave store.old store.new
+    ensures { AnswersItem S.PlanStore store.old store.new
         (W.contents writer.old) (W.contents writer.new) (Alone line.now) result }
 {
     match write_lines(alloc, store, what, app, writer) {

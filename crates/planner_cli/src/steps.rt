@@ -38,7 +38,7 @@ pub(crate) fn answer_change<S: PlanStore>(
 ) -> Result<Printed, StoreFault>
     requires numbered { IsJobNumber number }
     requires sound { S.is_honest store.old → IsSound (S.content store.old) }
-    ensures { AnswersBy S.is_honest S.content S.failures S.may_leave store.old store.new result
+    ensures { AnswersBy S.PlanStore store.old store.new result
         (Serves (JobStatement number (texts.line_text line.now) (change_of change.now)) (S.content store.old)) }
 {
     change_is_well_formed(change);
@@ -60,7 +60,7 @@ pub(crate) fn answer_with_data<S: PlanStore>(
 ) -> Result<Printed, StoreFault>
     requires fits { Fits block }
     requires sound { S.is_honest store.old → IsSound (S.content store.old) }
-    ensures { AnswersBy S.is_honest S.content S.failures S.may_leave store.old store.new result
+    ensures { AnswersBy S.PlanStore store.old store.new result
         (Step (S.content store.old) (WithBlock line.now (block_shown block.entry))) }
 {
     match read_statement(alloc, line) {
@@ -81,7 +81,7 @@ fn answer_block<S: PlanStore>(
     requires reads { Reads line.now (Some statement.now) }
     requires fits { Fits block }
     requires sound { S.is_honest store.old → IsSound (S.content store.old) }
-    ensures { AnswersBy S.is_honest S.content S.failures S.may_leave store.old store.new result
+    ensures { AnswersBy S.PlanStore store.old store.new result
         (Step (S.content store.old) (WithBlock line.now (block_shown block.entry))) }
 {
     match statement {
@@ -111,7 +111,7 @@ pub(crate) fn answer_define<S: PlanStore>(
     requires fits { Fits block }
     requires numbered { IsJobNumber number }
     requires sound { S.is_honest store.old → IsSound (S.content store.old) }
-    ensures { AnswersBy S.is_honest S.content S.failures S.may_leave store.old store.new result
+    ensures { AnswersBy S.PlanStore store.old store.new result
         (Serves (define_asked line.now number kind (block_shown block.entry)) (S.content store.old)) }
 {
     match block {
@@ -133,7 +133,7 @@ fn answer_data<S: PlanStore>(
     requires short { length bytes.now ≤ longest_block }
     requires numbered { IsJobNumber number }
     requires sound { S.is_honest store.old → IsSound (S.content store.old) }
-    ensures { AnswersBy S.is_honest S.content S.failures S.may_leave store.old store.new result
+    ensures { AnswersBy S.PlanStore store.old store.new result
         (Serves (DefineJob number (texts.data_text line.now bytes.now) kind (Some bytes.now)) (S.content store.old)) }
 {
     let Ok(text) = data_text(alloc, line, bytes) else {

@@ -46,13 +46,14 @@ pub fn run<S: PlanStore, R: BufRead, W: Write>(
     // What an honest store keeps is sound.
     requires { S.is_honest store.old → IsSound (S.content store.old) }
     // The headline, in `specs/Plans.antt`.
-    ensures { RunsPlan S.is_honest S.failures S.may_leave store.old store.new (record {
-      before = S.content store.old;
-      after = S.content store.new;
-      written_before = W.contents writer.old;
-      written_after = W.contents writer.new;
-      remaining = R.remaining reader.old;
-    }) result }
+    ensures { RunsPlan S.is_honest S.failures S.may_leave S.is_clean S.is_whole store.old store.new
+        (record {
+          before = S.content store.old;
+          after = S.content store.new;
+          written_before = W.contents writer.old;
+          written_after = W.contents writer.new;
+          remaining = R.remaining reader.old;
+        }) result }
 {
     streams();
     match answer_all(alloc, store, reader, writer) {
@@ -76,15 +77,17 @@ fn answer_all<S: PlanStore, R: BufRead, W: Write>(
         (S.content store.new) (W.contents writer.old) (W.contents writer.new) (R.remaining reader.old))) }
     ensures fault { S.is_honest store.new → IfErr result (Stopped Step (λ _. []) (ends_of (S.content store.old)
         (S.content store.new) (W.contents writer.old) (W.contents writer.new) (R.remaining reader.old))) }
-    ensures settled { S.is_honest store.new → LeavesOwn S.content S.may_leave store.old
-        → OnOk result (LeavesOwn S.content S.may_leave store.new) }
-    ensures crash { S.is_honest store.new → LeavesOwn S.content S.may_leave store.old → IfErr result (λ fault.
+    ensures settled { S.is_honest store.new → LeavesOwn S.PlanStore store.old
+        → OnOk result (LeavesOwn S.PlanStore store.new) }
+    ensures crash { S.is_honest store.new → LeavesOwn S.PlanStore store.old → IfErr result (λ fault.
         (c : Content) → S.may_leave store.new c → Crashed Step (λ _. []) (ends_of (S.content store.old)
         (S.content store.new) (W.contents writer.old) (W.contents writer.new) (R.remaining reader.old)) fault c) }
     ensures blames { IfErr result (λ fault. cause_of fault ≡ Device Store
         → IsBlamed (S.failures store.old) (S.failures store.new)) }
     ensures counts { S.failures store.old ≤ S.failures store.new }
     ensures honest { S.is_honest store.new → S.is_honest store.old }
+    ensures clean { S.is_clean store.new → S.is_clean store.old }
+    ensures stays_whole { OnOk result (S.is_whole store.old → S.is_whole store.new) }
 {
     streams();
     let mut page = Page::new(alloc);
@@ -116,7 +119,7 @@ fn answer_one<S: PlanStore, W: Write>(
 ) -> Result<bool, Cause>
     requires fits { FitsBlock item }
     requires sound { S.is_honest store.old → IsSound (S.content store.old) }
-    ensures { AnswersItem S.is_honest S.content S.failures S.may_leave store.old store.new
+    ensures { AnswersItem S.PlanStore store.old store.new
         (W.contents writer.old) (W.contents writer.new) (item_of item.entry) result }
 {
     match item {
@@ -141,7 +144,7 @@ fn answer_alone<S: PlanStore, W: Write>(
     writer: &mut W,
 ) -> Result<bool, Cause>
     requires { S.is_honest store.old → IsSound (S.content store.old) }
-    ensures { AnswersItem S.is_honest S.content S.failures S.may_leave store.old store.new
+    ensures { AnswersItem S.PlanStore store.old store.new
         (W.contents writer.old) (W.contents writer.new) (Alone line.now) result }
 {
     match read_statement(alloc, line) {
@@ -165,7 +168,7 @@ fn answer_statement<S: PlanStore, W: Write>(
 ) -> Result<bool, Cause>
     requires reads { Reads line.now (Some statement.now) }
     requires sound { S.is_honest store.old → IsSound (S.content store.old) }
-    ensures { AnswersItem S.is_honest S.content S.failures S.may_leave store.old store.new
+    ensures { AnswersItem S.PlanStore store.old store.new
         (W.contents writer.old) (W.contents writer.new) (Alone line.now) result }
 {
     match statement {

@@ -37,7 +37,7 @@ pub(crate) fn answer_plan_trial<S: PlanStore>(
     function: &PlanFunction,
 ) -> Result<Printed, StoreFault>
     requires { S.is_honest store.old → IsSound (S.content store.old) }
-    ensures { AnswersBy S.is_honest S.content S.failures S.may_leave store.old store.new result
+    ensures { AnswersBy S.PlanStore store.old store.new result
         (Serves (Trial (plan_change function.now)) (S.content store.old)) }
 {
     let view = store.read_window(Need::LongTerm)?;
@@ -84,7 +84,7 @@ pub(crate) fn answer_daily_trial<S: PlanStore>(
     function: &DailyFunction,
 ) -> Result<Printed, StoreFault>
     requires { S.is_honest store.old → IsSound (S.content store.old) }
-    ensures { AnswersBy S.is_honest S.content S.failures S.may_leave store.old store.new result
+    ensures { AnswersBy S.PlanStore store.old store.new result
         (Serves (Trial (daily_change function.now)) (S.content store.old)) }
 {
     let bounds = store.bounds()?;
@@ -100,7 +100,7 @@ fn answer_within<S: PlanStore>(
 ) -> Result<Printed, StoreFault>
     requires sound { S.is_honest store.old → IsSound (S.content store.old) }
     requires reach { S.is_honest store.old → bounds ≡ (S.content store.old).sets.bounds }
-    ensures { AnswersBy S.is_honest S.content S.failures S.may_leave store.old store.new result
+    ensures { AnswersBy S.PlanStore store.old store.new result
         (Serves (Trial (daily_change function.now)) (S.content store.old)) }
 {
     let view = store.read_window(need_of_daily(bounds, function))?;

@@ -38,8 +38,8 @@ pub returns : goal.returns
 returns g c =
     let reads = c.read_window.follows.holds-at-none in
     let change = job_change c.args.change in
-    after_read _ _ _ _ _ _ _ _ reads c.settle.new.store c.settle.result (AnswersBoth c.args.number c.args.text change)
-    (answers_so _ _ _ _ _ _ _ _ _ (λ honest reply c'.
+    after_read g.S.PlanStore _ _ _ _ reads (rw c.in_ok-view.was at reads.whole) c.settle.new.store c.settle.result (AnswersBoth c.args.number c.args.text change)
+    (answers_so g.S.PlanStore _ _ _ _ _ (λ honest reply c'.
     let honest' = c.settle.ensures.honest honest in
     let is = c.need_of-need.ensures ∙ ap (λ b. need_of b c.args.change) (c.requires.reach (reads.honest honest')) in
     let shows = subst (λ n. Shows n c.in_ok-view.view (g.S.PlanStore.content c.args.store.now)) is

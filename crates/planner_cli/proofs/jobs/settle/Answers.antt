@@ -22,11 +22,10 @@ apply-requires-clause-sound g c honest =
 pub returns-in_err-printed : goal.returns-in_err-printed
 returns-in_err-printed g c =
     let refused : c.from_residual.result ≡ Err Memory = search rules in
-    subst (λ r. AnswersBy g.S.PlanStore.is_honest g.S.PlanStore.content g.S.PlanStore.failures g.S.PlanStore.may_leave
-    c.args.store.now c.args.store.now r (λ reply c'.
+    subst (λ r. AnswersBy g.S.PlanStore c.args.store.now c.args.store.now r (λ reply c'.
     (c' ≡ job_left c.args.number c.args.text c.args.verdict (g.S.PlanStore.content c.args.store.now))
     × (reply ≡ answering (answer_in c.args.verdict)))) (sym refused)
-    (refused_memory _ _ _ _ c.args.store.now _)
+    (refused_memory g.S.PlanStore c.args.store.now _)
 
 pub returns-in-Ok : goal.returns-in-Ok
 returns-in-Ok g c =
@@ -34,21 +33,22 @@ returns-in-Ok g c =
     let parts = c.parts_of-change.ensures in
     let before = g.S.PlanStore.content c.args.store.now in
     let printed = c.in_ok-printed.printed in
-    made _ _ _ _ _ _ printed (answering (answer_in verdict)) _ (λ honest.
+    made g.S.PlanStore _ _ printed (answering (answer_in verdict)) _ (λ honest.
     let fits = c.requires.fits (c.apply.ensures.honest honest) in (
       settled c.args.number c.args.text verdict c.parts_of-change.result.0 c.parts_of-change.result.1 before _ fits
           parts.answer (parts.leaves before fits) (c.in-Ok.ensures.done honest),
       refl,
     ))
     (subst (λ a. Prints (answering a) printed.text.items printed.is_accepted) parts.answer c.in_ok-printed.ensures.prints)
-    c.in-Ok.ensures.settled c.apply.ensures.counts c.apply.ensures.honest
+    c.in-Ok.ensures.settled c.apply.ensures.counts c.apply.ensures.honest c.apply.ensures.clean
+    c.in-Ok.ensures.stays_whole
 
 pub returns-in-Err : goal.returns-in-Err
 returns-in-Err g c =
     let verdict = c.args.verdict in
     let parts = c.parts_of-change.ensures in
     let before = g.S.PlanStore.content c.args.store.now in
-    not_made _ _ _ _ _ _ c.in-Err.fault _ c.in-Err.ensures.unchanged (λ honest.
+    not_made g.S.PlanStore _ _ c.in-Err.fault _ c.in-Err.ensures.unchanged (λ honest.
     let fits = c.requires.fits (c.apply.ensures.honest honest) in
     elim (c.in-Err.ensures.whole honest) [
       | inl same ↦ inl same
@@ -75,4 +75,4 @@ returns-in-Err g c =
         ),
       )
     ])
-    c.in-Err.ensures.blames c.apply.ensures.counts c.apply.ensures.honest
+    c.in-Err.ensures.blames c.apply.ensures.counts c.apply.ensures.honest c.apply.ensures.clean

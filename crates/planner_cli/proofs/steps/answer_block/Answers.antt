@@ -8,7 +8,7 @@ use Rattle.planner_cli.proofs.steps.answer_block.Goals as goal
 pub returns-in-Define : goal.returns-in-Define
 returns-in-Define g c =
     let block = block_shown c.args.block in
-    item_served _ _ _ _ _ _ c.answer_define.result (WithBlock c.args.line.now block) _
+    item_served g.S.PlanStore _ _ c.answer_define.result (WithBlock c.args.line.now block) _
     (asks_with c.args.line.now block c.args.statement.now _ c.requires.reads
     (ap (asked_with c.args.line.now block) c.in-Define.is))
     (rw (c.from-number.ensures, c.number.ensures.value, c.definitions_kind-kind.ensures) at c.answer_define.ensures)
@@ -17,6 +17,6 @@ pub returns-in-Change : goal.returns-in-Change
 returns-in-Change g c =
     let block = block_shown c.args.block in
     let none : asked_with c.args.line.now block c.args.statement.now ≡ None = search rules in
-    item_refused _ _ _ _ _ c.no_statement.result (WithBlock c.args.line.now block)
+    item_refused g.S.PlanStore _ c.no_statement.result (WithBlock c.args.line.now block)
     (asks_with c.args.line.now block c.args.statement.now None c.requires.reads none)
     c.no_statement.ensures.prints c.no_statement.ensures.err

@@ -9,14 +9,14 @@ use Rattle.planner_cli.proofs.StoreLemmas.{untouched}
 use Rattle.planner_cli.proofs.steps.answer_define.Goals as goal
 
 pub returns-in-TooLong : goal.returns-in-TooLong
-returns-in-TooLong g c = untouched _ _ _ _ c.args.store.now c.print_alone.result _ _
+returns-in-TooLong g c = untouched g.S.PlanStore c.args.store.now c.print_alone.result _ _
     (subst (λ b. Serves (define_asked c.args.line.now c.args.number c.args.kind (block_shown b))
     (g.S.PlanStore.content c.args.store.now) (answering (Err (FaultyData 0))) (g.S.PlanStore.content c.args.store.now))
     (sym c.in-TooLong.is) (serves_no_data c.args.number _ c.args.kind (g.S.PlanStore.content c.args.store.now)
     c.requires.numbered)) c.print_alone.ensures.prints c.print_alone.ensures.err
 
 pub returns-in-Unended : goal.returns-in-Unended
-returns-in-Unended g c = untouched _ _ _ _ c.args.store.now c.print_alone-in-Unended.result _ _
+returns-in-Unended g c = untouched g.S.PlanStore c.args.store.now c.print_alone-in-Unended.result _ _
     (subst (λ b. Serves (define_asked c.args.line.now c.args.number c.args.kind (block_shown b))
     (g.S.PlanStore.content c.args.store.now) (answering (Err (FaultyData 0))) (g.S.PlanStore.content c.args.store.now))
     (sym c.in-Unended.is) (serves_no_data c.args.number _ c.args.kind (g.S.PlanStore.content c.args.store.now)

@@ -8,5 +8,5 @@ use Rattle.planner_cli.proofs.steps.answer_with_data.Goals as goal
 pub returns-in-Ok-None : goal.returns-in-Ok-None
 returns-in-Ok-None g c =
     let reads : Reads c.args.line.now None = search rules in
-    item_refused _ _ _ _ _ c.no_statement.result (WithBlock c.args.line.now (block_shown c.args.block))
+    item_refused g.S.PlanStore _ c.no_statement.result (WithBlock c.args.line.now (block_shown c.args.block))
     (None, reads, refl) c.no_statement.ensures.prints c.no_statement.ensures.err

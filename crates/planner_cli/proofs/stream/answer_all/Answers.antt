@@ -13,6 +13,8 @@ loop-init g c = record {
   sound = c.requires;
   counts = omega arith;
   honest = λ h. h;
+  clean = λ h. h;
+  whole = λ h. h;
   settled = λ h own. own;
   progress = λ h. progress_starts _ _ _ _ _ c.new-tally.ensures.accepted c.new-tally.ensures.refused;
 }
@@ -72,6 +74,8 @@ loop-preserved g c =
           step_sound c.streams.ensures.sound _ _ _ answered.reply before answered.gives;
       counts = let a = c.loop.invariant.counts in let b = c.answer_one.ensures.counts in omega arith;
       honest = λ honest. c.loop.invariant.honest (c.answer_one.ensures.honest honest);
+      clean = λ clean. c.loop.invariant.clean (c.answer_one.ensures.clean clean);
+      whole = λ whole. c.in-Ok.ensures.stays_whole (c.loop.invariant.whole whole);
       settled = λ honest own.
           c.in-Ok.ensures.settled honest (c.loop.invariant.settled (c.answer_one.ensures.honest honest) own);
       progress = λ honest. progress_answers _ _ _ _ _ _ _ _ _ _ _ _ _ _ _

@@ -4,6 +4,5 @@ use Rattle.planner_cli.proofs.stream.answer_all.Given as goal
 
 abbrev pub invariant-loop : goal.invariant-loop
 invariant-loop g l =
-    SoFar g.S.PlanStore.is_honest g.S.PlanStore.content g.S.PlanStore.failures g.S.PlanStore.may_leave
-    l.initial.store l.store (g.W.Write.contents l.initial.writer) (g.W.Write.contents l.writer)
+    SoFar g.S.PlanStore l.initial.store l.store (g.W.Write.contents l.initial.writer) (g.W.Write.contents l.writer)
     (g.R.Read.remaining l.initial.reader) (g.R.Read.remaining l.reader) l.tally

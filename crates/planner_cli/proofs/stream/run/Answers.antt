@@ -12,6 +12,8 @@ returns-in-Ok g c = record {
   blames = tt;
   counts = c.answer_all.ensures.counts;
   honest = c.answer_all.ensures.honest;
+  clean = c.answer_all.ensures.clean;
+  whole = c.in-Ok.ensures.stays_whole;
 }
 
 pub returns-in-Err : goal.returns-in-Err
@@ -29,4 +31,6 @@ returns-in-Err g c = record {
   blames = c.in-Err.ensures.blames;
   counts = c.answer_all.ensures.counts;
   honest = c.answer_all.ensures.honest;
+  clean = c.answer_all.ensures.clean;
+  whole = tt;
 }

@@ -6,5 +6,6 @@ use Rattle.planner_cli.proofs.trials.answer_daily_trial.Goals as goal
 
 pub returns : goal.returns
 returns g c =
-    after_read _ _ _ _ _ _ _ _ c.bounds.ensures c.answer_within.new.store c.answer_within.result
+    after_read g.S.PlanStore _ _ _ _ c.bounds.ensures (rw c.in_ok-bounds.was at c.bounds.ensures.whole)
+    c.answer_within.new.store c.answer_within.result
     (Serves (Trial (daily_change c.args.function.now))) c.answer_within.ensures

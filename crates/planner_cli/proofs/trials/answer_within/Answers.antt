@@ -7,7 +7,7 @@ use Rattle.planner_cli.proofs.trials.answer_within.Goals as goal
 pub returns-in-Ok : goal.returns-in-Ok
 returns-in-Ok g c =
     let reads = c.read_window.follows.holds-at-none in
-    read_printed _ _ _ _ _ _ _ _ reads c.in-Ok.printed _ (λ honest.
+    read_printed g.S.PlanStore _ _ _ _ reads (rw c.in_ok-view.was at reads.whole) c.in-Ok.printed _ (λ honest.
     let is = c.need_of_daily.ensures ∙ ap (λ b. need_of_daily b c.args.function.now)
     (c.requires.reach (reads.honest honest)) in
     let shows = subst (λ n. Shows n c.in_ok-view.view (g.S.PlanStore.content c.args.store.now)) is
