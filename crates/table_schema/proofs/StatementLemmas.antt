@@ -200,6 +200,7 @@ module _ (t : Table) (cells : Row) (old new : State) (count : ℕ) (plan : IsPla
         schema = step.0;
         same = after.2;
         others = keeps_beside t old new plan step.2;
+        obeys = λ _. put_soundly.1;
         rows_are = after.1;
         committed = h.1.committed_is;
         mode = h.1.mode;
@@ -239,6 +240,7 @@ module _ (t : Table) (key : Row) (old new : State) (count : ℕ) (plan : IsPlan 
         schema = effect.0;
         same = after.2;
         others = keeps_beside t old new plan effect.2;
+        obeys = λ _. gone_soundly.1;
         rows_are = after.1;
         committed = h.1.committed_is;
         mode = h.1.mode;
@@ -260,6 +262,7 @@ stands_after old mid new first rows one two = record {
       mid.now.trees d.tree) mid.now.schema.tables d two.others (subst (λ (s : Schema). Has s.tables d) (sym one.schema)
       there) (λ t is. away t (is ∙ one.same t)) ∙ all_has (λ (d : Described). IsBeside old d → mid.now.trees d.tree ≡
       old.now.trees d.tree) old.now.schema.tables d one.others there away);
+  obeys = λ was. two.obeys (one.obeys was);
   rows_are = two.rows_are;
   committed = two.committed ∙ one.committed;
   mode = two.mode;

@@ -2,7 +2,7 @@
 use Rattle.std.specs.Prelude.{◌≡◌, ◌≢◌, ◌⊎◌, Bool, false, not, ◌==◌, if◌then◌else◌, List, [], ◌∷◌, filter, IsTrue, IsSome, ⊤}
 use Rattle.std.specs.List.{AllByRecursion, list_all}
 use Rattle.std.specs.Ordering.{is_eq, match_ordering}
-use Rattle.sqlite.specs.Effect.{Database}
+use Rattle.sqlite.specs.Effect.{Database, IsDatabase}
 use Rattle.sqlite.specs.Order.{Row}
 use Rattle.sqlite.specs.State.{HasCause, State, store_error}
 use Rattle.sqlite_trees.specs.declared.error.StoreError.{StoreError}
@@ -90,13 +90,15 @@ KeepsBeside old new =
     AllByRecursion (λ d. ((t : Table) → d.tree ≢ tree_named (old.trees catalog_tree) (name t))
     → new.trees d.tree ≡ old.trees d.tree) old.schema.tables
 
--- inside a transaction the tables now have these rows; the others stand as they stood
+-- inside a transaction the tables now have these rows; the others stand as they stood, and where the database obeyed its
+-- rules it does
 pub record Stands (old new : State) (rows : Tables) : Type 0 where
   pub plan : IsPlan new
   pub schema : new.now.schema ≡ old.now.schema
   pub same : (t : Table) → tree_named (new.now.trees catalog_tree) (name t)
       ≡ tree_named (old.now.trees catalog_tree) (name t)
   pub others : KeepsBeside old.now new.now
+  pub obeys : IsDatabase old.now → IsDatabase new.now
   pub rows_are : tables_of new.now.trees ≡ rows
   pub committed : new.committed ≡ old.committed
   pub mode : IsTrue new.in_transaction
