@@ -1,17 +1,15 @@
--- An error that tells of the device, or that the connection is shut, has that cause.
-use Rattle.std.proofs.Common.{◌≡◌, ◌≤◌, ◌⊎◌, ◌∙◌, ℕ, ℤ, Bool, fold, true, false, true≢false, inl, inr, List, [], Option, Some, None, IsTrue}
-use Rattle.std.proofs.Common.{Result, Err, append-nil, refl, sym, ap, subst, arith, slice_get}
+-- Why a statement fails. An error that tells of the device, or that the connection is shut, has that cause.
+use Rattle.std.proofs.Common.{◌≡◌, ◌≤◌, ◌∙◌, ℕ, ℤ, Bool, fold, true, false, true≢false, inl, inr, List, [], Option, Some, None, IsTrue}
+use Rattle.std.proofs.Common.{Result, Err, refl, sym, ap, slice_get}
 use Rattle.std.specs.Prelude.{MatchBool, if◌then◌else◌}
-use Rattle.sqlite.specs.Clock.{timed}
 use Rattle.sqlite.specs.Command.{Command}
-use Rattle.sqlite.specs.Command.TheVariants.{CreateTable, DropTable, Insert}
-use Rattle.sqlite.specs.Does.{AtPlace, Concludes, Does, Drops, Empties, HoldWithout, MakesSequence, MakesTable, OnRows, Tested}
-use Rattle.sqlite.specs.Does.{UncountsIn, is_acted_on, lacks_sequence, sequence_text}
+use Rattle.sqlite.specs.Command.TheVariants.{DropTable, Insert}
+use Rattle.sqlite.specs.Does.{AtPlace, Concludes, Does, Drops, Empties, HoldWithout, OnRows, Tested}
+use Rattle.sqlite.specs.Does.{UncountsIn, is_acted_on}
 use Rattle.sqlite.specs.Edit.{Edit, edit_of}
-use Rattle.sqlite.specs.Effect.{Database, edit_error, is_query}
-use Rattle.sqlite.specs.Listing.{understood}
+use Rattle.sqlite.specs.Effect.{Database, edit_error}
 use Rattle.sqlite.specs.Order.{Row}
-use Rattle.sqlite.specs.Rows.{Counter, CounterIn, Counts, CountsIn, Edited, Gives, Inserts, Part, Refuses, Sourced, Task, Then}
+use Rattle.sqlite.specs.Rows.{Counter, CounterIn, Counts, CountsIn, Edited, Gives, Inserts, Part, Refuses, Sourced, Task}
 use Rattle.sqlite.specs.Rows.{Written, count_of, counting, higher, rowids_for, sequence, stamped}
 use Rattle.sqlite.specs.Rowids.TheVariants.{Given}
 use Rattle.sqlite_rules.specs.Calls.{ids_of}
@@ -20,31 +18,32 @@ use Rattle.std.specs.Option.{option_to_list}
 use Rattle.std.specs.Ordering.{int_cmp, is_lt}
 use Rattle.sqlite.specs.Schema.{Schema}
 use Rattle.sqlite.specs.Source.TheVariants.{Values}
-use Rattle.sqlite.specs.State.{State, EndsScope, ExecutesIn, ExecutesInside, Fails, HasCause, IsMisplaced, IsNotRun, IsUnchanged}
-use Rattle.sqlite.specs.State.{RunsCommand, is_pragma, mode_of, shows_rows, store_error, text_of}
+use Rattle.sqlite.specs.State.{State, HasCause, store_error}
 use Rattle.sqlite.specs.Table.{Table as Described}
 use Rattle.sqlite.specs.Term.{Term}
 use Rattle.sqlite.specs.Tree.{Trees}
 use Rattle.sqlite.specs.declared.error.Error.{Error}
 use Rattle.sqlite.specs.declared.error.Error.TheVariants.{InvalidQuery}
 use Rattle.sqlite.specs.declared.run.Mode.{Mode}
-use Rattle.sqlite.proofs.Callers.{IsPlain, command_of}
-use Rattle.sqlite_catalog.specs.declared.error.Refusal.{Refusal as Altered}
-use Rattle.sqlite_catalog.specs.declared.error.Refusal.TheVariants as altered
-use Rattle.sqlite_resolve.specs.declared.compiled.Compiled.{Compiled}
 use Rattle.sqlite_rules.specs.declared.error.Refusal.{Refusal}
 use Rattle.sqlite_rules.specs.declared.error.Refusal.TheVariants.{BadReference, Mismatch, NoRowid, TooDeep, Violates}
 use Rattle.sqlite_schema.specs.declared.schema.Among.{Among}
 use Rattle.sqlite_schema.specs.declared.schema.Keys.{Keys}
 use Rattle.sqlite_trees.specs.declared.error.StoreError.{StoreError}
 use Rattle.sqlite_trees.specs.declared.error.StoreError.TheVariants.{Broken, Corrupt, Full, Io, OutOfMemory, Unstorable}
+use Rattle.table_schema.specs.Cells.{insert_terms, width}
 use Rattle.table_schema.specs.Rows.{MayFail}
+use Rattle.table_schema.specs.declared.tables.Table.{Table}
+use Rattle.table_schema.proofs.StopLemmas.{IsStopped, vain_after, vain_before}
+use Rattle.table_remaking.specs.Refusals.{FailsFor, IsRefused, RefusesToDrop, by_rule}
+use Rattle.table_remaking.specs.Remaking.{RefusesRow, RefusesToRemake, remade_row}
 use Rattle.table_remaking.specs.Turns.{DeviceHasCause, is_of_device}
+use Rattle.table_remaking.specs.declared.rows.FirstRows.{FirstRows}
 
 -- ---- causes
 
 -- the error tells of something else
-pub elsewhere : (a b : State) (e : Error) → is_of_device e ≡ false → DeviceHasCause a b e
+elsewhere : (a b : State) (e : Error) → is_of_device e ≡ false → DeviceHasCause a b e
 elsewhere a b e none is = absurd (true≢false (sym is ∙ none))
 
 by_store : (a b : State) (X : Type 0) (cause : StoreError) (e : Error) → e ≡ store_error cause → HasCause a b X cause
@@ -56,19 +55,9 @@ by_store a b X Full e same h = λ _. inl h
 by_store a b X Broken e same h = λ _. inr h
 by_store a b X Unstorable e same h = elsewhere a b e (ap is_of_device same)
 
-pub by_may : (a b : State) (e : Error) → MayFail a b e → DeviceHasCause a b e
+by_may : (a b : State) (e : Error) → MayFail a b e → DeviceHasCause a b e
 by_may a b e (inl h) = by_store a b ⊥ h.0 e h.1 h.2
 by_may a b e (inr h) = elsewhere a b e (ap is_of_device h.0)
-
--- what caused it has caused it later too
-pub cause_before : (a b c : State) (e : Error) → b.faults ≤ c.faults → DeviceHasCause a b e → DeviceHasCause a c e
-cause_before a b c e more h is = elim (h is) [ inl m ↦ inl (omega (arith, more, m)) | inr shut ↦ inr shut ]
-
--- and what causes it once the connection was open causes it since before
-pub cause_after : (a b c : State) (e : Error) → a.faults ≤ b.faults → IsTrue b.is_open → DeviceHasCause b c e
-    → DeviceHasCause a c e
-cause_after a b c e more stays h is =
-    elim (h is) [ inl m ↦ inl (omega (arith, more, m)) | inr shut ↦ absurd (true≢false (sym stays ∙ shut)) ]
 
 -- ---- what a database refuses is told by other errors
 
@@ -113,19 +102,6 @@ sourced : (limit : Option ℕ) (db : Database) (params : Row) (terms : List Term
     → Tame (Sourced limit db params (Values terms width))
 sourced limit db params terms width e (inl h) = ap is_of_device h.0
 sourced limit db params terms width e (inr h) = ap is_of_device h.0
-
-by_alter : (why : Altered) (e : Error) → e ≡ Rattle.sqlite.specs.Effect.alter_error why → is_of_device e ≡ false
-by_alter (altered.Invalid c) e same = ap is_of_device same
-by_alter altered.NameTaken e same = ap is_of_device same
-by_alter altered.BadName e same = ap is_of_device same
-by_alter altered.BadKey e same = ap is_of_device same
-by_alter altered.BadText e same = ap is_of_device same
-by_alter altered.TooBig e same = ap is_of_device same
-by_alter (altered.Violates rule) e same = ap is_of_device same
-
-makes_table : (text : List ℕ) (db : Database) → Tame (MakesTable text db)
-makes_table text db e (inl h) = ap is_of_device h.1
-makes_table text db e (inr h) = by_alter h.0 e h.2
 
 module _ (task : Task) where
   counter_in : (db : Trees) (o : Option Described) → Tame (CounterIn task db o)
@@ -207,59 +183,71 @@ module _ (limit : Option ℕ) (mode : Mode) (params : Row) (db : Database) (text
   inserts_at None at terms width = refuses InvalidQuery refl
   inserts_at (Some table) at terms width = on_rows (task_for table) terms width
 
-  pub tame_insert : (at : ℕ) (terms : List Term) (width : ℕ) → Tame (Does limit mode params db text None (Insert at (Values terms width)))
+  tame_insert : (at : ℕ) (terms : List Term) (width : ℕ) → Tame (Does limit mode params db text None (Insert at (Values terms width)))
   tame_insert at terms width = inserts_at (slice_get db.schema.tables at) at terms width
 
   drops_at : (o : Option Described) → Tame (AtPlace (λ (table : Described). Drops (task_for table) mode db.trees) o)
   drops_at None = refuses InvalidQuery refl
   drops_at (Some table) = dropped (task_for table) mode db.trees
 
-  pub tame_drop : (at : ℕ) → Tame (Does limit mode params db text None (DropTable at))
+  tame_drop : (at : ℕ) → Tame (Does limit mode params db text None (DropTable at))
   tame_drop at = drops_at (slice_get db.schema.tables at)
 
-  sequenced : (made : Database) → Tame (MakesSequence made)
-  sequenced made = if_so (lacks_sequence made.schema) (MakesTable sequence_text made) (Gives made)
-      (makes_table sequence_text made) (gives made)
+-- ---- what is refused tells of something else
 
-  made_whole : Tame (Then (MakesTable text db) MakesSequence)
-  made_whole e (inl (stop, h, same)) = from_stop (MakesTable text db) (makes_table text db) stop e same h
-  made_whole e (inr (made, ok, h)) = sequenced made e h
+calm_drop : (limit : Option ℕ) (db : Database) (t : Table) (e : Error) → RefusesToDrop limit db t e
+    → is_of_device e ≡ false
+calm_drop limit db t e (at, named, inl h) = tame_drop limit by_rule [] db [] at e h
+calm_drop limit db t e (at, named, inr h) = ap is_of_device h.0
 
-  pub tame_create : Tame (Does limit mode params db text None CreateTable)
-  tame_create e (inl (stop, h, same)) = from_stop (Then (MakesTable text db) MakesSequence) made_whole stop e same h
-  tame_create e (inr (after, ok, h)) = absurd cc
+calm_row : (limit : Option ℕ) (db : Database) (t : Table) (cells : Row) (e : Error) → RefusesRow limit db t cells e
+    → is_of_device e ≡ false
+calm_row limit db t cells e (at, named, inl h) =
+    tame_insert limit by_rule cells db [] at (insert_terms t) (width t) e h
+calm_row limit db t cells e (at, named, inr h) = ap is_of_device h.0
 
--- ---- a statement
+pub calm_remake : (limit : Option ℕ) (reads : List FirstRows) (base : Database) (e : Error)
+    → RefusesToRemake limit reads base e → is_of_device e ≡ false
+calm_remake limit reads base e (inl h) = calm_drop limit h.db h.table e h.refused
+calm_remake limit reads base e (inr h) =
+    calm_row limit h.1.db h.1.table (remade_row h.1.table h.1.row) e h.1.refused
 
-module _ (schema : Schema) (sql : List ℕ) (params : Row) (command : Command) (plain : IsPlain (understood schema sql))
-    (is : command_of (understood schema sql) ≡ command) (query : is_query command ≡ false) (pragma : is_pragma command ≡ false)
-    (tame : (old : State) (text : List ℕ) → Tame (Does old.step_limit (mode_of old) params old.now text None command)) where
-  misplaced : (old : State) (k : Command) (e : Error) → IsMisplaced old k e → is_of_device e ≡ false
-  misplaced old k e (inl (same, h)) = ap is_of_device same
-  misplaced old k e (inr (same, name, h, unnamed)) = ap is_of_device same
+-- so one that tells of the device has that cause
+pub device_cause : (Refused : Error → Type 0) (a b : State) (e : Error) → (Refused e → is_of_device e ≡ false)
+    → FailsFor Refused a b e → DeviceHasCause a b e
+device_cause Refused a b e calm (inl h) = by_may a b e h
+device_cause Refused a b e calm (inr h) = elsewhere a b e (calm h)
 
-  settled : {W X : Type 0} (old new : State) (e : Error) (c : Compiled) (text : List ℕ) → c.command ≡ command
-      → ((IsMisplaced old c.command e ⊎ (W × Does old.step_limit (mode_of old) params old.now text None c.command
-      (Err (Some e)))) × IsUnchanged old new) ⊎ Fails old new X e → DeviceHasCause old new e
-  settled old new e c text same (inl (inl h, still)) = elsewhere old new e (misplaced old c.command e h)
-  settled old new e c text same (inl (inr h, still)) = elsewhere old new e (tame old text e
-      (subst (λ k. Does old.step_limit (mode_of old) params old.now text None k (Err (Some e))) same h.1))
-  settled {W} {X} old new e c text same (inr h) = by_store old new X h.0 e h.1 h.2
+-- ---- a statement fails for a common cause, or is refused
 
-  pub by_statement : (old new : State) (e : Error) → old.now.schema ≡ schema → ExecutesInside 0 sql params old new (Err e)
-      → DeviceHasCause old new e
-  unfolding ExecutesIn IsNotRun EndsScope
-  by_statement old new e has (inl (inl (inl (inl h, same)), after)) = elsewhere old new e (ap is_of_device h.2)
-  by_statement old new e has (inl (inl (inl (inr h, same)), after)) = elsewhere old new e (elim h.2 [
-    | inl more ↦ ap is_of_device more.1
-    | inr rest ↦ elim rest [ inl count ↦ ap is_of_device count.1 | inr clock ↦ ap is_of_device clock.1 ]
-  ])
-  by_statement old new e has (inl (inl (inr h), after)) = by_store old new ⊥ h.0 e h.1 h.2
-  by_statement old new e has (inl (inr h, after)) =
-      let known = sym h.1.is ∙ ap (λ s. understood s sql) has in
-      let bare = subst IsPlain (sym known) plain in
-      let same : h.0.command ≡ command = ap command_of known ∙ is in
-      let quiet : shows_rows false h.0 ≡ false = rw (same, bare.0, query, pragma) refl in
-      let runs : RunsCommand old new sql h.0 (timed params h.0.formats h.1.now) (Err e) = rw quiet at h.2 in
-      settled old new e h.0 (text_of sql h.0) same (rw (bare.0, bare.1, append-nil params) at runs)
-  by_statement old new e has (inr h) = elsewhere old new e (ap is_of_device h.1)
+by_kind : (old new : State) (params : Row) (text : List ℕ) (command : Command) (e : Error) (cause : StoreError)
+    → e ≡ store_error cause → HasCause old new (Does old.step_limit by_rule params old.now text None command (Err None)) cause
+    → FailsFor (IsRefused old.step_limit params old.now text command) old new e
+by_kind old new params text command e OutOfMemory same h = inl (inl (OutOfMemory, same, tt))
+by_kind old new params text command e Io same h = inl (inl (Io, same, h))
+by_kind old new params text command e Corrupt same h = inl (inl (Corrupt, same, h))
+by_kind old new params text command e Full same h = inl (inl (Full, same, h))
+by_kind old new params text command e Broken same h = inl (inl (Broken, same, h))
+by_kind old new params text command e Unstorable same h = inr (inr (same, h))
+
+pub caused_by : (old new : State) (params : Row) (text : List ℕ) (command : Command) (e : Error)
+    → IsStopped old new params text command e → FailsFor (IsRefused old.step_limit params old.now text command) old new e
+caused_by old new params text command e (inl h) = inl (inl (h.0, h.1, h.2))
+caused_by old new params text command e (inr (inl h)) = by_kind old new params text command e h.0 h.1 h.2
+caused_by old new params text command e (inr (inr h)) = inr (inl h.1)
+
+pub refused_as : (P Q : Error → Type 0) (a b : State) (e : Error) → (P e → Q e) → FailsFor P a b e → FailsFor Q a b e
+refused_as P Q a b e goes (inl h) = inl h
+refused_as P Q a b e goes (inr h) = inr (goes h)
+
+-- what caused it has caused it later too
+pub fails_before : (P : Error → Type 0) (a b c : State) (e : Error) → b.faults ≤ c.faults → FailsFor P a b e
+    → FailsFor P a c e
+fails_before P a b c e more (inl h) = inl (vain_before a b c e h more)
+fails_before P a b c e more (inr h) = inr h
+
+-- and what causes it once the connection was open causes it since before
+pub fails_after : (P Q : Error → Type 0) (a b c : State) (e : Error) → (P e → Q e) → a.faults ≤ b.faults
+    → IsTrue b.is_open → b.step_limit ≡ a.step_limit → FailsFor P b c e → FailsFor Q a c e
+fails_after P Q a b c e goes more stays limit (inl h) = inl (vain_after a b c e more stays limit h)
+fails_after P Q a b c e goes more stays limit (inr h) = inr (goes h)

@@ -8,6 +8,7 @@ use Rattle.sqlite.specs.declared.types.Value.{Value}
 use Rattle.sqlite.specs.declared.types.Value.TheVariants.{Null, Int}
 use Rattle.sqlite_rules.specs.Cast.{cast_all}
 use Rattle.sqlite_rules.specs.Edit.{with_rowid}
+use Rattle.table_schema.specs.Cells.{column_names}
 use Rattle.table_schema.specs.Rows.{AreOfKinds, shown, stored}
 use Rattle.table_schema.specs.Schema.{columns, key}
 use Rattle.table_schema.specs.declared.tables.Table.{Table}
@@ -178,3 +179,24 @@ pub remade_shown : (t : Table) (cells : Row) (rows : List Row) → HasTypes (fir
 remade_shown t cells rows h =
     let typed = remade_typed t cells h in
     shown_taken t (remade_row t cells) rows typed ∙ taken_all (size t) (remade_row t cells) (sized t (remade_row t cells) typed)
+
+names : (t : Table) → size t ≡ length (column_names t)
+names Meta = refl
+names CalendarEntry = refl
+names Period = refl
+names Application = refl
+names RunCycle = refl
+names Offset = refl
+names Predecessor = refl
+names LinkInForce = refl
+names LongTerm = refl
+names Current = refl
+names History = refl
+names Deletion = refl
+names Dependency = refl
+names Job = refl
+
+-- it has a value for each column
+pub remade_whole : (t : Table) (cells : Row) → HasTypes (first_types t) cells
+    → length (remade_row t cells) ≡ length (column_names t)
+remade_whole t cells h = sized t (remade_row t cells) (remade_typed t cells h) ∙ names t

@@ -10,16 +10,18 @@ use Rattle.std.proofs.lemmas.Bool.Decides.{nat_tests}
 use Rattle.std.proofs.lemmas.List.Elements.{All-cons, All-head, All-nil, All-tail}
 use Rattle.std.proofs.lemmas.List.Sorted.{IsPermutation-append_right, IsPermutation-cons, IsPermutation-map, IsPermutation-middle}
 use Rattle.std.proofs.lemmas.List.Sorted.{IsPermutation-refl, IsPermutation-sym, IsPermutation-trans}
+use Rattle.sqlite.specs.Effect.{Database}
 use Rattle.sqlite.specs.Order.{Row}
 use Rattle.sqlite.specs.Rowids.TheVariants.{Chosen}
+use Rattle.sqlite.specs.State.{State}
 use Rattle.sqlite.specs.Tree.{rowid}
 use Rattle.sqlite_rules.specs.Edit.{with_rowid}
 use Rattle.sqlite_value.specs.Order.{value_cmp}
-use Rattle.table_schema.specs.Rows.{Tables, no_rows, placed, shown, stored, with_cells, with_rows}
+use Rattle.table_schema.specs.Rows.{Tables, no_rows, placed, shown, stored, tables_of, with_cells, with_rows}
 use Rattle.table_schema.specs.Schema.{place}
 use Rattle.table_schema.specs.declared.tables.Table.{Table}
-use Rattle.table_remaking.specs.Remaking.{AreAllFirst, AreRemade, AreWhole, remade_row, tables_in, with_all_put}
-use Rattle.table_remaking.specs.Remaking.{with_rows_put}
+use Rattle.table_remaking.specs.Remaking.{AreAllFirst, AreRemade, AreWhole, IsRemadeInside, RemakesTo, remade_row}
+use Rattle.table_remaking.specs.Remaking.{tables_in, with_all_put, with_rows_put}
 use Rattle.table_remaking.specs.Types.{AreFirst, HasTypes, first_types}
 use Rattle.table_remaking.specs.declared.rows.FirstRows.{FirstRows}
 use Rattle.table_remaking.proofs.FitLemmas.{remade_shown}
@@ -149,3 +151,15 @@ pub remade_all : (reads : List FirstRows) (all : Tables) → AreWhole reads → 
     → all ≡ with_all_put reads no_rows → AreRemade reads all
 remade_all reads all whole are is = subst (AreRemade reads) (sym is)
     (all_shown reads no_rows (ap are_apart whole) are (empty_at_first reads))
+
+-- and so does the database that is committed
+pub remakes_to : (reads : List FirstRows) (base : Database) (s : State) → AreWhole reads → AreAllFirst reads
+    → IsRemadeInside reads base s → RemakesTo reads base s.now.trees
+remakes_to reads base s whole are made = record {
+  schema = s.now.schema;
+  remade = made.remade;
+  obeys = made.obeys;
+  plan = made.plan.schema;
+  rowids = made.plan.rowids;
+  rows = remade_all reads (tables_of s.now.trees) whole are made.rows_are;
+}

@@ -1,5 +1,5 @@
 -- What the statements make of the schema.
-use Rattle.std.proofs.Common.{◌≡◌, ◌∙◌, ◌==◌, ℕ, List, [], ◌∷◌, true, not, map, Ok, Err, refl, sym, ap, subst}
+use Rattle.std.proofs.Common.{◌≡◌, ◌∙◌, ◌==◌, ℕ, List, [], ◌∷◌, length, true, not, map, Some, Ok, Err, refl, sym, ap, subst}
 use Rattle.std.specs.List.{AllByRecursion}
 use Rattle.std.specs.List.Sorted.{IsPermutation}
 use Rattle.sqlite_keyed.proofs.ListLemmas.{all_of, filter_all}
@@ -9,16 +9,20 @@ use Rattle.sqlite.specs.Order.{Row}
 use Rattle.sqlite.specs.Command.TheVariants.{CreateTable, DropTable, Insert}
 use Rattle.sqlite.specs.Schema.{Schema}
 use Rattle.sqlite.specs.Source.TheVariants.{Values}
-use Rattle.sqlite.specs.State.{State, ExecutesInside, IsLive, Shown, mode_of}
+use Rattle.sqlite.specs.Listing.{understood}
+use Rattle.sqlite.specs.State.{State, ExecutesInside, IsLive, Shown}
 use Rattle.sqlite.specs.Table.{Table as Described}
 use Rattle.sqlite.specs.declared.error.Error.{Error}
+use Rattle.sqlite.proofs.Callers.{statement_of}
+use Rattle.sqlite_schema.specs.Names.{table_named}
 use Rattle.sqlite_trees.specs.Objects.{catalog_tree}
-use Rattle.table_schema.proofs.MeaningLemmas.{Means}
+use Rattle.table_schema.proofs.MeaningLemmas.{IsWhole, Means}
 use Rattle.table_schema.proofs.NamedLemmas.{tree_is}
 use Rattle.table_schema.proofs.ShownLemmas.{shows_all, stays}
 use Rattle.table_schema.proofs.Steps.{creates}
+use Rattle.table_schema.proofs.StopLemmas.{IsOrdinary, IsStopped, stopped}
 use Rattle.table_schema.proofs.TextMeanings.{insert_means}
-use Rattle.table_schema.specs.Cells.{insert_terms, width}
+use Rattle.table_schema.specs.Cells.{column_names, insert_terms, width}
 use Rattle.table_schema.specs.Made.{later}
 use Rattle.table_schema.specs.Places.{StandsAt}
 use Rattle.table_schema.specs.Rows.{IsPlan, tables_of}
@@ -28,8 +32,10 @@ use Rattle.table_schema.specs.declared.tables.Table.{Table}
 use Rattle.table_remaking.specs.FirstSchema.{HasFirstTables, first_after, first_before, first_columns, first_names}
 use Rattle.table_remaking.specs.FirstSchema.{first_shown, first_table_at, first_terms, without}
 use Rattle.table_remaking.specs.FirstTexts.{drop_sql, first_create_sql, first_select_sql}
-use Rattle.table_remaking.specs.Turns.{DeviceHasCause, IsInside, IsLosing}
-use Rattle.table_remaking.proofs.CauseLemmas.{by_statement, tame_create, tame_drop, tame_insert}
+use Rattle.table_remaking.specs.Refusals.{FailsFor, IsRefused, RefusesToBegin, RefusesToLose, RefusesToMake}
+use Rattle.table_remaking.specs.Remaking.{RefusesRow}
+use Rattle.table_remaking.specs.Turns.{IsInside, IsLosing}
+use Rattle.table_remaking.proofs.CauseLemmas.{caused_by, refused_as}
 use Rattle.table_remaking.proofs.DropSteps.{drops}
 use Rattle.table_remaking.proofs.Meanings.{create_defines, create_means, drop_means, made, selects, uncounted, unused}
 use Rattle.table_remaking.proofs.WithoutLemmas.{all_left, one_more_gone, still_there, unacted, unviewed}
@@ -47,12 +53,24 @@ makes t base old new count has h =
     is.0.plain (uncounted t) old new count has.0 h.0 in
     (step.0 ∙ made t, h.1.mode)
 
-pub make_cause : (t : Table) (base : Database) (old new : State) (e : Error) → IsInside (first_before t) base old
-    → ExecutesInside 0 (first_create_sql t) [] old new (Err e) → DeviceHasCause old new e
-make_cause t base old new e has h =
+ordinary_create : IsOrdinary CreateTable
+ordinary_create = record { quiet = refl; plain = refl; begins = λ e. cc; commits = λ e. cc; undoes = λ e. cc; releases = λ name e. cc; goes_back = λ name e. cc }
+
+ordinary_drop : (place : ℕ) → IsOrdinary (DropTable place)
+ordinary_drop place = record { quiet = refl; plain = refl; begins = λ e. cc; commits = λ e. cc; undoes = λ e. cc; releases = λ name e. cc; goes_back = λ name e. cc }
+
+ordinary_insert : (place : ℕ) (t : Table) → IsOrdinary (Insert place (Values (insert_terms t) (width t)))
+ordinary_insert place t = record { quiet = refl; plain = refl; begins = λ e. cc; commits = λ e. cc; undoes = λ e. cc; releases = λ name e. cc; goes_back = λ name e. cc }
+
+pub make_fails : (t : Table) (base : Database) (old new : State) (e : Error) → IsInside (first_before t) base old
+    → ExecutesInside 0 (first_create_sql t) [] old new (Err e) → FailsFor (RefusesToBegin old.step_limit base) old new e
+make_fails t base old new e has h =
     let is = create_means (first_before t) t (unused t) in
-    by_statement (first_before t) (first_create_sql t) [] CreateTable is.0.plain is.0.is refl refl
-    (λ s text. tame_create s.step_limit (mode_of s) [] s.now text) old new e has.0 h
+    refused_as (RefusesToMake old.step_limit old.now t) (RefusesToBegin old.step_limit base) old new e
+    (λ refused. record { db = old.now; table = t; schema = has.0; refused = refused })
+    (caused_by old new [] (first_create_sql t) CreateTable e (subst (λ text. IsStopped old new [] text CreateTable e) is.1
+    (stopped (first_before t) (first_create_sql t) [] CreateTable is.0.whole is.0.plain is.0.is ordinary_create old new e
+    has.0 h)))
 
 module _ (t : Table) (base : Database) (old new : State) (has : IsLosing (later t) base old) where
   abbrev trees : Table → ℕ
@@ -85,18 +103,41 @@ module _ (t : Table) (base : Database) (old new : State) (has : IsLosing (later 
         mode = h.1.mode;
       }
 
-  pub drop_cause : (e : Error) → ExecutesInside 0 (drop_sql t) [] old new (Err e) → DeviceHasCause old new e
-  drop_cause e h = by_statement before (drop_sql t) [] (DropTable here.0) drop_is.plain drop_is.is refl refl
-      (λ s text. tame_drop s.step_limit (mode_of s) [] s.now text here.0) old new e has.schema h
+  pub drop_fails : (e : Error) → ExecutesInside 0 (drop_sql t) [] old new (Err e)
+      → FailsFor (RefusesToLose old.step_limit base) old new e
+  drop_fails e h =
+      let text = statement_of (drop_sql t) (understood before (drop_sql t)) in
+      refused_as (IsRefused old.step_limit [] old.now text (DropTable here.0)) (RefusesToLose old.step_limit base) old new e
+      (λ refused. record {
+        can = has.can;
+        db = old.now;
+        table = t;
+        schema = has.schema;
+        others = has.others;
+        refused = (
+          here.0,
+          subst (λ (s : Schema). table_named s (name t) ≡ Some here.0) (sym has.schema) here.1.named,
+          refused,
+        );
+      })
+      (caused_by old new [] text (DropTable here.0) e (stopped before (drop_sql t) [] (DropTable here.0) drop_is.whole
+      drop_is.plain drop_is.is (ordinary_drop here.0) old new e has.schema h))
 
-pub insert_cause : (t : Table) (cells : Row) (old new : State) (e : Error) → IsPlan old
-    → ExecutesInside 0 (insert_sql t) cells old new (Err e) → DeviceHasCause old new e
-insert_cause t cells old new e plan h =
+pub insert_fails : (t : Table) (cells : Row) (old new : State) (e : Error) → IsPlan old
+    → length cells ≡ length (column_names t) → ExecutesInside 0 (insert_sql t) cells old new (Err e)
+    → FailsFor (RefusesRow old.step_limit old.now t cells) old new e
+insert_fails t cells old new e plan whole h =
     let has = plan.schema in
-    let means = insert_means old.now.schema (has.at t) (has.trees t) t (has.stands t) in
-    by_statement old.now.schema (insert_sql t) cells (Insert (has.at t) (Values (insert_terms t) (width t))) means.plain
-    means.is refl refl (λ s text. tame_insert s.step_limit (mode_of s) cells s.now text (has.at t) (insert_terms t)
-    (width t)) old new e refl h
+    let schema = old.now.schema in
+    let sql = insert_sql t in
+    let command = Insert (has.at t) (Values (insert_terms t) (width t)) in
+    let text = statement_of sql (understood schema sql) in
+    let means = insert_means schema (has.at t) (has.trees t) t (has.stands t) in
+    refused_as (IsRefused old.step_limit cells old.now text command) (RefusesRow old.step_limit old.now t cells) old new e
+    (λ refused. (has.at t, (has.stands t).named, refused))
+    (caused_by old new cells text command e (stopped schema sql cells command
+    (subst (IsWhole (understood schema sql) (length sql)) (sym whole) means.whole) means.plain means.is
+    (ordinary_insert (has.at t) t) old new e refl h))
 
 -- the rows are read
 pub reads : (t : Table) (old new : State) (rows : List Row) → HasFirstTables old.now.schema → IsLive old

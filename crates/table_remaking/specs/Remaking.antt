@@ -1,25 +1,30 @@
 -- The rows of the tables of schema 1, as those of schema 2 take them.
-use Rattle.std.specs.Prelude.{◌≡◌, List, [], ◌∷◌, ◌++◌, map, fold, pos, Result, IfErr, OnOk, IsTrue}
+use Rattle.std.specs.Prelude.{◌≡◌, ◌⊎◌, ℕ, List, [], ◌∷◌, ◌++◌, map, fold, pos, Option, Some, Result, IfErr, OnOk, IsTrue}
 use Rattle.std.specs.List.{All}
 use Rattle.std.specs.List.Sorted.{IsPermutation}
 use Rattle.sqlite.specs.Change.{KeepsRows}
-use Rattle.sqlite.specs.Effect.{Database}
+use Rattle.sqlite.specs.Command.TheVariants.{Insert}
+use Rattle.sqlite.specs.Effect.{Database, IsDatabase}
 use Rattle.sqlite.specs.Order.{Row}
+use Rattle.sqlite.specs.Schema.{Schema}
+use Rattle.sqlite.specs.Source.TheVariants.{Values}
 use Rattle.sqlite.specs.declared.types.Value.TheVariants.{Null, Int}
 use Rattle.sqlite.specs.State.{HasCleanDisk, KeepsCommit, State, Survives}
 use Rattle.sqlite.specs.Store.{Ghosts}
 use Rattle.sqlite.specs.Tree.{Trees}
 use Rattle.sqlite.specs.declared.error.Error.{Error}
 use Rattle.sqlite.specs.declared.transaction.Transaction.{Transaction}
+use Rattle.sqlite_schema.specs.Names.{table_named}
+use Rattle.table_schema.specs.Cells.{insert_terms, width}
 use Rattle.table_schema.specs.Free.{with_plan}
-use Rattle.table_schema.specs.Rows.{IsPlan, Tables, no_rows, shown, tables_of, with_cells}
+use Rattle.table_schema.specs.Rows.{HaveRowids, IsPlan, Tables, no_rows, shown, tables_of, with_cells}
 use Rattle.table_schema.specs.Writes.{seen}
-use Rattle.table_schema.specs.Schema.{all_tables}
+use Rattle.table_schema.specs.Schema.{HasTables, all_tables, name}
 use Rattle.table_schema.specs.declared.tables.Table.{Table}
 use Rattle.table_schema.specs.declared.tables.Table.TheVariants.{Meta, Predecessor, LinkInForce}
 use Rattle.table_schema.specs.declared.tables.TheConstants.{SCHEMA_VERSION}
 use Rattle.table_remaking.specs.FirstSchema.{CanRemake, without}
-use Rattle.table_remaking.specs.Turns.{DeviceHasCause}
+use Rattle.table_remaking.specs.Refusals.{FailsFor, IsRefused, RefusesToLose}
 use Rattle.table_remaking.specs.Types.{AreFirst}
 use Rattle.table_remaking.specs.declared.rows.FirstRows.{FirstRows}
 
@@ -72,34 +77,69 @@ pub record IsRemadeOf (old new : Database) : Type 0 where
   pub schema : new.schema ≡ with_plan (without can.has.trees all_tables old.schema)
   pub others : KeepsRows (without can.has.trees all_tables old.schema).tables old.trees new.trees
 
--- the tables beside those of schema 1 keep their rows
-abbrev pub KeepsOthers : Database → Trees → Type 0
-KeepsOthers old db = (can : CanRemake old.schema)
-    × KeepsRows (without can.has.trees all_tables old.schema).tables old.trees db
+-- they stand there so in a database that keeps its rules, and show the rows
+pub record RemakesTo (reads : List FirstRows) (old : Database) (db : Trees) : Type 0 where
+  pub schema : Schema
+  pub remade : IsRemadeOf old (record { schema = schema; trees = db })
+  pub obeys : IsDatabase (record { schema = schema; trees = db })
+  pub plan : HasTables schema
+  pub rowids : (t : Table) → HaveRowids (tables_of db t)
+  pub rows : AreRemade reads (tables_of db)
+
+-- ---- what is refused
+
+-- the database refuses a row of these values
+abbrev pub RefusesRow : Option ℕ → Database → Table → Row → Error → Type 0
+RefusesRow limit db t cells e = (at : ℕ) × (table_named db.schema (name t) ≡ Some at)
+    × IsRefused limit cells db [] (Insert at (Values (insert_terms t) (width t))) e
+
+-- on the way to these rows of the tables one can't be put in: with it and those after it they would be whole
+pub record RefusesToFill (limit : Option ℕ) (schema : Schema) (goal : Tables) (e : Error) : Type 0 where
+  pub db : Database
+  pub same : db.schema ≡ schema
+  pub table : Table
+  pub row : Row
+  pub rows : List Row
+  pub reads : List FirstRows
+  pub next : with_all_put reads (with_rows_put table (row ∷ rows) (tables_of db.trees)) ≡ goal
+  pub refused : RefusesRow limit db table (remade_row table row) e
+
+-- of the tables of schema 1 one can't go, or a row can't be put into those that stand in their place
+abbrev pub RefusesToRemake : Option ℕ → List FirstRows → Database → Error → Type 0
+RefusesToRemake limit reads base e = RefusesToLose limit base e ⊎ ((can : CanRemake base.schema)
+    × RefusesToFill limit (with_plan (without can.has.trees all_tables base.schema)) (with_all_put reads no_rows) e)
+
+-- ---- inside a transaction
 
 -- in a transaction the database has the tables of a plan in their place, and these show the rows
 pub record IsRemadeInside (reads : List FirstRows) (base : Database) (s : State) : Type 0 where
   pub remade : IsRemadeOf base s.now
   pub plan : IsPlan s
   pub rows_are : tables_of s.now.trees ≡ with_all_put reads no_rows
+  pub obeys : IsDatabase s.now
   pub mode : IsTrue s.in_transaction
 
--- over the tables of a plan an error tells of the device with cause alone, and an Ok leaves the connection open
-pub record PutsWhere {S T : Type 0} (Fit : Type 0) (g : Ghosts S) (old new : Transaction S) (result : Result T Error)
-    : Type 0 where
-  pub device : HasCleanDisk (seen g new) → IsPlan (seen g old) → IsTrue (seen g old).in_transaction
-      → IsTrue (seen g old).is_open → Fit → IfErr result (DeviceHasCause (seen g old) (seen g new))
+-- over the tables of a plan it fails for a common cause or since this is refused; an Ok leaves the connection open, and
+-- a database that keeps its rules
+pub record PutsWhere {S T : Type 0} (Fit : Type 0) (Refused : Option ℕ → Database → Error → Type 0) (g : Ghosts S)
+    (old new : Transaction S) (result : Result T Error) : Type 0 where
+  pub fails : HasCleanDisk (seen g new) → IsPlan (seen g old) → IsTrue (seen g old).in_transaction
+      → IsTrue (seen g old).is_open → Fit
+      → IfErr result (FailsFor (Refused (seen g old).step_limit (seen g old).now) (seen g old) (seen g new))
   pub stays_open : HasCleanDisk (seen g new) → IsPlan (seen g old) → IsTrue (seen g old).in_transaction
       → IsTrue (seen g old).is_open → Fit → OnOk result (IsTrue (seen g new).is_open)
+  pub obeys : HasCleanDisk (seen g new) → IsPlan (seen g old) → IsTrue (seen g old).in_transaction → Fit
+      → IsDatabase (seen g old).now → OnOk result (IsDatabase (seen g new).now)
 
--- of the tables of schema 1 an Ok makes such; an error tells of the device with cause alone, and nothing is committed
+-- of the tables of schema 1 an Ok makes such; it fails for a common cause or since that is refused, and nothing is
+-- committed
 pub record Remakes {S T : Type 0} (g : Ghosts S) (old new : Transaction S) (result : Result T Error)
     (reads : List FirstRows) : Type 0 where
   pub same_reference : new.conn.ghost_name ≡ old.conn.ghost_name
   pub ok : HasCleanDisk (seen g new) → (base : Database) → CanRemakeInside base (seen g old) → AreAllFirst reads
       → OnOk result (IsRemadeInside reads base (seen g new))
-  pub device : HasCleanDisk (seen g new) → (base : Database) → CanRemakeInside base (seen g old) → AreAllFirst reads
-      → IfErr result (DeviceHasCause (seen g old) (seen g new))
+  pub fails : HasCleanDisk (seen g new) → (base : Database) → CanRemakeInside base (seen g old) → AreAllFirst reads
+      → IfErr result (FailsFor (RefusesToRemake (seen g old).step_limit reads base) (seen g old) (seen g new))
   pub stays_open : HasCleanDisk (seen g new) → (base : Database) → CanRemakeInside base (seen g old) → AreAllFirst reads
       → OnOk result (IsTrue (seen g new).is_open)
   pub kept : HasCleanDisk (seen g new) → KeepsCommit (seen g old) (seen g new)

@@ -1,5 +1,5 @@
 -- What statements on a transaction make of tables of schema 1.
-use Rattle.std.specs.Prelude.{◌≡◌, ◌⊎◌, Bool, true, false, List, Result, IfErr, OnOk, IsTrue}
+use Rattle.std.specs.Prelude.{◌≡◌, ◌⊎◌, ℕ, Bool, true, false, List, Option, Result, IfErr, OnOk, IsTrue}
 use Rattle.sqlite.specs.Change.{KeepsRows}
 use Rattle.sqlite.specs.Effect.{Database}
 use Rattle.sqlite.specs.Schema.{Schema}
@@ -13,6 +13,7 @@ use Rattle.sqlite_disk.specs.Disk.{MoreFaults}
 use Rattle.table_schema.specs.Writes.{seen}
 use Rattle.table_schema.specs.declared.tables.Table.{Table}
 use Rattle.table_remaking.specs.FirstSchema.{CanRemake, without}
+use Rattle.table_remaking.specs.Refusals.{FailsFor}
 
 -- the error tells of the device, or that the connection is shut
 abbrev pub is_of_device : Error → Bool
@@ -38,15 +39,15 @@ pub record IsLosing (gone : List Table) (base : Database) (s : State) : Type 0 w
   pub others : KeepsRows s.now.schema.tables base.trees s.now.trees
   pub mode : IsTrue s.in_transaction
 
--- Whatever it began with, of such a state an Ok makes one of those; an error tells of the device with cause alone, and
--- nothing is committed.
+-- Whatever it began with, of such a state an Ok makes one of those; it fails for a common cause or since this is
+-- refused, and nothing is committed.
 pub record Turns {S T : Type 0} (g : Ghosts S) (old new : Transaction S) (result : Result T Error)
-    (Before After : Database → State → Type 0) : Type 0 where
+    (Before After : Database → State → Type 0) (Refused : Option ℕ → Database → Error → Type 0) : Type 0 where
   pub same_reference : new.conn.ghost_name ≡ old.conn.ghost_name
   pub ok : HasCleanDisk (seen g new) → (base : Database) → Before base (seen g old)
       → OnOk result (After base (seen g new))
-  pub device : HasCleanDisk (seen g new) → (base : Database) → Before base (seen g old)
-      → IfErr result (DeviceHasCause (seen g old) (seen g new))
+  pub fails : HasCleanDisk (seen g new) → (base : Database) → Before base (seen g old)
+      → IfErr result (FailsFor (Refused (seen g old).step_limit base) (seen g old) (seen g new))
   pub stays_open : HasCleanDisk (seen g new) → (base : Database) → Before base (seen g old)
       → OnOk result (IsTrue (seen g new).is_open)
   pub kept : HasCleanDisk (seen g new) → KeepsCommit (seen g old) (seen g new)

@@ -6,6 +6,7 @@ ghost use Rattle.sqlite.specs.Held.{state};
 ghost use Rattle.table_schema.specs.Schema.{no_schema};
 ghost use Rattle.table_schema.specs.declared.tables.Table.TheVariants as table;
 ghost use Rattle.table_remaking.specs.FirstSchema.{first_after, first_before, first_schema};
+ghost use Rattle.table_remaking.specs.Refusals.{RefusesToBegin};
 ghost use Rattle.table_remaking.specs.Turns.{IsInside, Turns};
 
 use crate::texts::first_create_text;
@@ -15,7 +16,7 @@ use table_schema::Table;
 // Makes the table, which is the next.
 fn make<S: Alter>(tx: &mut Transaction<'_, S>, table: Table) -> Result<(), Error>
     ensures { Turns S.Store tx.old tx.new result (IsInside (first_before table))
-        (IsInside (first_after table)) }
+        (IsInside (first_after table)) RefusesToBegin }
 {
     tx.execute(first_create_text(table), &[])?;
     Ok(())
@@ -23,7 +24,7 @@ fn make<S: Alter>(tx: &mut Transaction<'_, S>, table: Table) -> Result<(), Error
 
 fn make_definitions<S: Alter>(tx: &mut Transaction<'_, S>) -> Result<(), Error>
     ensures { Turns S.Store tx.old tx.new result (IsInside no_schema)
-        (IsInside (first_after table.Application)) }
+        (IsInside (first_after table.Application)) RefusesToBegin }
 {
     make(tx, Table::Meta)?;
     make(tx, Table::CalendarEntry)?;
@@ -33,7 +34,7 @@ fn make_definitions<S: Alter>(tx: &mut Transaction<'_, S>) -> Result<(), Error>
 
 fn make_cycles<S: Alter>(tx: &mut Transaction<'_, S>) -> Result<(), Error>
     ensures { Turns S.Store tx.old tx.new result (IsInside (first_before table.RunCycle))
-        (IsInside (first_after table.LinkInForce)) }
+        (IsInside (first_after table.LinkInForce)) RefusesToBegin }
 {
     make(tx, Table::RunCycle)?;
     make(tx, Table::Offset)?;
@@ -43,7 +44,7 @@ fn make_cycles<S: Alter>(tx: &mut Transaction<'_, S>) -> Result<(), Error>
 
 fn make_rows<S: Alter>(tx: &mut Transaction<'_, S>) -> Result<(), Error>
     ensures { Turns S.Store tx.old tx.new result (IsInside (first_before table.LongTerm))
-        (IsInside (first_after table.Deletion)) }
+        (IsInside (first_after table.Deletion)) RefusesToBegin }
 {
     make(tx, Table::LongTerm)?;
     make(tx, Table::Current)?;
@@ -53,14 +54,15 @@ fn make_rows<S: Alter>(tx: &mut Transaction<'_, S>) -> Result<(), Error>
 
 fn make_rest<S: Alter>(tx: &mut Transaction<'_, S>) -> Result<(), Error>
     ensures { Turns S.Store tx.old tx.new result (IsInside (first_before table.Dependency))
-        (IsInside first_schema) }
+        (IsInside first_schema) RefusesToBegin }
 {
     make(tx, Table::Dependency)?;
     make(tx, Table::Job)
 }
 
 fn make_all<S: Alter>(tx: &mut Transaction<'_, S>) -> Result<(), Error>
-    ensures { Turns S.Store tx.old tx.new result (IsInside no_schema) (IsInside first_schema) }
+    ensures { Turns S.Store tx.old tx.new result (IsInside no_schema) (IsInside first_schema)
+        RefusesToBegin }
 {
     make_definitions(tx)?;
     make_cycles(tx)?;

@@ -5,8 +5,9 @@ ghost use Rattle.sqlite.specs.State.{HasCleanDisk, Survives};
 ghost use Rattle.sqlite.specs.Held.{state};
 ghost use Rattle.table_schema.specs.Rows.{IsPlan, tables_of};
 ghost use Rattle.table_remaking.specs.FirstSchema.{CanRemake};
-ghost use Rattle.table_remaking.specs.Remaking.{AreAllFirst, AreRemade, AreWhole, IsRemadeOf, KeepsOthers};
-ghost use Rattle.table_remaking.specs.Remaking.{Remakes};
+ghost use Rattle.table_remaking.specs.Refusals.{FailsFor};
+ghost use Rattle.table_remaking.specs.Remaking.{AreAllFirst, AreRemade, AreWhole, IsRemadeOf, Remakes};
+ghost use Rattle.table_remaking.specs.Remaking.{RefusesToRemake, RemakesTo};
 ghost use Rattle.table_remaking.specs.Turns.{DeviceHasCause};
 
 use crate::dropping::drop_all;
@@ -51,6 +52,10 @@ pub fn remake_tables<S: Alter>(
         → IsTrue (state S.Store conn.new).is_open → OnErr result
         (((state S.Store conn.new).now ≡ (state S.Store conn.old).now)
         × ((state S.Store conn.new).committed ≡ (state S.Store conn.old).committed)) }
+    ensures fails { HasCleanDisk (state S.Store conn.new)
+        → CanRemake (state S.Store conn.old).now.schema
+        → IfErr result (FailsFor (RefusesToRemake (state S.Store conn.old).step_limit reads.now
+        (state S.Store conn.old).now) (state S.Store conn.old) (state S.Store conn.new)) }
     ensures device { HasCleanDisk (state S.Store conn.new)
         → CanRemake (state S.Store conn.old).now.schema
         → IfErr result (DeviceHasCause (state S.Store conn.old) (state S.Store conn.new)) }
@@ -58,8 +63,8 @@ pub fn remake_tables<S: Alter>(
     ensures stays_open { HasCleanDisk (state S.Store conn.new) → OnOk result (IsTrue
         (state S.Store conn.new).is_open) }
     ensures crash { Survives (state S.Store conn.old) (state S.Store conn.new)
-        (λ db. CanRemake (state S.Store conn.old).now.schema → AreRemade reads.now (tables_of db)
-        × KeepsOthers (state S.Store conn.old).now db) }
+        (λ db. CanRemake (state S.Store conn.old).now.schema
+        → RemakesTo reads.now (state S.Store conn.old).now db) }
 {
     let settled = conn.is_autocommit();
     prove!(settled);

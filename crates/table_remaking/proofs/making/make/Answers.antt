@@ -1,8 +1,8 @@
 use Rattle.std.proofs.Common.{rules, subst, sym}
 use Rattle.sqlite.specs.Held.{state}
 use Rattle.table_schema.proofs.ResultLemmas.{if_from}
-use Rattle.table_remaking.specs.Turns.{DeviceHasCause}
-use Rattle.table_remaking.proofs.StepLemmas.{make_cause, makes}
+use Rattle.table_remaking.specs.Refusals.{FailsFor, RefusesToBegin}
+use Rattle.table_remaking.proofs.StepLemmas.{make_fails, makes}
 use Rattle.table_remaking.proofs.making.make.Goals as goal
 
 pub returns : goal.returns
@@ -12,7 +12,7 @@ returns g c = record {
       makes c.args.table base (state g.S.Store c.args.tx.now.conn.now) (state g.S.Store c.execute.new.self.conn.now)
       c.in_ok-execute.field-0 has
       (rw c.first_create_text.ensures at (c.in_ok-execute.ensures.runs clean has.1));
-  device = search rules;
+  fails = search rules;
   stays_open = search rules;
   kept = search rules;
   survives = search rules;
@@ -22,12 +22,12 @@ pub returns-in_err-execute : goal.returns-in_err-execute
 returns-in_err-execute g c = record {
   same_reference = search rules;
   ok = search rules;
-  device = λ clean base has.
+  fails = λ clean base has.
       let old = state g.S.Store c.args.tx.now.conn.now in
       let new = state g.S.Store c.execute.new.self.conn.now in
-      let caused = make_cause c.args.table base old new c.in_err-execute.field-0.0 has
+      let caused = make_fails c.args.table base old new c.in_err-execute.field-0.0 has
       (rw c.first_create_text.ensures at (c.in_err-execute.ensures.runs clean has.1)) in
-      if_from c.from_residual.result _ _ (λ e same. subst (DeviceHasCause old new) (sym same) caused)
+      if_from c.from_residual.result _ _ (λ e same. subst (FailsFor (RefusesToBegin old.step_limit base) old new) (sym same) caused)
       c.from_residual.ensures.1;
   stays_open = search rules;
   kept = search rules;

@@ -1,16 +1,18 @@
-use Rattle.std.proofs.Common.{arith, rules, subst, sym}
+use Rattle.std.proofs.Common.{List, arith, rules, subst, sym}
 use Rattle.std.proofs.lemmas.List.Elements.{All-contains}
 use Rattle.sqlite.specs.Held.{state}
+use Rattle.sqlite.specs.Order.{Row}
 use Rattle.sqlite.specs.State.{HasCleanDisk}
+use Rattle.sqlite.specs.declared.error.Error.{Error}
 use Rattle.sqlite.proofs.InsideLemmas.{keeps_then}
 use Rattle.table_schema.specs.Rows.{Stands, Tables, tables_of}
-use Rattle.table_remaking.specs.Remaking.{with_rows_put}
+use Rattle.table_remaking.specs.Refusals.{FailsFor}
+use Rattle.table_remaking.specs.Remaking.{RefusesToFill, with_all_put, with_rows_put}
 use Rattle.table_remaking.specs.Types.{AreFirst}
 use Rattle.table_remaking.specs.declared.rows.FirstRows.{FirstRows}
 use Rattle.table_schema.proofs.ResultLemmas.{if_from}
-use Rattle.table_remaking.specs.Turns.{DeviceHasCause}
-use Rattle.table_remaking.proofs.CauseLemmas.{cause_after}
-use Rattle.table_remaking.proofs.TurnLemmas.{fold_on, item_contains, stands_on, survives_both}
+use Rattle.table_remaking.proofs.CauseLemmas.{fails_after}
+use Rattle.table_remaking.proofs.TurnLemmas.{fold_on, item_contains, stands_on, survives_both, table_refused}
 use Rattle.table_remaking.proofs.putting.put_all.Goals as goal
 
 pub loop-read-preserved : goal.loop-read-preserved
@@ -32,6 +34,14 @@ loop-read-preserved g c =
           (subst (AreFirst read.table) (sym c.deref.ensures.value)
           (All-contains (λ (one : FirstRows). AreFirst one.table one.rows.items) c.args.reads.now read typed
           (item_contains _ c.loop-read.read-index read (omega arith) c.read-item.is)));
+      obeys = λ clean plan mode typed obeys.
+          let calm : HasCleanDisk mid = omega (arith, c.put_rows.ensures.writes.survives.clean) in
+          let before = c.loop-read.invariant.leaves calm plan mode typed in
+          c.in_ok-put_rows.ensures.puts.obeys clean before.0.plan before.0.mode
+          (subst (AreFirst read.table) (sym c.deref.ensures.value)
+          (All-contains (λ (one : FirstRows). AreFirst one.table one.rows.items) c.args.reads.now read typed
+          (item_contains _ c.loop-read.read-index read (omega arith) c.read-item.is)))
+          (c.loop-read.invariant.obeys calm plan mode typed obeys);
       leaves = λ clean plan mode typed.
           let before = c.loop-read.invariant.leaves (omega
           (arith, c.put_rows.ensures.writes.survives.clean)) plan mode typed in
@@ -50,20 +60,29 @@ loop-read-preserved g c =
 
 pub returns-in_err-put_rows-clause-puts : goal.returns-in_err-put_rows-clause-puts
 returns-in_err-put_rows-clause-puts g c = record {
-  device = λ clean plan mode up typed.
+  fails = λ clean plan mode up typed.
       let old = state g.S.Store c.args.tx.now.conn.now in
       let mid = state g.S.Store c.loop-read.tx.conn.now in
       let new = state g.S.Store c.put_rows.new.tx.conn.now in
       let read = c.read-item.result in
+      let e = c.in_err-put_rows.field-0.0 in
       let calm : HasCleanDisk mid = omega (arith, c.put_rows.ensures.writes.survives.clean) in
       let before = c.loop-read.invariant.leaves calm plan mode typed in
-      let caused = c.in_err-put_rows.ensures.puts.device clean before.0.plan before.0.mode
+      let survives = c.loop-read.invariant.survives in
+      let caused = c.in_err-put_rows.ensures.puts.fails clean before.0.plan before.0.mode
       (c.loop-read.invariant.opened calm plan mode up typed)
       (subst (AreFirst read.table) (sym c.deref.ensures.value)
       (All-contains (λ (one : FirstRows). AreFirst one.table one.rows.items) c.args.reads.now read typed
       (item_contains _ c.loop-read.read-index read (omega arith) c.read-item.is))) in
-      if_from c.from_residual.result _ _ (λ e same. subst (DeviceHasCause old new) (sym same)
-      (cause_after old mid new c.in_err-put_rows.field-0.0 c.loop-read.invariant.survives.counts
-      (c.loop-read.invariant.opened calm plan mode up typed) caused)) c.from_residual.ensures.1;
+      let Refused = RefusesToFill old.step_limit old.now.schema (with_all_put c.args.reads.now (tables_of old.now.trees)) in
+      let here : List Row → Error → Type 0 = λ rows. RefusesToFill mid.step_limit mid.now.schema
+      (with_rows_put read.table rows (tables_of mid.now.trees)) in
+      if_from c.from_residual.result _ _ (λ f same. subst (FailsFor Refused old new) (sym same)
+      (fails_after (here read.rows.items) Refused old mid new e
+      (table_refused old mid c.args.reads.now c.loop-read.read-index read e (omega arith) c.read-item.is survives.limit
+      before) survives.counts (c.loop-read.invariant.opened calm plan mode up typed) survives.limit
+      (subst (λ rows. FailsFor (here rows) mid new e) c.deref.ensures.value caused)))
+      c.from_residual.ensures.1;
   stays_open = search rules;
+  obeys = search rules;
 }

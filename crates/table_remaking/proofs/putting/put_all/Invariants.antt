@@ -1,4 +1,5 @@
 use Rattle.std.proofs.Common.{◌≡◌, drop, IsTrue}
+use Rattle.sqlite.specs.Effect.{IsDatabase}
 use Rattle.sqlite.specs.State.{HasCleanDisk, KeepsCommit, Survives}
 use Rattle.sqlite.specs.Held.{state}
 use Rattle.table_schema.specs.Rows.{IsPlan, tables_of}
@@ -16,6 +17,8 @@ invariant-loop-read g l =
       survives : Survives old now (λ _. ⊥);
       opened : HasCleanDisk now → IsPlan old → IsTrue old.in_transaction → IsTrue old.is_open → AreAllFirst l.reads
           → IsTrue now.is_open;
+      obeys : HasCleanDisk now → IsPlan old → IsTrue old.in_transaction → AreAllFirst l.reads → IsDatabase old.now
+          → IsDatabase now.now;
       leaves : HasCleanDisk now → IsPlan old → IsTrue old.in_transaction → AreAllFirst l.reads
           → IsOnWay old now (with_all_put (drop l.read-index l.reads)) (with_all_put l.reads (tables_of old.now.trees));
     }
