@@ -32,11 +32,11 @@ use Rattle.sqlite_schema.specs.declared.schema.Keys.{Keys}
 use Rattle.sqlite_trees.specs.declared.error.StoreError.{StoreError}
 use Rattle.sqlite_trees.specs.declared.error.StoreError.TheVariants.{Broken, Corrupt, Full, Io, OutOfMemory, Unstorable}
 use Rattle.table_schema.specs.Cells.{insert_terms, width}
-use Rattle.table_schema.specs.Rows.{MayFail}
+use Rattle.table_schema.specs.Rows.{MayFail, Tables}
 use Rattle.table_schema.specs.declared.tables.Table.{Table}
 use Rattle.table_schema.proofs.StopLemmas.{IsStopped, vain_after, vain_before}
 use Rattle.table_remaking.specs.Refusals.{FailsFor, IsRefused, RefusesToDrop, by_rule}
-use Rattle.table_remaking.specs.Remaking.{RefusesRow, RefusesToRemake, remade_row}
+use Rattle.table_remaking.specs.Remaking.{RefusesRow, RefusesToFill, RefusesToRemake, remade_row}
 use Rattle.table_remaking.specs.Turns.{DeviceHasCause, is_of_device}
 use Rattle.table_remaking.specs.declared.rows.FirstRows.{FirstRows}
 
@@ -206,11 +206,14 @@ calm_row limit db t cells e (at, named, inl h) =
     tame_insert limit by_rule cells db [] at (insert_terms t) (width t) e h
 calm_row limit db t cells e (at, named, inr h) = ap is_of_device h.0
 
+pub calm_fill : (limit : Option ℕ) (schema : Schema) (goal : Tables) (e : Error) → RefusesToFill limit schema goal e
+    → is_of_device e ≡ false
+calm_fill limit schema goal e h = calm_row limit h.db h.table (remade_row h.table h.row) e h.refused
+
 pub calm_remake : (limit : Option ℕ) (reads : List FirstRows) (base : Database) (e : Error)
     → RefusesToRemake limit reads base e → is_of_device e ≡ false
 calm_remake limit reads base e (inl h) = calm_drop limit h.db h.table e h.refused
-calm_remake limit reads base e (inr h) =
-    calm_row limit h.1.db h.1.table (remade_row h.1.table h.1.row) e h.1.refused
+calm_remake limit reads base e (inr h) = calm_fill limit _ _ e h.1
 
 -- so one that tells of the device has that cause
 pub device_cause : (Refused : Error → Type 0) (a b : State) (e : Error) → (Refused e → is_of_device e ≡ false)

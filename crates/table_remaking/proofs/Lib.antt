@@ -8,3 +8,4 @@ pub mod ShowLemmas
 pub mod TurnLemmas
 pub mod WithoutLemmas
 pub mod LeavingLemmas
+pub mod FillLemmas

@@ -148,16 +148,19 @@ pub fill_refused : (old one two : State) (reads : List FirstRows) (base : Databa
     → two.step_limit ≡ old.step_limit → IsLosing all_tables base one → IsMadeWhole one.now two
     → RefusesToFill two.step_limit two.now.schema (with_all_put reads (tables_of two.now.trees)) e
     → RefusesToRemake old.step_limit reads base e
-fill_refused old one two reads base e limit lost made h = inr (lost.can, record {
-  db = h.db;
-  same = h.same ∙ made.schema ∙ ap with_plan lost.schema;
-  table = h.table;
-  row = h.row;
-  rows = h.rows;
-  reads = h.reads;
-  next = h.next ∙ ap (with_all_put reads) made.rows_are;
-  refused = subst (λ l. RefusesRow l h.db h.table (remade_row h.table h.row) e) limit h.refused;
-})
+fill_refused old one two reads base e limit lost made h = inr (
+  lost.can,
+  record {
+    db = h.db;
+    same = h.same ∙ made.schema ∙ ap with_plan lost.schema;
+    table = h.table;
+    row = h.row;
+    rows = h.rows;
+    reads = h.reads;
+    next = h.next ∙ ap (with_all_put reads) made.rows_are;
+    refused = subst (λ l. RefusesRow l h.db h.table (remade_row h.table h.row) e) limit h.refused;
+  },
+)
 
 -- a transaction begins
 pub begins_remaking : {S : Type 0} (g : Ghosts S) (conn begun : Held S) → begun ≡ record conn { in_transaction = true }

@@ -17,6 +17,7 @@ use Rattle.sqlite.specs.declared.transaction.Transaction.{Transaction}
 use Rattle.sqlite_schema.specs.Names.{table_named}
 use Rattle.table_schema.specs.Cells.{insert_terms, width}
 use Rattle.table_schema.specs.Free.{with_plan}
+use Rattle.table_schema.specs.Made.{IsReady}
 use Rattle.table_schema.specs.Rows.{HaveRowids, IsPlan, Tables, no_rows, shown, tables_of, with_cells}
 use Rattle.table_schema.specs.Writes.{seen}
 use Rattle.table_schema.specs.Schema.{HasTables, all_tables, name}
@@ -130,6 +131,21 @@ pub record PutsWhere {S T : Type 0} (Fit : Type 0) (Refused : Option ℕ → Dat
       → IsTrue (seen g old).is_open → Fit → OnOk result (IsTrue (seen g new).is_open)
   pub obeys : HasCleanDisk (seen g new) → IsPlan (seen g old) → IsTrue (seen g old).in_transaction → Fit
       → IsDatabase (seen g old).now → OnOk result (IsDatabase (seen g new).now)
+
+-- where nothing is in the way of the tables of a plan an Ok makes them with these rows; it fails for a common cause or
+-- since one of the rows is refused
+pub record Fills {S T : Type 0} (g : Ghosts S) (old new : Transaction S) (result : Result T Error)
+    (reads : List FirstRows) : Type 0 where
+  pub same_reference : new.conn.ghost_name ≡ old.conn.ghost_name
+  pub ok : HasCleanDisk (seen g new) → (base : Database) → IsReady base (seen g old) → AreAllFirst reads
+      → OnOk result (IsPlan (seen g new) × (tables_of (seen g new).now.trees ≡ with_all_put reads no_rows)
+      × IsTrue (seen g new).in_transaction)
+  pub fails : HasCleanDisk (seen g new) → (base : Database) → IsReady base (seen g old) → AreAllFirst reads
+      → IfErr result (FailsFor (RefusesToFill (seen g old).step_limit (with_plan base.schema) (with_all_put reads no_rows))
+      (seen g old) (seen g new))
+  pub stays_open : HasCleanDisk (seen g new) → (base : Database) → IsReady base (seen g old) → AreAllFirst reads
+      → OnOk result (IsTrue (seen g new).is_open)
+  pub survives : Survives (seen g old) (seen g new) (λ _. ⊥)
 
 -- of the tables of schema 1 an Ok makes such; it fails for a common cause or since that is refused, and nothing is
 -- committed

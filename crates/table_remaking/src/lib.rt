@@ -2,6 +2,7 @@
 #![tactic(auto)]
 
 mod dropping;
+mod filling;
 mod leaving;
 mod making;
 mod putting;
@@ -10,6 +11,7 @@ mod rows;
 mod texts;
 mod types;
 
+pub use filling::plan_in_memory;
 pub use leaving::left_without;
 pub use making::make_first_tables;
 pub use remaking::remake_tables;

@@ -1,6 +1,7 @@
 // The tables of schema 1 are made anew.
 
 ghost use Rattle.std.specs.Prelude.{◌≡◌, false, IfErr, IsTrue, OnErr, OnOk};
+ghost use Rattle.sqlite.specs.Effect.{IsDatabase};
 ghost use Rattle.sqlite.specs.State.{HasCleanDisk, Survives};
 ghost use Rattle.sqlite.specs.Held.{state};
 ghost use Rattle.table_schema.specs.Rows.{IsPlan, tables_of};
@@ -45,6 +46,9 @@ pub fn remake_tables<S: Alter>(
         → OnOk result (IsPlan (state S.Store conn.new)
         × IsRemadeOf (state S.Store conn.old).now (state S.Store conn.new).now
         × AreRemade reads.now (tables_of (state S.Store conn.new).now.trees)) }
+    ensures obeys { HasCleanDisk (state S.Store conn.new)
+        → CanRemake (state S.Store conn.old).now.schema
+        → OnOk result (IsDatabase (state S.Store conn.new).now) }
     ensures committed { HasCleanDisk (state S.Store conn.new)
         → OnOk result ((state S.Store conn.new).committed ≡ (state S.Store conn.new).now) }
     ensures kept { HasCleanDisk (state S.Store conn.new)

@@ -1,5 +1,5 @@
 use Rattle.std.proofs.Common.{◌≡◌, ◌∙◌, IfErr, IsTrue, inl, not, ap, arith, rules, subst, sym}
-use Rattle.sqlite.specs.Effect.{Database}
+use Rattle.sqlite.specs.Effect.{Database, IsDatabase}
 use Rattle.sqlite.specs.Held.{state}
 use Rattle.sqlite.specs.State.{HasCleanDisk, KeepsCommit, Survives}
 use Rattle.sqlite.specs.Tree.{Trees}
@@ -145,3 +145,18 @@ returns-clause-done g c clean can =
       remade_all c.args.reads.now (tables_of (state g.S.Store end).now.trees) c.requires.whole c.requires.typed
           (ap (λ (d : Database). tables_of d.trees) now ∙ made.rows_are),
     )
+
+pub returns-clause-obeys : goal.returns-clause-obeys
+returns-clause-obeys g c clean can =
+    let begun = c.transaction-tx.ensures.begun in
+    let old = state g.S.Store c.args.conn.now in
+    let start = c.transaction-tx.result.conn.now in
+    let mid = state g.S.Store c.remake.new.tx.conn.now in
+    let end = c.commit.new.self.0 in
+    let same : end ≡ c.conn-2-1.given.0 = search rules in
+    let calm_end : HasCleanDisk (state g.S.Store end) = subst (λ h. HasCleanDisk (state g.S.Store h)) (sym same) clean in
+    let calm : HasCleanDisk mid = omega (arith, calm_end, c.commit.ensures.survives.clean) in
+    let made = c.in_ok-remake.ensures.ok calm old.now (begins_remaking g.S.Store c.args.conn.now start begun can)
+    c.requires.typed in
+    subst (λ h. IsDatabase (state g.S.Store h).now) same (subst IsDatabase
+    (sym (c.in_ok-commit.ensures.ok calm_end).1.now_is) made.obeys)
