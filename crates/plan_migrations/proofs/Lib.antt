@@ -2,5 +2,8 @@ pub mod AskLemmas
 pub mod TextLemmas
 pub mod TurnLemmas
 pub mod ContentLemmas
+pub mod VersionLemmas
 pub mod ReadLemmas
+pub mod HoldLemmas
+pub mod OlderLemmas
 pub mod FirstStanding

@@ -1,6 +1,6 @@
 -- What is read of the tables of schema 1, and what is made of it.
-use Rattle.std.proofs.Common.{◌≡◌, ◌∙◌, ◌≤◌, ◌<◌, ◌+◌, get_or, inl, inr, ℕ, List, [], ◌∷◌, ◌++◌, map, length, take, IsTrue, refl, sym, subst}
-use Rattle.std.proofs.Common.{Result, Ok, Err}
+use Rattle.std.proofs.Common.{◌≡◌, ◌∙◌, ◌≤◌, ◌<◌, ◌+◌, ◌⊎◌, ap, get_or, inl, inr, ℕ, List, [], ◌∷◌, ◌++◌, map, length, take, IsTrue, refl, sym, subst}
+use Rattle.std.proofs.Common.{None, Result, Ok, Err, true≢false}
 use Rattle.std.specs.Prelude.{IfErr, OnErr, OnOk}
 use Rattle.std.specs.List.{All, AllByRecursion}
 use Rattle.std.specs.List.Sorted.{IsPermutation}
@@ -14,36 +14,44 @@ use Rattle.sqlite.specs.declared.error.Error.TheVariants.{SqliteFailure}
 use Rattle.sqlite.specs.declared.error.ErrorCode.TheVariants as code
 use Rattle.sqlite.specs.Tree.{Trees}
 use Rattle.sqlite.proofs.Callers.{unchanged_then}
-use Rattle.table_schema.specs.Rows.{Tables, shown, tables_of}
-use Rattle.table_schema.specs.Schema.{all_tables}
+use Rattle.planner_machine.specs.Content.{Content}
+use Rattle.table_schema.specs.Rows.{Tables, no_rows, shown, tables_of}
+use Rattle.table_schema.specs.Schema.{all_tables, plan_schema}
 use Rattle.table_schema.specs.declared.tables.Table.{Table}
 use Rattle.table_schema.specs.declared.tables.Table.TheVariants.{Meta, CalendarEntry, Period, Application, RunCycle}
 use Rattle.table_schema.specs.declared.tables.Table.TheVariants.{Offset, Predecessor, LinkInForce, LongTerm, Current}
 use Rattle.table_schema.specs.declared.tables.Table.TheVariants.{History, Deletion, Dependency, Job}
 use Rattle.table_remaking.specs.FirstSchema.{CanRemake, HasFirstTables, first_shown}
 use Rattle.table_remaking.specs.FirstTexts.{first_select_sql}
-use Rattle.table_remaking.specs.Remaking.{AreAllFirst, AreRemade, AreWhole, IsRemadeOf, KeepsOthers, remade_row, tables_in}
+use Rattle.table_remaking.specs.Refusals.{FailsFor}
+use Rattle.table_remaking.specs.Remaking.{AreAllFirst, AreRemade, AreWhole, IsRemadeOf, RefusesToRemake, RemakesTo}
+use Rattle.table_remaking.specs.Remaking.{remade_row, tables_in, with_all_put}
 use Rattle.table_remaking.specs.Turns.{DeviceHasCause, is_of_device}
 use Rattle.table_remaking.specs.Types.{AreFirst}
 use Rattle.table_opening.specs.Faults.{fault_for}
 use Rattle.table_opening.specs.declared.faults.OpenFault.TheVariants as OpenFault
 use Rattle.table_opening.specs.declared.faults.OpenFault.TheVariants.{Unopened}
 use Rattle.table_remaking.specs.declared.rows.FirstRows.{FirstRows}
+use Rattle.table_remaking.proofs.CauseLemmas.{calm_fill, fails_after}
 use Rattle.table_remaking.proofs.StepLemmas as step
 use Rattle.plan_migrations.specs.Asking.{IsKept}
-use Rattle.plan_migrations.specs.Migrating.{AreRenewed, AreShown, FailsToRead, FailsToReadAll, FailsToRemake, IsRemade}
-use Rattle.plan_migrations.specs.Migrating.{ChecksTables, IsMigrated, IsRenewed, MayRenew}
-use Rattle.plan_migrations.specs.Migrating.{IsUnmigrated, IsUnrenewed, RenewsFrom, TellsOf}
-use Rattle.plan_migrations.specs.Schemas.{IsKnownVersion, IsOfSchema, IsOtherFirst, ShowsVersion}
+use Rattle.plan_migrations.specs.FirstContent.{AreOfFirst, IsFirstContentOf}
+use Rattle.plan_migrations.specs.Migrating.{AreNotTaken, AreRead, AreRenewed, AreRowsOf, AreShown, ChecksTables}
+use Rattle.plan_migrations.specs.Migrating.{FailToHold, FailsToRead, FailsToReadAll, FailsToRemake, HaveContent, HaveSound}
+use Rattle.plan_migrations.specs.Migrating.{IsMigrated, IsRemade, IsRenewed, IsUnmigrated, IsUnrenewed, MayRenew}
+use Rattle.plan_migrations.specs.Migrating.{RenewsFrom, TellsOf}
+use Rattle.plan_migrations.specs.Schemas.{IsKnownVersion, IsOfSchema, IsOfVersion, IsOtherFirst, ShowsVersion, TellsVersion}
 use Rattle.plan_migrations.specs.declared.versions.TheConstants.{FIRST_VERSION}
 use Rattle.table_schema.specs.declared.tables.TheConstants.{SCHEMA_VERSION}
 use Rattle.plan_migrations.specs.declared.faults.MigrateFault.{MigrateFault}
-use Rattle.plan_migrations.specs.declared.faults.MigrateFault.TheVariants.{UnknownVersion, OtherTable, Memory, Device}
-use Rattle.plan_migrations.proofs.AskLemmas.{kept_if_same}
-use Rattle.plan_migrations.proofs.ContentLemmas.{content_stays}
+use Rattle.plan_migrations.specs.declared.faults.MigrateFault.TheVariants.{UnknownVersion, OtherTable, Rows, Memory, Device}
+use Rattle.plan_migrations.proofs.AskLemmas.{device_since, kept_if_same}
+use Rattle.plan_migrations.proofs.ContentLemmas.{content_kept, content_stays}
 use Rattle.plan_migrations.proofs.TextLemmas.{first_reads}
-use Rattle.plan_migrations.proofs.TurnLemmas.{failure_since, kept_since, of_schema_since, otherwise_since, same_if_version}
-use Rattle.plan_migrations.proofs.TurnLemmas.{shown_since, shown_until, unmigrated, version_until}
+use Rattle.plan_migrations.proofs.TurnLemmas.{failure_since, kept_since, memory_since, of_schema_since, of_version}
+use Rattle.plan_migrations.proofs.TurnLemmas.{otherwise_since, same_if_version, shown_since, shown_until, unmigrated}
+use Rattle.plan_migrations.proofs.TurnLemmas.{version_until}
+use Rattle.plan_migrations.proofs.VersionLemmas.{of_first}
 
 pick : (Q : Table → Type 0) → AllByRecursion Q all_tables → (t : Table) → Q t
 pick Q h Meta = h.0
@@ -61,7 +69,7 @@ pick Q h Deletion = h.1.1.1.1.1.1.1.1.1.1.1.0
 pick Q h Dependency = h.1.1.1.1.1.1.1.1.1.1.1.1.0
 pick Q h Job = h.1.1.1.1.1.1.1.1.1.1.1.1.1.0
 
-each : (Q : Table → Type 0) → All Q all_tables → (t : Table) → Q t
+pub each : (Q : Table → Type 0) → All Q all_tables → (t : Table) → Q t
 each Q all = pick Q (recursion_from_All Q all_tables all)
 
 module _ (a b : State) (has : HasFirstTables a.now.schema) (live : IsLive a) (reads : List FirstRows) (all : Tables) where
@@ -83,16 +91,40 @@ module _ (a b : State) (has : HasFirstTables a.now.schema) (live : IsLive a) (re
   renewed whole told remade = each Renewed (subst (All Renewed) whole (All-map Renewed (λ (read : FirstRows). read.table)
       reads (λ i d low. one_renewed (get_or reads i d) (told i d low) (remade i d low))))
 
-pub renews : (a b : State) (reads : List FirstRows) (db : Trees) → IsLive a → AreWhole reads
-    → All (AreShown a b) reads → AreRemade reads (tables_of db) → KeepsOthers a.now db → RenewsFrom a.now db
-renews a b reads db live whole told remade keeps =
-    let rows = renewed a b keeps.0.has live reads (tables_of db) whole told remade in
-    record {
-      was = keeps.0;
-      others = keeps.1;
-      rows = rows;
-      content = content_stays (tables_of a.now.trees) (tables_of db) rows;
-    }
+  -- and they have its rows
+  pub rows_of : All (AreShown a b) reads → AreRowsOf (tables_of a.now.trees) reads
+  rows_of told i d low =
+      let read = get_or reads i d in step.reads read.table a b read.rows.items has live (told i d low)
+
+module _ (a b : State) (reads : List FirstRows) (live : IsLive a) (whole : AreWhole reads) (told : All (AreShown a b) reads) where
+  pub renews : (db : Trees) → RemakesTo reads a.now db → AreOfFirst (tables_of a.now.trees) → HaveSound reads
+      → RenewsFrom a.now db
+  renews db to first sound =
+      let can = to.remade.can in
+      let rows = renewed a b can.has live reads (tables_of db) whole told to.rows in
+      let content = content_kept (tables_of a.now.trees) (tables_of db) rows first in
+      record {
+        was = can;
+        schema = to.schema;
+        stands = to.remade.schema;
+        obeys = to.obeys;
+        plan = to.plan;
+        rowids = to.rowids;
+        others = to.remade.others;
+        rows = rows;
+        content = content;
+        sound = (sound.0, sound.1, (content sound.0).1 (sound.2 (tables_of db) to.rows));
+      }
+
+  -- what the tables tell is told by all that are made of the rows
+  pub have_content : HasFirstTables a.now.schema → (c : Content) → IsFirstContentOf (tables_of a.now.trees) c
+      → HaveContent reads c
+  have_content has c is all remade =
+      content_stays (tables_of a.now.trees) all (renewed a b has live reads all whole told remade) c is
+
+  pub are_read : CanRemake a.now.schema → AreAllFirst reads → AreRead a.now reads
+  are_read can typed =
+      record { can = can; whole = whole; typed = typed; rows = rows_of a b can.has live reads (tables_of a.now.trees) told }
 
 module _ (a b c : State) where
   shown_again : IsUnchanged b c → (read : FirstRows) → AreShown a b read → AreShown a c read
@@ -108,27 +140,51 @@ module _ (a b c : State) where
         (shown_since (first_select_sql read.table) (first_reads read.table) a b c read.rows.items one here),
   )
 
-  other_since : IsUnchanged a b → b.step_limit ≡ a.step_limit → (t : Table) → IsOtherFirst b c t → IsOtherFirst a c t
-  other_since same limit t = otherwise_since (first_select_sql t) (first_reads t) (AreFirst t) a b c same limit
+  other_since : IsUnchanged a b → a.faults ≤ b.faults → b.step_limit ≡ a.step_limit → (t : Table) → IsOtherFirst b c t
+      → IsOtherFirst a c t
+  other_since same more limit t = otherwise_since (first_select_sql t) (first_reads t) (AreFirst t) a b c same more limit
 
   pub read_stops : IsUnchanged a b → a.faults ≤ b.faults → b.step_limit ≡ a.step_limit → (t : Table) (f : MigrateFault)
       → FailsToRead b c t f → FailsToReadAll a c f
-  read_stops same more limit t OtherTable h = (t, other_since same limit t h)
-  read_stops same more limit t Memory h = tt
-  read_stops same more limit t Device h = failure_since a b c same more Device h
+  read_stops same more limit t OtherTable h = (t, other_since same more limit t h)
+  read_stops same more limit t Memory h =
+      inr (t, memory_since (first_select_sql t) (first_reads t) a b c same more limit h)
+  read_stops same more limit t Device h = device_since a b c same more h
   read_stops same more limit t UnknownVersion h = h
+  read_stops same more limit t Rows h = h
 
-  -- what is not renewed after questions was not since before them
-  pub unrenewed_since : IsUnchanged a b → a.faults ≤ b.faults → b.step_limit ≡ a.step_limit → (f : MigrateFault)
-      → IsUnrenewed b c f → IsUnrenewed a c f
-  unrenewed_since same more limit OtherTable (inl other) =
-      inl (λ is. other (subst (λ (d : Database). CanRemake d.schema) (sym same.0.now_is) is))
-  unrenewed_since same more limit OtherTable (inr (inl (t, h))) = inr (inl (t, other_since same limit t h))
-  unrenewed_since same more limit OtherTable (inr (inr (is, reads, whole, typed))) =
-      inr (inr (subst (λ (d : Database). CanRemake d.schema) same.0.now_is is, reads, whole, typed))
-  unrenewed_since same more limit Memory h = tt
-  unrenewed_since same more limit Device h = failure_since a b c same more Device h
-  unrenewed_since same more limit UnknownVersion h = h
+  module _ (same : IsUnchanged a b) (more : a.faults ≤ b.faults) (limit : b.step_limit ≡ a.step_limit) where
+    read_since : (reads : List FirstRows) → AreRead b.now reads → AreRead a.now reads
+    read_since reads = subst (λ (d : Database). AreRead d reads) same.0.now_is
+
+    pub fails_since : (reads : List FirstRows) (e : Error)
+        → FailsFor (RefusesToRemake b.step_limit reads b.now) b c e → FailsFor (RefusesToRemake a.step_limit reads a.now) a c e
+    fails_since reads e = fails_after (RefusesToRemake b.step_limit reads b.now) (RefusesToRemake a.step_limit reads a.now) a b
+        c e (λ h. subst (λ (d : Database). RefusesToRemake a.step_limit reads d e) same.0.now_is
+        (subst (λ l. RefusesToRemake l reads b.now e) limit h)) more same.0.is_open limit
+
+    memory_read_since : FailsToReadAll b c Memory → FailsToReadAll a c Memory
+    memory_read_since (inl still) = inl (unchanged_then a b c same still)
+    memory_read_since (inr h) = inr (failure_since a b c first_select_sql first_reads same more limit Memory h)
+
+    -- what is not renewed after questions was not since before them
+    pub unrenewed_since : (f : MigrateFault) → IsUnrenewed b c f → IsUnrenewed a c f
+    unrenewed_since OtherTable (inl other) =
+        inl (λ is. other (subst (λ (d : Database). CanRemake d.schema) (sym same.0.now_is) is))
+    unrenewed_since OtherTable (inr (inl (t, h))) = inr (inl (t, other_since same more limit t h))
+    unrenewed_since OtherTable (inr (inr (reads, read, e, tells, inl h))) =
+        inr (inr (reads, read_since reads read, e, tells, inl h))
+    unrenewed_since OtherTable (inr (inr (reads, read, e, tells, inr h))) =
+        inr (inr (reads, read_since reads read, e, tells, inr (fails_since reads e h)))
+    unrenewed_since Rows (can, none) = (
+      subst (λ (d : Database). CanRemake d.schema) same.0.now_is can,
+      λ k is. none k (subst (λ (d : Database). IsFirstContentOf (tables_of d.trees) k) (sym same.0.now_is) is),
+    )
+    unrenewed_since Memory (inl h) = inl (memory_read_since h)
+    unrenewed_since Memory (inr (reads, read, sound, e, tells, h)) =
+        inr (reads, read_since reads read, sound, e, tells, fails_since reads e h)
+    unrenewed_since Device h = device_since a b c same more h
+    unrenewed_since UnknownVersion h = h
 
   pub renewed_since : IsUnchanged a b → IsRenewed b c → IsRenewed a c
   renewed_since same h = record {
@@ -139,25 +195,49 @@ module _ (a b c : State) where
     is_open = h.is_open;
   }
 
-  pub failed_remake : IsUnchanged a b → a.faults ≤ b.faults → (reads : List FirstRows) → CanRemake a.now.schema
-      → AreWhole reads → AreAllFirst reads → (f : MigrateFault) → FailsToRemake b c f → IsUnrenewed a c f
-  failed_remake same more reads has whole typed OtherTable h = inr (inr (has, reads, whole, typed))
-  failed_remake same more reads has whole typed Memory h = tt
-  failed_remake same more reads has whole typed Device h = failure_since a b c same more Device h
-  failed_remake same more reads has whole typed UnknownVersion h = h
+  module _ (same : IsUnchanged a b) (more : a.faults ≤ b.faults) (limit : b.step_limit ≡ a.step_limit)
+      (reads : List FirstRows) (read : AreRead a.now reads) where
+    pub failed_remake : HaveSound reads → (f : MigrateFault) → FailsToRemake reads b c f → IsUnrenewed a c f
+    failed_remake sound OtherTable (e, tells, h) =
+        inr (inr (reads, read, e, tells, inr (fails_since same more limit reads e h)))
+    failed_remake sound Memory (e, tells, h) = inr (reads, read, sound, e, tells, fails_since same more limit reads e h)
+    failed_remake sound Device h = device_since a b c same more h
+    failed_remake sound UnknownVersion (e, tells, h) = tells
+    failed_remake sound Rows (e, tells, h) = absurd tells
+
+-- rows that were read have no sound content
+pub failed_hold : (a b : State) (reads : List FirstRows) → IsUnchanged a b → IsLive a → AreRead a.now reads
+    → All (AreShown a b) reads → (f : MigrateFault) → FailToHold reads f → IsUnrenewed a b f
+failed_hold a b reads same live read told OtherTable (e, tells, h) = inr (inr (reads, read, e, tells, inl h))
+failed_hold a b reads same live read told Rows h =
+    (read.can, λ c is sound. h c (have_content a b reads live read.whole told read.can.has c is) sound)
+failed_hold a b reads same live read told Memory h = inl (inl same)
+failed_hold a b reads same live read told Device h = absurd h
+failed_hold a b reads same live read told UnknownVersion h = h
 
 pub failed_read : (a b : State) (f : MigrateFault) → FailsToReadAll a b f → IsUnrenewed a b f
 failed_read a b OtherTable h = inr (inl h)
-failed_read a b Memory h = tt
+failed_read a b Memory h = inl h
 failed_read a b Device h = h
 failed_read a b UnknownVersion h = h
+failed_read a b Rows h = absurd h
 
 -- where the tables are not renewed, a plan of schema 1 is not migrated
-pub unmigrated_first : (a b : State) (f : MigrateFault) → IsUnrenewed a b f → IsUnmigrated a b f
-unmigrated_first a b OtherTable h = inr h
-unmigrated_first a b Memory h = tt
-unmigrated_first a b Device h = h
-unmigrated_first a b UnknownVersion h = absurd h
+pub unmigrated_first : (a b : State) (f : MigrateFault) → IsOfVersion FIRST_VERSION a → IsUnrenewed a b f
+    → IsUnmigrated a b f
+unmigrated_first a b OtherTable is h = inr (is, h)
+unmigrated_first a b Rows is h = inr (is, h)
+unmigrated_first a b Memory is h = inr (inr (is, h))
+unmigrated_first a b Device is h = h
+unmigrated_first a b UnknownVersion is h = absurd h
+
+-- where the version is not told, a plan is not migrated
+pub untold : (a b : State) (f : MigrateFault) → TellsVersion a b (Err f) → IsUnmigrated a b f
+untold a b UnknownVersion h = h
+untold a b Memory h = inl h
+untold a b Device h = h
+untold a b OtherTable h = absurd h
+untold a b Rows h = absurd h
 
 -- an error is told as a failure of the device where it is one
 of_device : (e : Error) → fault_for e Unopened ≡ OpenFault.Device → IsTrue (is_of_device e)
@@ -167,11 +247,28 @@ of_device (SqliteFailure code.DiskFull) is = refl
 of_device (SqliteFailure code.Closed) is = refl
 of_device _ is = absurd cc
 
-pub fails_to_remake : (a b : State) (e : Error) (f : MigrateFault) → DeviceHasCause a b e → TellsOf e f → FailsToRemake a b f
-fails_to_remake a b e OtherTable cause told = tt
-fails_to_remake a b e Memory cause told = tt
-fails_to_remake a b e Device cause told = cause (of_device e told)
-fails_to_remake a b e UnknownVersion cause told = told
+pub fails_to_remake : (a b : State) (reads : List FirstRows) (e : Error) (f : MigrateFault)
+    → FailsFor (RefusesToRemake a.step_limit reads a.now) a b e → DeviceHasCause a b e → TellsOf e f
+    → FailsToRemake reads a b f
+fails_to_remake a b reads e OtherTable fails cause told = (e, told, fails)
+fails_to_remake a b reads e Memory fails cause told = (e, told, fails)
+fails_to_remake a b reads e Device fails cause told = cause (of_device e told)
+fails_to_remake a b reads e UnknownVersion fails cause told = absurd told
+fails_to_remake a b reads e Rows fails cause told = absurd told
+
+-- tables in memory are not filled
+pub unfilled : (reads : List FirstRows) (e : Error) (f : MigrateFault) → (e ≡ SqliteFailure code.OutOfMemory)
+    ⊎ AreNotTaken reads e → TellsOf e f → FailToHold reads f
+unfilled reads e OtherTable (inl is) told = absurd (let h : fault_for e Unopened ≡ OpenFault.Memory =
+ap (λ x. fault_for x Unopened) is in cc)
+unfilled reads e OtherTable (inr h) told = (e, told, h)
+unfilled reads e Memory h told = tt
+unfilled reads e Device (inl is) told = absurd (let h : fault_for e Unopened ≡ OpenFault.Memory =
+ap (λ x. fault_for x Unopened) is in cc)
+unfilled reads e Device (inr h) told =
+    true≢false (sym (of_device e told) ∙ calm_fill None plan_schema (with_all_put reads no_rows) e h)
+unfilled reads e UnknownVersion h told = told
+unfilled reads e Rows h told = absurd told
 
 pub tables_more : (reads : List FirstRows) (read : FirstRows) (tables : List Table) (i : ℕ) (d : Table) → i < length tables
     → tables_in reads ≡ take i tables → read.table ≡ get_or tables i d
@@ -182,22 +279,23 @@ tables_more reads read tables i d low whole is = map-append (λ (it : FirstRows)
 -- ---- the tables are made anew after they were read
 
 module _ {E : Type 0} (a b c : State) (reads : List FirstRows) (same : IsUnchanged a b) (live : IsLive a) (whole : AreWhole reads) where
-  pub renewed_by : (r : Result (Unit {0}) E) → All (AreShown a b) reads → OnOk r (IsRemade reads b c) → OnOk r (IsRenewed a c)
-  renewed_by (Ok v) told h =
-      let remade = subst (λ (d : Database). IsRemadeOf d c.now) same.0.now_is h.remade in record {
-        remade = remade;
-        renewed = renews a b reads c.now.trees live whole told h.rows (remade.can, remade.others);
-        plan = h.plan;
-        settled = h.settled;
-        is_open = h.is_open;
-      }
-  renewed_by (Err e) told h = tt
+  pub renewed_by : (r : Result (Unit {0}) E) → All (AreShown a b) reads → AreOfFirst (tables_of a.now.trees)
+      → HaveSound reads → OnOk r (IsRemade reads b c) → OnOk r (IsRenewed a c)
+  renewed_by (Ok v) told first sound h = record {
+    remade = subst (λ (d : Database). IsRemadeOf d c.now) same.0.now_is h.remade;
+    renewed = renews a b reads live whole told c.now.trees
+        (subst (λ (d : Database). RemakesTo reads d c.now.trees) same.0.now_is h.made) first sound;
+    plan = h.plan;
+    settled = h.settled;
+    is_open = h.is_open;
+  }
+  renewed_by (Err e) told first sound h = tt
 
 pub unrenewed_by : (a b c : State) (reads : List FirstRows) → IsUnchanged a b → a.faults ≤ b.faults
-    → CanRemake a.now.schema → AreWhole reads → AreAllFirst reads → (r : Result (Unit {0}) MigrateFault)
-    → IfErr r (FailsToRemake b c) → IfErr r (IsUnrenewed a c)
-unrenewed_by a b c reads same more has whole typed (Ok v) h = tt
-unrenewed_by a b c reads same more has whole typed (Err f) h = failed_remake a b c same more reads has whole typed f h
+    → b.step_limit ≡ a.step_limit → AreRead a.now reads → HaveSound reads → (r : Result (Unit {0}) MigrateFault)
+    → IfErr r (FailsToRemake reads b c) → IfErr r (IsUnrenewed a c)
+unrenewed_by a b c reads same more limit read sound (Ok v) h = tt
+unrenewed_by a b c reads same more limit read sound (Err f) h = failed_remake a b c same more limit reads read sound f h
 
 pub kept_by : {E : Type 0} (a b c : State) → IsUnchanged a b → (r : Result (Unit {0}) E) → OnErr r (IsKept b c)
     → OnErr r (IsKept a c)
@@ -230,9 +328,18 @@ module _ (a b c : State) (v : ℕ) (told : IsKnownVersion v × ShowsVersion v a 
   pub first_migrated : (v ≡ SCHEMA_VERSION → ⊥) → IsRenewed b c → IsMigrated a c v SCHEMA_VERSION
   first_migrated other h = inr (inr (first_is other, refl, renewed_since a b c same_since h))
 
-  pub first_unmigrated : a.faults ≤ b.faults → b.step_limit ≡ a.step_limit → (f : MigrateFault) → IsUnrenewed b c f
-      → IsUnmigrated a c f
-  first_unmigrated more limit f h = unmigrated_first a c f (unrenewed_since a b c same_since more limit f h)
+  pub first_unmigrated : (v ≡ SCHEMA_VERSION → ⊥) → a.faults ≤ b.faults → b.step_limit ≡ a.step_limit
+      → (f : MigrateFault) → IsUnrenewed b c f → IsUnmigrated a c f
+  first_unmigrated other more limit f h = unmigrated_first a c f
+      (subst (λ n. IsOfVersion n a) (first_is other) (of_version a b v told.1))
+      (unrenewed_since a b c same_since more limit f h)
+
+  -- and the rows of `plan_meta` tell so
+  pub first_told : (v ≡ SCHEMA_VERSION → ⊥) → IsLive a → CanRemake b.now.schema → AreOfFirst (tables_of b.now.trees)
+  first_told other live can =
+      subst (λ (d : Database). AreOfFirst (tables_of d.trees)) (sym same_since.0.now_is)
+      (of_first a b live (subst (λ n. ShowsVersion n a b) (first_is other) told.1)
+      (subst (λ (d : Database). CanRemake d.schema) same_since.0.now_is can))
 
 pub renews_since : (a b : State) (v : ℕ) → ShowsVersion v a b → (db : Trees) → MayRenew b db → MayRenew a db
 renews_since a b v told db h = subst (λ (d : Database). RenewsFrom d db) (same_if_version a b v told).0.now_is h

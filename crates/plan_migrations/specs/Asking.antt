@@ -1,18 +1,46 @@
--- A database of any tables is asked, and stays as it was.
-use Rattle.std.specs.Prelude.{◌≡◌, ◌⊎◌, false, IsTrue, ⊤}
-use Rattle.sqlite.specs.State.{State}
+-- What becomes of a database of whatever tables that is asked, and why it fails to answer.
+use Rattle.std.specs.Prelude.{◌≡◌, ◌⊎◌, false, ℕ, List, [], IsTrue}
+use Rattle.sqlite.specs.Clock.{timed}
+use Rattle.sqlite.specs.Effect.{Database, Reads}
+use Rattle.sqlite.specs.Listing.{IsSourceOf, reads_listing}
+use Rattle.sqlite.specs.Order.{Row as Values}
+use Rattle.sqlite.specs.State.{FailsToQuery, IsStatement, State}
+use Rattle.sqlite.specs.declared.error.Error.{Error}
 use Rattle.sqlite_disk.specs.Disk.{MoreFaults}
+use Rattle.sqlite_resolve.specs.declared.compiled.Compiled.{Compiled}
+use Rattle.table_schema.specs.declared.tables.Table.{Table}
+use Rattle.table_opening.specs.Faults.{fault_for}
+use Rattle.table_opening.specs.declared.faults.OpenFault.TheVariants as OpenFault
+use Rattle.table_opening.specs.declared.faults.OpenFault.TheVariants.{Unopened}
 use Rattle.plan_migrations.specs.declared.faults.MigrateFault.{MigrateFault}
-use Rattle.plan_migrations.specs.declared.faults.MigrateFault.TheVariants.{UnknownVersion, OtherTable, Memory, Device}
+use Rattle.plan_migrations.specs.declared.faults.MigrateFault.TheVariants.{Memory, Device}
 
 -- as long as the connection is open, it sees what it saw, and what was committed
 pub record IsKept (old new : State) : Type 0 where
   pub now : IsTrue new.is_open → new.now ≡ old.now
   pub committed : IsTrue new.is_open → new.committed ≡ old.committed
 
--- why it fails to answer: memory is short; or the device failed meanwhile, or the connection was shut before
-abbrev pub IsFailure : State → State → MigrateFault → Type 0
-IsFailure old new Memory = ⊤
-IsFailure old new Device = MoreFaults old.faults new.faults ⊎ (old.is_open ≡ false)
-IsFailure old new UnknownVersion = ⊥
-IsFailure old new OtherTable = ⊥
+-- these rows are what the database has to show to the question
+abbrev pub HasAnswer : List ℕ → State → List Values → Type 0
+HasAnswer sql s rows = (c : Compiled) × (it : IsStatement s sql [] c) × (db : Database)
+    × IsSourceOf (reads_listing s.now.schema sql) s.now db × Reads c.command db (timed [] c.formats it.now) rows
+
+-- the question failed for want of memory
+abbrev pub LacksMemory : List ℕ → State → State → Type 0
+LacksMemory sql old new = (e : Error) × FailsToQuery sql [] old new e × (fault_for e Unopened ≡ OpenFault.Memory)
+
+-- the device failed meanwhile, or the connection was shut before
+abbrev pub FailsByDevice : State → State → Type 0
+FailsByDevice old new = MoreFaults old.faults new.faults ⊎ (old.is_open ≡ false)
+
+-- why the question is not answered: for want of memory, or by the device
+abbrev pub IsFailure : List ℕ → State → State → MigrateFault → Type 0
+IsFailure sql old new Memory = LacksMemory sql old new
+IsFailure sql old new Device = FailsByDevice old new
+IsFailure sql old new _ = ⊥
+
+-- the same of a question for one of the tables
+abbrev pub IsFailureOfOne : (Table → List ℕ) → State → State → MigrateFault → Type 0
+IsFailureOfOne sql old new Memory = (t : Table) × LacksMemory (sql t) old new
+IsFailureOfOne sql old new Device = FailsByDevice old new
+IsFailureOfOne sql old new _ = ⊥

@@ -1,11 +1,12 @@
 -- The number of a fault.
 use Rattle.std.specs.Prelude.{ℕ}
 use Rattle.plan_migrations.specs.declared.faults.MigrateFault.{MigrateFault}
-use Rattle.plan_migrations.specs.declared.faults.MigrateFault.TheVariants.{UnknownVersion, OtherTable, Memory, Device}
+use Rattle.plan_migrations.specs.declared.faults.MigrateFault.TheVariants.{UnknownVersion, OtherTable, Rows, Memory, Device}
 
 -- the number that a program tells
 abbrev pub number_of : MigrateFault → ℕ
 number_of UnknownVersion = 50
 number_of OtherTable = 51
+number_of Rows = 52
 number_of Memory = 40
 number_of Device = 41

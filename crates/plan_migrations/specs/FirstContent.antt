@@ -1,6 +1,6 @@
 -- The content that the rows of the tables of schema 1 stand for.
 use Rattle.std.specs.Prelude.{◌≡◌, ◌↔◌, ℕ, List, [], ◌∷◌, map, Option, None, Contains}
-use Rattle.sqlite.specs.Order.{Row as Values}
+use Rattle.sqlite.specs.Order.{Row as Values, column}
 use Rattle.sqlite.specs.declared.types.Value.TheVariants.{Text}
 use Rattle.app_definitions.specs.declared.options.Options.{Options}
 use Rattle.definition_records.specs.declared.predecessors.Predecessor.{Predecessor}
@@ -48,3 +48,8 @@ pub record IsFirstContentOf (all : Tables) (c : Content) : Type 0 where
   pub tellable : IsTellable c
   pub unlimited : HasNoLimits c
   pub facts : (t : Table) (values : Values) → Contains (map (first_shown t) (all t)) values ↔ IsFirstFact t c values
+
+-- each row of `plan_meta` is of schema 1
+abbrev pub AreOfFirst : Tables → Type 0
+AreOfFirst all = (values : Values) → Contains (map (first_shown table.Meta) (all table.Meta)) values
+    → column values 1 ≡ natural FIRST_VERSION

@@ -3,3 +3,4 @@ pub mod Asking
 pub mod Schemas
 pub mod FirstContent
 pub mod Migrating
+pub mod Older

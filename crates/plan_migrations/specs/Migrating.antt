@@ -1,31 +1,38 @@
 -- What a migration finds and leaves.
-use Rattle.std.specs.Prelude.{◌≡◌, ◌⊎◌, ℕ, List, [], map, Result, Ok, Err, IsTrue, ⊤}
+use Rattle.std.specs.Prelude.{◌≡◌, ◌⊎◌, ◌↔◌, None, ℕ, List, [], map, Result, Ok, Err, IsTrue, ⊤}
 use Rattle.std.specs.List.{All}
 use Rattle.std.specs.List.Sorted.{IsPermutation}
 use Rattle.sqlite.specs.Change.{KeepsRows}
-use Rattle.sqlite.specs.Effect.{Database}
+use Rattle.sqlite.specs.Effect.{Database, IsDatabase}
+use Rattle.sqlite.specs.Schema.{Schema}
 use Rattle.sqlite.specs.State.{IsUnchanged, Shown, State}
 use Rattle.sqlite.specs.Tree.{Trees}
 use Rattle.sqlite.specs.declared.error.Error.{Error}
 use Rattle.planner_machine.specs.Content.{Content}
-use Rattle.table_schema.specs.Rows.{IsPlan, Tables, shown, tables_of}
-use Rattle.table_schema.specs.Schema.{all_tables}
+use Rattle.planner_machine.specs.Sound.{IsSound}
+use Rattle.table_schema.specs.Free.{with_plan}
+use Rattle.table_schema.specs.Rows.{IsPlan, MayFail, Tables, no_rows, shown, tables_of}
+use Rattle.table_schema.specs.Schema.{HasTables, all_tables, plan_schema}
+use Rattle.table_schema.specs.Texts.{select_sql}
 use Rattle.table_schema.specs.declared.tables.Table.{Table}
 use Rattle.table_schema.specs.declared.tables.TheConstants.{SCHEMA_VERSION}
 use Rattle.table_facts.specs.Content.{IsContentOf}
 use Rattle.table_opening.specs.Faults.{fault_for}
-use Rattle.table_opening.specs.Foreign.{RefusesVersion}
+use Rattle.table_opening.specs.Foreign.{RefusesVersion, version_sql}
+use Rattle.table_opening.specs.Stored.{AllHaveRowids}
 use Rattle.table_opening.specs.declared.faults.OpenFault.TheVariants as OpenFault
 use Rattle.table_opening.specs.declared.faults.OpenFault.TheVariants.{Unopened}
 use Rattle.table_remaking.specs.FirstSchema.{CanRemake, first_shown, without}
 use Rattle.table_remaking.specs.FirstTexts.{first_select_sql}
-use Rattle.table_remaking.specs.Remaking.{AreAllFirst, AreRemade, AreWhole, IsRemadeOf, remade_row}
+use Rattle.table_remaking.specs.Refusals.{FailsFor}
+use Rattle.table_remaking.specs.Remaking.{AreAllFirst, AreRemade, AreWhole, IsRemadeOf, RefusesToFill, RefusesToRemake}
+use Rattle.table_remaking.specs.Remaking.{RemakesTo, remade_row, with_all_put}
 use Rattle.table_remaking.specs.declared.rows.FirstRows.{FirstRows}
-use Rattle.plan_migrations.specs.Asking.{IsFailure, IsKept}
+use Rattle.plan_migrations.specs.Asking.{FailsByDevice, IsFailure, IsFailureOfOne, IsKept, LacksMemory}
 use Rattle.plan_migrations.specs.FirstContent.{IsFirstContentOf}
-use Rattle.plan_migrations.specs.Schemas.{IsOfSchema, IsOther, IsOtherFirst, ShowsUnknown, ShowsVersion}
+use Rattle.plan_migrations.specs.Schemas.{IsOfSchema, IsOfVersion, IsOther, IsOtherFirst, ShowsUnknown, ShowsVersion}
 use Rattle.plan_migrations.specs.declared.faults.MigrateFault.{MigrateFault}
-use Rattle.plan_migrations.specs.declared.faults.MigrateFault.TheVariants.{UnknownVersion, OtherTable, Device}
+use Rattle.plan_migrations.specs.declared.faults.MigrateFault.TheVariants.{UnknownVersion, OtherTable, Rows, Memory, Device}
 use Rattle.plan_migrations.specs.declared.versions.TheConstants.{FIRST_VERSION}
 
 -- ---- tables of the current schema
@@ -34,13 +41,13 @@ use Rattle.plan_migrations.specs.declared.versions.TheConstants.{FIRST_VERSION}
 abbrev pub ChecksTable : State → State → Table → Result (Unit {0}) MigrateFault → Type 0
 ChecksTable old new t (Ok _) = IsOfSchema old new t
 ChecksTable old new t (Err OtherTable) = IsOther old new t
-ChecksTable old new t (Err fault) = IsFailure old new fault
+ChecksTable old new t (Err fault) = IsFailure (select_sql t) old new fault
 
 -- each of the tables is of its schema, or one of them is another
 abbrev pub ChecksTables : State → State → List Table → Result (Unit {0}) MigrateFault → Type 0
 ChecksTables old new tables (Ok _) = IsUnchanged old new × All (IsOfSchema old new) tables
 ChecksTables old new tables (Err OtherTable) = (t : Table) × IsOther old new t
-ChecksTables old new tables (Err fault) = IsFailure old new fault
+ChecksTables old new tables (Err fault) = IsFailureOfOne select_sql old new fault
 
 -- ---- tables of schema 1
 
@@ -51,27 +58,72 @@ AreShown old new read = Shown (first_select_sql read.table) [] old new read.rows
 -- why rows are not read: a table is another, or it fails
 abbrev pub FailsToRead : State → State → Table → MigrateFault → Type 0
 FailsToRead old new t OtherTable = IsOtherFirst old new t
-FailsToRead old new t fault = IsFailure old new fault
+FailsToRead old new t fault = IsFailure (first_select_sql t) old new fault
 
+-- memory may also be short where nothing happened to the database
 abbrev pub FailsToReadAll : State → State → MigrateFault → Type 0
 FailsToReadAll old new OtherTable = (t : Table) × IsOtherFirst old new t
-FailsToReadAll old new fault = IsFailure old new fault
+FailsToReadAll old new Memory = IsUnchanged old new ⊎ IsFailureOfOne first_select_sql old new Memory
+FailsToReadAll old new fault = IsFailureOfOne first_select_sql old new fault
+
+-- the rows that were read are those of the tables, each as often
+abbrev pub AreRowsOf : Tables → List FirstRows → Type 0
+AreRowsOf all reads = All (λ (read : FirstRows).
+    IsPermutation (map (first_shown read.table) (all read.table)) read.rows.items) reads
+
+-- ---- their content
+
+-- in tables that are made of these rows they have this content
+abbrev pub HaveContent : List FirstRows → Content → Type 0
+HaveContent reads c = (all : Tables) → AreRemade reads all → IsContentOf all c
+
+-- and it is sound
+abbrev pub HaveSound : List FirstRows → Type 0
+HaveSound reads = (c : Content) × IsSound c × HaveContent reads c
+
+-- the fault of an error
+abbrev pub TellsOf : Error → MigrateFault → Type 0
+TellsOf e Memory = fault_for e Unopened ≡ OpenFault.Memory
+TellsOf e Device = fault_for e Unopened ≡ OpenFault.Device
+TellsOf e OtherTable = fault_for e Unopened ≡ Unopened
+TellsOf e _ = ⊥
+
+-- tables of a plan that stand alone take one of the rows not
+abbrev pub AreNotTaken : List FirstRows → Error → Type 0
+AreNotTaken reads e = RefusesToFill None plan_schema (with_all_put reads no_rows) e
+
+-- why they have no sound content: the tables of a plan take one of them not, or what they tell is not sound; or memory is
+-- short
+abbrev pub FailToHold : List FirstRows → MigrateFault → Type 0
+FailToHold reads OtherTable = (e : Error) × TellsOf e OtherTable × AreNotTaken reads e
+FailToHold reads Rows = (c : Content) → HaveContent reads c → IsSound c → ⊥
+FailToHold reads Memory = ⊤
+FailToHold reads _ = ⊥
+
+-- ---- they are renewed
 
 -- each table shows what it showed, each row as often: with no limits, and the current version
 abbrev pub AreRenewed : Tables → Tables → Type 0
 AreRenewed old new = (t : Table) → IsPermutation (map (remade_row t) (map (first_shown t) (old t))) (map (shown t) (new t))
 
--- and so they have the content that these had
+-- and so they have the content that these had, and no other
 abbrev pub KeepsContent : Tables → Tables → Type 0
-KeepsContent old new = (c : Content) → IsFirstContentOf old c → IsContentOf new c
+KeepsContent old new = (c : Content) → IsFirstContentOf old c ↔ IsContentOf new c
 
--- tables of schema 1 stood there, and nothing was in the way of those of a plan; those that stand there have their rows
--- and their content, and the tables beside them the rows that they had
+-- tables of schema 1 stood there, and nothing was in the way of those of a plan; these stand there in a database that
+-- keeps its rules, behind the others, and have the rows and the content of those, which is sound; the tables beside
+-- them have the rows that they had
 pub record RenewsFrom (old : Database) (db : Trees) : Type 0 where
   pub was : CanRemake old.schema
+  pub schema : Schema
+  pub stands : schema ≡ with_plan (without was.has.trees all_tables old.schema)
+  pub obeys : IsDatabase (record { schema = schema; trees = db })
+  pub plan : HasTables schema
+  pub rowids : AllHaveRowids (tables_of db)
   pub others : KeepsRows (without was.has.trees all_tables old.schema).tables old.trees db
   pub rows : AreRenewed (tables_of old.trees) (tables_of db)
   pub content : KeepsContent (tables_of old.trees) (tables_of db)
+  pub sound : (c : Content) × IsSound c × IsFirstContentOf (tables_of old.trees) c
 
 -- what it may commit
 abbrev pub MayRenew : State → Trees → Type 0
@@ -86,32 +138,50 @@ pub record IsRenewed (old new : State) : Type 0 where
   pub settled : new.committed ≡ new.now
   pub is_open : IsTrue new.is_open
 
--- the fault of an error
-abbrev pub TellsOf : Error → MigrateFault → Type 0
-TellsOf e Device = fault_for e Unopened ≡ OpenFault.Device
-TellsOf e UnknownVersion = ⊥
-TellsOf e _ = ⊤
-
 -- they were made anew with these rows, and all is committed
 pub record IsRemade (reads : List FirstRows) (old new : State) : Type 0 where
   pub remade : IsRemadeOf old.now new.now
   pub plan : IsPlan new
-  pub rows : AreRemade reads (tables_of new.now.trees)
+  pub made : RemakesTo reads old.now new.now.trees
   pub settled : new.committed ≡ new.now
   pub is_open : IsTrue new.is_open
 
--- why they were not: a statement is refused, or it fails
-abbrev pub FailsToRemake : State → State → MigrateFault → Type 0
-FailsToRemake old new OtherTable = ⊤
-FailsToRemake old new fault = IsFailure old new fault
+-- ---- they are not
+
+-- why they were not made anew: a statement is refused, or it fails
+abbrev pub FailsToRemake : List FirstRows → State → State → MigrateFault → Type 0
+FailsToRemake reads old new Device = FailsByDevice old new
+FailsToRemake reads old new fault = (e : Error) × TellsOf e fault
+    × FailsFor (RefusesToRemake old.step_limit reads old.now) old new e
+
+-- all rows were read, and by the types of schema 1
+pub record AreRead (old : Database) (reads : List FirstRows) : Type 0 where
+  pub can : CanRemake old.schema
+  pub whole : AreWhole reads
+  pub typed : AreAllFirst reads
+  pub rows : AreRowsOf (tables_of old.trees) reads
+
+-- they were read, and then tables of a plan took one of them not, beside other tables or alone; or the statement would
+-- take more steps than are allowed
+abbrev pub IsNotWritten : State → State → Type 0
+IsNotWritten old new = (reads : List FirstRows) × AreRead old.now reads × (e : Error) × TellsOf e OtherTable
+    × (AreNotTaken reads e ⊎ FailsFor (RefusesToRemake old.step_limit reads old.now) old new e)
+
+-- they were read, and while they were written memory was refused
+abbrev pub LacksMemoryToWrite : State → State → Type 0
+LacksMemoryToWrite old new = (reads : List FirstRows) × AreRead old.now reads × HaveSound reads
+    × FailsToRemake reads old new Memory
 
 -- why they are not renewed: a table of schema 1 is missing or another, or something is in the way of those of a plan; a
--- table has other rows; a statement is refused whose rows were all read from the tables of schema 1; or it fails
+-- table has other rows; a row is not taken; what they tell is not sound; or it fails
 abbrev pub IsUnrenewed : State → State → MigrateFault → Type 0
 IsUnrenewed old new UnknownVersion = ⊥
-IsUnrenewed old new OtherTable = (CanRemake old.now.schema → ⊥) ⊎ ((t : Table) × IsOtherFirst old new t)
-    ⊎ (CanRemake old.now.schema × (reads : List FirstRows) × AreWhole reads × AreAllFirst reads)
-IsUnrenewed old new fault = IsFailure old new fault
+IsUnrenewed old new OtherTable = (CanRemake old.now.schema → ⊥)
+    ⊎ (((t : Table) × IsOtherFirst old new t) ⊎ IsNotWritten old new)
+IsUnrenewed old new Rows = CanRemake old.now.schema
+    × ((c : Content) → IsFirstContentOf (tables_of old.now.trees) c → IsSound c → ⊥)
+IsUnrenewed old new Memory = FailsToReadAll old new Memory ⊎ LacksMemoryToWrite old new
+IsUnrenewed old new Device = FailsByDevice old new
 
 -- ---- all together
 
@@ -124,9 +194,17 @@ IsMigrated old new found left =
     × All (IsOfSchema old new) all_tables × IsKept old new)
     ⊎ ((found ≡ FIRST_VERSION) × (left ≡ SCHEMA_VERSION) × IsRenewed old new)
 
--- why it is not migrated: its version is unknown; one of its tables is another; or it fails to answer or to be written
+-- a plan of the current version of which one table is another, or can't be looked at for want of memory
+abbrev pub IsUnchecked : State → State → MigrateFault → Type 0
+IsUnchecked old new OtherTable = ShowsVersion SCHEMA_VERSION old new × ((t : Table) × IsOther old new t)
+IsUnchecked old new Memory = IsOfVersion SCHEMA_VERSION old × IsFailureOfOne select_sql old new Memory
+IsUnchecked old new _ = ⊥
+
+-- why it is not migrated: its version is unknown; it is of the current version and one of its tables is another, or of
+-- the first and not renewed; or it fails to answer or to be written
 abbrev pub IsUnmigrated : State → State → MigrateFault → Type 0
 IsUnmigrated old new UnknownVersion = ShowsUnknown old new
-IsUnmigrated old new OtherTable = (ShowsVersion SCHEMA_VERSION old new × ((t : Table) × IsOther old new t))
-    ⊎ IsUnrenewed old new OtherTable
-IsUnmigrated old new fault = IsFailure old new fault
+IsUnmigrated old new Memory = LacksMemory version_sql old new
+    ⊎ (IsUnchecked old new Memory ⊎ (IsOfVersion FIRST_VERSION old × IsUnrenewed old new Memory))
+IsUnmigrated old new Device = FailsByDevice old new
+IsUnmigrated old new fault = IsUnchecked old new fault ⊎ (IsOfVersion FIRST_VERSION old × IsUnrenewed old new fault)

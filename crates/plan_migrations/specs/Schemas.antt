@@ -9,7 +9,7 @@ use Rattle.table_facts.specs.Facts.{natural}
 use Rattle.table_opening.specs.Foreign.{RefusesToShow, RefusesVersion, version_sql}
 use Rattle.table_remaking.specs.FirstTexts.{first_select_sql}
 use Rattle.table_remaking.specs.Types.{AreFirst, AreTyped}
-use Rattle.plan_migrations.specs.Asking.{IsFailure}
+use Rattle.plan_migrations.specs.Asking.{HasAnswer, IsFailure}
 use Rattle.plan_migrations.specs.declared.faults.MigrateFault.{MigrateFault}
 use Rattle.plan_migrations.specs.declared.faults.MigrateFault.TheVariants.{UnknownVersion}
 use Rattle.plan_migrations.specs.declared.versions.TheConstants.{FIRST_VERSION}
@@ -33,13 +33,17 @@ abbrev pub ShowsUnknown : State → State → Type 0
 ShowsUnknown old new = (rows : List Values) × Shown version_sql [] old new rows
     × ((v : ℕ) → IsKnownVersion v → AreOf v rows → ⊥)
 
+-- this is the version that it has to show
+abbrev pub IsOfVersion : ℕ → State → Type 0
+IsOfVersion v s = (rows : List Values) × HasAnswer version_sql s rows × AreOf v rows
+
 -- the version that is answered is the one that `plan_meta` shows; none is answered where the database refuses to show
 -- it: it is without tables
 abbrev pub TellsVersion : State → State → Result (Option ℕ) MigrateFault → Type 0
 TellsVersion old new (Ok (Some v)) = IsKnownVersion v × ShowsVersion v old new
 TellsVersion old new (Ok None) = RefusesVersion old new
 TellsVersion old new (Err UnknownVersion) = ShowsUnknown old new
-TellsVersion old new (Err fault) = IsFailure old new fault
+TellsVersion old new (Err fault) = IsFailure version_sql old new fault
 
 -- ---- tables
 

@@ -25,7 +25,7 @@ pub(crate) fn ask<S: Alter>(
         → IfOk result (λ found. found ≡ None
         → RefusesToShow text.now (state S.Store conn.old) (state S.Store conn.new)) }
     ensures failed { HasCleanDisk (state S.Store conn.new)
-        → IfErr result (IsFailure (state S.Store conn.old) (state S.Store conn.new)) }
+        → IfErr result (IsFailure text.now (state S.Store conn.old) (state S.Store conn.new)) }
     ensures same { HasCleanDisk (state S.Store conn.new)
         → OnOk result (IsUnchanged (state S.Store conn.old) (state S.Store conn.new)) }
     ensures kept { HasCleanDisk (state S.Store conn.new)

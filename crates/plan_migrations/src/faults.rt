@@ -14,6 +14,9 @@ pub enum MigrateFault {
     /// A table is not of its schema: it can't be read, or has a value of another type.
     #[error("a table is not of its schema")]
     OtherTable,
+    /// What its rows tell is not sound.
+    #[error("its rows are no sound plan")]
+    Rows,
     /// Memory was refused.
     #[error("memory was refused")]
     Memory,
@@ -22,13 +25,15 @@ pub enum MigrateFault {
     Device,
 }
 
-/// The number of the fault that tells it: 50 for an unknown version, 51 for a table, 40 for memory, 41 for the device.
+/// The number of the fault that tells it: 50 for an unknown version, 51 for a table, 52 for rows, 40 for memory, 41 for
+/// the device.
 pub fn migrate_fault_number(fault: &MigrateFault) -> u8
     ensures { result ≡ number_of fault.now }
 {
     match fault {
         MigrateFault::UnknownVersion => 50,
         MigrateFault::OtherTable => 51,
+        MigrateFault::Rows => 52,
         MigrateFault::Memory => 40,
         MigrateFault::Device => 41,
     }

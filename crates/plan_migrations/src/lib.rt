@@ -3,14 +3,17 @@
 #![tactic(auto)]
 
 mod asking;
+mod contents;
 mod faults;
 mod first_tables;
 mod migrating;
+mod older;
 mod renewing;
 mod tables;
 mod versions;
 
 pub use faults::{MigrateFault, migrate_fault_number};
 pub use migrating::migrate;
+pub use older::migrate_older;
 pub use tables::TABLES;
 pub use versions::{FIRST_VERSION, version};

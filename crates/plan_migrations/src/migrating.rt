@@ -16,7 +16,8 @@ use table_schema::SCHEMA_VERSION;
 
 /// Makes the tables of a plan those of the current schema, with their rows, all of them or none, also over a crash; and
 /// answers the version that it found and the one that it left, (0, 0) where the database is without tables. Tables of the
-/// current schema stay as they are, and so do the tables beside them.
+/// current schema stay as they are, and so do the tables beside them. What tables of schema 1 tell is sound, or it
+/// refuses them, and they stay as they are.
 pub fn migrate<S: Alter>(
     alloc: Global,
     conn: &mut Connection<S>,
@@ -33,6 +34,8 @@ pub fn migrate<S: Alter>(
     ensures crash { Survives (state S.Store conn.old) (state S.Store conn.new)
         (MayRenew (state S.Store conn.old)) }
 {
+    // its clause says that an open connection has a database
+    let _ = conn.schema();
     match version(conn) {
         Ok(Some(found)) => if found == SCHEMA_VERSION {
             match check_tables(conn, &TABLES) {

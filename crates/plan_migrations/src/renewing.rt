@@ -1,33 +1,23 @@
 // The tables of schema 1 are made those of the current schema.
 
-ghost use Rattle.std.specs.Prelude.{◌≡◌, ◌⊎◌, false, IfErr, IsTrue, OnErr, OnOk};
+ghost use Rattle.std.specs.Prelude.{◌≡◌, false, IfErr, IsTrue, OnErr, OnOk};
 ghost use Rattle.sqlite.specs.State.{HasCleanDisk, Survives};
 ghost use Rattle.sqlite.specs.Held.{state};
-ghost use Rattle.table_remaking.specs.FirstSchema.{CanRemake};
-ghost use Rattle.plan_migrations.specs.Asking.{IsKept};
 ghost use Rattle.table_schema.specs.Rows.{tables_of};
-ghost use Rattle.table_remaking.specs.Remaking.{AreAllFirst, AreRemade, AreWhole, KeepsOthers};
+ghost use Rattle.table_remaking.specs.FirstSchema.{CanRemake};
+ghost use Rattle.table_remaking.specs.Remaking.{AreAllFirst, AreWhole, RemakesTo};
+ghost use Rattle.plan_migrations.specs.Asking.{IsKept};
+ghost use Rattle.plan_migrations.specs.FirstContent.{AreOfFirst};
 ghost use Rattle.plan_migrations.specs.Migrating.{FailsToRemake, IsRemade, IsRenewed, IsUnrenewed};
-ghost use Rattle.plan_migrations.specs.Migrating.{MayRenew, TellsOf};
+ghost use Rattle.plan_migrations.specs.Migrating.{MayRenew};
 
+use crate::contents::{check_content, remake_fault};
 use crate::faults::MigrateFault;
 use crate::first_tables::{has_first_tables, read_tables};
 use crate::tables::TABLES;
-use sqlite::{Alter, Connection, Error};
+use sqlite::{Alter, Connection};
 use std::alloc::Global;
-use table_opening::{OpenFault, fault_for};
 use table_remaking::{FirstRows, remake_tables};
-
-// The fault of tables that are not made anew.
-fn renew_fault(error: &Error) -> MigrateFault
-    ensures { TellsOf error.now result }
-{
-    match fault_for(error, OpenFault::Unopened) {
-        OpenFault::Memory => MigrateFault::Memory,
-        OpenFault::Device => MigrateFault::Device,
-        _ => MigrateFault::OtherTable,
-    }
-}
 
 // Makes the tables anew with the rows that were read.
 fn remake<S: Alter>(
@@ -43,26 +33,28 @@ fn remake<S: Alter>(
         → OnOk result (IsRemade reads.now (state S.Store conn.old) (state S.Store conn.new)) }
     ensures failed { HasCleanDisk (state S.Store conn.new)
         → CanRemake (state S.Store conn.old).now.schema
-        → IfErr result (FailsToRemake (state S.Store conn.old) (state S.Store conn.new)) }
+        → IfErr result (FailsToRemake reads.now (state S.Store conn.old) (state S.Store conn.new)) }
     ensures kept { HasCleanDisk (state S.Store conn.new)
         → CanRemake (state S.Store conn.old).now.schema
         → OnErr result (IsKept (state S.Store conn.old) (state S.Store conn.new)) }
     ensures mode { conn.new.in_transaction ≡ false }
     ensures crash { Survives (state S.Store conn.old) (state S.Store conn.new)
-        (λ db. CanRemake (state S.Store conn.old).now.schema → AreRemade reads.now (tables_of db)
-        × KeepsOthers (state S.Store conn.old).now db) }
+        (λ db. CanRemake (state S.Store conn.old).now.schema
+        → RemakesTo reads.now (state S.Store conn.old).now db) }
 {
     match remake_tables(conn, alloc, reads) {
         Ok(()) => Ok(()),
-        Err(error) => Err(renew_fault(&error)),
+        Err(error) => Err(remake_fault(&error)),
     }
 }
 
-// The same with the rows that the tables have.
+// The same with the rows that the tables have, where their content is sound.
 fn renew_first<S: Alter>(alloc: Global, conn: &mut Connection<S>) -> Result<(), MigrateFault>
     requires mode { conn.old.in_transaction ≡ false }
     requires first { CanRemake (state S.Store conn.old).now.schema }
     requires open { HasCleanDisk (state S.Store conn.old) → IsTrue (state S.Store conn.old).is_open }
+    requires told { HasCleanDisk (state S.Store conn.old)
+        → AreOfFirst (tables_of (state S.Store conn.old).now.trees) }
     ensures renewed { HasCleanDisk (state S.Store conn.new)
         → OnOk result (IsRenewed (state S.Store conn.old) (state S.Store conn.new)) }
     ensures unrenewed { HasCleanDisk (state S.Store conn.new)
@@ -76,15 +68,22 @@ fn renew_first<S: Alter>(alloc: Global, conn: &mut Connection<S>) -> Result<(), 
     // its clause says that an open connection has a database
     let _ = conn.schema();
     match read_tables(alloc, conn, &TABLES) {
-        Ok(reads) => remake(alloc, conn, &reads),
+        Ok(reads) => match check_content(alloc, &reads) {
+            Ok(()) => remake(alloc, conn, &reads),
+            Err(fault) => Err(fault),
+        },
         Err(fault) => Err(fault),
     }
 }
 
-/// Makes the tables of schema 1 those of the current schema, with their rows, all of them or none.
+/// Makes the tables of schema 1 those of the current schema, with their rows, all of them or none, where their content
+/// is sound.
 pub(crate) fn renew<S: Alter>(alloc: Global, conn: &mut Connection<S>) -> Result<(), MigrateFault>
     requires mode { conn.old.in_transaction ≡ false }
     requires open { HasCleanDisk (state S.Store conn.old) → IsTrue (state S.Store conn.old).is_open }
+    requires told { HasCleanDisk (state S.Store conn.old)
+        → CanRemake (state S.Store conn.old).now.schema
+        → AreOfFirst (tables_of (state S.Store conn.old).now.trees) }
     ensures renewed { HasCleanDisk (state S.Store conn.new)
         → OnOk result (IsRenewed (state S.Store conn.old) (state S.Store conn.new)) }
     ensures unrenewed { HasCleanDisk (state S.Store conn.new)

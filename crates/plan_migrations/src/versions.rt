@@ -1,9 +1,12 @@
 // The version of a plan.
 
-ghost use Rattle.std.specs.Prelude.{◌≡◌, ◌↔◌, false, IsTrue};
+ghost use Rattle.std.specs.Prelude.{◌≡◌, ◌⊎◌, ◌↔◌, false, IfErr, IfOk, IsSome, IsTrue, Some};
 ghost use Rattle.sqlite.specs.State.{HasCleanDisk, Survives};
 ghost use Rattle.sqlite.specs.Held.{state};
-ghost use Rattle.plan_migrations.specs.Asking.{IsKept};
+ghost use Rattle.table_schema.specs.declared.tables.TheConstants.{SCHEMA_VERSION};
+ghost use Rattle.table_opening.specs.Foreign.{version_sql};
+ghost use Rattle.table_opening.specs.Held.{HoldsPlan};
+ghost use Rattle.plan_migrations.specs.Asking.{IsFailure, IsKept};
 ghost use Rattle.plan_migrations.specs.Schemas.{AreOf, TellsVersion};
 ghost use Rattle.plan_migrations.specs.declared.versions.TheConstants.{FIRST_VERSION};
 
@@ -31,16 +34,25 @@ fn is_first(rows: &[Cells]) -> bool
 }
 
 /// The version of the plan that the database has; `None` where it is without tables, which is where it refuses to show
-/// a version, neither for want of memory nor for the device. Nothing changes.
+/// a version, neither for want of memory nor for the device. Nothing changes. It looks at the version alone, so one that
+/// it knows is told whatever else is the matter with the tables; that of a sound plan is told but for a common cause, or
+/// a limit on steps.
 pub fn version<S: Alter>(conn: &mut Connection<S>) -> Result<Option<u32>, MigrateFault>
     requires { conn.old.in_transaction ≡ false }
     ensures tells { HasCleanDisk (state S.Store conn.new)
         → TellsVersion (state S.Store conn.old) (state S.Store conn.new) result }
+    ensures known { HasCleanDisk (state S.Store conn.new) → HoldsPlan (state S.Store conn.old)
+        → IfOk result (λ found. (found ≡ Some SCHEMA_VERSION)
+        ⊎ IsSome (state S.Store conn.old).step_limit) }
+    ensures common { HasCleanDisk (state S.Store conn.new) → HoldsPlan (state S.Store conn.old)
+        → IfErr result (IsFailure version_sql (state S.Store conn.old) (state S.Store conn.new)) }
     ensures kept { HasCleanDisk (state S.Store conn.new)
         → IsKept (state S.Store conn.old) (state S.Store conn.new) }
     ensures mode { conn.new.in_transaction ≡ false }
     ensures crash { Survives (state S.Store conn.old) (state S.Store conn.new) (λ _. ⊥) }
 {
+    // its clause says that an open connection has a database
+    let _ = conn.schema();
     match ask(conn, version_text()) {
         Ok(Some(rows)) => if is_known(&rows) {
             Ok(Some(SCHEMA_VERSION))

@@ -2,8 +2,8 @@ use Rattle.std.proofs.Common.{arith}
 use Rattle.sqlite.specs.Held.{state}
 use Rattle.sqlite.proofs.StateLemmas.{survives_then}
 use Rattle.plan_migrations.specs.Migrating.{MayRenew}
-use Rattle.plan_migrations.proofs.ReadLemmas.{current_migrated, current_unmigrated, first_migrated, first_unmigrated}
-use Rattle.plan_migrations.proofs.ReadLemmas.{renews_since}
+use Rattle.plan_migrations.proofs.ReadLemmas.{current_migrated, current_unmigrated, first_migrated, first_told}
+use Rattle.plan_migrations.proofs.ReadLemmas.{first_unmigrated, renews_since, untold}
 use Rattle.plan_migrations.proofs.TurnLemmas.{kept_since, same_if_version, told_some}
 use Rattle.plan_migrations.proofs.migrating.migrate.Goals as goal
 
@@ -69,8 +69,9 @@ returns-in-Err-renew-clause-unmigrated g c clean =
     let new = state g.S.Store c.renew.new.conn in
     let told = told_some old mid c.in-Ok-Some.field-0 c.in-Ok-Some.found c.in-Ok-Some.field-0-is
     (c.in-Ok-Some.ensures.tells (omega (arith, c.renew.ensures.crash.clean, clean))) in
-    first_unmigrated old mid new c.in-Ok-Some.found told c.version.ensures.crash.counts c.version.ensures.crash.limit
-    c.in-Err-renew.fault (c.in-Err-renew.ensures.unrenewed clean)
+    first_unmigrated old mid new c.in-Ok-Some.found told c.if-found-eq-SCHEMA_VERSION.false
+    c.version.ensures.crash.counts c.version.ensures.crash.limit c.in-Err-renew.fault
+    (c.in-Err-renew.ensures.unrenewed clean)
 
 pub returns-in-Err-renew-clause-kept : goal.returns-in-Err-renew-clause-kept
 returns-in-Err-renew-clause-kept g c clean =
@@ -100,3 +101,8 @@ returns-in-Err-renew-clause-crash g c =
     (λ clean db h. renews_since old mid c.in-Ok-Some.found (told_some old mid c.in-Ok-Some.field-0 c.in-Ok-Some.found
     c.in-Ok-Some.field-0-is (c.in-Ok-Some.ensures.tells (omega (arith, c.renew.ensures.crash.clean, clean)))).1 db h)
     c.version.ensures.crash c.renew.ensures.crash
+
+pub returns-in_Err-version-clause-unmigrated : goal.returns-in_Err-version-clause-unmigrated
+returns-in_Err-version-clause-unmigrated g c clean =
+    untold (state g.S.Store c.args.conn.now) (state g.S.Store c.version.new.conn) c.in-Err-version.fault
+    (c.in-Err-version.ensures.tells clean)

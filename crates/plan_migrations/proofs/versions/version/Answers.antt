@@ -1,4 +1,5 @@
 use Rattle.std.proofs.Common.{sym, subst}
+use Rattle.sqlite.specs.Held.{state}
 use Rattle.table_opening.specs.Queries.{IsReading}
 use Rattle.table_opening.proofs.ForeignLemmas.{version_reads}
 use Rattle.plan_migrations.proofs.versions.version.Goals as goal

@@ -1,0 +1,40 @@
+// The content of the tables of schema 1, before they are made anew.
+
+ghost use Rattle.std.specs.Prelude.{IfErr, OnOk};
+ghost use Rattle.table_remaking.specs.Remaking.{AreAllFirst, AreWhole};
+ghost use Rattle.plan_migrations.specs.Migrating.{FailToHold, HaveSound, TellsOf};
+
+use crate::faults::MigrateFault;
+use sqlite::Error;
+use std::alloc::Global;
+use table_opening::{OpenFault, fault_for, open_content};
+use table_remaking::{FirstRows, plan_in_memory};
+
+/// The fault of tables that are not made.
+pub(crate) fn remake_fault(error: &Error) -> MigrateFault
+    ensures { TellsOf error.now result }
+{
+    match fault_for(error, OpenFault::Unopened) {
+        OpenFault::Memory => MigrateFault::Memory,
+        OpenFault::Device => MigrateFault::Device,
+        _ => MigrateFault::OtherTable,
+    }
+}
+
+/// Looks whether the rows have a sound content, once tables of a plan in memory have them.
+pub(crate) fn check_content(alloc: Global, reads: &[FirstRows]) -> Result<(), MigrateFault>
+    requires whole { AreWhole reads.now }
+    requires typed { AreAllFirst reads.now }
+    ensures sound { OnOk result (HaveSound reads.now) }
+    ensures refused { IfErr result (FailToHold reads.now) }
+{
+    match plan_in_memory(alloc, reads) {
+        Ok(mut conn) => match open_content(alloc, &mut conn) {
+            Ok(_) => Ok(()),
+            Err(OpenFault::Rows) => Err(MigrateFault::Rows),
+            // nothing else can be the matter with tables that were just made in memory
+            Err(_) => Err(MigrateFault::Memory),
+        },
+        Err(error) => Err(remake_fault(&error)),
+    }
+}

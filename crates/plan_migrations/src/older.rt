@@ -1,0 +1,42 @@
+// A plan of an older version is migrated before it is adopted.
+
+ghost use Rattle.std.specs.Prelude.{◌≡◌, false, IfErr, OnErr, OnOk};
+ghost use Rattle.sqlite.specs.State.{HasCleanDisk, Survives};
+ghost use Rattle.sqlite.specs.Held.{state};
+ghost use Rattle.plan_migrations.specs.Asking.{IsKept};
+ghost use Rattle.plan_migrations.specs.Migrating.{IsUnmigrated, MayRenew};
+ghost use Rattle.plan_migrations.specs.Older.{IsCurrent};
+
+use crate::faults::MigrateFault;
+use crate::migrating::migrate;
+use crate::versions::{FIRST_VERSION, version};
+use sqlite::{Alter, Connection};
+use std::alloc::Global;
+
+/// Migrates a plan of an older version. One of the current version stays as it is, and so does a database without
+/// tables: its tables are looked at where it is adopted, so they are not read twice.
+pub fn migrate_older<S: Alter>(alloc: Global, conn: &mut Connection<S>) -> Result<(), MigrateFault>
+    requires { conn.old.in_transaction ≡ false }
+    ensures current { HasCleanDisk (state S.Store conn.new)
+        → OnOk result (IsCurrent (state S.Store conn.old) (state S.Store conn.new)) }
+    ensures unmigrated { HasCleanDisk (state S.Store conn.new)
+        → IfErr result (IsUnmigrated (state S.Store conn.old) (state S.Store conn.new)) }
+    ensures kept { HasCleanDisk (state S.Store conn.new)
+        → OnErr result (IsKept (state S.Store conn.old) (state S.Store conn.new)) }
+    ensures mode { conn.new.in_transaction ≡ false }
+    ensures crash { Survives (state S.Store conn.old) (state S.Store conn.new)
+        (MayRenew (state S.Store conn.old)) }
+{
+    match version(conn) {
+        Ok(Some(found)) => if found == FIRST_VERSION {
+            match migrate(alloc, conn) {
+                Ok(_) => Ok(()),
+                Err(fault) => Err(fault),
+            }
+        } else {
+            Ok(())
+        },
+        Ok(None) => Ok(()),
+        Err(fault) => Err(fault),
+    }
+}
