@@ -3,22 +3,26 @@ use Rattle.std.proofs.Common.{◌≡◌, ◌≤◌, ◌<◌, ◌+◌, ◌∙◌,
 use Rattle.std.proofs.Common.{get_or, drop-cons, add-one, refl, sym, ap, subst, arith, true≢false, IsSome, IsTrue, Result, Ok, Err}
 use Rattle.std.specs.Prelude.{IfErr, IsErrAnd, OnOk}
 use Rattle.sqlite.specs.Order.{Row as Values}
-use Rattle.sqlite.specs.Effect.{Database}
+use Rattle.sqlite.specs.Effect.{Database, IsDatabase}
 use Rattle.sqlite.specs.Held.{Held, state}
-use Rattle.sqlite.specs.State.{HasCause, IsLive, State, Survives}
+use Rattle.sqlite.specs.Schema.{Schema}
+use Rattle.sqlite.specs.State.{HasCause, HasCleanDisk, IsLive, State, Survives}
+use Rattle.sqlite.specs.Tree.{Trees}
+use Rattle.sqlite.proofs.StateLemmas.{survives_then}
 use Rattle.sqlite.specs.Steps.{FailsToCommit}
 use Rattle.sqlite.specs.Store.{Ghosts}
 use Rattle.sqlite.specs.declared.error.Error.{Error}
 use Rattle.sqlite.specs.declared.transaction.Transaction.{Transaction}
 use Rattle.sqlite_trees.specs.declared.error.StoreError.{StoreError}
 use Rattle.sqlite_trees.specs.declared.error.StoreError.TheVariants.{OutOfMemory, Io, Corrupt, Full, Broken, Unstorable}
-use Rattle.table_schema.specs.Rows.{IsAlone, IsPlan, MayFail, Tables, tables_of, with_cells, without_key}
+use Rattle.table_schema.specs.Rows.{HaveRowids, IsAlone, IsPlan, MayFail, Stands, Tables, tables_of, with_cells, without_key}
 use Rattle.table_schema.specs.Schema.{HasOwnIndexes}
 use Rattle.table_schema.specs.Takes.{IsSoundPlan, LosesKey, TakesRow}
 use Rattle.table_schema.specs.Writes.{TakesWhere, WritesWhere, seen}
 use Rattle.table_schema.proofs.StatementLemmas.{plan_still}
 use Rattle.table_schema.specs.declared.tables.Table.{Table}
 use Rattle.table_writing.specs.Taking.{TakesEach, WritesTaking}
+use Rattle.table_writing.specs.Writing.{HoldsWritten}
 
 -- what causes a failure after a statement caused it since that statement began
 pub may_since : (a b c : State) (e : Error) → a.faults ≤ b.faults → (IsTrue a.is_open → IsTrue b.is_open)
@@ -161,3 +165,48 @@ taken_by g old new result t given key same writes takes =
       survives = writes.survives;
       takes = takes;
     })
+
+-- what a crash leaves of a commit
+pub holds_written : (old start mid : State) (rows : Tables) (db : Trees) → start.now ≡ old.now → IsLive old
+    → Stands start mid rows → db ≡ mid.now.trees → HoldsWritten old rows db
+holds_written old start mid rows db same live stands is = record {
+  rows_are = ap tables_of is ∙ stands.rows_are;
+  rowids = λ t. subst (λ (d : Trees). HaveRowids (tables_of d t)) (sym is) (stands.plan.rowids t);
+  obeys = λ opens.
+      let was : IsDatabase start.now = subst IsDatabase (sym same) (live opens).0 in
+      let kept : mid.now.schema ≡ old.now.schema = stands.schema ∙ ap (λ (d : Database). d.schema) same in
+      subst (λ (d : Trees). IsDatabase (record { schema = old.now.schema; trees = d })) (sym is)
+      (subst (λ (s : Schema). IsDatabase (record { schema = s; trees = mid.now.trees })) kept (stands.obeys was));
+}
+
+-- of a whole transaction
+pub left_written : {S : Type 0} (g : Ghosts S) (conn begun : Held S) (mid end : State) (f : Tables → Tables)
+    → begun ≡ record conn { in_transaction = true } → IsLive (state g conn)
+    → Survives (state g begun) mid (λ _. ⊥) → Survives mid end (λ db. db ≡ mid.now.trees)
+    → (HasCleanDisk mid → IsPlan (state g begun) → IsTrue (state g begun).in_transaction
+    → Stands (state g begun) mid (f (tables_of (state g begun).now.trees)))
+    → Survives (state g conn) end (λ db. IsPlan (state g conn)
+    → HoldsWritten (state g conn) (f (tables_of (state g conn).now.trees)) db)
+left_written {S} g conn begun mid end f is live first last writes =
+    let old = state g conn in
+    let start = state g begun in
+    let k = subst (λ (h : Held S). Survives (state g h) mid (λ _. ⊥)) is first in
+    let one : Survives old mid (λ _. ⊥) = record {
+      clean = k.clean;
+      shield = k.shield;
+      counts = k.counts;
+      limit = k.limit;
+      closes = k.closes;
+      crash = k.crash;
+    } in
+    let Left : Trees → Type 0 = λ db. IsPlan old → HoldsWritten old (f (tables_of old.now.trees)) db in
+    survives_then old mid end (λ _. ⊥) (λ db. db ≡ mid.now.trees) Left (λ _ db none. absurd none)
+    (λ clean db left plan.
+    let calm : HasCleanDisk mid = omega (arith, last.clean) in
+    let starts : IsPlan start = subst (λ (h : Held S). IsPlan (state g h)) (sym is)
+    (record { schema = plan.schema; told = plan.told; rowids = plan.rowids }) in
+    let goes : IsTrue start.in_transaction = subst (λ (h : Held S). IsTrue h.in_transaction) (sym is) refl in
+    let stands = writes calm starts goes in
+    holds_written old start mid (f (tables_of old.now.trees)) db (ap (λ (h : Held S). (state g h).now) is) live
+    (subst (λ (all : Tables). Stands start mid (f all)) (ap (λ (h : Held S). tables_of (state g h).now.trees) is) stands)
+    left) one last

@@ -1,8 +1,10 @@
 -- What the statements of a change make of the tables.
-use Rattle.std.specs.Prelude.{◌≡◌, List, [], ◌∷◌, fold}
+use Rattle.std.specs.Prelude.{◌≡◌, List, [], ◌∷◌, fold, IsTrue}
+use Rattle.sqlite.specs.Effect.{IsDatabase}
 use Rattle.sqlite.specs.Order.{Row as Values}
 use Rattle.sqlite.specs.State.{State}
-use Rattle.table_schema.specs.Rows.{AreOfKinds, IsAlone, Stands, Tables, tables_of, with_cells, without_key}
+use Rattle.sqlite.specs.Tree.{Trees}
+use Rattle.table_schema.specs.Rows.{AreOfKinds, HaveRowids, IsAlone, Stands, Tables, tables_of, with_cells, without_key}
 use Rattle.table_schema.specs.declared.tables.Table.{Table}
 use Rattle.table_schema.specs.declared.tables.Table.TheVariants as table
 use Rattle.std.specs.Prelude.{ℕ, ◌&&◌, Bool, Option, Some, None, filter, nat_eq, not}
@@ -121,6 +123,13 @@ plans_written c change all =
     job_kept change.job
     (meta_moved change c.sets.bounds c.sets.issued c.definitions.options
     (links_moved c.in_force change.in_force (pairs_moved change.pairs (rows_moved change all))))
+
+-- what a commit of these rows leaves of a database: its tables have them, no two with one rowid; and where the
+-- connection was open it obeys the schema that it had
+pub record HoldsWritten (old : State) (rows : Tables) (db : Trees) : Type 0 where
+  pub rows_are : tables_of db ≡ rows
+  pub rowids : (t : Table) → HaveRowids (tables_of db t)
+  pub obeys : IsTrue old.is_open → IsDatabase (record { schema = old.now.schema; trees = db })
 
 -- the lists that come into force are in their order, and the answer of the job can be told
 pub record IsTellableChange (change : Change) : Type 0 where

@@ -12,7 +12,7 @@ ghost use Rattle.table_facts.specs.Content.{answer_text};
 ghost use Rattle.table_writing.specs.Redefining.{AreStorableMoves, written};
 ghost use Rattle.table_writing.specs.Taking.{TakesChange, TakesJob, TakesNewMeta, TakesPlans};
 ghost use Rattle.table_writing.specs.Taking.{WritesTaking};
-ghost use Rattle.table_writing.specs.Writing.{job_kept, meta_moved, plans_written};
+ghost use Rattle.table_writing.specs.Writing.{HoldsWritten, job_kept, meta_moved, plans_written};
 
 use crate::lone_rows::{put_job, write_meta};
 use crate::moves::{write_links, write_pairs, write_rows};
@@ -110,7 +110,8 @@ pub(crate) fn write_change<S: Alter>(
 }
 
 /// Makes a change in the tables of a content, which has its definitions already, in one transaction: all of it or
-/// nothing, also over a crash. The line is that of the answer of its job.
+/// nothing, also over a crash, which leaves a database with the tables of a plan. The line is that of the answer of its
+/// job.
 pub fn commit_change<S: Alter>(
     conn: &mut Connection<S>,
     alloc: Global,
@@ -143,9 +144,9 @@ pub fn commit_change<S: Alter>(
     ensures stays_open { HasCleanDisk (state S.Store conn.new) → OnOk result (IsTrue
         (state S.Store conn.new).is_open) }
     ensures crash { Survives (state S.Store conn.old) (state S.Store conn.new)
-        (λ db. IsPlan (state S.Store conn.old) → tables_of db
-        ≡ written (content_of content.now) moves.now change.now
-        (tables_of (state S.Store conn.old).now.trees)) }
+        (λ db. IsPlan (state S.Store conn.old) → HoldsWritten (state S.Store conn.old)
+        (written (content_of content.now) moves.now change.now
+        (tables_of (state S.Store conn.old).now.trees)) db) }
 {
     let settled = conn.is_autocommit();
     prove!(settled);

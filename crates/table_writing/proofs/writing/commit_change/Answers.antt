@@ -2,84 +2,40 @@ use Rattle.std.proofs.Common.{◌≡◌, not, ap, subst, sym, ◌∙◌, arith, 
 use Rattle.sqlite.specs.Held.{state}
 use Rattle.sqlite.specs.State.{HasCleanDisk, KeepsCommit, Survives}
 use Rattle.sqlite.specs.Tree.{Trees}
-use Rattle.sqlite.proofs.StateLemmas.{survives_then}
-use Rattle.table_schema.specs.Rows.{IsPlan, MayFail, tables_of}
+use Rattle.table_schema.specs.Rows.{IsPlan, MayFail, Tables, tables_of}
 use Rattle.plan_store.specs.Contents.{content_of}
 use Rattle.table_writing.specs.Redefining.{written}
 use Rattle.table_writing.specs.Taking.{TakesChange}
-use Rattle.table_writing.proofs.TakingLemmas.{begins_sound, commit_may, if_told, may_since, may_until, plan_on}
+use Rattle.table_writing.specs.Writing.{HoldsWritten}
+use Rattle.table_writing.proofs.TakingLemmas.{begins_sound, commit_may, if_told, left_written, may_since, may_until, plan_on}
 use Rattle.table_writing.proofs.Turns.{commit_fails, on_err}
 use Rattle.table_writing.proofs.writing.commit_change.Goals as goal
 
 pub returns-in_err-commit-clause-crash : goal.returns-in_err-commit-clause-crash
 returns-in_err-commit-clause-crash g c =
-    let begun = c.transaction-tx.ensures.begun in
     let old = state g.S.Store c.args.conn.now in
-    let start = state g.S.Store c.transaction-tx.result.conn.now in
     let mid = state g.S.Store c.write_change.new.tx.conn.now in
     let end = c.commit.new.self.0 in
     let same : end ≡ c.conn-2-1.given.0 = search rules in
-    let k = rw begun at c.write_change.ensures.survives in
-    let one : Survives old mid (λ _. ⊥) = record {
-      clean = k.clean;
-      shield = k.shield;
-      counts = k.counts;
-      limit =
-          k.limit;
-      closes = k.closes;
-      crash = k.crash;
-    } in
-    let goes : IsTrue c.transaction-tx.result.conn.now.in_transaction = rw begun in
-    let goal_of : Trees → Type 0 = λ db. IsPlan old → tables_of db ≡ written
-    (content_of c.args.content.now) c.args.moves.now c.args.change.now (tables_of old.now.trees) in
-    let both : Survives old (state g.S.Store end) goal_of = survives_then old mid (state g.S.Store end) (λ _. ⊥)
-    (λ db. db ≡ mid.now.trees) goal_of
-    (λ _ db none. absurd none)
-    (λ clean db e plan.
-    let calm : HasCleanDisk mid = omega (arith, c.commit.ensures.survives.clean) in
-    let starts : IsPlan start = subst (λ h. IsPlan (state g.S.Store h)) (sym begun)
-    (record { schema = plan.schema; told = plan.told; rowids = plan.rowids }) in
-    let stands = c.in_ok-write_change.ensures.ok calm starts goes c.requires.storable in
-    ap tables_of e ∙ stands.rows_are ∙ ap (λ h. written
-    (content_of c.args.content.now) c.args.moves.now c.args.change.now
-    (tables_of (state g.S.Store h).now.trees)) begun)
-    one c.commit.ensures.survives in
-    subst (λ h. Survives old (state g.S.Store h) goal_of) same both
+    let made : Tables → Tables = written (content_of c.args.content.now) c.args.moves.now c.args.change.now in
+    let Left : Trees → Type 0 = λ db. IsPlan old → HoldsWritten old (made (tables_of old.now.trees)) db in
+    subst (λ h. Survives old (state g.S.Store h) Left) same
+    (left_written g.S.Store c.args.conn.now c.transaction-tx.result.conn.now mid (state g.S.Store end) made
+    c.transaction-tx.ensures.begun c.schema.ensures.live c.write_change.ensures.survives c.commit.ensures.survives
+    (λ clean starts goes. c.in_ok-write_change.ensures.ok clean starts goes c.requires.storable))
 
 pub returns-clause-crash : goal.returns-clause-crash
 returns-clause-crash g c =
-    let begun = c.transaction-tx.ensures.begun in
     let old = state g.S.Store c.args.conn.now in
-    let start = state g.S.Store c.transaction-tx.result.conn.now in
     let mid = state g.S.Store c.write_change.new.tx.conn.now in
     let end = c.commit.new.self.0 in
     let same : end ≡ c.conn-2-1.given.0 = search rules in
-    let k = rw begun at c.write_change.ensures.survives in
-    let one : Survives old mid (λ _. ⊥) = record {
-      clean = k.clean;
-      shield = k.shield;
-      counts = k.counts;
-      limit =
-          k.limit;
-      closes = k.closes;
-      crash = k.crash;
-    } in
-    let goes : IsTrue c.transaction-tx.result.conn.now.in_transaction = rw begun in
-    let goal_of : Trees → Type 0 = λ db. IsPlan old → tables_of db ≡ written
-    (content_of c.args.content.now) c.args.moves.now c.args.change.now (tables_of old.now.trees) in
-    let both : Survives old (state g.S.Store end) goal_of = survives_then old mid (state g.S.Store end) (λ _. ⊥)
-    (λ db. db ≡ mid.now.trees) goal_of
-    (λ _ db none. absurd none)
-    (λ clean db e plan.
-    let calm : HasCleanDisk mid = omega (arith, c.commit.ensures.survives.clean) in
-    let starts : IsPlan start = subst (λ h. IsPlan (state g.S.Store h)) (sym begun)
-    (record { schema = plan.schema; told = plan.told; rowids = plan.rowids }) in
-    let stands = c.in_ok-write_change.ensures.ok calm starts goes c.requires.storable in
-    ap tables_of e ∙ stands.rows_are ∙ ap (λ h. written
-    (content_of c.args.content.now) c.args.moves.now c.args.change.now
-    (tables_of (state g.S.Store h).now.trees)) begun)
-    one c.commit.ensures.survives in
-    subst (λ h. Survives old (state g.S.Store h) goal_of) same both
+    let made : Tables → Tables = written (content_of c.args.content.now) c.args.moves.now c.args.change.now in
+    let Left : Trees → Type 0 = λ db. IsPlan old → HoldsWritten old (made (tables_of old.now.trees)) db in
+    subst (λ h. Survives old (state g.S.Store h) Left) same
+    (left_written g.S.Store c.args.conn.now c.transaction-tx.result.conn.now mid (state g.S.Store end) made
+    c.transaction-tx.ensures.begun c.schema.ensures.live c.write_change.ensures.survives c.commit.ensures.survives
+    (λ clean starts goes. c.in_ok-write_change.ensures.ok clean starts goes c.requires.storable))
 
 pub returns-clause-done : goal.returns-clause-done
 returns-clause-done g c clean plan =
