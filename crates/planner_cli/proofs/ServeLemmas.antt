@@ -1,6 +1,6 @@
 -- Lemmas on statements that are answered.
 use Rattle.std.proofs.Common.{◌≡◌, ◌≤◌, ◌∙◌, ℕ, List, [], ◌∷◌, length, refl, sym, ap, subst, inl, inr, arith}
-use Rattle.std.specs.Prelude.{Err, None, Ok, Some}
+use Rattle.std.specs.Prelude.{◌≢◌, ◌⊎◌, Err, None, Ok, Option, Some}
 use Rattle.std.proofs.lemmas.List.Elements.{All-cons}
 use Rattle.app_definitions.specs.Blocks.{IsFaultyAt, ReadsAs}
 use Rattle.app_definitions.specs.Definitions.{IsDefined, names_given}
@@ -8,7 +8,7 @@ use Rattle.app_definitions.specs.declared.definitions.Definitions.{Definitions}
 use Rattle.app_definitions.specs.declared.kinds.Block.{Block}
 use Rattle.app_definitions.specs.declared.kinds.Kind.{Kind}
 use Rattle.occurrences.specs.declared.refusal.Refusal.{Refusal}
-use Rattle.occurrences.specs.declared.refusal.Refusal.TheVariants.{FaultyData, NotDefined}
+use Rattle.occurrences.specs.declared.refusal.Refusal.TheVariants.{FaultyData, JobWithAnotherText, NotDefined}
 use Rattle.occurrences.specs.declared.reply.Reply.TheVariants.{Rows}
 use Rattle.run_cycles.specs.declared.named.Named.{Named}
 use Rattle.planner_machine.specs.Content.{Content}
@@ -16,6 +16,7 @@ use Rattle.planner_machine.specs.Days.{DaysRefused, ListsDays}
 use Rattle.planner_machine.specs.Decision.{Decides, Decision, IsLeastRefusal}
 use Rattle.planner_machine.specs.Define.{UndefineRefused}
 use Rattle.planner_machine.specs.Jobs.{AnswersJob, AnswersKept, kept, with_job}
+use Rattle.planner_machine.specs.declared.job.Job.{Job as KeptJob}
 use Rattle.planner_machine.specs.Laws.{IsWellFormed}
 use Rattle.planner_machine.specs.Sound.{IsSound}
 use Rattle.planner_machine.specs.Statement.{Answer, Change as MachineChange, Days, Define, DefineJob, Job, decision_of}
@@ -31,7 +32,7 @@ use Rattle.planner_cli.specs.Outcomes.{answer_text, answering}
 use Rattle.planner_cli.specs.Replies.{Reply}
 use Rattle.planner_cli.specs.Rows.{AreDaysLines}
 use Rattle.planner_cli.specs.Steps.{Serves}
-use Rattle.planner_cli.specs.Verdicts.{FitsVerdict, answer_in, job_left, left_by}
+use Rattle.planner_cli.specs.Verdicts.{FitsVerdict, IsKeptAnswer, answer_in, job_left, left_by}
 use Rattle.planner_cli.proofs.ChangeLemmas.{after_with_job, keeps_jobs}
 use Rattle.app_definitions.proofs.BlockNames.{names_few}
 
@@ -39,6 +40,17 @@ use Rattle.app_definitions.proofs.BlockNames.{names_few}
 abbrev pub AnswersBoth : ℕ → List ℕ → MachineChange → Content → Reply → Content → Type 0
 AnswersBoth number text change c reply c' =
     (answer : Answer) × AnswersJob number text (decision_of change) c answer c' × (reply ≡ answering answer)
+
+-- what a kept job answers
+pub kept_so : (o : Option KeptJob) (number : ℕ) (text : List ℕ) (d : Decision Content) (c : Content) (answer : Answer)
+    → IsKeptAnswer o text (Some answer) → AnswersKept number text d c o answer c
+kept_so None number text d c answer is = absurd (let no : ⊥ = cc is in no)
+kept_so (Some job) number text d c answer (a, is, h) =
+    let same : answer ≡ a = cc in (
+      refl,
+      subst (λ (x : Answer). ((job.text ≡ text) × (x ≡ job.reply))
+          ⊎ ((job.text ≢ text) × (x ≡ Err JobWithAnotherText))) (sym same) h,
+    )
 
 pub serves_job : (number : ℕ) (text : List ℕ) (change : MachineChange) (c : Content) → IsJobNumber number
     → IsWellFormed change

@@ -175,6 +175,26 @@ module _ {S : Type 0} (g : Ghosts S) where
       stays_whole = stays;
     }
 
+    -- it was read, and the answer is printed, or memory was refused
+    pub read_answered : (result : Result Printed StoreFault) (Does : Reply → Content → Type 0)
+        → (g.is_honest now → (reply : Reply) × Does reply (g.content before)
+        × IfOk result (λ printed. Prints reply printed.text.items printed.is_accepted))
+        → IfErr result (λ fault. fault ≡ Memory)
+        → AnswersBy g before now result Does
+    read_answered (Ok printed) Does told memory = read_printed printed Does told
+    read_answered (Err fault) Does told memory = record {
+      answers = λ honest. tt;
+      unchanged = λ honest is. reads.same honest;
+      whole = λ honest. inl (reads.same honest);
+      settled = λ honest own. tt;
+      crash = λ honest own c leaves. inl (own c (reads.crash honest c leaves));
+      blames = λ is. absurd (let no : Memory ≡ Device = sym memory ∙ is in let h : ⊥ = cc no in h);
+      counts = reads.counts;
+      honest = reads.honest;
+      clean = reads.clean;
+      stays_whole = tt;
+    }
+
 -- ---- a change that is made
 
 module _ {S : Type 0} (g : Ghosts S) (before now : S) where
