@@ -12,3 +12,4 @@ pub mod QueryLemmas
 pub mod ForeignLemmas
 pub mod FileLemmas
 pub mod TermLemmas
+pub mod SoundLemmas

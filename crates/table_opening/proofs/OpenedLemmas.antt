@@ -3,7 +3,6 @@ use Rattle.std.proofs.Common.{◌≡◌, ◌⊎◌, ◌∙◌, ◌≤◌, true, 
 use Rattle.std.proofs.Common.{Result, Ok, Err, None}
 use Rattle.std.specs.Prelude.{IfErr, IfOk, OnOk}
 use Rattle.sqlite.specs.Effect.{Database}
-use Rattle.sqlite.specs.Change.{KeepsRows}
 use Rattle.sqlite.specs.State.{HasCleanDisk, IsLive, IsUnchanged, State, Survives}
 use Rattle.sqlite.specs.declared.error.Error.{Error}
 use Rattle.sqlite_trees.specs.declared.error.StoreError.TheVariants as store
@@ -16,6 +15,8 @@ use Rattle.table_schema.specs.Made.{IsMadeWhole}
 use Rattle.table_schema.specs.Rows.{MayFail, Stands, Tables, tables_of, with_cells}
 use Rattle.table_schema.specs.declared.tables.Table.TheVariants as table
 use Rattle.table_facts.specs.Content.{IsContentOf, meta_values}
+use Rattle.table_schema.specs.Schema.{HasOwnIndexes}
+use Rattle.table_schema.proofs.MadeLemmas.{own_indexes}
 use Rattle.table_schema.proofs.MakingLemmas.{others_kept}
 use Rattle.table_schema.proofs.NamedLemmas.{tells}
 use Rattle.table_schema.proofs.StatementLemmas.{plan_still}
@@ -53,14 +54,25 @@ pub first_told : (all : Tables) (c : Content) → all ≡ first_rows → c ≡ n
 first_told all c rows is =
     subst (IsContentOf all) (sym is) (subst (λ (a : Tables). IsContentOf a nothing_known) (sym rows) first_content)
 
-pub makes_first : (old new : State) → HasRoom old
-    → Survives old new (λ db. HasRoom old → (tables_of db ≡ first_rows)
-    × KeepsRows old.now.schema.tables old.now.trees db) → Survives old new (MakesFirst old)
-makes_first old new room = survives_weaker old new _ _ (λ clean db made. record {
+-- what the transaction that makes them commits
+pub makes_of : (old mid : State) → HasRoom old → IsMadeFirst old.now mid → MakesFirst old mid.now.trees
+makes_of old mid room is = record {
   room = room;
-  content = first_told (tables_of db) nothing_known (made room).0 refl;
-  others = (made room).1;
-})
+  schema = mid.now.schema;
+  obeys = is.obeys;
+  plan = is.plan.schema;
+  content = first_told (tables_of mid.now.trees) nothing_known is.rows_are refl;
+  rowids = is.plan.rowids;
+  others = is.beside.others;
+}
+
+pub makes_first : (old new : State) → HasRoom old → Survives old new (λ db. HasRoom old → MakesFirst old db)
+    → Survives old new (MakesFirst old)
+makes_first old new room = survives_weaker old new _ _ (λ clean db made. made room)
+
+pub makes_once : (old new : State) → Survives old new (λ db. HasRoom old → HasRoom old → MakesFirst old db)
+    → Survives old new (λ db. HasRoom old → MakesFirst old db)
+makes_once old new = survives_weaker old new _ _ (λ clean db made room. made room room)
 
 -- the first row makes the tables of which nothing is known
 pub made_first : {A E : Type 0} (r : Result A E) (base : Database) (old new : State) → IsMadeWhole base old
@@ -74,6 +86,7 @@ made_first (Ok a) base old new begun stands = record {
   plan = stands.plan;
   rows_are = stands.rows_are
       ∙ ap (with_cells table.Meta (meta_values None 0 default_options)) begun.rows_are;
+  obeys = stands.obeys begun.sound;
   mode = stands.mode;
 }
 made_first (Err e) base old new begun stands = tt
@@ -84,8 +97,14 @@ pub opened_of : {A : Type 0} (r : Result A OpenFault) (old new : State) (value :
     → (HasRoom old → IfOk r (λ a. value a ≡ nothing_known))
     → (HasCleanDisk new → HasRoom old → IfOk r (λ _. IsBeside old.now new.now))
     → IfOk r (λ a. IsOpened old new (value a))
-opened_of (Ok a) old new value sound stored told empty beside =
-    record { sound = sound; stored = stored; told = told; empty = empty; beside = beside }
+opened_of (Ok a) old new value sound stored told empty beside = record {
+  sound = sound;
+  stored = stored;
+  told = told;
+  empty = empty;
+  beside = beside;
+  own = λ clean room. subst HasOwnIndexes (sym (beside clean room).schema) (own_indexes old.now.schema room);
+}
 opened_of (Err e) old new value sound stored told empty beside = tt
 
 -- ---- why it is not opened

@@ -1,7 +1,7 @@
 -- The tables of a content of which nothing is known.
 use Rattle.std.specs.Prelude.{◌≡◌, None, IsTrue}
 use Rattle.sqlite.specs.Change.{KeepsRows}
-use Rattle.sqlite.specs.Effect.{Database}
+use Rattle.sqlite.specs.Effect.{Database, IsDatabase}
 use Rattle.sqlite.specs.State.{State}
 use Rattle.app_definitions.specs.Options.{default_options}
 use Rattle.table_schema.specs.Free.{with_plan}
@@ -18,9 +18,11 @@ pub record IsBeside (old new : Database) : Type 0 where
   pub schema : new.schema ≡ with_plan old.schema
   pub others : KeepsRows old.schema.tables old.trees new.trees
 
--- in a transaction the database has the tables of a plan beside those with which it began, and these rows in them
+-- in a transaction the database has the tables of a plan beside those with which it began, and these rows in them, and
+-- obeys its rules
 pub record IsMadeFirst (base : Database) (s : State) : Type 0 where
   pub beside : IsBeside base s.now
   pub plan : IsPlan s
   pub rows_are : tables_of s.now.trees ≡ first_rows
+  pub obeys : IsDatabase s.now
   pub mode : IsTrue s.in_transaction

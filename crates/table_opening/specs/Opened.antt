@@ -1,7 +1,8 @@
 -- A database that keeps a content.
 use Rattle.std.specs.Prelude.{◌≡◌, ◌⊎◌, false, IsSome, IsTrue, ⊤}
 use Rattle.sqlite.specs.Change.{KeepsRows}
-use Rattle.sqlite.specs.Effect.{Database}
+use Rattle.sqlite.specs.Effect.{Database, IsDatabase}
+use Rattle.sqlite.specs.Schema.{Schema}
 use Rattle.sqlite.specs.State.{State}
 use Rattle.sqlite.specs.Tree.{Trees}
 use Rattle.sqlite_disk.specs.Disk.{MoreFaults}
@@ -10,6 +11,7 @@ use Rattle.table_schema.specs.Rows.{IsPlan, tables_of}
 use Rattle.table_schema.specs.Free.{IsFree}
 use Rattle.table_schema.specs.Schema.{HasTables}
 use Rattle.table_facts.specs.Content.{IsContentOf}
+use Rattle.table_opening.specs.Stored.{AllHaveRowids}
 use Rattle.table_opening.specs.declared.faults.OpenFault.{OpenFault}
 use Rattle.table_opening.specs.declared.faults.OpenFault.TheVariants.{Memory, Device, Unopened, Tables as OtherTables}
 
@@ -29,11 +31,15 @@ pub record IsStored (s : State) (c : Content) : Type 0 where
 abbrev pub IsToldBy : Database → Content → Type 0
 IsToldBy db c = (HasTables db.schema × IsContentOf (tables_of db.trees) c) ⊎ (IsFree db.schema × (c ≡ nothing_known))
 
--- what opening may commit: the tables of a content of which nothing is known, where nothing was in their way; each other
--- table keeps its rows
+-- what opening may commit, where nothing was in their way: a database with the tables of the plan, which tell a content of
+-- which nothing is known, no two rows of a table with one rowid; each other table keeps its rows
 pub record MakesFirst (s : State) (db : Trees) : Type 0 where
   pub room : HasRoom s
+  pub schema : Schema
+  pub obeys : IsDatabase (record { schema = schema; trees = db })
+  pub plan : HasTables schema
   pub content : IsContentOf (tables_of db) nothing_known
+  pub rowids : AllHaveRowids (tables_of db)
   pub others : KeepsRows s.now.schema.tables s.now.trees db
 
 -- why a database that has the tables of the plan is not opened: for the device only where it failed meanwhile or the
@@ -51,3 +57,11 @@ IsUnmade old new Memory = ⊤
 IsUnmade old new Device = MoreFaults old.faults new.faults ⊎ (old.is_open ≡ false)
 IsUnmade old new Unopened = IsSome old.step_limit
 IsUnmade old new _ = ⊥
+
+-- why a database that holds a sound plan is not opened, for nothing that stands in it: memory is short, the device failed
+-- meanwhile, the connection was shut before, or a limit on steps is set
+abbrev pub IsCommon : State → State → OpenFault → Type 0
+IsCommon old new Memory = ⊤
+IsCommon old new Device = MoreFaults old.faults new.faults ⊎ (old.is_open ≡ false)
+IsCommon old new OtherTables = IsSome old.step_limit
+IsCommon old new _ = ⊥

@@ -3,6 +3,7 @@ use Rattle.std.specs.Prelude.{◌≡◌, ◌⊎◌}
 use Rattle.sqlite.specs.State.{HasCleanDisk, State}
 use Rattle.planner_machine.specs.Content.{Content, nothing_known}
 use Rattle.planner_machine.specs.Sound.{IsSound}
+use Rattle.table_schema.specs.Schema.{HasOwnIndexes}
 use Rattle.table_reading.specs.Reading.{HasPlan}
 use Rattle.table_opening.specs.First.{IsBeside}
 use Rattle.table_opening.specs.Foreign.{IsForeign}
@@ -24,13 +25,14 @@ IsFound s Room = HasRoom s
 IsFound s Others = HasOthers s
 
 -- the database keeps a sound content, which it told before; where it had room for the tables of a plan nothing is known,
--- and they stand beside the others, which keep their rows
+-- and they stand beside the others, which keep their rows, with the indexes of their keys and no other
 pub record IsOpened (old new : State) (c : Content) : Type 0 where
   pub sound : IsSound c
   pub stored : HasCleanDisk new → IsStored new c
   pub told : HasCleanDisk new → IsToldBy old.now c
   pub empty : HasRoom old → c ≡ nothing_known
   pub beside : HasCleanDisk new → HasRoom old → IsBeside old.now new.now
+  pub own : HasCleanDisk new → HasRoom old → HasOwnIndexes new.now.schema
 
 -- why a database that has the tables of a plan is not opened: for its rows only where its version is known and they
 -- hold no sound content, and for its version only where that is not known

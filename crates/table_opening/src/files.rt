@@ -31,8 +31,8 @@ fn unopened_for(error: &Error) -> OpenFault
 }
 
 /// The database in the files at the path, which are made where there are none; `start` stands for what they hold. A file
-/// that is new gets the sums of its pages if that is asked for; one that has them is held to them always. Where it is not
-/// opened, the fault comes with what is left of the files, once they were opened, and with what `sqlite` said. The path
+/// that is new gets the sums of its pages if that is asked for; one that has them is held to them always. Where the disk was
+/// honest, each later read is tested against a digest. Where it is not opened, the fault comes with what is left of the files, once they were opened, and with what `sqlite` said. The path
 /// is taken as it is.
 pub fn open_connection_with<S: Start>(
     rt: &HostRuntime,
@@ -46,6 +46,8 @@ pub fn open_connection_with<S: Start>(
     ensures sums { IfOk result (λ conn. HasCleanDisk (file_state conn)
         → IsBlankAs new_has_sums (image_at S.Start) → (view conn.store).has_sums ≡ new_has_sums) }
     ensures fresh { IfOk result IsNew }
+    ensures guarded { IfOk result (λ conn. HasCleanDisk (file_state conn)
+        → (file_state conn).IsShielded) }
     ensures cases { IfErr result (λ left. (left.0 ≡ Memory) ⊎ (left.0 ≡ Device)
         ⊎ (left.0 ≡ Unopened)) }
     ensures unopened { IfErr result (λ left. left.1 ≡ None → (left.0 ≡ Memory)
@@ -73,6 +75,8 @@ pub fn open_connection_from<S: Start>(
     ensures plain { IfOk result (λ conn. HasCleanDisk (file_state conn)
         → IsBlankAs false (image_at S.Start) → (view conn.store).has_sums ≡ false) }
     ensures fresh { IfOk result IsNew }
+    ensures guarded { IfOk result (λ conn. HasCleanDisk (file_state conn)
+        → (file_state conn).IsShielded) }
     ensures cases { IfErr result (λ left. (left.0 ≡ Memory) ⊎ (left.0 ≡ Device)
         ⊎ (left.0 ≡ Unopened)) }
     ensures unopened { IfErr result (λ left. left.1 ≡ None → (left.0 ≡ Memory)
@@ -95,6 +99,8 @@ pub fn open_connection(
 ) -> Result<Connection<FileStore<File>>, OpenFault>
     ensures opened { IfOk result (λ conn. HasCleanDisk (file_state conn) → IsOpened conn) }
     ensures fresh { IfOk result IsNew }
+    ensures guarded { IfOk result (λ conn. HasCleanDisk (file_state conn)
+        → (file_state conn).IsShielded) }
     ensures cases { IfErr result (λ fault. (fault ≡ Memory) ⊎ (fault ≡ Device)
         ⊎ (fault ≡ Unopened)) }
 {

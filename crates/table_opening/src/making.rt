@@ -3,12 +3,12 @@
 ghost use Rattle.std.specs.Prelude.{◌≡◌, false, IfErr, OnOk, IsTrue};
 ghost use Rattle.sqlite.specs.State.{HasCleanDisk, Survives};
 ghost use Rattle.sqlite.specs.Held.{state};
-ghost use Rattle.sqlite.specs.Change.{KeepsRows};
 ghost use Rattle.table_schema.specs.Free.{IsFree};
 ghost use Rattle.table_schema.specs.Made.{IsMadeWhole, IsReady};
 ghost use Rattle.table_schema.specs.Rows.{IsPlan, MayFail, tables_of};
 ghost use Rattle.table_schema.specs.Writes.{Makes};
 ghost use Rattle.table_opening.specs.First.{IsBeside, IsMadeFirst, first_rows};
+ghost use Rattle.table_opening.specs.Opened.{MakesFirst};
 
 use app_definitions::MAX_EXTENSION_HOURS;
 use sqlite::types::ValueRef;
@@ -65,8 +65,7 @@ pub(crate) fn make_first<S: Alter>(conn: &mut Connection<S>) -> Result<(), Error
     ensures stays_open { HasCleanDisk (state S.Store conn.new)
         → OnOk result (IsTrue (state S.Store conn.new).is_open) }
     ensures crash { Survives (state S.Store conn.old) (state S.Store conn.new)
-        (λ db. IsFree (state S.Store conn.old).now.schema → (tables_of db ≡ first_rows)
-        × KeepsRows (state S.Store conn.old).now.schema.tables (state S.Store conn.old).now.trees db) }
+        (λ db. IsFree (state S.Store conn.old).now.schema → MakesFirst (state S.Store conn.old) db) }
 {
     let mut tx = conn.transaction();
     make_inside(&mut tx)?;

@@ -15,7 +15,7 @@ ghost use Rattle.table_opening.specs.declared.faults.OpenFault.TheVariants.{Memo
 ghost use Rattle.table_opening.specs.First.{IsBeside};
 ghost use Rattle.table_opening.specs.Foreign.{IsForeign};
 ghost use Rattle.table_opening.specs.Held.{AreKnown, HoldSound, HoldsPlan};
-ghost use Rattle.table_opening.specs.Opened.{HasRoom, IsCaused, IsStored, IsUnmade, MakesFirst};
+ghost use Rattle.table_opening.specs.Opened.{HasRoom, IsCaused, IsCommon, IsStored, IsUnmade, MakesFirst};
 ghost use Rattle.table_opening.specs.Opening.{IsOpened, IsUnopened};
 ghost use Rattle.table_opening.specs.Stored.{TellStored};
 
@@ -205,13 +205,18 @@ fn foreign_fault<S: Alter>(conn: &mut Connection<S>) -> OpenFault
 
 /// Opens a database: it has the tables of the plan, of a known version, and they tell a sound content; or nothing in it
 /// is in their way, and it gets those of a content of which nothing is known, beside its own. Where it is not opened, it
-/// stays as it was.
+/// stays as it was. One that holds a sound plan is opened with it, and is refused for nothing that stands in it.
 pub fn open_content<S: Alter>(alloc: Global, conn: &mut Connection<S>) -> Result<Content, OpenFault>
     requires { conn.old.in_transaction ≡ false }
     ensures opened { IfOk result (λ content.
         IsOpened (state S.Store conn.old) (state S.Store conn.new) (content_of content)) }
     ensures unopened { HasCleanDisk (state S.Store conn.new)
         → IfErr result (IsUnopened (state S.Store conn.old) (state S.Store conn.new)) }
+    ensures holds { HasCleanDisk (state S.Store conn.new) → HoldsPlan (state S.Store conn.old)
+        → IfErr result (IsCommon (state S.Store conn.old) (state S.Store conn.new)) }
+    ensures tells { HasCleanDisk (state S.Store conn.new) → HoldsPlan (state S.Store conn.old)
+        → IfOk result (λ content. IsContentOf (tables_of (state S.Store conn.old).now.trees)
+        (content_of content)) }
     ensures mode { conn.new.in_transaction ≡ false }
     ensures crash { Survives (state S.Store conn.old) (state S.Store conn.new)
         (MakesFirst (state S.Store conn.old)) }

@@ -1,11 +1,12 @@
 use Rattle.std.proofs.Common.{◌≡◌, ◌∙◌, ap, rules, subst, sym}
-use Rattle.sqlite.specs.Change.{KeepsRows}
 use Rattle.sqlite.specs.Effect.{Database}
 use Rattle.sqlite.specs.Held.{state}
 use Rattle.table_schema.proofs.OnceLemmas.{left, made, unended, unmade}
 use Rattle.table_schema.proofs.StatementLemmas.{plan_still}
 use Rattle.table_schema.specs.Rows.{tables_of}
-use Rattle.table_opening.specs.First.{IsBeside, IsMadeFirst, first_rows}
+use Rattle.table_opening.specs.First.{IsBeside, IsMadeFirst}
+use Rattle.table_opening.specs.Opened.{HasRoom, MakesFirst}
+use Rattle.table_opening.proofs.OpenedLemmas.{makes_of, makes_once}
 use Rattle.table_opening.proofs.making.make_first.Goals as goal
 
 pub returns-in_err-make_inside-clause-fails : goal.returns-in_err-make_inside-clause-fails
@@ -24,12 +25,12 @@ returns-in_err-commit-clause-fails g c clean free =
 
 pub returns-in_err-commit-clause-crash : goal.returns-in_err-commit-clause-crash
 returns-in_err-commit-clause-crash g c =
-    let old = (state g.S.Store c.args.conn.now).now in
-    left g.S.Store c.args.conn.now c.transaction-tx.result c.make_inside.new.tx IsMadeFirst
+    let old = state g.S.Store c.args.conn.now in
+    makes_once old (state g.S.Store c.conn-2-1.given.0)
+    (left g.S.Store c.args.conn.now c.transaction-tx.result c.make_inside.new.tx IsMadeFirst
     c.transaction-tx.ensures.begun c.commit.new.self.0 c.conn-2-1.given.0 (search rules)
-    _ c.in_ok-make_inside.ensures c.commit.ensures.survives
-    (λ db. (tables_of db ≡ first_rows) × KeepsRows old.schema.tables old.trees db)
-    (λ is. (is.rows_are, is.beside.others))
+    _ c.in_ok-make_inside.ensures c.commit.ensures.survives (λ db. HasRoom old → MakesFirst old db)
+    (λ is room. makes_of old (state g.S.Store c.make_inside.new.tx.conn.now) room is))
 
 pub returns-clause-done : goal.returns-clause-done
 returns-clause-done g c clean free =
@@ -48,9 +49,9 @@ returns-clause-beside g c clean free =
 
 pub returns-clause-crash : goal.returns-clause-crash
 returns-clause-crash g c =
-    let old = (state g.S.Store c.args.conn.now).now in
-    left g.S.Store c.args.conn.now c.transaction-tx.result c.make_inside.new.tx IsMadeFirst
+    let old = state g.S.Store c.args.conn.now in
+    makes_once old (state g.S.Store c.conn-2-1.given.0)
+    (left g.S.Store c.args.conn.now c.transaction-tx.result c.make_inside.new.tx IsMadeFirst
     c.transaction-tx.ensures.begun c.commit.new.self.0 c.conn-2-1.given.0 (search rules)
-    _ c.in_ok-make_inside.ensures c.commit.ensures.survives
-    (λ db. (tables_of db ≡ first_rows) × KeepsRows old.schema.tables old.trees db)
-    (λ is. (is.rows_are, is.beside.others))
+    _ c.in_ok-make_inside.ensures c.commit.ensures.survives (λ db. HasRoom old → MakesFirst old db)
+    (λ is room. makes_of old (state g.S.Store c.make_inside.new.tx.conn.now) room is))

@@ -5,6 +5,7 @@ use Rattle.plan_store.specs.Contents.{content_of}
 use Rattle.table_reading.specs.Reading.{HasPlan}
 use Rattle.table_opening.proofs.OpenedLemmas.{opened_of, unmade_of, unread_of}
 use Rattle.table_opening.proofs.OpeningLemmas.{room_has_none}
+use Rattle.table_opening.proofs.SoundLemmas.{common_of}
 use Rattle.table_opening.proofs.opening.open_content.Goals as goal
 
 pub returns-in-Ok-Plan-clause-opened : goal.returns-in-Ok-Plan-clause-opened
@@ -45,3 +46,29 @@ pub returns-in-Ok-Others-clause-unopened : goal.returns-in-Ok-Others-clause-unop
 returns-in-Ok-Others-clause-unopened g c clean =
     let others = rw c.in-Ok-Others.field-0-is at c.in-Ok-Others.ensures in
     inr (inr (inr (others, c.foreign_fault.ensures.told clean)))
+
+pub returns-in-Ok-Plan-clause-holds : goal.returns-in-Ok-Plan-clause-holds
+returns-in-Ok-Plan-clause-holds g c clean holds =
+    let old = state g.S.Store c.args.conn.now in
+    let new = state g.S.Store c.open_plan.new.conn in
+    let plan = rw c.in-Ok-Plan.field-0-is at c.in-Ok-Plan.ensures in
+    common_of c.open_plan.result old new holds (unread_of c.open_plan.result old new plan
+    (c.open_plan.ensures.caused clean)
+    (λ is. ((plan, c.open_plan.ensures.known clean is), λ held. c.open_plan.ensures.rows clean held is))
+    (λ has. c.open_plan.ensures.version clean has.1))
+
+pub returns-in-Ok-Plan-clause-tells : goal.returns-in-Ok-Plan-clause-tells
+returns-in-Ok-Plan-clause-tells g c clean holds = c.open_plan.ensures.told clean
+
+pub returns-in-Ok-Room-clause-holds : goal.returns-in-Ok-Room-clause-holds
+returns-in-Ok-Room-clause-holds g c clean holds =
+    absurd (room_has_none (state g.S.Store c.args.conn.now) (rw c.in-Ok-Room.field-0-is at c.in-Ok-Room.ensures) holds.0)
+
+pub returns-in-Ok-Room-clause-tells : goal.returns-in-Ok-Room-clause-tells
+returns-in-Ok-Room-clause-tells g c clean holds =
+    absurd (room_has_none (state g.S.Store c.args.conn.now) (rw c.in-Ok-Room.field-0-is at c.in-Ok-Room.ensures) holds.0)
+
+pub returns-in-Ok-Others-clause-holds : goal.returns-in-Ok-Others-clause-holds
+returns-in-Ok-Others-clause-holds g c clean holds =
+    let others = rw c.in-Ok-Others.field-0-is at c.in-Ok-Others.ensures in
+    absurd (others.0 holds.0)
