@@ -68,14 +68,14 @@ module _ (forms : Forms) where
     each_of h Dependency = h.1.1.1.1.1.1.1.1.1.1.1.1.0
     each_of h Job = h.1.1.1.1.1.1.1.1.1.1.1.1.1.0
 
-    each : All P (formed forms) → (t : Table) → P (forms.form t)
+    pub each : All P (formed forms) → (t : Table) → P (forms.form t)
     each all = each_of (recursion_from_All P (formed forms) all)
 
     each_formed : ((t : Table) → P (forms.form t)) → (ts : List Table) → AllByRecursion P (map forms.form ts)
     each_formed h [] = tt
     each_formed h (t ∷ ts) = (h t, each_formed h ts)
 
-    all_each : ((t : Table) → P (forms.form t)) → All P (formed forms)
+    pub all_each : ((t : Table) → P (forms.form t)) → All P (formed forms)
     all_each h = All-from_recursion P (formed forms) (each_formed h all_tables)
 
   -- the reference is to none of them

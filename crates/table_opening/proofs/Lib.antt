@@ -13,3 +13,4 @@ pub mod ForeignLemmas
 pub mod FileLemmas
 pub mod TermLemmas
 pub mod SoundLemmas
+pub mod IndexLemmas

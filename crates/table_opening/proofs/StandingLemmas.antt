@@ -20,7 +20,7 @@ use Rattle.table_schema.specs.declared.tables.Table.TheVariants.{Meta}
 use Rattle.table_opening.specs.Standing.{AreAside, CanMake, StandAmong}
 use Rattle.table_opening.proofs.AmongLemmas.{Forms, are_there, asides_each, each_asides, they_stand}
 
-abbrev forms : Forms
+abbrev pub forms : Forms
 forms = record { form = table; named = λ t. refl; offsets = refl }
 
 pub stand_iff : (schema : Schema) (made : List Described) → made ≡ plan_schema.tables

@@ -11,3 +11,4 @@ pub mod Foreign
 pub mod Files
 pub mod Alike
 pub mod Standing
+pub mod Indexes

@@ -2,9 +2,10 @@
 
 ghost use Rattle.std.specs.Prelude.{◌≡◌, ◌↔◌, IsTrue};
 ghost use Rattle.table_opening.specs.Alike.{HaveSameChecks, HaveSameColumns, HaveSameKeys, IsAlike};
+ghost use Rattle.table_opening.specs.Indexes.{IsOfKey};
 
 use crate::same_schema::values::{Same, are_same};
-use sqlite_schema::schema::{Column, Reference, Stamps, Table};
+use sqlite_schema::schema::{Column, Index, Reference, Stamps, Table};
 
 impl Same for Column {
     fn is_same(&self, other: &Column) -> bool {
@@ -73,4 +74,17 @@ pub(crate) fn is_alike(a: &Table, b: &Table) -> bool
     ensures { IsTrue result ↔ IsAlike a.now b.now }
 {
     has_same_columns(a, b) && has_same_keys(a, b) && has_same_checks(a, b)
+}
+
+/// Whether the index is that of the only key of the table.
+pub(crate) fn has_key(made: &Table, index: &Index) -> bool
+    ensures { IsTrue result ↔ IsOfKey made.now index.now }
+{
+    let [columns] = made.uniques.as_slice() else {
+        return false;
+    };
+    let [order] = made.orders.as_slice() else {
+        return false;
+    };
+    columns.is_same(&index.columns) && order.is_same(&index.order)
 }

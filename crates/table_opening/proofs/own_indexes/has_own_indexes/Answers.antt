@@ -1,0 +1,19 @@
+use Rattle.std.proofs.Common.{◌≡◌, ◌↔◌, ◌∙◌, ap, subst, sym}
+use Rattle.sqlite.proofs.Callers.{memory_is_clean}
+use Rattle.sqlite.specs.Schema.{Schema}
+use Rattle.table_schema.specs.Free.{IsFree}
+use Rattle.table_schema.specs.Schema.{HasOwnIndexes, HasTables}
+use Rattle.table_schema.proofs.MadeLemmas.{nothing_is_free}
+use Rattle.table_opening.proofs.IndexLemmas.{own_told}
+use Rattle.table_opening.proofs.StandingLemmas.{made_alone}
+use Rattle.table_opening.proofs.own_indexes.has_own_indexes.Goals as goal
+
+pub returns : goal.returns
+returns g c has =
+    let empty = c.in_ok-made.ensures.empty.2 in
+    let beside = c.in_ok-make_tables.ensures.beside (memory_is_clean c.make_tables.new.conn) (subst IsFree (sym empty)
+    nothing_is_free) in
+    let alone = c.schema-plan.ensures.value ∙ made_alone _ _ empty beside.0 in
+    own_told c.schema-schema.result.now _ (c.as_slice.ensures) (c.as_slice-2.ensures)
+    (c.as_slice-3.ensures ∙ ap (λ (s : Schema). s.tables) alone) c.schema-schema.ensures.value has c.are_own.result
+    c.are_own.ensures

@@ -1,0 +1,64 @@
+// Indexes of the tables of a plan.
+
+ghost use Rattle.std.specs.Prelude.{◌≡◌, ◌↔◌, IfOk, IsTrue};
+ghost use Rattle.std.specs.List.{All};
+ghost use Rattle.sqlite.specs.Held.{state};
+ghost use Rattle.table_schema.specs.Schema.{HasOwnIndexes, HasTables};
+ghost use Rattle.table_opening.specs.Indexes.{AreOwn, IsOfKey, IsOwn, IsOwnOf};
+
+use crate::same_schema::tables::has_key;
+use sqlite::{Alter, Connection, Error};
+use sqlite_schema::schema::{Index, Table};
+use std::alloc::Global;
+use table_schema::{first_named, make_tables};
+
+// Whether it is in another tree than the first table of the name, or that of its only key.
+#[tactic(auto, unfolding(crate::specs::Indexes::IsOwnOf))]
+fn is_own_of(index: &Index, tables: &[Table], made: &Table) -> bool
+    ensures { IsTrue result ↔ IsOwnOf tables.now index.now made.now }
+{
+    match first_named(tables, made.name.as_slice()) {
+        Some(found) => index.table != found.tree || has_key(made, index),
+        None => false,
+    }
+}
+
+// Whether it is so of each of these.
+fn is_own(index: &Index, tables: &[Table], made: &[Table]) -> bool
+    ensures { IsTrue result ↔ IsOwn tables.now made.now index.now }
+{
+    for table in made {
+        if !is_own_of(index, tables, table) {
+            return false;
+        }
+    }
+    true
+}
+
+// Whether each of the indexes is.
+fn are_own(indexes: &[Index], tables: &[Table], made: &[Table]) -> bool
+    ensures { IsTrue result ↔ AreOwn tables.now made.now indexes.now }
+{
+    for index in indexes {
+        if !is_own(index, tables, made) {
+            return false;
+        }
+    }
+    true
+}
+
+/// Whether the tables of the plan have no indexes but those of their keys, in a database that has these tables: one that
+/// someone made beside may refuse a row.
+pub fn has_own_indexes<S: Alter>(alloc: Global, conn: &Connection<S>) -> Result<bool, Error>
+    ensures { IfOk result (λ own. HasTables (state S.Store conn.now).now.schema
+        → (IsTrue own ↔ HasOwnIndexes (state S.Store conn.now).now.schema)) }
+{
+    let mut made = Connection::open_in_memory(alloc)?;
+    make_tables(&mut made)?;
+    let (schema, plan) = (conn.schema(), made.schema());
+    Ok(are_own(
+        schema.indexes.as_slice(),
+        schema.tables.as_slice(),
+        plan.tables.as_slice(),
+    ))
+}
