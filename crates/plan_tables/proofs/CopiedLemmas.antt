@@ -1,10 +1,10 @@
 -- What is found in files whose log was copied into the database file.
-use Rattle.std.proofs.Common.{◌≡◌, ◌⊎◌, false, IsTrue, inl, inr, subst, sym}
+use Rattle.std.proofs.Common.{◌≡◌, ◌⊎◌, [], false, IsTrue, inl, inr, subst, sym}
 use Rattle.std.proofs.Math.Logic.{∥∥₁_elim, ∥∥₁_map}
 use Rattle.sqlite.specs.Closing.{IsCopied}
 use Rattle.sqlite.specs.Files.{ExcusesClose, FailsToClose, HoldsDatabase, file_state}
 use Rattle.sqlite.specs.Held.{Held}
-use Rattle.sqlite.specs.State.{store_error}
+use Rattle.sqlite.specs.State.{HasCleanDisk, store_error}
 use Rattle.sqlite.specs.Tree.{Trees}
 use Rattle.sqlite.specs.declared.error.Error.{Error}
 use Rattle.sqlite.specs.declared.error.Error.TheVariants.{SqliteFailure}
@@ -22,29 +22,15 @@ use Rattle.sqlite_wal.specs.Files.{outcomes}
 use Rattle.sqlite_wal.specs.Recovery.{Image}
 use Rattle.plan_store.specs.declared.stores.StoreFault.{StoreFault}
 use Rattle.plan_store.specs.declared.stores.StoreFault.TheVariants.{Device, Memory}
-use Rattle.planner_machine.specs.Content.{Content, nothing_known}
+use Rattle.planner_machine.specs.Content.{Content}
 use Rattle.table_schema.specs.Rows.{tables_of}
 use Rattle.table_facts.specs.Content.{HaveOneContent, IsContentOf}
-use Rattle.plan_tables.specs.Found.{IsFoundIn, IsFoundInEither, Tells}
-use Rattle.plan_tables.specs.Stored.{MayLeave}
-use Rattle.plan_tables.proofs.FoundLemmas.{told_again}
+use Rattle.plan_tables.specs.Found.{IsFoundIn, IsFoundInEither, KeepsAlone, Tells}
+use Rattle.plan_tables.specs.Stored.{LeavesSound, MayLeave}
+use Rattle.plan_tables.proofs.FoundLemmas.{found_told, tells_left, told_again}
 use Rattle.plan_tables.proofs.SetLemmas.{content_set}
 
 module _ {D : Type 0} {g : disk.Ghosts D} (conn : Held (FileStore D g)) where
-  -- the last commit, which is in this image, is what a crash leaves of an open connection
-  committed_left : SeenMayStay g → IsTrue (file_state conn).is_open → (image : Image)
-      → HoldsDatabase image (file_state conn).committed.trees → (c : Content) → IsFoundIn image c
-      → MayLeave (file_state conn) c ⊎ (c ≡ nothing_known)
-  committed_left stays is_open image held c found = elim found.told [
-    | inl told ↦ inl (
-      (file_state conn).committed.trees,
-      stays_at conn.store stays is_open,
-      subst (λ t. IsContentOf (tables_of t) c)
-          (found.holds _ held) told.1,
-    )
-    | inr blank ↦ inr blank.1
-  ]
-
   committed_again : (k : Content) → HaveOneContent → Tells (file_state conn).committed.trees k → (image : Image)
       → HoldsDatabase image (file_state conn).committed.trees → (c : Content) → IsFoundIn image c → c ≡ k
   committed_again k one tells image held c found =
@@ -52,17 +38,29 @@ module _ {D : Type 0} {g : disk.Ghosts D} (conn : Held (FileStore D g)) where
       (subst (λ db. Tells db k) (sym (found.holds _ held)) tells) found.told
 
   module _ (files : Files D) (copied : IsCopied conn files) (left : Image) (out : outcomes g files.log files.db left) where
-    -- what is found was a content that a crash might leave, unless it is nothing
-    pub copied_left : SeenMayStay g → (c : Content) → IsFoundInEither left c
-        → ∥ MayLeave (file_state conn) c ⊎ (c ≡ nothing_known) ∥₁
-    copied_left stays c found =
+    -- both files, and the database file alone, hold the last commit, which a crash leaves of an open connection
+    pub keeps_alone : SeenMayStay g → ∥ (HasCleanDisk (file_state conn) → LeavesSound (file_state conn)) ∥₁
+        → ∥ KeepsAlone left (file_state conn) ∥₁
+    keeps_alone stays told =
+        let db = (file_state conn).committed.trees in
         let holds = copied.left left out in
-        elim found [
-          | inl both ↦ ∥∥₁_map holds.both
-              (λ held. committed_left stays copied.was_open _ held c both)
-          | inr alone ↦ ∥∥₁_map holds.alone
-              (λ held. committed_left stays copied.was_open _ held c alone)
-        ]
+        let may = stays_at conn.store stays copied.was_open in
+        ∥∥₁_elim told squash₁ (λ h. ∥∥₁_elim (h copied.was_clean db may) squash₁ (λ tells.
+        ∥∥₁_elim holds.both squash₁ (λ both. ∥∥₁_map holds.alone (λ alone. record {
+          db = db;
+          both = both;
+          alone = alone;
+          tells = tells_left (file_state conn) db may tells;
+        }))))
+
+    -- what is found was a content that a crash might leave
+    pub copied_left : HaveOneContent → SeenMayStay g
+        → ∥ (HasCleanDisk (file_state conn) → LeavesSound (file_state conn)) ∥₁ → (c : Content)
+        → IsFoundInEither left c → ∥ MayLeave (file_state conn) c ∥₁
+    copied_left one stays told c found = ∥∥₁_map (keeps_alone stays told) (λ kept. elim found [
+      | inl both ↦ found_told left (file_state conn) kept.db c one kept.both kept.tells both
+      | inr alone ↦ found_told (record left { log = [] }) (file_state conn) kept.db c one kept.alone kept.tells alone
+    ])
 
     -- where the last commit tells a content, no other is found
     pub copied_again : (k : Content) → HaveOneContent
@@ -94,3 +92,10 @@ module _ {D : Type 0} {g : disk.Ghosts D} (conn : Held (FileStore D g)) where
       → ((file_state conn).is_open ≡ false) ⊎ MoreFaults (faults conn.store) (faults last)
   blamed_at_close last e fault memory fails device =
       excuse last fails.0 e fault memory fails.1 fails.2 device
+
+-- what is told of the connection of a store is told of it as it is let go
+pub told_of : {D : Type 0} {g : disk.Ghosts D} (own held : Held (FileStore D g)) → held ≡ own
+    → ∥ (HasCleanDisk (file_state own) → LeavesSound (file_state own)) ∥₁
+    → ∥ (HasCleanDisk (file_state held) → LeavesSound (file_state held)) ∥₁
+told_of {D} {g} own held same told =
+    subst (λ (x : Held (FileStore D g)). ∥ (HasCleanDisk (file_state x) → LeavesSound (file_state x)) ∥₁) (sym same) told

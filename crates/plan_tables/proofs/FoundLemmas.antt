@@ -4,7 +4,7 @@ use Rattle.std.proofs.Common.{IsTrue, filter, true≢false}
 use Rattle.std.specs.List.{position_from}
 use Rattle.std.proofs.Math.Logic.{∥∥₁_elim, ∥∥₁_map}
 use Rattle.sqlite.specs.Effect.{Database, IsDatabase}
-use Rattle.sqlite.specs.Files.{AreFoundIn, file_state}
+use Rattle.sqlite.specs.Files.{AreFoundIn, HoldsDatabase, file_state}
 use Rattle.sqlite.specs.Held.{AreDatabases, Held, state}
 use Rattle.sqlite.specs.Schema.{Schema}
 use Rattle.sqlite.specs.Start.{FindsIn}
@@ -26,16 +26,17 @@ use Rattle.sqlite_store.specs.declared.store.FileStore.{FileStore}
 use Rattle.sqlite_store.specs.FileStore as files
 use Rattle.sqlite_trees.specs.Objects.{catalog_tree}
 use Rattle.sqlite_wal.specs.Recovery.{Image}
-use Rattle.planner_machine.specs.Content.{Content, nothing_known}
+use Rattle.planner_machine.specs.Content.{Content}
 use Rattle.table_schema.specs.Rows.{tables_of}
 use Rattle.table_schema.specs.Free.{IsFree}
 use Rattle.table_schema.specs.Schema.{HasTables, name, table_at}
 use Rattle.table_schema.specs.declared.tables.Table.TheVariants.{Meta}
 use Rattle.table_facts.specs.Content.{HaveOneContent, IsContentOf}
 use Rattle.table_opening.specs.Opened.{IsStored, IsToldBy}
-use Rattle.plan_tables.specs.Found.{HoldsLeft, IsFoundIn, Tells}
+use Rattle.plan_tables.specs.Found.{HoldsLeft, IsFoundIn, Tells, TellsLeft}
 use Rattle.plan_tables.specs.Stored.{LeavesSound, MayLeave, TellsSound}
 use Rattle.plan_tables.proofs.SetLemmas.{content_set}
+use Rattle.plan_tables.proofs.StoredLemmas.{tells_stored}
 
 -- where no name is alike, none of the list is
 none_named : {X : Type 0} (p : X → Bool) (xs : List X) (start : ℕ) (x : X) → position_from p start xs ≡ None → Has xs x
@@ -69,28 +70,14 @@ never_free schema free db has sound room other =
     true≢false (sym (subst (λ n. is_used free n ≡ true) same (name_used free there.0 there.1)) ∙ room.names.0)
 
 -- what a crash leaves of a database that keeps a content
-tells_stored : {S : Type 0} (g : Ghosts S)
-    (law : (s : S) (db : Trees) → IsTrue (g.view s).is_open → g.recovers s db → db ≡ (g.view s).committed)
-    (held : Held S) (k : Content) → IsStored (state g held) k → IsLive (state g held) → (db : Trees)
-    → g.recovers held.store db → Tells db k
-tells_stored g law held k stored live db left =
-    let same : (state g held).now.trees ≡ db = ap (λ (b : Database). b.trees) stored.settled
-    ∙ sym (law held.store db stored.is_open left) in
-    record {
-      schema = held.schema;
-      obeys = subst (IsSound held.schema) same (live stored.is_open).0;
-      plan = stored.plan.schema;
-      content = subst (λ t. IsContentOf (tables_of t) k) same stored.content;
-    }
-
 pub tells_kept : {S : Type 0} (g : Ghosts S)
     (law : (s : S) (db : Trees) → IsTrue (g.view s).is_open → g.recovers s db → db ≡ (g.view s).committed)
     (own held : Held S) (k : Content) (failures : ℕ) → held ≡ own
     → failures ≡ 0 → ∥ (failures ≡ 0 → HasCleanDisk (state g own) → IsStored (state g own) k) ∥₁
     → HasCleanDisk (state g held) → IsLive (state g held) → (db : Trees) → g.recovers held.store db → ∥ Tells db k ∥₁
 tells_kept {S} g law own held k failures same none stored clean live db left =
-    ∥∥₁_map stored (λ h. tells_stored g law held k (subst (λ (x : Held S). IsStored (state g x) k) (sym same)
-    (h none (subst (λ (x : Held S). HasCleanDisk (state g x)) same clean))) live db left)
+    ∥∥₁_map stored (λ h. (tells_stored g law held k (subst (λ (x : Held S). IsStored (state g x) k) (sym same)
+    (h none (subst (λ (x : Held S). HasCleanDisk (state g x)) same clean))) live db left).0)
 
 -- so it is of what is let go
 pub told_left : {S : Type 0} (g : Ghosts S) (own held : Held S) → held ≡ own
@@ -116,6 +103,16 @@ found_again it k one numbered sound tells left may c found =
     ∥∥₁_elim (tells held.0 held.1) (content_set c k) (λ told. told_again found.found k c one found.obeys
     (subst (λ db. Tells db k) (sym (found.holds held.0 held.2)) told) found.told))
 
+-- a database that tells a sound content, of those that a crash leaves
+pub tells_left : (s : State) (db : Trees) → s.may_leave db → TellsSound db → TellsLeft s db
+tells_left s db may told = record {
+  left = may;
+  content = told.0;
+  sound = told.1;
+  told = told.2;
+  rowids = told.3;
+}
+
 -- files whose databases all tell sound contents hold one that does
 pub holds_left : {D : Type 0} {g : disk.Ghosts D} (conn : Held (FileStore D g)) (it : FileStore D g)
     → IsTrue (files.view it).is_numbered → AreDatabases (files.recovers it)
@@ -126,28 +123,28 @@ holds_left conn it numbered sound outcomes tells left may =
     ∥∥₁_elim (opens_again it numbered sound left may) squash₁ (λ held. ∥∥₁_map (tells held.0 held.1) (λ told. record {
       db = held.0;
       holds = held.2;
-      left = outcomes held.0 held.1;
-      content = told.0;
-      sound = told.1;
-      told = told.2;
+      tells = tells_left (file_state conn) held.0 (outcomes held.0 held.1) told;
     }))
 
--- what is found again was a content that a crash might leave, unless it is nothing
-pub found_left : {D : Type 0} {g : disk.Ghosts D} (conn : Held (FileStore D g)) (it : FileStore D g)
+-- what is found where such a database is held is what this tells, which a crash might leave
+pub found_told : (image : Image) (s : State) (db : Trees) (c : Content) → HaveOneContent → HoldsDatabase image db
+    → TellsLeft s db → IsFoundIn image c → MayLeave s c
+found_told image s db c one held tells found =
+    let same : found.found.trees ≡ db = found.holds db held in
+    let is : c ≡ tells.content = told_again found.found tells.content c one found.obeys
+    (subst (λ t. Tells t tells.content) (sym same) tells.told) found.told in
+    (db, tells.left, subst (IsContentOf (tables_of db)) (sym is) tells.told.content)
+
+-- what is found again was a content that a crash might leave
+pub found_left : {D : Type 0} {g : disk.Ghosts D} (conn : Held (FileStore D g)) (it : FileStore D g) → HaveOneContent
     → IsTrue (files.view it).is_numbered → AreDatabases (files.recovers it)
     → ((db : Trees) → files.recovers it db → files.recovers conn.store db)
+    → ((db : Trees) → files.recovers it db → ∥ TellsSound db ∥₁)
     → (left : Image) → (files.state it).may_leave left → (c : Content) → IsFoundIn left c
-    → ∥ MayLeave (file_state conn) c ⊎ (c ≡ nothing_known) ∥₁
-found_left conn it numbered sound outcomes left may c found =
-    ∥∥₁_map (opens_again it numbered sound left may) (λ held. elim found.told [
-      | inl told ↦ inl (
-        held.0,
-        outcomes held.0 held.1,
-        subst (λ t. IsContentOf (tables_of t) c)
-            (found.holds held.0 held.2) told.1,
-      )
-      | inr free ↦ inr free.1
-    ])
+    → ∥ MayLeave (file_state conn) c ∥₁
+found_left conn it one numbered sound outcomes tells left may c found =
+    ∥∥₁_map (holds_left conn it numbered sound outcomes tells left may) (λ held. found_told left (file_state conn)
+    held.db c one held.holds held.tells found)
 
 -- what the database tells that an open found
 pub found_in : (image : Image) (s : State) (c : Content) → Opens s → IsLive s → FindsIn image s → IsToldBy s.now c

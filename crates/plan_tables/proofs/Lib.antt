@@ -24,3 +24,4 @@ pub mod DefinitionTakes
 pub mod OneRow
 pub mod ShortRows
 pub mod NamedTaken
+pub mod AgainLemmas

@@ -14,6 +14,7 @@ use Rattle.sqlite_wal.specs.Recovery.{Image}
 use Rattle.table_opening.specs.declared.faults.OpenFault.{OpenFault}
 use Rattle.plan_tables.specs.Adopted.{ComesBack}
 use Rattle.plan_tables.specs.Refused.{HoldsNoPlan, IsGivenBack}
+use Rattle.plan_tables.proofs.AgainLemmas.{found_plan}
 
 -- what is let go of a connection that came back
 pub given_back : {S : Type 0} (g : Ghosts S)
@@ -42,6 +43,8 @@ no_plan image fault conn left new opened found given = record {
   fresh = new;
   found = λ clean. (opened (first clean), found (first clean));
   unopened = λ clean. given.comes.unopened (last clean);
+  common = λ clean held. let it = opened (first clean) in given.comes.holds (last clean) (found_plan image
+      (file_state conn) it.0 it.1 (found (first clean)) held);
   quiet = given.quiet;
   stays = λ clean db may. given.stays clean (opened (first clean)).0.is_open db may;
 }

@@ -4,22 +4,28 @@ use Rattle.sqlite.specs.Held.{Held, state}
 use Rattle.sqlite.specs.State.{HasCleanDisk, Survives}
 use Rattle.sqlite.specs.Store.{Ghosts}
 use Rattle.plan_store.specs.Contents.{content_of}
-use Rattle.table_opening.specs.Opened.{MakesFirst}
+use Rattle.table_opening.specs.Held.{HoldsPlan}
+use Rattle.table_opening.specs.Opened.{IsCommon, MakesFirst}
 use Rattle.table_opening.specs.Opening.{IsOpened, IsUnopened}
 use Rattle.table_opening.specs.declared.faults.OpenFault.{OpenFault}
 use Rattle.plan_tables.specs.Stored.{LeavesOne}
 use Rattle.plan_tables.specs.declared.table_store.TableStore.{TableStore}
 
--- the store is over its database, and has its content, which a crash leaves alone; no failure was counted
+-- the store is over its database, and has its content, which a crash leaves alone; no failure was counted, and it is known
+-- that the connection is open
 pub record IsOver {S : Type 0} {g : Ghosts S} (conn : Held S) (store : TableStore S g) : Type 0 where
   pub opened : IsOpened (state g conn) (state g store.conn) (content_of store.lists)
   pub settled : LeavesOne (state g store.conn) (content_of store.lists)
   pub whole : store.failures ≡ 0
+  pub sure : store.in_doubt ≡ false
   pub crash : Survives (state g conn) (state g store.conn) (MakesFirst (state g conn))
 
--- it comes back, and with it why its database is not opened, by what is there
+-- it comes back, and with it why its database is not opened, by what is there: one that holds a sound plan for nothing
+-- that stands in it
 pub record ComesBack {S : Type 0} (g : Ghosts S) (conn : Held S) (back : OpenFault × Held S) : Type 0 where
   pub unopened : HasCleanDisk (state g back.1)
       → IsUnopened (state g conn) (state g back.1) back.0
+  pub holds : HasCleanDisk (state g back.1) → HoldsPlan (state g conn)
+      → IsCommon (state g conn) (state g back.1) back.0
   pub mode : back.1.in_transaction ≡ false
   pub crash : Survives (state g conn) (state g back.1) (MakesFirst (state g conn))

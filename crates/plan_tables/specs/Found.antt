@@ -12,6 +12,7 @@ use Rattle.table_schema.specs.Rows.{tables_of}
 use Rattle.table_schema.specs.Schema.{HasTables}
 use Rattle.table_facts.specs.Content.{IsContentOf}
 use Rattle.table_opening.specs.Opened.{IsToldBy}
+use Rattle.table_opening.specs.Stored.{AllHaveRowids}
 
 -- the database that such files hold, or an empty one where they hold none yet, tells the content
 pub record IsFoundIn (image : Image) (c : Content) : Type 0 where
@@ -20,15 +21,6 @@ pub record IsFoundIn (image : Image) (c : Content) : Type 0 where
   pub holds : (db : Trees) → HoldsDatabase image db → found.trees ≡ db
   pub reads : AreFoundIn image found.trees
   pub told : IsToldBy found c
-
--- such files hold a database that a crash of this one might leave, and its tables tell a sound content
-pub record HoldsLeft (image : Image) (s : State) : Type 0 where
-  pub db : Trees
-  pub holds : HoldsDatabase image db
-  pub left : s.may_leave db
-  pub content : Content
-  pub sound : IsSound content
-  pub told : IsContentOf (tables_of db) content
 
 -- it is found in both files, or in the database file with an empty log
 abbrev pub IsFoundInEither : Image → Content → Type 0
@@ -40,3 +32,25 @@ pub record Tells (db : Trees) (c : Content) : Type 0 where
   pub obeys : IsDatabase (record { schema = schema; trees = db })
   pub plan : HasTables schema
   pub content : IsContentOf (tables_of db) c
+
+-- it is a database that a crash of this one might leave, with the tables of the plan, which tell a sound content, no two
+-- rows of a table with one rowid
+pub record TellsLeft (s : State) (db : Trees) : Type 0 where
+  pub left : s.may_leave db
+  pub content : Content
+  pub sound : IsSound content
+  pub told : Tells db content
+  pub rowids : AllHaveRowids (tables_of db)
+
+-- such files hold such a database
+pub record HoldsLeft (image : Image) (s : State) : Type 0 where
+  pub db : Trees
+  pub holds : HoldsDatabase image db
+  pub tells : TellsLeft s db
+
+-- both files hold such a database, and so does the database file without its log: it may be copied or opened alone
+pub record KeepsAlone (image : Image) (s : State) : Type 0 where
+  pub db : Trees
+  pub both : HoldsDatabase image db
+  pub alone : HoldsDatabase (record image { log = [] }) db
+  pub tells : TellsLeft s db

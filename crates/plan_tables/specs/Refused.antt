@@ -14,11 +14,12 @@ use Rattle.sqlite_store.specs.declared.store.FileStore.{FileStore}
 use Rattle.sqlite_trees.specs.View.{IsClean, IsQuiet}
 use Rattle.sqlite_wal.specs.Recovery.{Image}
 use Rattle.table_opening.specs.Files.{IsRefused}
-use Rattle.table_opening.specs.Opened.{MakesFirst}
+use Rattle.table_opening.specs.Opened.{IsCommon, MakesFirst}
 use Rattle.table_opening.specs.Opening.{IsUnopened}
 use Rattle.table_opening.specs.declared.faults.OpenFault.{OpenFault}
 use Rattle.table_opening.specs.declared.faults.OpenFault.TheVariants.{Memory, Unopened}
 use Rattle.plan_tables.specs.Adopted.{ComesBack}
+use Rattle.plan_tables.specs.Stored.{HoldsSound}
 
 -- a connection comes back and is let go, and what held its database is left
 pub record IsGivenBack {S : Type 0} (g : Ghosts S) (conn : Held S) (left : OpenFault × S) : Type 0 where
@@ -38,6 +39,8 @@ pub record HoldsNoPlan {D : Type 0} {g : disk.Ghosts D} (image : Image) (fault :
   pub found : IsClean (view left) → IsOpened conn × FindsIn image (file_state conn)
   -- why it is not opened, by what is there
   pub unopened : IsClean (view left) → IsUnopened (file_state conn) (file_state back) fault
+  -- where they held a database with a sound plan, for nothing that stands in it
+  pub common : IsClean (view left) → HoldsSound image → IsCommon (file_state conn) (file_state back) fault
   pub quiet : IsQuiet view faults recovers is_shielded back.store left
   -- a crash leaves what was found, or, where nothing was in their way, the tables of a content of which nothing is known
   pub stays : IsClean (view left) → (db : Trees) → recovers left db

@@ -1,19 +1,27 @@
 -- What a crash leaves of a database that keeps a content.
 use Rattle.std.specs.Prelude.{◌≡◌}
+use Rattle.sqlite.specs.Files.{HoldsDatabase}
 use Rattle.sqlite.specs.State.{HasCleanDisk, State}
 use Rattle.sqlite.specs.Tree.{Trees}
+use Rattle.sqlite_wal.specs.Recovery.{Image}
 use Rattle.planner_machine.specs.Content.{Content}
 use Rattle.planner_machine.specs.Sound.{IsSound}
 use Rattle.table_schema.specs.Rows.{tables_of}
 use Rattle.table_facts.specs.Content.{IsContentOf}
+use Rattle.table_opening.specs.Stored.{AllHaveRowids}
+use Rattle.plan_tables.specs.Found.{Tells}
 
 -- a crash of the database may leave this content
 abbrev pub MayLeave : State → Content → Type 0
 MayLeave s c = (db : Trees) × s.may_leave db × IsContentOf (tables_of db) c
 
--- the tables tell a sound content
+-- it has the tables of the plan, which tell a sound content, no two rows of a table with one rowid
 abbrev pub TellsSound : Trees → Type 0
-TellsSound db = (c : Content) × IsSound c × IsContentOf (tables_of db) c
+TellsSound db = (c : Content) × IsSound c × Tells db c × AllHaveRowids (tables_of db)
+
+-- such files hold such a database
+abbrev pub HoldsSound : Image → Type 0
+HoldsSound image = (db : Trees) × HoldsDatabase image db × TellsSound db
 
 -- each database that a crash may leave tells a sound content
 abbrev pub LeavesSound : State → Type 0

@@ -3,6 +3,7 @@
 ghost use Rattle.std.specs.Prelude.{◌≡◌, ◌⊎◌, false, IfErr, IfOk, IsTrue};
 ghost use Rattle.sqlite.specs.Files.{file_state};
 ghost use Rattle.sqlite.specs.Held.{AreDatabases, state};
+ghost use Rattle.sqlite.specs.State.{HasCleanDisk};
 ghost use Rattle.sqlite.specs.Tree.{Trees};
 ghost use Rattle.sqlite_disk.specs.Disk.{MoreFaults};
 ghost use Rattle.sqlite_store.specs.FileStore.{faults, recovers, state as files_state, view};
@@ -10,10 +11,10 @@ ghost use Rattle.sqlite_trees.specs.View.{IsClean};
 ghost use Rattle.sqlite_wal.specs.Files.{outcomes};
 ghost use Rattle.sqlite_wal.specs.Reads.{AreClean};
 ghost use Rattle.sqlite_wal.specs.Recovery.{Image};
-ghost use Rattle.planner_machine.specs.Content.{Content as ContentValue, nothing_known};
+ghost use Rattle.planner_machine.specs.Content.{Content as ContentValue};
 ghost use Rattle.plan_store.specs.Contents.{content_of};
 ghost use Rattle.plan_store.specs.declared.stores.StoreFault.TheVariants.{Device, Memory};
-ghost use Rattle.plan_tables.specs.Found.{HoldsLeft, IsFoundIn, IsFoundInEither, Tells};
+ghost use Rattle.plan_tables.specs.Found.{HoldsLeft, IsFoundIn, IsFoundInEither, KeepsAlone, Tells};
 ghost use Rattle.plan_tables.specs.Stored.{MayLeave, TellsSound};
 
 use crate::table_store::TableStore;
@@ -23,9 +24,10 @@ use sqlite_disk::{Disk, Files};
 use table_facts::tables_have_one_content;
 
 impl<S: Alter + Drop> TableStore<S> {
-    /// Lets the tables go, as a program does at its end. Each database that they may be after a crash tells a sound
-    /// content; and where no failure was counted, and it is known that the connection is open, what the store kept.
+    /// Lets the tables go, as a program does at its end. Each database that they may be after a crash has the tables of
+    /// the plan, which tell a sound content; and where no failure was counted, and it is known that the connection is open, what the store kept.
     pub fn into_store(self) -> S
+        ensures honest { IsClean (S.Store.view result) → HasCleanDisk (state S.Store self.conn) }
         ensures numbered { IsClean (S.Store.view result)
             → IsTrue (S.Store.view result).is_numbered }
         ensures sound { IsClean (S.Store.view result) → AreDatabases (S.Store.recovers result) }
@@ -44,17 +46,16 @@ impl<S: Alter + Drop> TableStore<S> {
 
 impl<D: Disk + Drop> TableStore<FileStore<D>> {
     /// Lets the files go, as a program does at its end. Whatever a crash left of them, they hold a database that tells a
-    /// sound content. Whoever opens them finds a content that a crash might leave of the tables, unless it is that of
-    /// which nothing is known; and where no failure was counted, and it is known that the connection is open, what the
-    /// store kept and nothing else.
+    /// sound content. Whoever opens them finds a content that a crash might leave of the tables; and where no failure was
+    /// counted, and it is known that the connection is open, what the store kept and nothing else.
     pub fn into_files(self) -> FileStore<D>
+        ensures honest { IsClean (view result) → HasCleanDisk (file_state self.conn) }
         ensures sound { IsClean (view result) → AreDatabases (recovers result) }
         ensures opens_again { IsClean (view result) → (left : Image)
             → (files_state result).may_leave left → ∥ HoldsLeft left (file_state self.conn) ∥₁ }
         ensures goes_on { IsClean (view result) → (left : Image)
             → (files_state result).may_leave left
-            → (c : ContentValue) → IsFoundIn left c → ∥ MayLeave (file_state self.conn) c
-            ⊎ (c ≡ nothing_known) ∥₁ }
+            → (c : ContentValue) → IsFoundIn left c → ∥ MayLeave (file_state self.conn) c ∥₁ }
         ensures found_again { self.failures ≡ 0 → self.in_doubt ≡ false → IsClean (view result)
             → (left : Image) → (files_state result).may_leave left
             → (c : ContentValue) → IsFoundIn left c → c ≡ content_of self.lists }
@@ -76,29 +77,41 @@ fn fault_of_closing(error: &Error) -> StoreFault
 }
 
 impl<D: Disk + Drop> TableStore<FileStore<D>> {
-    /// Copies the log into the database file and gives both files back, as a program does at its end. Whoever opens both,
-    /// or the database file without its log, whatever a crash left of them, finds a content that a crash might leave of
-    /// the tables, unless it is that of which nothing is known; and where no failure was counted, and it is known that the
-    /// connection is open, what the store kept and nothing else. Where it fails, for want of memory or of the device,
-    /// nothing is lost: the files come back, and each database that they may be after a crash is one that the tables might
-    /// be, and tells what the store kept where no failure was counted and it is known that the connection is open.
+    /// Copies the log into the database file and gives both files back, as a program does at its end. Both, and the
+    /// database file without its log, whatever a crash left of them, hold a database that a crash might leave of the
+    /// tables, and that tells a sound content. Whoever opens them finds a content that a crash might leave of the tables;
+    /// and where no failure was counted, and it is known that the connection is open, what the store kept and nothing
+    /// else. Where it fails, for want of memory or of the device, nothing is lost: the files come back, and each database
+    /// that they may be after a crash is one that the tables might be; it tells a sound content, and what the store kept
+    /// where no failure was counted and it is known that the connection is open. Where the disk was honest to the end, it
+    /// was honest before.
     pub fn close(self) -> Result<Files<D>, (StoreFault, FileStore<D>)>
         ensures usable { IfOk result (λ files. IsTrue (D.Disk.is_usable files.log)
             × IsTrue (D.Disk.is_usable files.db)) }
+        ensures honest { IfOk result (λ files. AreClean D.Disk files.log files.db
+            → HasCleanDisk (file_state self.conn)) }
+        ensures holds { IfOk result (λ files. AreClean D.Disk files.log files.db
+            → (left : Image) → outcomes D.Disk files.log files.db left
+            → ∥ KeepsAlone left (file_state self.conn) ∥₁) }
         ensures goes_on { IfOk result (λ files. AreClean D.Disk files.log files.db
             → (left : Image) → outcomes D.Disk files.log files.db left
             → (c : ContentValue) → IsFoundInEither left c
-            → ∥ MayLeave (file_state self.conn) c ⊎ (c ≡ nothing_known) ∥₁) }
+            → ∥ MayLeave (file_state self.conn) c ∥₁) }
         ensures found_again { IfOk result (λ files. self.failures ≡ 0 → self.in_doubt ≡ false
             → AreClean D.Disk files.log files.db
             → (left : Image) → outcomes D.Disk files.log files.db left
             → (c : ContentValue) → IsFoundInEither left c → c ≡ content_of self.lists) }
         ensures sound { IfErr result (λ left. IsClean (view left.1)
             → AreDatabases (recovers left.1)) }
+        ensures still_honest { IfErr result (λ left. IsClean (view left.1)
+            → HasCleanDisk (file_state self.conn)) }
         ensures stays { IfErr result (λ left. (db : Trees) → recovers left.1 db
             → (file_state self.conn).may_leave db) }
+        ensures plans { IfErr result (λ left. IsClean (view left.1)
+            → (db : Trees) → recovers left.1 db → ∥ TellsSound db ∥₁) }
         ensures tells { IfErr result (λ left. self.failures ≡ 0 → self.in_doubt ≡ false
-            → IsClean (view left.1) → (db : Trees) → recovers left.1 db → ∥ Tells db (content_of self.lists) ∥₁) }
+            → IsClean (view left.1) → (db : Trees) → recovers left.1 db
+            → ∥ Tells db (content_of self.lists) ∥₁) }
         ensures blames { IfErr result (λ left. IsClean (view left.1) → left.0 ≡ Device
             → ((file_state self.conn).is_open ≡ false)
             ⊎ MoreFaults (faults self.conn.store) (faults left.1)) }

@@ -13,11 +13,13 @@ ghost use Rattle.plan_store.specs.declared.changes.Change.{Change as ChangeValue
 ghost use Rattle.plan_store.specs.declared.changes.DefinitionChange.TheVariants.{AsBefore};
 ghost use Rattle.plan_store.specs.declared.room.Room.{Room as RoomValue};
 ghost use Rattle.plan_store.specs.declared.stores.StoreFault.TheVariants.{Device, Memory};
-ghost use Rattle.table_facts.specs.Content.{answer_text, IsContentOf};
+ghost use Rattle.table_facts.specs.Content.{answer_text};
 ghost use Rattle.table_opening.specs.Opened.{IsStored};
+ghost use Rattle.table_opening.specs.Stored.{AllHaveRowids};
 ghost use Rattle.table_writing.specs.Redefining.{AreMovesOf};
 ghost use Rattle.table_writing.specs.Writing.{IsTellableChange};
 ghost use Rattle.plan_tables.specs.Causes.{CanTake, HasFailed, fault_in};
+ghost use Rattle.plan_tables.specs.Found.{Tells};
 
 use app_definitions::Definitions;
 use plan_store::{Change, Content, DefinitionChange, Room, StoreFault};
@@ -262,7 +264,7 @@ pub(crate) fn change_both<S: Alter>(
     ensures ended { conn.new.in_transaction ≡ false }
     ensures crash { Survives (state S.Store conn.old) (state S.Store conn.new)
         (λ db. IsStored (state S.Store conn.old) (content_of lists.old)
-        → IsContentOf (tables_of db) (after change (content_of lists.old))) }
+        → Tells db (after change (content_of lists.old)) × AllHaveRowids (tables_of db)) }
 {
     let underway = match start(lists, alloc, change) {
         Ok(underway) => underway,

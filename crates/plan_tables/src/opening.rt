@@ -76,6 +76,7 @@ impl TableStore<MemStore> {
         ensures empty { IfOk result (λ store. content_of store.lists ≡ nothing_known) }
         ensures sound { IfOk result (λ store. IsSound (content_of store.lists)) }
         ensures whole { IfOk result (λ store. store.failures ≡ 0) }
+        ensures sure { IfOk result (λ store. store.in_doubt ≡ false) }
         ensures settled { IfOk result (λ store. LeavesOne (state over_memory store.conn)
             (content_of store.lists)) }
         ensures refused { IfErr result (λ fault. fault ≡ Memory) }
@@ -100,6 +101,7 @@ impl<S: Start> TableStore<FileStore<FileFrom<S>>> {
     ) -> Result<TableStore<FileStore<FileFrom<S>>>, (OpenFault, Option<Leftover<FileFrom<S>>>)>
         ensures sound { IfOk result (λ store. IsSound (content_of store.lists)) }
         ensures whole { IfOk result (λ store. store.failures ≡ 0) }
+        ensures sure { IfOk result (λ store. store.in_doubt ≡ false) }
         ensures opened { IfOk result (λ store. HasCleanDisk (file_state store.conn)
             → IsStored (file_state store.conn) (content_of store.lists)) }
         ensures settled { IfOk result (λ store. LeavesOne (file_state store.conn)
@@ -120,23 +122,23 @@ impl<S: Start> TableStore<FileStore<FileFrom<S>>> {
 }
 
 impl TableStore<FileStore<File>> {
-    /// A store over the database in the file, which is made where there is none. The path is taken as it is. What is
-    /// proved of it for whatever the file holds is said at `open_path_from`.
+    /// The same over a file of which nothing is known. The path is taken as it is. What is proved of it for whatever the
+    /// file holds is said at `open_path_from`.
     pub fn open_path(
         rt: &HostRuntime,
         alloc: Global,
         path: &str,
-    ) -> Result<TableStore<FileStore<File>>, OpenFault>
+    ) -> Result<TableStore<FileStore<File>>, (OpenFault, Option<Leftover<File>>)>
         ensures sound { IfOk result (λ store. IsSound (content_of store.lists)) }
         ensures whole { IfOk result (λ store. store.failures ≡ 0) }
+        ensures sure { IfOk result (λ store. store.in_doubt ≡ false) }
         ensures opened { IfOk result (λ store. HasCleanDisk (file_state store.conn)
             → IsStored (file_state store.conn) (content_of store.lists)) }
         ensures settled { IfOk result (λ store. LeavesOne (file_state store.conn)
             (content_of store.lists)) }
+        ensures refused { IfErr result (IsNotOpened (λ is_log file. IsFresh is_log file)
+            (image_at ⟦<Unknown as Start>⟧)) }
     {
-        match TableStore::open_path_from(rt, alloc, path, Unknown) {
-            Ok(store) => Ok(store),
-            Err((fault, _left)) => Err(fault),
-        }
+        TableStore::open_path_from(rt, alloc, path, Unknown)
     }
 }

@@ -1,6 +1,6 @@
 // A store over a database.
 
-ghost use Rattle.std.specs.Prelude.{◌≡◌, ◌⊎◌, ◌<◌, ◌≤◌, false, ◌^◌, Ok, Err, OnOk, OnErr, IfOk, IfErr, IfSome, IsTrue};
+ghost use Rattle.std.specs.Prelude.{◌≡◌, ◌⊎◌, ◌↔◌, ◌<◌, ◌≤◌, false, ◌^◌, Ok, Err, OnOk, OnErr, IfOk, IfErr, IfSome, IsTrue};
 ghost use Rattle.std.specs.Prelude.{option_copied, ⊤};
 ghost use Rattle.sqlite.specs.State.{HasCleanDisk, Survives};
 ghost use Rattle.sqlite.specs.Held.{state};
@@ -14,6 +14,7 @@ ghost use Rattle.plan_store.specs.Faults.{MoreFailures};
 ghost use Rattle.plan_store.specs.Listings.{HandsAll, HandsPart, IsListing};
 ghost use Rattle.plan_store.specs.declared.stores.StoreFault.TheVariants.{Device};
 ghost use Rattle.table_facts.specs.Content.{answer_text};
+ghost use Rattle.table_schema.specs.Schema.{HasOwnIndexes, HasTables};
 ghost use Rattle.table_opening.specs.Opened.{IsStored};
 ghost use Rattle.table_writing.specs.Redefining.{AreMovesOf};
 ghost use Rattle.plan_tables.specs.Causes.{CanTake, HasFailed};
@@ -29,9 +30,10 @@ use app_definitions::Definitions;
 use external_dependencies::Links;
 use plan_store::{Change, Content, ListFault, Need, PlanStore, RowSink, StoreFault, View, What};
 use planner_machine::{Bounds, Job};
-use sqlite::{Alter, Connection};
+use sqlite::{Alter, Connection, Error};
 use std::alloc::Global;
 use table_facts::tables_have_one_content;
+use table_opening::has_own_indexes;
 use work_calendars::App;
 
 /// What a planner knows, in the tables of a database, with lists of the same content in memory, which serve what is
@@ -57,6 +59,14 @@ impl<S: Alter + Drop> TableStore<S> {
         ensures { result.now ≡ self.now.lists }
     {
         &self.lists
+    }
+
+    /// Whether the tables have no indexes but those of their keys: one that someone made beside may refuse a row.
+    pub fn has_own_indexes(&self, alloc: Global) -> Result<bool, Error>
+        ensures { IfOk result (λ own. HasTables (state S.Store self.now.conn).now.schema
+            → (IsTrue own ↔ HasOwnIndexes (state S.Store self.now.conn).now.schema)) }
+    {
+        has_own_indexes(alloc, &self.conn)
     }
 
     /// The connection, given back.
@@ -176,6 +186,7 @@ impl<S: Alter + Drop> TableStore<S> {
         ensures counts { self.old.failures ≤ self.new.failures }
         ensures honest { HasCleanDisk (state S.Store self.new.conn)
             → HasCleanDisk (state S.Store self.old.conn) }
+        ensures ends_whole { OnOk result ((self.new.failures ≡ 0) × (self.new.in_doubt ≡ false)) }
     {
         tables_have_one_content();
         fitting_changes_are_taken();

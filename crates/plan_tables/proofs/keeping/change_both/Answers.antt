@@ -6,7 +6,7 @@ use Rattle.plan_store.specs.Contents.{content_of}
 use Rattle.table_schema.specs.Rows.{tables_of}
 use Rattle.plan_tables.proofs.CauseLemmas.{failed_so, taken_rest}
 use Rattle.plan_tables.proofs.StorableMoves.{storable_moves}
-use Rattle.plan_tables.proofs.StoredLemmas.{left_fits, stored_still, stored_unchanged, tables_after}
+use Rattle.plan_tables.proofs.StoredLemmas.{left_fits, stored_still, stored_unchanged, tables_after, tells_after}
 use Rattle.plan_tables.proofs.keeping.change_both.Goals as goal
 
 pub complete-requires-clause-fits : goal.complete-requires-clause-fits
@@ -34,7 +34,7 @@ returns-in-Ok-commit_change-clause-done g c clean stored =
 pub returns-in-Ok-commit_change-clause-crash : goal.returns-in-Ok-commit_change-clause-crash
 returns-in-Ok-commit_change-clause-crash g c =
     survives_weaker (state g.S.Store c.args.conn.now) (state g.S.Store c.commit_change.new.conn) _ _
-    (λ clean db h stored. tables_after (content_of c.args.lists.now) c.args.change c.args.moves.now c.requires.fits
+    (λ clean db h stored. tells_after (content_of c.args.lists.now) c.args.change c.args.moves.now c.requires.fits
     c.requires.moves c.requires.told c.in-Ok.underway.rest c.in-Ok.ensures.rest
     (state g.S.Store c.args.conn.now) db (content_of c.start.new.lists) c.in-Ok.ensures.ok stored (h stored.plan))
     c.commit_change.ensures.crash
@@ -43,7 +43,7 @@ pub returns-in-Err-commit_change-clause-crash : goal.returns-in-Err-commit_chang
 returns-in-Err-commit_change-clause-crash g c =
     survives_then (state g.S.Store c.args.conn.now) (state g.S.Store c.commit_change.new.conn)
     (state g.S.Store c.cause_of.new.conn) _ (λ _. ⊥) _
-    (λ clean db h stored. tables_after (content_of c.args.lists.now) c.args.change c.args.moves.now c.requires.fits
+    (λ clean db h stored. tells_after (content_of c.args.lists.now) c.args.change c.args.moves.now c.requires.fits
     c.requires.moves c.requires.told c.in-Ok.underway.rest c.in-Ok.ensures.rest
     (state g.S.Store c.args.conn.now) db (content_of c.start.new.lists) c.in-Ok.ensures.ok stored (h stored.plan))
     (λ _ _ none. absurd none)

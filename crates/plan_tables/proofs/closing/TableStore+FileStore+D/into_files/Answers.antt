@@ -9,8 +9,9 @@ returns-clause-opens_again g c clean =
 
 pub returns-clause-goes_on : goal.returns-clause-goes_on
 returns-clause-goes_on g c clean =
-    found_left c.args.self.conn c.into_store.result (c.into_store.ensures.numbered clean)
-    (c.into_store.ensures.sound clean) c.into_store.ensures.left
+    found_left c.args.self.conn c.into_store.result c.tables_have_one_content.ensures
+    (c.into_store.ensures.numbered clean) (c.into_store.ensures.sound clean) c.into_store.ensures.left
+    (c.into_store.ensures.plans clean)
 
 pub returns-clause-found_again : goal.returns-clause-found_again
 returns-clause-found_again g c none sure clean =

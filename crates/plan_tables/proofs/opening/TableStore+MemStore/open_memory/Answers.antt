@@ -27,3 +27,7 @@ returns-in-Ok-clause-settled c =
 pub returns-in-Ok-clause-whole : goal.returns-in-Ok-clause-whole
 returns-in-Ok-clause-whole c =
     if_ok c.over_connection.result _ _ (λ store over. over.whole) c.over_connection.ensures.opened
+
+pub returns-in-Ok-clause-sure : goal.returns-in-Ok-clause-sure
+returns-in-Ok-clause-sure c =
+    if_ok c.over_connection.result _ _ (λ store over. over.sure) c.over_connection.ensures.opened

@@ -19,6 +19,7 @@ returns-in-Ok-clause-opened g c =
       settled = λ left both. leaves_one g.S.Store g.met.S.Store.settled c.over.result.conn left
           (content_of c.over.result.lists) c.tables_have_one_content.ensures (opened.stored both.0) both.1;
       whole = c.over.ensures.whole;
+      sure = c.over.ensures.sure;
       crash = subst (λ conn. Survives old (state g.S.Store conn) (MakesFirst old)) (sym c.over.ensures.conn)
           c.open_content.ensures.crash;
     }
@@ -26,6 +27,7 @@ returns-in-Ok-clause-opened g c =
 pub returns-in-Err-clause-unopened : goal.returns-in-Err-clause-unopened
 returns-in-Err-clause-unopened g c = record {
   unopened = c.in-Err.ensures.unopened;
+  holds = c.in-Err.ensures.holds;
   mode = c.open_content.ensures.mode;
   crash = c.open_content.ensures.crash;
 }

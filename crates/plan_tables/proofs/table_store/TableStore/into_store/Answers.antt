@@ -1,10 +1,15 @@
-use Rattle.std.proofs.Common.{arith}
-use Rattle.sqlite.specs.Held.{state}
+use Rattle.std.proofs.Common.{arith, subst}
+use Rattle.sqlite.specs.Held.{Held, state}
 use Rattle.sqlite.specs.State.{HasCleanDisk}
 use Rattle.plan_store.specs.Contents.{content_of}
 use Rattle.plan_tables.proofs.CauseLemmas.{certain}
 use Rattle.plan_tables.proofs.FoundLemmas.{tells_kept, told_left}
 use Rattle.plan_tables.proofs.table_store.TableStore.into_store.Goals as goal
+
+pub returns-clause-honest : goal.returns-clause-honest
+returns-clause-honest g c clean =
+    subst (λ (x : Held _). HasCleanDisk (state g.S.Store x)) c.into_connection-conn.ensures
+    (omega (arith, c.into_store.ensures.quiet.clean, clean))
 
 pub returns-clause-plans : goal.returns-clause-plans
 returns-clause-plans g c clean db left =

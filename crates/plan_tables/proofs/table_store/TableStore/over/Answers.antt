@@ -8,5 +8,5 @@ invariant_of-result g c = record {
   settled = c.requires.mode;
   stored = merely (λ whole clean doubt. c.requires.opened clean);
   told = merely (λ clean. stored_sound g.S.Store g.met.S.Store.settled c.args.conn (content_of c.args.lists)
-      (c.requires.opened clean) c.requires.sound);
+      (c.requires.opened clean) c.requires.sound c.schema.ensures.live);
 }

@@ -6,7 +6,7 @@ use Rattle.plan_store.specs.Changes.{after}
 use Rattle.plan_store.specs.Contents.{content_of}
 use Rattle.plan_tables.specs.Stored.{MayLeave}
 use Rattle.plan_tables.proofs.CauseLemmas.{can_still, caused_since, left_still, room_still, told_shut}
-use Rattle.plan_tables.proofs.StoredLemmas.{settled_so}
+use Rattle.plan_tables.proofs.StoredLemmas.{settled_so, stays_so}
 use Rattle.plan_tables.proofs.ToldLemmas.{told_by_tables}
 use Rattle.plan_tables.proofs.table_store.TableStorePlanStore.apply.Goals as goal
 
@@ -73,3 +73,6 @@ returns-in_err-make_sure-clause-taken g c none clean room =
     told_shut c.from_residual-in_err-make_sure.result c.in_err-make_sure.field-0.0
     (state g.S.Store c.args.self.now.conn) (state g.S.Store c.make_sure.new.self.conn)
     c.from_residual-in_err-make_sure.ensures.1 (c.in_err-make_sure.ensures.shut clean)
+
+pub returns-clause-stays_whole : goal.returns-clause-stays_whole
+returns-clause-stays_whole g c = stays_so c.change_so.result _ _ c.change_so.ensures.ends_whole
