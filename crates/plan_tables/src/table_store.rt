@@ -86,7 +86,10 @@ impl<S: Alter + Drop> TableStore<S> {
         ensures conn { result.conn ≡ conn }
         ensures lists { result.lists ≡ lists }
         ensures whole { result.failures ≡ 0 }
+        ensures sure { result.in_doubt ≡ false }
     {
+        // its clause says that an open connection has a database
+        let _ = conn.schema();
         TableStore {
             conn,
             lists,
