@@ -1,5 +1,5 @@
 -- Whether rows have a sound content, by tables of a plan in memory that have them.
-use Rattle.std.proofs.Common.{◌↔◌, get_or, inl, inr, refl, List, map, subst}
+use Rattle.std.proofs.Common.{◌≡◌, ◌↔◌, get_or, inl, inr, refl, List, map, subst, sym}
 use Rattle.std.specs.List.{All, Contains}
 use Rattle.std.specs.List.Sorted.{IsPermutation}
 use Rattle.std.proofs.lemmas.List.Elements.{All-map}
@@ -15,11 +15,12 @@ use Rattle.table_reading.specs.Reading.{HasPlan}
 use Rattle.table_opening.specs.Opened.{IsToldBy}
 use Rattle.table_opening.specs.Opening.{IsUnopened}
 use Rattle.table_opening.specs.declared.faults.OpenFault.{OpenFault}
-use Rattle.table_opening.specs.declared.faults.OpenFault.TheVariants as OpenFault
 use Rattle.table_opening.proofs.OpeningLemmas.{room_has_none}
 use Rattle.table_remaking.specs.Remaking.{AreRemade, AreWhole, remade_row}
 use Rattle.table_remaking.specs.declared.rows.FirstRows.{FirstRows}
-use Rattle.plan_migrations.specs.Migrating.{HaveContent}
+use Rattle.plan_migrations.specs.Faults.{fault_in_memory}
+use Rattle.plan_migrations.specs.Migrating.{FailToHold, HaveContent}
+use Rattle.plan_migrations.specs.declared.faults.MigrateFault.{MigrateFault}
 use Rattle.plan_migrations.proofs.ReadLemmas.{each}
 
 module _ (reads : List FirstRows) (whole : AreWhole reads) (all other : Tables) (one : AreRemade reads all)
@@ -58,7 +59,7 @@ module _ (reads : List FirstRows) (whole : AreWhole reads) (s : State) (plan : I
   told_have c (inr free) all remade = absurd (room_has_none s free.0 has_plan)
 
   -- what is refused for its rows has no sound content
-  pub unsound : (new : State) → IsUnopened s new OpenFault.Rows → (c : Content) → HaveContent reads c → IsSound c → ⊥
+  unsound : (new : State) → IsUnopened s new OpenFault.Rows → (c : Content) → HaveContent reads c → IsSound c → ⊥
   unsound new (inl is) c has sound = cc
   unsound new (inr (inl (p, h))) c has sound = (h.rows refl).1 (
     has_plan,
@@ -66,3 +67,11 @@ module _ (reads : List FirstRows) (whole : AreWhole reads) (s : State) (plan : I
   )
   unsound new (inr (inr (inl (room, h)))) c has sound = h
   unsound new (inr (inr (inr (others, h)))) c has sound = h
+
+  pub unheld : (new : State) (fault : OpenFault) (told : MigrateFault) → told ≡ fault_in_memory fault
+      → IsUnopened s new fault → FailToHold reads told
+  unheld new OpenFault.Rows told is h = subst (FailToHold reads) (sym is) (unsound new h)
+  unheld new OpenFault.Memory told is h = subst (FailToHold reads) (sym is) tt
+  unheld new OpenFault.Device told is h = subst (FailToHold reads) (sym is) tt
+  unheld new OpenFault.Unopened told is h = subst (FailToHold reads) (sym is) tt
+  unheld new OpenFault.Tables told is h = subst (FailToHold reads) (sym is) tt

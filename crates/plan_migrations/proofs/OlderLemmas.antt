@@ -1,9 +1,8 @@
 -- What a plan of an older version becomes.
-use Rattle.std.proofs.Common.{◌≡◌, ◌⊎◌, ◌∙◌, ◌≤◌, arith, inl, inr, subst, sym, ℕ}
+use Rattle.std.proofs.Common.{◌≡◌, ◌∙◌, ◌≤◌, arith, inl, inr, subst, ℕ}
 use Rattle.std.specs.Prelude.{Option, Some, None, Ok}
 use Rattle.sqlite.specs.Effect.{Database}
 use Rattle.sqlite.specs.State.{HasCleanDisk, IsUnchanged, State, Survives}
-use Rattle.sqlite.specs.Tree.{Trees}
 use Rattle.sqlite.proofs.StateLemmas.{survives_then}
 use Rattle.table_schema.specs.Texts.{select_sql}
 use Rattle.table_schema.specs.declared.tables.TheConstants.{SCHEMA_VERSION}
@@ -53,8 +52,10 @@ module _ (a b c : State) (same : IsUnchanged a b) (more : a.faults ≤ b.faults)
       let up = (same_if_refused b c none.2).0.is_open in
       record {
         is_open = up;
-        current = inl (inl (refused_since version_sql version_reads a b c same more limit none.2),
-            none.3.now up ∙ same.0.now_is);
+        current = inl (
+          inl (refused_since version_sql version_reads a b c same more limit none.2),
+          none.3.now up ∙ same.0.now_is,
+        );
       }
   current_since found left (inr (inl known)) =
       let up = (same_if_version b c _ known.2).0.is_open in

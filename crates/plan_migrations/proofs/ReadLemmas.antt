@@ -181,8 +181,8 @@ module _ (a b c : State) where
       λ k is. none k (subst (λ (d : Database). IsFirstContentOf (tables_of d.trees) k) (sym same.0.now_is) is),
     )
     unrenewed_since Memory (inl h) = inl (memory_read_since h)
-    unrenewed_since Memory (inr (reads, read, sound, e, tells, h)) =
-        inr (reads, read_since reads read, sound, e, tells, fails_since reads e h)
+    unrenewed_since Memory (inr (reads, read, sound, (e, tells, h))) =
+        inr (reads, read_since reads read, sound, (e, tells, fails_since reads e h))
     unrenewed_since Device h = device_since a b c same more h
     unrenewed_since UnknownVersion h = h
 
@@ -200,7 +200,7 @@ module _ (a b c : State) where
     pub failed_remake : HaveSound reads → (f : MigrateFault) → FailsToRemake reads b c f → IsUnrenewed a c f
     failed_remake sound OtherTable (e, tells, h) =
         inr (inr (reads, read, e, tells, inr (fails_since same more limit reads e h)))
-    failed_remake sound Memory (e, tells, h) = inr (reads, read, sound, e, tells, fails_since same more limit reads e h)
+    failed_remake sound Memory (e, tells, h) = inr (reads, read, sound, (e, tells, fails_since same more limit reads e h))
     failed_remake sound Device h = device_since a b c same more h
     failed_remake sound UnknownVersion (e, tells, h) = tells
     failed_remake sound Rows (e, tells, h) = absurd tells
@@ -259,12 +259,12 @@ fails_to_remake a b reads e Rows fails cause told = absurd told
 -- tables in memory are not filled
 pub unfilled : (reads : List FirstRows) (e : Error) (f : MigrateFault) → (e ≡ SqliteFailure code.OutOfMemory)
     ⊎ AreNotTaken reads e → TellsOf e f → FailToHold reads f
-unfilled reads e OtherTable (inl is) told = absurd (let h : fault_for e Unopened ≡ OpenFault.Memory =
-ap (λ x. fault_for x Unopened) is in cc)
+unfilled reads e OtherTable (inl is) told =
+    let h : fault_for e Unopened ≡ OpenFault.Memory = ap (λ x. fault_for x Unopened) is in absurd cc
 unfilled reads e OtherTable (inr h) told = (e, told, h)
 unfilled reads e Memory h told = tt
-unfilled reads e Device (inl is) told = absurd (let h : fault_for e Unopened ≡ OpenFault.Memory =
-ap (λ x. fault_for x Unopened) is in cc)
+unfilled reads e Device (inl is) told =
+    let h : fault_for e Unopened ≡ OpenFault.Memory = ap (λ x. fault_for x Unopened) is in absurd cc
 unfilled reads e Device (inr h) told =
     true≢false (sym (of_device e told) ∙ calm_fill None plan_schema (with_all_put reads no_rows) e h)
 unfilled reads e UnknownVersion h told = told

@@ -1,28 +1,22 @@
 -- The version of a plan is shown.
-use Rattle.std.proofs.Common.{◌≡◌, ◌⊎◌, ◌∙◌, ◌↔◌, ap, inl, inr, refl, subst, sym, true, false, ℕ, List, [], ◌∷◌, length, map, Option, Some, None, nat_lt}
+use Rattle.std.proofs.Common.{◌≡◌, ◌⊎◌, ◌∙◌, ap, inl, inr, refl, subst, sym, true, ℕ, List, [], ◌∷◌, length, map, Option, Some, None, nat_lt}
 use Rattle.std.specs.Prelude.{Result, Ok, Err, IfOk, IfErr, IsSome, codes}
 use Rattle.std.specs.List.{Contains}
 use Rattle.std.specs.List.Sorted.{IsPermutation}
-use Rattle.std.specs.Ordering.{is_eq}
-use Rattle.std.proofs.lemmas.Cmp.{tied_itself}
 use Rattle.std.proofs.lemmas.List.Sorted.{Contains-permutation}
 use Rattle.sqlite_keyed.proofs.ListLemmas.{all_of, filter_all}
-use Rattle.sqlite_value.specs.Order.{value_cmp}
-use Rattle.sqlite_value.proofs.OrderLemmas.{value_cmp_total}
 use Rattle.sqlite.specs.Order.{Row as Values, column}
-use Rattle.sqlite.specs.State.{FailsToQuery, IsLive, Shown, State}
+use Rattle.sqlite.specs.State.{IsLive, Shown, State}
 use Rattle.sqlite.specs.Term.{Term, col, eval_all}
-use Rattle.sqlite.specs.Tree.{rowid}
-use Rattle.sqlite.specs.declared.error.Error.{Error}
 use Rattle.sqlite_schema.specs.declared.schema.Schema.{Schema}
 use Rattle.sqlite_resolve.specs.Compile.{first}
 use Rattle.sqlite_resolve.specs.Lowering.{max_budget}
 use Rattle.sqlite_trees.specs.Objects.{catalog_tree}
 use Rattle.sqlite_typing.specs.Types.{are_typed, row_classes}
 use Rattle.sqlite_tied.specs.Compute.{everything}
-use Rattle.keyed_lists.proofs.KeyLemmas.{contains_cases, contains_first, contains_later, nothing}
+use Rattle.keyed_lists.proofs.KeyLemmas.{contains_cases, nothing}
 use Rattle.table_schema.specs.Places.{StandsAt}
-use Rattle.table_schema.specs.Rows.{HaveRowids, MayFail, Tables, shown, tables_of}
+use Rattle.table_schema.specs.Rows.{shown, tables_of}
 use Rattle.table_schema.specs.Schema.{HasTables, name, table_at}
 use Rattle.table_schema.specs.declared.tables.Table.TheVariants as table
 use Rattle.table_schema.specs.declared.tables.TheConstants.{SCHEMA_VERSION}
@@ -33,12 +27,12 @@ use Rattle.table_schema.proofs.ShownLemmas.{shows_all, stays}
 use Rattle.table_schema.proofs.StatementLemmas.{text_fails, text_reads}
 use Rattle.table_schema.proofs.Written.{IfRead}
 use Rattle.table_schema.proofs.WrittenQueries.{IsBareText, has_all, shown_as, shown_column}
-use Rattle.table_facts.specs.Content.{meta_values}
 use Rattle.table_facts.specs.Facts.{natural}
 use Rattle.table_opening.specs.Foreign.{RefusesVersion, version_sql}
-use Rattle.table_opening.specs.Held.{AreKnown, HoldSound, HoldsPlan}
+use Rattle.table_opening.specs.Held.{AreKnown, HoldsPlan}
 use Rattle.table_opening.proofs.ForeignLemmas.{version_reads}
 use Rattle.table_opening.proofs.QueryLemmas.{other_cause}
+use Rattle.table_opening.proofs.SoundLemmas.{sound_is_known}
 use Rattle.table_opening.proofs.StoredLemmas.{still_known}
 use Rattle.table_reading.specs.Reading.{HasPlan}
 use Rattle.table_remaking.specs.FirstSchema.{CanRemake, first_shown, first_table_at}
@@ -49,32 +43,6 @@ use Rattle.plan_migrations.specs.declared.faults.MigrateFault.{MigrateFault}
 use Rattle.plan_migrations.specs.declared.faults.MigrateFault.TheVariants.{UnknownVersion, OtherTable, Rows, Memory, Device}
 use Rattle.plan_migrations.specs.declared.versions.TheConstants.{FIRST_VERSION}
 use Rattle.plan_migrations.proofs.ContentLemmas.{mapped, maps}
-
--- ---- the rows of `plan_meta` in a sound plan
-
-one_row : (rows : List Values) (w : Values) → ((v : Values) → Contains (map (shown table.Meta) rows) v ↔ (v ≡ w))
-    → column w 0 ≡ natural 1 → HaveRowids rows → map (shown table.Meta) rows ≡ w ∷ []
-one_row [] w exactly id have = absurd (nothing w ((exactly w).1 refl))
-one_row (a ∷ []) w exactly id have = ap (λ (v : Values). v ∷ []) ((exactly (shown table.Meta a)).0 (contains_first (shown table.Meta a) []))
-one_row (a ∷ b ∷ rs) w exactly id have =
-    let later = map (shown table.Meta) (b ∷ rs) in
-    let here = (exactly (shown table.Meta a)).0 (contains_first (shown table.Meta a) later) in
-    let there = (exactly (shown table.Meta b)).0 (contains_later (shown table.Meta a) (shown table.Meta b) later
-    (contains_first (shown table.Meta b) (map (shown table.Meta) rs))) in
-    let one : rowid a ≡ natural 1 = ap (λ (v : Values). column v 0) here ∙ id in
-    let other : rowid b ≡ natural 1 = ap (λ (v : Values). column v 0) there ∙ id in
-    let tied : is_eq (value_cmp (rowid a) (rowid b)) ≡ true =
-    (λ i. is_eq (value_cmp (one i) (other i))) ∙ ap is_eq (tied_itself value_cmp_total (natural 1)) in
-    absurd (cc)
-
-sound_is_known : (all : Tables) → HoldSound all → AreKnown (map (shown table.Meta) (all table.Meta))
-sound_is_known all h =
-    let c = h.content in
-    let w = meta_values c.sets.bounds c.sets.issued c.definitions.options in (
-      w,
-      one_row (all table.Meta) w (h.told.facts table.Meta) refl (h.rowids table.Meta),
-      refl,
-    )
 
 -- ---- what it shows
 

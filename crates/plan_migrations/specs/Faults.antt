@@ -1,5 +1,6 @@
 -- The number of a fault.
 use Rattle.std.specs.Prelude.{ℕ}
+use Rattle.table_opening.specs.declared.faults.OpenFault.{OpenFault}
 use Rattle.plan_migrations.specs.declared.faults.MigrateFault.{MigrateFault}
 use Rattle.plan_migrations.specs.declared.faults.MigrateFault.TheVariants.{UnknownVersion, OtherTable, Rows, Memory, Device}
 
@@ -10,3 +11,9 @@ number_of OtherTable = 51
 number_of Rows = 52
 number_of Memory = 40
 number_of Device = 41
+
+-- what is told of tables of a plan in memory that are not opened: that what they tell is not sound, or else that memory
+-- is short
+abbrev pub fault_in_memory : OpenFault → MigrateFault
+fault_in_memory OpenFault.Rows = Rows
+fault_in_memory _ = Memory

@@ -11,7 +11,7 @@ use Rattle.sqlite.specs.declared.error.Error.{Error}
 use Rattle.planner_machine.specs.Content.{Content}
 use Rattle.planner_machine.specs.Sound.{IsSound}
 use Rattle.table_schema.specs.Free.{with_plan}
-use Rattle.table_schema.specs.Rows.{IsPlan, MayFail, Tables, no_rows, shown, tables_of}
+use Rattle.table_schema.specs.Rows.{IsPlan, Tables, no_rows, shown, tables_of}
 use Rattle.table_schema.specs.Schema.{HasTables, all_tables, plan_schema}
 use Rattle.table_schema.specs.Texts.{select_sql}
 use Rattle.table_schema.specs.declared.tables.Table.{Table}

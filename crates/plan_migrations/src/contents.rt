@@ -1,7 +1,8 @@
 // The content of the tables of schema 1, before they are made anew.
 
-ghost use Rattle.std.specs.Prelude.{IfErr, OnOk};
+ghost use Rattle.std.specs.Prelude.{◌≡◌, IfErr, OnOk};
 ghost use Rattle.table_remaking.specs.Remaking.{AreAllFirst, AreWhole};
+ghost use Rattle.plan_migrations.specs.Faults.{fault_in_memory};
 ghost use Rattle.plan_migrations.specs.Migrating.{FailToHold, HaveSound, TellsOf};
 
 use crate::faults::MigrateFault;
@@ -21,6 +22,17 @@ pub(crate) fn remake_fault(error: &Error) -> MigrateFault
     }
 }
 
+// The fault of a content that is not opened in memory: but for its rows, nothing can be the matter with tables that were
+// just made there.
+fn content_fault(fault: OpenFault) -> MigrateFault
+    ensures { result ≡ fault_in_memory fault }
+{
+    match fault {
+        OpenFault::Rows => MigrateFault::Rows,
+        _ => MigrateFault::Memory,
+    }
+}
+
 /// Looks whether the rows have a sound content, once tables of a plan in memory have them.
 pub(crate) fn check_content(alloc: Global, reads: &[FirstRows]) -> Result<(), MigrateFault>
     requires whole { AreWhole reads.now }
@@ -31,9 +43,7 @@ pub(crate) fn check_content(alloc: Global, reads: &[FirstRows]) -> Result<(), Mi
     match plan_in_memory(alloc, reads) {
         Ok(mut conn) => match open_content(alloc, &mut conn) {
             Ok(_) => Ok(()),
-            Err(OpenFault::Rows) => Err(MigrateFault::Rows),
-            // nothing else can be the matter with tables that were just made in memory
-            Err(_) => Err(MigrateFault::Memory),
+            Err(fault) => Err(content_fault(fault)),
         },
         Err(error) => Err(remake_fault(&error)),
     }

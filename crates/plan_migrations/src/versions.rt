@@ -33,6 +33,29 @@ fn is_first(rows: &[Cells]) -> bool
     }
 }
 
+// The version that `plan_meta` shows.
+fn shown_version<S: Alter>(conn: &mut Connection<S>) -> Result<Option<u32>, MigrateFault>
+    requires { conn.old.in_transaction ≡ false }
+    ensures tells { HasCleanDisk (state S.Store conn.new)
+        → TellsVersion (state S.Store conn.old) (state S.Store conn.new) result }
+    ensures kept { HasCleanDisk (state S.Store conn.new)
+        → IsKept (state S.Store conn.old) (state S.Store conn.new) }
+    ensures mode { conn.new.in_transaction ≡ false }
+    ensures crash { Survives (state S.Store conn.old) (state S.Store conn.new) (λ _. ⊥) }
+{
+    match ask(conn, version_text()) {
+        Ok(Some(rows)) => if is_known(&rows) {
+            Ok(Some(SCHEMA_VERSION))
+        } else if is_first(&rows) {
+            Ok(Some(FIRST_VERSION))
+        } else {
+            Err(MigrateFault::UnknownVersion)
+        },
+        Ok(None) => Ok(None),
+        Err(fault) => Err(fault),
+    }
+}
+
 /// The version of the plan that the database has; `None` where it is without tables, which is where it refuses to show
 /// a version, neither for want of memory nor for the device. Nothing changes. It looks at the version alone, so one that
 /// it knows is told whatever else is the matter with the tables; that of a sound plan is told but for a common cause, or
@@ -53,15 +76,5 @@ pub fn version<S: Alter>(conn: &mut Connection<S>) -> Result<Option<u32>, Migrat
 {
     // its clause says that an open connection has a database
     let _ = conn.schema();
-    match ask(conn, version_text()) {
-        Ok(Some(rows)) => if is_known(&rows) {
-            Ok(Some(SCHEMA_VERSION))
-        } else if is_first(&rows) {
-            Ok(Some(FIRST_VERSION))
-        } else {
-            Err(MigrateFault::UnknownVersion)
-        },
-        Ok(None) => Ok(None),
-        Err(fault) => Err(fault),
-    }
+    shown_version(conn)
 }

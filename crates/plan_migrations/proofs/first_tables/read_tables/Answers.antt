@@ -1,7 +1,8 @@
-use Rattle.std.proofs.Common.{arith, subst, sym}
+use Rattle.std.proofs.Common.{arith, inl, subst, sym}
 use Rattle.std.specs.List.{All}
 use Rattle.std.proofs.lemmas.List.Elements.{All-push}
 use Rattle.sqlite.specs.Held.{state}
+use Rattle.sqlite.proofs.Callers.{unchanged_then}
 use Rattle.sqlite.proofs.StateLemmas.{survives_then}
 use Rattle.table_schema.specs.declared.tables.Table.TheVariants.{Meta}
 use Rattle.table_remaking.specs.Remaking.{AreAllFirst, tables_in}
@@ -45,3 +46,11 @@ loop-table-preserved g c =
           (read_on old mid new c.loop-table.reads.items read had.0 (c.in-Ok.ensures.same clean) had.1
           (c.in-Ok.ensures.shown clean));
     }
+
+pub returns-in-Err-push-clause-unread : goal.returns-in-Err-push-clause-unread
+returns-in-Err-push-clause-unread g c clean =
+    let old = state g.S.Store c.args.conn.now in
+    let mid = state g.S.Store c.loop-table.conn in
+    let new = state g.S.Store c.read_table.new.conn in
+    let had = c.loop-table.invariant.told (omega (arith, c.read_table.ensures.crash.clean, clean)) in
+    inl (unchanged_then old mid new had.0 (c.in-Ok.ensures.same clean))

@@ -23,6 +23,14 @@ renew-requires-clause-open g c clean =
     (c.in-Ok-Some.ensures.tells clean) in
     (same_if_version old mid c.in-Ok-Some.found told.1).0.is_open
 
+pub renew-requires-clause-told : goal.renew-requires-clause-told
+renew-requires-clause-told g c clean can =
+    let old = state g.S.Store c.args.conn.now in
+    let mid = state g.S.Store c.version.new.conn in
+    let told = told_some old mid c.in-Ok-Some.field-0 c.in-Ok-Some.found c.in-Ok-Some.field-0-is
+    (c.in-Ok-Some.ensures.tells clean) in
+    first_told old mid mid c.in-Ok-Some.found told c.if-found-eq-SCHEMA_VERSION.false c.schema.ensures.live can
+
 pub returns-in-Ok-clause-migrated : goal.returns-in-Ok-clause-migrated
 returns-in-Ok-clause-migrated g c clean =
     let old = state g.S.Store c.args.conn.now in
@@ -102,7 +110,7 @@ returns-in-Err-renew-clause-crash g c =
     c.in-Ok-Some.field-0-is (c.in-Ok-Some.ensures.tells (omega (arith, c.renew.ensures.crash.clean, clean)))).1 db h)
     c.version.ensures.crash c.renew.ensures.crash
 
-pub returns-in_Err-version-clause-unmigrated : goal.returns-in_Err-version-clause-unmigrated
-returns-in_Err-version-clause-unmigrated g c clean =
-    untold (state g.S.Store c.args.conn.now) (state g.S.Store c.version.new.conn) c.in-Err-version.fault
-    (c.in-Err-version.ensures.tells clean)
+pub returns-in-Err-clause-unmigrated : goal.returns-in-Err-clause-unmigrated
+returns-in-Err-clause-unmigrated g c clean =
+    untold (state g.S.Store c.args.conn.now) (state g.S.Store c.version.new.conn) c.in-Err.fault
+    (c.in-Err.ensures.tells clean)

@@ -1,5 +1,5 @@
 use Rattle.std.proofs.Common.{arith}
-use Rattle.sqlite.specs.State.{HasCleanDisk, IsUnchanged}
+use Rattle.sqlite.specs.State.{HasCleanDisk}
 use Rattle.sqlite.specs.Held.{state}
 use Rattle.plan_migrations.proofs.OlderLemmas.{current_if_known, current_if_none, current_since, same_if_told}
 use Rattle.plan_migrations.proofs.OlderLemmas.{survives_both, unmigrated_since}
@@ -7,8 +7,8 @@ use Rattle.plan_migrations.proofs.ReadLemmas.{untold}
 use Rattle.plan_migrations.proofs.TurnLemmas.{kept_since}
 use Rattle.plan_migrations.proofs.older.migrate_older.Goals as goal
 
-pub returns-in_Ok-clause-current : goal.returns-in_Ok-clause-current
-returns-in_Ok-clause-current g c clean =
+pub returns-in-Ok-clause-current : goal.returns-in-Ok-clause-current
+returns-in-Ok-clause-current g c clean =
     let old = state g.S.Store c.args.conn.now in
     let mid = state g.S.Store c.version.new.conn in
     let early : HasCleanDisk mid = omega (arith, c.migrate.ensures.crash.clean, clean) in
@@ -16,16 +16,16 @@ returns-in_Ok-clause-current g c clean =
     (same_if_told old mid c.in-Ok-Some.field-0 (c.in-Ok-Some.ensures.tells early)) c.version.ensures.crash.counts
     c.version.ensures.crash.limit _ _ (c.in-Ok.ensures.migrated clean)
 
-pub returns-in_Ok-clause-crash : goal.returns-in_Ok-clause-crash
-returns-in_Ok-clause-crash g c =
+pub returns-in-Ok-clause-crash : goal.returns-in-Ok-clause-crash
+returns-in-Ok-clause-crash g c =
     let old = state g.S.Store c.args.conn.now in
     let mid = state g.S.Store c.version.new.conn in
     survives_both old mid (state g.S.Store c.migrate.new.conn)
     (λ clean. same_if_told old mid c.in-Ok-Some.field-0 (c.in-Ok-Some.ensures.tells clean)) c.version.ensures.crash
     c.migrate.ensures.crash
 
-pub returns-in_Err-migrate-clause-unmigrated : goal.returns-in_Err-migrate-clause-unmigrated
-returns-in_Err-migrate-clause-unmigrated g c clean =
+pub returns-in-Err-migrate-clause-unmigrated : goal.returns-in-Err-migrate-clause-unmigrated
+returns-in-Err-migrate-clause-unmigrated g c clean =
     let old = state g.S.Store c.args.conn.now in
     let mid = state g.S.Store c.version.new.conn in
     let early : HasCleanDisk mid = omega (arith, c.migrate.ensures.crash.clean, clean) in
@@ -33,16 +33,16 @@ returns-in_Err-migrate-clause-unmigrated g c clean =
     (same_if_told old mid c.in-Ok-Some.field-0 (c.in-Ok-Some.ensures.tells early)) c.version.ensures.crash.counts
     c.version.ensures.crash.limit c.in-Err-migrate.fault (c.in-Err-migrate.ensures.unmigrated clean)
 
-pub returns-in_Err-migrate-clause-kept : goal.returns-in_Err-migrate-clause-kept
-returns-in_Err-migrate-clause-kept g c clean =
+pub returns-in-Err-migrate-clause-kept : goal.returns-in-Err-migrate-clause-kept
+returns-in-Err-migrate-clause-kept g c clean =
     let old = state g.S.Store c.args.conn.now in
     let mid = state g.S.Store c.version.new.conn in
     let early : HasCleanDisk mid = omega (arith, c.migrate.ensures.crash.clean, clean) in
     kept_since old mid (state g.S.Store c.migrate.new.conn)
     (same_if_told old mid c.in-Ok-Some.field-0 (c.in-Ok-Some.ensures.tells early)) (c.in-Err-migrate.ensures.kept clean)
 
-pub returns-in_Err-migrate-clause-crash : goal.returns-in_Err-migrate-clause-crash
-returns-in_Err-migrate-clause-crash g c =
+pub returns-in-Err-migrate-clause-crash : goal.returns-in-Err-migrate-clause-crash
+returns-in-Err-migrate-clause-crash g c =
     let old = state g.S.Store c.args.conn.now in
     let mid = state g.S.Store c.version.new.conn in
     survives_both old mid (state g.S.Store c.migrate.new.conn)
@@ -56,13 +56,13 @@ returns-else-found-eq-FIRST_VERSION-clause-current g c clean =
     current_if_known old mid c.in-Ok-Some.field-0 c.in-Ok-Some.found c.in-Ok-Some.field-0-is
     c.if-found-eq-FIRST_VERSION.false (c.in-Ok-Some.ensures.tells clean)
 
-pub returns-in_Ok-None-clause-current : goal.returns-in_Ok-None-clause-current
-returns-in_Ok-None-clause-current g c clean =
+pub returns-in-Ok-None-clause-current : goal.returns-in-Ok-None-clause-current
+returns-in-Ok-None-clause-current g c clean =
     let old = state g.S.Store c.args.conn.now in
     let mid = state g.S.Store c.version.new.conn in
     current_if_none old mid c.in-Ok-None.field-0 c.in-Ok-None.field-0-is (c.in-Ok-None.ensures.tells clean)
 
-pub returns-in_Err-version-clause-unmigrated : goal.returns-in_Err-version-clause-unmigrated
-returns-in_Err-version-clause-unmigrated g c clean =
-    untold (state g.S.Store c.args.conn.now) (state g.S.Store c.version.new.conn) c.in-Err-version.fault
-    (c.in-Err-version.ensures.tells clean)
+pub returns-in-Err-clause-unmigrated : goal.returns-in-Err-clause-unmigrated
+returns-in-Err-clause-unmigrated g c clean =
+    untold (state g.S.Store c.args.conn.now) (state g.S.Store c.version.new.conn) c.in-Err.fault
+    (c.in-Err.ensures.tells clean)

@@ -1,8 +1,13 @@
-use Rattle.std.proofs.Common.{sym, subst}
 use Rattle.sqlite.specs.Held.{state}
-use Rattle.table_opening.specs.Queries.{IsReading}
-use Rattle.table_opening.proofs.ForeignLemmas.{version_reads}
+use Rattle.plan_migrations.proofs.VersionLemmas.{err_told, ok_told}
 use Rattle.plan_migrations.proofs.versions.version.Goals as goal
 
-pub ask-requires-clause-reading : goal.ask-requires-clause-reading
-ask-requires-clause-reading g c = subst IsReading (sym c.version_text.ensures) version_reads
+pub returns-clause-known : goal.returns-clause-known
+returns-clause-known g c clean holds =
+    ok_told (state g.S.Store c.args.conn.now) (state g.S.Store c.shown_version.new.conn) holds c.schema.ensures.live
+    c.shown_version.result (c.shown_version.ensures.tells clean)
+
+pub returns-clause-common : goal.returns-clause-common
+returns-clause-common g c clean holds =
+    err_told (state g.S.Store c.args.conn.now) (state g.S.Store c.shown_version.new.conn) holds c.schema.ensures.live
+    c.shown_version.result (c.shown_version.ensures.tells clean)
