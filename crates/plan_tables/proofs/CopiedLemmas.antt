@@ -1,5 +1,5 @@
 -- What is found in files whose log was copied into the database file.
-use Rattle.std.proofs.Common.{◌≡◌, ◌⊎◌, [], false, IsTrue, inl, inr, subst, sym}
+use Rattle.std.proofs.Common.{◌≡◌, ◌⊎◌, [], false, inl, inr, subst, sym}
 use Rattle.std.proofs.Math.Logic.{∥∥₁_elim, ∥∥₁_map}
 use Rattle.sqlite.specs.Closing.{IsCopied}
 use Rattle.sqlite.specs.Files.{ExcusesClose, FailsToClose, HoldsDatabase, file_state}
@@ -23,8 +23,7 @@ use Rattle.sqlite_wal.specs.Recovery.{Image}
 use Rattle.plan_store.specs.declared.stores.StoreFault.{StoreFault}
 use Rattle.plan_store.specs.declared.stores.StoreFault.TheVariants.{Device, Memory}
 use Rattle.planner_machine.specs.Content.{Content}
-use Rattle.table_schema.specs.Rows.{tables_of}
-use Rattle.table_facts.specs.Content.{HaveOneContent, IsContentOf}
+use Rattle.table_facts.specs.Content.{HaveOneContent}
 use Rattle.plan_tables.specs.Found.{IsFoundIn, IsFoundInEither, KeepsAlone, Tells}
 use Rattle.plan_tables.specs.Stored.{LeavesSound, MayLeave}
 use Rattle.plan_tables.proofs.FoundLemmas.{found_told, tells_left, told_again}

@@ -1,5 +1,5 @@
 -- What a store kept is found again.
-use Rattle.std.proofs.Common.{◌≡◌, ◌⊎◌, ◌∙◌, ◌+◌, ℕ, Bool, true, false, cond, List, [], ◌∷◌, Option, Some, None, inl, inr, ap, refl, subst, sym}
+use Rattle.std.proofs.Common.{◌≡◌, ◌∙◌, ◌+◌, ℕ, Bool, true, false, cond, List, [], ◌∷◌, Option, Some, None, inl, inr, ap, refl, subst, sym}
 use Rattle.std.proofs.Common.{IsTrue, filter, true≢false}
 use Rattle.std.specs.List.{position_from}
 use Rattle.std.proofs.Math.Logic.{∥∥₁_elim, ∥∥₁_map}

@@ -1,5 +1,4 @@
 -- Why a database is not opened whose connection was let go.
-use Rattle.std.specs.Prelude.{◌≡◌}
 use Rattle.sqlite.specs.Held.{Held, state}
 use Rattle.sqlite.specs.State.{HasCleanDisk}
 use Rattle.sqlite.specs.Store.{Ghosts}

@@ -1,7 +1,5 @@
 -- Indexes of the tables of a plan, by hand or of their keys.
-use Rattle.std.proofs.Common.{◌≡◌, ◌≢◌, ◌⊎◌, ◌↔◌, ◌∙◌, ◌==◌, ℕ, Bool, IsTrue, true, false, inl, inr, List, [], ◌∷◌, Option, Some, None, refl, sym, ap, subst, arith}
-use Rattle.std.specs.List.{All, AllByRecursion}
-use Rattle.std.specs.Prelude.{MatchOption}
+use Rattle.std.proofs.Common.{◌≡◌, ◌≢◌, ◌⊎◌, ◌↔◌, ◌==◌, ℕ, Bool, IsTrue, true, false, inl, inr, List, [], ◌∷◌, refl, sym, ap, subst, arith}
 use Rattle.std.proofs.lemmas.Bool.Decides.{nat_tests}
 use Rattle.std.proofs.lemmas.List.Elements.{All-from_recursion, recursion_from_All}
 use Rattle.sqlite_rules.proofs.ListLemmas.{all_from, all_has}
@@ -10,15 +8,14 @@ use Rattle.sqlite_schema.specs.declared.schema.Schema.{Schema}
 use Rattle.sqlite_schema.specs.declared.schema.Table.{Table as Described}
 use Rattle.sqlite_value.specs.Keys.{plain}
 use Rattle.sqlite_value.specs.declared.keys.Order.{Order}
-use Rattle.table_schema.specs.Named.{first_named}
-use Rattle.table_schema.specs.Schema.{HasOwnIndexes, HasTables, IsOwnIndex, name, orders, plan_schema, table, table_at, uniques}
+use Rattle.table_schema.specs.Schema.{HasOwnIndexes, HasTables, IsOwnIndex, orders, plan_schema, table, table_at, uniques}
 use Rattle.table_schema.proofs.FoundLemmas.{named_there}
 use Rattle.table_schema.specs.declared.tables.Table.{Table}
 use Rattle.table_schema.specs.declared.tables.Table.TheVariants.{Meta, CalendarEntry, Period, Application, RunCycle}
 use Rattle.table_schema.specs.declared.tables.Table.TheVariants.{Offset, Predecessor, LinkInForce, LongTerm, Current}
 use Rattle.table_schema.specs.declared.tables.Table.TheVariants.{History, Deletion, Dependency, Job}
 use Rattle.table_opening.specs.Indexes.{AreOwn, IsOfKey, IsOwn, IsOwnOf}
-use Rattle.table_opening.proofs.AmongLemmas.{Forms, all_each, each}
+use Rattle.table_opening.proofs.AmongLemmas.{all_each, each}
 use Rattle.table_opening.proofs.StandingLemmas.{forms}
 
 -- a key of the plan is in rising order

@@ -1,8 +1,7 @@
-use Rattle.std.proofs.Common.{◌≡◌, ◌↔◌, ◌∙◌, ap, subst, sym}
+use Rattle.std.proofs.Common.{◌∙◌, ap, subst, sym}
 use Rattle.sqlite.proofs.Callers.{memory_is_clean}
 use Rattle.sqlite.specs.Schema.{Schema}
 use Rattle.table_schema.specs.Free.{IsFree}
-use Rattle.table_schema.specs.Schema.{HasOwnIndexes, HasTables}
 use Rattle.table_schema.proofs.MadeLemmas.{nothing_is_free}
 use Rattle.table_opening.proofs.IndexLemmas.{own_told}
 use Rattle.table_opening.proofs.StandingLemmas.{made_alone}
