@@ -48,13 +48,13 @@ fn meaning(fault: &RunFault) -> &'static str {
         }
         RunFault::Device { part, .. } => match part {
             Part::Store => {
-                "opcplan: fault 41: the plan's disk failed; what was answered stands. Run the whole stream again"
+                "opcplan: fault 41: the plan's disk failed, or an index or row of yours in FILE leaves no room for a row (docs/REFUSALS.md); what was answered stands. Run the whole stream again once that is mended"
             }
             Part::Reader => {
                 "opcplan: fault 41: standard input failed; what was answered stands. Run the whole stream again"
             }
             Part::Writer => {
-                "opcplan: fault 41: standard output failed; what was answered stands. Run the whole stream again"
+                "opcplan: fault 41: standard output failed or was closed; what was answered stands"
             }
         },
     }

@@ -5,15 +5,19 @@ use std::process::ExitCode;
 use words::Asked;
 
 mod faults;
-mod opening;
 mod over_file;
 mod over_lists;
+mod refusals;
+mod terminal;
 mod words;
 
 fn main(rt: HostRuntime) -> ExitCode {
     ExitCode::from(match words::read_words(&rt) {
         Asked::Run(Some(file)) => over_file::answer_over_file(&rt, &file),
-        Asked::Run(None) => over_lists::answer_over_lists(&rt),
+        Asked::Run(None) => {
+            terminal::greet(&rt, terminal::OVER_LISTS);
+            over_lists::answer_over_lists(&rt)
+        }
         Asked::Told(status) => status,
         Asked::Memory => faults::tell(&rt, faults::MEMORY),
     })

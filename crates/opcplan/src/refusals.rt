@@ -1,81 +1,80 @@
-//! The database file that the words name is opened, migrated if its plan is of an older version, and adopted.
-
-ghost use Rattle.std.specs.Prelude.{◌≡◌, false, IfOk};
-ghost use Rattle.planner_machine.specs.Sound.{IsSound};
-ghost use Rattle.plan_store.specs.Contents.{content_of};
+//! Why no stream is run over a file, as it is told.
 
 use crate::faults::{tell, tell_so};
 use crate::words::NamedFile;
-use plan_migrations::{FIRST_VERSION, MigrateFault, migrate, migrate_fault_number, version};
-use plan_tables::TableStore;
-use sqlite::{Alter, Connection, Error, ErrorCode, File, FileStore, Unknown};
-use std::alloc::Global;
-use table_opening::{open_connection_with, open_fault_number};
+use plan_files::Unrun;
+use plan_migrations::MigrateFault;
+use sqlite::{Error, ErrorCode, File, Leftover};
+use table_opening::OpenFault;
 
-/// The store over the plans that the file keeps, which is opened, migrated and adopted. Where one of these fails, its
-/// fault is told, and the exit status comes back.
-pub fn open_store(rt: &HostRuntime, file: &NamedFile) -> Result<TableStore<FileStore<File>>, u8>
-    ensures { IfOk result (λ store. IsSound (content_of store.lists)) }
-{
-    let mut conn = open_file(rt, file)?;
-    if let Err(fault) = migrate_older(rt.alloc(), &mut conn) {
-        return Err(tell(rt, migrate_fault_number(&fault)));
-    }
-    match TableStore::adopt(rt.alloc(), conn) {
-        Ok(store) => Ok(store),
-        Err((fault, _conn)) => Err(tell(rt, open_fault_number(&fault))),
+/// Tells why no stream is run over the file, by a fault on standard output and by what it means on standard error, and
+/// gives the exit status.
+pub fn tell_refusal<R: Print + Eprint>(
+    rt: &R,
+    file: &NamedFile,
+    fault: Unrun,
+    left: &Option<Leftover<File>>,
+    error: &Option<Error>,
+) -> u8 {
+    match reason(file, fault, left, error) {
+        Some(reason) => tell_so(rt, fault.number(), reason),
+        None => tell(rt, fault.number()),
     }
 }
 
-/// Migrates a plan of an older version. One of the current version would stay as it is, and its tables are looked at
-/// where it is adopted, so they are not read twice.
-fn migrate_older<S: Alter>(alloc: Global, conn: &mut Connection<S>) -> Result<(), MigrateFault>
-    requires { conn.old.in_transaction ≡ false }
-    ensures { conn.new.in_transaction ≡ false }
-{
-    match version(conn) {
-        Ok(Some(found)) => if found == FIRST_VERSION {
-            match migrate(alloc, conn) {
-                Ok(_) => Ok(()),
-                Err(fault) => Err(fault),
-            }
-        } else {
-            Ok(())
+/// Why, where that is more than the number says.
+fn reason(
+    file: &NamedFile,
+    fault: Unrun,
+    left: &Option<Leftover<File>>,
+    error: &Option<Error>,
+) -> Option<&'static str> {
+    match fault {
+        Unrun::Unopened(_) => match error {
+            Some(error) => open_reason(file, left, error),
+            None => None,
         },
-        Ok(None) => Ok(()),
-        Err(fault) => Err(fault),
-    }
-}
-
-/// Opens the file, or makes it. Where it isn't opened, its fault is told, on standard error with what sqlite says of it,
-/// and the exit status comes back.
-fn open_file(rt: &HostRuntime, file: &NamedFile) -> Result<Connection<FileStore<File>>, u8>
-    ensures { IfOk result (λ conn. conn.in_transaction ≡ false) }
-{
-    match open_connection_with(rt, &file.path, file.new_has_sums, Unknown) {
-        Ok(conn) => Ok(conn),
-        Err((fault, _left, error)) => {
-            let number = open_fault_number(&fault);
-            Err(match reason(&error) {
-                Some(reason) => tell_so(rt, number, reason),
-                None => tell(rt, number),
-            })
-        }
+        Unrun::Unmigrated(MigrateFault::UnknownVersion) => Some(
+            "opcplan: fault 50: FILE's plan is of a version that this program doesn't know; it is as it was",
+        ),
+        Unrun::Unadopted(OpenFault::Unopened) => Some(
+            "opcplan: fault 50: FILE holds no plan, and can't get one: something in it has a name of a plan's tables, or a table refers to one. It is as it was",
+        ),
+        _ => None,
     }
 }
 
 /// Why a file is not opened, where that is more than its fault says.
-fn reason(error: &Error) -> Option<&'static str> {
+fn open_reason(
+    file: &NamedFile,
+    left: &Option<Leftover<File>>,
+    error: &Error,
+) -> Option<&'static str> {
     match error {
         Error::SqliteFailure(ErrorCode::DatabaseBusy) => {
             Some("opcplan: fault 50: another program has FILE open; it is as it was")
         }
-        Error::SqliteFailure(ErrorCode::CannotOpen) => {
-            Some("opcplan: fault 50: FILE can't be opened or made")
-        }
-        Error::SqliteFailure(ErrorCode::NotADatabase | ErrorCode::DatabaseCorrupt) => {
-            Some("opcplan: fault 50: FILE is no database, or it is damaged; it is as it was")
-        }
+        Error::SqliteFailure(ErrorCode::CannotOpen) => Some(path_reason(file)),
+        Error::SqliteFailure(ErrorCode::NotADatabase) => Some(match left {
+            Some(Leftover::Files(_)) => "opcplan: fault 50: FILE is no database; it is as it was",
+            _ =>
+                "opcplan: fault 50: FILE is a database with an object that this program can't read, such as a view, trigger or virtual table of yours, or rows that break a rule of their table. Nothing need be damaged: sqlite3 shows them, docs/TABLES.md lists them; take it away. FILE is as it was",
+        }),
+        Error::SqliteFailure(ErrorCode::DatabaseCorrupt) => Some(
+            "opcplan: fault 50: a page of FILE is damaged or has a wrong sum, or FILE is in auto_vacuum mode or keeps its texts in UTF-16, which this program can't read; docs/TABLES.md says what to do. FILE is as it was",
+        ),
         _ => None,
+    }
+}
+
+/// Why a path is not opened.
+fn path_reason(file: &NamedFile) -> &'static str {
+    let path = file.path.as_bytes();
+    if path.is_empty() {
+        "opcplan: fault 50: no FILE is named"
+    } else if path == b":memory:" || path.starts_with(b"file:") {
+        "opcplan: fault 50: FILE is a path; :memory: and file: are none (./NAME names such a file, and no --db is a plan in memory)"
+    } else {
+        "opcplan: fault 50: FILE can't be opened or made: look at its name and folder, whether you may read and write it and its folder, whether it has a second name (a hard link), and whether FILE-journal stands beside it"
     }
 }

@@ -27,6 +27,9 @@ pub enum Asked {
     Memory,
 }
 
+/// What `--version` tells: the program's version, and that of a plan's tables.
+const VERSION: &str = "1.0.0 (tables of version 2)";
+
 /// What stands below the options in the help.
 const STATEMENTS: &str = "\
 Statements, one a line:
@@ -54,6 +57,7 @@ The statements stand in docs/STATEMENTS.md, an operator's week in docs/GUIDE.md.
 /// The words that may be given: `--db FILE`, `--sums` beside it, and `--help`.
 fn command<'a>(alloc: Global) -> Result<Command<'a>, AllocError> {
     Command::new(alloc, "opcplan")
+        .version(VERSION)
         .about(
             "Answers the job stream of statements and data blocks on standard input, a reply for each statement",
         )

@@ -1,9 +1,11 @@
 // A plan of an older version is migrated before it is adopted.
 
-ghost use Rattle.std.specs.Prelude.{◌≡◌, false, IfErr, OnErr, OnOk};
+ghost use Rattle.std.specs.Prelude.{◌≡◌, false, IfErr, None, OnErr, OnOk};
 ghost use Rattle.sqlite.specs.State.{HasCleanDisk, Survives};
 ghost use Rattle.sqlite.specs.Held.{state};
-ghost use Rattle.plan_migrations.specs.Asking.{IsKept};
+ghost use Rattle.table_opening.specs.Foreign.{version_sql};
+ghost use Rattle.table_opening.specs.Held.{HoldsPlan};
+ghost use Rattle.plan_migrations.specs.Asking.{IsFailure, IsKept};
 ghost use Rattle.plan_migrations.specs.Migrating.{IsUnmigrated, MayRenew};
 ghost use Rattle.plan_migrations.specs.Older.{IsCurrent};
 
@@ -14,13 +16,20 @@ use sqlite::{Alter, Connection};
 use std::alloc::Global;
 
 /// Migrates a plan of an older version. One of the current version stays as it is, and so does a database without
-/// tables: its tables are looked at where it is adopted, so they are not read twice.
-pub fn migrate_older<S: Alter>(alloc: Global, conn: &mut Connection<S>) -> Result<(), MigrateFault>
+/// tables: its tables are looked at where it is adopted, so they are not read twice. Answers the version that it found;
+/// one that holds a sound plan of the current schema is refused for a common cause alone.
+pub fn migrate_older<S: Alter>(
+    alloc: Global,
+    conn: &mut Connection<S>,
+) -> Result<Option<u32>, MigrateFault>
     requires { conn.old.in_transaction ≡ false }
     ensures current { HasCleanDisk (state S.Store conn.new)
         → OnOk result (IsCurrent (state S.Store conn.old) (state S.Store conn.new)) }
     ensures unmigrated { HasCleanDisk (state S.Store conn.new)
         → IfErr result (IsUnmigrated (state S.Store conn.old) (state S.Store conn.new)) }
+    ensures common { HasCleanDisk (state S.Store conn.new) → HoldsPlan (state S.Store conn.old)
+        → (state S.Store conn.old).step_limit ≡ None
+        → IfErr result (IsFailure version_sql (state S.Store conn.old) (state S.Store conn.new)) }
     ensures kept { HasCleanDisk (state S.Store conn.new)
         → OnErr result (IsKept (state S.Store conn.old) (state S.Store conn.new)) }
     ensures mode { conn.new.in_transaction ≡ false }
@@ -30,13 +39,13 @@ pub fn migrate_older<S: Alter>(alloc: Global, conn: &mut Connection<S>) -> Resul
     match version(conn) {
         Ok(Some(found)) => if found == FIRST_VERSION {
             match migrate(alloc, conn) {
-                Ok(_) => Ok(()),
+                Ok(_) => Ok(Some(found)),
                 Err(fault) => Err(fault),
             }
         } else {
-            Ok(())
+            Ok(Some(found))
         },
-        Ok(None) => Ok(()),
+        Ok(None) => Ok(None),
         Err(fault) => Err(fault),
     }
 }

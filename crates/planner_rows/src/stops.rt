@@ -4,10 +4,11 @@ ghost use Rattle.planner_machine.specs.Sound.{IsSound};
 ghost use Rattle.plan_store.specs.Contents.{content_of};
 
 use crate::disks::{
-    Disks, MOST_CALLS, Stopping, Tables, Wrong, crashed, let_go, new_disks, open_store,
+    Disks, MOST_CALLS, Stopping, Tables, Wrong, connect, crashed, let_go, new_disks, open_store,
 };
 use crate::items::{Placed, statements_of};
 use crate::tables::{lists_after, unlike};
+use plan_files::{Begun, Ended, Opening, run_over_connection};
 use planner_cli::{Part, RunFault, Tally, run};
 use std::alloc::{AllocError, Global};
 
@@ -111,16 +112,31 @@ fn stop_of(written: &[u8], replies: &[u8]) -> Reached {
     }
 }
 
-/// Runs the stream over the files for the first time; with the files as it left them.
-fn run_first(alloc: Global, disks: Disks, stream: &Stream<'_>) -> (Reached, Disks) {
-    match open_store(alloc, disks) {
-        Ok(mut store) => {
-            let mut left = stream.text;
-            let mut written = Vec::new(alloc);
-            let outcome = run(alloc, &mut store, &mut left, &mut written);
-            (end_of(&outcome, &written, stream.replies), let_go(store))
+/// Says nothing of what a run begins with.
+struct Untold;
+
+impl Opening for Untold {
+    fn opened(&mut self, _: Begun) {}
+}
+
+/// Runs the stream over the files for the first time, as a program does; with whether they were closed, and the files as
+/// it left them.
+fn run_first(alloc: Global, disks: Disks, stream: &Stream<'_>) -> (Reached, bool, Disks) {
+    let conn = match connect(alloc, disks) {
+        Ok(conn) => conn,
+        Err(disks) => return (Reached::Nothing, false, disks),
+    };
+    let mut left = stream.text;
+    let mut written = Vec::new(alloc);
+    match run_over_connection(alloc, conn, &mut Untold, &mut left, &mut written) {
+        Ok(Ended { outcome, files }) => {
+            let how_far = end_of(&outcome, &written, stream.replies);
+            match files {
+                Ok(files) => (how_far, true, files),
+                Err((_, left)) => (how_far, false, left.close()),
+            }
         }
-        Err(disks) => (Reached::Nothing, disks),
+        Err((_, left)) => (Reached::Nothing, false, left.close()),
     }
 }
 
@@ -224,15 +240,15 @@ fn look_at_end(alloc: Global, disks: Disks, stream: &Stream<'_>) -> Result<(), W
     as_wanted(unlike_lists(alloc, &store, stream.text))
 }
 
-/// Tries the stream over the files, of which one may stop; answers whether none did.
+/// Tries the stream over the files, of which one may stop; answers whether none did until they were closed.
 fn try_stop(alloc: Global, disks: Disks, stream: &Stream<'_>) -> Result<bool, Wrong> {
-    let (how_far, disks) = run_first(alloc, disks, stream);
+    let (how_far, is_closed, disks) = run_first(alloc, disks, stream);
     let disks = go_on(alloc, disks, stream, how_far)?;
     look_at_end(alloc, disks, stream)?;
-    Ok(how_far == Reached::End)
+    Ok(how_far == Reached::End && is_closed)
 }
 
-/// Stops one file at its first call, at its second and so on, until a run ends without a stop.
+/// Stops one file at its first call, at its second and so on, until a run ends and its files are closed without a stop.
 fn try_stops_of(alloc: Global, stream: &Stream<'_>, stopping: Stopping) -> Stops {
     for tried in 0..MOST_CALLS {
         let wrong = match try_stop(alloc, new_disks(alloc, stopping, tried), stream) {

@@ -1,0 +1,7 @@
+pub mod LifeLemmas
+pub mod FileRunLemmas
+pub mod LeftLemmas
+pub mod OverLemmas
+pub mod OlderLemmas
+pub mod NextLemmas
+pub mod RefusedLemmas

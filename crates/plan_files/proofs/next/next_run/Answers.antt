@@ -1,0 +1,11 @@
+use Rattle.plan_files.proofs.NextLemmas.{finds, goes_on, holds_next}
+use Rattle.plan_files.proofs.next.next_run.Goals as goal
+
+pub returns-clause-finds : goal.returns-clause-finds
+returns-clause-finds c = finds c.tables_have_one_content.ensures
+
+pub returns-clause-holds : goal.returns-clause-holds
+returns-clause-holds c = holds_next
+
+pub returns-clause-goes_on : goal.returns-clause-goes_on
+returns-clause-goes_on c = goes_on c.tables_have_one_content.ensures

@@ -1,0 +1,65 @@
+use Rattle.std.proofs.Common.{arith, inl, inr, subst, sym}
+use Rattle.sqlite.specs.Files.{file_state}
+use Rattle.sqlite.specs.State.{HasCleanDisk}
+use Rattle.sqlite_store.specs.Laws.{settled_at}
+use Rattle.table_schema.proofs.ResultLemmas.{if_err, if_ok}
+use Rattle.plan_files.specs.Unrun.{IsHindered, IsUnfit}
+use Rattle.plan_files.proofs.LeftLemmas.{holds_such}
+use Rattle.plan_files.proofs.OlderLemmas.{left_since, spared, still_holds, told_now}
+use Rattle.plan_files.proofs.over_files.run_over_connection.Goals as goal
+
+pub returns-in-Ok-clause-ran : goal.returns-in-Ok-clause-ran
+returns-in-Ok-clause-ran g c =
+    let old = file_state c.args.conn in
+    let mid = file_state c.migrate_older.new.conn in
+    if_ok c.run_adopted.result _ _ (λ ended h. (
+      h.0,
+      h.1,
+      record {
+        honest = λ honest. omega (arith, c.migrate_older.ensures.crash.clean, h.2.honest honest);
+        told = λ honest. told_now old mid h.0 (c.in-Ok.ensures.current (h.2.honest honest)) (h.2.told honest);
+        runs = h.2.runs;
+      },
+    )) c.run_adopted.ensures.ran
+
+pub returns-in-Ok-clause-unrun : goal.returns-in-Ok-clause-unrun
+returns-in-Ok-clause-unrun g c =
+    let old = file_state c.args.conn in
+    let mid = file_state c.migrate_older.new.conn in
+    if_err c.run_adopted.result _ _ (λ left h. record {
+      mid = c.migrate_older.new.conn;
+      back = h.back;
+      unfit = λ clean. subst (IsUnfit c.args.conn c.migrate_older.new.conn h.back) (sym h.is)
+          (c.in-Ok.ensures.current (h.honest clean), h.unopened clean);
+      hindered = λ clean holds limit. subst (IsHindered c.args.conn c.migrate_older.new.conn h.back) (sym h.is)
+          (h.holds clean (still_holds old mid (c.in-Ok.ensures.current (h.honest clean)) holds));
+      quiet = h.quiet;
+      honest = λ clean. omega (arith, c.migrate_older.ensures.crash.clean, h.honest clean);
+      spared = λ clean is_open db found. spared old
+          (λ was may. settled_at c.args.conn.store g.met.D.Disk.seen_may_stay was is_open may) db
+          (left_since old mid c.migrate_older.ensures.crash c.in-Ok.ensures.current db (h.stays clean db found));
+      images = h.images;
+    }) c.run_adopted.ensures.unrun
+
+pub returns-in-Err-clause-unrun : goal.returns-in-Err-clause-unrun
+returns-in-Err-clause-unrun g c =
+    let quiet = c.into_store.ensures.quiet in record {
+      mid = c.migrate_older.new.conn;
+      back = c.migrate_older.new.conn;
+      unfit = λ clean. c.in-Err.ensures.unmigrated (omega (arith, quiet.clean, clean));
+      hindered = λ clean holds limit. c.in-Err.ensures.common (omega (arith, quiet.clean, clean)) holds limit;
+      quiet = quiet;
+      honest = λ clean.
+          let mid : HasCleanDisk (file_state c.migrate_older.new.conn) = omega (arith, quiet.clean, clean) in
+          omega (arith, c.migrate_older.ensures.crash.clean, mid);
+      spared = λ clean is_open db found.
+          let mid : HasCleanDisk (file_state c.migrate_older.new.conn) = omega (arith, quiet.clean, clean) in
+          spared (file_state c.args.conn)
+          (λ was may. settled_at c.args.conn.store g.met.D.Disk.seen_may_stay was is_open may) db
+          (elim (c.migrate_older.ensures.crash.crash mid db (quiet.outcomes db found)) [
+            | inl was ↦ inl was
+            | inr new ↦ inr (inl new)
+          ]);
+      images = λ clean. holds_such c.into_store.result (c.into_store.ensures.numbered clean)
+          (c.into_store.ensures.sound clean);
+    }
