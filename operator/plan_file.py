@@ -10,13 +10,14 @@ import sqlite3
 import tempfile
 import time
 
+import page_sums
+import sound_rows
+
 VERSIONS = (1, 2)  # of the tables, those that are read
 TRIES = 5
 TAILS = ("", "-wal", "-journal")
 # a change that comes this soon after another one may leave the file's time as it was
 COARSE = 0.02
-TABLES = """plan_meta calendar_entry plan_period application run_cycle run_cycle_offset predecessor link_in_force
-    ltp_row cp_row history_row deletion_row dependency job""".split()
 
 
 class Unreadable(Exception):
@@ -24,7 +25,8 @@ class Unreadable(Exception):
 
 
 class Plan:
-    """A private copy of a plan; `written` is when its file or log was written last, in seconds."""
+    """A private copy of a plan, whose rows keep the rules; `written` is when its file or log was written last, in
+    seconds."""
 
     def __init__(self, path, db, written):
         self.path = path
@@ -56,8 +58,10 @@ def opened(path):
         with contextlib.closing(sqlite3.connect(copy, isolation_level=None)) as db:
             db.row_factory = sqlite3.Row
             try:
+                db.execute("PRAGMA trusted_schema = OFF")
+                ask_sums(db, copy)
                 yield Plan(path, db, written)
-            except NotAPlan as error:
+            except (NotAPlan, sound_rows.Unsound) as error:
                 raise Unreadable(f"{path}: {error}") from None
             except sqlite3.Error as error:
                 raise Unreadable(f"{path}: it can't be read as a plan: {error}") from error
@@ -67,20 +71,34 @@ class NotAPlan(Exception):
     """Why a database is no plan that is read here."""
 
 
+def ask_sums(db, copy):
+    """Asks that each page matches its sum, where pages have one. What stands in the log goes into the copy before."""
+    if not page_sums.are_in(copy):
+        return
+    db.execute("PRAGMA synchronous = OFF")
+    db.execute("PRAGMA wal_checkpoint(TRUNCATE)").fetchall()
+    page = page_sums.first_wrong(copy)
+    if page is not None:
+        raise NotAPlan(f"page {page} doesn't match its sum: it is damaged, or another program than opcplan wrote it")
+
+
 def meta_of(db):
-    """The one row of plan_meta, of a database that has a plan's tables in a version that is read here."""
-    found = {row["name"] for row in db.execute("SELECT name FROM sqlite_schema WHERE type = 'table'")}
+    """The one row of plan_meta, of a database that has a plan's tables in a version that is read here, and rows that
+    keep the rules of a plan."""
+    found = {row["name"] for row in db.execute("SELECT name FROM sqlite_schema WHERE type = 'table' AND rootpage > 0")}
     if "plan_meta" not in found:
         raise NotAPlan("it is a database, but no plan: it has no table plan_meta")
-    rows = db.execute("SELECT * FROM plan_meta").fetchall()
+    rows = db.execute("SELECT * FROM plan_meta LIMIT 2").fetchall()
     if len(rows) != 1 or "version" not in rows[0].keys():
         raise NotAPlan("it is no plan: its table plan_meta isn't one of a plan")
     if rows[0]["version"] not in VERSIONS:
         read = " and ".join(map(str, VERSIONS))
         raise NotAPlan(f"its tables are of version {rows[0]['version']}, and version {read} is read here")
-    lacked = [table for table in TABLES if table not in found]
+    lacked = [table for table in sound_rows.RULES if table not in found]
     if lacked:
         raise NotAPlan(f"it is no plan: it has no table {lacked[0]}")
+    sound_rows.ask_form(db, rows[0]["version"])
+    sound_rows.ask(db, rows[0]["version"])
     return rows[0]
 
 

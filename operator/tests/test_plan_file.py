@@ -14,6 +14,7 @@ from unittest import mock
 import plans
 
 import plan_file
+import sound_rows
 
 STREAM = "week-of-daily-plans"
 
@@ -121,7 +122,7 @@ class PlanFile(unittest.TestCase):
         with self.assertRaises(plan_file.Unreadable), plan_file.opened(path) as plan:
             plan.db.execute("SELECT sum(ia) FROM ltp_row NATURAL JOIN dependency").fetchall()
             plan.db.execute("PRAGMA integrity_check").fetchall()
-            for table in plan_file.TABLES:
+            for table in sound_rows.RULES:
                 plan.db.execute(f"SELECT * FROM {table}").fetchall()
 
     def test_names_that_mean_something_in_an_address(self):
