@@ -15,7 +15,9 @@ import sound_rows
 
 VERSIONS = (1, 2)  # of the tables, those that are read
 TRIES = 5
-TAILS = ("", "-wal", "-journal")
+# a journal can name any other file, which SQLite then takes away: it is never copied
+JOURNAL = "-journal"
+TAILS = ("", "-wal", JOURNAL)
 # a change that comes this soon after another one may leave the file's time as it was
 COARSE = 0.02
 
@@ -50,7 +52,7 @@ def opened(path):
         try:
             written = copied(os.path.realpath(path), copy)
         except OSError as error:
-            raise Unreadable(f"{path}: it can't be read: {error.strerror}") from None
+            raise Unreadable(f"{path}: it can't be read: {error.strerror or error}") from None
         except Unreadable as error:
             raise Unreadable(f"{path}: {error}") from None
         if os.path.getsize(copy) == 0:
@@ -110,8 +112,10 @@ def copied(path, copy):
         if is_fresh(before):
             time.sleep(COARSE)
             before = stamps(path)
+        if has_journal(path):
+            continue
         try:
-            for tail in TAILS:
+            for tail in ("", "-wal"):
                 take(path + tail, copy + tail)
         except FileNotFoundError:  # the log went while it was copied
             if not os.path.exists(path):
@@ -119,6 +123,9 @@ def copied(path, copy):
             continue
         if before == stamps(path):
             return max(changed for _, _, changed, _ in before) / 1e9
+    if has_journal(path):
+        told = "another program writes to it, or was stopped while it did; opcplan doesn't open it either"
+        raise Unreadable(f"{os.path.basename(path)}{JOURNAL} stands beside it: {told}")
     raise Unreadable("it was written to all the while; try again")
 
 
@@ -140,6 +147,15 @@ def stamps(path):
         except FileNotFoundError:
             pass
     return found
+
+
+def has_journal(path):
+    """Whether a journal stands beside the file by which SQLite would go back: its first byte isn't 0."""
+    if not os.path.isfile(path + JOURNAL):
+        return os.path.exists(path + JOURNAL)
+    with contextlib.suppress(FileNotFoundError), open(path + JOURNAL, "rb") as file:
+        return file.read(1) > b"\0"
+    return False
 
 
 def is_fresh(found):
