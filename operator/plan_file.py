@@ -60,9 +60,7 @@ def opened(path):
         with contextlib.closing(sqlite3.connect(copy, isolation_level=None)) as db:
             db.row_factory = sqlite3.Row
             try:
-                db.execute("PRAGMA trusted_schema = OFF")
-                ask_sums(db, copy)
-                yield Plan(path, db, written)
+                yield read(path, db, copy, written)
             except (NotAPlan, sound_rows.Unsound) as error:
                 raise Unreadable(f"{path}: {error}") from None
             except sqlite3.Error as error:
@@ -71,6 +69,17 @@ def opened(path):
 
 class NotAPlan(Exception):
     """Why a database is no plan that is read here."""
+
+
+def read(path, db, copy, written):
+    """The Plan of a database, once all of it was looked at."""
+    try:
+        db.execute("PRAGMA trusted_schema = OFF")
+        ask_sums(db, copy)
+        return Plan(path, db, written)
+    except UnicodeDecodeError as error:  # SQLite told a name that is no text
+        told = error.object.decode("utf-8", "surrogateescape")
+        raise NotAPlan(f"it can't be read as a plan: {told}") from None
 
 
 def ask_sums(db, copy):

@@ -126,6 +126,16 @@ class PlanFile(unittest.TestCase):
             for table in sound_rows.RULES:
                 plan.db.execute(f"SELECT * FROM {table}").fetchall()
 
+    def test_a_table_that_is_made_of_no_text(self):
+        path = self.plan()
+        with closing(sqlite3.connect(path)) as db:
+            db.execute("PRAGMA wal_checkpoint(TRUNCATE)")
+        for old, new in ((b"serial INTEGER PRIMARY", b"serial \xc7NTEGER PRIMARY"), (b"cp_row", b"cp_\xb7ow"),
+                         (b"max_hours", b"max_\xffours"), (b"max_hours", b"max_\x1bours")):
+            other = Path(self.folder) / "other.db"
+            other.write_bytes(path.read_bytes().replace(old, new))
+            self.refused(other, "plan")
+
     def test_names_that_mean_something_in_an_address(self):
         names = "a?b.db", "a#b.db", "100%25.db", "two words.db", "?mode=memory", "file:x.db", "-wal", "ümläut.db"
         for name in names:
