@@ -2,7 +2,8 @@
 bytes are two sums of its other words, where the file's head says that eight bytes of each are left free."""
 
 FREE = 8
-MOST_PAGES = 4096  # that are held at once
+SIZES = [512 << power for power in range(8)]  # that a page may have
+MOST_BYTES = 16 << 20  # that are held at once
 
 
 def are_in(path):
@@ -16,14 +17,16 @@ def first_wrong(path):
     with open(path, "rb") as file:
         size = int.from_bytes(file.read(18)[16:], "big")
         size = 65536 if size == 1 else size
+        if size not in SIZES:
+            return 1
         file.seek(0)
-        before = 0
-        while pages := file.read(size * MOST_PAGES):
+        before, most = 0, max(1, MOST_BYTES // size)
+        while pages := file.read(size * most):
             pages += bytes(-len(pages) % size)
             place = first_unlike(pages, size)
             if place is not None:
                 return before + place + 1
-            before += MOST_PAGES
+            before += most
     return None
 
 

@@ -75,6 +75,7 @@ def read(path, db, copy, written):
     """The Plan of a database, once all of it was looked at."""
     try:
         db.execute("PRAGMA trusted_schema = OFF")
+        db.execute("PRAGMA synchronous = OFF")  # nobody needs the copy later
         ask_sums(db, copy)
         return Plan(path, db, written)
     except UnicodeDecodeError as error:  # SQLite told a name that is no text
@@ -86,7 +87,6 @@ def ask_sums(db, copy):
     """Asks that each page matches its sum, where pages have one. What stands in the log goes into the copy before."""
     if not page_sums.are_in(copy):
         return
-    db.execute("PRAGMA synchronous = OFF")
     db.execute("PRAGMA wal_checkpoint(TRUNCATE)").fetchall()
     page = page_sums.first_wrong(copy)
     if page is not None:

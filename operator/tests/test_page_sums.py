@@ -13,6 +13,7 @@ from contextlib import closing
 from pathlib import Path
 from unittest import mock
 
+import paces
 import plans
 
 import page_sums
@@ -95,7 +96,7 @@ class PageSums(unittest.TestCase):
             texts = [bytes(head) + chance.randbytes(size - 108), *(chance.randbytes(size - 8) for _ in range(4)),
                      b"\xff" * (size - 8), bytes(size - 8)]
             file, pages = self.room / f"{size}.db", [text + sum_of(text) for text in texts]
-            with mock.patch.object(page_sums, "MOST_PAGES", 3):
+            with mock.patch.object(page_sums, "MOST_BYTES", 3 * size):
                 file.write_bytes(b"".join(pages))
                 self.assertIsNone(page_sums.first_wrong(file))
                 for number, page in enumerate(pages, 1):
@@ -155,7 +156,7 @@ class PageSums(unittest.TestCase):
             target.truncate(200 << 20)
         began = time.process_time()
         self.assertIsNone(page_sums.first_wrong(file))
-        self.assertLess(time.process_time() - began, 20)
+        self.assertLess(time.process_time() - began, paces.limit(4))
 
 
 if __name__ == "__main__":
