@@ -7,6 +7,7 @@ import known
 import plan_file
 import refusals
 import stream
+import terminal
 import words
 
 SUMMARY = "each refusal of a stream's output: its line, its statement, what it means"
@@ -24,6 +25,9 @@ OK = {
     "dp": "ok moved [0-9]+ carried [0-9]+ completed [0-9]+ deleted [0-9]+",
     "cp": "ok serial [0-9]+ status [WSECD]",
 }
+# what stands behind the number of a refusal
+NAME = " [A-Z@#$][A-Z0-9@#$]{0,15}"
+DETAILS = {"11": " [0-9]{1,6}", "22": NAME, "23": NAME, "25": NAME, "30": " [1-9][0-9]{0,8}"}
 FAULTS = {
     "40": "memory was refused",
     "41": "the store's disk, the reader or the writer failed",
@@ -55,7 +59,7 @@ def run(given):
         return 1
     count = f"{answered} statement{'' if answered == 1 else 's'}"
     were = "was" if refused == 1 else "were"
-    print("\n".join([*lines, f"{refused} of {count} {were} refused." if refused else f"{count}, none refused."]))
+    print(terminal.text([*lines, f"{refused} of {count} {were} refused." if refused else f"{count}, none refused."]))
     return 1 if lines else 0
 
 
@@ -107,8 +111,9 @@ def check_fits(item, reply):
     name = item.statement.name if item.statement else None
     fits = reply == "refused 10"
     if item.statement and reply.startswith("refused"):
-        number, has_job = reply.split()[1], item.statement.job is not None
+        number, has_job = reply[8:10], item.statement.job is not None
         fits = number != "10" and (number != "11" or name == "define") and (number != "12" or has_job)
+        fits = fits and re.fullmatch(f"refused [0-9]{{2}}{DETAILS.get(number, '')}", reply) is not None
     elif item.statement:
         fits = re.fullmatch(OK.get(name) or OK[name.partition("-")[0]], reply) is not None
     if not fits:

@@ -6,6 +6,7 @@ import explain
 import known
 import lint_checks
 import stream
+import terminal
 import words
 
 SUMMARY = "what is taken silently in a stream and is likely a slip"
@@ -26,7 +27,7 @@ def run(given):
     found = findings(explain.bytes_of(given.stream))
     for finding in found:
         wrapped = textwrap.wrap(f"line {finding.line}: {finding.text}", WIDTH, break_on_hyphens=False)
-        print("\n    ".join(wrapped))
+        print("\n    ".join(map(terminal.fit, wrapped)))
     if not found:
         words.tell(f"{given.stream}: nothing that is likely a slip")
     return 1 if found else 0

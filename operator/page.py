@@ -13,7 +13,6 @@ import page_html
 import page_model
 import page_queries
 import plan_file
-import sound_rows
 import words
 
 SUMMARY = "one HTML file: what is late and why, each day's order of work, the months"
@@ -87,7 +86,7 @@ def data_of(path, now=None, first=None, last=None, since=None):
     """What the page shows of a plan's file."""
     clock = moments.now()
     with contextlib.ExitStack() as files:
-        plan, old = (opened(name, files) if name else None for name in (path, since))
+        plan, old = (files.enter_context(plan_file.opened(name)) if name else None for name in (path, since))
         now, note = moment_of(plan, now, clock)
         first, last = span(plan, now, first, last)
         rows, pairs = page_queries.occurrences(plan, first, last) if plan.is_created else ([], [])
@@ -97,13 +96,6 @@ def data_of(path, now=None, first=None, last=None, since=None):
         if old:
             data["since"] = page_data.since(plan, defined, old, page_queries.applications(old)[0])
         return {**data, "made": clock, "sample": now != clock, "note": note}
-
-
-def opened(path, files):
-    """A plan that stays open as long as the others; where it is no sound one, that is told."""
-    plan = files.enter_context(plan_file.opened(path))
-    files.enter_context(sound_rows.asked_of(plan))
-    return plan
 
 
 def moment_of(plan, now, clock):

@@ -12,8 +12,8 @@ import definitions
 import explain
 import moments
 import plan_file
-import sound_rows
 import stream
+import terminal
 import waits
 import words
 
@@ -55,17 +55,17 @@ def run(given):
             with contextlib.closing(sqlite3.connect(copy)) as other:
                 plan.db.backup(other)
             ran = subprocess.run([os.path.abspath(program), "--db", copy], input=text, capture_output=True, check=False)
-            with plan_file.opened(copy) as after, sound_rows.asked_of(plan):
+            with plan_file.opened(copy) as after:
                 changes = difference(plan, after)
     except OSError as error:
         words.tell(f"{error.filename}: {error.strerror}")
         return 1
     try:
-        print("\n".join([*reply_lines(text, ran.stdout), *changes]))
+        print(terminal.text([*reply_lines(text, ran.stdout), *changes]))
     except explain.Unlike as why:
         words.tell(f"{program} doesn't answer as opcplan does: {why}")
         return 1
-    sys.stderr.write(ran.stderr.decode(errors="replace"))
+    sys.stderr.writelines(f"{terminal.fit(line)}\n" for line in ran.stderr.decode(errors="replace").splitlines())
     if ran.returncode >= FAULTED:
         words.tell(f"the planner ended with status {ran.returncode}; what is shown is what it did before")
     return 0 if ran.returncode == 0 else 1

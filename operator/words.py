@@ -5,11 +5,12 @@ import re
 import sys
 
 import moments
+import terminal
 
 
 def tell(message):
     """Says something on standard error."""
-    print(f"plan: {message}", file=sys.stderr)
+    print(terminal.fit(f"plan: {message}"), file=sys.stderr)
 
 
 class Parser(argparse.ArgumentParser):
