@@ -7,10 +7,12 @@ import contextlib
 import os
 import shutil
 import sqlite3
-import tempfile
 import time
 
+import scratch
+
 VERSIONS = (1, 2)  # of the tables, those that are read
+BEGIN = b"SQLite format 3\0"
 TRIES = 5
 TAILS = ("", "-wal", "-journal")
 # a change that comes this soon after another one may leave the file's time as it was
@@ -43,12 +45,14 @@ def opened(path):
         raise Unreadable(f"{path}: there is no such file")
     if not os.path.isfile(path):
         raise Unreadable(f"{path}: it is no file")
-    with tempfile.TemporaryDirectory(prefix="plan-") as folder:
+    with scratch.folder("plan-") as folder:
         copy = os.path.join(folder, "plan.db")
         try:
+            check_begin(os.path.realpath(path))
+            check_room(os.path.realpath(path), folder)
             written = copied(os.path.realpath(path), copy)
         except OSError as error:
-            raise Unreadable(f"{path}: it can't be read: {error.strerror}") from None
+            raise Unreadable(f"{path}: it can't be read: {error.strerror or error}") from None
         except Unreadable as error:
             raise Unreadable(f"{path}: {error}") from None
         if os.path.getsize(copy) == 0:
@@ -61,6 +65,20 @@ def opened(path):
                 raise Unreadable(f"{path}: {error}") from None
             except sqlite3.Error as error:
                 raise Unreadable(f"{path}: it can't be read as a plan: {error}") from error
+
+
+def check_begin(path):
+    """Asks that a file begins as a database does, before it is copied; an empty one is told of later."""
+    with open(path, "rb") as file:
+        if file.read(len(BEGIN)) not in (BEGIN, b""):
+            raise Unreadable("it can't be read as a plan: it is not a database")
+
+
+def check_room(path, folder):
+    """Asks that there is room for a private copy of a file and its log, which is told before it is filled."""
+    wanted, free = sum(size for _, size, _, _ in stamps(path)), shutil.disk_usage(folder).free
+    if wanted > free:
+        raise Unreadable(f"a private copy of it takes {wanted:,} bytes, and {os.path.dirname(folder)} has {free:,} free")
 
 
 class NotAPlan(Exception):
@@ -109,6 +127,8 @@ def take(source, target):
     with contextlib.suppress(FileNotFoundError):
         os.remove(target)
     if os.path.exists(source):
+        if not os.path.isfile(source):
+            raise Unreadable(f"what stands beside it as {os.path.basename(source)} is no file")
         shutil.copyfile(source, target)
 
 
