@@ -111,7 +111,9 @@ def check_fits(item, reply):
     """Asks that a reply may be that of an item."""
     name = item.statement.name if item.statement else None
     fits = reply == "refused 10"
-    if item.statement and reply.startswith("refused"):
+    if item.statement and item.has_data and not item.is_whole:
+        fits = reply == "refused 11 0"
+    elif item.statement and reply.startswith("refused"):
         fits = refusals.fits(item, reply)
     elif item.statement:
         fits = re.fullmatch(OK.get(name) or OK[name.partition("-")[0]], reply) is not None

@@ -7,6 +7,7 @@ import contextlib
 import os
 import shutil
 import sqlite3
+import stat
 import time
 
 import scratch
@@ -65,6 +66,8 @@ def opened(path):
                 raise Unreadable(f"{path}: {error}") from None
             except sqlite3.Error as error:
                 raise Unreadable(f"{path}: it can't be read as a plan: {error}") from error
+            except UnicodeDecodeError as error:  # of a text in it, or of what SQLite says about one
+                raise Unreadable(f"{path}: it can't be read as a plan: a text in it is no UTF-8") from error
 
 
 def check_begin(path):
@@ -126,10 +129,13 @@ def take(source, target):
     """Copies a file that may be missing."""
     with contextlib.suppress(FileNotFoundError):
         os.remove(target)
-    if os.path.exists(source):
-        if not os.path.isfile(source):
-            raise Unreadable(f"what stands beside it as {os.path.basename(source)} is no file")
-        shutil.copyfile(source, target)
+    try:
+        mode = os.stat(source).st_mode
+    except FileNotFoundError:
+        return
+    if not stat.S_ISREG(mode):
+        raise Unreadable(f"what stands beside it as {os.path.basename(source)} is no file")
+    shutil.copyfile(source, target)
 
 
 def stamps(path):
@@ -137,8 +143,8 @@ def stamps(path):
     found = []
     for tail in TAILS:
         try:
-            stat = os.stat(path + tail)
-            found.append((tail, stat.st_size, stat.st_mtime_ns, stat.st_ino))
+            seen = os.stat(path + tail)
+            found.append((tail, seen.st_size, seen.st_mtime_ns, seen.st_ino))
         except FileNotFoundError:
             pass
     return found

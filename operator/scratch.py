@@ -35,13 +35,13 @@ def taken(path):
 
 
 def drop(path):
-    """Takes away what stands at a path that is held."""
-    if os.path.isdir(path):
-        shutil.rmtree(path, ignore_errors=True)
-    else:
-        with contextlib.suppress(FileNotFoundError):
-            os.remove(path)
-    HELD.discard(path)
+    """Takes away what stands at a path that is held; where that fails the path is held still."""
+    shutil.rmtree(path, ignore_errors=True)
+    with contextlib.suppress(OSError):
+        os.remove(path)
+    with contextlib.suppress(OSError):
+        if os.path.basename(path) not in os.listdir(os.path.dirname(path)):
+            HELD.discard(path)
 
 
 def drop_all():

@@ -346,6 +346,7 @@ class Command(unittest.TestCase):
                                                "refused 20 A", "refused 20 ", "refused 30 -1", "ok serial x status S")]
         wrong += [("define periods --job 1\n/*", reply) for reply in ("refused 11", "refused 11 A", "refused 11 1 1")]
         wrong += [("ltp-modify-all --job 1", reply) for reply in ("refused 22", "refused 22 1", "refused 22 a")]
+        wrong += [("define periods --job 1\nP,A,2024-01-01,1", reply) for reply in ("ok defined 1", "refused 12")]
         wrong += [("list cp\nlist cp", "fault 41\nok rows 0"), ("list cp\nlist cp", "fault 41\nfault 41")]
         for text, output in wrong:
             with self.subTest(text, output=output), self.assertRaises(explain.Unlike):
