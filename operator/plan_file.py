@@ -58,16 +58,16 @@ def opened(path):
             raise Unreadable(f"{path}: {error}") from None
         if os.path.getsize(copy) == 0:
             raise Unreadable(f"{path}: it is empty, and no plan")
-        with contextlib.closing(sqlite3.connect(copy, isolation_level=None)) as db:
-            db.row_factory = sqlite3.Row
-            try:
+        try:
+            with contextlib.closing(sqlite3.connect(copy, isolation_level=None)) as db:
+                db.row_factory = sqlite3.Row
                 yield Plan(path, db, written)
-            except NotAPlan as error:
-                raise Unreadable(f"{path}: {error}") from None
-            except sqlite3.Error as error:
-                raise Unreadable(f"{path}: it can't be read as a plan: {error}") from error
-            except UnicodeDecodeError as error:  # of a text in it, or of what SQLite says about one
-                raise Unreadable(f"{path}: it can't be read as a plan: a text in it is no UTF-8") from error
+        except NotAPlan as error:
+            raise Unreadable(f"{path}: {error}") from None
+        except sqlite3.Error as error:
+            raise Unreadable(f"{path}: it can't be read as a plan: {error}") from error
+        except UnicodeDecodeError as error:  # of a text in it, or of what SQLite says about one
+            raise Unreadable(f"{path}: it can't be read as a plan: a text in it is no UTF-8") from error
 
 
 def check_begin(path):

@@ -31,8 +31,8 @@ PRINTERS = {
 }
 OF_STREAMS = {"what-if": ["PLAN", "STREAM"], "explain": ["STREAM", "OUTPUT"], "lint": ["STREAM"]}
 SLIP = b"define calendars --job 1\nOTHER,SAT,FREE\n/*\ndefine applications --job 2\nA,A,\n/*\n"
-# memory and time of a processor that a command may take, in KiB and seconds
-MOST_MEMORY, MOST_TIME = 600_000, 60
+# what a command may take: memory and the bytes of a file, and seconds of a processor
+MOST_MEMORY, MOST_OF_FILE, MOST_TIME = 600 << 20, 100 << 20, 60
 
 
 class Ends(unittest.TestCase):
@@ -146,10 +146,8 @@ class Ends(unittest.TestCase):
         self.assertNotEqual(ran.stdout, b"")
 
     def bounded(self, words, **how):
-        """Runs a command that may take no more memory than it is given; what it took of a processor is asked."""
+        """Runs a command that gets no more memory and files than it should need; what it took of a processor is asked."""
         before = resource.getrusage(resource.RUSAGE_CHILDREN)
-        most = MOST_MEMORY * 1024
-        limit = lambda: resource.setrlimit(resource.RLIMIT_AS, (most, most))  # noqa: E731
         ran = self.ran(words, preexec_fn=limit, **how)
         after = resource.getrusage(resource.RUSAGE_CHILDREN)
         self.assertLess(after.ru_utime + after.ru_stime - before.ru_utime - before.ru_stime, MOST_TIME)
@@ -262,6 +260,12 @@ class Ends(unittest.TestCase):
         self.assertIn(b"defect of ./plan: IndexError", ran.stderr)
         asked = self.ran(["env", "PLAN_TRACEBACK=1", *words])
         self.assertIn(b"Traceback", asked.stderr)
+
+
+def limit():
+    """Bounds a process: without it a command that copies what has no end would fill the disk."""
+    resource.setrlimit(resource.RLIMIT_AS, (MOST_MEMORY, MOST_MEMORY))
+    resource.setrlimit(resource.RLIMIT_FSIZE, (MOST_OF_FILE, MOST_OF_FILE))
 
 
 def wait_for(condition):
