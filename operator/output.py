@@ -69,7 +69,7 @@ def objection(path, is_forced, *plans):
     none of these plans; another file only by force."""
     real = os.path.realpath(path)
     if real in {os.path.realpath(plan) + tail for plan in plans for tail in ("", *TAILS)} or is_of_database(real):
-        return f"{path}: it is a database or its log, which is never written over; name another file"
+        return f"{path}: a database or its log is there, or what may be one; that is never written over"
     if os.path.isdir(real):
         return f"{path}: it is a folder"
     if os.path.isfile(real) and not is_forced:
@@ -85,14 +85,14 @@ def is_of_database(path):
 
 
 def begins_with(path, *signs):
-    """Whether a file begins with one of some signs. What can't be looked at doesn't."""
+    """Whether a file begins with one of some signs. What can't be looked at may."""
     if not os.path.isfile(path):
         return False
     try:
         with open(path, "rb") as file:
             return file.read(max(map(len, signs))).startswith(signs)
     except OSError:
-        return False
+        return True
 
 
 def write(path, data, is_forced, *plans):

@@ -81,7 +81,8 @@ def check_room(path, folder):
     """Asks that there is room for a private copy of a file and its log, which is told before it is filled."""
     wanted, free = sum(size for _, size, _, _ in stamps(path)), shutil.disk_usage(folder).free
     if wanted > free:
-        raise Unreadable(f"a private copy of it takes {wanted:,} bytes, and {os.path.dirname(folder)} has {free:,} free")
+        where = os.path.dirname(folder)
+        raise Unreadable(f"a private copy of it takes {wanted:,} bytes, and {where} has {free:,} free")
 
 
 class NotAPlan(Exception):

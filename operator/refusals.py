@@ -82,8 +82,8 @@ def faulty_data(item, detail, known):
         told = "its data have no end: no line after it is `/*` and nothing else, so all that follows was taken as data"
         return [told, odd] if odd else [told]
     if not item.is_whole:
-        most = f"{stream.MOST_OF_BLOCK:,}"
-        return [f"its data have {item.data_length:,} bytes, and at most {most} are read; give them by several `define`s"]
+        length, most = f"{item.data_length:,}", f"{stream.MOST_OF_BLOCK:,}"
+        return [f"its data have {length} bytes, and at most {most} are read; give them by several `define`s"]
     fault = blocks.read(item.statement.alone, item.data).fault
     if fault is None:
         return [f"record {detail} of its data is faulty, though it is read without a fault here"]

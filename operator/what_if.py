@@ -117,7 +117,8 @@ def reply_lines(text, output):
     """How many statements were accepted and refused, and each that was refused, in the words of explain."""
     with stream.opened(text) as source:
         lines, refused, answered = explain.explained(stream.items(source), output)
-    return [f"{answered - refused} accepted, {refused} refused", *(["", "\n".join(lines).rstrip("\n")] if lines else [])]
+    told = ["", "\n".join(lines).rstrip("\n")] if lines else []
+    return [f"{answered - refused} accepted, {refused} refused", *told]
 
 
 # What is different.

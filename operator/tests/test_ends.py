@@ -146,7 +146,7 @@ class Ends(unittest.TestCase):
         self.assertNotEqual(ran.stdout, b"")
 
     def bounded(self, words, **how):
-        """Runs a command that gets no more memory and files than it should need; what it took of a processor is asked."""
+        """Runs a command with no more memory than it should need, and asks what it took of a processor."""
         before = resource.getrusage(resource.RUSAGE_CHILDREN)
         ran = self.ran(words, preexec_fn=limit, **how)
         after = resource.getrusage(resource.RUSAGE_CHILDREN)
@@ -253,7 +253,8 @@ class Ends(unittest.TestCase):
         wrong = self.room / "wrong"
         shutil.copytree(plans.TOP / "operator", wrong / "operator", ignore=shutil.ignore_patterns("tests"))
         shutil.copy(plans.TOP / "plan", wrong)
-        (wrong / "operator" / "late.py").write_text("SUMMARY = ''\ndef add_words(parser): pass\ndef run(given): return [][1]\n")
+        text = "SUMMARY = ''\ndef add_words(parser): pass\ndef run(given): return [][1]\n"
+        (wrong / "operator" / "late.py").write_text(text)
         words = [str(wrong / "plan"), "late"]
         ran = self.ran(words)
         self.assertEqual((ran.returncode, ran.stdout, ran.stderr.count(b"\n")), (3, b"", 1), ran.stderr)
