@@ -32,7 +32,7 @@ PRINTERS = {
 OF_STREAMS = {"what-if": ["PLAN", "STREAM"], "explain": ["STREAM", "OUTPUT"], "lint": ["STREAM"]}
 SLIP = b"define calendars --job 1\nOTHER,SAT,FREE\n/*\ndefine applications --job 2\nA,A,\n/*\n"
 # what a command may take: memory and the bytes of a file, and seconds of a processor
-MOST_MEMORY, MOST_OF_FILE, MOST_TIME = 600 << 20, 100 << 20, 60
+MOST_MEMORY, MOST_OF_FILE, MOST_TIME = 600 << 20, 90 << 20, 60
 
 
 class Ends(unittest.TestCase):
