@@ -7,13 +7,15 @@ import contextlib
 import os
 import shutil
 import sqlite3
-import tempfile
+import stat
 import time
 
 import page_sums
+import scratch
 import sound_rows
 
 VERSIONS = (1, 2)  # of the tables, those that are read
+BEGIN = b"SQLite format 3\0"
 TRIES = 5
 # a journal can name any other file, which SQLite then takes away: it is never copied
 JOURNAL = "-journal"
@@ -47,9 +49,11 @@ def opened(path):
         raise Unreadable(f"{path}: there is no such file")
     if not os.path.isfile(path):
         raise Unreadable(f"{path}: it is no file")
-    with tempfile.TemporaryDirectory(prefix="plan-") as folder:
+    with scratch.folder("plan-") as folder:
         copy = os.path.join(folder, "plan.db")
         try:
+            check_begin(os.path.realpath(path))
+            check_room(os.path.realpath(path), folder)
             written = copied(os.path.realpath(path), copy)
         except OSError as error:
             raise Unreadable(f"{path}: it can't be read: {error.strerror or error}") from None
@@ -57,14 +61,32 @@ def opened(path):
             raise Unreadable(f"{path}: {error}") from None
         if os.path.getsize(copy) == 0:
             raise Unreadable(f"{path}: it is empty, and no plan")
-        with contextlib.closing(sqlite3.connect(copy, isolation_level=None)) as db:
-            db.row_factory = sqlite3.Row
-            try:
+        try:
+            with contextlib.closing(sqlite3.connect(copy, isolation_level=None)) as db:
+                db.row_factory = sqlite3.Row
                 yield read(path, db, copy, written)
-            except (NotAPlan, sound_rows.Unsound) as error:
-                raise Unreadable(f"{path}: {error}") from None
-            except sqlite3.Error as error:
-                raise Unreadable(f"{path}: it can't be read as a plan: {error}") from error
+        except (NotAPlan, sound_rows.Unsound) as error:
+            raise Unreadable(f"{path}: {error}") from None
+        except sqlite3.Error as error:
+            raise Unreadable(f"{path}: it can't be read as a plan: {error}") from error
+        except UnicodeDecodeError as error:  # SQLite told a name that is no text
+            told = error.object.decode("utf-8", "surrogateescape")
+            raise Unreadable(f"{path}: it can't be read as a plan: {told}") from None
+
+
+def check_begin(path):
+    """Asks that a file begins as a database does, before it is copied; an empty one is told of later."""
+    with open(path, "rb") as file:
+        if file.read(len(BEGIN)) not in (BEGIN, b""):
+            raise Unreadable("it can't be read as a plan: it is not a database")
+
+
+def check_room(path, folder):
+    """Asks that there is room for a private copy of a file and its log, which is told before it is filled."""
+    wanted, free = sum(size for _, size, _, _ in stamps(path)), shutil.disk_usage(folder).free
+    if wanted > free:
+        where = os.path.dirname(folder)
+        raise Unreadable(f"a private copy of it takes {wanted:,} bytes, and {where} has {free:,} free")
 
 
 class NotAPlan(Exception):
@@ -73,14 +95,10 @@ class NotAPlan(Exception):
 
 def read(path, db, copy, written):
     """The Plan of a database, once all of it was looked at."""
-    try:
-        db.execute("PRAGMA trusted_schema = OFF")
-        db.execute("PRAGMA synchronous = OFF")  # nobody needs the copy later
-        ask_sums(db, copy)
-        return Plan(path, db, written)
-    except UnicodeDecodeError as error:  # SQLite told a name that is no text
-        told = error.object.decode("utf-8", "surrogateescape")
-        raise NotAPlan(f"it can't be read as a plan: {told}") from None
+    db.execute("PRAGMA trusted_schema = OFF")
+    db.execute("PRAGMA synchronous = OFF")  # nobody needs the copy later
+    ask_sums(db, copy)
+    return Plan(path, db, written)
 
 
 def ask_sums(db, copy):
@@ -142,8 +160,13 @@ def take(source, target):
     """Copies a file that may be missing."""
     with contextlib.suppress(FileNotFoundError):
         os.remove(target)
-    if os.path.exists(source):
-        shutil.copyfile(source, target)
+    try:
+        mode = os.stat(source).st_mode
+    except FileNotFoundError:
+        return
+    if not stat.S_ISREG(mode):
+        raise Unreadable(f"what stands beside it as {os.path.basename(source)} is no file")
+    shutil.copyfile(source, target)
 
 
 def stamps(path):
@@ -151,8 +174,8 @@ def stamps(path):
     found = []
     for tail in TAILS:
         try:
-            stat = os.stat(path + tail)
-            found.append((tail, stat.st_size, stat.st_mtime_ns, stat.st_ino))
+            seen = os.stat(path + tail)
+            found.append((tail, seen.st_size, seen.st_mtime_ns, seen.st_ino))
         except FileNotFoundError:
             pass
     return found

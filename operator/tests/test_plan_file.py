@@ -136,6 +136,18 @@ class PlanFile(unittest.TestCase):
             other.write_bytes(path.read_bytes().replace(old, new))
             self.refused(other, "plan")
 
+    def test_no_room_for_the_copy(self):
+        path = self.plan()
+        with mock.patch.object(shutil, "disk_usage", return_value=mock.Mock(free=path.stat().st_size - 1)):
+            with mock.patch.object(shutil, "copyfile", side_effect=AssertionError("it was copied")):
+                self.refused(path, "a private copy of it takes", "free")
+
+    def test_a_begin_of_no_database_is_not_copied(self):
+        path = Path(self.folder) / "zeros.db"
+        path.write_bytes(bytes(100_000))
+        with mock.patch.object(shutil, "copyfile", side_effect=AssertionError("it was copied")):
+            self.refused(path, "can't be read as a plan", "not a database")
+
     def test_names_that_mean_something_in_an_address(self):
         names = "a?b.db", "a#b.db", "100%25.db", "two words.db", "?mode=memory", "file:x.db", "-wal", "ümläut.db"
         for name in names:
