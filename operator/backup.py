@@ -65,7 +65,7 @@ def check_place(target, is_forced):
     if os.path.exists(target) and not is_forced:
         raise Refused("there is such a file; --force takes its place")
     for tail in plan_file.TAILS[1:]:
-        if checked_copy.has_pages(target + tail):
+        if checked_copy.holds_something(target + tail):
             raise Refused(f"{os.path.basename(target)}{tail} stands beside it, and would be read with the copy; name "
                           "another file, or take that one away")
 
@@ -92,7 +92,7 @@ def place(target, is_forced):
     """A context in which a place is one's own: nothing is there but an empty file, or a file that no program has open."""
     number, is_new = opened(target, is_forced)
     try:
-        with locks.locked(number, locks.OF_A_RUN):
+        with locks.of_a_run(number, target):
             check_place(target, True)
             yield
     except BaseException:

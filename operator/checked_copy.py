@@ -9,8 +9,8 @@ import subprocess
 import plan_file
 import what_if
 
-# a log that has no page: its header, and what opcplan leaves behind it
-MOST_WITHOUT_PAGES = 32 + 24
+# a log that has no page: how it begins, and at most how long it is, with what opcplan leaves behind its header
+LOG, MOST_WITHOUT_PAGES = b"\x37\x7f\x06", 32 + 24
 
 
 def add_program(parser):
@@ -37,7 +37,7 @@ def made(path, folder, program=None):
             db.execute("PRAGMA wal_checkpoint(TRUNCATE)")
         taken(copy, os.path.join(folder, "other.db"))
         ask(path, os.path.join(folder, "other.db"), program)
-    if has_pages(f"{copy}-wal"):
+    if holds_something(f"{copy}-wal"):
         raise plan_file.Unreadable(f"{path}: the log of its copy can't be taken into the copy")
     return copy, meta
 
@@ -60,9 +60,13 @@ def ask(path, copy, program):
         raise plan_file.Unreadable(f"{path}: opcplan doesn't take it: {told or ran.returncode}")
 
 
-def has_pages(log):
-    """Whether a log holds pages, or may hold some."""
-    return os.path.lexists(log) and os.stat(log).st_size > MOST_WITHOUT_PAGES
+def holds_something(path):
+    """Whether anything stands at the path of a log or journal but an empty file, or a log without a page."""
+    if not os.path.isfile(path):
+        return os.path.lexists(path)
+    with open(path, "rb") as file:
+        data = file.read(MOST_WITHOUT_PAGES + 1)
+    return len(data) > MOST_WITHOUT_PAGES or not data.startswith(LOG if data else b"")
 
 
 # Files that take their place.

@@ -34,6 +34,15 @@ def locked(number, span, until=0.0):
         set_lock(number, fcntl.F_UNLCK, begin, length)
 
 
+@contextlib.contextmanager
+def of_a_run(number, path):
+    """A context in which an open file has the lock of a run, and is still the file at a path. Raises Held."""
+    with locked(number, OF_A_RUN):
+        if not os.path.samestat(os.fstat(number), os.stat(path)):
+            raise Held
+        yield
+
+
 def set_lock(number, kind, begin, length):
     """Whether the lock was set, or let go."""
     try:

@@ -62,24 +62,28 @@ def run(given):
 def put_back(copy, path, like):
     """Puts a copy in the place of a plan. Answers the names of what stood there. Raises Held."""
     number, is_new = own(path)
-    part = os.path.join(os.path.dirname(path), f".{os.path.basename(path)}.restore")
     try:
-        with locks.locked(number, locks.OF_A_RUN):
-            try:
-                write(copy, part, like if is_new else path)
-            except BaseException:
-                with contextlib.suppress(FileNotFoundError):
-                    os.remove(part)
-                if is_new:
-                    os.remove(path)
-                raise
-            with unstopped():
-                aside = set_aside(path, is_new)
-                os.replace(part, path)
-                checked_copy.sync_folder(path)
-            return aside
+        with locks.of_a_run(number, path):
+            return put_in_place(copy, path, like, is_new)
     finally:
         os.close(number)
+
+
+def put_in_place(copy, path, like, is_new):
+    """The same, where nobody else has the plan; `is_new` says that its file was made for that."""
+    part = os.path.join(os.path.dirname(path), f".{os.path.basename(path)}.restore")
+    try:
+        write(copy, part, like if is_new else path)
+        with unstopped():
+            aside = set_aside(path, is_new)
+            os.replace(part, path)
+    except BaseException:
+        for left in [part, path] if is_new else [part]:
+            with contextlib.suppress(FileNotFoundError):
+                os.remove(left)
+        raise
+    checked_copy.sync_folder(path)
+    return aside
 
 
 def own(path):

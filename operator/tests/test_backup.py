@@ -130,10 +130,11 @@ class Backup(unittest.TestCase):
             self.refused(told, "--force", status=status)
 
     def test_a_log_beside_the_copy_is_never_read_with_it(self):
-        for tail in ("-wal", "-journal"):
+        for tail, data in (("-wal", b"what a run that was killed left" * 9), ("-wal", b"notes"), ("-journal", b"notes")):
             beside = Path(f"{self.file}{tail}")
-            beside.write_bytes(b"what a run that was killed left" * 99)
+            beside.write_bytes(data)
             self.refused(f"backup.db{tail} stands beside it")
+            self.refused(f"backup.db{tail} stands beside it", "--force")
             beside.unlink()
         self.made()
         looks.killed(self.file, TUESDAY)

@@ -9,6 +9,7 @@ import tempfile
 import unittest
 from contextlib import closing
 from pathlib import Path
+from unittest import mock
 
 import looks
 import plans
@@ -163,6 +164,17 @@ class Restore(unittest.TestCase):
     def test_two_in_one_second(self):
         found = {aside for _ in range(3) for aside in self.restored()}
         self.assertEqual(len(found), 3)
+
+    def test_a_disk_that_takes_no_second_name(self):
+        """All stays as it was."""
+        looks.killed(self.plan, TUESDAY)
+        before = plans.prints(self.plan)
+        with mock.patch("os.link", side_effect=PermissionError(1, "no")), self.assertRaises(PermissionError):
+            restore.put_back(self.file, str(self.plan), self.file)
+        self.assertEqual(plans.prints(self.plan), before)
+        with mock.patch("os.fchmod", side_effect=OSError(28, "full")), self.assertRaises(OSError):
+            restore.put_back(self.file, str(self.room / "new.db"), self.file)
+        self.assertEqual(plans.prints(self.plan), before)
 
     def test_stopped_at_each_call(self):
         """What is left is the old plan, whole, or a file that opcplan doesn't open, or the backup; the same words again
