@@ -89,7 +89,7 @@ def put(copy, target, plan, is_forced):
 
 @contextlib.contextmanager
 def place(target, is_forced):
-    """A context in which a place is one's own: nothing is there but an empty file, or a file that no program has open."""
+    """A context in which a place is one's own: an empty file is there, or a file that no other program has open."""
     number, is_new = opened(target, is_forced)
     try:
         with locks.of_a_run(number, target):

@@ -24,10 +24,10 @@ STOPS = {signal.SIGINT, signal.SIGTERM, signal.SIGHUP}
 
 def add_words(parser):
     parser.description = (
-        "Checks BACKUP as `./plan backup` does, sets PLAN.db and its log aside under a name with the date and time, and "
-        "puts a copy of BACKUP in the place of PLAN.db, unless another program has that open. Where it is stopped in "
-        "its midst, opcplan doesn't open PLAN.db, nothing is lost, and the same words again end it. The exit status "
-        "is 1 where PLAN.db isn't the backup then."
+        "Checks BACKUP as `./plan backup` does, sets PLAN.db and its log aside under a name with the date and time, "
+        "and puts a copy of BACKUP in the place of PLAN.db, unless another program has that open. Where it is stopped "
+        "in its midst, opcplan doesn't open PLAN.db, nothing is lost, and the same words again end it. The exit "
+        "status is 1 where PLAN.db isn't the backup then."
     )
     parser.add_argument("backup", metavar="BACKUP", help="the plan to go back to")
     parser.add_argument("plan", metavar="PLAN.db", help="the file that opcplan --db keeps")
@@ -50,7 +50,8 @@ def run(given):
             words.tell(f"{given.plan}: another program has it open; nothing is changed")
             return 1
         except OSError as error:
-            words.tell(f"{given.plan}: the backup can't be put there: {error.strerror}")
+            words.tell(f"{given.plan}: the backup can't be put there: {error.strerror}; once that is mended, the same "
+                       "words again")
             return 1
     print(f"{given.plan} is {given.backup} now: {backup.told(meta)}.")
     if aside:
@@ -96,7 +97,7 @@ def own(path):
 
 def write(copy, part, like):
     """Writes a copy to a file; the disk has it then."""
-    number = os.open(part, os.O_WRONLY | os.O_CREAT | os.O_TRUNC, 0o600)
+    number = os.open(part, os.O_WRONLY | os.O_CREAT | os.O_TRUNC | os.O_NOFOLLOW, 0o600)
     try:
         checked_copy.write(copy, number, like)
     finally:

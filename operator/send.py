@@ -73,7 +73,7 @@ def run(given):
         check_file(given.db)
         program = os.path.abspath(given.program or what_if.built_program())
         if line is None:
-            text = text_on(sys.stdin.buffer)
+            text = text_on(sys.stdin)
             ran = sent(program, given.db, text, until)
         else:
             text, ran = sent_in_turn(program, given.db, line, until)
@@ -96,7 +96,9 @@ def check_file(path):
 
 def text_on(file):
     """The stream on standard input. Raises Unreadable."""
-    text = file.read(MOST_BYTES + 1)
+    if file is None:
+        raise plan_file.Unreadable("standard input: it is closed; nothing was sent")
+    text = file.buffer.read(MOST_BYTES + 1)
     if len(text) > MOST_BYTES:
         raise plan_file.Unreadable(f"standard input: it has more than {MOST_BYTES >> 20} MiB; nothing was sent")
     return text
@@ -191,17 +193,17 @@ def shown(text, ran):
                    "with its job numbers, and nothing is done twice")
         return FAILED
     sys.stderr.write(ran.stderr.decode(errors="backslashreplace"))
-    print("\n".join(refusal_lines(text, ran.stdout)).rstrip("\n"), end="\n" if ran.returncode == 4 else "", file=sys.stderr)
+    sys.stderr.write(refusal_text(text, ran.stdout))
     return ran.returncode if ran.returncode in (0, 4) else FAILED
 
 
-def refusal_lines(text, output):
-    """What the refusals in an output mean."""
+def refusal_text(text, output):
+    """What the refusals in an output mean, or nothing where it has none."""
     replies = explain.answers(output)
     if not any(reply.startswith("refused") for _, reply in replies):
-        return []
+        return ""
     try:
         lines, _, _ = explain.explained(list(stream.items(text)), replies)
     except explain.Unlike as why:
-        return [f"plan: the planner doesn't answer as opcplan does: {why}"]
-    return lines
+        return f"plan: the planner doesn't answer as opcplan does: {why}\n"
+    return "\n".join(lines).rstrip("\n") + "\n"

@@ -1,5 +1,5 @@
-"""What all listings show of a plan's file, by opcplan over a copy of it, and of a stream, by tools/plain_planner.py; and
-runs over a file that are held open, or killed."""
+"""What all listings show of a plan's file, by opcplan over a copy of it, and of a stream, by tools/plain_planner.py;
+and runs over a file that are held open, or killed."""
 
 import contextlib
 import subprocess

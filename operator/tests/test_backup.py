@@ -103,7 +103,8 @@ class Backup(unittest.TestCase):
 
     def test_a_damaged_plan(self):
         with closing(sqlite3.connect(self.plan)) as db:
-            (page,) = db.execute("SELECT rootpage FROM sqlite_schema WHERE name = 'sqlite_autoindex_ltp_row_1'").fetchone()
+            query = "SELECT rootpage FROM sqlite_schema WHERE name = 'sqlite_autoindex_ltp_row_1'"
+            (page,) = db.execute(query).fetchone()
             db.execute("PRAGMA wal_checkpoint(TRUNCATE)")
         data = bytearray(self.plan.read_bytes())
         at = 4096 * (page - 1)
@@ -130,7 +131,7 @@ class Backup(unittest.TestCase):
             self.refused(told, "--force", status=status)
 
     def test_a_log_beside_the_copy_is_never_read_with_it(self):
-        for tail, data in (("-wal", b"what a run that was killed left" * 9), ("-wal", b"notes"), ("-journal", b"notes")):
+        for tail, data in (("-wal", b"what a run left" * 9), ("-wal", b"notes"), ("-journal", b"notes")):
             beside = Path(f"{self.file}{tail}")
             beside.write_bytes(data)
             self.refused(f"backup.db{tail} stands beside it")

@@ -1,5 +1,5 @@
-"""./plan restore: the backup takes the plan's place, what stood there is kept whole, and a restore that is stopped at any
-call leaves no file that is served as another plan."""
+"""./plan restore: the backup takes the plan's place, what stood there is kept whole, and a restore that is stopped at
+any call leaves no file that is served as another plan."""
 
 import os
 import re
@@ -22,7 +22,7 @@ CALLS = ("open", "link", "rename", "replace", "remove", "fsync", "fchmod", "fcho
 
 
 def stopped_at(number, copy, path):
-    """Whether a process that puts a copy in the place of a plan is gone before its call of the system of this number."""
+    """Whether a process that puts a copy in the place of a plan is gone before its call of this number."""
     child = os.fork()
     if child:
         status = os.waitstatus_to_exitcode(os.waitpid(child, 0)[1])
@@ -201,8 +201,8 @@ class Restore(unittest.TestCase):
             if state != "old":
                 (aside,) = self.room.glob("plan.db.*[0-9]")
                 self.assertEqual(looks.asked(aside, looks.LOOK)[0], old, number)
-            self.assertEqual([name for name in os.listdir(self.room) if name.startswith(".")],
-                             [".plan.db.restore"] if (self.room / ".plan.db.restore").exists() and state == "old" else [])
+            hidden = [name for name in os.listdir(self.room) if name.startswith(".")]
+            self.assertIn(hidden, ([], [".plan.db.restore"]) if state == "old" else ([],))
         self.assertEqual(seen, {"old", "refused", "new"})
         self.assertGreater(number, 15)
 

@@ -1,5 +1,5 @@
-"""What keeps opcplan from a file that isn't damaged: docs/TABLES.md has each, the fault that is told, and a way out that
-leads to the plan as it was; and what becomes of a damaged log."""
+"""What keeps opcplan from a file that isn't damaged: docs/TABLES.md has each, the fault that is told, and a way out
+that leads to the plan as it was; and what becomes of a damaged log."""
 
 import os
 import re
@@ -46,7 +46,8 @@ MADE = {
                                 "ln plan.db-wal log"],
     "`plan.db-journal`": ["head -c 5000 /dev/urandom > plan.db-journal"],
     "A trigger on": ["CREATE TRIGGER mine AFTER INSERT ON cp_row BEGIN SELECT 1; END"],
-    "An index with": ["CREATE INDEX mine ON cp_row (app) WHERE status = 'W'", "CREATE INDEX mine ON cp_row (lower(app))"],
+    "An index with": ["CREATE INDEX mine ON cp_row (app) WHERE status = 'W'",
+                      "CREATE INDEX mine ON cp_row (lower(app))"],
     "A table that refers": ["CREATE TABLE mine (x REFERENCES job(number))"],
     "A unique index": ["CREATE UNIQUE INDEX mine ON cp_row (app)"],
     "A row of `dependency`": ["UPDATE dependency SET rowid = 9223372036854775807 WHERE rowid = 9"],
@@ -115,7 +116,8 @@ class Unopened(unittest.TestCase):
         self.begin()
         self.do("sqlite3 plan.db 'PRAGMA journal_mode = delete' > out; rm -f plan.db-wal")
         writer = ("PRAGMA cache_size = 1; BEGIN; DELETE FROM ltp_row; CREATE TABLE big AS WITH RECURSIVE n(i) AS "
-                  "(SELECT 1 UNION ALL SELECT i + 1 FROM n WHERE i < 400) SELECT zeroblob(3000) FROM n;\n.shell kill -9 $PPID\n")
+                  "(SELECT 1 UNION ALL SELECT i + 1 FROM n WHERE i < 400) SELECT zeroblob(3000) FROM n;\n"
+                  ".shell kill -9 $PPID\n")
         subprocess.run(["sqlite3", "plan.db"], input=writer, cwd=self.room, text=True, capture_output=True, check=False)
         self.assertTrue((self.room / "plan.db-journal").exists())
         self.assertEqual(looks.asked(self.plan, looks.LOOK)[0], ["fault 50"])
