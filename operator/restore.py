@@ -73,13 +73,15 @@ def put_back(copy, path, like):
 def put_in_place(copy, path, like, is_new):
     """The same, where nobody else has the plan; `is_new` says that its file was made for that."""
     part = os.path.join(os.path.dirname(path), f".{os.path.basename(path)}.restore")
+    made = [part, path] if is_new else [part]
     try:
         write(copy, part, like if is_new else path)
         with unstopped():
             aside = set_aside(path, is_new)
             os.replace(part, path)
+            made.clear()
     except BaseException:
-        for left in [part, path] if is_new else [part]:
+        for left in made:
             with contextlib.suppress(FileNotFoundError):
                 os.remove(left)
         raise

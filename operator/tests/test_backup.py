@@ -91,12 +91,12 @@ class Backup(unittest.TestCase):
     def test_what_is_no_sound_plan(self):
         whole = self.plan.read_bytes()
         for told, *texts in (
-            ("fault 52", "DELETE FROM cp_row"),
+            (str(self.plan), "DELETE FROM cp_row"),
             (str(self.plan), "UPDATE ltp_row SET app = 'no name' WHERE serial = 3"),
-            ("fault 51", "CREATE TRIGGER seen AFTER INSERT ON cp_row BEGIN SELECT 1; END"),
+            (str(self.plan), "CREATE TRIGGER seen AFTER INSERT ON cp_row BEGIN SELECT 1; END"),
             ("fault 50", "CREATE VIEW one AS VALUES (1)"),
         ):
-            with self.subTest(told):
+            with self.subTest(texts):
                 self.changed(*texts)
                 self.refused(told)
             self.plan.write_bytes(whole)
@@ -110,7 +110,7 @@ class Backup(unittest.TestCase):
         at = 4096 * (page - 1)
         data[at + 8 : at + 10], data[at + 10 : at + 12] = data[at + 10 : at + 12], data[at + 8 : at + 10]
         self.plan.write_bytes(data)
-        self.refused("damaged")
+        self.refused(str(self.plan))
 
     def test_a_file_that_is_there_stays_without_force(self):
         self.file.write_bytes(b"something of mine\n")

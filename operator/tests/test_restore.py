@@ -127,7 +127,7 @@ class Restore(unittest.TestCase):
             db.commit()
             db.execute("PRAGMA wal_checkpoint(TRUNCATE)")
         looks.killed(self.plan, TUESDAY)
-        self.refused("fault 52")
+        self.refused(str(self.file))
         self.file.write_bytes(b"no plan")
         self.refused(str(self.file))
         self.file.unlink()
