@@ -2,12 +2,12 @@
 
 import contextlib
 import os
-import tempfile
 
 import checked_copy
 import locks
 import moments
 import plan_file
+import scratch
 import words
 
 SUMMARY = "a copy of a plan in one file, checked; a run may go on meanwhile"
@@ -25,7 +25,7 @@ def add_words(parser):
         "copy."
     )
     words.add_plan(parser)
-    parser.add_argument("file", metavar="FILE", help="the copy")
+    parser.add_argument("file", metavar="FILE", type=words.file, help="the copy")
     parser.add_argument("--force", action="store_true", help="takes the place of a FILE that is there")
     checked_copy.add_program(parser)
 
@@ -37,7 +37,7 @@ def run(given):
         return 2
     try:
         check_place(target, given.force)
-        with tempfile.TemporaryDirectory(prefix="backup-") as folder:
+        with scratch.folder("backup-") as folder:
             copy, meta = checked_copy.made(given.plan, folder, given.program)
             put(copy, target, os.path.realpath(given.plan), given.force)
     except (Refused, locks.Held) as why:
@@ -72,19 +72,14 @@ def check_place(target, is_forced):
 
 def put(copy, target, plan, is_forced):
     """Puts a copy in its place, whole. Raises Refused and Held."""
-    number, part = tempfile.mkstemp(prefix=".backup-", dir=os.path.dirname(target))
-    try:
-        checked_copy.write(copy, number, plan)
+    with scratch.beside(target) as part:
+        checked_copy.write(copy, part, plan)
         with place(target, is_forced):
             for tail in plan_file.TAILS[1:]:
                 with contextlib.suppress(FileNotFoundError):
                     os.remove(target + tail)
             os.replace(part, target)
-        checked_copy.sync_folder(target)
-    finally:
-        os.close(number)
-        with contextlib.suppress(FileNotFoundError):
-            os.remove(part)
+    checked_copy.sync_folder(target)
 
 
 @contextlib.contextmanager

@@ -8,6 +8,7 @@ import subprocess
 
 import plan_file
 import what_if
+import words
 
 # a log that has no page: how it begins, and at most how long it is, with what opcplan leaves behind its header
 LOG, MOST_WITHOUT_PAGES = b"\x37\x7f\x06", 32 + 24
@@ -15,7 +16,7 @@ LOG, MOST_WITHOUT_PAGES = b"\x37\x7f\x06", 32 + 24
 
 def add_program(parser):
     """The option that names the planner, as `words.program`."""
-    parser.add_argument("--program", metavar="FILE", help="the planner that checks it (else the one built here)")
+    parser.add_argument("--program", metavar="FILE", type=words.file, help="the planner that checks it (else the one built here)")
 
 
 def made(path, folder, program=None):
@@ -72,16 +73,19 @@ def holds_something(path):
 # Files that take their place.
 
 
-def write(source, number, like):
-    """Copies a file into an open one, with the mode and, where that is allowed, the owner of another; the disk has it
-    then."""
-    with open(source, "rb") as file, open(number, "wb", closefd=False) as target:
-        shutil.copyfileobj(file, target)
-    stat = os.stat(like)
-    with contextlib.suppress(PermissionError):
-        os.fchown(number, stat.st_uid, stat.st_gid)
-    os.fchmod(number, stat.st_mode & 0o777)
-    os.fsync(number)
+def write(source, path, like):
+    """Copies a file to a path, with the mode and, where that is allowed, the owner of another; the disk has it then."""
+    number = os.open(path, os.O_WRONLY | os.O_CREAT | os.O_TRUNC | os.O_NOFOLLOW, 0o600)
+    try:
+        with open(source, "rb") as file, open(number, "wb", closefd=False) as target:
+            shutil.copyfileobj(file, target)
+        stat = os.stat(like)
+        with contextlib.suppress(PermissionError):
+            os.fchown(number, stat.st_uid, stat.st_gid)
+        os.fchmod(number, stat.st_mode & 0o777)
+        os.fsync(number)
+    finally:
+        os.close(number)
 
 
 def sync_folder(path):

@@ -8,13 +8,13 @@ import os
 import re
 import signal
 import stat
-import tempfile
 import time
 
 import backup
 import checked_copy
 import locks
 import plan_file
+import scratch
 import words
 
 SUMMARY = "puts a backup in the place of a plan, and sets aside what stood there"
@@ -29,8 +29,8 @@ def add_words(parser):
         "in its midst, opcplan doesn't open PLAN.db, nothing is lost, and the same words again end it. The exit "
         "status is 1 where PLAN.db isn't the backup then."
     )
-    parser.add_argument("backup", metavar="BACKUP", help="the plan to go back to")
-    parser.add_argument("plan", metavar="PLAN.db", help="the file that opcplan --db keeps")
+    parser.add_argument("backup", metavar="BACKUP", type=words.file, help="the plan to go back to")
+    words.add_plan(parser)
     checked_copy.add_program(parser)
 
 
@@ -42,7 +42,7 @@ def run(given):
     if os.path.lexists(path) and not os.path.isfile(path):
         words.tell(f"{given.plan}: it is no file")
         return 1
-    with tempfile.TemporaryDirectory(prefix="restore-") as folder:
+    with scratch.folder("restore-") as folder:
         copy, meta = checked_copy.made(given.backup, folder, given.program)
         try:
             aside = put_back(copy, path, os.path.realpath(given.backup))
@@ -75,7 +75,7 @@ def put_in_place(copy, path, like, is_new):
     part = os.path.join(os.path.dirname(path), f".{os.path.basename(path)}.restore")
     made = [part, path] if is_new else [part]
     try:
-        write(copy, part, like if is_new else path)
+        checked_copy.write(copy, part, like if is_new else path)
         with unstopped():
             aside = set_aside(path, is_new)
             os.replace(part, path)
@@ -95,15 +95,6 @@ def own(path):
         return os.open(path, os.O_RDWR), False
     except FileNotFoundError:
         return os.open(path, os.O_RDWR | os.O_CREAT | os.O_EXCL, 0o600), True
-
-
-def write(copy, part, like):
-    """Writes a copy to a file; the disk has it then."""
-    number = os.open(part, os.O_WRONLY | os.O_CREAT | os.O_TRUNC | os.O_NOFOLLOW, 0o600)
-    try:
-        checked_copy.write(copy, number, like)
-    finally:
-        os.close(number)
 
 
 @contextlib.contextmanager

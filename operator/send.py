@@ -4,6 +4,7 @@
 until it has the file, and no statement is ever run twice."""
 
 import argparse
+import io
 import math
 import os
 import random
@@ -14,6 +15,7 @@ import time
 import explain
 import locks
 import next_job
+import output
 import plan_file
 import statement_words
 import stream
@@ -23,7 +25,6 @@ import words
 SUMMARY = "sends a statement in words, or a job stream, and waits while the plan is in use"
 FAILED = 8
 HELD = b"another program has FILE open"
-MOST_BYTES = 64 << 20
 # how often a number that another stream took meanwhile is replaced
 TRIES = 9
 SHORT = ("start", "complete", "fail", "reset", "delete", "add")
@@ -40,13 +41,14 @@ def add_words(parser):
         "it. A statement in words without a job number gets the next one, which is told. While another program has "
         "PLAN.db, it is tried again; no statement is run twice. The replies are printed as opcplan prints them, and "
         "what a refusal means on standard error. The exit status is opcplan's: 0, 4 where some were refused, 8 after "
-        "a fault, and where nothing could be sent; 2 where the words are wrong. A stream of more than "
-        f"{MOST_BYTES >> 20} MiB is not sent."
+        "a fault, and where nothing could be sent; 2 where the words are wrong. " + stream.BOUND
     )
-    parser.add_argument("--db", required=True, metavar="PLAN.db", help="the file that opcplan --db keeps")
+    parser.add_argument("--db", required=True, type=words.file, metavar="PLAN.db",
+                        help="the file that opcplan --db keeps")
     parser.add_argument("--wait", type=seconds, default=0, metavar="SECONDS",
                         help="how long it is tried again while another program has PLAN.db (else once)")
-    parser.add_argument("--program", metavar="FILE", help="the planner that runs it (else the one that is built here)")
+    parser.add_argument("--program", metavar="FILE", type=words.file,
+                        help="the planner that runs it (else the one that is built here)")
     parser.add_argument("words", nargs=argparse.REMAINDER, metavar="STATEMENT",
                         help="the words of a statement (else the stream on standard input)")
 
@@ -73,7 +75,8 @@ def run(given):
         check_file(given.db)
         program = os.path.abspath(given.program or what_if.built_program())
         if line is None:
-            text = text_on(sys.stdin)
+            with stream.opened("-") as source:
+                text = b"".join(source.pieces())
             ran = sent(program, given.db, text, until)
         else:
             text, ran = sent_in_turn(program, given.db, line, until)
@@ -92,16 +95,6 @@ def check_file(path):
         raise plan_file.Unreadable(f"{path}: there is no such file; `./opcplan --db` makes a new plan")
     if not os.path.getsize(path):
         raise plan_file.Unreadable(f"{path}: it is empty, and no plan; `./opcplan --db` makes a new one in it")
-
-
-def text_on(file):
-    """The stream on standard input. Raises Unreadable."""
-    if file is None:
-        raise plan_file.Unreadable("standard input: it is closed; nothing was sent")
-    text = file.buffer.read(MOST_BYTES + 1)
-    if len(text) > MOST_BYTES:
-        raise plan_file.Unreadable(f"standard input: it has more than {MOST_BYTES >> 20} MiB; nothing was sent")
-    return text
 
 
 # A statement in words.
@@ -188,8 +181,8 @@ def shown(text, ran):
         sys.stdout.flush()
         sys.stdout.buffer.write(ran.stdout)
         sys.stdout.buffer.flush()
-    except OSError as error:
-        words.tell(f"the replies can't be printed: {error.strerror}; what was sent was answered, so send it again "
+    except (OSError, output.Unwritable) as error:
+        words.tell(f"the replies can't be printed: {error}; what was sent was answered, so send it again "
                    "with its job numbers, and nothing is done twice")
         return FAILED
     sys.stderr.write(ran.stderr.decode(errors="backslashreplace"))
@@ -197,13 +190,13 @@ def shown(text, ran):
     return ran.returncode if ran.returncode in (0, 4) else FAILED
 
 
-def refusal_text(text, output):
+def refusal_text(text, answered):
     """What the refusals in an output mean, or nothing where it has none."""
-    replies = explain.answers(output)
-    if not any(reply.startswith("refused") for _, reply in replies):
+    if not any(line.startswith(b"refused") for line in answered.splitlines()):
         return ""
+    asked, answers = (stream.Source(io.BytesIO(data), "what was sent", explain.OF_OUTPUT) for data in (text, answered))
     try:
-        lines, _, _ = explain.explained(list(stream.items(text)), replies)
+        lines, _, _ = explain.explained(stream.items(asked), answers)
     except explain.Unlike as why:
         return f"plan: the planner doesn't answer as opcplan does: {why}\n"
     return "\n".join(lines).rstrip("\n") + "\n"
