@@ -16,7 +16,8 @@ LOG, MOST_WITHOUT_PAGES = b"\x37\x7f\x06", 32 + 24
 
 def add_program(parser):
     """The option that names the planner, as `words.program`."""
-    parser.add_argument("--program", metavar="FILE", type=words.file, help="the planner that checks it (else the one built here)")
+    parser.add_argument("--program", metavar="FILE", type=words.file,
+                        help="the planner that checks it (else the one that is built here)")
 
 
 def made(path, folder, program=None):

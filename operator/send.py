@@ -4,6 +4,7 @@
 until it has the file, and no statement is ever run twice."""
 
 import argparse
+import contextlib
 import io
 import math
 import os
@@ -185,8 +186,9 @@ def shown(text, ran):
         words.tell(f"the replies can't be printed: {error}; what was sent was answered, so send it again "
                    "with its job numbers, and nothing is done twice")
         return FAILED
-    sys.stderr.write(ran.stderr.decode(errors="backslashreplace"))
-    sys.stderr.write(refusal_text(text, ran.stdout))
+    with contextlib.suppress(OSError):
+        sys.stderr.write(ran.stderr.decode(errors="backslashreplace") + refusal_text(text, ran.stdout))
+        sys.stderr.flush()
     return ran.returncode if ran.returncode in (0, 4) else FAILED
 
 
