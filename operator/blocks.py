@@ -114,15 +114,24 @@ def read_options(data):
             check_option(key, value)
         block.defined = {**OPTIONS, **given}
     except Wrong as why:
-        block.fault = Fault(1, line_of(data, why.field), why.field, f"{given[why.field]}", str(why))
+        block.fault = Fault(1, line_of(data, why.field), why.field, value_text(given[why.field]), str(why))
     except UnicodeDecodeError as error:
         line = data.count(b"\n", 0, error.start)
         block.fault = Fault(1, line, "", "", f"byte {data[error.start]:02X} hexadecimal is no UTF-8 text")
-    except tomllib.TOMLDecodeError as error:
+    except (ValueError, RecursionError) as error:  # of tomllib, which also reads no number of thousands of digits
         at = re.search(r"line ([0-9]+)", str(error))
         line = int(at.group(1)) - 1 if at else max(0, data.count(b"\n") - 1)
-        block.fault = Fault(1, line, "", "", f"it is no TOML: {error}")
+        why = f"{error}" if isinstance(error, tomllib.TOMLDecodeError) else "it is too deep or too long to be read"
+        block.fault = Fault(1, line, "", "", f"it is no TOML: {why}")
     return block
+
+
+def value_text(value):
+    """A value of TOML for a reader."""
+    try:
+        return f"{value}"
+    except ValueError:  # Python writes no number of thousands of digits
+        return "of thousands of digits"
 
 
 def check_option(key, value):

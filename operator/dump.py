@@ -7,7 +7,6 @@ import sys
 import definitions
 import moments
 import plan_file
-import sound_rows
 import words
 
 SUMMARY = "the definitions of a plan, as a job stream that gives them again"
@@ -36,7 +35,7 @@ def job_number(text):
 
 
 def run(given):
-    with plan_file.opened(given.plan) as plan, sound_rows.asked_of(plan):
+    with plan_file.opened(given.plan) as plan:
         try:
             text = stream_of(plan, given.job)
         except NoRoom as lacks:

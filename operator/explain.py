@@ -4,9 +4,9 @@ import re
 import textwrap
 
 import known
-import plan_file
 import refusals
 import stream
+import terminal
 import words
 
 SUMMARY = "each refusal of a stream's output: its line, its statement, what it means"
@@ -31,6 +31,8 @@ FAULTS = {
     "51": "the file's tables aren't those of a plan",
     "52": "the rows of the file are no sound plan",
 }
+# a stream's output may be longer than the stream; no line that opcplan prints is as long as this
+OF_OUTPUT, MOST_OF_ANSWER = stream.Bounds(1 << 30, 10_000_000), 200
 
 
 class Unlike(Exception):
@@ -40,16 +42,17 @@ class Unlike(Exception):
 def add_words(parser):
     parser.description = (
         "Lays the lines that a job stream was answered beside its statements, and explains each refusal. The exit "
-        "status is 0 where all statements were accepted, and 1 where some were refused, or the two don't fit."
+        "status is 0 where all statements were accepted, and 1 where some were refused, or the two don't fit. "
+        f"{stream.BOUND[:-1]}, nor an output of more than {OF_OUTPUT}."
     )
-    parser.add_argument("stream", metavar="STREAM", help="the file of the job stream")
-    parser.add_argument("output", metavar="OUTPUT", help="the file of what opcplan answered to it")
+    words.add_stream(parser)
+    parser.add_argument("output", metavar="OUTPUT", type=words.file, help="the file of what opcplan answered to it")
 
 
 def run(given):
-    text, output = bytes_of(given.stream), bytes_of(given.output)
     try:
-        lines, refused, answered = explained(list(stream.items(text)), answers(output))
+        with stream.opened(given.stream) as text, stream.opened(given.output, OF_OUTPUT) as output:
+            lines, refused, answered = explained(stream.items(text), output)
     except Unlike as why:
         words.tell(f"{given.output} is no output of {given.stream}: {why}")
         return 1
@@ -59,56 +62,61 @@ def run(given):
     return 1 if lines else 0
 
 
-def bytes_of(path):
-    """The bytes of a file. Raises Unreadable."""
-    try:
-        with open(path, "rb") as file:
-            return file.read()
-    except OSError as error:
-        raise plan_file.Unreadable(f"{path}: it can't be read: {error.strerror}") from None
-
-
-def answers(output):
-    """The answers of an output: rows and reply line of each."""
-    found, rows = [], []
-    for line in output.decode("latin-1").split("\n"):
-        line = line.removesuffix("\r")
+def answers(source, see):
+    """The reply lines of an output, as they are read; a row of a listing is handed to `see`. Raises Unlike."""
+    while True:
+        line, length, size = source.line(MOST_OF_ANSWER)
+        if not size:
+            return
+        if length > MOST_OF_ANSWER:
+            raise Unlike(f"its line {source.number} is longer than any that answers")
+        line = line[:length].decode("latin-1")
         if REPLY.match(line):
-            found.append((rows, line))
-            rows = []
+            yield line
         else:
-            rows.append(line)
-    return found
+            see(line)
 
 
-def explained(items, replies):
-    """The lines that explain, how many were refused, and how many statements were answered."""
-    lines, now, refused = [], known.Known(), 0
-    fault = replies.pop()[1] if replies and replies[-1][1].startswith("fault") else None
-    if len(replies) > len(items):
-        raise Unlike(f"it has {len(replies)} answers, and the stream {len(items)} statements")
-    for item, (rows, reply) in zip(items, replies):
+def explained(items, output):
+    """The lines that explain, fit for a terminal, how many were refused, and how many statements were answered. Raises
+    Unlike."""
+    lines, now, refused, answered = [], known.Known(), 0, 0
+    replies = answers(output, now.see)
+    for item in items:
+        reply = next(replies, None)
+        if reply is None:
+            lines += [f"The output ends before line {item.line} is answered: {item.shown()}", ""]
+            return lines, refused, answered
+        if reply.startswith("fault"):
+            lines += fault_lines(reply, f"before line {item.line} was answered", replies)
+            return lines, refused, answered
         check_fits(item, reply)
+        answered += 1
         if reply.startswith("refused"):
             refused += 1
-            lines += refusal_lines(item, reply, now)
-        now.take(item, reply, rows)
-    left = items[len(replies) :]
-    if fault:
-        where = f"before line {left[0].line} was answered" if left else "after the last answer"
-        lines += [f"{fault}: {FAULTS.get(fault.split()[-1], 'a fault')}.", f"    The run ended {where}.", ""]
-    elif left:
-        lines += [f"The output ends before line {left[0].line} is answered: {left[0].shown()}", ""]
-    return lines, refused, len(replies)
+            lines.append(terminal.text(refusal_lines(item, reply, now)))
+        now.take(item, reply)
+    reply = next(replies, None)
+    if reply is not None and not reply.startswith("fault"):
+        raise Unlike(f"it has more answers than the stream has statements, which are {answered}")
+    return lines + (fault_lines(reply, "after the last answer", replies) if reply else []), refused, answered
+
+
+def fault_lines(reply, where, replies):
+    """The lines on a fault, behind which there is no reply. Raises Unlike."""
+    if next(replies, None) is not None:
+        raise Unlike(f"behind its `{reply[:60]}` there are further answers")
+    return [terminal.fit(f"{reply}: {FAULTS.get(reply.split()[-1], 'a fault')}."), f"    The run ended {where}.", ""]
 
 
 def check_fits(item, reply):
     """Asks that a reply may be that of an item."""
     name = item.statement.name if item.statement else None
     fits = reply == "refused 10"
-    if item.statement and reply.startswith("refused"):
-        number, has_job = reply.split()[1], item.statement.job is not None
-        fits = number != "10" and (number != "11" or name == "define") and (number != "12" or has_job)
+    if item.statement and item.has_data and not item.is_whole:
+        fits = reply == "refused 11 0"
+    elif item.statement and reply.startswith("refused"):
+        fits = refusals.fits(item, reply)
     elif item.statement:
         fits = re.fullmatch(OK.get(name) or OK[name.partition("-")[0]], reply) is not None
     if not fits:
@@ -119,7 +127,7 @@ def refusal_lines(item, reply, now):
     """The lines on one refusal."""
     _, number, *detail = reply.split()
     if now.is_repeated(item) and number not in ("10", "11", "12"):
-        first, _ = now.jobs[item.statement.job]
+        first = now.jobs[item.statement.job]
         told = [f"job {item.statement.job} was asked at line {first}, and is answered as then"]
     else:
         told = refusals.sentences(item, int(number), detail[0] if detail else "", now)

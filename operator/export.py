@@ -9,7 +9,7 @@ import sys
 
 import moments
 import plan_file
-import sound_rows
+import terminal
 import words
 
 SUMMARY = "occurrences as iCalendar, CSV or JSON, with ISO dates"
@@ -26,6 +26,8 @@ PLACES = {"ltp": "long-term plan", "cp": "current plan", "history": "history", "
 COLUMNS = "serial application set status reason arrives due run_cycle added".split()
 # of a line of iCalendar, without its end
 MOST_OCTETS = 75
+# a spreadsheet takes a cell that begins with one of these for a formula, or looks behind it for one
+FORMULA_SIGNS = ("=", "+", "-", "@", "\t", "\r")
 
 
 def add_words(parser):
@@ -36,8 +38,10 @@ def add_words(parser):
     words.add_plan(parser)
     form = parser.add_mutually_exclusive_group(required=True)
     form.add_argument("--ics", dest="form", action="store_const", const=calendar_text, help="iCalendar, an event each")
-    form.add_argument("--csv", dest="form", action="store_const", const=csv_text, help="a table with a line of names")
+    form.add_argument("--csv", dest="form", action="store_const", const=csv_text,
+                      help="a table with a line of names; a cell that begins as a formula has an apostrophe before it")
     form.add_argument("--json", dest="form", action="store_const", const=json_text, help="with what each waits for")
+    parser.add_argument("--raw", action="store_true", help="with --csv: cells as they are, for what is no spreadsheet")
     parser.add_argument("--set", dest="sets", action="append", choices=list(SETS), help="a set; may stand repeatedly")
     parser.add_argument("--app", type=words.name, help="of this application alone")
     parser.add_argument("--from", dest="first", type=words.day, metavar="D", help="that arrive on this day or later")
@@ -45,9 +49,13 @@ def add_words(parser):
 
 
 def run(given):
-    with plan_file.opened(given.plan) as plan, sound_rows.asked_of(plan):
+    if given.raw and given.form is not csv_text:
+        words.tell("--raw goes with --csv alone")
+        return 2
+    form = raw_csv_text if given.raw else given.form
+    with plan_file.opened(given.plan) as plan:
         found = occurrences(plan.db, given.sets or USUAL, given.app, given.first, given.last)
-        text = given.form(plan, found) if found else None
+        text = form(plan, found) if found else None
     if text is None:
         words.tell(f"{given.plan}: it has no such occurrence")
         return 1
@@ -99,12 +107,26 @@ def spaced(moment):
 
 
 def csv_text(_, found):
+    return table_text([cell(value) for value in one.values(spaced)] for one in found)
+
+
+def raw_csv_text(_, found):
+    return table_text(one.values(spaced) for one in found)
+
+
+def table_text(rows):
+    """The text of a table, with a line of names."""
     text = io.StringIO()
     table = csv.writer(text, lineterminator="\n")
     table.writerow(COLUMNS)
-    for one in found:
-        table.writerow([int(value) if isinstance(value, bool) else value for value in one.values(spaced)])
+    for values in rows:
+        table.writerow([int(value) if isinstance(value, bool) else value for value in values])
     return text.getvalue()
+
+
+def cell(value):
+    """A value such as no spreadsheet takes for a formula."""
+    return f"'{value}" if isinstance(value, str) and value.startswith(FORMULA_SIGNS) else value
 
 
 # For programs: an object, an occurrence on each line of its list.
@@ -152,7 +174,7 @@ def event_lines(one, stamp):
     is_gone = one.status == "D" or one.held == "deletions"
     return [
         "BEGIN:VEVENT",
-        f"UID:opcplan-{one.serial:09}-{start}-{one.app}",
+        f"UID:opcplan-{one.serial:09}-{start}-{escaped(one.app)}",
         f"DTSTAMP:{stamp}",
         f"DTSTART:{start}",
         *([f"DTEND:{end}"] if one.deadline > one.arrival else []),
@@ -175,15 +197,24 @@ def description(one):
 
 
 def escaped(text):
-    """A value of type TEXT."""
+    """A value of type TEXT: line ends are written `\\n`, other controls as their numbers."""
+    if not text.replace("\n", "").isprintable():
+        text = terminal.text(text.replace("\r\n", "\n").replace("\r", "\n").split("\n"))
     for sign, written in (("\\", "\\\\"), (";", "\\;"), (",", "\\,"), ("\n", "\\n")):
         text = text.replace(sign, written)
     return text
 
 
 def folded(line):
-    """A line cut so that no piece has more octets than it may; each further piece begins behind a blank."""
-    pieces = [line[:MOST_OCTETS]]
-    for begin in range(MOST_OCTETS, len(line), MOST_OCTETS - 1):
-        pieces.append(line[begin : begin + MOST_OCTETS - 1])
-    return "\r\n ".join(pieces)
+    """A line cut so that no piece has more octets than it may, each character whole; each further piece begins behind
+    a blank, which counts."""
+    octets, pieces, begin = line.encode("utf-8"), [], 0
+    if len(octets) <= MOST_OCTETS:
+        return line
+    while len(octets) - begin > MOST_OCTETS - bool(pieces):
+        end = begin + MOST_OCTETS - bool(pieces)
+        while octets[end] & 0xC0 == 0x80:  # it goes on with a character that began before
+            end -= 1
+        pieces.append(octets[begin:end])
+        begin = end
+    return b"\r\n ".join([*pieces, octets[begin:]]).decode("utf-8")

@@ -7,7 +7,6 @@ import re
 import blocks
 import definitions
 import moments
-import stream
 
 HELD = {kind: kind.replace("-", "_") for kind in ("calendars", "periods", "applications", "run-cycles", "predecessors")}
 ROW = re.compile(r"(?:[-+>=HX] )?([0-9]{9}) ([A-Z0-9@#$]{1,16}) *(?: [GA] .{8})? ([0-9-]{10} [0-9.]{5})")
@@ -19,7 +18,7 @@ class Known:
     def __init__(self):
         self.defined = definitions.Definitions()
         self.lines = {}  # by kind and name: by the names of a record its line in the stream
-        self.jobs = {}  # by number: line and text of the statement that was asked first
+        self.jobs = {}  # by number: the line of the statement that was asked first
         self.bounds = None  # first day, last day, plan end
         self.created = None  # the line of the `ltp-create` that made the plan
         self.rows = {}  # by serial: application and arrival in words
@@ -29,17 +28,15 @@ class Known:
         """Whether the job of a statement was asked before, so that it isn't done again."""
         return item.statement is not None and item.statement.job in self.jobs
 
-    def take(self, item, reply="ok", rows=()):
+    def take(self, item, reply="ok"):
         """Takes a statement and what it was answered."""
-        for line in rows:
-            self.see(line)
         statement = item.statement
         if statement is None or reply.startswith(("refused 10", "refused 11", "refused 12")):
             return
         if self.is_repeated(item):
             return
         if statement.job is not None:
-            self.jobs[statement.job] = (item.line, stream.text_of_job(item))
+            self.jobs[statement.job] = item.line
         if reply.startswith("ok"):
             self.do(item, statement, reply)
 

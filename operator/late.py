@@ -3,7 +3,7 @@
 import moments
 import page_model
 import plan_file
-import sound_rows
+import terminal
 import waits
 import words
 
@@ -22,13 +22,13 @@ def add_words(parser):
 
 def run(given):
     now = moments.now() if given.now is None else given.now
-    with plan_file.opened(given.plan) as plan, sound_rows.asked_of(plan):
+    with plan_file.opened(given.plan) as plan:
         rows, pairs = unfinished(plan)
         notes = notes_on(plan, now)
         model = page_model.of_rows(rows, pairs, now)
     late = in_order(rows, model)
     moment = moments.moment_text(now)
-    print("\n".join(late_lines(rows, model, late, moment, now) if late else [f"Nothing is late at {moment}."]))
+    print(terminal.text(late_lines(rows, model, late, moment, now) if late else [f"Nothing is late at {moment}."]))
     for note in notes:
         words.tell(note)
     return 0 if late else 1

@@ -2,10 +2,10 @@
 
 import textwrap
 
-import explain
 import known
 import lint_checks
 import stream
+import terminal
 import words
 
 SUMMARY = "what is taken silently in a stream and is likely a slip"
@@ -17,22 +17,24 @@ def add_words(parser):
     parser.description = (
         "Reads a job stream and tells, with the line of its record, what opcplan takes without a word and is likely a "
         "slip: " + "; ".join(lint_checks.KINDS.values()) + ". It knows what the stream says alone, not what a file "
-        "already holds; what is refused `./plan explain` tells. The exit status is 1 where it finds something."
+        "already holds; what is refused `./plan explain` tells. The exit status is 1 where it finds something. "
+        + stream.BOUND
     )
-    parser.add_argument("stream", metavar="STREAM", help="the file of the job stream")
+    words.add_stream(parser)
 
 
 def run(given):
-    found = findings(explain.bytes_of(given.stream))
+    with stream.opened(given.stream) as source:
+        found = findings(source)
     for finding in found:
         wrapped = textwrap.wrap(f"line {finding.line}: {finding.text}", WIDTH, break_on_hyphens=False)
-        print("\n    ".join(wrapped))
+        print("\n    ".join(map(terminal.fit, wrapped)))
     if not found:
         words.tell(f"{given.stream}: nothing that is likely a slip")
     return 1 if found else 0
 
 
-def findings(text):
+def findings(source):
     """All findings of a stream, by line: they are looked for at each planning statement, and at the end."""
     now, found, is_fresh = known.Known(), {}, False
 
@@ -40,8 +42,8 @@ def findings(text):
         for finding in lint_checks.all_of(now):
             found.setdefault((finding.kind, finding.about, finding.line), finding)
 
-    for item in stream.items(text):
-        if item.statement is None or item.has_data and not is_whole(item):
+    for item in stream.items(source):
+        if item.statement is None or item.has_data and not item.is_whole:
             continue
         if item.statement.name in ("define", "undefine") and not now.is_repeated(item):
             is_fresh = True
@@ -53,11 +55,6 @@ def findings(text):
     if is_fresh:
         look()
     return sorted(found.values(), key=lambda finding: (finding.line, finding.kind, finding.about))
-
-
-def is_whole(item):
-    """Whether the data of a `define` can be read as a block."""
-    return item.data is not None and len(item.data) <= stream.MOST_OF_BLOCK
 
 
 def is_late_creation(now, item):

@@ -1,7 +1,6 @@
 """./plan next-job: the greatest job number that a plan has used, and the one after it."""
 
 import plan_file
-import sound_rows
 import words
 
 SUMMARY = "the greatest job number that is used, and one more"
@@ -18,7 +17,7 @@ def add_words(parser):
 
 
 def run(given):
-    with plan_file.opened(given.plan) as plan, sound_rows.asked_of(plan):
+    with plan_file.opened(given.plan) as plan:
         (used,) = plan.db.execute("SELECT max(number) FROM job").fetchone()
     number = (used or 0) + 1
     if not given.short:

@@ -3,17 +3,15 @@
 import contextlib
 import datetime
 import gc
-import os
 import sys
-import tempfile
 
 import moments
+import output
 import page_data
 import page_html
 import page_model
 import page_queries
 import plan_file
-import sound_rows
 import words
 
 SUMMARY = "one HTML file: what is late and why, each day's order of work, the months"
@@ -23,11 +21,11 @@ def add_words(parser):
     """Its words."""
     words.add_plan(parser)
     words.add_now(parser)
-    parser.add_argument("--since", metavar="OLD.db", help="an older copy of the plan: what changed since")
+    parser.add_argument("--since", metavar="OLD.db", type=words.file, help="an older copy: what changed since")
     parser.add_argument("--from", dest="first", type=words.day, metavar="D",
                         help="the first day that is shown (else this month's; the current plan is shown whole)")
     parser.add_argument("--to", dest="last", type=words.day, metavar="D", help="the last one (else next month's)")
-    parser.add_argument("-o", dest="out", metavar="FILE", help="where the page goes (else standard output)")
+    output.add_words(parser, "the page")
 
 
 def run(given):
@@ -35,59 +33,25 @@ def run(given):
     if None not in (given.first, given.last) and given.last < given.first:
         words.tell("--to is before --from")
         return 2
-    if given.out and names_a_plan(given.out, given.plan, given.since):
-        words.tell(f"{given.out}: a page there would take the plan away")
+    own = [given.plan, given.since or given.plan]
+    if given.out and (why := output.objection(given.out, given.force, *own)):
+        words.tell(why)
         return 2
     gc.disable()  # it looks through 200,000 rows again and again, and finds nothing to throw away
     page = page_html.page_of(data_of(given.plan, given.now, given.first, given.last, given.since))
-    if given.out is None:
+    if given.out:
+        output.write(given.out, page.encode("utf-8", "replace"), given.force, *own)
+    else:
         sys.stdout.write(page)
-        return 0
-    try:
-        write(given.out, page.encode("utf-8", "replace"))
-    except OSError as error:
-        words.tell(f"{given.out}: it can't be written: {error.strerror}")
-        return 1
     return 0
-
-
-def names_a_plan(out, *plans):
-    """Whether a file is a plan or its log."""
-    taken = {os.path.realpath(plan + tail) for plan in plans if plan for tail in plan_file.TAILS + ("-shm",)}
-    return os.path.realpath(out) in taken
-
-
-def write(out, data):
-    """Writes a file whole or not at all; what is no file, as a pipe, is written to."""
-    if os.path.exists(out) and not os.path.isfile(out):
-        with open(out, "wb") as target:
-            target.write(data)
-        return
-    out = os.path.realpath(out)
-    mode = os.stat(out).st_mode if os.path.exists(out) else 0o666 & ~umask()
-    number, part = tempfile.mkstemp(prefix=".page-", dir=os.path.dirname(out))
-    try:
-        with open(number, "wb") as target:
-            target.write(data)
-        os.chmod(part, mode)
-        os.replace(part, out)
-    except BaseException:
-        os.remove(part)
-        raise
-
-
-def umask():
-    """The bits that a new file doesn't get."""
-    mask = os.umask(0)
-    os.umask(mask)
-    return mask
 
 
 def data_of(path, now=None, first=None, last=None, since=None):
     """What the page shows of a plan's file."""
     clock = moments.now()
     with contextlib.ExitStack() as files:
-        plan, old = (opened(name, files) if name else None for name in (path, since))
+        plan = files.enter_context(plan_file.opened(path))
+        old = files.enter_context(plan_file.opened(since)) if since is not None else None
         now, note = moment_of(plan, now, clock)
         first, last = span(plan, now, first, last)
         rows, pairs = page_queries.occurrences(plan, first, last) if plan.is_created else ([], [])
@@ -97,13 +61,6 @@ def data_of(path, now=None, first=None, last=None, since=None):
         if old:
             data["since"] = page_data.since(plan, defined, old, page_queries.applications(old)[0])
         return {**data, "made": clock, "sample": now != clock, "note": note}
-
-
-def opened(path, files):
-    """A plan that stays open as long as the others; where it is no sound one, that is told."""
-    plan = files.enter_context(plan_file.opened(path))
-    files.enter_context(sound_rows.asked_of(plan))
-    return plan
 
 
 def moment_of(plan, now, clock):

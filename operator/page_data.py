@@ -4,6 +4,7 @@ import os
 import time
 
 import page_queries
+import terminal
 
 MOST_CHANGES = 5000
 
@@ -82,7 +83,7 @@ def of_model(plan, rows, model, defined, lists, now, first, last):
     cycles = sorted({row.cycle for row in rows if row.cycle is not None})
     meta = plan.meta
     return {
-        "file": os.path.basename(plan.path), "now": now, "first": first, "last": last,
+        "file": terminal.fit(os.path.basename(plan.path)), "now": now, "first": first, "last": last,
         "plan": {"created": plan.is_created, "first": meta["first_day"], "last": meta["last_day"],
                  "end": meta["plan_end"], "calendar": defined.default_calendar, **page_queries.totals(plan)},
         **definition_columns(defined, lists, names, first, last),
@@ -99,7 +100,7 @@ def since(plan, defined, old, old_defined):
     changes = page_queries.difference(plan, old)
     changed = time.localtime(old.written)
     return {
-        "file": os.path.basename(old.path), "kept": time.strftime("%Y-%m-%d %H.%M", changed),
+        "file": terminal.fit(os.path.basename(old.path)), "kept": time.strftime("%Y-%m-%d %H.%M", changed),
         "rows": changes[:MOST_CHANGES], "count": len(changes),
         "definitions": page_queries.redefined(defined, old_defined),
     }

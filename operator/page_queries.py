@@ -5,7 +5,6 @@ from typing import NamedTuple
 
 import definitions
 import moments
-import plan_file
 
 MOST_JOBS = 3000
 
@@ -22,7 +21,6 @@ class Row(NamedTuple):
     place: str
 
 
-PLACES = "WSECDLHowp"
 COLUMNS = "serial, app, ia, deadline, run_cycle"
 CURRENT = f"SELECT {COLUMNS}, status FROM cp_row"
 OTHERS = f"""SELECT {COLUMNS}, 'L' FROM ltp_row WHERE {{0}} UNION ALL
@@ -49,13 +47,6 @@ def occurrences(plan, first, last):
     ask("CREATE TEMP TABLE beyond (serial INTEGER PRIMARY KEY)")
     plain_cursor(plan).executemany("INSERT INTO beyond VALUES (?)", ((serial,) for serial in beyond))
     found += ask(OTHERS.format("serial IN (SELECT serial FROM beyond)")).fetchall()
-    if len(found) < len(shown) + len(beyond):  # somebody took rows away
-        shown = {row[0] for row in found}
-        pairs = [pair for pair in pairs if pair[1] in shown]
-    odd = {row[5] for row in found} - set(PLACES)
-    if odd:
-        told = f"its rows are no sound plan: one has the status or reason {odd.pop()!r}"
-        raise plan_file.Unreadable(f"{plan.path}: {told}")
     found.sort(key=itemgetter(2, 1, 0))
     return list(map(Row._make, found)), pairs
 

@@ -1,5 +1,7 @@
 """What a refusal means, in words, at its place in a stream (docs/STATEMENTS.md, docs/PLANS.md)."""
 
+import re
+
 import blocks
 import moments
 import stream
@@ -19,6 +21,46 @@ NEEDS = {
     "cp-reset": "in error (E)",
     "cp-delete": "waiting (W) or in error (E)",
 }
+PLANNING = {"ltp-create", "ltp-extend", "ltp-modify-all", "ltp-modify-one"}
+ADDITIONS = {"ltp-add", "cp-add"}
+# which statements may be answered a number (docs/REFUSALS.md); 12 is for those that have a job
+ASKED_BY = {
+    11: {"define"},
+    13: {"undefine"},
+    20: PLANNING - {"ltp-create"} | ADDITIONS | {"ltp-delete", "dp-extend", "dp-replan"} | NEEDS.keys(),
+    21: {"ltp-create"},
+    22: PLANNING | {"days"},
+    23: PLANNING | {"days"},
+    24: DATES.keys(),
+    25: PLANNING,
+    26: ADDITIONS | {"days", "ltp-modify-one"},
+    27: ADDITIONS,
+    28: NEEDS.keys() | {"ltp-delete"},
+    29: NEEDS.keys(),
+    30: {"cp-start"},
+    31: PLANNING | ADDITIONS,
+    32: {"dp-extend"},
+}
+OF_A_RECORD, OF_AN_APPLICATION, OF_A_SERIAL = (11,), (22, 23, 25), (30,)
+
+
+def fits(item, reply):
+    """Whether a line that is a statement may be refused so."""
+    found = re.fullmatch(r"refused ([0-9]{2})(?: ([0-9]{1,9})| ([A-Z@#$][A-Z0-9@#$]{0,15}))?", reply)
+    if found is None:
+        return False
+    number, (_, count, name) = int(found.group(1)), found.groups()
+    if (count is None) == (number in OF_A_RECORD + OF_A_SERIAL) or (name is None) == (number in OF_AN_APPLICATION):
+        return False
+    if number == 12:
+        return item.statement.job is not None
+    return number not in ASKED_BY and number > 32 or what_of(item.statement) in ASKED_BY.get(number, ())
+
+
+def what_of(statement):
+    """The name of a statement, or of the one that a trial tries."""
+    name = statement.name
+    return f"{name.removesuffix('trial')}{statement.alone}" if name.endswith("-trial") else name
 
 
 def sentences(item, number, detail, known):
@@ -39,9 +81,9 @@ def faulty_data(item, detail, known):
         odd = f"line {item.odd_ends[0]} only looks like such a line" if item.odd_ends else ""
         told = "its data have no end: no line after it is `/*` and nothing else, so all that follows was taken as data"
         return [told, odd] if odd else [told]
-    if len(item.data) > stream.MOST_OF_BLOCK:
-        most = f"{stream.MOST_OF_BLOCK:,}"
-        return [f"its data have {len(item.data):,} bytes, and at most {most} are read; give them by several `define`s"]
+    if not item.is_whole:
+        length, most = f"{item.data_length:,}", f"{stream.MOST_OF_BLOCK:,}"
+        return [f"its data have {length} bytes, and at most {most} are read; give them by several `define`s"]
     fault = blocks.read(item.statement.alone, item.data).fault
     if fault is None:
         return [f"record {detail} of its data is faulty, though it is read without a fault here"]
@@ -54,7 +96,7 @@ def faulty_data(item, detail, known):
 
 
 def other_text(item, detail, known):
-    line, _ = known.jobs.get(item.statement.job, (None, None))
+    line = known.jobs.get(item.statement.job)
     where = f"at line {line}" if line else "in an earlier run over the same file"
     return [f"job {item.statement.job} was asked {where}, with other words or other data; a new job takes a new number"]
 
@@ -91,9 +133,7 @@ def period_undefined(item, detail, known):
 
 
 def dates_wrong(item, detail, known):
-    name = item.statement.name
-    name = f"{name.removesuffix('trial')}{item.statement.alone}" if name.endswith("trial") else name
-    return [DATES[name], *bounds_text(known)]
+    return [DATES[what_of(item.statement)], *bounds_text(known)]
 
 
 def bounds_text(known):

@@ -5,15 +5,14 @@ import contextlib
 import os
 import sqlite3
 import subprocess
-import sys
-import tempfile
 
 import definitions
 import explain
 import moments
 import plan_file
-import sound_rows
+import scratch
 import stream
+import terminal
 import waits
 import words
 
@@ -34,41 +33,44 @@ PLACES = {
     "p": "deleted in the current plan",
 }
 FAULTED = 8
+# of what the planner tells on standard error, and of its answers
+MOST_SAID, OF_ANSWERS = 10_000, stream.Bounds(1 << 40, 1 << 40)
 
 
 def add_words(parser):
     parser.description = (
         "Runs STREAM over a private copy of PLAN.db, and shows the statements that are refused and what is different "
         "then: definitions, how far the plans reach, and each occurrence that is new, stands elsewhere or is due "
-        "otherwise. The plan stays as it is. The exit status is 1 where a statement is refused."
+        "otherwise. The plan stays as it is. The exit status is 1 where a statement is refused. " + stream.BOUND
     )
     words.add_plan(parser)
-    parser.add_argument("stream", metavar="STREAM", help="a file with a job stream, or - for standard input")
-    parser.add_argument("--program", metavar="FILE", help="the planner that tries it (else the one that is built here)")
+    words.add_stream(parser)
+    parser.add_argument("--program", metavar="FILE", type=words.file,
+                        help="the planner that tries it (else the one that is built here)")
 
 
 def run(given):
-    try:
-        text = text_of(given.stream)
-        with plan_file.opened(given.plan) as plan, tempfile.TemporaryDirectory(prefix="what-if-") as folder:
-            program, copy = given.program or built_program(), os.path.join(folder, "plan.db")
-            with contextlib.closing(sqlite3.connect(copy)) as other:
-                plan.db.backup(other)
-            ran = subprocess.run([os.path.abspath(program), "--db", copy], input=text, capture_output=True, check=False)
-            with plan_file.opened(copy) as after, sound_rows.asked_of(plan):
-                changes = difference(plan, after)
-    except OSError as error:
-        words.tell(f"{error.filename}: {error.strerror}")
-        return 1
-    try:
-        print("\n".join([*reply_lines(text, ran.stdout), *changes]))
-    except explain.Unlike as why:
-        words.tell(f"{program} doesn't answer as opcplan does: {why}")
-        return 1
-    sys.stderr.write(ran.stderr.decode(errors="replace"))
-    if ran.returncode >= FAULTED:
-        words.tell(f"the planner ended with status {ran.returncode}; what is shown is what it did before")
-    return 0 if ran.returncode == 0 else 1
+    program = os.path.abspath(given.program or built_program())
+    with plan_file.opened(given.plan) as plan, scratch.folder("what-if-") as folder:
+        text, copy, said = (os.path.join(folder, name) for name in ("stream.in", "plan.db", "said"))
+        copy_stream(given.stream, text)
+        copy_plan(plan, copy)
+        try:
+            replies, status = tried(program, copy, text, said)
+        except explain.Unlike as why:
+            words.tell(f"{program} doesn't answer as opcplan does: {why}")
+            return 1
+        with plan_file.opened(copy) as after:
+            changes = difference(plan, after)
+        with open(said, "rb") as file:
+            told = file.read(MOST_SAID).decode(errors="replace")
+    print("\n".join([*replies, terminal.text(changes)]))
+    for line in told.splitlines():
+        words.tell(f"the planner says: {line.removeprefix('opcplan: ')}")
+    if status >= FAULTED or status < 0:
+        how = f"by signal {-status}" if status < 0 else f"with status {status}"
+        words.tell(f"the planner ended {how}; what is shown is what it did before")
+    return 0 if status == 0 else 1
 
 
 def built_program():
@@ -79,17 +81,44 @@ def built_program():
     raise plan_file.Unreadable("there is no built planner to try it with: ./opcplan builds one, --program names one")
 
 
-def text_of(name):
-    if name == "-":
-        return sys.stdin.buffer.read()
-    with open(name, "rb") as file:
-        return file.read()
+def copy_stream(name, copy):
+    """Copies a stream up to its bound. Raises Unreadable."""
+    with stream.opened(name) as source, open(copy, "wb") as target:
+        target.writelines(source.pieces())
+
+
+def copy_plan(plan, copy):
+    """Makes the file of a copy. Raises Unreadable."""
+    try:
+        with contextlib.closing(sqlite3.connect(copy)) as other:
+            plan.db.backup(other)
+    except sqlite3.Error as error:
+        raise plan_file.Unreadable(f"{plan.path}: a private copy can't be made: {error}") from None
+
+
+def tried(program, copy, text, said):
+    """Runs a stream over a plan: the lines on its replies, fit for a terminal, and the status; what is told on standard
+    error goes to `said`. Raises Unlike, and Unreadable where there is no such program."""
+    with open(text, "rb") as asked, open(said, "wb") as errors:
+        try:
+            ran = subprocess.Popen([program, "--db", copy], stdin=asked, stdout=subprocess.PIPE, stderr=errors)
+        except OSError as error:
+            raise plan_file.Unreadable(f"{program}: it can't be run: {error.strerror}") from None
+        with ran:
+            try:
+                lines = reply_lines(text, stream.Source(ran.stdout, program, OF_ANSWERS))
+            except BaseException:
+                ran.kill()
+                raise
+    return lines, ran.returncode
 
 
 def reply_lines(text, output):
     """How many statements were accepted and refused, and each that was refused, in the words of explain."""
-    lines, refused, answered = explain.explained(list(stream.items(text)), explain.answers(output))
-    return [f"{answered - refused} accepted, {refused} refused", *(["", *lines[:-1]] if lines else [])]
+    with stream.opened(text) as source:
+        lines, refused, answered = explain.explained(stream.items(source), output)
+    told = ["", "\n".join(lines).rstrip("\n")] if lines else []
+    return [f"{answered - refused} accepted, {refused} refused", *told]
 
 
 # What is different.

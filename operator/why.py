@@ -4,7 +4,7 @@ import definitions
 import moments
 import naming
 import plan_file
-import sound_rows
+import terminal
 import waits
 import why_day
 import words
@@ -37,11 +37,11 @@ def add_words(parser):
 
 def run(given):
     now = moments.now() if given.now is None else given.now
-    with plan_file.opened(given.plan) as plan, sound_rows.asked_of(plan):
+    with plan_file.opened(given.plan) as plan:
         rows = waits.rows_of_key(plan, given.app, given.ia)
         lines = row_lines(plan, rows[0], now, given.all) if rows else nowhere_lines(plan, given.app, given.ia)
         lines += earlier_lines(rows[1:]) + job_lines(plan, given.app, given.ia)
-    print("\n".join(lines))
+    print(terminal.text(lines))
     return 0 if rows else 1
 
 

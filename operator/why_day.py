@@ -7,7 +7,7 @@ import moments
 import naming
 import naming_words
 import plan_file
-import sound_rows
+import terminal
 import waits
 import words
 
@@ -33,11 +33,11 @@ def add_words(parser):
 
 
 def run(given):
-    with plan_file.opened(given.plan) as plan, sound_rows.asked_of(plan):
+    with plan_file.opened(given.plan) as plan:
         defined = definitions.of_plan(plan)
         said = naming.names(defined, given.app, given.day)
         lines = day_lines(defined, given.app, given.day, said) + plan_lines(plan, given.app, given.day, said)
-    print("\n".join(lines))
+    print(terminal.text(lines))
     return 0 if said.is_named else 1
 
 

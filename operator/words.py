@@ -1,15 +1,20 @@
 """The words of a subcommand: what `argparse` asks of them here, and what is told where they are wrong."""
 
 import argparse
+import os
 import re
 import sys
 
 import moments
+import terminal
 
 
 def tell(message):
-    """Says something on standard error."""
-    print(f"plan: {message}", file=sys.stderr)
+    """Says something on standard error, in one line. Where it takes nothing, nobody can be told."""
+    try:
+        print(terminal.fit(f"plan: {message}"), file=sys.stderr, flush=True)
+    except OSError:
+        sys.stderr = open(os.devnull, "w", encoding="utf-8")
 
 
 class Parser(argparse.ArgumentParser):
@@ -43,9 +48,21 @@ def name(text):
     return text.upper()
 
 
+def file(text):
+    """The name of a file, for `type=`."""
+    if not text:
+        raise argparse.ArgumentTypeError("'' is no name of a file")
+    return text
+
+
 def add_plan(parser):
     """The word that names the plan's file, as `words.plan`."""
-    parser.add_argument("plan", metavar="PLAN.db", help="the file that opcplan --db keeps")
+    parser.add_argument("plan", metavar="PLAN.db", type=file, help="the file that opcplan --db keeps")
+
+
+def add_stream(parser):
+    """The word that names a job stream, as `words.stream`."""
+    parser.add_argument("stream", metavar="STREAM", type=file, help="a file with a job stream, or - for standard input")
 
 
 def add_now(parser):

@@ -48,6 +48,8 @@ def planned():
         cycles = [(name(number), "DAILY", "N", "DAY", "3", first, None, number * 1439 // APPS, 0, 1439)
                   for number in range(APPS)]
         db.executemany("INSERT INTO run_cycle VALUES (?, ?, ?, ?, ?, ?, ?, ?, ?, ?)", cycles)
+        offsets = [(name(number), "DAILY", 0, 1) for number in range(APPS)]
+        db.executemany("INSERT INTO run_cycle_offset VALUES (?, ?, ?, ?)", offsets)
         db.executemany("INSERT INTO ltp_row VALUES (?, ?, ?, ?, ?)", rows())
         db.executemany("INSERT INTO dependency VALUES (?, ?)", pairs())
         db.commit()

@@ -79,7 +79,11 @@ def parts(lines):
 
 
 def explained(text, output):
-    return explain.explained(list(stream.items(text)), explain.answers(output))
+    return explain.explained(stream.items(source_of(text)), source_of(output))
+
+
+def source_of(text):
+    return stream.Source(io.BytesIO(text), "a text")
 
 
 class Worked(unittest.TestCase):
@@ -233,7 +237,7 @@ class Fields(unittest.TestCase):
     def test_the_field_that_is_named_is_at_fault(self):
         seen = collections.Counter()
         for name, text, _ in worked():
-            for item in stream.items(text):
+            for item in stream.items(source_of(text)):
                 if item.statement and item.data is not None and len(item.data) <= MOST_OF_BLOCK:
                     block = blocks.read(item.statement.alone, item.data)
                     with self.subTest(name, line=item.line):
@@ -331,6 +335,31 @@ class Command(unittest.TestCase):
                              ("list cp", "refused 10"), ("list cp", "refused 12"), ("", "ok undefined")):
             said = self.ask(f"{text}\n".encode(), f"{output}\n".encode(), 1, "is no output of")
             self.assertEqual(said, "")
+
+    def test_replies_that_no_statement_of_the_kind_gets(self):
+        """Numbers by what docs/REFUSALS.md says they are asked by, and what stands behind them."""
+        start, extend = "cp-start --app A --ia 2024-01-01/08.00 --job 1", "dp-extend --to 2024-01-02/00.00 --job 1"
+        wrong = [("list cp", f"refused {number}") for number in (11, 12, 13, *range(20, 33))]
+        wrong += [(start, f"refused {number}") for number in (21, "22 A", "23 A", 24, "25 A", 26, 27, 31, 32)]
+        wrong += [(extend, f"refused {number}") for number in (13, 21, 24, 26, 27, 28, 29, "30 1", 31)]
+        wrong += [(start, reply) for reply in ("refused", "refused x", "refused 30", "refused 30 A", "refused 30 1 2",
+                                               "refused 20 A", "refused 20 ", "refused 30 -1", "ok serial x status S")]
+        wrong += [("define periods --job 1\n/*", reply) for reply in ("refused 11", "refused 11 A", "refused 11 1 1")]
+        wrong += [("ltp-modify-all --job 1", reply) for reply in ("refused 22", "refused 22 1", "refused 22 a")]
+        wrong += [("define periods --job 1\nP,A,2024-01-01,1", reply) for reply in ("ok defined 1", "refused 12")]
+        wrong += [("list cp\nlist cp", "fault 41\nok rows 0"), ("list cp\nlist cp", "fault 41\nfault 41")]
+        for text, output in wrong:
+            with self.subTest(text, output=output), self.assertRaises(explain.Unlike):
+                explained(f"{text}\n".encode(), f"{output}\n".encode())
+
+    def test_options_that_no_reader_of_toml_likes(self):
+        """Each is faulty, whatever its reader makes of its depth or its length."""
+        deep, long = "a = " + "[" * 100_000, "max_extension_hours = " + "9" * 5000
+        hexadecimal = "max_extension_hours = 0x" + "f" * 5000
+        for data in (deep, deep + "]" * 100_000, long, hexadecimal, "a = 2024-99-99", "\x00", "a.b.c = 1; b"):
+            told = self.ask(f"define options --job 1\n{data}\n/*\n".encode(), b"refused 11 1\n", 1)
+            self.assertIn("record 1 of its data, line 2, is faulty", told)
+            self.assertIn("1 of 1 statement was refused", told)
 
     def test_wrong_words_and_files(self):
         for given in ((), (self.room / "x.in",), ("a", "b", "c")):

@@ -2,20 +2,25 @@
 
 import csv
 import datetime
+import functools
 import io
 import json
 import os
 import re
 import resource
+import subprocess
 import tempfile
 import time
 import unittest
 from contextlib import closing
 from pathlib import Path
+from types import SimpleNamespace
 
 import paces
 import plans
 import sqlite3
+
+import export
 
 plain = plans.plain
 STREAMS = ["each-list", "week-of-daily-plans", "data-centre-year", "batch-through-all-sets", "statuses-listed",
@@ -50,6 +55,44 @@ LATER,RC,N,DAY,3,1,2024-01-01,,12.00,99,12.01
 /*
 ltp-create --from 2024-01-01 --to 2024-01-01 --job 4
 """
+# names that a spreadsheet takes for formulas
+FORMULAS = b"""define periods --job 1
+DAY,A,2024-01-01,1
+/*
+define applications --job 2
+@A1,A,
+A@1,A,
+#A1,A,
+/*
+define run-cycles --job 3
+@A1,@SUM,N,DAY,3,1,2024-01-01,,12.00,0,18.00
+A@1,$RC,N,DAY,3,1,2024-01-01,,12.00,0,18.00
+#A1,RC,N,DAY,3,1,2024-01-01,,12.00,0,18.00
+/*
+ltp-create --from 2024-01-01 --to 2024-01-01 --job 4
+"""
+# what no plan may have as a name, and a calendar would take for lines of its own
+NAMES = ["X\r\nATTACH:http://example.com/x", "X\rSUMMARY:Y\nEND:VEVENT", "a;b,c\\d", "\u00e4" * 112, "Z" * 71 + "\U0001d11e" * 9,
+         "\x1b[2J\x9b\x00", "\u2028X", "BEGIN:VEVENT"]
+# Debian's python3-icalendar, where it is installed, is a module of Debian's own Python
+DEBIAN = "/usr/bin/python3"
+PARSER = """import icalendar, json, sys
+found = icalendar.Calendar.from_ical(sys.stdin.buffer.read())
+print(json.dumps([{name: value.to_ical().decode() if name[:2] == "DT" else str(value) for name, value in event.items()}
+                  for event in found.walk("VEVENT")]))"""
+
+
+@functools.cache
+def has_icalendar():
+    """Whether Debian's parser is there."""
+    words = [DEBIAN, "-c", "import icalendar"]
+    return os.path.exists(DEBIAN) and not subprocess.run(words, capture_output=True, check=False).returncode
+
+
+def parsed(data):
+    """The events of an iCalendar text by Debian's python3-icalendar."""
+    ran = subprocess.run([DEBIAN, "-c", PARSER], input=data, capture_output=True, check=True)
+    return json.loads(ran.stdout)
 
 
 def exported(file, *words):
@@ -81,7 +124,8 @@ def events_of(data):
     assert data.endswith(b"\r\n")
     lines = data[:-2].split(b"\r\n")
     assert all(len(line) <= 75 and b"\r" not in line and b"\n" not in line and line for line in lines)
-    text = data.decode("ascii").replace("\r\n ", "")
+    assert all(line.decode("utf-8") for line in lines)
+    text = data.replace(b"\r\n ", b"").decode("utf-8")
     unfolded = text[:-2].split("\r\n")
     names = [line.partition(":")[0] for line in unfolded]
     assert all(re.fullmatch("[A-Z-]+", name) for name in names), names
@@ -120,11 +164,25 @@ class Export(unittest.TestCase):
     def test_table_shows_what_stock_sqlite_shows(self):
         for name in STREAMS:
             file = plans.copy_of(plans.of_worked(name), self.room)
-            table = list(csv.reader(io.StringIO(exported(file, "--csv", *EVERY_SET))))
             with closing(sqlite3.connect(file)) as db:
                 wanted = [[str(value) for value in row] for row in db.execute(BY_SQL)]
-            self.assertEqual(table[0], "serial application set status reason arrives due run_cycle added".split())
-            self.assertEqual(table[1:], wanted, name)
+            for words in (["--raw"], []):
+                table = list(csv.reader(io.StringIO(exported(file, "--csv", *words, *EVERY_SET))))
+                self.assertEqual(table[0], "serial application set status reason arrives due run_cycle added".split())
+                self.assertEqual(table[1:], wanted, name)
+                # as spreadsheets have it: an apostrophe, and what stands behind it is a text
+                wanted = [["'" + cell if cell[:1] in {*"=+-@\t\r"} else cell for cell in row] for row in wanted]
+
+    def test_cells_that_begin_as_formulas_have_an_apostrophe(self):
+        file = plans.of_stream(FORMULAS)
+        for words, wanted in (([], [["#A1", "RC"], ["'@A1", "'@SUM"], ["A@1", "$RC"]]),
+                              (["--raw"], [["#A1", "RC"], ["@A1", "@SUM"], ["A@1", "$RC"]])):
+            table = list(csv.DictReader(io.StringIO(exported(file, "--csv", *words))))
+            self.assertEqual([[row["application"], row["run_cycle"]] for row in table], wanted)
+        for text in ("=1", "+1", "-1", "@A", "\t=1", "\r=1", '=HYPERLINK("x")'):
+            self.assertEqual(export.cell(text), "'" + text)
+        for text in ("A", "A=1", "'", "", " =1", None, 5, -5, True):
+            self.assertIs(export.cell(text), text)
 
     def test_usual_sets_are_those_of_live_and_completed_rows(self):
         for name in STREAMS:
@@ -190,6 +248,43 @@ class Export(unittest.TestCase):
                 self.assertIn(f"due {plain.moment_text(deadline)}\\n", event["DESCRIPTION"])
         self.assertEqual(statuses, set("WSECD"))
 
+    @unittest.skipUnless(has_icalendar(), "there is no python3-icalendar")
+    def test_calendar_is_what_a_stock_parser_reads(self):
+        for name in STREAMS:
+            rows = rows_of(plans.planner_of(plans.stream(name)), ["ltp", "cp", "history", "deletions"])
+            events = parsed(raw_export(plans.of_worked(name), "--ics", *EVERY_SET))
+            self.assertEqual([event["SUMMARY"] for event in events], [app for _, app, _, _ in rows])
+            self.assertEqual([moment_of(event["DTSTART"]) for event in events], [row[2] for row in rows])
+            for event, (serial, _, _, deadline) in zip(events, rows):
+                first, second, _ = event["DESCRIPTION"].split("\n")
+                self.assertTrue(first.startswith(f"serial {serial}, "))
+                self.assertTrue(second.endswith(f", due {plain.moment_text(deadline)}"))
+
+    def calendar_of(self, names):
+        """A calendar of occurrences with such names, whatever a plan takes."""
+        found = [export.Occurrence(number, name, 28401120, 28401180, name, "cp", "W", "")
+                 for number, name in enumerate(names, 1)]
+        return export.calendar_text(SimpleNamespace(path=str(self.room / "none.db")), found).encode()
+
+    def test_name_of_any_text_makes_no_line(self):
+        events = events_of(self.calendar_of(NAMES))
+        self.assertEqual(len(events), len(NAMES))
+        for event in events:
+            self.assertEqual(set(event), {"UID", "DTSTAMP", "DTSTART", "DTEND", "SUMMARY", "DESCRIPTION", "CATEGORIES",
+                                          "STATUS", "TRANSP"})
+            for value in event.values():
+                self.assertTrue(value.isprintable(), value)
+                # behind a backslash stands what is escaped, and nothing that has to be stands without one
+                self.assertRegex(value, r"^(?:[^\\;,]|\\[\\;,n])*$")
+
+    @unittest.skipUnless(has_icalendar(), "there is no python3-icalendar")
+    def test_name_of_any_text_comes_back(self):
+        names = [name for name in NAMES if name.replace("\r", "").replace("\n", "").isprintable()]
+        shown = [name.replace("\r\n", "\n").replace("\r", "\n") for name in names]
+        events = parsed(self.calendar_of(names))
+        self.assertEqual([event["SUMMARY"] for event in events], shown)
+        self.assertEqual([event["UID"].partition("T000000-")[2] for event in events], shown)
+
     def test_event_that_is_due_before_it_begins_has_no_end(self):
         events = events_of(raw_export(plans.of_stream(DUE_EARLY), "--ics"))
         self.assertEqual([(event["SUMMARY"], event.get("DTEND")) for event in events],
@@ -206,7 +301,7 @@ class Export(unittest.TestCase):
     def test_wrong_words_are_told(self):
         file = plans.of_worked("each-list")
         for words in ([], ["--ics", "--csv"], ["--csv", "--set", "all"], ["--csv", "--from", "2024-02-30"],
-                      ["--csv", "--app", "two words"], ["--xml"]):
+                      ["--csv", "--app", "two words"], ["--xml"], ["--raw"], ["--ics", "--raw"], ["--json", "--raw"]):
             ran = plans.plan("export", file, *words)
             self.assertEqual((ran.returncode, ran.stdout), (2, ""), words)
             self.assertTrue(ran.stderr.startswith("plan: "))

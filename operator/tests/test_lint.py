@@ -1,5 +1,6 @@
 """./plan lint: what it finds is, by the plain planner, what names nothing or means something else than it says."""
 
+import io
 import itertools
 import re
 import shutil
@@ -62,14 +63,14 @@ FOUND = [
 
 
 def findings(text):
-    return lint.findings(text.encode() if isinstance(text, str) else text)
+    return lint.findings(stream.Source(io.BytesIO(text.encode() if isinstance(text, str) else text), "stream.in"))
 
 
 def known_after(text):
     """What is known at the end of a stream."""
     now = known.Known()
-    for item in stream.items(text):
-        if item.statement and (not item.has_data or lint.is_whole(item)):
+    for item in stream.items(stream.Source(io.BytesIO(text), "stream.in")):
+        if item.statement and (not item.has_data or item.is_whole):
             now.take(item)
     return now
 

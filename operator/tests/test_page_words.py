@@ -1,5 +1,6 @@
 """./plan page: its words, its files, what it refuses, and the plans of some worked streams."""
 
+import errno
 import os
 import re
 import shutil
@@ -8,10 +9,16 @@ import tempfile
 import unittest
 from contextlib import closing
 from pathlib import Path
+from unittest import mock
 
 import plans
 
+import moments
+import output
+import page_html
 import page_reader as read
+import sound_rows
+from page import data_of
 from page_reader import ask, parts_of
 
 WORKED = ["first-days", "monday", "each-status-under-each-action", "pairs-into-history", "deleted-stays-deleted",
@@ -43,13 +50,67 @@ class Words(unittest.TestCase):
         self.assertEqual(out.stat().st_mode & 0o777, 0o666 & ~mask())
 
     def test_a_page_never_takes_a_plan_away(self):
-        os.symlink(self.path, Path(self.folder) / "link.db")
+        """Neither the plan that it shows nor any other database, by whatever name, nor a log that stands or would."""
+        folder = Path(self.folder)
+        os.symlink(self.path, folder / "link.db")
+        os.link(self.path, folder / "second.db")
+        ask(folder / "other.db", "CREATE TABLE song (title TEXT)")
+        (folder / "lone-wal").write_bytes(bytes.fromhex("377f0682") + bytes(60))
+        (folder / "lone.journal").write_bytes(bytes.fromhex("d9d505f920a163d7") + bytes(60))
         before = plans.prints(self.path)
-        for out in (self.path, f"{self.path}-wal", Path(self.folder) / "link.db"):
-            asked = plans.plan("page", self.path, "-o", out)
-            self.assertEqual((asked.returncode, asked.stdout), (2, ""))
-            self.assertTrue(asked.stderr.startswith("plan: "))
+        for out in (self.path, f"{self.path}-wal", f"{self.path}-shm", f"{self.path}-journal", folder / "link.db",
+                    folder / "link.db-wal", folder / "second.db", folder / "other.db", folder / "other.db-wal",
+                    folder / "lone-wal", folder / "lone.journal"):
+            for force in ((), ("--force",)):
+                asked = plans.plan("page", self.path, "-o", out, *force)
+                self.assertEqual((asked.returncode, asked.stdout), (2, ""), out)
+                self.assertTrue(asked.stderr.startswith("plan: ") and asked.stderr.count("\n") == 1, asked.stderr)
         self.assertEqual(before, plans.prints(self.path))
+
+    def test_a_file_that_is_there_is_written_over_by_force(self):
+        out = Path(self.folder) / "page.html"
+        out.write_text("mine\n", encoding="utf-8")
+        out.chmod(0o640)
+        link = Path(self.folder) / "link.html"
+        link.symlink_to(out)
+        beside = sorted(os.listdir(self.folder))
+        for name in (out, link):
+            asked = plans.plan("page", self.path, "-o", name)
+            self.assertEqual((asked.returncode, asked.stdout, out.read_text(encoding="utf-8")), (2, "", "mine\n"))
+            self.assertIn("--force", asked.stderr)
+        asked = plans.plan("page", self.path, "-o", link, "--force")
+        self.assertEqual((asked.returncode, asked.stdout, asked.stderr), (0, "", ""))
+        self.assertTrue(link.is_symlink() and out.read_text(encoding="utf-8").endswith("</html>\n"))
+        self.assertEqual((out.stat().st_mode & 0o777, sorted(os.listdir(self.folder))), (0o640, beside))
+
+    def test_a_page_is_whole_or_not_there(self):
+        """Where the disk takes it no more, or refuses the name, what was there stays and nothing else is left."""
+        out, beside = Path(self.folder) / "page.html", sorted(os.listdir(self.folder))
+        for old, calls in ((None, ["fsync"]), (None, ["fchmod"]), (None, ["link", "replace"]), (b"mine", ["fsync"]),
+                           (b"mine", ["fchmod"]), (b"mine", ["replace"])):
+            if old:
+                out.write_bytes(old)
+            full = mock.Mock(side_effect=OSError(errno.ENOSPC, "No space left on device"))
+            with mock.patch.multiple(os, **dict.fromkeys(calls, full)), self.assertRaises(output.Unwritable) as told:
+                output.write(str(out), b"a page", old is not None)
+            self.assertIn("No space left", str(told.exception))
+            self.assertEqual(out.read_bytes() if out.exists() else None, old)
+            out.unlink(missing_ok=True)
+            self.assertEqual(sorted(os.listdir(self.folder)), beside)
+
+    def test_a_page_on_a_file_system_of_single_names(self):
+        out = Path(self.folder) / "page.html"
+        with mock.patch.object(os, "link", side_effect=PermissionError(errno.EPERM, "Operation not permitted")):
+            output.write(str(out), b"a page", False)
+        self.assertEqual(out.read_bytes(), b"a page")
+
+    def test_a_file_that_comes_meanwhile_stays(self):
+        out = Path(self.folder) / "page.html"
+        with mock.patch.object(output, "umask", side_effect=lambda: out.write_bytes(b"mine") and 0o22):
+            with self.assertRaises(output.Unwritable) as told:
+                output.write(str(out), b"a page", False)
+        self.assertIn("by now", str(told.exception))
+        self.assertEqual(out.read_bytes(), b"mine")
 
     def test_where_it_cannot_be_written(self):
         asked = plans.plan("page", self.path, "-o", Path(self.folder) / "no" / "page.html")
@@ -127,7 +188,9 @@ class Words(unittest.TestCase):
             db.execute("INSERT INTO application VALUES (?, 1, ?)", (bad, bad))
             db.execute("INSERT INTO cp_row VALUES (99999, ?, 1, 2, ?, 'E')", (bad, bad))
             db.commit()
-        page = read.page_of(path, "--now", "2024-01-02/06.00")
+        # no plan that has such names is opened; the page has to escape them all the same
+        with mock.patch.object(sound_rows, "ask"):
+            page = page_html.page_of(data_of(path, moments.moment_of("2024-01-02/06.00")))
         self.assertEqual(page.count("</script>"), 2)
         self.assertEqual(page.lower().count("<script"), 2)
         data = read.data_in(page)

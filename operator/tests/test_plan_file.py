@@ -1,5 +1,6 @@
 """plan_file: a plan is read from a private copy, and what can't be read is told."""
 
+import contextlib
 import os
 import shutil
 import sqlite3
@@ -14,6 +15,7 @@ from unittest import mock
 import plans
 
 import plan_file
+import sound_rows
 
 STREAM = "week-of-daily-plans"
 
@@ -121,8 +123,30 @@ class PlanFile(unittest.TestCase):
         with self.assertRaises(plan_file.Unreadable), plan_file.opened(path) as plan:
             plan.db.execute("SELECT sum(ia) FROM ltp_row NATURAL JOIN dependency").fetchall()
             plan.db.execute("PRAGMA integrity_check").fetchall()
-            for table in plan_file.TABLES:
+            for table in sound_rows.RULES:
                 plan.db.execute(f"SELECT * FROM {table}").fetchall()
+
+    def test_a_table_that_is_made_of_no_text(self):
+        path = self.plan()
+        with closing(sqlite3.connect(path)) as db:
+            db.execute("PRAGMA wal_checkpoint(TRUNCATE)")
+        for old, new in ((b"serial INTEGER PRIMARY", b"serial \xc7NTEGER PRIMARY"), (b"cp_row", b"cp_\xb7ow"),
+                         (b"max_hours", b"max_\xffours"), (b"max_hours", b"max_\x1bours")):
+            other = Path(self.folder) / "other.db"
+            other.write_bytes(path.read_bytes().replace(old, new))
+            self.refused(other, "plan")
+
+    def test_no_room_for_the_copy(self):
+        path = self.plan()
+        with mock.patch.object(shutil, "disk_usage", return_value=mock.Mock(free=path.stat().st_size - 1)):
+            with mock.patch.object(shutil, "copyfile", side_effect=AssertionError("it was copied")):
+                self.refused(path, "a private copy of it takes", "free")
+
+    def test_a_begin_of_no_database_is_not_copied(self):
+        path = Path(self.folder) / "zeros.db"
+        path.write_bytes(bytes(100_000))
+        with mock.patch.object(shutil, "copyfile", side_effect=AssertionError("it was copied")):
+            self.refused(path, "can't be read as a plan", "not a database")
 
     def test_names_that_mean_something_in_an_address(self):
         names = "a?b.db", "a#b.db", "100%25.db", "two words.db", "?mode=memory", "file:x.db", "-wal", "ümläut.db"
@@ -149,6 +173,37 @@ class PlanFile(unittest.TestCase):
             with plan_file.opened(path) as plan:
                 self.assertEqual(plan.meta["max_hours"], 77)
             self.assertEqual(before, plans.prints(path))
+
+    def test_a_journal_takes_no_other_file_away(self):
+        """The journal of a stopped transaction may name a file, which SQLite takes away once it has gone back."""
+        path, other = self.plan(), Path(self.folder) / "other.txt"
+        other.write_text("of somebody else\n", encoding="utf-8")
+        with closing(sqlite3.connect(path)) as db:
+            db.execute("PRAGMA wal_checkpoint(TRUNCATE)")
+        magic, name = bytes.fromhex("d9d505f920a163d7"), bytes(other)
+        numbers = (0, 1, path.stat().st_size // 4096, 512, 4096)
+        head = magic + b"".join(number.to_bytes(4, "big") for number in numbers)
+        ends = (len(name), sum(name))
+        names = ((1 << 30) // 4096 + 1).to_bytes(4, "big") + name + b"".join(end.to_bytes(4, "big") for end in ends) + magic
+        Path(f"{path}-journal").write_bytes(head + bytes(512 - len(head)) + names)
+        self.refused(path, "plan.db-journal stands beside it")
+        self.assertTrue(other.exists())
+        # one that SQLite leaves where nothing is to go back
+        for left in (b"", bytes(512)):
+            Path(f"{path}-journal").write_bytes(left)
+            with plan_file.opened(path) as plan:
+                self.assertTrue(plan.is_created)
+
+    def test_what_is_no_file_beside_a_plan(self):
+        for tail in ("-wal", "-journal"):
+            for make in (os.mkdir, os.mkfifo):
+                path = self.plan(f"{tail}-{make.__name__}.db")
+                with contextlib.suppress(FileNotFoundError):
+                    os.remove(f"{path}{tail}")
+                make(f"{path}{tail}")
+                with self.assertRaises(plan_file.Unreadable) as told, plan_file.opened(path):
+                    self.fail("it was opened")
+                self.assertNotIn("None", str(told.exception))
 
     def test_a_change_meanwhile_is_seen(self):
         path = self.plan()
