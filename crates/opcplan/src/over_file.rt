@@ -11,6 +11,7 @@ use sqlite::Unknown;
 use std::io::{self, BufRead, BufReader, BufWriter, Write};
 
 /// Says on standard error what a run begins with, where that is not the plan as it was, and how it is left at a terminal.
+#[derive(Drop)]
 struct Told<'a> {
     rt: &'a HostRuntime,
 }

@@ -72,7 +72,7 @@ fn path_reason(file: &NamedFile) -> &'static str {
     let path = file.path.as_bytes();
     if path.is_empty() {
         "opcplan: fault 50: no FILE is named"
-    } else if path == b":memory:" || path.starts_with(b"file:") {
+    } else if path == b":memory:".as_slice() || path.starts_with(b"file:".as_slice()) {
         "opcplan: fault 50: FILE is a path; :memory: and file: are none (./NAME names such a file, and no --db is a plan in memory)"
     } else {
         "opcplan: fault 50: FILE can't be opened or made: look at its name and folder, whether you may read and write it and its folder, whether it has a second name (a hard link), and whether FILE-journal stands beside it"

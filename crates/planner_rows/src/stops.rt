@@ -113,6 +113,7 @@ fn stop_of(written: &[u8], replies: &[u8]) -> Reached {
 }
 
 /// Says nothing of what a run begins with.
+#[derive(Drop)]
 struct Untold;
 
 impl Opening for Untold {
