@@ -27,8 +27,11 @@ pub enum Asked {
     Memory,
 }
 
-/// What `--version` tells: the program's version, and that of a plan's tables.
-const VERSION: &str = "1.0.0 (tables of version 2)";
+/// What `--version` tells: the program's version, that of its plans' tables, and the sum of the sources that it was made
+/// of, which tools/release writes over the points.
+const VERSION: &str = "1.0.0
+schema 2
+sources ................................................................";
 
 /// What stands below the options in the help.
 const STATEMENTS: &str = "\
