@@ -20,6 +20,7 @@ READERS = {
     "what-if": ["PLAN", "STREAM"],
     "export": ["PLAN", "--csv"],
     "dump": ["PLAN"],
+    "edit": ["PLAN", "calendar", "DEFAULT", "2024-01-05", "free"],
 }
 OF_STREAMS = {"explain", "lint"}
 
