@@ -1,15 +1,12 @@
 """Words of ./plan edit and ./plan import: names, days and what is said of many of them."""
 
 import argparse
-import datetime
 
 import dump
 import record_fields
-from definitions import WEEKDAYS, weekday_of
-from moments import EPOCH, day_text
+from definitions import WEEKDAYS
 
 FEW = 8
-WEEKDAY_NAMES = ("Monday", "Tuesday", "Wednesday", "Thursday", "Friday", "Saturday", "Sunday")
 
 
 def checked(read, *given):
@@ -68,16 +65,6 @@ def few(names, most=FEW):
 def count(number, one, many=None):
     """`1 entry` or `3 entries`."""
     return f"{number:,} {one if number == 1 else many or one + 's'}"
-
-
-def dated(at):
-    """A day with its weekday."""
-    return f"{day_text(at)}, a {WEEKDAY_NAMES[weekday_of(at)]}"
-
-
-def today():
-    """The clock's day."""
-    return (datetime.date.today() - EPOCH.date()).days
 
 
 def printable(text):

@@ -1,7 +1,6 @@
 """./plan edit: its streams are taken by the program and by tools/plain_planner.py, and change what is wanted alone."""
 
 import contextlib
-import io
 import sqlite3
 import tempfile
 import unittest
@@ -13,7 +12,6 @@ import plans
 import dump
 import edit
 import plan_file
-import words
 
 plain, plan_rows = plans.plain, plans.plan_rows
 BASE = b"""define calendars --job 1
@@ -194,14 +192,8 @@ REFUSED = [
 
 def edited(file, given):
     """What ./plan edit answers: status, standard output and standard error."""
-    parser, out, told = words.Parser(prog="plan edit"), io.StringIO(), io.StringIO()
-    edit.add_words(parser)
-    with contextlib.redirect_stdout(out), contextlib.redirect_stderr(told):
-        try:
-            status = edit.run(parser.parse_args([str(file), *given.split()]))
-        except SystemExit as ended:
-            status = ended.code
-    return status, out.getvalue(), told.getvalue()
+    ran = plans.plan_here(edit, file, *given.split())
+    return ran.returncode, ran.stdout, ran.stderr
 
 
 def records(file):
