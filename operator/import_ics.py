@@ -3,6 +3,7 @@
 import datetime
 import importlib.util
 import os
+import re
 import subprocess
 import sys
 
@@ -19,8 +20,8 @@ DATES = ("DTSTART", "DTEND", "DURATION", "RRULE", "RDATE", "EXDATE", "RECURRENCE
 RULE_PARTS = {"FREQ": None, "UNTIL": None, "BYDAY": None, "WKST": None, "INTERVAL": (1, 9999), "COUNT": (1, 999_999),
               "BYMONTH": (1, 12), "BYMONTHDAY": (-31, 31), "BYYEARDAY": (-366, 366), "BYWEEKNO": (-53, 53),
               "BYSETPOS": (-366, 366)}
+RULE, FOLD = re.compile(rb"(?mi)^RRULE(?:;[^:\n]*)?:(.*)$"), re.compile(rb"\r?\n[ \t]")
 MOST_TIMES = 200_000
-ONE_DAY = datetime.timedelta(days=1)
 
 
 class Unfit(Exception):
@@ -70,6 +71,10 @@ def events_of(data, path):
         raise Unmade(f"{path}: it can't be read as iCalendar: {why}", 2) from None
     if not calendars:
         raise Unmade(f"{path}: it holds no calendar, or ends in the midst of one", 2)
+    # the library passes such a part over
+    parts = [part for rule in RULE.findall(FOLD.sub(b"", data)) for part in rule.strip().split(b";")]
+    if any(part and b"=" not in part for part in parts):
+        raise Unmade(f"{path}: a rule has a part without a sign =", 2)
     return [event for calendar in calendars for event in calendar.walk("VEVENT")]
 
 
@@ -179,6 +184,8 @@ def rule_times(rule, begin, end):
     for name, limits in RULE_PARTS.items():
         if limits and not all(limits[0] <= number <= limits[1] and number for number in parts.get(name, [])):
             raise Unfit(f"its rule has a {name} that can't be")
+    if not all(isinstance(at, datetime.date) for at in parts.get("UNTIL", [])):
+        raise Unfit("its rule has an UNTIL that can't be")
     until = min([date_of(at) for at in parts.get("UNTIL", [])] + [end])
     text = ";".join(part for part in rule.to_ical().decode().split(";") if not part.startswith("UNTIL"))
     found = set()

@@ -224,7 +224,9 @@ class Import(unittest.TestCase):
         for data, says in ((b"", "no calendar"), (b"no calendar", "iCalendar"), (b"\xff\xfe\x00", "iCalendar"),
                            (b"END:VCALENDAR\n", "iCalendar"), (b"BEGIN:VCALENDAR\nBEGIN:VEVENT\n", "midst"),
                            (b"DTSTART:20270101\n", "iCalendar"), (b"BEGIN:VCALENDAR\nEND:VCALENDAR\n", "no day"),
-                           (b"SQLite format 3\0" * 100, "iCalendar")):
+                           (b"SQLite format 3\0" * 100, "iCalendar"),
+                           (b"BEGIN:VCALENDAR\nBEGIN:VEVENT\nDTSTART:20270101\nRRULE:FREQ=YEARLY;BYMO\r\n NTH\n"
+                            b"END:VEVENT\nEND:VCALENDAR\n", "without a sign =")):
             self.ask_told(self.asked(data, "--ics", "given", "--calendar", "DEFAULT"), 1 if says == "no day" else 2, says)
 
     def test_lack_of_the_library_is_told(self):
