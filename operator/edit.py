@@ -49,9 +49,8 @@ def run(given):
             text, job = edit_change.stream_of(plan, [change], given.job)
             told = [*change.told, *edit_change.way_into(plan, [change], job)]
         except edit_change.Unmade as why:
-            words.tell(edit_words.printable(str(why)))
+            edit_words.tell([str(why)])
             return why.status
-    for sentence in told:
-        words.tell(edit_words.printable(sentence))
+    edit_words.tell(told)
     sys.stdout.write(text)
     return 0

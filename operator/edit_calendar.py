@@ -132,4 +132,5 @@ def early_told(plan, changed):
     if not plan.is_created or len(days) < len(changed) or (max(days) + 1) * DAY > plan.meta["plan_end"]:
         return []
     end = moment_text(plan.meta["plan_end"])
-    return [f"All of this is before {end}, where the current plan ends: no statement plans these days again."]
+    return [f"All of this is before {end}, where the current plan ends: these days are planned no more, but days that are "
+            "counted over them or moved from them may be others."]

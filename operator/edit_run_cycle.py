@@ -42,7 +42,9 @@ def change(plan, found, given):
     told = [*differences(plan, given.app, before, after), staying(given.app, cycles, before, after),
             *slips(plan, found, given.app, then, after)]
     is_active = given.app in found.applications and found.applications[given.app].is_active
-    return Change("run-cycles", {given.app: then}, told, given.app if is_active else None)
+    if not is_active:
+        told.append(f"{given.app} isn't an active application, so nothing of it is planned.")
+    return Change("run-cycles", {given.app: then}, told, given.app if is_active else None, is_active)
 
 
 def wanted_fields(pairs):

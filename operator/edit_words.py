@@ -1,9 +1,11 @@
 """Words of ./plan edit and ./plan import: names, days and what is said of many of them."""
 
 import argparse
+import sys
 
 import dump
 import record_fields
+import words
 from definitions import WEEKDAYS
 
 FEW = 8
@@ -70,6 +72,12 @@ def count(number, one, many=None):
 def printable(text):
     """A text of others in one line that a terminal may show."""
     return "".join(letter if letter.isprintable() else ascii(letter)[1:-1] for letter in text)
+
+
+def tell(sentences):
+    """Says sentences on standard error, where there is one; without it they would stand in the stream."""
+    for sentence in sentences if sys.stderr else ():
+        words.tell(printable(sentence))
 
 
 def weekday(text):

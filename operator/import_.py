@@ -61,10 +61,9 @@ def run(given):
             text, job = edit_change.stream_of(plan, changes, given.job) if changes else ("", 0)
             told += edit_change.way_into(plan, changes, job)
         except Unmade as why:
-            words.tell(edit_words.printable(str(why)))
+            edit_words.tell([str(why)])
             return why.status
-    for sentence in [*left, *told]:
-        words.tell(edit_words.printable(sentence))
+    edit_words.tell([*left, *told])
     sys.stdout.write(text)
     return 1 if left or not changes else 0
 

@@ -50,6 +50,8 @@ class Made:
         self.found, self.calendar, self.first, self.last = found, calendar_name, first, last
         self.periods, self.applications, self.cycles = {}, {}, {}
         self.by_command = {}
+        self.used = {*found.applications, *found.run_cycles, *found.predecessors,
+                     *(name for listed in found.predecessors.values() for name in listed)}
 
     def take(self, line):
         """Takes a line, and says in words what it makes."""
@@ -78,10 +80,9 @@ class Made:
 
     def app_name(self, line):
         """A name for the application of a line, that nothing in the plan has."""
-        found = self.found
-        used = {*found.applications, *found.run_cycles, *found.predecessors, *self.applications,
-                *(name for listed in found.predecessors.values() for name in listed)}
-        return free_name(name_of(line), 16, used)
+        name = free_name(name_of(line), 16, self.used)
+        self.used.add(name)
+        return name
 
     def period_of(self, kind, months, numbers):
         """The period that numbers of days are counted in, and their offsets there."""

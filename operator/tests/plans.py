@@ -99,6 +99,7 @@ def write(planner, path):
     """Makes the file of a plan with what a plain planner knows."""
     with closing(sqlite3.connect(path)) as db:
         db.execute("PRAGMA journal_mode = WAL")
+        db.execute("PRAGMA synchronous = OFF")
         for text in schema():
             db.execute(text)
         for table, rows in plan_rows.rows_told(planner).items():

@@ -237,7 +237,8 @@ class Edit(unittest.TestCase):
                 self.assertEqual(status, 0, told)
                 number = max(planner.jobs) + 1
                 self.assertIn(f" --job {number}\n", text)
-                self.assertIn(f"`ltp-modify-all --job {number + 1}`" if "hours=48" not in given else "at once", told)
+                way = "at once" if "hours=48" in given else "isn't an active" if "TRIAL" in given else None
+                self.assertIn(way or f"`ltp-modify-all --job {number + 1}`", told)
                 before = records(file)
                 self.assertIn(plain.run(text.encode(), planner), (["ok defined 1"], ["ok undefined"]))
                 file = self.written(planner)
@@ -316,6 +317,35 @@ class Edit(unittest.TestCase):
         self.assertEqual((status, text), (1, ""))
         self.assertIn("--job", told)
         self.assertTrue(edited(file, "options max_extension_hours=48 --job 9")[1].startswith("define options --job 9\n"))
+
+    def test_what_is_told(self):
+        file = self.written(plans.planner_of(BASE))
+        for given, says in (
+            ("calendar DEFAULT 2027-01-04 free", ["2027-01-04 (MON), not listed, a work day -> free", "Its 4 other entries stay",
+                                                  "By DEFAULT go BACKUP, SALES, TRIAL", "before 2027-01-05 06.00"]),
+            ("calendar DEFAULT SUN unlist", ["SUN, free -> not listed, a work day"]),
+            ("calendar DEFAULT 2027-01-08..2027-01-10 work", ["in 2 entries", "2027-01-10 (SUN), not listed, free by its weekday",
+                                                              "1 of this stood so already"]),
+            ("application SALES pending", ["active -> pending", "2 run cycles", "(LEDGER)"]),
+            ("run-cycle SALES DAILY deadline=17.00", ["deadline time: 20.00 -> 17.00", "before it arrives", "NOT",
+                                                      "`ltp-modify-one --app SALES --job 10`"]),
+            ("run-cycle BACKUP FIFTH offset=6", ["past each interval of WORK5"]),
+            ("predecessor LEDGER add BACKUP 12", ["loop"]),
+            ("predecessor SALES add SHOP", ["SALES waits for SHOP too, without a limit", "waits for no other"]),
+            ("period MONTH add 2027-01-16", ["- 2027-01-01 to 2027-01-31; + 2027-01-01 to 2027-01-15; + 2027-01-16 to "
+                                             "2027-01-31; 2 stay", "NOT of SALES, MONTHLY of SHOP"]),
+            ("period WORK5 interval=6", ["intervals of 5 work days", "FIFTH of BACKUP"]),
+        ):
+            with self.subTest(given):
+                told = edited(file, given)[2]
+                for part in says:
+                    self.assertIn(part, told)
+
+    def test_without_standard_error_the_stream_stands_alone(self):
+        file = self.written(plans.planner_of(BASE))
+        words = [plans.sys.executable, plans.TOP / "plan", "edit", file, "options", "max_extension_hours=5"]
+        ran = plans.subprocess.run(["sh", "-c", '"$@" 2>&-', "sh", *words], stdout=plans.subprocess.PIPE, check=False)
+        self.assertEqual((ran.returncode, ran.stdout.decode()), (0, edited(file, "options max_extension_hours=5")[1]))
 
     def test_plan_without_long_term_plan(self):
         file = self.written(plans.planner_of(BASE.partition(b"ltp-create")[0]))
