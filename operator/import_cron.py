@@ -164,11 +164,12 @@ def way_text(kind, months, numbers):
 
 def name_of(line):
     """A name for the application that runs a line's command."""
-    parts = [part.split() for part in re.split(r"&&|\|\||[;|&]", line.command)]
-    words = next((part for part in parts if part and part[0] not in ASIDE), parts[0] or [""])
+    bare = re.sub(r"['\"()]", " ", line.command)
+    parts = [part.split() for part in re.split(r"&&|\|\||[;|&]", bare)]
+    words = next((part for part in parts if part and part[0] not in ASIDE), [])
     while len(words) > 1 and is_before(words[0]):
         words = words[2 if words[0] in WITH_VALUE else 1 :]
-    base = words[0].strip("'\"()").rpartition("/")[2]
+    base = "".join(words[:1]).rpartition("/")[2]
     name = re.sub(r"[^A-Z0-9@#$]", "", (base.partition(".")[0] or base).upper())
     return name.lstrip("0123456789")[:16] or f"CRON{line.number}"[:16]
 

@@ -110,9 +110,12 @@ PATH=/usr/bin:/bin
 @yearly happy; new year
 30 2 1 * * /usr/local/bin/backup.sh --full
 0,30 23 * * 0,6 backup.pl
+5 5 * * * && ;
+6 5 * * * sudo -u
+7 5 * * * /bin/sh -c "env A=1 /opt/x/tidy-up.sh"
 """
 NAMES = "BACKUP SYNC2 MONTHLY QUARTERREPORT UNLUCKY FEBRUARY TENS LEAP SUNDAY THIRDS ALWAYS BOTH MARCH SWEEP UP REPORT " \
-        "HAPPY BACKUP2".split()
+        "HAPPY BACKUP2 CRON22 U TIDYUP".split()
 UNFIT = ["*/5 * * * * often", "@reboot boot", "@often x", "0 4 31 2 * never", "0 4 */2 * 1 and", "0 4 * 2 1 some",
          "61 * * * * x", "* 24 * * * x", "0 4 0 * * x", "0 4 * 13 * x", "0 4 * * 8 x", "0 4 * * fri-mon x", "0 4 * * fre x",
          "5-1 * * * * x", "*/0 * * * * x", "0 4 L * * x", "0 4 * * 1#2 x", "~ 4 * * * x", "1/5 4 * * * x", "0 4 * * *", "0 4 * *",
