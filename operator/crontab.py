@@ -9,6 +9,7 @@ WEEKDAYS = ("sun", "mon", "tue", "wed", "thu", "fri", "sat")
 FIELDS = (("minute", 0, 59, {}), ("hour", 0, 23, {}), ("day of the month", 1, 31, {}),
           ("month", 1, 12, {name: number for number, name in enumerate(MONTHS, 1)}),
           ("day of the week", 0, 7, {name: number for number, name in enumerate(WEEKDAYS)}))
+VARIABLE = re.compile(r"[A-Za-z_][A-Za-z0-9_]*\s*=|[\"'][^\"']*[\"']\s*=")
 SHORT = {"@yearly": "0 0 1 1 *", "@annually": "0 0 1 1 *", "@monthly": "0 0 1 * *", "@weekly": "0 0 * * 0",
          "@daily": "0 0 * * *", "@midnight": "0 0 * * *", "@hourly": "0 * * * *"}
 
@@ -43,7 +44,7 @@ def lines_of(text):
     """The lines of a crontab that are a job or should be one, each with its number."""
     for number, line in enumerate(text.split("\n"), 1):
         line = line.strip()
-        if line and not line.startswith("#") and not re.match(r"[A-Za-z_][A-Za-z0-9_]*\s*=|[\"'][^\"']*[\"']\s*=", line):
+        if line and not line.startswith("#") and not VARIABLE.match(line):
             yield number, line
 
 

@@ -28,16 +28,17 @@ KINDS = {
 
 def add_words(parser):
     parser.description = (
-        "Prints the job stream that makes one change of the definitions of PLAN.db: the whole block of what changes, as "
-        "the plan has it, with that change in it. What changes, what stays, and what takes it into the plan is told on "
-        "standard error. The plan itself stays: `./plan edit PLAN.db .. | ./opcplan --db PLAN.db` changes it. The exit "
-        "status is 1 where a name isn't known, nothing would change, or a plan could not go by it; 2 where a value is "
-        "wrong; then nothing is printed."
+        "Prints the job stream that makes one change of the definitions of PLAN.db: the whole block of what changes, "
+        "as the plan has it, with that change in it. What changes, what stays, and what takes it into the plan is told "
+        "on standard error. The plan itself stays: `./plan edit PLAN.db .. | ./opcplan --db PLAN.db` changes it. The "
+        "exit status is 1 where a name isn't known, nothing would change, or no plan could go by it; 2 where a value "
+        "is wrong; then nothing is printed."
     )
     words.add_plan(parser)
     kinds = parser.add_subparsers(metavar="WHAT", dest="what", required=True)
     for name, module in KINDS.items():
-        kind = kinds.add_parser(name, help=module.SUMMARY, description=f"{module.SUMMARY[0].upper()}{module.SUMMARY[1:]}.")
+        about = f"{module.SUMMARY[0].upper()}{module.SUMMARY[1:]}."
+        kind = kinds.add_parser(name, help=module.SUMMARY, description=about)
         module.add_words(kind)
         edit_words.add_job(kind)
 

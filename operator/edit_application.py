@@ -35,9 +35,10 @@ def change(plan, found, given):
     before = found.applications[app]
     after = Application(wanted.get("status", before.is_active), wanted.get("calendar", before.calendar))
     if after == before:
-        raise Unmade(f"{app} is so already ({status_text(before)}, {calendar_text(found, before)}): nothing would change")
+        is_so = f"{status_text(before)}, {calendar_text(found, before)}"
+        raise Unmade(f"{app} is so already ({is_so}): nothing would change")
     if after.calendar not in (before.calendar, None) and after.calendar not in found.calendars:
-        raise Unmade(f"there is no calendar {after.calendar}; the plan has {edit_words.few(found.calendars) or 'none'}")
+        raise Unmade(edit_words.lack("calendar", after.calendar, found.calendars))
     ask_plannable(found, app, after)
     told = [*differences(found, app, before, after), *others_told(plan, found, app, before, after)]
     is_modified = before.is_active or after.is_active
@@ -90,6 +91,6 @@ def others_told(plan, found, app, before, after):
         told.append("It has no run cycles, so no day is named.")
     waiting = [name for name, listed in found.predecessors.items() if app in listed and name != app]
     cycles, listed = found.run_cycles.get(app, {}), found.predecessors.get(app, {})
-    told.append(f"Its {edit_words.count(len(cycles), 'run cycle')} and its {edit_words.count(len(listed), 'predecessor')} "
-                "stay" + (f", and so do the lists that have it ({edit_words.few(waiting)})" if waiting else "") + ".")
-    return told
+    own = f"{edit_words.count(len(cycles), 'run cycle')} and its {edit_words.count(len(listed), 'predecessor')}"
+    lists = f", and so do the lists that have it ({edit_words.few(waiting)})" if waiting else ""
+    return [*told, f"Its {own} stay{lists}."]

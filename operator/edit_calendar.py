@@ -42,7 +42,7 @@ def status(text):
 def change(plan, found, given):
     """The change that is asked for."""
     if given.name not in found.calendars:
-        raise Unmade(f"there is no calendar {given.name}; the plan has {edit_words.few(found.calendars) or 'none'}")
+        raise Unmade(edit_words.lack("calendar", given.name, found.calendars))
     return of_entries(plan, found, given.name, {entry: STATUSES[given.status] for entry in given.entries})
 
 
@@ -115,8 +115,9 @@ def staying(before, wanted, changed):
     """What a calendar keeps, in a sentence."""
     others = len(before.weekdays) + len(before.dates) - sum(listed(before, entry) is not None for entry in changed)
     alike = len(wanted) - len(changed)
-    stays = f"Its {edit_words.count(others, 'other entry stays', 'other entries stay')}" if others else "It had no others"
-    return f"{stays}{f' ({alike:,} of this stood so already)' if alike else ''}."
+    stay = edit_words.count(others, "other entry stays", "other entries stay")
+    so = f" ({alike:,} of this stood so already)" if alike else ""
+    return f"{f'Its {stay}' if others else 'It had no others'}{so}."
 
 
 def users_told(found, name, users):
@@ -132,5 +133,5 @@ def early_told(plan, changed):
     if not plan.is_created or len(days) < len(changed) or (max(days) + 1) * DAY > plan.meta["plan_end"]:
         return []
     end = moment_text(plan.meta["plan_end"])
-    return [f"All of this is before {end}, where the current plan ends: these days are planned no more, but days that are "
-            "counted over them or moved from them may be others."]
+    return [f"All of this is before {end}, where the current plan ends: these days are planned no more, but days that "
+            "are counted over them or moved from them may be others."]

@@ -112,5 +112,5 @@ def way_into(plan, changes, job):
     one = ones.pop() if len(ones) == 1 else None
     alone = f", or `ltp-modify-one --app {one} --job {number}` for {one} alone," if one else ""
     end = moment_text(plan.meta["plan_end"])
-    return [f"`ltp-modify-all --job {number}`{alone} takes it into the long-term plan, from {end} on, where the current "
-            "plan ends; what stands in the current plan stays there."]
+    return [f"`ltp-modify-all --job {number}`{alone} takes it into the long-term plan, from {end} on, where the "
+            "current plan ends; what stands in the current plan stays there."]

@@ -23,8 +23,7 @@ def change(plan, found, given):
         raise Unmade("the options are so already: nothing would change")
     name = after["default_calendar"]
     if name != found.default_calendar and name not in found.calendars:
-        raise Unmade(f"there is no calendar {name}: each day would be a work day; the plan has "
-                     f"{edit_words.few(found.calendars) or 'none'}")
+        raise Unmade(edit_words.lack("calendar", name, found.calendars))
     told = [f"{key}: {before[key]} -> {after[key]}." for key in after if after[key] != before[key]]
     told += [f"{key} stays {after[key]}." for key in after if after[key] == before[key]]
     is_modified = name != found.default_calendar

@@ -28,11 +28,11 @@ def change(plan, found, given):
     """The change that is asked for."""
     name = given.name
     if name not in found.periods:
-        raise Unmade(f"there is no period {name}; the plan has {edit_words.few(found.periods) or 'none'}")
+        raise Unmade(edit_words.lack("period", name, found.periods))
     before, (verb, *more) = found.periods[name], given.changes
     if verb in LISTED:
         if before.kind != "N":
-            raise Unmade(f"{name} is of type {before.kind}, which lists no intervals; it has type=, origin= and interval=")
+            raise Unmade(f"{name} is of type {before.kind}, which lists no intervals; it has type=, origin=, interval=")
         after = dataclasses.replace(before, entries=LISTED[verb](name, before.entries, *days_of(verb, more)))
     else:
         after = with_fields(name, before, given.changes)
@@ -45,8 +45,8 @@ def change(plan, found, given):
     if is_gone and users:
         raise Unmade(f"no interval of {name} would be left, and it would have to go; but {shown} "
                      f"{'counts' if len(users) == 1 else 'count'} in it")
-    told = [*differences(name, before, after), f"Run cycles that count in it: {shown or 'none'}; they stay as they are."]
-    return Change("periods", {name: None if is_gone else after}, told)
+    counting = f"Run cycles that count in it: {shown or 'none'}; they stay as they are."
+    return Change("periods", {name: None if is_gone else after}, [*differences(name, before, after), counting])
 
 
 def days_of(verb, words):
@@ -155,5 +155,5 @@ def period_text(period: Period):
     """A period in words."""
     if period.kind == "N":
         return f"type N, {edit_words.count(len(period.entries), 'interval')} from {day_text(period.entries[0][0])} on"
-    days = "day" if period.kind == "A" else "work day"
-    return f"type {period.kind}, intervals of {edit_words.count(period.interval, days)} from {day_text(period.origin)} on"
+    days = edit_words.count(period.interval, "day" if period.kind == "A" else "work day")
+    return f"type {period.kind}, intervals of {days} from {day_text(period.origin)} on"

@@ -29,15 +29,14 @@ def change(plan, found, given):
     """The change that is asked for."""
     cycles = found.run_cycles.get(given.app, {})
     if given.name not in cycles:
-        raise Unmade(f"there is no run cycle {given.name} of {given.app}; the plan has "
-                     f"{edit_words.few(cycles) or 'none'} of it")
+        raise Unmade(edit_words.lack(f"run cycle {given.name} of", given.app, cycles))
     before = cycles[given.name]
     wanted = wanted_fields(given.pairs)
     after = cycle_of({**fields_of(plan, given.app, before), **wanted})
     if after == before:
         raise Unmade(f"{given.name} of {given.app} is so already: nothing would change")
     if after.period not in found.periods:
-        raise Unmade(f"there is no period {after.period}; the plan has {edit_words.few(found.periods) or 'none'}")
+        raise Unmade(edit_words.lack("period", after.period, found.periods))
     then = {name: after if name == given.name else cycle for name, cycle in cycles.items()}
     told = [*differences(plan, given.app, before, after), staying(given.app, cycles, before, after),
             *slips(plan, found, given.app, then, after)]
@@ -68,7 +67,7 @@ def parts_of(key, value):
         return {"deadline day": days, "deadline time": time}
     field = OTHER_WORDS.get(key, FIELDS.get(key))
     if field is None:
-        raise Unmade(f"a run cycle has no field {edit_words.printable(key)!r}; it has {', '.join(FIELDS)}, and deadline", 2)
+        raise Unmade(f"a run cycle has no field {key!r}; it has {', '.join(FIELDS)}, and deadline", 2)
     if field == "offsets":
         value = value.replace(",", " ")
     return {field: value.upper() if field in ("type", "period", "rule") else value}
@@ -104,8 +103,8 @@ def differences(plan, app, before, after):
 def staying(app, cycles, before, after):
     """What stays, in a sentence."""
     others = [name for name in cycles if name != before.name]
-    more = f", and so do its other run cycles: {edit_words.few(others)}" if others else f"; {app} has no other run cycle"
-    return f"All else of {before.name} stays{more}."
+    others = f", and so do its other run cycles: {edit_words.few(others)}" if others else f"; {app} has no other one"
+    return f"All else of {before.name} stays{others}."
 
 
 def slips(plan, found, app, cycles, cycle):

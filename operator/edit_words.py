@@ -64,6 +64,11 @@ def few(names, most=FEW):
     return ", ".join(names[:most]) + more
 
 
+def lack(what, name, known):
+    """That a plan has no such definition, and what it has."""
+    return f"there is no {what} {name}; the plan has {few(known) or 'none'}"
+
+
 def count(number, one, many=None):
     """`1 entry` or `3 entries`."""
     return f"{number:,} {one if number == 1 else many or one + 's'}"

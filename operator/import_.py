@@ -83,7 +83,7 @@ def ask_calendar(found, given):
     if given.calendar is None or given.calendar in found.calendars or given.new:
         return
     new = "" if given.cron else "; with --new it is made"
-    raise Unmade(f"there is no calendar {given.calendar}; the plan has {edit_words.few(found.calendars) or 'none'}{new}")
+    raise Unmade(edit_words.lack("calendar", given.calendar, found.calendars) + new)
 
 
 def taken(plan, found, given):

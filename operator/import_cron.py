@@ -15,7 +15,7 @@ EVERY_DAY, EVERY_MONTH, EVERY_WEEKDAY = set(range(1, 32)), set(range(1, 13)), se
 LONGEST_MONTHS = dict(enumerate((31, 29, 31, 30, 31, 30, 31, 31, 30, 31, 30, 31), 1))
 MONTHS = [name.upper() for name in crontab.MONTHS]
 # words that stand before a command, and those of parts of a line that do no work of their own
-BEFORE = {"sudo", "nice", "ionice", "nohup", "env", "exec", "time", "chronic", "sh", "bash", "python3", "python", "perl"}
+BEFORE = set("sudo nice ionice nohup env exec time chronic sh bash python3 python perl".split())
 WITH_VALUE = {"-n", "-u", "-g"}
 ASIDE = {"cd", "test", "[", "[[", "command", "true", ":", "export", "sleep", "umask", "."}
 
@@ -34,13 +34,13 @@ def changes(found, data, path, calendar_name, has_user, first, last):
         raise Unmade(" ".join([f"{path}: it has no line that fits.", *left]))
     names = edit_words.few(f"{name} of type {period.kind}" for name, period in made.periods.items())
     told += [
-        f"{edit_words.count(len(made.applications), 'application')}; periods made: {names or 'none'}; lists of months go "
-        f"from {day_text(first)} to {day_text(last)} (--from and --to name others).",
+        f"{edit_words.count(len(made.applications), 'application')}; periods made: {names or 'none'}; months are "
+        f"listed from {day_text(first)} to {day_text(last)} (--from and --to name others).",
         "Each is due a day after it arrives, since a crontab knows no deadline, and runs on free days too, as by cron "
         "(rule 3): `./plan edit PLAN.db run-cycle APP NAME deadline=0/HH.MM rule=1` changes that.",
     ]
-    found_changes = [Change("periods", made.periods, [])] if made.periods else []
-    return [*found_changes, Change("applications", made.applications, []), Change("run-cycles", made.cycles, [])], told, left
+    kinds = (("periods", made.periods), ("applications", made.applications), ("run-cycles", made.cycles))
+    return [Change(kind, names, []) for kind, names in kinds if names], told, left
 
 
 class Made:

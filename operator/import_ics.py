@@ -13,7 +13,6 @@ from moments import EPOCH, day_text
 from plan_file import Unreadable
 
 DEBIAN = "/usr/bin/python3"
-PLAN = os.path.join(os.path.dirname(os.path.dirname(os.path.abspath(__file__))), "plan")
 LIBRARIES = ("icalendar", "dateutil")
 DATES = ("DTSTART", "DTEND", "DURATION", "RRULE", "RDATE", "EXDATE", "RECURRENCE-ID")
 # of a rule's parts the numbers that they may have
@@ -34,9 +33,10 @@ def ask_library():
         return
     is_debian = os.path.realpath(sys.executable) == os.path.realpath(DEBIAN)
     if not is_debian and os.path.exists(DEBIAN):
-        asked = subprocess.run([DEBIAN, "-c", f"import {', '.join(LIBRARIES)}, tomllib"], capture_output=True, check=False)
+        imports = f"import {', '.join(LIBRARIES)}, tomllib"
+        asked = subprocess.run([DEBIAN, "-c", imports], capture_output=True, check=False)
         if asked.returncode == 0:
-            os.execv(DEBIAN, [DEBIAN, PLAN, *sys.argv[1:]])
+            os.execv(DEBIAN, [DEBIAN, *sys.argv])
     raise Unreadable("iCalendar files are read by Debian's package python3-icalendar, which isn't there: "
                      "`apt-get install python3-icalendar`")
 
@@ -55,8 +55,8 @@ def days(data, path, first, last):
         except Unfit as why:
             left.append(f"left out: {name_of(event)[:60]!r}{date_told(event)}: {why}.")
     shown = edit_words.few(f"{day_text(at)} {found[at][:40]}" for at in sorted(found))
-    told = [f"{path}: {edit_words.count(len(found), 'free day')} from {day_text(first)} to {day_text(last)} (--from and "
-            f"--to name others){f': {shown}' if found else ''}."]
+    told = [f"{path}: {edit_words.count(len(found), 'free day')} from {day_text(first)} to {day_text(last)} (--from "
+            f"and --to name others){f': {shown}' if found else ''}."]
     return {at: False for at in found}, told, left
 
 

@@ -80,7 +80,8 @@ EDITS = [
     ("run-cycle sales not offsets=1,-1,1999 out-of-effect= type=x",
      ["SALES,NOT,X,MONTH,3,1 15,2027-01-01,2027-03-01,18.00,,"], ["SALES,NOT,X,MONTH,3,1 -1 1999,2027-01-01,,18.00,,"]),
     ("run-cycle SALES NOT type=N deadline-day=0 deadline-time=18.30",
-     ["SALES,NOT,X,MONTH,3,1 -1 1999,2027-01-01,,18.00,,"], ["SALES,NOT,N,MONTH,3,1 -1 1999,2027-01-01,,18.00,0,18.30"]),
+     ["SALES,NOT,X,MONTH,3,1 -1 1999,2027-01-01,,18.00,,"],
+     ["SALES,NOT,N,MONTH,3,1 -1 1999,2027-01-01,,18.00,0,18.30"]),
     ("run-cycle SALES NOT type=X deadline= in-effect=2027-02-01 out-of-effect=2027-02-28 period=DAY",
      ["SALES,NOT,N,MONTH,3,1 -1 1999,2027-01-01,,18.00,0,18.30"],
      ["SALES,NOT,X,DAY,3,1 -1 1999,2027-02-01,2027-02-28,18.00,,"]),
@@ -291,7 +292,7 @@ class Edit(unittest.TestCase):
     def test_rows_that_no_record_can_give_are_told(self):
         planner = plans.planner_of(BASE)
         for change, given in (
-            ("UPDATE calendar_entry SET calendar = 'BANK' || char(10) WHERE calendar = 'BANK'", "calendar BANK MON free"),
+            ("UPDATE calendar_entry SET calendar = 'A' || char(10) WHERE calendar = 'BANK'", "calendar BANK MON free"),
             ("UPDATE calendar_entry SET day = 99999 WHERE calendar = 'BANK'", "calendar BANK MON free"),
             ("UPDATE run_cycle SET period = 'A,B' WHERE app = 'SALES'", "run-cycle SALES DAILY offset=2"),
             ("UPDATE run_cycle SET period = 'A,B' WHERE name = 'NOT'", "run-cycle SALES DAILY offset=2"),
@@ -316,16 +317,18 @@ class Edit(unittest.TestCase):
         status, text, told = edited(file, "options max_extension_hours=48")
         self.assertEqual((status, text), (1, ""))
         self.assertIn("--job", told)
-        self.assertTrue(edited(file, "options max_extension_hours=48 --job 9")[1].startswith("define options --job 9\n"))
+        _, text, _ = edited(file, "options max_extension_hours=48 --job 9")
+        self.assertTrue(text.startswith("define options --job 9\n"), text)
 
     def test_what_is_told(self):
         file = self.written(plans.planner_of(BASE))
         for given, says in (
-            ("calendar DEFAULT 2027-01-04 free", ["2027-01-04 (MON), not listed, a work day -> free", "Its 4 other entries stay",
-                                                  "By DEFAULT go BACKUP, SALES, TRIAL", "before 2027-01-05 06.00"]),
+            ("calendar DEFAULT 2027-01-04 free",
+             ["2027-01-04 (MON), not listed, a work day -> free", "Its 4 other entries stay",
+              "By DEFAULT go BACKUP, SALES, TRIAL", "before 2027-01-05 06.00"]),
             ("calendar DEFAULT SUN unlist", ["SUN, free -> not listed, a work day"]),
-            ("calendar DEFAULT 2027-01-08..2027-01-10 work", ["in 2 entries", "2027-01-10 (SUN), not listed, free by its weekday",
-                                                              "1 of this stood so already"]),
+            ("calendar DEFAULT 2027-01-08..2027-01-10 work",
+             ["in 2 entries", "2027-01-10 (SUN), not listed, free by its weekday", "1 of this stood so already"]),
             ("application SALES pending", ["active -> pending", "2 run cycles", "(LEDGER)"]),
             ("run-cycle SALES DAILY deadline=17.00", ["deadline time: 20.00 -> 17.00", "before it arrives", "NOT",
                                                       "`ltp-modify-one --app SALES --job 10`"]),

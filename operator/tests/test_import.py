@@ -50,13 +50,15 @@ EVENTS = [
     (["DTSTART;VALUE=DATE:20270201", "DTEND;VALUE=DATE:20270204"], each_day("2027-02-01", "2027-02-03")),
     (["DTSTART;VALUE=DATE:20270301", "DTEND;VALUE=DATE:20270301"], days_of("2027-03-01")),
     (["DTSTART;VALUE=DATE:20270310", "DURATION:P3D"], each_day("2027-03-10", "2027-03-12")),
-    (["DTSTART:20270401", "SUMMARY:a name that is fold", " ed\\, and has \\n signs; of its own"], days_of("2027-04-01")),
+    (["DTSTART:20270401", "SUMMARY:a name that is fold", " ed\\, and has \\n signs; of its own"],
+     days_of("2027-04-01")),
     (["DTSTART;VALUE=DATE:20200501", "RRULE:FREQ=YEARLY"], days_of("2027-05-01", "2028-05-01")),
     (["DTSTART;VALUE=DATE:20200502", "RRULE:FREQ=YEARLY;UNTIL=20270502"], days_of("2027-05-02")),
     (["DTSTART;VALUE=DATE:20200503", "RRULE:FREQ=YEARLY;UNTIL=20270502T235959Z"], set()),
     (["DTSTART;VALUE=DATE:20200504", "RRULE:FREQ=YEARLY;COUNT=8"], days_of("2027-05-04")),
     (["DTSTART;VALUE=DATE:20210505", "RRULE:FREQ=YEARLY;INTERVAL=2"], days_of("2027-05-05")),
-    (["DTSTART;VALUE=DATE:20200506", "RRULE:FREQ=YEARLY", "EXDATE;VALUE=DATE:20250506,20270506"], days_of("2028-05-06")),
+    (["DTSTART;VALUE=DATE:20200506", "RRULE:FREQ=YEARLY", "EXDATE;VALUE=DATE:20250506,20270506"],
+     days_of("2028-05-06")),
     (["DTSTART;VALUE=DATE:20200507", "RRULE:FREQ=YEARLY", "EXDATE;VALUE=DATE:20270507", "EXDATE:20280507"], set()),
     (["DTSTART;VALUE=DATE:20201126", "RRULE:FREQ=YEARLY;BYMONTH=11;BYDAY=4TH"], days_of("2027-11-25", "2028-11-23")),
     (["DTSTART;VALUE=DATE:20200601", "DTEND;VALUE=DATE:20200603", "RRULE:FREQ=YEARLY"],
@@ -114,12 +116,37 @@ PATH=/usr/bin:/bin
 6 5 * * * sudo -u
 7 5 * * * /bin/sh -c "env A=1 /opt/x/tidy-up.sh"
 """
-NAMES = "BACKUP SYNC2 MONTHLY QUARTERREPORT UNLUCKY FEBRUARY TENS LEAP SUNDAY THIRDS ALWAYS BOTH MARCH SWEEP UP REPORT " \
-        "HAPPY BACKUP2 CRON22 U TIDYUP".split()
-UNFIT = ["*/5 * * * * often", "@reboot boot", "@often x", "0 4 31 2 * never", "0 4 */2 * 1 and", "0 4 * 2 1 some",
-         "61 * * * * x", "* 24 * * * x", "0 4 0 * * x", "0 4 * 13 * x", "0 4 * * 8 x", "0 4 * * fri-mon x", "0 4 * * fre x",
-         "5-1 * * * * x", "*/0 * * * * x", "0 4 L * * x", "0 4 * * 1#2 x", "~ 4 * * * x", "1/5 4 * * * x", "0 4 * * *", "0 4 * *",
-         "@daily", "x", "0,, 4 * * * x", "-1 4 * * * x", "0 4 ? * * x", "\x1b[2J 4 * * * x", "ä 4 * * * x", "٣ 4 * * * x"]
+NAMES = """BACKUP SYNC2 MONTHLY QUARTERREPORT UNLUCKY FEBRUARY TENS LEAP SUNDAY THIRDS ALWAYS BOTH MARCH SWEEP UP
+    REPORT HAPPY BACKUP2 CRON22 U TIDYUP""".split()
+UNFIT = """*/5 * * * * often
+@reboot boot
+@often x
+0 4 31 2 * never
+0 4 */2 * 1 and
+0 4 * 2 1 some
+61 * * * * x
+* 24 * * * x
+0 4 0 * * x
+0 4 * 13 * x
+0 4 * * 8 x
+0 4 * * fri-mon x
+0 4 * * fre x
+5-1 * * * * x
+*/0 * * * * x
+0 4 L * * x
+0 4 * * 1#2 x
+~ 4 * * * x
+1/5 4 * * * x
+0 4 * * *
+0 4 * *
+@daily
+x
+0,, 4 * * * x
+-1 4 * * * x
+0 4 ? * * x
+\x1b[2J 4 * * * x
+\N{LATIN SMALL LETTER A WITH DIAERESIS} 4 * * * x
+\N{ARABIC-INDIC DIGIT THREE} 4 * * * x""".split("\n")
 
 
 def cron_sets(text):
@@ -172,7 +199,9 @@ class Import(unittest.TestCase):
         given.write_bytes(data)
         words = [given if word == "given" else word for word in words]
         # iCalendar may want another interpreter
-        return plans.plan("import", *words, self.plan) if "--ics" in words else plans.plan_here(import_, *words, self.plan)
+        if "--ics" in words:
+            return plans.plan("import", *words, self.plan)
+        return plans.plan_here(import_, *words, self.plan)
 
     def ask_printed(self, ran, status=0):
         """Asks that a stream was printed, and takes it; answers what it changes of DEFAULT."""
@@ -209,7 +238,8 @@ class Import(unittest.TestCase):
 
     @unittest.skipUnless(has_library(), "python3-icalendar isn't there")
     def test_default_days_and_new_calendars(self):
-        text = b"BEGIN:VCALENDAR\nBEGIN:VEVENT\nDTSTART;VALUE=DATE:20200506\nRRULE:FREQ=YEARLY\nEND:VEVENT\nEND:VCALENDAR\n"
+        text = (b"BEGIN:VCALENDAR\nBEGIN:VEVENT\nDTSTART;VALUE=DATE:20200506\nRRULE:FREQ=YEARLY\n"
+                b"END:VEVENT\nEND:VCALENDAR\n")
         ran = self.asked(text, "--ics", "given", "--calendar", "DEFAULT")
         wanted = {("date", day): False for day in days_of("2027-05-06", "2028-05-06", "2029-05-06", "2030-05-06")}
         self.assertIn("from 2027-01-01 to 2031-01-01", ran.stderr)
@@ -230,11 +260,13 @@ class Import(unittest.TestCase):
                            (b"SQLite format 3\0" * 100, "iCalendar"),
                            (b"BEGIN:VCALENDAR\nBEGIN:VEVENT\nDTSTART:20270101\nRRULE:FREQ=YEARLY;BYMO\r\n NTH\n"
                             b"END:VEVENT\nEND:VCALENDAR\n", "without a sign =")):
-            self.ask_told(self.asked(data, "--ics", "given", "--calendar", "DEFAULT"), 1 if says == "no day" else 2, says)
+            status = 1 if says == "no day" else 2
+            self.ask_told(self.asked(data, "--ics", "given", "--calendar", "DEFAULT"), status, says)
 
     def test_lack_of_the_library_is_told(self):
         for debian in ("/nowhere/python3", "/bin/false"):
-            with mock.patch("importlib.util.find_spec", return_value=None), mock.patch.object(import_ics, "DEBIAN", debian):
+            is_lacking = mock.patch("importlib.util.find_spec", return_value=None)
+            with is_lacking, mock.patch.object(import_ics, "DEBIAN", debian):
                 with self.assertRaisesRegex(plan_file.Unreadable, "apt-get install python3-icalendar"):
                     import_ics.ask_library()
 
@@ -291,7 +323,7 @@ class Import(unittest.TestCase):
             for first, last in (("2027-01-15", "2029-12-31"), ("2028-06-01", "2030-12-31")):
                 self.ask_runs(own, app, first, last)
         # those of the plan that are alike are taken: WEEKS begins on a Thursday
-        self.assertEqual(sorted(self.planner.defined["periods"]), ["DAY", "FEB", "JAN", "MAR", "MONTH", "MONTHS", "WEEKS"])
+        self.assertEqual(sorted(self.planner.defined["periods"]), "DAY FEB JAN MAR MONTH MONTHS WEEKS".split())
 
     def test_again_it_takes_its_own_periods(self):
         words = "--cron", "given", "--from", "2027-01-15", "--to", "2028-12-31"
@@ -315,7 +347,8 @@ class Import(unittest.TestCase):
         self.ask_told(self.asked(b"CRON_TZ=UTC\n0 1 * * x\n", "--cron", "given"), 1, "time zone")
 
     def test_lines_with_users(self):
-        ran = self.asked(b"0 1 * * * root /bin/good\n@daily www-data /bin/fine\n0 2 * * * root\n", "--cron", "given", "--system")
+        data = b"0 1 * * * root /bin/good\n@daily www-data /bin/fine\n0 2 * * * root\n"
+        ran = self.asked(data, "--cron", "given", "--system")
         self.assertEqual(self.cron_planner(ran, 1), ["GOOD", "FINE"])
 
     @unittest.skipUnless(plans.PROGRAM.exists(), "opcplan is not built")
@@ -340,8 +373,9 @@ class Import(unittest.TestCase):
             ("--csv given --cron given --calendar DEFAULT", 2, "not allowed"), ("--cron given --new", 2, "--new"),
             ("--csv given --calendar DEFAULT --system", 2, "--system"), ("--csv given --calendar 9", 2, "name"),
             ("--csv given --calendar DEFAULT --from 2027-05-02 --to 2027-05-01", 2, "before"),
-            ("--csv given --calendar DEFAULT --job 4", 2, "job 4 is kept"), ("--csv /dev/zero --calendar DEFAULT", 2, "bytes"),
-            ("--csv given --calendar DEFAULT --from 2027-5-2", 2, "YYYY-MM-DD"), ("--cron given --calendar NONE", 1, "NONE"),
+            ("--csv given --calendar DEFAULT --job 4", 2, "job 4 is kept"),
+            ("--csv /dev/zero --calendar DEFAULT", 2, "bytes"), ("--cron given --calendar NONE", 1, "NONE"),
+            ("--csv given --calendar DEFAULT --from 2027-5-2", 2, "YYYY-MM-DD"),
         ):
             with self.subTest(words):
                 words = [self.room / word if word in ("given", "nowhere") else word for word in words.split()]
