@@ -152,8 +152,7 @@ def sent_in_turn(program, path, line, until):
 def next_number(path):
     """The next job number of a plan. Raises Unreadable."""
     with plan_file.opened(path) as plan:
-        (used,) = plan.db.execute("SELECT max(number) FROM job").fetchone()
-    number = (used or 0) + 1
+        number = next_job.after_greatest(plan.db)
     if number > next_job.GREATEST:
         raise plan_file.Unreadable(f"{path}: the greatest job number is used; name a lesser one by --job")
     return number

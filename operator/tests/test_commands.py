@@ -21,6 +21,8 @@ READERS = {
     "export": ["PLAN", "--csv"],
     "dump": ["PLAN"],
     "backup": ["PLAN", "COPY"],
+    "edit": ["PLAN", "calendar", "DEFAULT", "2024-01-05", "free"],
+    "import": ["--cron", "CRONTAB", "PLAN"],
 }
 OF_STREAMS = {"explain", "lint"}
 WRITERS = {"restore", "send"}
@@ -41,9 +43,12 @@ class Commands(unittest.TestCase):
         self.room = Path(room.name)
         self.stream = self.room / "stream.in"
         self.stream.write_bytes(plans.stream("tuesday"))
+        self.crontab = self.room / "crontab"
+        self.crontab.write_text("0 1 * * * backup\n")
 
     def asked(self, name, file):
-        names = {"PLAN": file, "STREAM": self.stream, "OUT": self.room / "page.html", "COPY": self.room / "copy"}
+        names = {"PLAN": file, "STREAM": self.stream, "OUT": self.room / "page.html", "COPY": self.room / "copy",
+                 "CRONTAB": self.crontab}
         return plans.plan(name, *(names.get(word, word) for word in READERS[name]))
 
     def strangers(self):
