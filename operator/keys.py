@@ -93,4 +93,5 @@ def rows_of(plan, key):
 def unknown_text(plan, serial):
     """That no occurrence has a serial."""
     issued = plan.meta["issued"]
-    return f"No occurrence has the serial {serial}: " + (f"the last one is {issued}." if issued else "there is none yet.")
+    last = f"the last one is {issued}" if issued else "there is none yet"
+    return f"No occurrence has the serial {serial}: {last}."

@@ -46,7 +46,7 @@ def moment_of(text):
 
 
 def typed_moment(text):
-    """The moment of a text that somebody typed or pasted: a day, `/`, `T` or blanks, and `HH.MM` or `HH:MM`; or None."""
+    """The moment of a text that somebody typed: a day, `/`, `T` or blanks, and `HH.MM` or `HH:MM`; or None."""
     found = re.fullmatch(r"(\S{10})(?:[/T]| +)([0-9]{2})[.:]([0-9]{2})", text)
     return moment_of(f"{found[1]}/{found[2]}.{found[3]}") if found else None
 

@@ -58,7 +58,7 @@ def edge(text, minute):
     """The moment that a text spells; of a day its minute of this number."""
     day, moment = moments.day_of(text), moments.typed_moment(text)
     if day is None and moment is None:
-        raise argparse.ArgumentTypeError(f"{text!r} is neither a day like 2026-11-25 nor a moment like 2026-11-25/06.00")
+        raise argparse.ArgumentTypeError(f"{text!r} is no day like 2026-11-25 and no moment like 2026-11-25/06.00")
     return moment if day is None else day * moments.DAY + minute
 
 
@@ -141,7 +141,8 @@ def list_line(one):
     """A row in a list; none of the long-term plan has a letter at its end."""
     origin, cycle = ("A", "") if one.run_cycle is None else ("G", one.run_cycle)
     times = f"{moments.moment_text(one.arrival)} {moments.moment_text(one.deadline)}"
-    return " ".join(filter(None, [f"{one.serial:09} {one.app:16} {origin} {cycle:8} {times}", one.status or one.reason]))
+    row = f"{one.serial:09} {one.app:16} {origin} {cycle:8} {times}"
+    return " ".join(filter(None, [row, one.status or one.reason]))
 
 
 def json_text(_, found):

@@ -99,7 +99,7 @@ class Filters(unittest.TestCase):
             wanted = [one for one in self.all if one[3] in ([what] if what else ["ltp", "cp", "history"])
                       and app in (None, one[0][1]) and first <= one[0][2] <= last
                       and (status is None or one[1] and one[1] in status)]
-            given = [*([what] if what else []), "--from", plain.moment_text(first), "--to", plain.moment_text(last, "/")]
+            given = ["--from", plain.moment_text(first), "--to", plain.moment_text(last, "/"), *([what] if what else [])]
             self.check(wanted, *given, *(["--app", app] if app else []), *(["--status", status] if status else []))
             found += bool(wanted)
         self.assertGreater(found, 20)
@@ -111,7 +111,8 @@ class Filters(unittest.TestCase):
             self.check(wanted, "--from", day, "--to", day)
 
     def test_statuses_by_letters_and_words(self):
-        for given, letters in [*TOLD.items(), ("E", "E"), ("w,s", "WS"), ("in-error,started", "ES"), ("WSECD", "WSECD")]:
+        others = [("E", "E"), ("w,s", "WS"), ("in-error,started", "ES"), ("WSECD", "WSECD")]
+        for given, letters in [*TOLD.items(), *others]:
             wanted = [one for one in self.all if one[3] == "cp" and one[1] in letters]
             self.check(wanted, "cp", "--status", given)
 
@@ -142,7 +143,7 @@ class Filters(unittest.TestCase):
             (["history", "--late"], "of the current plan alone"),
             (["--now", centre.NOW], "it goes with --late"),
             (["--from", "2026-11-26", "--to", "2026-11-25"], "--to is before --from"),
-            (["--from", "2026-11-31"], "is neither a day like"),
+            (["--from", "2026-11-31"], "is no day like"),
             (["--status", "X"], "'x' is no status"),
             (["--status", ""], "'' is no status"),
             (["links"], "invalid choice"),
