@@ -99,7 +99,7 @@ class Filters(unittest.TestCase):
             wanted = [one for one in self.all if one[3] in ([what] if what else ["ltp", "cp", "history"])
                       and app in (None, one[0][1]) and first <= one[0][2] <= last
                       and (status is None or one[1] and one[1] in status)]
-            given = ["--from", plain.moment_text(first), "--to", plain.moment_text(last, "/"), *([what] if what else [])]
+            given = ["--from", plain.moment_text(first), "--to", plain.moment_text(last, "/"), *[what] * bool(what)]
             self.check(wanted, *given, *(["--app", app] if app else []), *(["--status", status] if status else []))
             found += bool(wanted)
         self.assertGreater(found, 20)
