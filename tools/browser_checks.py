@@ -91,7 +91,7 @@ def card(browser, page, ask):
     roots = {one for one, in ask_plan(ROOTS, serial)}
     ask(browser.js("serial[rootOf.get(view.pick)]") in roots, "the root of a row", roots)
     text = browser.js("document.querySelector('#card').innerText")
-    ask("root: POSTLOANS (in error" in text, "the card names the root", text)
+    ask("root: POSTLOANS Tue 23.00 (in error" in text, "the card names the root", text)
     ask(f"and {len(wanted) - 1} more" in text, "the card counts what a row waits for", text)
     ask(browser.js("document.querySelectorAll('.pairs .own').length") == len(wanted), "arrows of the chosen row")
     browser.js("choose(-1)")

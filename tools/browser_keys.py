@@ -70,7 +70,7 @@ def search(browser, page, ask):
     browser.js("document.querySelector('#find').focus()")
     browser.key("Escape")
     time.sleep(0.4)
-    ask(browser.js("[view.find, view.kind]") == ["", "open"], "Escape empties the search", browser.js("view.kind"))
+    ask(browser.js("[view.find, view.kind]") == [[], "open"], "Escape empties the search", browser.js("view.kind"))
 
 
 def tab(browser, page, ask):

@@ -19,7 +19,10 @@ function allArrows() {
   for (const successor of laid.lineOf.keys()) {
     for (const row of before.get(successor) || []) if (laid.lineOf.has(row)) pairs.push([row, successor]);
   }
-  return pairs.length <= MOST_ARROWS ? pairs.map(([row, successor]) => arrow(row, successor)) : [];
+  if (pairs.length <= MOST_ARROWS) return pairs.map(([row, successor]) => arrow(row, successor));
+  $('#lines .pane').append(h('p', { class: 'empty' }, pairs.length + ' arrows are too many to be drawn: those of a ' +
+    'row that is looked at are.'));
+  return [];
 }
 
 /** An elbow from the left edge of one box to that of another; lines are counted in heights of a row. */
@@ -35,6 +38,7 @@ function arrow(row, successor, look) {
 
 /** Shows the arrows of a row, and marks the rows of its chain. */
 function showArrows(i) {
+  if (view.graph) return showNode(i);
   for (const button of laid.buttons.values()) button.classList.remove('on', 'up', 'down');
   laid.picked.replaceChildren();
   if (i < 0 || !laid.buttons.has(i)) return;
@@ -56,11 +60,11 @@ function showArrows(i) {
 /** The chosen row's chain stands out, and the other rows are dimmed. */
 function markChosen() {
   const isThere = view.pick >= 0 && laid.buttons.has(view.pick);
-  laid.box.classList.toggle('dim', isThere);
+  laid.box?.classList.toggle('dim', isThere);
   if (isThere) {
-    laid.box.querySelector('.row[tabindex="0"]')?.setAttribute('tabindex', '-1');
+    laid.box.querySelector('[tabindex="0"]')?.setAttribute('tabindex', '-1');
     laid.buttons.get(view.pick).setAttribute('tabindex', '0');
   }
-  markCurrent('.row[data-i]', view.pick);
+  markCurrent('#lines [data-i]', view.pick);
   showArrows(view.pick);
 }

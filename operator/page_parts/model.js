@@ -100,9 +100,11 @@ const KINDS = {
 };
 const OF_TILES = ['error', 'late', 'risk', 'hour', 'started', 'ready'];
 
-/** What is chosen: the day's window, its filter, what is searched, the row, how much is drawn. */
-const view = { from: 0, kind: 'open', find: '', kept: 'open', pick: -1, most: 400, month: null, apps: 120,
-  opened: new Set(), reveal: false, arrows: true };
-const matches = text => !view.find || view.find.split(/[\s,]+/).some(word => word && text.includes(word));
+/** What is chosen: the day's window, its filter, the words that are searched, the row, how much is drawn. */
+const view = { from: 0, kind: 'open', find: [], kept: 'open', pick: -1, most: 400, month: null, apps: 110,
+  opened: new Set(), reveal: false, arrows: true, graph: false };
+const isFiltered = () => view.find.length > 0;
+const matches = text => !isFiltered() || view.find.some(word => text.includes(word));
+const isWanted = i => matches(name(i));
 const nowWindow = () => Math.floor((D.now - DAY / 2) / 60) * 60;
 view.from = nowWindow();
