@@ -5,8 +5,9 @@ import plans
 import centre
 import many
 import moments
-from browser_checks import LATE, NOW, OPEN_PAIRS, ask_plan, row_of, texts
+from browser_checks import LATE, NOW, OPEN_PAIRS, SIZES, ask_plan, row_of, texts
 from browser_keys import focus
+from browser_plans import FAINT, written
 
 NODES = "[...drawn.nodes.keys()].map(i => serial[i])"
 PAIRS = "drawn.lines.map(line => [serial[line.row], serial[line.successor]])"
@@ -88,6 +89,20 @@ def graph_of_all(browser, page, ask):
     apart(browser, ask)
 
 
+def graph_widths(browser, page, ask):
+    """The graph at three widths, light and dark: nothing stands out, and all can be read."""
+    for width, height in SIZES:
+        for dark in (False, True):
+            look = f"the graph at {width}, {'dark' if dark else 'light'}"
+            browser.open(page, width, height, dark)
+            browser.js("view.kind = 'all'; showAsGraph(true)")
+            ask(browser.js("document.documentElement.scrollWidth") <= width, f"{look}: nothing stands out")
+            ask(not browser.js(FAINT), f"{look}: contrast", browser.js(FAINT)[:5])
+            wide = browser.js("[...document.querySelectorAll('.node')].filter(x => [...x.querySelectorAll('text')].some("
+                              "y => y.getBBox().x + y.getBBox().width > NODE.wide)).length")
+            ask(not wide, f"{look}: texts stand in their boxes", wide)
+
+
 def graph_keys(browser, page, ask):
     """The graph by keys: g, arrows along the pairs, Enter, Escape."""
     browser.open(page)
@@ -164,8 +179,6 @@ def told_apart(browser, page, ask):
 
 def large_graph(browser, folder, ask):
     """Of 200,000 rows a graph is drawn in part, and says so; so is what else is long."""
-    from browser_plans import written
-
     browser.open(written(folder, "large", many.current(), moments.moment_of(many.NOW)))
     began = browser.seconds()
     browser.js("view.graph = true; view.kind = 'all'; drawDay(); drawn.nodes.size")
@@ -176,5 +189,5 @@ def large_graph(browser, folder, ask):
     ask(browser.js("document.querySelectorAll('*').length") <= 10_000, "elements of a large graph")
 
 
-OF_GRAPH = [graph, graph_of_all, graph_keys, filtered, told_apart]
+OF_GRAPH = [graph, graph_of_all, graph_widths, graph_keys, filtered, told_apart]
 OF_LARGE = [large_graph]

@@ -1,5 +1,6 @@
 """What tools/page-in-browser asks of the keys: those of the day, the months and the search, and what Tab reaches."""
 
+import datetime
 import time
 
 from browser_checks import ARRIVALS, ask_plan, texts
@@ -67,7 +68,15 @@ def search(browser, page, ask):
     browser.key("Enter")
     title = browser.js("document.querySelector('#card h2').textContent")
     ask(title.startswith("PAYROLL") and focus(browser)[1] == "card", "Enter opens the application", title)
-    browser.js("document.querySelector('#find').focus()")
+    row = ask_plan("SELECT serial, app, ia FROM cp_row WHERE status = 'E' ORDER BY serial")[0]
+    at = datetime.datetime(1970, 1, 1) + datetime.timedelta(minutes=row[2])
+    for typed in (f"#{row[0]}", f"{row[0]:09}", f"{row[1]} {at:%Y-%m-%d %H.%M}", f"{row[1]} {at:%Y-%m-%dT%H:%M}"):
+        browser.js(f"choose(-1); document.querySelector('#find').value = '{typed}'; document.querySelector('#find').focus()")
+        browser.key("Enter")
+        found = browser.js("[serial[view.pick], document.querySelector('#find').value]")
+        ask(found == [row[0], ""] and focus(browser)[1] == "card", f"Enter opens {typed}", found)
+    browser.js("document.querySelector('#find').value = 'PAY'; document.querySelector('#find').focus(); find()")
+    time.sleep(0.4)
     browser.key("Escape")
     time.sleep(0.4)
     ask(browser.js("[view.find, view.kind]") == [[], "open"], "Escape empties the search", browser.js("view.kind"))

@@ -1,10 +1,12 @@
 // The arrows of the day, in one picture over its rows: all faintly, those of a row that is looked at strongly.
 const MOST_ARROWS = 400;
-const laid = { box: null, lineOf: new Map(), buttons: new Map(), picked: null };
+const laid = { box: null, lineOf: new Map(), buttons: new Map(), picked: null, note: null };
 
 /** Lays the picture over the rows, with the line of now. */
 function layArrows(box, drawn) {
-  Object.assign(laid, { box, lineOf: new Map(), buttons: new Map(), picked: s('g', { class: 'pairs' }) });
+  const note = h('p', { class: 'note-below quiet' });
+  Object.assign(laid, { box, lineOf: new Map(), buttons: new Map(), picked: s('g', { class: 'pairs' }), note });
+  $('#lines .pane').append(note);
   drawn.forEach((line, n) => { if (typeof line === 'number') laid.lineOf.set(line, n); });
   box.querySelectorAll('.row[data-i]').forEach(button => laid.buttons.set(+button.dataset.i, button));
   const isNow = D.now >= view.from && D.now < view.from + DAY, x = share(D.now) + '%';
@@ -20,8 +22,7 @@ function allArrows() {
     for (const row of before.get(successor) || []) if (laid.lineOf.has(row)) pairs.push([row, successor]);
   }
   if (pairs.length <= MOST_ARROWS) return pairs.map(([row, successor]) => arrow(row, successor));
-  $('#lines .pane').append(h('p', { class: 'empty' }, pairs.length + ' arrows are too many to be drawn: those of a ' +
-    'row that is looked at are.'));
+  laid.note.textContent = pairs.length + ' arrows are too many to be drawn: those of a row that is looked at are.';
   return [];
 }
 
@@ -50,11 +51,13 @@ function showArrows(i) {
   for (const successor of chain) {
     for (const row of before.get(successor) || []) {
       if (!chain.has(row) || !laid.lineOf.has(row) || !laid.lineOf.has(successor)) continue;
-      if (drawn.length < MOST_ARROWS) drawn.push([row, successor, row === i || successor === i ? 'own' : 'far']);
+      drawn.push([row, successor, row === i || successor === i ? 'own' : 'far']);
     }
   }
   drawn.sort((a, b) => (a[2] === 'own') - (b[2] === 'own'));
-  laid.picked.replaceChildren(...drawn.map(one => arrow(...one)));
+  laid.picked.replaceChildren(...drawn.slice(-MOST_ARROWS).map(one => arrow(...one)));
+  const text = 'Of its chain ' + MOST_ARROWS + ' of ' + drawn.length + ' arrows are drawn.';
+  if (drawn.length > MOST_ARROWS) laid.note.textContent = text;
 }
 
 /** The chosen row's chain stands out, and the other rows are dimmed. */

@@ -59,9 +59,28 @@ function tellFilter() {
 }
 const titleOfAll = document.title;
 
-/** Opens the application that the search names or begins. */
+const SERIAL = /^#?0*([1-9]\d{0,8})$/, KEY = /^(\S+)\s+(\d{4}-\d\d-\d\d)(?:[/T]|\s+)(\d\d)[.:](\d\d)$/;
+
+/** The row that a text names by its serial, or by application and arrival as they are printed; else none. */
+function typedRow(text) {
+  const number = text.match(SERIAL), key = text.match(KEY);
+  if (number && !D.apps.some(one => one[0] === text)) return rowOfSerial(+number[1]);
+  if (!key) return undefined;
+  const k = D.apps.findIndex(one => one[0] === key[1]);
+  const arrival = Date.parse(key[2] + 'T00:00Z') / 60000 + 60 * key[3] + +key[4];
+  return (perApp.get(k) || []).find(i => ia[i] === arrival);
+}
+
+/** Opens the row that the search names, or the application that it names or begins. */
 function openFound() {
-  const text = $('#find').value.trim().toUpperCase();
+  const text = $('#find').value.trim().toUpperCase(), row = typedRow(text);
+  if (row !== undefined) {
+    $('#find').value = '';
+    find();
+    choose(row);
+    $('#card').focus();
+    return;
+  }
   const of = test => text ? D.apps.findIndex(test) : -1;
   const found = [of(one => one[0] === text), of(one => one[0].startsWith(text)), of(one => one[0].includes(text))]
     .find(k => k >= 0);

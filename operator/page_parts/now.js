@@ -111,7 +111,8 @@ function drawTiles() {
   h('p', { class: 'legend' }, summary(n)));
 }
 
-const heldBy = new Map(D.holds.map(([i, number, , first]) => [i, { number, first }]));
+const held = new Map(D.holds.map(([i, number]) => [i, number]));
+const heldBy = i => { if (!held.has(i)) held.set(i, behind(i).length); return held.get(i); };
 const heldText = number => 'holds ' + (number > 5000 ? 'over 5000' : number);
 
 function holdLine([i, number, , first]) {
@@ -119,18 +120,21 @@ function holdLine([i, number, , first]) {
 }
 
 function mendLine(i) {
-  const held = heldBy.get(i);
-  return line(i, held ? heldText(held.number) : 'holds nothing', [late.has(i) ? lateness(i) : 'due ' + soon(due[i])]);
+  return line(i, heldBy(i) ? heldText(heldBy(i)) : 'holds nothing', [late.has(i) ? lateness(i) : 'due ' + soon(due[i])]);
 }
 
 /** What is in error, and what holds others up, each complete by itself. */
 function drawHolds(rows) {
-  const byHeld = (a, b) => (heldBy.get(b)?.number || 0) - (heldBy.get(a)?.number || 0) || due[a] - due[b];
+  const byHeld = (a, b) => heldBy(b) - heldBy(a) || due[a] - due[b];
   const errors = rows.filter(KINDS.error).sort(byHeld), holds = D.holds.filter(one => isWanted(one[0]));
   fill('#mend', errors.length ? list('In error, to be mended', errors, mendLine, '', 6) : []);
   const count = isFiltered() ? holds.length : D.holdCount;
   fill('#holds', list('What holds others up', holds, holdLine, none('Nothing waits for anything that has arrived.',
     'None of these holds another up.'), 6, count));
+  if (isFiltered() && D.holdCount > D.holds.length) {
+    $('#holds').append(h('p', { class: 'quiet' }, 'Of ' + D.holdCount + ' that hold others up the worst ' +
+      D.holds.length + ' were looked through.'));
+  }
 }
 
 const none = (text, ofFiltered) => isFiltered() ? ofFiltered : text;

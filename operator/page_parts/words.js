@@ -57,7 +57,7 @@ function waiters(i) {
   const rows = behind(i);
   if (!rows.length) return [];
   if (rows.length === 1) return ['; ', rows[0], ' waits for it'];
-  return ['; ' + (rows.length >= 2999 ? '3000 or more' : rows.length) + ' wait for it'];
+  return ['; ' + (rows.length >= MOST_WALKED - 1 ? MOST_WALKED + ' or more' : rows.length) + ' wait for it'];
 }
 
 /** Why a row stands where it stands, as parts. */
@@ -77,8 +77,8 @@ function waiting(i, waits) {
   if (waits.length > 1) parts.push(' and ' + (waits.length - 1) + ' more');
   if (root === undefined) return parts;
   if (waits.length === 1 && root === waits[0]) return [...parts, ' (' + ofRoot(root) + ')'];
-  const others = otherRoots(i).length;
-  return [...parts, '; root: ', root, ' (' + ofRoot(root) + ')' + (others ? ' and ' + many(others, 'other') : '')];
+  const others = otherRoots(i), more = others < 0 ? ' and many others' : others ? ' and ' + many(others, 'other') : '';
+  return [...parts, '; root: ', root, ' (' + ofRoot(root) + ')' + more];
 }
 
 const asText = parts => parts.map(part => typeof part === 'number' ? rowName(part) : part).join('');
