@@ -1,5 +1,5 @@
 // A graph of what waits for what: which rows stand in it, its critical chain, and where each row stands.
-const NODE = { wide: 184, high: 40, gap: 12, between: 44, bend: 6, apart: 26 };
+const NODE = { wide: 180, high: 40, gap: 12, between: 44, bend: 6, apart: 26 };
 const MOST_NODES = 240, MOST_PAIRS = 1200, SWEEPS = 8;
 
 /** The pairs among rows, both ways: of each row those that it waits for, and those that wait for it. */

@@ -4,12 +4,16 @@ import base64
 import hashlib
 import re
 import unittest
+from unittest import mock
 
 import plans
 
 import centre
 import moments
+import page
+import page_html
 import page_model
+import page_queries
 import page_reader as read
 from page_queries import Row
 from page_reader import ask, parts_of
@@ -168,6 +172,37 @@ class Centre(unittest.TestCase):
             self.assertIn(f"{tag}-src 'sha256-{digest}'", policy)
         self.assertIn("default-src 'none'", policy)
 
+
+
+class Cut(unittest.TestCase):
+    """What is long is cut, and how much there is is told."""
+
+    @classmethod
+    def setUpClass(cls):
+        cls.path = plans.of_stream(centre.whole())
+
+    def data(self, module, most, number):
+        with mock.patch.object(module, most, number):
+            return page.data_of(self.path, NOW)
+
+    def test_jobs(self):
+        jobs = ask(self.path, "SELECT number, substr(CAST(body AS TEXT), 1, 9), reply FROM job ORDER BY number")
+        last = max(place for place, (_, text, reply) in enumerate(jobs) if text == "dp-extend" and reply[:2] == "ok")
+        data = self.data(page_queries, "MOST_JOBS", 5)
+        self.assertEqual([number for number, _, _ in data["jobs"]], [number for number, _, _ in jobs[-5:]])
+        self.assertEqual(data["jobCount"], len(jobs) - last)
+
+    def test_what_holds_others_up(self):
+        whole, cut = page.data_of(self.path, NOW), self.data(page_model, "MOST_HEADS", 2)
+        self.assertEqual((len(cut["holds"]), cut["holdCount"]), (2, len(whole["holds"])))
+
+    def test_without_a_script(self):
+        text = f"SELECT count(*) FROM cp_row WHERE status = 'E' OR status IN ('W', 'S') AND deadline < {NOW}"
+        count = ask(self.path, text)[0][0]
+        with mock.patch.object(page_html, "MOST_WITHOUT_SCRIPT", 3):
+            plain = page_html.without_script(page.data_of(self.path, NOW))
+        self.assertEqual(plain.count("<tr><td>"), 3)
+        self.assertIn(f"<p>These are 3 of {count}.</p>", plain)
 
 
 class Limits(unittest.TestCase):
