@@ -84,7 +84,7 @@ def run(given):
     with plan_file.opened(given.plan) as plan, sound_rows.asked_of(plan):
         found = [one for one in asked_for(plan, given) if is_wanted(one, given, now)]
         text = given.form(plan, found)
-        notes = late.notes_on(plan, now) if given.late else notes_on(plan, given.app)
+        notes = notes_on(plan, given, now)
     sys.stdout.write(text)
     for note in notes:
         words.tell(note)
@@ -107,9 +107,8 @@ def fault_of(given):
 def asked_for(plan, given):
     """The rows of the sets, of the application, of the days."""
     sets = [given.what] if given.what else ["cp"] if given.late else export.USUAL
-    return export.occurrences(plan.db, sets, given.app, *(
-        edge and edge // moments.DAY for edge in (given.first, given.last)
-    ))
+    days = [bound and bound // moments.DAY for bound in (given.first, given.last)]
+    return export.occurrences(plan.db, sets, given.app, *days)
 
 
 def is_wanted(one, given, now):
@@ -122,14 +121,20 @@ def is_wanted(one, given, now):
     )
 
 
-def notes_on(plan, app):
-    """What is to be said of a plan and an application of which there may be no rows."""
+def notes_on(plan, given, now):
+    """What is to be said of the moment, and of a plan and an application of which there can be no rows."""
+    notes = late.notes_on(plan, now) if given.late else []
     if not plan.is_created:
-        return [f"{plan.path}: there is no long-term plan yet, and so no rows"]
+        return notes or [f"{plan.path}: there is no long-term plan yet, and so no rows"]
+    if given.app is None or is_known(plan, given.app):
+        return notes
+    return [*notes, f"{plan.path}: there is no application {given.app} in it"]
+
+
+def is_known(plan, app):
+    """Whether an application is defined, or has a row."""
     defined = plan.db.execute("SELECT 1 FROM application WHERE name = ?", (app,)).fetchone()
-    if app is None or defined or waits.rows_where(plan, "app = :v0", app):
-        return []
-    return [f"{plan.path}: there is no application {app} in it"]
+    return defined is not None or bool(waits.rows_where(plan, "app = :v0", app))
 
 
 def list_text(_, found):

@@ -22,6 +22,8 @@ ROOTS = """WITH RECURSIVE way (s) AS (SELECT ? UNION SELECT predecessor FROM dep
 ARRIVALS = """SELECT app, count(*) FROM (SELECT app, ia FROM ltp_row UNION ALL SELECT app, ia FROM history_row
     UNION ALL SELECT app, ia FROM cp_row WHERE status <> 'D') WHERE ia / 1440 BETWEEN ? AND ? GROUP BY 1"""
 SHOWN_ROWS = "[...document.querySelectorAll('.row[data-i]')].map(x => +x.dataset.i)"
+# what is typed into the search is drawn a little later, by a clock that a busy machine holds up too
+SETTLED = "new Promise(done => setTimeout(done, 300))"
 
 
 def ask_plan(text, *given):

@@ -5,7 +5,7 @@ import plans
 import centre
 import many
 import moments
-from browser_checks import LATE, NOW, OPEN_PAIRS, SIZES, ask_plan, row_of, texts
+from browser_checks import LATE, NOW, OPEN_PAIRS, SETTLED, SIZES, ask_plan, row_of, texts
 from browser_keys import focus
 from browser_plans import FAINT, written
 
@@ -15,8 +15,6 @@ PLACES = "[...drawn.nodes].map(([i, item]) => [serial[i], item.x, item.y])"
 CRITICAL = ("[...document.querySelectorAll('.node.critical')].map(x => "
             "[+x.querySelector('.number').textContent, serial[+x.dataset.i]]).sort((a, b) => a[0] - b[0])")
 NARROWEST, GAP = 40, 10
-# the search is drawn a little after it is typed
-SETTLED = "new Promise(done => setTimeout(done, 300))"
 
 
 def open_pairs(first):
@@ -64,6 +62,8 @@ def graph(browser, page, ask):
     serial = browser.js("serial[view.pick]")
     ask({row for row, after in browser.js(PAIRS) if after == serial} >= {one for one, in ask_plan(OPEN_PAIRS, serial)},
         "the chain of one row as a graph")
+    counted = browser.js("document.querySelector('[data-key=\"kind chain\"]').textContent")
+    ask(counted == f"Its chain {len(browser.js(NODES))}", "the chain's count", counted)
     ask(not browser.complaints(), "the console beside the graph", browser.complaints())
 
 
@@ -184,7 +184,7 @@ def large_graph(browser, folder, ask):
     browser.js("view.graph = true; view.kind = 'all'; drawDay(); drawn.nodes.size")
     ask(browser.seconds() - began <= 3, "seconds until a large graph is drawn", browser.seconds() - began)
     said = browser.js("document.querySelector('#lines').innerText")
-    number, total = browser.js("[drawn.nodes.size, laidGraph(rowsOfDay().rows).count]")
+    number, total = browser.js("[drawn.nodes.size, laidGraph(withWaits(rowsOfDay().rows)).count]")
     ask(0 < number <= 240 < total and f"{number} of {total}" in said, "what of a large graph is drawn", said[:300])
     ask(browser.js("document.querySelectorAll('*').length") <= 10_000, "elements of a large graph")
 

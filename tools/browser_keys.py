@@ -1,9 +1,8 @@
 """What tools/page-in-browser asks of the keys: those of the day, the months and the search, and what Tab reaches."""
 
 import datetime
-import time
 
-from browser_checks import ARRIVALS, ask_plan, texts
+from browser_checks import ARRIVALS, SETTLED, ask_plan, texts
 
 INTERACTIVE = "a[href], button, input, select, summary, td[data-d]"
 
@@ -58,7 +57,7 @@ def search(browser, page, ask):
     browser.key("/")
     ask(focus(browser)[1] == "find", "/ leads to the search", focus(browser))
     browser.type("PAY")
-    time.sleep(0.4)
+    browser.js(SETTLED)
     lists = ".row .name", ".month tbody button", "#now .go .name"
     names = [name for where in lists for name in browser.js(texts(where))]
     ask(names and all("PAY" in name for name in names), "what the search shows", names)
@@ -76,9 +75,9 @@ def search(browser, page, ask):
         found = browser.js("[serial[view.pick], document.querySelector('#find').value]")
         ask(found == [row[0], ""] and focus(browser)[1] == "card", f"Enter opens {typed}", found)
     browser.js("document.querySelector('#find').value = 'PAY'; document.querySelector('#find').focus(); find()")
-    time.sleep(0.4)
+    browser.js(SETTLED)
     browser.key("Escape")
-    time.sleep(0.4)
+    browser.js(SETTLED)
     ask(browser.js("[view.find, view.kind]") == [[], "open"], "Escape empties the search", browser.js("view.kind"))
 
 

@@ -109,8 +109,8 @@ function choose(i, isQuiet) {
   if (i < 0 && view.kind === 'chain') view.kind = 'open';
   if (i >= 0 && view.kind !== 'chain' && !KINDS[view.kind](i)) view.kind = 'all';
   view.reveal = true;
-  const isDrawn = view.graph && laid.buttons.has(i), isOutside = ia[i] >= view.from + DAY || lastShown(i) <= view.from;
-  if (i >= 0 && isOutside && !isDrawn) view.from = dayOf(ia[i]) * DAY;
+  const isDrawn = view.graph && laid.buttons.has(i);
+  if (i >= 0 && isOutside(i) && !isDrawn) view.from = dayOf(ia[i]) * DAY;
   if (!isQuiet) address(i);
   document.body.classList.toggle('chosen', i >= 0);
   $('#card').classList.toggle('idle', i < 0);

@@ -8,14 +8,16 @@ const kindName = kind => KIND_NAMES[kind] || TILE_NAMES[kind];
 /** Where a moment stands in the window, in hundredths; a little outside where it is outside. */
 const share = minute => Math.min(Math.max(100 * (minute - view.from) / DAY, -1), 101);
 
+const isOutside = i => ia[i] >= view.from + DAY || lastShown(i) <= view.from;
+
 /** The rows that the filter takes, and how many each filter of the window would. */
 function rowsOfDay() {
-  const to = view.from + DAY, chain = view.pick >= 0 ? chainOf(view.pick) : new Set();
+  const chain = view.pick >= 0 ? chainOf(view.pick) : new Set();
   const counts = { all: 0, open: 0, trouble: 0, chain: 0 }, rows = [], ofTile = OF_TILES.includes(view.kind);
   for (let i = 0; i < rowCount; i++) {
     if (!isWanted(i)) continue;
     if (ofTile && KINDS[view.kind](i)) rows.push(i);
-    if (ia[i] >= to || lastShown(i) <= view.from) continue;
+    if (isOutside(i)) continue;
     for (const kind in counts) {
       if (kind === 'chain' ? !chain.has(i) : !KINDS[kind](i)) continue;
       counts[kind]++;
@@ -143,6 +145,7 @@ function nothing(counts) {
 
 function drawDay() {
   const { rows, counts } = rowsOfDay();
+  if (view.graph && view.pick >= 0) counts.chain = wholeChain().length;
   drawDayTools(counts);
   if (view.graph) drawGraph(rows); else drawRows(rows, counts);
   markChosen();

@@ -66,9 +66,12 @@ function cutText({ nodes, ways, count, pairCount }) {
   return told.length ? told.join('; ') + '. The search shows fewer, and “Its chain” those of one row.' : '';
 }
 
+/** The chain of the chosen row, in whichever hours. */
+const wholeChain = () => [...chainOf(view.pick)].filter(isWanted).sort((a, b) => a - b);
+
 /** Draws the rows of the day, or the whole chain of the chosen row, as a graph. */
 function drawGraph(rows) {
-  const graph = laidGraph(view.kind === 'chain' ? [...chainOf(view.pick)].filter(isWanted) : rows);
+  const graph = laidGraph(view.kind === 'chain' ? wholeChain() : withWaits(rows));
   const place = new Map(graph.chain.map((i, n) => [i, n + 1])), { wide, high, nodes, ways } = graph;
   Object.assign(drawn, { nodes, lines: [] });
   if (!nodes.size) {
@@ -83,10 +86,11 @@ function drawGraph(rows) {
   const label = 'What waits for what: ' + many(nodes.size, 'occurrence') + ', ' + many(ways.length, 'pair');
   const picture = s('svg', { class: 'graph', role: 'group', 'aria-label': label, width: wide + 12, height: high + 12,
     viewBox: '-6 -6 ' + (wide + 12) + ' ' + (high + 12) }, lines, boxes);
-  const cut = cutText(graph), lone = rows.filter(i => !nodes.has(i)).length;
+  const cut = cutText(graph), beyond = [...nodes.keys()].filter(isOutside).length;
+  const lone = rows.filter(i => !nodes.has(i)).length;
   fill('#lines', h('div', { class: 'pane' },
     h('p', { class: 'chain' }, asNodes(chainText(graph.chain) || [])),
-    h('p', { class: 'chain quiet' }, CHAIN_HINT, lone ? loneText(lone) : ''),
+    h('p', { class: 'chain quiet' }, CHAIN_HINT, beyond ? beyondText(beyond) : '', lone ? loneText(lone) : ''),
     cut && h('p', { class: 'chain is-late' }, cut), h('div', { class: 'room' }, picture)));
   narrow(picture);
   Object.assign(laid, { box: picture, buttons: new Map(boxes.map(box => [+box.dataset.i, box])) });
@@ -96,6 +100,7 @@ function drawGraph(rows) {
   room.scrollTo(x - (nodes.has(view.pick) ? room.clientWidth / 2 - NODE.wide / 2 : 20), y - room.clientHeight / 2);
 }
 
+const beyondText = beyond => ' ' + beyond + (beyond === 1 ? ' stands' : ' stand') + ' in other hours than these.';
 const loneText = lone => ' ' + lone + (lone === 1 ? ' that waits for none of these isn’t drawn.'
   : ' that wait for none of these aren’t drawn.');
 

@@ -180,7 +180,7 @@ function layPart(columns, top) {
 
 /** A graph laid out: its nodes, the ways of its pairs, its size, its critical chain, and how much is left out. */
 function laidGraph(rows) {
-  const whole = pairsAmong(withWaits(rows)), chain = criticalChain(whole);
+  const whole = pairsAmong(rows), chain = criticalChain(whole);
   const graph = pairsAmong(nearest(whole, chain)), nodes = new Map(), ways = [];
   let wide = 0, foot = 0, pairCount = 0;
   for (const part of partsOf(graph, chain)) {

@@ -134,6 +134,7 @@ class Filters(unittest.TestCase):
         status, lines, told = asked(self.path, "--app", "nosuch")
         self.assertEqual((status, lines), (1, ["ok rows 0"]))
         self.assertIn("there is no application NOSUCH in it", told)
+        self.assertIn("there is no application NOSUCH", asked(self.path, "--late", "--app", "nosuch")[2])
         self.assertEqual(asked(self.path, "--app", "MERGERTEST")[2], "")
 
     def test_words_that_do_not_go_together(self):
