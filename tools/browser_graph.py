@@ -98,8 +98,8 @@ def graph_widths(browser, page, ask):
             browser.js("view.kind = 'all'; showAsGraph(true)")
             ask(browser.js("document.documentElement.scrollWidth") <= width, f"{look}: nothing stands out")
             ask(not browser.js(FAINT), f"{look}: contrast", browser.js(FAINT)[:5])
-            wide = browser.js("[...document.querySelectorAll('.node')].filter(x => [...x.querySelectorAll('text')].some("
-                              "y => y.getBBox().x + y.getBBox().width > NODE.wide)).length")
+            wide = browser.js("[...document.querySelectorAll('.node text')].map(x => x.getBBox())"
+                              ".filter(box => box.x + box.width > NODE.wide).length")
             ask(not wide, f"{look}: texts stand in their boxes", wide)
 
 

@@ -70,7 +70,8 @@ def search(browser, page, ask):
     row = ask_plan("SELECT serial, app, ia FROM cp_row WHERE status = 'E' ORDER BY serial")[0]
     at = datetime.datetime(1970, 1, 1) + datetime.timedelta(minutes=row[2])
     for typed in (f"#{row[0]}", f"{row[0]:09}", f"{row[1]} {at:%Y-%m-%d %H.%M}", f"{row[1]} {at:%Y-%m-%dT%H:%M}"):
-        browser.js(f"choose(-1); document.querySelector('#find').value = '{typed}'; document.querySelector('#find').focus()")
+        browser.js(f"choose(-1); document.querySelector('#find').value = '{typed}'")
+        browser.js("document.querySelector('#find').focus()")
         browser.key("Enter")
         found = browser.js("[serial[view.pick], document.querySelector('#find').value]")
         ask(found == [row[0], ""] and focus(browser)[1] == "card", f"Enter opens {typed}", found)

@@ -9,7 +9,8 @@ function cycleLine([title, kind, period, rule, offsets, time, days, minute, inEf
     (outEffect === null ? '' : ', until before ' + dayName(outEffect * DAY));
   const which = (kind === 'X' ? ' takes away ' : ' ') + period + ' ' + numbers;
   const text = which + ' at ' + clock(time) + deadline + effect;
-  return h('p', { class: 'cycle' }, h('b', {}, title), text, h('span', { class: 'quiet' }, '; ' + (RULES[rule] || rule)));
+  const how = h('span', { class: 'quiet' }, '; ' + (RULES[rule] || rule));
+  return h('p', { class: 'cycle' }, h('b', {}, title), text, how);
 }
 
 /** An application in a list: a button where it is defined or has rows. */

@@ -120,7 +120,8 @@ function holdLine([i, number, , first]) {
 }
 
 function mendLine(i) {
-  return line(i, heldBy(i) ? heldText(heldBy(i)) : 'holds nothing', [late.has(i) ? lateness(i) : 'due ' + soon(due[i])]);
+  const time = late.has(i) ? lateness(i) : 'due ' + soon(due[i]);
+  return line(i, heldBy(i) ? heldText(heldBy(i)) : 'holds nothing', [time]);
 }
 
 /** What is in error, and what holds others up, each complete by itself. */
