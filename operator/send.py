@@ -15,6 +15,7 @@ import time
 
 import explain
 import locks
+import moments
 import next_job
 import output
 import plan_file
@@ -104,7 +105,7 @@ def check_file(path):
 
 def line_of(given):
     """The line of a statement in words, and whether it lacks its job number. Raises Refused."""
-    spelled = in_full(given)
+    spelled = in_full(list(map(as_word, given)))
     found, wrong = statement_words.read(spelled)
     if found is None:
         found, _ = statement_words.read([*spelled, "--job", "1"])
@@ -112,6 +113,12 @@ def line_of(given):
             raise Refused(wrong)
         return " ".join(spelled), True
     return " ".join(spelled), False
+
+
+def as_word(text):
+    """A moment as statements take it, also where it is typed as lists print it; another word as it is."""
+    moment = moments.typed_moment(text)
+    return text if moment is None else moments.moment_word(moment)
 
 
 def in_full(given):
