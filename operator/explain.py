@@ -1,11 +1,13 @@
 """./plan explain: each refusal in the output of a job stream, with its line, its statement, and what it means."""
 
+import contextlib
 import re
 import textwrap
 
 import known
 import plan_file
 import refusals
+import sound_rows
 import stream
 import words
 
@@ -39,17 +41,35 @@ class Unlike(Exception):
 
 def add_words(parser):
     parser.description = (
-        "Lays the lines that a job stream was answered beside its statements, and explains each refusal. The exit "
-        "status is 0 where all statements were accepted, and 1 where some were refused, or the two don't fit."
+        "Lays the lines that a job stream was answered beside its statements, and explains each refusal. With --plan "
+        "it knows what stands in the plan too: how far it reaches, which status an occurrence has. The exit status is "
+        "0 where all statements were accepted, and 1 where some were refused, or the two don't fit."
     )
     parser.add_argument("stream", metavar="STREAM", help="the file of the job stream")
     parser.add_argument("output", metavar="OUTPUT", help="the file of what opcplan answered to it")
+    add_known_plan(parser)
+
+
+def add_known_plan(parser):
+    """The option that names the plan which a stream goes on with, as `words.plan`."""
+    parser.add_argument("--plan", metavar="PLAN.db", help="the plan that the stream is run over")
+
+
+@contextlib.contextmanager
+def known_at_first(path):
+    """What is known before a stream, where a plan is named by that plan."""
+    if path is None:
+        yield known.Known()
+        return
+    with plan_file.opened(path) as plan, sound_rows.asked_of(plan):
+        yield known.of_plan(plan)
 
 
 def run(given):
     text, output = bytes_of(given.stream), bytes_of(given.output)
     try:
-        lines, refused, answered = explained(list(stream.items(text)), answers(output))
+        with known_at_first(given.plan) as now:
+            lines, refused, answered = explained(list(stream.items(text)), answers(output), now)
     except Unlike as why:
         words.tell(f"{given.output} is no output of {given.stream}: {why}")
         return 1
@@ -81,9 +101,10 @@ def answers(output):
     return found
 
 
-def explained(items, replies):
-    """The lines that explain, how many were refused, and how many statements were answered."""
-    lines, now, refused = [], known.Known(), 0
+def explained(items, replies, now=None):
+    """The lines that explain, how many were refused, and how many statements were answered; `now` is what is known
+    before the first."""
+    lines, now, refused = [], now or known.Known(), 0
     fault = replies.pop()[1] if replies and replies[-1][1].startswith("fault") else None
     if len(replies) > len(items):
         raise Unlike(f"it has {len(replies)} answers, and the stream {len(items)} statements")
@@ -117,14 +138,27 @@ def check_fits(item, reply):
 
 def refusal_lines(item, reply, now):
     """The lines on one refusal."""
-    _, number, *detail = reply.split()
-    if now.is_repeated(item) and number not in ("10", "11", "12"):
-        first, _ = now.jobs[item.statement.job]
-        told = [f"job {item.statement.job} was asked at line {first}, and is answered as then"]
-    else:
-        told = refusals.sentences(item, int(number), detail[0] if detail else "", now)
     lines = [f"line {item.line}: {item.shown()}", f"    {reply}"]
-    for sentence in told:
-        wrapped = textwrap.wrap(sentence, WIDTH - 6, break_on_hyphens=False)
+    for sentence in refusal_sentences(item, reply, now):
+        wrapped = textwrap.wrap(visible(sentence), WIDTH - 6, break_on_hyphens=False)
         lines += [" " * (4 if at == 0 else 6) + line for at, line in enumerate(wrapped)]
     return [*lines, ""]
+
+
+def refusal_sentences(item, reply, now):
+    """What one refusal says. A job that a plan keeps was refused then, and what the plan tells is how it is now."""
+    _, number, *detail = reply.split()
+    is_kept = now.is_repeated(item) and number not in ("10", "11", "12")
+    if is_kept and item.statement.job in now.jobs:
+        first, _ = now.jobs[item.statement.job]
+        return [f"job {item.statement.job} was asked at line {first}, and is answered as then"]
+    told = refusals.sentences(item, int(number), detail[0] if detail else "", now)
+    if is_kept:
+        told.append(f"(the plan keeps job {item.statement.job} with this answer, so another try takes a new number; "
+                    "what is said of the plan is how it is now)")
+    return told
+
+
+def visible(text):
+    """A text without what a terminal would obey."""
+    return "".join(one if one.isprintable() else one.encode("unicode_escape").decode("ascii") for one in text)

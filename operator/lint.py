@@ -2,6 +2,8 @@
 
 import textwrap
 
+import blocks
+import changes
 import explain
 import known
 import lint_checks
@@ -16,50 +18,113 @@ WIDTH = 100
 def add_words(parser):
     parser.description = (
         "Reads a job stream and tells, with the line of its record, what opcplan takes without a word and is likely a "
-        "slip: " + "; ".join(lint_checks.KINDS.values()) + ". It knows what the stream says alone, not what a file "
-        "already holds; what is refused `./plan explain` tells. The exit status is 1 where it finds something."
+        "slip: " + "; ".join(lint_checks.KINDS.values()) + ". With --plan it knows what the plan defines too, and "
+        "tells also what each block drops or changes of it, and " + "; ".join(lint_checks.KINDS_BY_PLAN.values()) + ". What "
+        "is refused `./plan check` and `./plan explain` tell. The exit status is 1 where it finds something."
     )
     parser.add_argument("stream", metavar="STREAM", help="the file of the job stream")
+    explain.add_known_plan(parser)
 
 
 def run(given):
-    found = findings(explain.bytes_of(given.stream))
-    for finding in found:
-        wrapped = textwrap.wrap(f"line {finding.line}: {finding.text}", WIDTH, break_on_hyphens=False)
-        print("\n    ".join(wrapped))
+    text = explain.bytes_of(given.stream)
+    with explain.known_at_first(given.plan) as now:
+        found = findings(list(stream.items(text)), now)
+    print("".join(f"{line}\n" for finding in found for line in finding_lines(finding)), end="")
     if not found:
         words.tell(f"{given.stream}: nothing that is likely a slip")
     return 1 if found else 0
 
 
-def findings(text):
-    """All findings of a stream, by line: they are looked for at each planning statement, and at the end."""
-    now, found, is_fresh = known.Known(), {}, False
+def finding_lines(finding):
+    """A finding as it is printed."""
+    text = explain.visible(f"line {finding.line}: {finding.text}")
+    first, *more = textwrap.wrap(text, WIDTH, break_on_hyphens=False)
+    return [first, *(f"    {line}" for line in more)]
 
-    def look():
-        for finding in lint_checks.all_of(now):
-            found.setdefault((finding.kind, finding.about, finding.line), finding)
 
-    for item in stream.items(text):
-        if item.statement is None or item.has_data and not is_whole(item):
-            continue
-        if item.statement.name in ("define", "undefine") and not now.is_repeated(item):
-            is_fresh = True
-        if not is_late_creation(now, item):
-            now.take(item)
-        if item.statement.name in PLANNING and is_fresh:
-            look()
-            is_fresh = False
-    if is_fresh:
-        look()
-    return sorted(found.values(), key=lambda finding: (finding.line, finding.kind, finding.about))
+def findings(items, now, replies=None):
+    """All findings of a stream, by line, from what is known before it on: what each statement drops, and what is to be
+    looked for at each planning statement and at the end. `replies` are rows and reply of each item, where it was
+    answered; else what can't be refused for its own sake is taken as accepted. What was found in the plan before, and
+    stands there as it was, is not told."""
+    walk = Walk(now)
+    for place, item in enumerate(items):
+        if replies is None:
+            walk.take(item, reply_of(now, item))
+        elif place < len(replies):
+            rows, reply = replies[place]
+            walk.take(item, reply, rows)
+    walk.look()
+    return sorted(walk.found.values(), key=lambda finding: (finding.line, finding.kind, finding.about))
+
+
+class Walk:
+    """A way through a stream, with what was found on it."""
+
+    def __init__(self, now):
+        self.now = now
+        self.found = {}
+        self.changed = None  # the line of the last statement that changed a definition since findings were looked for
+        self.before = {(one.kind, one.about) for one in lint_checks.all_of(now)} if now.plan else set()
+
+    def take(self, item, reply, rows=()):
+        """Takes an item and what it was answered."""
+        if reply.startswith("ok") and item.statement and not self.now.is_repeated(item):
+            if item.statement.name in ("define", "undefine"):
+                self.changed = item.line
+                for finding in losses(self.now, item):
+                    self.found[finding.kind, finding.about, finding.line] = finding
+            self.now.take(item, reply, rows)
+            if item.statement.name in PLANNING:
+                self.look()
+        else:
+            self.now.take(item, reply, rows)
+
+    def look(self):
+        """Looks for findings, if a definition has changed since that was done last."""
+        if self.changed is None:
+            return
+        for one in lint_checks.all_of(self.now):
+            if one.line is None and (one.kind, one.about) in self.before:
+                continue
+            one = lint_checks.Finding(one.kind, one.about, one.line or self.changed, one.text)
+            self.found.setdefault((one.kind, one.about, one.line), one)
+        self.changed = None
+
+
+def losses(now, item):
+    """What a `define` drops or changes of what is defined before it, as findings."""
+    if item.statement.name == "undefine":
+        return
+    block = blocks.read(item.statement.alone, item.data)
+    if block.kind == "options":
+        given = known.definitions.Definitions(
+            default_calendar=block.defined["default_calendar"], max_hours=block.defined["max_extension_hours"]
+        )
+        told = changes.of_options(now.defined, given) if now.is_whole else ()
+    else:
+        held = getattr(now.defined, known.HELD[block.kind])
+        told = (change for name, new in block.defined.items() if name in held
+                for change in changes.of_name(block.kind, name, held[name], new))
+    for number, change in enumerate(told):
+        line = block.lines.get(change.about)
+        line = item.line if line is None else item.data_line + line
+        if change.is_loss:
+            yield lint_checks.Finding("change", (item.line, number), line, change.text)
+
+
+def reply_of(now, item):
+    """How the reply begins that an item will have, where the item shows that by itself, and what is known of bounds."""
+    if item.statement is None:
+        return "refused 10"
+    if item.has_data and not is_whole(item):
+        return "refused 11"
+    return "refused 21" if item.statement.name == "ltp-create" and now.bounds is not None else "ok"
 
 
 def is_whole(item):
     """Whether the data of a `define` can be read as a block."""
-    return item.data is not None and len(item.data) <= stream.MOST_OF_BLOCK
-
-
-def is_late_creation(now, item):
-    """Whether a statement creates a plan where there is one, which is refused."""
-    return item.statement.name == "ltp-create" and now.bounds is not None
+    if item.data is None or len(item.data) > stream.MOST_OF_BLOCK:
+        return False
+    return blocks.read(item.statement.alone, item.data).fault is None

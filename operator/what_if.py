@@ -8,6 +8,7 @@ import subprocess
 import sys
 import tempfile
 
+import changes
 import definitions
 import explain
 import moments
@@ -95,27 +96,32 @@ def reply_lines(text, output):
 # What is different.
 
 
-def difference(before, after):
-    """Definitions, bounds and occurrences that differ between two plans, in lines."""
+def difference(before, after, most=None):
+    """Definitions, bounds and occurrences that differ between two plans, in lines; of the occurrences so many at
+    most."""
     lines = definition_lines(definitions.of_plan(before), definitions.of_plan(after))
     lines += bound_lines(before.meta, after.meta)
     rows_before, rows_after = ({row.serial: row for row in waits.rows_where(plan, "1")} for plan in (before, after))
-    lines += occurrence_lines(rows_before, rows_after)
+    lines += occurrence_lines(rows_before, rows_after, most)
     return lines or ["", "Nothing would be different but the jobs that are kept."]
 
 
 def definition_lines(before, after):
-    """The names whose definitions differ, by kind, and the options."""
+    """The names whose definitions differ, by kind, what was changed of each, and the options."""
     lines = []
     for kind in KINDS:
         held, now = getattr(before, kind), getattr(after, kind)
+        changed = sorted(name for name in held.keys() & now.keys() if held[name] != now[name])
         for said, names in (
             ("new", now.keys() - held.keys()),
-            ("changed", {name for name in held.keys() & now.keys() if held[name] != now[name]}),
+            ("changed", changed),
             ("gone", held.keys() - now.keys()),
         ):
             if names:
                 lines.append(f"  {kind.replace('_', ' ')} {said}: {', '.join(sorted(names))}")
+            for name in changed if said == "changed" else ():
+                told = changes.of_name(kind.replace("_", "-"), name, held[name], now[name])
+                lines += [f"    {change.text}" for change in told]
     if before.default_calendar != after.default_calendar:
         lines.append(f"  the default calendar: {before.default_calendar}, then {after.default_calendar}")
     if before.max_hours != after.max_hours:
@@ -140,8 +146,9 @@ def bound_lines(before, after):
     return ["", "Plans:", *lines] if lines else []
 
 
-def occurrence_lines(before, after):
-    """How many occurrences come to stand elsewhere, from where to where, and then each of them."""
+def occurrence_lines(before, after, most=None):
+    """How many occurrences come to stand elsewhere, from where to where, and then each of them, or the first of them
+    and how many more."""
     changed = [row for serial, row in after.items() if is_other(before.get(serial), row)]
     changed.sort(key=lambda row: (row.ia, row.app, row.serial))
     if not changed:
@@ -152,12 +159,14 @@ def occurrence_lines(before, after):
     for (old, new), count in sorted(counts.items()):
         lines.append(f"  {count:{wide}}  {f'{old}, due or named otherwise' if old == new else f'{old} -> {new}'}")
     table = [("serial", "application", "arrives", "before", "then", "due")]
-    table += [occurrence_cells(before.get(row.serial), row) for row in changed]
+    table += [occurrence_cells(before.get(row.serial), row) for row in changed[:most]]
     widths = [max(map(len, column)) for column in zip(*table)]
     for serial, *cells in table:
         padded = "  ".join(f"{cell:{width}}" for cell, width in zip(cells, widths[1:]))
         lines.append(f"  {serial:>{widths[0]}}  {padded}".rstrip())
-    return lines[: -len(table)] + [""] + lines[-len(table) :]
+    more = len(changed) - len(table) + 1
+    lines.insert(-len(table), "")
+    return lines + ([f"  and {more} more, which `./plan what-if` shows"] if more else [])
 
 
 def is_other(old, new):

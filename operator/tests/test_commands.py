@@ -18,6 +18,8 @@ READERS = {
     "late": ["PLAN", "--now", "2024-01-02/12.00"],
     "next-job": ["PLAN"],
     "what-if": ["PLAN", "STREAM"],
+    "check": ["PLAN", "STREAM"],
+    "run": ["PLAN", "STREAM"],
     "export": ["PLAN", "--csv"],
     "dump": ["PLAN"],
 }

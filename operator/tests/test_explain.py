@@ -199,12 +199,14 @@ class Worked(unittest.TestCase):
             said = f"long-term plan: {plain.day_text(first)} to {plain.day_text(last)}; end of the current plan: "
             self.assertIn(said + plain.moment_text(end), text)
 
-    def check_25(self, planner, _word, _values, _block, detail, text):
-        ring = text.partition("stands: ")[2].split(" waits for ")
-        if len(ring) > 1:
-            self.assertEqual((ring[0], ring[-1]), (detail[0], detail[0]))
-            for app, predecessor in zip(ring, ring[1:]):
-                self.assertIn(predecessor, planner.defined["predecessors"][app])
+    def check_25(self, planner, _word, values, _block, detail, text):
+        ring, lists = text.partition("stands: ")[2].split(" waits for "), planner.defined["predecessors"]
+        if "app" in values:  # a modification of one puts its list alone into force
+            lists = {**planner.in_force, values["app"]: lists.get(values["app"], {})}
+        self.assertGreater(len(ring), 2)
+        self.assertEqual((ring[0], ring[-1]), (detail[0], detail[0]))
+        for app, predecessor in zip(ring, ring[1:]):
+            self.assertIn(predecessor, lists[app])
 
     def check_26(self, planner, _word, values, _block, _detail, text):
         known = values["app"] in planner.defined["applications"]
