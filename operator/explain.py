@@ -154,8 +154,8 @@ def refusal_sentences(item, reply, now):
         return [f"job {item.statement.job} was asked at line {first}, and is answered as then"]
     told = refusals.sentences(item, int(number), detail[0] if detail else "", now)
     if is_kept:
-        told.append(f"(the plan keeps job {item.statement.job} with this answer, so another try takes a new number; "
-                    "what is said of the plan is how it is now)")
+        told.append(f"(job {item.statement.job} is kept with this answer, and another try takes a new number; the plan "
+                    "is told as it is now)")
     return told
 
 

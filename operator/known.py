@@ -27,6 +27,7 @@ class Known:
         self.defined = definitions.Definitions()
         self.in_force = {}  # the lists of predecessors that the plans go by
         self.lines = {}  # by kind and name: by the names of a record its line in the stream
+        self.gone = {}  # by kind and name: the line on which it was taken away, unless it was defined again
         self.jobs = {}  # by number: line and text of the statement of this stream that was asked first
         self.bounds = None  # first day, last day, plan end
         self.created = None  # the line of the `ltp-create` that made the plan
@@ -108,6 +109,7 @@ class Known:
         elif statement.name == "undefine":
             getattr(self.defined, HELD[statement.alone]).pop(values["name"], None)
             self.lines.pop((statement.alone, values["name"]), None)
+            self.gone[statement.alone, values["name"]] = item.line
         elif statement.name == "ltp-create":
             self.bounds, self.created = [values["from"], values["to"], values["from"] * moments.DAY], item.line
             self.sizes = [0, 0]
@@ -179,6 +181,8 @@ class Known:
         for key, line in block.lines.items():
             fresh[block.kind, key[0]][key] = item.data_line + line
         self.lines.update(fresh)
+        for key in fresh:
+            self.gone.pop(key, None)
 
     def line_of(self, kind, *names):
         """The line of a record that stands, or None."""

@@ -142,7 +142,8 @@ def default_calendar(now):
     if name in now.defined.calendars or not users:
         return []
     given = now.lines.get(("options", None), {}).get(())
-    line = given or min(filter(None, (now.line_of("applications", app) for app in users)), default=None)
+    line = now.gone.get(("calendars", name)) or given
+    line = line or min(filter(None, (now.line_of("applications", app) for app in users)), default=None)
     so = "so" if now.is_whole else "where the plan has none either,"
     text = f"the default calendar {name} isn't defined{elsewhere(now)}, {so} each day is a work day for {listed(users)}"
     return [Finding("calendar", (name,), line, text)]
@@ -155,6 +156,7 @@ def predecessors(now):
         for other, within in listed.items():
             line = now.line_of("predecessors", app, other)
             if other not in now.defined.applications:
+                line = line or now.gone.get(("applications", other))
                 text = f"{app} waits for {other}, which isn't defined{elsewhere(now)}"
                 text += ", and so for nothing" if now.is_whole else ": where the plan has none either, for nothing"
                 found.append(Finding("unknown", (app, other), line, text))
@@ -186,21 +188,23 @@ def lacking(now):
         if defined.lacks_calendar(app):
             text = f"{app} names the calendar {application.calendar}, which isn't defined"
             text += f": planning is refused 22 {app}" if application.is_active else ""
-            found.append(Finding("lacking", (app, application.calendar), now.line_of("applications", app), text))
+            line = now.line_of("applications", app) or now.gone.get(("calendars", application.calendar))
+            found.append(Finding("lacking", (app, application.calendar), line, text))
     for app, cycles in sorted(defined.run_cycles.items()):
         is_active = app in defined.applications and defined.applications[app].is_active
         if app not in defined.applications:
-            lines = [now.line_of("run-cycles", app, name) for name in cycles]
+            lines = [now.line_of("run-cycles", app, name) for name in cycles] + [now.gone.get(("applications", app))]
             text = f"{app} has run cycles, and isn't defined as an application, so it isn't planned"
             found.append(Finding("lacking", (app,), min(filter(None, lines), default=None), text))
         for name, cycle in sorted(cycles.items()):
             if cycle.period not in defined.periods:
                 text = f"run cycle {name} of {app} names the period {cycle.period}, which isn't defined"
                 text += f": planning is refused 23 {app}" if is_active else ""
-                found.append(Finding("lacking", (app, name), now.line_of("run-cycles", app, name), text))
+                line = now.line_of("run-cycles", app, name) or now.gone.get(("periods", cycle.period))
+                found.append(Finding("lacking", (app, name), line, text))
     for app, listed in sorted(defined.predecessors.items()):
         if app not in defined.applications:
-            lines = [now.line_of("predecessors", app, other) for other in listed]
+            lines = [now.line_of("predecessors", app, other) for other in listed] + [now.gone.get(("applications", app))]
             text = f"{app} has a list of predecessors, and isn't defined as an application"
             found.append(Finding("lacking", (app, "list"), min(filter(None, lines), default=None), text))
     return found

@@ -117,15 +117,17 @@ def span_of_days(values, known):
     if last > definitions.LAST_PLANNING_DAY:
         most = day_text(definitions.LAST_PLANNING_DAY)
         return f"the last day, {day_text(last)}, is after {most}, the last that is planned"
-    return ""
+    return f"from {day_text(first)} to {day_text(last)} are more than {MOST_DAYS:,} days"
 
 
 def span_of_extension(values, known):
     """What is wrong with the day to which `ltp-extend` goes."""
     to = values["to"]
-    if known.bounds and to <= known.bounds[1]:
+    if not known.bounds:
+        return ""
+    if to <= known.bounds[1]:
         return f"the plan goes to {day_text(known.bounds[1])}, and {day_text(to)} isn't later"
-    return span_of_days({"from": to, "to": to}, known)
+    return span_of_days({"from": known.bounds[2] // DAY, "to": to}, known)
 
 
 def span_of_arrival(values, known):
@@ -262,7 +264,7 @@ def plan_end_wrong(item, detail, known):
         elif to > (last + 1) * DAY:
             told = f"{new} is past the end of the long-term plan, {day_text(last + 1)} 00.00"
         elif to > end + most * 60:
-            told = f"{new} is {hours}, {moment_text(end)}"
+            told = f"{new} is more than {most} hours (option max_extension_hours) after the old one, {moment_text(end)}"
     elif "days" in values:
         told += ", or the days give no new end"
     return [told, *ways_out(known, "dp-extend", values), *bounds_text(known)]

@@ -34,17 +34,31 @@ def run(given):
     ask_file(given.plan, given.new)
     before = plan_file.stamps(path)
     with trial.tried(None if given.new else given.plan, text, given.program) as tried:
-        show(tried)
+        try:
+            show(tried)
+        except OSError as error:
+            shut(sys.stdout)
+            return nothing_done(f"what would change can't be shown ({error.strerror})")
         if tried.fault:
             return nothing_done("the trial ended in a fault")
         if not given.yes and not is_wanted(tried):
             return REFUSED_HERE
         if plan_file.stamps(path) != before:
             return nothing_done(f"{given.plan} was written to meanwhile; ask again")
-        sys.stdout.flush()
         ran = trial.answered(tried.program, path, text, stderr=None)
-        show_answers(tried, text, ran.stdout)
-    return ran.returncode if ran.returncode >= 0 else 128 - ran.returncode
+        status = ran.returncode if ran.returncode >= 0 else 128 - ran.returncode
+        try:
+            show_answers(tried, text, ran.stdout)
+            sys.stdout.flush()
+        except OSError as error:
+            shut(sys.stdout)
+            words.tell(f"it was run, with status {status}; its answers can't be shown ({error.strerror})")
+    return status
+
+
+def shut(file):
+    """Lets go of what can't be written, so that it isn't tried again."""
+    os.dup2(os.open(os.devnull, os.O_WRONLY), file.fileno())
 
 
 def ask_file(path, is_new):
@@ -74,7 +88,7 @@ def is_wanted(tried):
     print("Run it? [y/N] ", end="", file=sys.stderr, flush=True)
     if sys.stdin.readline().strip().lower() in ("y", "yes"):
         return True
-    nothing_done("as you wish")
+    words.tell("nothing was done")
     return False
 
 

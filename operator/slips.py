@@ -74,7 +74,7 @@ def of_bytes(text):
     if place is None:
         return ""
     try:
-        character, at = text.decode("utf-8")[len(text[:place])], f"character {place + 1}"
+        character, at = text.decode("utf-8")[place], f"character {place + 1}"
     except UnicodeDecodeError:
         latin = of_character(bytes([text[place]]).decode("latin-1"))
         return f"byte {place + 1} is {text[place]:02X} hexadecimal, {latin} in Latin-1: ASCII alone may stand there"

@@ -11,6 +11,7 @@ import tempfile
 import changes
 import definitions
 import explain
+import known
 import moments
 import plan_file
 import sound_rows
@@ -57,15 +58,14 @@ def run(given):
                 plan.db.backup(other)
             ran = subprocess.run([os.path.abspath(program), "--db", copy], input=text, capture_output=True, check=False)
             with plan_file.opened(copy) as after, sound_rows.asked_of(plan):
-                changes = difference(plan, after)
+                lines = reply_lines(text, ran.stdout, plan) + difference(plan, after)
     except OSError as error:
         words.tell(f"{error.filename}: {error.strerror}")
         return 1
-    try:
-        print("\n".join([*reply_lines(text, ran.stdout), *changes]))
     except explain.Unlike as why:
         words.tell(f"{program} doesn't answer as opcplan does: {why}")
         return 1
+    print("\n".join(lines))
     sys.stderr.write(ran.stderr.decode(errors="replace"))
     if ran.returncode >= FAULTED:
         words.tell(f"the planner ended with status {ran.returncode}; what is shown is what it did before")
@@ -87,9 +87,10 @@ def text_of(name):
         return file.read()
 
 
-def reply_lines(text, output):
+def reply_lines(text, output, plan):
     """How many statements were accepted and refused, and each that was refused, in the words of explain."""
-    lines, refused, answered = explain.explained(list(stream.items(text)), explain.answers(output))
+    now, replies = known.of_plan(plan), explain.answers(output)
+    lines, refused, answered = explain.explained(list(stream.items(text)), replies, now)
     return [f"{answered - refused} accepted, {refused} refused", *(["", *lines[:-1]] if lines else [])]
 
 
