@@ -19,8 +19,8 @@ def add_words(parser):
     parser.description = (
         "Reads a job stream and tells, with the line of its record, what opcplan takes without a word and is likely a "
         "slip: " + "; ".join(lint_checks.KINDS.values()) + ". With --plan it knows what the plan defines too, and "
-        "tells also what each block drops or changes of it, and "
-        + "; ".join(lint_checks.KINDS_BY_PLAN.values()) + ". What is refused `./plan check` and `./plan explain` tell. The exit status is 1 where it finds something."
+        "tells also what each block drops or changes of it, and " + "; ".join(lint_checks.KINDS_BY_PLAN.values())
+        + ". What is refused `./plan check` and `./plan explain` tell. The exit status is 1 where it finds something."
     )
     parser.add_argument("stream", metavar="STREAM", help="the file of the job stream")
     explain.add_known_plan(parser)

@@ -204,7 +204,8 @@ def lacking(now):
                 found.append(Finding("lacking", (app, name), line, text))
     for app, listed in sorted(defined.predecessors.items()):
         if app not in defined.applications:
-            lines = [now.line_of("predecessors", app, other) for other in listed] + [now.gone.get(("applications", app))]
+            lines = [now.line_of("predecessors", app, other) for other in listed]
+            lines.append(now.gone.get(("applications", app)))
             text = f"{app} has a list of predecessors, and isn't defined as an application"
             found.append(Finding("lacking", (app, "list"), min(filter(None, lines), default=None), text))
     return found

@@ -20,9 +20,8 @@ import slips
 import stream
 
 # SAT, SUN and 18 dates
-ENTRIES = ["SAT", "SUN", "2026-01-01", "2026-01-06", "2026-04-03", "2026-04-06", "2026-05-01", "2026-05-14", "2026-05-25",
-           "2026-06-04", "2026-08-15", "2026-10-03", "2026-11-01", "2026-12-08", "2026-12-24", "2026-12-25", "2026-12-26",
-           "2026-12-31", "2027-01-01", "2027-01-06"]
+ENTRIES = """SAT SUN 2026-01-01 2026-01-06 2026-04-03 2026-04-06 2026-05-01 2026-05-14 2026-05-25 2026-06-04 2026-08-15
+    2026-10-03 2026-11-01 2026-12-08 2026-12-24 2026-12-25 2026-12-26 2026-12-31 2027-01-01 2027-01-06""".split()
 BASE = """define calendars --job 1
 """ + "".join(f"DEFAULT,{entry},FREE\n" for entry in ENTRIES) + """BANK,SUN,FREE
 /*
@@ -119,7 +118,8 @@ class Drops(InRoom):
         self.assertEqual(ran.returncode, 1)
         ran = self.asked("check", "list cp\n" + BASE[BASE.index("define applications") : BASE.index("define run-")])
         self.assertEqual((ran.returncode, ran.stderr), (0, ""))
-        self.assertEqual(ran.stdout, "2 accepted, 0 refused; 1 of them is a job that the plan keeps, answered as then\n")
+        self.assertEqual(ran.stdout, "2 accepted, 0 refused; 1 of them is a job that the plan keeps, answered as "
+                                     "then\n")
 
     def test_each_kind(self):
         text = """define periods --job 20
@@ -144,13 +144,15 @@ define options --job 24
         self.assertEqual(self.findings("lint", text), [
             (2, "drops 1 interval of MONTH: from 2026-11-01 on"),
             (2, "changes the end of 1 interval of MONTH: of 2026-12-01 to 2026-12-31, then without an end"),
-            (4, "changes the period DAY: type A from 2026-01-01 on with intervals of 1 day, then type W from 2026-01-01 on "
+            (4, "changes the period DAY: type A from 2026-01-01 on with intervals of 1 day, then type W from "
+                "2026-01-01 on "
                 "with intervals of 1 work day"),
             (7, "makes REPORT pending, so that it is planned no more"),
             (7, "changes the calendar of REPORT: the default one, then BANK"),
             (8, "changes the calendar of BACKUP: BANK, then the default one"),
             (10, "drops run cycle WEEKLY of BACKUP"),
-            (11, "moves the deadline of run cycle NIGHTLY of BACKUP: 05.00 of the next day, then 23.00 of the same day"),
+            (11, "moves the deadline of run cycle NIGHTLY of BACKUP: 05.00 of the next day, then 23.00 of the same "
+                 "day"),
             (11, "changes run cycle NIGHTLY of BACKUP: out of effect never, then 2027-01-01; input arrival 22.00, then "
                  "22.30"),
             (12, "moves the deadline of run cycle DAILY of SALES: 20.00 of the same day, then 20.00 2 days later"),
@@ -165,7 +167,8 @@ define options --job 24
         plan = known.Known(is_whole=True).defined
         for kind, old, new in (
             ("calendars", definitions.Calendar({5: False}), definitions.Calendar({5: False}, {20000: True})),
-            ("periods", definitions.Period("N", entries=[(1, None)]), definitions.Period("N", entries=[(1, None), (9, 12)])),
+            ("periods", definitions.Period("N", entries=[(1, None)]),
+             definitions.Period("N", entries=[(1, None), (9, 12)])),
             ("predecessors", {"A": None}, {"A": None, "B": 4}),
         ):
             told = changes.of_name(kind, "X", old, new)
@@ -193,9 +196,11 @@ SALES,A,
         ran = plans.plan("lint", "/dev/stdin", text=self.PARTIAL)
         said = " ".join(ran.stdout.split())
         self.assertEqual(re.findall("isn't defined(?! in this stream)", said), [])
-        self.assertIn("line 5: SALES waits for REPORT, which isn't defined in this stream: where the plan has none", said)
+        self.assertIn("line 5: SALES waits for REPORT, which isn't defined in this stream: where the plan has "
+                      "none", said)
         self.assertIn("line 8: SALES is active, and has no run cycles in this stream", said)
-        self.assertIn("line 8: the default calendar DEFAULT isn't defined in this stream, where the plan has none either, "
+        self.assertIn("line 8: the default calendar DEFAULT isn't defined in this stream, where the plan has none "
+                      "either, "
                       "each day is a work day for SALES", said)
         self.assertEqual(self.findings("lint", self.PARTIAL), [])
 
@@ -225,7 +230,8 @@ undefine applications --name SALES --job 24
             (7, "NONE has a list of predecessors, and isn't defined as an application"),
             (7, "NONE waits for SALES, which isn't defined, and so for nothing"),
             (10, "LEDGER names the calendar WEST, which isn't defined: planning is refused 22 LEDGER"),
-            (12, "run cycle MONTHLY of REPORT names the period MONTH, which isn't defined: planning is refused 23 REPORT"),
+            (12, "run cycle MONTHLY of REPORT names the period MONTH, which isn't defined: planning is refused 23 "
+                 "REPORT"),
             (13, "LEDGER waits for SALES, which isn't defined, and so for nothing"),
         ])
         planner = plans.planner_of(BASE).copy()
@@ -255,7 +261,8 @@ class Loops(InRoom):
     def test_over_stream_and_plan(self):
         """In the plan BACKUP waits for LEDGER, and LEDGER for SALES."""
         text = "define predecessors --job 20\nSALES,REPORT\nREPORT,BACKUP\n/*\nltp-modify-all --job 21\n"
-        told = ("the lists of predecessors have a loop: BACKUP waits for REPORT waits for BACKUP (on a loop with these: "
+        told = ("the lists of predecessors have a loop: BACKUP waits for REPORT waits for BACKUP (on a loop with "
+                "these: "
                 "LEDGER, SALES); a planning statement that puts them into force is refused 25")
         self.assertIn((3, told), self.findings("lint", text))
         replies = plain.run(text.encode(), plans.planner_of(BASE).copy())
@@ -283,7 +290,7 @@ class Limits(InRoom):
         "ltp-extend": "ltp-extend --to {} --job 40", "dp-extend": "dp-extend --to {} --job 40",
         "days": "days --app SALES --from 2026-11-30 --to {}",
     }
-    WANTED = {  # of the plan of BASE, by hand: 2026-11-02 to 2026-12-31, current up to 2026-11-04 06.00, 48 hours at most
+    WANTED = {  # by hand: the plan is 2026-11-02 to 2026-12-31, current up to 2026-11-04 06.00, 48 hours at most
         "ltp-add": ("2026-11-04 06.00", "2026-12-31 23.59"), "cp-add": ("2026-11-02 00.00", "2026-11-04 05.59"),
         "ltp-extend": ("2027-01-01", "2030-11-04"), "dp-extend": ("2026-11-04 06.01", "2026-11-06 06.00"),
         "days": ("2026-11-30", "2030-11-29"),
@@ -320,10 +327,12 @@ class Limits(InRoom):
             ("cp-complete --app SALES --ia 2026-11-02/18.00 --job 40", "it has the status C (complete)"),
             ("cp-start --app SALES --ia 2026-11-03/18.00 --job 40", "it has the status E (in error)"),
             ("cp-start --app SALES --ia 2026-11-04/18.00 --job 40", "it stands in the long-term plan"),
-            ("cp-start --app SALES --ia 2026-11-03/18.01 --job 40", "on that day SALES arrives at 18.00 (ended in error"),
+            ("cp-start --app SALES --ia 2026-11-03/18.01 --job 40", "on that day SALES arrives at 18.00 (ended in "
+                                                                    "error"),
             ("cp-start --app REPORT --ia 2026-11-03/18.01 --job 40", "REPORT doesn't arrive on that day"),
             ("cp-start --app LEDGER --ia 2026-11-03/20.00 --job 40", "serial 4, SALES 2026-11-03 18.00;"),
-            ("ltp-add --app SALES --ia 2026-11-04/18.00 --job 40", "SALES 2026-11-04 18.00 stands in the long-term plan"),
+            ("ltp-add --app SALES --ia 2026-11-04/18.00 --job 40", "SALES 2026-11-04 18.00 stands in the long-term "
+                                                                   "plan"),
             ("ltp-add --app SALLES --ia 2026-11-05/18.00 --job 40", "SALLES isn't defined (is SALES meant?)"),
             ("ltp-modify-all --job 9", "job 9 was asked in an earlier run over the same file, with other words"),
         ):
@@ -336,9 +345,11 @@ class Limits(InRoom):
 
     def test_explain_tells_the_plan_too(self):
         for text, reply, said in (
-            ("dp-extend --to 2026-11-04/06.00 --job 40", "refused 32", "may be from 2026-11-04 06.01 to 2026-11-06 06.00"),
+            ("dp-extend --to 2026-11-04/06.00 --job 40", "refused 32", "may be from 2026-11-04 06.01 to 2026-11-06 "
+                                                                       "06.00"),
             ("cp-complete --app LEDGER --ia 2026-11-02/20.00 --job 40", "refused 29", "it has the status W (waiting)"),
-            ("cp-start --app LEDGER --ia 2026-11-03/20.00 --job 40", "refused 30 4", "serial 4, SALES 2026-11-03 18.00;"),
+            ("cp-start --app LEDGER --ia 2026-11-03/20.00 --job 40", "refused 30 4", "serial 4, SALES 2026-11-03 "
+                                                                                     "18.00;"),
         ):
             output = self.room / "x.out"
             output.write_text(f"{reply}\n", encoding="ascii")
@@ -349,7 +360,8 @@ class Limits(InRoom):
         after = BASE + f"{text}\n"
         told = " ".join(self.asked("explain", f"{text}\n", output, base=after).stdout.split())
         self.assertIn("serial 4, SALES 2026-11-03 18.00;", told)
-        self.assertIn("(job 40 is kept with this answer, and another try takes a new number; the plan is told as it is now)",
+        self.assertIn("(job 40 is kept with this answer, and another try takes a new number; the plan is told as it is "
+                      "now)",
                       told)
 
 
@@ -414,14 +426,17 @@ class Slips(unittest.TestCase):
     def test_characters(self):
         for text, said in (
             (b"list cp", ""), (b"list\tcp", ""),
-            ("list cp \u2014app A".encode(), "character 9 is `\u2014` U+2014 (em dash), which isn't ASCII (-- is meant?)"),
-            ("--app \u00dcBER".encode(), "character 7 is `\u00dc` U+00DC (latin capital letter u with diaeresis), which "
+            ("list cp \u2014app A".encode(), "character 9 is `\u2014` U+2014 (em dash), which isn't ASCII (-- is "
+                                             "meant?)"),
+            ("--app \u00dcBER".encode(), "character 7 is `\u00dc` U+00DC (latin capital letter u with diaeresis), "
+                                         "which "
                                          "isn't ASCII"),
             (b"--app \xdcBER", "byte 7 is DC hexadecimal, `\u00dc` U+00DC (latin capital letter u with diaeresis) in "
                                "Latin-1: ASCII alone may stand there"),
             (b"a\x1b[2J", "character 2 is U+001B, which is no printable character"),
             ("a\u202e".encode(), "character 2 is U+202E (right-to-left override), which isn't ASCII"),
-            (b"\xef\xbb\xbflist cp", "it begins with the bytes EF BB BF, a byte order mark, which an editor put there: save "
+            (b"\xef\xbb\xbflist cp", "it begins with the bytes EF BB BF, a byte order mark, which an editor put there: "
+                                     "save "
                                      "the file as UTF-8 without it"),
         ):
             self.assertEqual(slips.of_bytes(text), said)
@@ -429,13 +444,16 @@ class Slips(unittest.TestCase):
     def test_in_a_stream(self):
         for text, said in (
             (b"\xef\xbb\xbfdefine calendars --job 1\nC,SAT,FREE\n/*\n",
-             "a byte order mark, which an editor put there: save the file as UTF-8 without it it isn't read as `define`, so "
+             "a byte order mark, which an editor put there: save the file as UTF-8 without it it isn't read as "
+             "`define`, so "
              "each line of its data is read as a statement, and refused too"),
-            (b"days --app A --from 2026-02-01 --to 2026-02-30\n", "and not `2026-02-30`: there is no 30 February in 2026"),
+            (b"days --app A --from 2026-02-01 --to 2026-02-30\n", "and not `2026-02-30`: there is no 30 February in "
+                                                                  "2026"),
             (b"cp-start --app A --ia 2026-02-01 08.00 --job 1\n", "a day and its time are one word, 2026-11-25/06.00"),
             (b"cp-start --app sales --ia 2026-02-01/08.00 --job 1\n", "in capital letters it would be one, SALES"),
             (b"ltp-modify-all --job 007\n", "without the zeros it would be one, 7"),
-            (b"define calendars --job 1\nC,2026-02-30,FREE\n/*\n", "the field `entry` is `2026-02-30`: there is no 30 Feb"),
+            (b"define calendars --job 1\nC,2026-02-30,FREE\n/*\n", "the field `entry` is `2026-02-30`: there is no 30 "
+                                                                   "Feb"),
             ("define calendars --job 1\n\u00dcB,SAT,FREE\n/*\n".encode(),
              "the field `calendar` is `\u00dcB`: character 1 is `\u00dc` U+00DC"),
             (b"define calendars --job 1\nC\x1b[2J,SAT,FREE\n/*\n", "the field `calendar` is `C\\x1b[2J`"),
