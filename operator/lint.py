@@ -1,5 +1,6 @@
 """./plan lint: what a job stream says that is taken without a word, and is likely a slip."""
 
+import functools
 import textwrap
 
 import blocks
@@ -66,7 +67,12 @@ class Walk:
         self.now = now
         self.found = {}
         self.changed = None  # the line of the last statement that changed a definition since findings were looked for
-        self.before = {(one.kind, one.about) for one in lint_checks.all_of(now)} if now.plan else set()
+
+    @functools.cached_property
+    def before(self):
+        """What is found in the plan by itself."""
+        found = lint_checks.all_of(known.of_plan(self.now.plan)) if self.now.plan else ()
+        return {(one.kind, one.about) for one in found}
 
     def take(self, item, reply, rows=()):
         """Takes an item and what it was answered."""

@@ -16,6 +16,7 @@ import known
 import loops
 import moments
 import plan_file
+import refusals
 import slips
 import stream
 
@@ -342,6 +343,14 @@ class Limits(InRoom):
                 self.assertTrue(told.startswith(f"line 1: {reply}: "), (reply, told))
                 self.assertIn(said, told)
                 self.assertTrue(told.endswith("0 accepted, 1 refused"), told)
+
+    def test_sizes(self):
+        """At most 200,000 rows stand in both plans together."""
+        now, (item,) = known.Known(is_whole=True), stream.items(b"ltp-extend --to 2027-01-31 --job 40\n")
+        now.sizes = [199_990, 1_234_567]
+        said = refusals.sentences(item, 31, "", now)[-1]
+        self.assertEqual(said, "they have 199,990 rows, so 10 more are taken; 1,234,567 serials were given")
+        self.assertEqual(len(refusals.sentences(item, 31, "", known.Known())), 1)
 
     def test_explain_tells_the_plan_too(self):
         for text, reply, said in (
