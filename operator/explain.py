@@ -161,4 +161,6 @@ def refusal_sentences(item, reply, now):
 
 def visible(text):
     """A text without what a terminal would obey."""
+    if text.isprintable():
+        return text
     return "".join(one if one.isprintable() else one.encode("unicode_escape").decode("ascii") for one in text)

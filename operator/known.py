@@ -168,6 +168,8 @@ class Known:
 
     def define(self, item):
         """Takes the definitions of a block."""
+        if item.data is None:
+            return
         block = blocks.read(item.statement.alone, item.data)
         if block.fault:
             return

@@ -101,7 +101,7 @@ class Walk:
 
 def losses(now, item):
     """What a `define` drops or changes of what is defined before it, as findings."""
-    if item.statement.name == "undefine":
+    if not is_whole(item):
         return
     block = blocks.read(item.statement.alone, item.data)
     if block.kind == "options":
@@ -131,6 +131,6 @@ def reply_of(now, item):
 
 def is_whole(item):
     """Whether the data of a `define` can be read as a block."""
-    if item.data is None or len(item.data) > stream.MOST_OF_BLOCK:
+    if not item.has_data or item.data is None or len(item.data) > stream.MOST_OF_BLOCK:
         return False
     return blocks.read(item.statement.alone, item.data).fault is None

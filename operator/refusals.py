@@ -105,32 +105,35 @@ def period_undefined(item, detail, known):
 
 def dates_wrong(item, detail, known):
     name = item.statement.tried
-    told = SPANS[name](item.statement.values, known) if name in SPANS else ""
+    told = SPANS[name](name, item.statement.values, known)
     return [told or DATES[name], *ways_out(known, name, item.statement.values), *bounds_text(known)]
 
 
-def span_of_days(values, known):
-    """What is wrong with the first and the last day that `days` or `ltp-create` has."""
+def span_of_days(name, values, known):
+    """What is wrong with the first and the last day that `days` or `ltp-create` has; nothing where that isn't seen, as
+    in the functions below: what is known may be later than the refusal."""
     first, last = values["from"], values["to"]
     if last < first:
         return f"the last day, {day_text(last)}, is before the first one, {day_text(first)}"
     if last > definitions.LAST_PLANNING_DAY:
         most = day_text(definitions.LAST_PLANNING_DAY)
         return f"the last day, {day_text(last)}, is after {most}, the last that is planned"
-    return f"from {day_text(first)} to {day_text(last)} are more than {MOST_DAYS:,} days"
+    if last - first + (name == "days") > MOST_DAYS:
+        return f"from {day_text(first)} to {day_text(last)} are more than {MOST_DAYS:,} days"
+    return ""
 
 
-def span_of_extension(values, known):
+def span_of_extension(name, values, known):
     """What is wrong with the day to which `ltp-extend` goes."""
     to = values["to"]
     if not known.bounds:
         return ""
     if to <= known.bounds[1]:
         return f"the plan goes to {day_text(known.bounds[1])}, and {day_text(to)} isn't later"
-    return span_of_days({"from": known.bounds[2] // DAY, "to": to}, known)
+    return span_of_days(name, {"from": known.bounds[2] // DAY, "to": to}, known)
 
 
-def span_of_arrival(values, known):
+def span_of_arrival(name, values, known):
     """What is wrong with the arrival of an addition."""
     if not known.bounds:
         return ""
@@ -139,9 +142,12 @@ def span_of_arrival(values, known):
         return f"it arrives before the long-term plan begins, on {day_text(first)}"
     if ia >= (last + 1) * DAY:
         return f"it arrives after the long-term plan ends, with {day_text(last)}"
-    if ia < end:
-        return f"it arrives before the current plan's end, {moment_text(end)}: `cp-add` adds to the current plan"
-    return f"it doesn't arrive before the current plan's end, {moment_text(end)}: `ltp-add` adds to the long-term plan"
+    of = f"the current plan's end, {moment_text(end)}"
+    if name == "ltp-add" and ia < end:
+        return f"it arrives before {of}: `cp-add` adds to the current plan"
+    if name == "cp-add" and ia >= end:
+        return f"it doesn't arrive before {of}: `ltp-add` adds to the long-term plan"
+    return ""
 
 
 FIRST = {"dp-extend": ": `ltp-extend` first", "ltp-add": ": `ltp-extend` first", "cp-add": ": `dp-extend` first"}
@@ -189,7 +195,7 @@ def no_application(item, detail, known):
     app = item.statement.values["app"]
     found = known.defined.applications.get(app)
     if found is None:
-        where = "" if known.is_whole else " in this stream"
+        where = "" if known.is_whole else " in this stream, and in the plan it isn't, or is pending"
         near = difflib.get_close_matches(app, known.defined.applications, 1)
         return [f"the application {app} isn't defined{where}{f' (is {near[0]} meant?)' if near else ''}"]
     if found.is_active:
@@ -253,7 +259,8 @@ def plan_end_wrong(item, detail, known):
     """Which limit of a daily plan's end is passed, where the plan is known; else all of them."""
     values = item.statement.values
     most = known.defined.max_hours
-    hours = f"more than {most} hours after it (option max_extension_hours)"
+    other = "" if known.is_whole or ("options", None) in known.lines else ", unless the plan has another"
+    hours = f"more than {most} hours after it (option max_extension_hours{other})"
     told = f"the new plan end isn't later than the old one, is past the end of the long-term plan, or is {hours}"
     if known.is_whole and known.bounds:
         _, last, end = known.bounds

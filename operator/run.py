@@ -77,7 +77,8 @@ def show(tried):
     """Prints what is found of a stream and what it would change."""
     lines = [line for finding in trial.findings(tried) for line in lint.finding_lines(finding)]
     lines += ["", *trial.summary_lines(tried)] if lines else trial.summary_lines(tried)
-    print("\n".join([*lines, *what_if.difference(tried.plan, tried.after, MOST_ROWS), ""]), flush=True)
+    lines += [*what_if.difference(tried.plan, tried.after, MOST_ROWS), ""]
+    print("\n".join(map(explain.visible, lines)), flush=True)
 
 
 def is_wanted(tried):
@@ -104,12 +105,13 @@ def show_answers(tried, text, output):
     try:
         items, replies, fault = trial.paired(tried.program, text, output)
     except plan_file.Unreadable as why:
-        print(output.decode("latin-1"), end="")
+        print("\n".join(map(explain.visible, output.decode("latin-1").splitlines())))
         words.tell(str(why))
         return
     for item, (rows, reply) in zip(items, replies):
         told = explain.refusal_lines(item, reply, now)[:-1] if reply.startswith("refused") else []
-        print("\n".join([*rows, reply, *(f"    {line.strip()}" for line in told if line.strip() != reply)]))
+        told = [f"    {line.strip()}" for line in told if line.strip() != reply]
+        print("\n".join(map(explain.visible, [*rows, reply, *told])))
         now.take(item, reply, rows)
     if fault:
         print(f"{fault}\n    {explain.FAULTS.get(fault.split()[-1], 'a fault')}")
