@@ -7,7 +7,7 @@ import sqlite3
 import subprocess
 
 import plan_file
-import what_if
+import trial
 import words
 
 # a log that has no page: how it begins, and at most how long it is, with what opcplan leaves behind its header
@@ -52,7 +52,7 @@ def taken(source, copy):
 
 def ask(path, copy, program):
     """Asks that opcplan opens a copy; its log is in the file then. Raises Unreadable."""
-    program = os.path.abspath(program or what_if.built_program())
+    program = os.path.abspath(program or trial.built_program())
     try:
         ran = subprocess.run([program, "--db", copy], stdin=subprocess.DEVNULL, capture_output=True, check=False)
     except OSError as error:

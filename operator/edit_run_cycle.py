@@ -108,8 +108,6 @@ def staying(app, cycles, before, after):
 
 def slips(plan, found, app, cycles, cycle):
     """What is likely a slip in a run cycle, in sentences."""
-    now = known.Known()
+    now = known.of_plan(plan)
     now.defined = dataclasses.replace(found, run_cycles={**found.run_cycles, app: cycles})
-    if plan.is_created:
-        now.bounds = [plan.meta["first_day"], plan.meta["last_day"], plan.meta["plan_end"]]
     return [f"Likely a slip: {text}." for _, _, text in lint_checks.run_cycle_checks(now, app, cycle)]

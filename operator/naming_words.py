@@ -30,9 +30,9 @@ def place_text(number, what):
     return f"the last {what}" if number == -1 else f"the {nth(-number)} {what} from the end"
 
 
-def count_text(number, one):
-    """`1 day`, `2 days`."""
-    return f"{number} {one}" if number == 1 else f"{number} {one}s"
+def count_text(number, one, more=None):
+    """`1 day`, `2 days`; `more` is the word for more than one, where it isn't the same with an s."""
+    return f"{number} {one}" if number == 1 else f"{number} {more or one + 's'}"
 
 
 def entry_text(defined, app, day):

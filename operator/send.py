@@ -14,6 +14,7 @@ import sys
 import time
 
 import explain
+import known
 import locks
 import moments
 import next_job
@@ -22,7 +23,7 @@ import plan_file
 import statement_words
 import stream
 import terminal
-import what_if
+import trial
 import words
 
 SUMMARY = "sends a statement in words, or a job stream, and waits while the plan is in use"
@@ -76,7 +77,7 @@ def run(given):
         return 2
     try:
         check_file(given.db)
-        program = os.path.abspath(given.program or what_if.built_program())
+        program = os.path.abspath(given.program or trial.built_program())
         if line is None:
             with stream.opened("-") as source:
                 text = b"".join(source.pieces())
@@ -206,7 +207,7 @@ def refusal_lines(text, answered):
         return []
     asked, answers = (stream.Source(io.BytesIO(data), "what was sent", explain.OF_OUTPUT) for data in (text, answered))
     try:
-        lines, _, _ = explain.explained(stream.items(asked), answers)
+        lines, _, _ = explain.explained(stream.items(asked), answers, known.Known())
     except explain.Unlike as why:
         return [terminal.fit(f"plan: the planner doesn't answer as opcplan does: {why}")]
     return ["\n".join(lines).rstrip("\n")]

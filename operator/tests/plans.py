@@ -29,6 +29,7 @@ for folder in (TOP / "tools", TOP / "operator"):
 import plain_planner as plain  # noqa: E402
 import plan_file  # noqa: E402
 import plan_rows  # noqa: E402
+import stream as module_stream  # noqa: E402
 import words as module_words  # noqa: E402
 
 
@@ -47,6 +48,16 @@ def folder():
 def stream(name):
     """The text of a worked stream."""
     return (DATA / f"{name}.in").read_bytes()
+
+
+def items_of(text):
+    """The items of a stream's text, as operator/stream.py reads them."""
+    return module_stream.items(source_of(text))
+
+
+def source_of(text):
+    """A text as operator/stream.py reads it."""
+    return module_stream.Source(io.BytesIO(as_bytes(text)), "a text")
 
 
 def planner_of(text):

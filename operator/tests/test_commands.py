@@ -19,6 +19,8 @@ READERS = {
     "rows": ["PLAN"],
     "next-job": ["PLAN"],
     "what-if": ["PLAN", "STREAM"],
+    "check": ["PLAN", "STREAM"],
+    "run": ["PLAN", "STREAM"],
     "export": ["PLAN", "--csv"],
     "dump": ["PLAN"],
     "backup": ["PLAN", "COPY"],
