@@ -5,9 +5,8 @@ import dataclasses
 
 import definitions
 import moments
-from naming_words import count_text
+from naming_words import count_text, few
 
-SHOWN = 5  # of the names or days in one sentence
 
 
 @dataclasses.dataclass(frozen=True)
@@ -36,13 +35,13 @@ def of_calendar(name, old, new):
     held, now = entries_of(old), entries_of(new)
     lost, more = [entry for entry in held if entry not in now], [entry for entry in now if entry not in held]
     if lost:
-        yield Change(f"drops {count_text(len(lost), 'entry', 'entries')} of {name}: {listed(lost)}")
+        yield Change(f"drops {count_text(len(lost), 'entry', 'entries')} of {name}: {few(lost)}")
     for is_work, what in ((True, "work"), (False, "free")):
         turned = [entry for entry in now if entry in held and held[entry] != now[entry] == is_work]
         if turned:
-            yield Change(f"turns {count_text(len(turned), 'entry', 'entries')} of {name} to {what}: {listed(turned)}")
+            yield Change(f"turns {count_text(len(turned), 'entry', 'entries')} of {name} to {what}: {few(turned)}")
     if more:
-        shown = listed([f"{entry} {'WORK' if now[entry] else 'FREE'}" for entry in more])
+        shown = few([f"{entry} {'WORK' if now[entry] else 'FREE'}" for entry in more])
         yield Change(f"adds {count_text(len(more), 'entry', 'entries')} to {name}: {shown}", is_loss=False)
 
 
@@ -60,14 +59,14 @@ def of_period(name, old, new):
     held, now = dict(old.entries), dict(new.entries)
     lost, more = [day for day in held if day not in now], [day for day in now if day not in held]
     if lost:
-        shown = listed(list(map(moments.day_text, lost)))
+        shown = few(list(map(moments.day_text, lost)))
         yield Change(f"drops {count_text(len(lost), 'interval')} of {name}: from {shown} on", (name,))
     ends = [day for day in now if day in held and held[day] != now[day]]
     if ends:
-        shown = listed([f"of {moments.day_text(day)} {end_text(held[day])}, then {end_text(now[day])}" for day in ends])
+        shown = few([f"of {moments.day_text(day)} {end_text(held[day])}, then {end_text(now[day])}" for day in ends])
         yield Change(f"changes the end of {count_text(len(ends), 'interval')} of {name}: {shown}", (name,))
     if more:
-        shown = listed(list(map(moments.day_text, more)))
+        shown = few(list(map(moments.day_text, more)))
         yield Change(f"adds {count_text(len(more), 'interval')} to {name}: from {shown} on", (name,), False)
 
 
@@ -144,13 +143,7 @@ def limit_text(hours):
 
 def named(names, what):
     """How many there are of what, with their names."""
-    return f"{what} {names[0]}" if len(names) == 1 else f"{len(names)} {what}s ({listed(names)})"
-
-
-def listed(texts):
-    """The first of some texts, and how many more there are."""
-    more = len(texts) - SHOWN
-    return ", ".join(texts) if more < 2 else f"{', '.join(texts[:SHOWN])} and {more} more"
+    return f"{what} {names[0]}" if len(names) == 1 else f"{len(names)} {what}s ({few(names)})"
 
 
 FIELDS = (  # those of a run cycle, its deadline aside: field, its word, and how its value is written

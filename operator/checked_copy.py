@@ -87,12 +87,3 @@ def write(source, path, like):
         os.fsync(number)
     finally:
         os.close(number)
-
-
-def sync_folder(path):
-    """Has the disk keep what names stand beside a path."""
-    number = os.open(os.path.dirname(path), os.O_RDONLY)
-    try:
-        os.fsync(number)
-    finally:
-        os.close(number)

@@ -5,6 +5,7 @@ import argparse
 import edit_words
 from definitions import Application
 from edit_change import Change, Unmade
+from naming_words import count_text, few
 
 SUMMARY = "makes an application active or pending, or gives it another calendar"
 
@@ -55,7 +56,7 @@ def ask_plannable(found, app, after):
                      "statements would be refused (22)")
     lacking = found.lacking_periods(app)
     if lacking:
-        raise Unmade(f"run cycles of {app} name {edit_words.few(lacking)}, which no period is: while {app} is active, "
+        raise Unmade(f"run cycles of {app} name {few(lacking)}, which no period is: while {app} is active, "
                      "planning statements would be refused (23)")
 
 
@@ -91,6 +92,6 @@ def others_told(plan, found, app, before, after):
         told.append("It has no run cycles, so no day is named.")
     waiting = [name for name, listed in found.predecessors.items() if app in listed and name != app]
     cycles, listed = found.run_cycles.get(app, {}), found.predecessors.get(app, {})
-    own = f"{edit_words.count(len(cycles), 'run cycle')} and its {edit_words.count(len(listed), 'predecessor')}"
-    lists = f", and so do the lists that have it ({edit_words.few(waiting)})" if waiting else ""
+    own = f"{count_text(len(cycles), 'run cycle')} and its {count_text(len(listed), 'predecessor')}"
+    lists = f", and so do the lists that have it ({few(waiting)})" if waiting else ""
     return [*told, f"Its {own} stay{lists}."]

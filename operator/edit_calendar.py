@@ -6,6 +6,7 @@ import edit_words
 from definitions import WEEKDAYS, Calendar, weekday_of
 from edit_change import Change, Unmade
 from moments import DAY, day_text, moment_text
+from naming_words import SHOWN, count_text, few
 
 SUMMARY = "lists days or a weekday as free or work, or unlists them"
 STATUSES = {"free": False, "work": True, "unlist": None}
@@ -57,10 +58,10 @@ def of_entries(plan, found, name, wanted):
     is_gone = not after.weekdays and not after.dates
     users = [app for app in found.applications if found.calendar_name(app) == name]
     if is_gone and users and name != found.default_calendar:
-        raise Unmade(f"nothing would be left that {name} lists, and it would have to go; but {edit_words.few(users)} "
+        raise Unmade(f"nothing would be left that {name} lists, and it would have to go; but {few(users)} "
                      f"{'goes' if len(users) == 1 else 'go'} by it. With MON listed as work each day is a work day")
     told = [
-        f"{name} changes in {edit_words.count(len(changed), 'entry', 'entries')}: "
+        f"{name} changes in {count_text(len(changed), 'entry', 'entries')}: "
         + "; ".join(few_changes(before, after, changed)) + ".",
         staying(before, wanted, changed),
         *(["It lists nothing then and is undefined: each day is a work day by it."] if is_gone else []),
@@ -92,8 +93,8 @@ def with_entries(calendar, changed):
 def few_changes(before, after, changed):
     """Some of the changes in words, and how many more there are."""
     said = [f"{entry_text(entry)}, {status_text(before, entry)} -> {status_text(after, entry)}"
-            for entry in list(changed)[: edit_words.FEW]]
-    return said + ([f"and {len(changed) - edit_words.FEW:,} more"] if len(changed) > edit_words.FEW else [])
+            for entry in list(changed)[:SHOWN]]
+    return said + ([f"and {len(changed) - SHOWN:,} more"] if len(changed) > SHOWN else [])
 
 
 def entry_text(entry):
@@ -115,7 +116,7 @@ def staying(before, wanted, changed):
     """What a calendar keeps, in a sentence."""
     others = len(before.weekdays) + len(before.dates) - sum(listed(before, entry) is not None for entry in changed)
     alike = len(wanted) - len(changed)
-    stay = edit_words.count(others, "other entry stays", "other entries stay")
+    stay = count_text(others, "other entry stays", "other entries stay")
     so = f" ({alike:,} of this stood so already)" if alike else ""
     return f"{f'Its {stay}' if others else 'It had no others'}{so}."
 
@@ -124,7 +125,7 @@ def users_told(found, name, users):
     """Who goes by a calendar, in sentences."""
     is_default = name == found.default_calendar
     counted = ["`dp-extend --count W` counts by it at once."] if is_default else []
-    return [f"By {name} {'goes' if len(users) == 1 else 'go'} {edit_words.few(users) or 'no application'}.", *counted]
+    return [f"By {name} {'goes' if len(users) == 1 else 'go'} {few(users) or 'no application'}.", *counted]
 
 
 def early_told(plan, changed):

@@ -4,6 +4,7 @@ import blocks
 import edit_words
 import record_fields
 from edit_change import Change, Unmade
+from naming_words import few
 
 SUMMARY = "changes default_calendar or max_extension_hours"
 
@@ -30,7 +31,7 @@ def change(plan, found, given):
     if is_modified:
         users = [app for app, application in found.applications.items() if application.calendar is None]
         told.append(f"By the default calendar {'goes' if len(users) == 1 else 'go'} "
-                    f"{edit_words.few(users) or 'no application'}; `dp-extend --count W` counts by it at once.")
+                    f"{few(users) or 'no application'}; `dp-extend --count W` counts by it at once.")
     if after["max_extension_hours"] != before["max_extension_hours"]:
         told.append("`dp-extend` asks for max_extension_hours at once.")
     return Change("options", after, told, None, is_modified)

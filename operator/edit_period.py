@@ -8,6 +8,7 @@ import record_fields
 from definitions import Period
 from edit_change import Change, Unmade
 from moments import day_text
+from naming_words import count_text, few
 
 SUMMARY = "adds or removes an origin or an interval's end, or changes type, origin or interval"
 KEYS = ("type", "origin", "interval")
@@ -40,7 +41,7 @@ def change(plan, found, given):
         raise Unmade(f"{name} is so already: nothing would change")
     users = [(app, cycle.name) for app, cycles in found.run_cycles.items() for cycle in cycles.values()
              if cycle.period == name]
-    shown = edit_words.few(f"{cycle} of {app}" for app, cycle in users)
+    shown = few(f"{cycle} of {app}" for app, cycle in users)
     is_gone = after.kind == "N" and not after.entries
     if is_gone and users:
         raise Unmade(f"no interval of {name} would be left, and it would have to go; but {shown} "
@@ -154,6 +155,6 @@ def interval_text(span):
 def period_text(period: Period):
     """A period in words."""
     if period.kind == "N":
-        return f"type N, {edit_words.count(len(period.entries), 'interval')} from {day_text(period.entries[0][0])} on"
-    days = edit_words.count(period.interval, "day" if period.kind == "A" else "work day")
+        return f"type N, {count_text(len(period.entries), 'interval')} from {day_text(period.entries[0][0])} on"
+    days = count_text(period.interval, "day" if period.kind == "A" else "work day")
     return f"type {period.kind}, intervals of {days} from {day_text(period.origin)} on"

@@ -6,7 +6,9 @@ import dataclasses
 import edit_words
 import known
 import lint_checks
+import loops
 from edit_change import Change, Unmade
+from naming_words import count_text, few
 
 SUMMARY = "adds a predecessor to an application's list, with a limit or none, or removes one"
 
@@ -31,7 +33,7 @@ def change(plan, found, given):
     before = found.predecessors.get(given.app, {})
     after, told = (added if given.verb == "add" else removed)(found, given, before)
     others = [name for name in before if name != given.other]
-    told.append(f"What else {given.app} waits for stays: {edit_words.few(others)}." if others
+    told.append(f"What else {given.app} waits for stays: {few(others)}." if others
                 else f"{given.app} {'waited' if given.other in before else 'waits'} for no other.")
     told.append("What is started by then keeps what it waited for.")
     is_active = given.app in found.applications and found.applications[given.app].is_active
@@ -46,10 +48,9 @@ def added(found, given, before):
             raise Unmade(f"there is no application {name}")
     if before.get(other, 0) == given.hours:
         raise Unmade(f"{app} waits for {other} already, {limit_text(given.hours)}: nothing would change")
-    way = way_between(found.predecessors, other, app)
-    if other not in before and app != other and way:
-        raise Unmade(f"that makes a loop, {app} waits for {' waits for '.join(way)}, and planning statements would be "
-                     "refused (25)")
+    ring = loops.ring_of({**found.predecessors, app: {other: given.hours}}, app)
+    if other not in before and ring:
+        raise Unmade(f"that makes a loop, {' waits for '.join(ring)}, and planning statements would be refused (25)")
     if other in before:
         told = [f"{app} waits for {other}: {limit_text(before[other])} -> {limit_text(given.hours)}."]
     else:
@@ -64,33 +65,18 @@ def removed(found, given, before):
         raise Unmade("hours are for add alone", 2)
     if given.other not in before:
         raise Unmade(f"{given.app} doesn't wait for {given.other}: its list has "
-                     f"{edit_words.few(before) or 'nothing'}")
+                     f"{few(before) or 'nothing'}")
     after = {name: within for name, within in before.items() if name != given.other}
     return after, [f"{given.app} waits no more for {given.other} ({limit_text(before[given.other])})."]
 
 
 def limit_text(hours):
     """A limit in words."""
-    return "without a limit" if hours is None else f"within {edit_words.count(hours, 'hour')}"
-
-
-def way_between(lists, first, last):
-    """The names on a shortest way from one application along the lists to another, or nothing."""
-    came, queue = {first: None}, [first]
-    for name in queue:
-        for other in lists.get(name, {}):
-            if other not in came:
-                came[other] = name
-                queue.append(other)
-    way, name = [], last if last in came else None
-    while name is not None:
-        way.append(name)
-        name = came[name]
-    return way[::-1]
+    return "without a limit" if hours is None else f"within {count_text(hours, 'hour')}"
 
 
 def slips(found, app, listed):
     """What is likely a slip in a list, in sentences."""
-    now = known.Known()
+    now = known.Known(is_whole=True)
     now.defined = dataclasses.replace(found, predecessors={app: listed})
     return [f"Likely a slip: {finding.text}." for finding in lint_checks.predecessors(now)]

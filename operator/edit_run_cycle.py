@@ -9,6 +9,7 @@ import lint_checks
 import plan_file
 import record_fields
 from edit_change import Change, Unmade
+from naming_words import few
 
 SUMMARY = "changes fields of a run cycle"
 NAMES, TAKE = record_fields.KINDS["run-cycles"]
@@ -102,7 +103,7 @@ def differences(plan, app, before, after):
 def staying(app, cycles, before, after):
     """What stays, in a sentence."""
     others = [name for name in cycles if name != before.name]
-    others = f", and so do its other run cycles: {edit_words.few(others)}" if others else f"; {app} has no other one"
+    others = f", and so do its other run cycles: {few(others)}" if others else f"; {app} has no other one"
     return f"All else of {before.name} stays{others}."
 
 

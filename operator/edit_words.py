@@ -3,11 +3,10 @@
 import argparse
 
 import dump
+import naming_words
 import record_fields
 import words
 from definitions import WEEKDAYS
-
-FEW = 8
 
 
 def checked(read, *given):
@@ -56,21 +55,9 @@ def add_job(parser):
     parser.add_argument("--job", metavar="N", type=dump.job_number, help="its job number (else the next one)")
 
 
-def few(names, most=FEW):
-    """Some names, and how many more there are."""
-    names = list(names)
-    more = f" and {len(names) - most} more" if len(names) > most else ""
-    return ", ".join(names[:most]) + more
-
-
 def lack(what, name, known):
     """That a plan has no such definition, and what it has."""
-    return f"there is no {what} {name}; the plan has {few(known) or 'none'}"
-
-
-def count(number, one, many=None):
-    """`1 entry` or `3 entries`."""
-    return f"{number:,} {one if number == 1 else many or one + 's'}"
+    return f"there is no {what} {name}; the plan has {naming_words.few(known) or 'none'}"
 
 
 def tell(sentences):

@@ -4,11 +4,11 @@ import calendar
 import re
 
 import crontab
-import edit_words
 from crontab import Unfit
 from definitions import Application, Period, RunCycle, weekday_of
 from edit_change import Change, Unmade
 from moments import EPOCH, day_text, minute_text
+from naming_words import count_text, few
 
 MOST_TIMES = 24  # of one line on a day
 EVERY_DAY, EVERY_MONTH, EVERY_WEEKDAY = set(range(1, 32)), set(range(1, 13)), set(range(7))
@@ -32,9 +32,9 @@ def changes(found, data, path, calendar_name, has_user, first, last):
             left.append(f"line {number} is left out: {why}: {line[:60]}")
     if not told:
         raise Unmade(" ".join([f"{path}: it has no line that fits.", *left]))
-    names = edit_words.few(f"{name} of type {period.kind}" for name, period in made.periods.items())
+    names = few(f"{name} of type {period.kind}" for name, period in made.periods.items())
     told += [
-        f"{edit_words.count(len(made.applications), 'application')}; periods made: {names or 'none'}; months are "
+        f"{count_text(len(made.applications), 'application')}; periods made: {names or 'none'}; months are "
         f"listed from {day_text(first)} to {day_text(last)} (--from and --to name others).",
         "Each is due a day after it arrives, since a crontab knows no deadline, and runs on free days too, as by cron "
         "(rule 3): `./plan edit PLAN.db run-cycle APP NAME deadline=0/HH.MM rule=1` changes that.",
@@ -67,7 +67,7 @@ class Made:
             for time in line.times:
                 self.add(app, kind[0].upper(), name, offsets, time)
         when = " or ".join(way_text(*way) for way in ways)
-        return f"{app}, {when} at {edit_words.few(map(minute_text, line.times), 4)}"
+        return f"{app}, {when} at {few(map(minute_text, line.times), 4)}"
 
     def add(self, app, letter, period, offsets, time):
         """Adds a run cycle to an application where it has none alike."""

@@ -7,6 +7,7 @@ import edit_words
 import record_fields
 from edit_change import Unmade
 from moments import day_text
+from naming_words import count_text
 
 STATUSES = {"": False, "free": False, "work": True}
 MOST_TOLD = 5
@@ -31,7 +32,7 @@ def days(data, path, first, last):
                      + (f"; and {len(wrong) - MOST_TOLD:,} more lines" if len(wrong) > MOST_TOLD else ""), 2)
     inside = {day: is_work for day, is_work in found.items() if first <= day <= last}
     outside = len(found) - len(inside)
-    told = [f"{edit_words.count(outside, 'day')} of {path} before --from or after --to."] if outside else []
+    told = [f"{count_text(outside, 'day')} of {path} before --from or after --to."] if outside else []
     return inside, told, []
 
 

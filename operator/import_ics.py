@@ -7,9 +7,9 @@ import re
 import subprocess
 import sys
 
-import edit_words
 from edit_change import Unmade
 from moments import EPOCH, day_text
+from naming_words import count_text, few
 from plan_file import Unreadable
 
 DEBIAN = "/usr/bin/python3"
@@ -54,8 +54,8 @@ def days(data, path, first, last):
                 found.setdefault(at, name_of(event))
         except Unfit as why:
             left.append(f"left out: {name_of(event)[:60]!r}{date_told(event)}: {why}.")
-    shown = edit_words.few(f"{day_text(at)} {found[at][:40]}" for at in sorted(found))
-    told = [f"{path}: {edit_words.count(len(found), 'free day')} from {day_text(first)} to {day_text(last)} (--from "
+    shown = few(f"{day_text(at)} {found[at][:40]}" for at in sorted(found))
+    told = [f"{path}: {count_text(len(found), 'free day')} from {day_text(first)} to {day_text(last)} (--from "
             f"and --to name others){f': {shown}' if found else ''}."]
     return {at: False for at in found}, told, left
 

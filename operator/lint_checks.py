@@ -5,10 +5,9 @@ import dataclasses
 
 import loops
 import naming
-from changes import listed
 from definitions import FIRST_DAY, LAST_DAY
 from moments import DAY, day_text, minute_text, moment_text
-from naming_words import count_text
+from naming_words import count_text, few
 
 KINDS = {  # those that a stream shows by itself
     "past": "an offset that is past its interval",
@@ -145,7 +144,7 @@ def default_calendar(now):
     line = now.gone.get(("calendars", name)) or given
     line = line or min(filter(None, (now.line_of("applications", app) for app in users)), default=None)
     so = "so" if now.is_whole else "where the plan has none either,"
-    text = f"the default calendar {name} isn't defined{elsewhere(now)}, {so} each day is a work day for {listed(users)}"
+    text = f"the default calendar {name} isn't defined{elsewhere(now)}, {so} each day is a work day for {few(users)}"
     return [Finding("calendar", (name,), line, text)]
 
 
@@ -175,7 +174,7 @@ def loops_of_lists(now):
         lines = [now.line_of("predecessors", app, other) for app, other in zip(ring, ring[1:])]
         others = [app for app in members if app not in ring]
         text = f"the lists of predecessors have a loop: {' waits for '.join(ring)}"
-        text += f" (on a loop with these: {listed(others)})" if others else ""
+        text += f" (on a loop with these: {few(others)})" if others else ""
         text += "; a planning statement that puts them into force is refused 25"
         found.append(Finding("loop", tuple(members), max(filter(None, lines), default=None), text))
     return found

@@ -9,6 +9,7 @@ RULES = {
     "3": "by rule 3 it stays where it is",
     "4": "by rule 4 it is left out",
 }
+SHOWN = 5  # of the names or days in one sentence
 LONG = dict(zip(WEEKDAYS, "Monday Tuesday Wednesday Thursday Friday Saturday Sunday".split()))
 
 
@@ -31,8 +32,15 @@ def place_text(number, what):
 
 
 def count_text(number, one, more=None):
-    """`1 day`, `2 days`; `more` is the word for more than one, where it isn't the same with an s."""
-    return f"{number} {one}" if number == 1 else f"{number} {more or one + 's'}"
+    """`1 day`, `1,461 days`; `more` is the word for more than one, where it isn't the same with an s."""
+    return f"{number:,} {one if number == 1 else more or one + 's'}"
+
+
+def few(texts, most=SHOWN):
+    """The first of some texts, and how many more there are."""
+    texts = list(texts)
+    more = len(texts) - most
+    return ", ".join(texts) if more < 2 else f"{', '.join(texts[:most])} and {more:,} more"
 
 
 def entry_text(defined, app, day):
