@@ -286,7 +286,7 @@ class Import(unittest.TestCase):
         self.assertEqual(self.ask_printed(ran), (wanted, set()))
 
     def test_wrong_records_are_told(self):
-        for data, says in ((b"2027-02-30\n", "line 1: there is no such day"), (b"01.05.2027\n", "YYYY-MM-DD"),
+        for data, says in ((b"2027-02-30\n", "line 1: there is no 30 February in 2027"), (b"01.05.2027\n", "YYYY-MM-DD"),
                            (b"2027-05-01;free\n", "semicolons"), (b"2027-05-01,closed\n", "'closed'"),
                            (b"2027-05-01,free,a,b\n", "4 fields"), (b"2027-05-01\n\n2027-05-01,work\n", "line 3:"),
                            (b'"2027-05-01\n', "no CSV"), ("2027-05-01\n".encode("utf-16"), "UTF-16"),
@@ -375,7 +375,7 @@ class Import(unittest.TestCase):
             ("--csv given --calendar DEFAULT --from 2027-05-02 --to 2027-05-01", 2, "before"),
             ("--csv given --calendar DEFAULT --job 4", 2, "job 4 is kept"),
             ("--csv /dev/zero --calendar DEFAULT", 1, "16 MiB"), ("--cron given --calendar NONE", 1, "NONE"),
-            ("--csv given --calendar DEFAULT --from 2027-5-2", 2, "YYYY-MM-DD"),
+            ("--csv given --calendar DEFAULT --from 2027-5-2", 2, "2027-05-02"),
         ):
             with self.subTest(words):
                 words = [self.room / word if word in ("given", "nowhere") else word for word in words.split()]
