@@ -66,8 +66,11 @@ def tried(path, name, take, program=None):
 def new_plan(program, folder):
     """The path of a new plan in a folder. Raises Unreadable."""
     path = os.path.join(folder, "new.db")
-    with running(program, path, stdin=subprocess.DEVNULL, stdout=subprocess.DEVNULL, stderr=subprocess.DEVNULL):
-        return path
+    with running(program, path, stdin=subprocess.DEVNULL, stdout=subprocess.DEVNULL, stderr=subprocess.DEVNULL) as ran:
+        ran.wait()
+    if ran.returncode or not os.path.exists(path):
+        raise plan_file.Unreadable(f"{program}: it makes no new plan; it ended with status {ran.returncode}")
+    return path
 
 
 def copy_stream(name, copy):

@@ -193,6 +193,9 @@ class Run(unittest.TestCase):
             self.assertEqual(ran.returncode, 1, ran)
             self.assertRegex(ran.stderr, "^plan: ")
             self.assertEqual({name: plans.prints(self.file)[name] for name in before}, before)
+        ran = self.asked("list cp\n", "--new", "--yes", file=self.room / "new.db", program=self.script("exit 3"))
+        self.assertEqual((ran.returncode, ran.stdout, (self.room / "new.db").exists()), (1, "", False))
+        self.assertIn("makes no new plan; it ended with status 3", ran.stderr)
         with open("/dev/full", "w", encoding="ascii") as full:
             given = [plans.TOP / "plan", "run", self.file, self.room / "x.in", "--program", plans.PROGRAM, "--yes"]
             (self.room / "x.in").write_text(HOLIDAY, encoding="ascii")
