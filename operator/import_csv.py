@@ -40,7 +40,7 @@ def text_of(data, path):
     """The text of a file; what is no UTF-8 may stand in a comment."""
     if data[:2] in (b"\xff\xfe", b"\xfe\xff"):
         raise Unmade(f"{path}: it is UTF-16 text; save it as UTF-8", 2)
-    return data.decode("utf-8-sig", "replace")
+    return data.decode("utf-8-sig", "surrogateescape")
 
 
 def records(text):
