@@ -87,8 +87,8 @@ class Commands(unittest.TestCase):
             yield name, file
 
     def test_files_that_are_no_plan_are_told_and_stay(self):
-        for what, file in self.strangers():
-            for name in READERS:
+        for turn, (what, file) in enumerate(self.strangers()):
+            for name in READERS if what in ("missing", "version") else list(READERS)[turn % 3 :: 3]:
                 with self.subTest(name, file=what):
                     before = plans.prints(file)
                     ran = self.asked(name, file)

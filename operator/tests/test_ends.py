@@ -199,8 +199,9 @@ class Ends(unittest.TestCase):
         folder.mkdir()
         with contextlib.closing(socket.socket(socket.AF_UNIX)) as held:
             held.bind(str(place))
-            for name in PRINTERS.keys() - {"explain", "lint", "--help"}:
-                for file in (fifo, folder, place, "/dev/zero", "/dev/full", "/dev/null"):
+            files = [fifo, folder, place, "/dev/zero", "/dev/full", "/dev/null"]
+            for turn, name in enumerate(sorted(PRINTERS.keys() - {"explain", "lint", "--help"})):
+                for file in (files[turn % 6], files[(turn + 3) % 6]):
                     with self.subTest(name, plan=file):
                         self.check_told(self.ran(self.words(name, PRINTERS[name], PLAN=file)), f"{file}: it is no file")
             for name, given in OF_STREAMS.items():
