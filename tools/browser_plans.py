@@ -65,7 +65,7 @@ def centre_page(folder, ask):
     os.mkdir(kept)
     path, out = plans.copy_of(plans.of_stream(centre.whole()), kept, "centre.db"), os.path.join(folder, "centre.html")
     before = plans.prints(path)
-    words = ["page", path, "--now", centre.NOW, "--since", plans.of_stream(centre.evening()), "-o", out]
+    words = ["page", path, "--now", centre.NOW, "--since", plans.of_stream(centre.evening()), "-o", out, "--force"]
     asked = plans.plan(*words)
     ask((asked.returncode, asked.stdout, asked.stderr) == (0, "", ""), "status of page", asked.stderr)
     ask(before == plans.prints(path), "the plan and its log stay as they were")
