@@ -6,6 +6,7 @@ import os
 import checked_copy
 import locks
 import moments
+import output
 import plan_file
 import scratch
 import terminal
@@ -80,7 +81,7 @@ def put(copy, target, plan, is_forced):
                 with contextlib.suppress(FileNotFoundError):
                     os.remove(target + tail)
             os.replace(part, target)
-    checked_copy.sync_folder(target)
+    output.sync_folder(target)
 
 
 @contextlib.contextmanager

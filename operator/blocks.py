@@ -59,7 +59,8 @@ def ask_count(block, names, fewest, fields):
         return
     more, wanted = "more" if count > most else "fewer", f"{most}" if fewest == most else f"{fewest} or {most}"
     of = "the first record" if block.kind in record_fields.FEWEST and block.records > 1 else block.kind
-    raise Wrong("", f"it has {count} field{'s' if count != 1 else ''}, {more} than the {wanted} of {of}: {', '.join(names)}")
+    has = f"it has {count} field{'s' if count != 1 else ''}"
+    raise Wrong("", f"{has}, {more} than the {wanted} of {of}: {', '.join(names)}")
 
 
 def take_record(block, names, take, seen, fields, line):

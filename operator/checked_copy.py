@@ -7,7 +7,7 @@ import sqlite3
 import subprocess
 
 import plan_file
-import what_if
+import trial
 import words
 
 # a log that has no page: how it begins, and at most how long it is, with what opcplan leaves behind its header
@@ -52,7 +52,7 @@ def taken(source, copy):
 
 def ask(path, copy, program):
     """Asks that opcplan opens a copy; its log is in the file then. Raises Unreadable."""
-    program = os.path.abspath(program or what_if.built_program())
+    program = os.path.abspath(program or trial.built_program())
     try:
         ran = subprocess.run([program, "--db", copy], stdin=subprocess.DEVNULL, capture_output=True, check=False)
     except OSError as error:
@@ -84,15 +84,6 @@ def write(source, path, like):
         with contextlib.suppress(PermissionError):
             os.fchown(number, stat.st_uid, stat.st_gid)
         os.fchmod(number, stat.st_mode & 0o777)
-        os.fsync(number)
-    finally:
-        os.close(number)
-
-
-def sync_folder(path):
-    """Has the disk keep what names stand beside a path."""
-    number = os.open(os.path.dirname(path), os.O_RDONLY)
-    try:
         os.fsync(number)
     finally:
         os.close(number)

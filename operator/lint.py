@@ -1,7 +1,11 @@
 """./plan lint: what a job stream says that is taken without a word, and is likely a slip."""
 
+import functools
 import textwrap
 
+import blocks
+import changes
+import explain
 import known
 import lint_checks
 import stream
@@ -16,47 +20,114 @@ WIDTH = 100
 def add_words(parser):
     parser.description = (
         "Reads a job stream and tells, with the line of its record, what opcplan takes without a word and is likely a "
-        "slip: " + "; ".join(lint_checks.KINDS.values()) + ". It knows what the stream says alone, not what a file "
-        "already holds; what is refused `./plan explain` tells. The exit status is 1 where it finds something. "
+        "slip: " + "; ".join(lint_checks.KINDS.values()) + ". With --plan it knows what the plan defines too, and "
+        "tells also what each block drops or changes of it, and " + "; ".join(lint_checks.KINDS_BY_PLAN.values())
+        + ". What is refused `./plan check` and `./plan explain` tell. The exit status is 1 where it finds something. "
         + stream.BOUND
     )
     words.add_stream(parser)
+    explain.add_known_plan(parser)
 
 
 def run(given):
-    with stream.opened(given.stream) as source:
-        found = findings(source)
+    with explain.known_at_first(given.plan) as now, stream.opened(given.stream) as source:
+        found = findings(stream.items(source), now)
     for finding in found:
-        wrapped = textwrap.wrap(f"line {finding.line}: {finding.text}", WIDTH, break_on_hyphens=False)
-        print("\n    ".join(map(terminal.fit, wrapped)))
+        print("\n".join(finding_lines(finding)))
     if not found:
         words.tell(f"{given.stream}: nothing that is likely a slip")
     return 1 if found else 0
 
 
-def findings(source):
-    """All findings of a stream, by line: they are looked for at each planning statement, and at the end."""
-    now, found, is_fresh = known.Known(), {}, False
-
-    def look():
-        for finding in lint_checks.all_of(now):
-            found.setdefault((finding.kind, finding.about, finding.line), finding)
-
-    for item in stream.items(source):
-        if item.statement is None or item.has_data and not item.is_whole:
-            continue
-        if item.statement.name in ("define", "undefine") and not now.is_repeated(item):
-            is_fresh = True
-        if not is_late_creation(now, item):
-            now.take(item)
-        if item.statement.name in PLANNING and is_fresh:
-            look()
-            is_fresh = False
-    if is_fresh:
-        look()
-    return sorted(found.values(), key=lambda finding: (finding.line, finding.kind, finding.about))
+def finding_lines(finding):
+    """A finding as it is printed, fit for a terminal."""
+    text = terminal.fit(f"line {finding.line}: {finding.text}")
+    first, *more = textwrap.wrap(text, WIDTH, break_on_hyphens=False)
+    return [first, *(f"    {line}" for line in more)]
 
 
-def is_late_creation(now, item):
-    """Whether a statement creates a plan where there is one, which is refused."""
-    return item.statement.name == "ltp-create" and now.bounds is not None
+def findings(items, now):
+    """All findings of a stream, by line, from what is known before it on. What can't be refused for its own sake is
+    taken as accepted."""
+    walk = Walk(now)
+    for item in items:
+        walk.take(item, reply_of(now, item))
+    return walk.ended()
+
+
+class Walk:
+    """A way through a stream, with what was found on it: what each statement drops, and what is looked for at each
+    planning statement and at the end. What was found in the plan before, and stands there as it was, is not told."""
+
+    def __init__(self, now):
+        self.now = now
+        self.found = {}
+        self.changed = None  # the line of the last statement that changed a definition since findings were looked for
+
+    @functools.cached_property
+    def before(self):
+        """What is found in the plan by itself."""
+        found = lint_checks.all_of(known.of_plan(self.now.plan)) if self.now.plan else ()
+        return {(one.kind, one.about) for one in found}
+
+    def take(self, item, reply):
+        """Takes an item and what it was answered."""
+        is_done = reply.startswith("ok") and item.statement is not None and not self.now.is_repeated(item)
+        if is_done and item.statement.name in ("define", "undefine"):
+            self.changed = item.line
+            for finding in losses(self.now, item):
+                self.found[finding.kind, finding.about, finding.line] = finding
+        self.now.take(item, reply)
+        if is_done and item.statement.name in PLANNING:
+            self.look()
+
+    def look(self):
+        """Looks for findings, if a definition has changed since that was done last."""
+        if self.changed is None:
+            return
+        for one in lint_checks.all_of(self.now):
+            if one.line is None and (one.kind, one.about) in self.before:
+                continue
+            one = lint_checks.Finding(one.kind, one.about, one.line or self.changed, one.text)
+            self.found.setdefault((one.kind, one.about, one.line), one)
+        self.changed = None
+
+    def ended(self):
+        """All that was found, by line, once the stream has ended."""
+        self.look()
+        return sorted(self.found.values(), key=lambda finding: (finding.line, finding.kind, finding.about))
+
+
+def losses(now, item):
+    """What a `define` drops or changes of what is defined before it, as findings."""
+    if not is_sound(item):
+        return
+    block = blocks.read(item.statement.alone, item.data)
+    if block.kind == "options":
+        given = known.definitions.Definitions(
+            default_calendar=block.defined["default_calendar"], max_hours=block.defined["max_extension_hours"]
+        )
+        told = changes.of_options(now.defined, given) if now.is_whole else ()
+    else:
+        held = getattr(now.defined, known.HELD[block.kind])
+        told = (change for name, new in block.defined.items() if name in held
+                for change in changes.of_name(block.kind, name, held[name], new))
+    for number, change in enumerate(told):
+        line = block.lines.get(change.about)
+        line = item.line if line is None else item.data_line + line
+        if change.is_loss:
+            yield lint_checks.Finding("change", (item.line, number), line, change.text)
+
+
+def reply_of(now, item):
+    """How the reply begins that an item will have, where the item shows that by itself, and what is known of bounds."""
+    if item.statement is None:
+        return "refused 10"
+    if item.has_data and not is_sound(item):
+        return "refused 11"
+    return "refused 21" if item.statement.name == "ltp-create" and now.bounds is not None else "ok"
+
+
+def is_sound(item):
+    """Whether an item has data that are read as a block without a fault."""
+    return item.has_data and item.is_whole and blocks.read(item.statement.alone, item.data).fault is None

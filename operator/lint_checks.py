@@ -3,12 +3,13 @@
 import bisect
 import dataclasses
 
+import loops
 import naming
 from definitions import FIRST_DAY, LAST_DAY
 from moments import DAY, day_text, minute_text, moment_text
-from naming_words import count_text
+from naming_words import count_text, few
 
-KINDS = {
+KINDS = {  # those that a stream shows by itself
     "past": "an offset that is past its interval",
     "open": "an offset counted from the end of an interval that has none",
     "exclusion": "an exclusion at a time that no run cycle has",
@@ -18,6 +19,10 @@ KINDS = {
     "later": "a predecessor that arrives later in the same night, so that yesterday's counts",
     "idle": "an active application without run cycles",
     "calendar": "a default calendar that isn't defined",
+    "loop": "a loop of lists of predecessors",
+}
+KINDS_BY_PLAN = {  # those that show beside what a plan defines
+    "lacking": "a calendar, a period or an application that isn't defined and that something names",
 }
 WINDOW = 42  # days over which arrivals are compared
 NIGHT = 6 * 60  # minutes within which a later predecessor belongs to the same night
@@ -25,11 +30,12 @@ NIGHT = 6 * 60  # minutes within which a later predecessor belongs to the same n
 
 @dataclasses.dataclass(frozen=True)
 class Finding:
-    """What is likely a slip: its kind, what it is about, the line of the record, and what is to be said."""
+    """What is likely a slip: its kind, what it is about, the line of the record (None: it is in the plan), and what
+    is to be said."""
 
     kind: str
     about: tuple
-    line: int
+    line: int | None
     text: str
 
 
@@ -41,7 +47,13 @@ def all_of(now):
             line = now.line_of("run-cycles", app, name)
             for kind, about, text in run_cycle_checks(now, app, cycle):
                 found.append(Finding(kind, (app, name, *about), line, f"run cycle {name} of {app}: {text}"))
-    return found + idle_applications(now) + default_calendar(now) + predecessors(now)
+    found += idle_applications(now) + default_calendar(now) + predecessors(now) + loops_of_lists(now)
+    return found + lacking(now) if now.is_whole else found
+
+
+def elsewhere(now):
+    """What is to be said behind `isn't defined`, where a plan may define it."""
+    return "" if now.is_whole else " in this stream"
 
 
 def run_cycle_checks(now, app, cycle):
@@ -73,6 +85,7 @@ def offset_checks(now, app, cycle, period):
     spans, by_work = spans_of(cycle, period), cycle.rule == "E"
     lengths = [length_of(now, app, by_work, span) for span in spans if span[1] is not None]
     most = count_text(max(lengths, default=0), "work day" if by_work else "day")
+    most += ", by this stream alone" if by_work and not now.is_whole else ""
     for offset in offsets:
         short = [span for span, length in zip(spans, lengths) if length < abs(offset)]
         what = f"offset {offset} is past {'each interval' if len(short) == len(spans) else f'{len(short)} of the'}"
@@ -112,8 +125,9 @@ def is_beyond(now, span):
 
 def idle_applications(now):
     """Active applications without run cycles."""
+    none = elsewhere(now)
     return [
-        Finding("idle", (app,), now.line_of("applications", app), f"{app} is active, and has no run cycles")
+        Finding("idle", (app,), now.line_of("applications", app), f"{app} is active, and has no run cycles{none}")
         for app, application in sorted(now.defined.applications.items())
         if application.is_active and not now.defined.run_cycles.get(app)
     ]
@@ -127,9 +141,10 @@ def default_calendar(now):
     if name in now.defined.calendars or not users:
         return []
     given = now.lines.get(("options", None), {}).get(())
-    line = given or min(now.line_of("applications", app) for app in users)
-    shown = ", ".join(users[:3]) + (f" and {len(users) - 3} more" if len(users) > 3 else "")
-    text = f"the default calendar {name} isn't defined, so each day is a work day for {shown}"
+    line = now.gone.get(("calendars", name)) or given
+    line = line or min(filter(None, (now.line_of("applications", app) for app in users)), default=None)
+    so = "so" if now.is_whole else "where the plan has none either,"
+    text = f"the default calendar {name} isn't defined{elsewhere(now)}, {so} each day is a work day for {few(users)}"
     return [Finding("calendar", (name,), line, text)]
 
 
@@ -140,12 +155,58 @@ def predecessors(now):
         for other, within in listed.items():
             line = now.line_of("predecessors", app, other)
             if other not in now.defined.applications:
-                text = f"{app} waits for {other}, which isn't defined, and so for nothing"
+                line = line or now.gone.get(("applications", other))
+                text = f"{app} waits for {other}, which isn't defined{elsewhere(now)}"
+                text += ", and so for nothing" if now.is_whole else ": where the plan has none either, for nothing"
                 found.append(Finding("unknown", (app, other), line, text))
             elif other != app:
                 both = (arrivals_of(now, name, arrivals) for name in (app, other))
                 text = later_text(app, other, within, *both)
+                text += f"{', by this stream alone' if text and not now.is_whole else ''}"
                 found += [Finding("later", (app, other), line, text)] if text else []
+    return found
+
+
+def loops_of_lists(now):
+    """Loops of the lists of predecessors, each with its members."""
+    found = []
+    for members, ring in loops.all_of(now.defined.predecessors):
+        lines = [now.line_of("predecessors", app, other) for app, other in zip(ring, ring[1:])]
+        others = [app for app in members if app not in ring]
+        text = f"the lists of predecessors have a loop: {' waits for '.join(ring)}"
+        text += f" (on a loop with these: {few(others)})" if others else ""
+        text += "; a planning statement that puts them into force is refused 25"
+        found.append(Finding("loop", tuple(members), max(filter(None, lines), default=None), text))
+    return found
+
+
+def lacking(now):
+    """Calendars, periods and applications that aren't defined and that something names."""
+    found, defined = [], now.defined
+    for app, application in sorted(defined.applications.items()):
+        if defined.lacks_calendar(app):
+            text = f"{app} names the calendar {application.calendar}, which isn't defined"
+            text += f": planning is refused 22 {app}" if application.is_active else ""
+            line = now.line_of("applications", app) or now.gone.get(("calendars", application.calendar))
+            found.append(Finding("lacking", (app, application.calendar), line, text))
+    for app, cycles in sorted(defined.run_cycles.items()):
+        is_active = app in defined.applications and defined.applications[app].is_active
+        if app not in defined.applications:
+            lines = [now.line_of("run-cycles", app, name) for name in cycles] + [now.gone.get(("applications", app))]
+            text = f"{app} has run cycles, and isn't defined as an application, so it isn't planned"
+            found.append(Finding("lacking", (app,), min(filter(None, lines), default=None), text))
+        for name, cycle in sorted(cycles.items()):
+            if cycle.period not in defined.periods:
+                text = f"run cycle {name} of {app} names the period {cycle.period}, which isn't defined"
+                text += f": planning is refused 23 {app}" if is_active else ""
+                line = now.line_of("run-cycles", app, name) or now.gone.get(("periods", cycle.period))
+                found.append(Finding("lacking", (app, name), line, text))
+    for app, listed in sorted(defined.predecessors.items()):
+        if app not in defined.applications:
+            lines = [now.line_of("predecessors", app, other) for other in listed]
+            lines.append(now.gone.get(("applications", app)))
+            text = f"{app} has a list of predecessors, and isn't defined as an application"
+            found.append(Finding("lacking", (app, "list"), min(filter(None, lines), default=None), text))
     return found
 
 
@@ -162,9 +223,10 @@ def arrivals_of(now, app, held):
 
 
 def window(now):
-    """The days over which arrivals are compared: from the plan's first, or from where all run cycles are in effect."""
+    """The days over which arrivals are compared: from the plan's end on, or from where all run cycles are in effect."""
     if now.bounds is not None:
-        return range(now.bounds[0], min(now.bounds[1] + 1, now.bounds[0] + WINDOW))
+        first = max(now.bounds[0], now.bounds[2] // DAY)
+        return range(first, min(now.bounds[1] + 1, first + WINDOW))
     cycles = [cycle for app in now.defined.run_cycles.values() for cycle in app.values() if not cycle.excludes]
     first = max((cycle.in_effect for cycle in cycles), default=FIRST_DAY)
     return range(first, min(LAST_DAY, first + WINDOW))

@@ -9,6 +9,7 @@ RULES = {
     "3": "by rule 3 it stays where it is",
     "4": "by rule 4 it is left out",
 }
+SHOWN = 5  # of the names or days in one sentence
 LONG = dict(zip(WEEKDAYS, "Monday Tuesday Wednesday Thursday Friday Saturday Sunday".split()))
 
 
@@ -30,9 +31,16 @@ def place_text(number, what):
     return f"the last {what}" if number == -1 else f"the {nth(-number)} {what} from the end"
 
 
-def count_text(number, one):
-    """`1 day`, `2 days`."""
-    return f"{number} {one}" if number == 1 else f"{number} {one}s"
+def count_text(number, one, more=None):
+    """`1 day`, `1,461 days`; `more` is the word for more than one, where it isn't the same with an s."""
+    return f"{number:,} {one if number == 1 else more or one + 's'}"
+
+
+def few(texts, most=SHOWN):
+    """The first of some texts, and how many more there are."""
+    texts = list(texts)
+    more = len(texts) - most
+    return ", ".join(texts) if more < 2 else f"{', '.join(texts[:most])} and {more:,} more"
 
 
 def entry_text(defined, app, day):

@@ -18,12 +18,22 @@ def add_words(parser):
 
 def run(given):
     with plan_file.opened(given.plan) as plan:
-        (used,) = plan.db.execute("SELECT max(number) FROM job").fetchone()
-    number = (used or 0) + 1
+        number = after_greatest(plan.db)
     if not given.short:
-        print(f"greatest used: {'none' if used is None else used}")
+        print(f"greatest used: {'none' if number == 1 else number - 1}")
     if number > GREATEST:
         words.tell(f"{given.plan}: the greatest job number, {GREATEST}, is used; lesser ones may be free")
         return 1
     print(number if given.short else f"next: {number}")
     return 0
+
+
+def after_greatest(db):
+    """The number after the greatest one that is kept."""
+    (used,) = db.execute("SELECT coalesce(max(number), 0) FROM job").fetchone()
+    return used + 1
+
+
+def kept_from(db, first):
+    """The numbers from one on that are kept."""
+    return {number for (number,) in db.execute("SELECT number FROM job WHERE number >= ?", (first,))}

@@ -125,11 +125,16 @@ def put(path, data, is_forced):
             os.replace(part, path)
         else:
             put_anew(part, path)
-    folder = os.open(os.path.dirname(path), os.O_RDONLY)
+    sync_folder(path)
+
+
+def sync_folder(path):
+    """Has the disk keep what names stand beside a path."""
+    number = os.open(os.path.dirname(path), os.O_RDONLY)
     try:
-        os.fsync(folder)
+        os.fsync(number)
     finally:
-        os.close(folder)
+        os.close(number)
 
 
 def put_anew(part, path):

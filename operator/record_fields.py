@@ -3,6 +3,7 @@
 import re
 
 import moments
+import slips
 from definitions import WEEKDAYS, Application, Calendar, Period, RunCycle
 
 FIRST_AND_LAST = "from 1972-01-01 to 2071-12-31"
@@ -26,8 +27,8 @@ class Texts:
         """A field's text."""
         try:
             return self.fields[field].decode("ascii")
-        except UnicodeDecodeError as error:
-            raise Wrong(field, f"it has the byte {self.fields[field][error.start]:02X} hexadecimal") from None
+        except UnicodeDecodeError:
+            raise Wrong(field, slips.of_bytes(self.fields[field])) from None
 
     def name(self, field, longest=16):
         """A field that is a name."""
@@ -45,8 +46,7 @@ class Texts:
         text = self.text(field)
         day = moments.day_of(text)
         if day is None:
-            looks = re.fullmatch(r"[0-9]{4}-[0-9]{2}-[0-9]{2}", text)
-            wrong = f"{'there is no such day' if looks else 'it has to be a day YYYY-MM-DD'} {FIRST_AND_LAST}"
+            wrong = slips.of_day(text) or f"it has to be a day YYYY-MM-DD {FIRST_AND_LAST}"
             raise Wrong(field, wrong + hint(text, lambda other: moments.day_of(other) is not None))
         return day
 
@@ -55,7 +55,7 @@ class Texts:
         text = self.text(field)
         minute = moments.minute_of(text)
         if minute is None:
-            wrong = "it has to be a minute HH.MM from 00.00 to 23.59"
+            wrong = slips.of_minute(text) or "it has to be a minute HH.MM from 00.00 to 23.59"
             raise Wrong(field, wrong + hint(text, lambda other: moments.minute_of(other) is not None))
         return minute
 

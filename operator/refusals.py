@@ -1,10 +1,17 @@
 """What a refusal means, in words, at its place in a stream (docs/STATEMENTS.md, docs/PLANS.md)."""
 
+import difflib
 import re
 
 import blocks
+import definitions
+import loops
 import moments
+import slips
+import statement_words
 import stream
+import waits
+from moments import DAY, day_text, moment_text
 
 DATES = {
     "days": "the last day is before the first one or after 2065-12-31, or there are more than 1,461 days",
@@ -14,6 +21,8 @@ DATES = {
     "ltp-add": "it arrives before the current plan's end or after the last day of the long-term plan",
     "cp-add": "it arrives before the first day of the long-term plan, or not before the current plan's end",
 }
+MOST_DAYS, MOST_ROWS, MOST_SERIALS = 1461, 200_000, 999_999_999
+STATUSES = {"W": "waiting", "S": "started", "E": "in error", "C": "complete"}
 NEEDS = {
     "cp-start": "waiting (W)",
     "cp-complete": "started (S) or in error (E)",
@@ -54,13 +63,7 @@ def fits(item, reply):
         return False
     if number == 12:
         return item.statement.job is not None
-    return number not in ASKED_BY and number > 32 or what_of(item.statement) in ASKED_BY.get(number, ())
-
-
-def what_of(statement):
-    """The name of a statement, or of the one that a trial tries."""
-    name = statement.name
-    return f"{name.removesuffix('trial')}{statement.alone}" if name.endswith("-trial") else name
+    return number not in ASKED_BY and number > 32 or item.statement.tried in ASKED_BY.get(number, ())
 
 
 def sentences(item, number, detail, known):
@@ -72,7 +75,11 @@ def sentences(item, number, detail, known):
 
 
 def not_a_statement(item, detail, known):
-    return [f"it is no statement: {item.wrong}"]
+    told = [f"it is no statement: {item.length <= stream.MOST_OF_LINE and slips.of_bytes(item.text) or item.wrong}"]
+    first = stream.first_word(item.text.removeprefix(blocks.BYTE_ORDER_MARK)).decode("ascii", "replace")
+    if not item.has_data and (first == "define" or statement_words.near(first, ["define"])):
+        told.append("it isn't read as `define`, so each line of its data is read as a statement, and refused too")
+    return told
 
 
 def faulty_data(item, detail, known):
@@ -117,8 +124,8 @@ def plan_exists(item, detail, known):
 def calendar_undefined(item, detail, known):
     app = known.defined.applications.get(detail)
     if app and app.calendar and app.calendar not in known.defined.calendars:
-        line = known.line_of("applications", detail)
-        return [f"the application {detail} names the calendar {app.calendar} (line {line}), which isn't defined"]
+        where = known.where("applications", detail)
+        return [f"the application {detail} names the calendar {app.calendar} ({where}), which isn't defined"]
     return [f"the application {detail} names a calendar that isn't defined"]
 
 
@@ -126,93 +133,183 @@ def period_undefined(item, detail, known):
     found = []
     for name, cycle in sorted(known.defined.run_cycles.get(detail, {}).items()):
         if cycle.period not in known.defined.periods:
-            line = known.line_of("run-cycles", detail, name)
-            found.append(f"{name} names the period {cycle.period} (line {line})")
+            found.append(f"{name} names the period {cycle.period} ({known.where('run-cycles', detail, name)})")
     which = ": " + ", ".join(found[:5]) if found else ""
     return [f"a run cycle of the application {detail} names a period that isn't defined{which}"]
 
 
 def dates_wrong(item, detail, known):
-    return [DATES[what_of(item.statement)], *bounds_text(known)]
+    name = item.statement.tried
+    told = SPANS[name](name, item.statement.values, known)
+    return [told or DATES[name], *ways_out(known, name, item.statement.values), *bounds_text(known)]
+
+
+def span_of_days(name, values, known):
+    """What is wrong with the first and the last day that `days` or `ltp-create` has; nothing where that isn't seen, as
+    in the functions below: what is known may be later than the refusal."""
+    first, last = values["from"], values["to"]
+    if last < first:
+        return f"the last day, {day_text(last)}, is before the first one, {day_text(first)}"
+    if last > definitions.LAST_PLANNING_DAY:
+        most = day_text(definitions.LAST_PLANNING_DAY)
+        return f"the last day, {day_text(last)}, is after {most}, the last that is planned"
+    if last - first + (name == "days") > MOST_DAYS:
+        return f"from {day_text(first)} to {day_text(last)} are more than {MOST_DAYS:,} days"
+    return ""
+
+
+def span_of_extension(name, values, known):
+    """What is wrong with the day to which `ltp-extend` goes."""
+    to = values["to"]
+    if not known.bounds:
+        return ""
+    if to <= known.bounds[1]:
+        return f"the plan goes to {day_text(known.bounds[1])}, and {day_text(to)} isn't later"
+    return span_of_days(name, {"from": known.bounds[2] // DAY, "to": to}, known)
+
+
+def span_of_arrival(name, values, known):
+    """What is wrong with the arrival of an addition."""
+    if not known.bounds:
+        return ""
+    ia, (first, last, end) = values["ia"], known.bounds
+    if ia < first * DAY:
+        return f"it arrives before the long-term plan begins, on {day_text(first)}"
+    if ia >= (last + 1) * DAY:
+        return f"it arrives after the long-term plan ends, with {day_text(last)}"
+    of = f"the current plan's end, {moment_text(end)}"
+    if name == "ltp-add" and ia < end:
+        return f"it arrives before {of}: `cp-add` adds to the current plan"
+    if name == "cp-add" and ia >= end:
+        return f"it doesn't arrive before {of}: `ltp-add` adds to the long-term plan"
+    return ""
+
+
+FIRST = {"dp-extend": ": `ltp-extend` first", "ltp-add": ": `ltp-extend` first", "cp-add": ": `dp-extend` first"}
+SPANS = {"days": span_of_days, "ltp-create": span_of_days, "ltp-extend": span_of_extension,
+         "ltp-add": span_of_arrival, "cp-add": span_of_arrival}
+
+
+def ways_out(known, name, values):
+    """From when to when a day or moment is taken, where the plan is known."""
+    begin, planning = values.get("from"), definitions.LAST_PLANNING_DAY
+    if name in ("days", "ltp-create"):
+        what, low, high = "the last day", begin, min(begin + MOST_DAYS - (name == "days"), planning)
+    elif not known.is_whole or known.bounds is None:
+        return []
+    else:
+        first, last, end = known.bounds
+        what, low, high = {
+            "ltp-extend": ("the new last day", last + 1, min(end // DAY + MOST_DAYS, planning)),
+            "ltp-add": ("an arrival", end, (last + 1) * DAY - 1),
+            "cp-add": ("an arrival", first * DAY, end - 1),
+            "dp-extend": ("the new plan end", end + 1, min(end + known.defined.max_hours * 60, (last + 1) * DAY)),
+        }[name]
+    text = moment_text if name in ("ltp-add", "cp-add", "dp-extend") else day_text
+    if low > high:
+        return [f"there is no such {'day' if text is day_text else 'moment'} now{FIRST.get(name, '')}"]
+    return [f"{what} may be from {text(low)} to {text(high)}"]
 
 
 def bounds_text(known):
-    """How far the plans reach, where the stream tells."""
+    """How far the plans reach, where that is known."""
     if known.bounds is None:
         return []
     first, last, end = known.bounds
-    days = f"{moments.day_text(first)} to {moments.day_text(last)}"
-    return [f"(long-term plan: {days}; end of the current plan: {moments.moment_text(end)})"]
+    days = f"{day_text(first)} to {day_text(last)}"
+    return [f"(long-term plan: {days}; end of the current plan: {moment_text(end)})"]
 
 
 def loop_of_lists(item, detail, known):
-    ring = ring_of(known.defined.predecessors, detail)
+    ring = loops.ring_of(known.lists_after(item.statement), detail)
     how = f": {' waits for '.join(ring)}" if ring else ""
     return [f"the lists of predecessors have a loop, on which {detail} stands{how}"]
-
-
-def ring_of(lists, app):
-    """The shortest way from an application over others back to it, or nothing."""
-    before, left = {}, [app]
-    while left:
-        here = left.pop(0)
-        for other in sorted(lists.get(here, ())):
-            if other == app and here != app:
-                way = [app, here]
-                while way[-1] != app:
-                    way.append(before[way[-1]])
-                return way[::-1]
-            if other not in before and other != app:
-                before[other] = here
-                left.append(other)
-    return []
 
 
 def no_application(item, detail, known):
     app = item.statement.values["app"]
     found = known.defined.applications.get(app)
     if found is None:
-        return [f"the application {app} isn't defined"]
+        where = "" if known.is_whole else " in this stream, and in the plan it isn't, or is pending"
+        near = difflib.get_close_matches(app, known.defined.applications, 1)
+        return [f"the application {app} isn't defined{where}{f' (is {near[0]} meant?)' if near else ''}"]
     if found.is_active:
         return [f"the application {app} isn't defined, or it is pending"]
-    return [f"the application {app} is pending (line {known.line_of('applications', app)})"]
+    return [f"the application {app} is pending ({known.where('applications', app)})"]
+
+
+def key_of(item):
+    return item.statement.values["app"], item.statement.values["ia"]
 
 
 def key_text(item):
-    return f"{item.statement.values['app']} {moments.moment_text(item.statement.values['ia'])}"
+    app, ia = key_of(item)
+    return f"{app} {moment_text(ia)}"
 
 
 def key_is_live(item, detail, known):
-    return [f"{key_text(item)} is there already, in the long-term plan, the current plan or history"]
+    place = known.place_of(*key_of(item))
+    there = waits.WHERE.get(place, "") if place in set("LWSECH") else ""
+    return [f"{key_text(item)} {there or 'is there already, in the long-term plan, the current plan or history'}"]
 
 
 def no_occurrence(item, detail, known):
-    where = "the long-term plan" if item.statement.name == "ltp-delete" else "the current plan"
-    return [f"there is no {key_text(item)} in {where}", *bounds_text(known)]
+    """Where there is none, where it stands else, and when the application arrives on that day."""
+    where, (app, ia) = "the long-term plan" if item.statement.name == "ltp-delete" else "the current plan", key_of(item)
+    place, told = known.place_of(app, ia), [f"there is no {key_text(item)} in {where}"]
+    if place:
+        told.append(f"it {waits.WHERE[place]}")
+    elif place == "":
+        found = known.times_of(app, ia // DAY)
+        times = ", ".join(f"{moments.minute_text(at % DAY)} ({waits.WHERE[stands]})" for at, stands in found)
+        told.append(f"on that day {app} arrives at {times}" if times else f"{app} doesn't arrive on that day")
+    return [*told, *bounds_text(known)]
 
 
 def status_forbids(item, detail, known):
-    status = known.statuses.get(key_text(item))
-    has = f"it has the status {status}" if status else "it has another status"
-    return [f"`{item.statement.name}` wants an occurrence that is {NEEDS[item.statement.name]}; {has}"]
+    """What status would be wanted, and which it is: what no statement touched is waiting, where all are known."""
+    place, name = known.place_of(*key_of(item)), item.statement.name
+    if place not in STATUSES and (known.is_whole or known.created):
+        place = "W" if place in (None, "", "L") else place
+    has = f"it has the status {place} ({STATUSES[place]})" if place in STATUSES else "it has another status"
+    return [f"`{name}` wants an occurrence that is {NEEDS[name]}; {has}"]
 
 
 def not_complete(item, detail, known):
-    serial = int(detail)
-    which = f", {known.rows[serial]}" if serial in known.rows else ""
-    return [f"an occurrence that it waits for isn't complete: serial {serial}{which}; `./plan why` shows all of them"]
+    which = known.key_of(int(detail))
+    told = f"serial {detail}{f', {which}' if which else ''}"
+    return [f"an occurrence that it waits for isn't complete: {told}; `./plan why` shows all of them"]
 
 
 def too_many(item, detail, known):
-    return ["the plans would have more than 200,000 rows together, or more than 999,999,999 serials would be given"]
+    most = f"more than {MOST_ROWS:,} rows together, or more than {MOST_SERIALS:,} serials would be given"
+    told = [f"the plans would have {most}"]
+    if known.sizes is not None:
+        rows, serials = known.sizes
+        told.append(f"they have {rows:,} rows, so {MOST_ROWS - rows:,} more are taken; {serials:,} serials were given")
+    return told
 
 
 def plan_end_wrong(item, detail, known):
-    hours = f"more than {known.defined.max_hours} hours after it (option max_extension_hours)"
+    """Which limit of a daily plan's end is passed, where the plan is known; else all of them."""
+    values = item.statement.values
+    most = known.defined.max_hours
+    other = "" if known.is_whole or ("options", None) in known.lines else ", unless the plan has another"
+    hours = f"more than {most} hours after it (option max_extension_hours{other})"
     told = f"the new plan end isn't later than the old one, is past the end of the long-term plan, or is {hours}"
-    if "days" in item.statement.values:
+    if known.is_whole and known.bounds:
+        _, last, end = known.bounds
+        to = values["to"] if "to" in values else known.end_by(values["days"], values["count"])
+        new = f"the new plan end, {moment_text(to)}," if "to" in values else "the new plan end by these days"
+        if to <= end:
+            told = f"{new} isn't later than the old one, {moment_text(end)}"
+        elif to > (last + 1) * DAY:
+            told = f"{new} is past the end of the long-term plan, {day_text(last + 1)} 00.00"
+        elif to > end + most * 60:
+            told = f"{new} is more than {most} hours (option max_extension_hours) after the old one, {moment_text(end)}"
+    elif "days" in values:
         told += ", or the days give no new end"
-    return [told, *bounds_text(known)]
+    return [told, *ways_out(known, "dp-extend", values), *bounds_text(known)]
 
 
 MEANINGS = {

@@ -13,6 +13,7 @@ import time
 import backup
 import checked_copy
 import locks
+import output
 import plan_file
 import scratch
 import terminal
@@ -86,7 +87,7 @@ def put_in_place(copy, path, like, is_new):
             with contextlib.suppress(FileNotFoundError):
                 os.remove(left)
         raise
-    checked_copy.sync_folder(path)
+    output.sync_folder(path)
     return aside
 
 
@@ -113,11 +114,11 @@ def set_aside(path, is_new):
     name = earlier(path) or free(f"{path}.{time.strftime('%Y%m%d-%H%M%S')}")
     if not is_new and not os.path.lexists(name):
         os.link(path, name)
-    checked_copy.sync_folder(path)
+    output.sync_folder(path)
     for tail in BESIDE:
         if os.path.lexists(path + tail):
             os.rename(path + tail, free(name + tail))
-    checked_copy.sync_folder(path)
+    output.sync_folder(path)
     return [os.path.basename(name + tail) for tail in ("", *BESIDE[:2]) if os.path.lexists(name + tail)]
 
 

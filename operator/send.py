@@ -14,14 +14,16 @@ import sys
 import time
 
 import explain
+import known
 import locks
+import moments
 import next_job
 import output
 import plan_file
 import statement_words
 import stream
 import terminal
-import what_if
+import trial
 import words
 
 SUMMARY = "sends a statement in words, or a job stream, and waits while the plan is in use"
@@ -75,7 +77,7 @@ def run(given):
         return 2
     try:
         check_file(given.db)
-        program = os.path.abspath(given.program or what_if.built_program())
+        program = os.path.abspath(given.program or trial.built_program())
         if line is None:
             with stream.opened("-") as source:
                 text = b"".join(source.pieces())
@@ -104,7 +106,7 @@ def check_file(path):
 
 def line_of(given):
     """The line of a statement in words, and whether it lacks its job number. Raises Refused."""
-    spelled = in_full(given)
+    spelled = in_full(list(map(as_word, given)))
     found, wrong = statement_words.read(spelled)
     if found is None:
         found, _ = statement_words.read([*spelled, "--job", "1"])
@@ -112,6 +114,12 @@ def line_of(given):
             raise Refused(wrong)
         return " ".join(spelled), True
     return " ".join(spelled), False
+
+
+def as_word(text):
+    """A moment as statements take it, also where it is typed as lists print it; another word as it is."""
+    moment = moments.typed_moment(text)
+    return text if moment is None else moments.moment_word(moment)
 
 
 def in_full(given):
@@ -152,8 +160,7 @@ def sent_in_turn(program, path, line, until):
 def next_number(path):
     """The next job number of a plan. Raises Unreadable."""
     with plan_file.opened(path) as plan:
-        (used,) = plan.db.execute("SELECT max(number) FROM job").fetchone()
-    number = (used or 0) + 1
+        number = next_job.after_greatest(plan.db)
     if number > next_job.GREATEST:
         raise plan_file.Unreadable(f"{path}: the greatest job number is used; name a lesser one by --job")
     return number
@@ -200,7 +207,7 @@ def refusal_lines(text, answered):
         return []
     asked, answers = (stream.Source(io.BytesIO(data), "what was sent", explain.OF_OUTPUT) for data in (text, answered))
     try:
-        lines, _, _ = explain.explained(stream.items(asked), answers)
+        lines, _, _ = explain.explained(stream.items(asked), answers, known.Known())
     except explain.Unlike as why:
         return [terminal.fit(f"plan: the planner doesn't answer as opcplan does: {why}")]
     return ["\n".join(lines).rstrip("\n")]

@@ -1,5 +1,6 @@
-"""The rules that the rows of a plan keep (docs/TABLES.md), asked once where its file is read: forms and ranges of values,
-and how rows refer to each other. `opcplan` asks more: loops, keys that stand twice, and which pairs there have to be."""
+"""The rules that the rows of a plan keep (docs/TABLES.md), asked once where its file is read: forms and ranges of
+values, and how rows refer to each other. `opcplan` asks more: loops, keys that stand twice, and which pairs there have
+to be."""
 
 import re
 from typing import NamedTuple
@@ -55,7 +56,9 @@ DAY = between(definitions.FIRST_DAY, definitions.LAST_DAY, "a day")
 MOMENT = between(FIRST_MOMENT, LAST_MOMENT, "a moment")
 PLAN_DAY = Rule(f"CASE created WHEN 0 THEN {{0}} IS 0 ELSE {DAY.holds} END", f"{DAY.words}, or 0 without a plan")
 PLAN_END = Rule(f"CASE created WHEN 0 THEN {{0}} IS 0 ELSE {MOMENT.holds} END", f"{MOMENT.words}, or 0 without a plan")
-ENTRY = Rule(f"CASE kind WHEN 0 THEN {between(0, 6).holds} ELSE {DAY.holds} END", f"a weekday from 0 to 6, or {DAY.words}")
+ENTRY = Rule(
+    f"CASE kind WHEN 0 THEN {between(0, 6).holds} ELSE {DAY.holds} END", f"a weekday from 0 to 6, or {DAY.words}"
+)
 SECOND = Rule(
     f"CASE type WHEN 'N' THEN ({{0}} IS NULL OR {DAY.holds} AND {{0}} >= origin) ELSE {between(1, 1999).holds} END",
     "an interval from 1 to 1999, or for type N a day from the origin on or NULL",
@@ -63,7 +66,9 @@ SECOND = Rule(
 OFFSET = Rule(f"({between(-1999, 1999).holds} AND {{0}} <> 0)", "a number from 1 to 1999, or from -1999 to -1")
 # for type X both parts of a deadline may be missing, together
 DUE = "CASE WHEN {{0}} IS NULL THEN type = 'X' AND {1} IS NULL ELSE {0} END"
-DUE_DAY = Rule(DUE.format(between(0, 99).holds, "deadline_time"), "a number from 0 to 99, for type X or NULL, as the time")
+DUE_DAY = Rule(
+    DUE.format(between(0, 99).holds, "deadline_time"), "a number from 0 to 99, for type X or NULL, as the time"
+)
 DUE_TIME = Rule(DUE.format(MINUTE.holds, "deadline_day"), f"{MINUTE.words}, for type X or NULL, as the day")
 BODY = Rule("typeof({0}) = 'blob'", "a BLOB")
 TEXT = Rule("typeof({0}) = 'text'", "a text")

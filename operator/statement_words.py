@@ -5,6 +5,7 @@ import difflib
 import re
 
 import moments
+import slips
 
 KINDS = ("calendars", "periods", "applications", "run-cycles", "predecessors", "options")
 ALONE = {  # the words without an option that a statement takes, one of them
@@ -67,6 +68,11 @@ class Statement:
         """Its job number, or None."""
         return self.values.get("job")
 
+    @property
+    def tried(self):
+        """Its name, and for a trial that of the statement that it tries."""
+        return f"{self.name.removesuffix('trial')}{self.alone}" if self.name.endswith("-trial") else self.name
+
 
 class Wrong(Exception):
     """Why words are no statement."""
@@ -88,7 +94,8 @@ def statement_of(words):
     if name in ALONE:
         check_alone(name, alone)
     elif alone:
-        raise Wrong(f"`{name}` takes no word without an option, and `{cut(alone[0])}` is one")
+        told = ": a day and its time are one word, 2026-11-25/06.00" if moments.minute_of(alone[0]) is not None else ""
+        raise Wrong(f"`{name}` takes no word without an option, and `{cut(alone[0])}` is one{told}")
     word = alone[0] if alone else None
     what = f"{name} {word}" if name.endswith("-trial") else name
     needed = NEEDED[what]
@@ -150,8 +157,18 @@ def value_of(form, option, text):
     """The value that a text spells."""
     found = spelled(form, text)
     if found is None:
-        raise Wrong(f"`--{option}` takes {FORMS[form]}, and not `{cut(text)}`")
+        raise Wrong(f"`--{option}` takes {FORMS[form]}, and not `{cut(text)}`" + slip_of(form, text))
     return found
+
+
+def slip_of(form, text):
+    """What is likely wrong with a value, where that is easily said, else nothing."""
+    said = {"day": slips.of_day, "moment": slips.of_moment}.get(form, lambda _: "")(text)
+    if not said and spelled(form, text.upper()) is not None:
+        said = f"in capital letters it would be one, {cut(text.upper())}"
+    if not said and form == "job" and re.fullmatch("0+[1-9][0-9]{0,8}", text):
+        said = f"without the zeros it would be one, {text.lstrip('0')}"
+    return f": {said}" if said else ""
 
 
 def spelled(form, text):

@@ -161,3 +161,9 @@ def read_line(line, length):
         if byte != 9 and not 32 <= byte <= 126:
             return None, f"byte {place} of the line is {byte:02X} hexadecimal, which is no printable character"
     return statement_words.read(line.decode("ascii").replace("\t", " ").split())
+
+
+def text_of_job(item):
+    """The text under which the job of a statement is kept."""
+    text = " ".join(item.statement.words).encode("ascii")
+    return text + b"\n" + item.data if item.has_data else text

@@ -157,7 +157,7 @@ def late_text(row, now):
 
 def jobs_of_key(plan, app, ia):
     """The jobs that asked something of one key, by number, refused ones too: (number, statement's name, reply)."""
-    arrival = moments.moment_text(ia).replace(" ", "/")
+    arrival = moments.moment_word(ia)
     asked = "SELECT number, body, reply FROM job WHERE instr(body, ?1) AND instr(body, ?2) ORDER BY number"
     found = []
     for number, body, reply in plan.db.execute(asked, (app.encode(), arrival.encode())):

@@ -1,24 +1,18 @@
 """./plan what-if: what a stream would change of a plan, tried on a private copy."""
 
 import collections
-import contextlib
-import os
-import sqlite3
-import subprocess
 
+import changes
 import definitions
 import explain
 import moments
-import plan_file
-import scratch
 import stream
 import terminal
+import trial
 import waits
 import words
 
 SUMMARY = "what a stream would change of a plan, tried on a private copy"
-TOP = os.path.dirname(os.path.dirname(os.path.abspath(__file__)))
-PROGRAMS = [os.path.join(TOP, "crates", "opcplan", "out", "opcplan"), os.path.join(TOP, "release", "opcplan")]
 KINDS = ["calendars", "periods", "applications", "run_cycles", "predecessors"]
 PLACES = {
     "L": "long-term plan",
@@ -32,9 +26,6 @@ PLACES = {
     "w": "withdrawn",
     "p": "deleted in the current plan",
 }
-FAULTED = 8
-# of what the planner tells on standard error, and of its answers
-MOST_SAID, OF_ANSWERS = 10_000, stream.Bounds(1 << 40, 1 << 40)
 
 
 def add_words(parser):
@@ -44,79 +35,21 @@ def add_words(parser):
         "otherwise. The plan stays as it is. The exit status is 1 where a statement is refused. " + stream.BOUND
     )
     words.add_plan(parser)
-    words.add_stream(parser)
-    parser.add_argument("--program", metavar="FILE", type=words.file,
-                        help="the planner that tries it (else the one that is built here)")
+    trial.add_words(parser, "tries")
 
 
 def run(given):
-    program = os.path.abspath(given.program or built_program())
-    with plan_file.opened(given.plan) as plan, scratch.folder("what-if-") as folder:
-        text, copy, said = (os.path.join(folder, name) for name in ("stream.in", "plan.db", "said"))
-        copy_stream(given.stream, text)
-        copy_plan(plan, copy)
-        try:
-            replies, status = tried(program, copy, text, said)
-        except explain.Unlike as why:
-            words.tell(f"{program} doesn't answer as opcplan does: {why}")
-            return 1
-        with plan_file.opened(copy) as after:
-            changes = difference(plan, after)
-        with open(said, "rb") as file:
-            told = file.read(MOST_SAID).decode(errors="replace")
-    print("\n".join([*replies, terminal.text(changes)]))
-    for line in told.splitlines():
-        words.tell(f"the planner says: {line.removeprefix('opcplan: ')}")
-    if status >= FAULTED or status < 0:
-        how = f"by signal {-status}" if status < 0 else f"with status {status}"
-        words.tell(f"the planner ended {how}; what is shown is what it did before")
-    return 0 if status == 0 else 1
+    with trial.tried(given.plan, given.stream, reply_lines, given.program) as tried:
+        lines = [*tried.found, terminal.text(difference(tried.plan, tried.after))]
+    print("\n".join(lines))
+    trial.tell_end(tried)
+    return 0 if tried.status == 0 else 1
 
 
-def built_program():
-    """The program that was built here, or else the release."""
-    for program in PROGRAMS:
-        if os.path.exists(program):
-            return program
-    raise plan_file.Unreadable("there is no built planner to try it with: ./opcplan builds one, --program names one")
-
-
-def copy_stream(name, copy):
-    """Copies a stream up to its bound. Raises Unreadable."""
-    with stream.opened(name) as source, open(copy, "wb") as target:
-        target.writelines(source.pieces())
-
-
-def copy_plan(plan, copy):
-    """Makes the file of a copy. Raises Unreadable."""
-    try:
-        with contextlib.closing(sqlite3.connect(copy)) as other:
-            plan.db.backup(other)
-    except sqlite3.Error as error:
-        raise plan_file.Unreadable(f"{plan.path}: a private copy can't be made: {error}") from None
-
-
-def tried(program, copy, text, said):
-    """Runs a stream over a plan: the lines on its replies, fit for a terminal, and the status; what is told on standard
-    error goes to `said`. Raises Unlike, and Unreadable where there is no such program."""
-    with open(text, "rb") as asked, open(said, "wb") as errors:
-        try:
-            ran = subprocess.Popen([program, "--db", copy], stdin=asked, stdout=subprocess.PIPE, stderr=errors)
-        except OSError as error:
-            raise plan_file.Unreadable(f"{program}: it can't be run: {error.strerror}") from None
-        with ran:
-            try:
-                lines = reply_lines(text, stream.Source(ran.stdout, program, OF_ANSWERS))
-            except BaseException:
-                ran.kill()
-                raise
-    return lines, ran.returncode
-
-
-def reply_lines(text, output):
-    """How many statements were accepted and refused, and each that was refused, in the words of explain."""
-    with stream.opened(text) as source:
-        lines, refused, answered = explain.explained(stream.items(source), output)
+def reply_lines(items, output, now):
+    """How many statements were accepted and refused, and each that was refused, in the words of explain, fit for a
+    terminal."""
+    lines, refused, answered = explain.explained(items, output, now)
     told = ["", "\n".join(lines).rstrip("\n")] if lines else []
     return [f"{answered - refused} accepted, {refused} refused", *told]
 
@@ -124,27 +57,32 @@ def reply_lines(text, output):
 # What is different.
 
 
-def difference(before, after):
-    """Definitions, bounds and occurrences that differ between two plans, in lines."""
+def difference(before, after, most=None):
+    """Definitions, bounds and occurrences that differ between two plans, in lines; of the occurrences so many at
+    most."""
     lines = definition_lines(definitions.of_plan(before), definitions.of_plan(after))
     lines += bound_lines(before.meta, after.meta)
     rows_before, rows_after = ({row.serial: row for row in waits.rows_where(plan, "1")} for plan in (before, after))
-    lines += occurrence_lines(rows_before, rows_after)
+    lines += occurrence_lines(rows_before, rows_after, most)
     return lines or ["", "Nothing would be different but the jobs that are kept."]
 
 
 def definition_lines(before, after):
-    """The names whose definitions differ, by kind, and the options."""
+    """The names whose definitions differ, by kind, what was changed of each, and the options."""
     lines = []
     for kind in KINDS:
         held, now = getattr(before, kind), getattr(after, kind)
+        changed = sorted(name for name in held.keys() & now.keys() if held[name] != now[name])
         for said, names in (
             ("new", now.keys() - held.keys()),
-            ("changed", {name for name in held.keys() & now.keys() if held[name] != now[name]}),
+            ("changed", changed),
             ("gone", held.keys() - now.keys()),
         ):
             if names:
                 lines.append(f"  {kind.replace('_', ' ')} {said}: {', '.join(sorted(names))}")
+            for name in changed if said == "changed" else ():
+                told = changes.of_name(kind.replace("_", "-"), name, held[name], now[name])
+                lines += [f"    {change.text}" for change in told]
     if before.default_calendar != after.default_calendar:
         lines.append(f"  the default calendar: {before.default_calendar}, then {after.default_calendar}")
     if before.max_hours != after.max_hours:
@@ -169,8 +107,9 @@ def bound_lines(before, after):
     return ["", "Plans:", *lines] if lines else []
 
 
-def occurrence_lines(before, after):
-    """How many occurrences come to stand elsewhere, from where to where, and then each of them."""
+def occurrence_lines(before, after, most=None):
+    """How many occurrences come to stand elsewhere, from where to where, and then each of them, or the first of them
+    and how many more."""
     changed = [row for serial, row in after.items() if is_other(before.get(serial), row)]
     changed.sort(key=lambda row: (row.ia, row.app, row.serial))
     if not changed:
@@ -181,12 +120,14 @@ def occurrence_lines(before, after):
     for (old, new), count in sorted(counts.items()):
         lines.append(f"  {count:{wide}}  {f'{old}, due or named otherwise' if old == new else f'{old} -> {new}'}")
     table = [("serial", "application", "arrives", "before", "then", "due")]
-    table += [occurrence_cells(before.get(row.serial), row) for row in changed]
+    table += [occurrence_cells(before.get(row.serial), row) for row in changed[:most]]
     widths = [max(map(len, column)) for column in zip(*table)]
     for serial, *cells in table:
         padded = "  ".join(f"{cell:{width}}" for cell, width in zip(cells, widths[1:]))
         lines.append(f"  {serial:>{widths[0]}}  {padded}".rstrip())
-    return lines[: -len(table)] + [""] + lines[-len(table) :]
+    more = len(changed) - len(table) + 1
+    lines.insert(-len(table), "")
+    return lines + ([f"  and {more} more, which `./plan what-if` shows"] if more else [])
 
 
 def is_other(old, new):

@@ -1,4 +1,4 @@
-"""How fast this machine is: limits on time are those of one that does the work below in half a second of a processor."""
+"""How fast this machine is: limits on time are those of one that does the work below in half a second of processor."""
 
 import json
 import time

@@ -3,8 +3,10 @@
 The built program makes them where it is there; else the rows of tools/plain_planner.py are put into its tables."""
 
 import atexit
+import contextlib
 import functools
 import hashlib
+import io
 import os
 import re
 import shutil
@@ -25,7 +27,10 @@ for folder in (TOP / "tools", TOP / "operator"):
         sys.path.insert(0, str(folder))
 
 import plain_planner as plain  # noqa: E402
+import plan_file  # noqa: E402
 import plan_rows  # noqa: E402
+import stream as module_stream  # noqa: E402
+import words as module_words  # noqa: E402
 
 
 def as_bytes(text):
@@ -43,6 +48,16 @@ def folder():
 def stream(name):
     """The text of a worked stream."""
     return (DATA / f"{name}.in").read_bytes()
+
+
+def items_of(text):
+    """The items of a stream's text, as operator/stream.py reads them."""
+    return module_stream.items(source_of(text))
+
+
+def source_of(text):
+    """A text as operator/stream.py reads it."""
+    return module_stream.Source(io.BytesIO(as_bytes(text)), "a text")
 
 
 def planner_of(text):
@@ -95,6 +110,7 @@ def write(planner, path):
     """Makes the file of a plan with what a plain planner knows."""
     with closing(sqlite3.connect(path)) as db:
         db.execute("PRAGMA journal_mode = WAL")
+        db.execute("PRAGMA synchronous = OFF")
         for text in schema():
             db.execute(text)
         for table, rows in plan_rows.rows_told(planner).items():
@@ -108,6 +124,21 @@ def plan(*words, text=None, **how):
     """What ./plan answers: .returncode, .stdout and .stderr as texts."""
     given = [TOP / "plan", *map(str, words)]
     return subprocess.run(given, input=text, capture_output=True, encoding="utf-8", check=False, timeout=300, **how)
+
+
+def plan_here(module, *words):
+    """What a subcommand's module answers, as `plan` does, run in this process."""
+    parser, out, told = module_words.Parser(prog=f"plan {module.__name__}"), io.StringIO(), io.StringIO()
+    module.add_words(parser)
+    with contextlib.redirect_stdout(out), contextlib.redirect_stderr(told):
+        try:
+            status = module.run(parser.parse_args([str(word) for word in words]))
+        except SystemExit as ended:
+            status = ended.code
+        except plan_file.Unreadable as error:
+            module_words.tell(str(error))
+            status = 1
+    return subprocess.CompletedProcess(words, status, out.getvalue(), told.getvalue())
 
 
 def prints(path):

@@ -16,11 +16,16 @@ READERS = {
     "why": ["PLAN", "LEDGER", "2024-01-01/18.00"],
     "why-day": ["PLAN", "LEDGER", "2024-01-01"],
     "late": ["PLAN", "--now", "2024-01-02/12.00"],
+    "rows": ["PLAN"],
     "next-job": ["PLAN"],
     "what-if": ["PLAN", "STREAM"],
+    "check": ["PLAN", "STREAM"],
+    "run": ["PLAN", "STREAM"],
     "export": ["PLAN", "--csv"],
     "dump": ["PLAN"],
     "backup": ["PLAN", "COPY"],
+    "edit": ["PLAN", "calendar", "DEFAULT", "2024-01-05", "free"],
+    "import": ["--cron", "CRONTAB", "PLAN"],
 }
 OF_STREAMS = {"explain", "lint"}
 WRITERS = {"restore", "send"}
@@ -41,9 +46,12 @@ class Commands(unittest.TestCase):
         self.room = Path(room.name)
         self.stream = self.room / "stream.in"
         self.stream.write_bytes(plans.stream("tuesday"))
+        self.crontab = self.room / "crontab"
+        self.crontab.write_text("0 1 * * * backup\n")
 
     def asked(self, name, file):
-        names = {"PLAN": file, "STREAM": self.stream, "OUT": self.room / "page.html", "COPY": self.room / "copy"}
+        names = {"PLAN": file, "STREAM": self.stream, "OUT": self.room / "page.html", "COPY": self.room / "copy",
+                 "CRONTAB": self.crontab}
         return plans.plan(name, *(names.get(word, word) for word in READERS[name]))
 
     def strangers(self):
@@ -79,8 +87,8 @@ class Commands(unittest.TestCase):
             yield name, file
 
     def test_files_that_are_no_plan_are_told_and_stay(self):
-        for what, file in self.strangers():
-            for name in READERS:
+        for turn, (what, file) in enumerate(self.strangers()):
+            for name in READERS if what in ("missing", "version") else list(READERS)[turn % 3 :: 3]:
                 with self.subTest(name, file=what):
                     before = plans.prints(file)
                     ran = self.asked(name, file)

@@ -21,15 +21,20 @@ PRINTERS = {
     "why": ["PLAN", "LEDGER", "2024-01-01/18.00"],
     "why-day": ["PLAN", "LEDGER", "2024-01-01"],
     "late": ["PLAN", "--now", "2024-01-01/12.00"],
+    "rows": ["PLAN"],
     "next-job": ["PLAN"],
     "what-if": ["PLAN", "STREAM", "--program", str(plans.PROGRAM)],
+    "check": ["PLAN", "STREAM", "--program", str(plans.PROGRAM)],
+    "run": ["PLAN", "STREAM", "--program", str(plans.PROGRAM)],
+    "backup": ["PLAN", "COPY", "--force", "--program", str(plans.PROGRAM)],
     "export": ["PLAN", "--csv"],
     "dump": ["PLAN"],
     "explain": ["STREAM", "OUTPUT"],
     "lint": ["SLIP"],
     "--help": [],
 }
-OF_STREAMS = {"what-if": ["PLAN", "STREAM"], "explain": ["STREAM", "OUTPUT"], "lint": ["STREAM"]}
+OF_STREAMS = {"what-if": ["PLAN", "STREAM"], "check": ["PLAN", "STREAM"], "explain": ["STREAM", "OUTPUT"],
+              "lint": ["STREAM"]}
 SLIP = b"define calendars --job 1\nOTHER,SAT,FREE\n/*\ndefine applications --job 2\nA,A,\n/*\n"
 # what a command may take: memory and the bytes of a file, and seconds of a processor
 MOST_MEMORY, MOST_OF_FILE, MOST_TIME = 600 << 20, 90 << 20, 60
@@ -45,7 +50,7 @@ class Ends(unittest.TestCase):
         (self.room / "plan").mkdir()
         self.plan = plans.copy_of(plans.of_worked("monday"), self.room / "plan")
         self.files = {"PLAN": self.plan, "STREAM": self.room / "stream.in", "OUTPUT": self.room / "stream.out",
-                      "SLIP": self.room / "slip.in"}
+                      "SLIP": self.room / "slip.in", "COPY": self.room / "copy.db"}
         self.files["STREAM"].write_bytes(plans.stream("tuesday"))
         self.files["OUTPUT"].write_bytes((plans.DATA / "tuesday.out").read_bytes())
         self.files["SLIP"].write_bytes(SLIP)
@@ -118,7 +123,7 @@ class Ends(unittest.TestCase):
                     before = plans.prints(self.plan)
                     words = self.words(name, given, PIPE=self.room / "pipe")
                     with subprocess.Popen(words, stdout=subprocess.PIPE, stderr=subprocess.PIPE,
-                                          env=self.environment()) as ran:
+                                          env=self.environment(), preexec_fn=heed) as ran:
                         wait_for(lambda: name == "page" or os.listdir(self.temporary))
                         time.sleep(0.5 if name == "page" else 0.1)
                         ran.send_signal(number)
@@ -132,7 +137,8 @@ class Ends(unittest.TestCase):
         program.write_text(f"#!/bin/sh\necho $$ > {self.room}/number\nexec sleep 300\n")
         program.chmod(0o755)
         words = self.words("what-if", ["PLAN", "STREAM", "--program", str(program)])
-        with subprocess.Popen(words, stdout=subprocess.PIPE, stderr=subprocess.PIPE, env=self.environment()) as ran:
+        with subprocess.Popen(words, stdout=subprocess.PIPE, stderr=subprocess.PIPE, env=self.environment(),
+                              preexec_fn=heed) as ran:
             wait_for(lambda: (self.room / "number").exists() and (self.room / "number").read_text().strip())
             ran.send_signal(signal.SIGTERM)
             _, told = ran.communicate(timeout=60)
@@ -193,8 +199,9 @@ class Ends(unittest.TestCase):
         folder.mkdir()
         with contextlib.closing(socket.socket(socket.AF_UNIX)) as held:
             held.bind(str(place))
-            for name in PRINTERS.keys() - {"explain", "lint", "--help"}:
-                for file in (fifo, folder, place, "/dev/zero", "/dev/full", "/dev/null"):
+            files = [fifo, folder, place, "/dev/zero", "/dev/full", "/dev/null"]
+            for turn, name in enumerate(sorted(PRINTERS.keys() - {"explain", "lint", "--help"})):
+                for file in (files[turn % 6], files[(turn + 3) % 6]):
                     with self.subTest(name, plan=file):
                         self.check_told(self.ran(self.words(name, PRINTERS[name], PLAN=file)), f"{file}: it is no file")
             for name, given in OF_STREAMS.items():
@@ -261,6 +268,12 @@ class Ends(unittest.TestCase):
         self.assertIn(b"defect of ./plan: IndexError", ran.stderr)
         asked = self.ran(["env", "PLAN_TRACEBACK=1", *words])
         self.assertIn(b"Traceback", asked.stderr)
+
+
+def heed():
+    """Takes each signal as it is by itself, also where these tests run with some ignored, as under nohup."""
+    for number in (signal.SIGTERM, signal.SIGHUP, signal.SIGINT):
+        signal.signal(number, signal.SIG_DFL)
 
 
 def limit():

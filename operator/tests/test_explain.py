@@ -14,9 +14,8 @@ from plans import plain
 
 import blocks
 import explain
-import moments
+import known
 import record_fields
-import stream
 from stream import MOST_OF_BLOCK
 
 # the plain planner takes its time over these: their lines are held, and not what stands behind them
@@ -79,11 +78,7 @@ def parts(lines):
 
 
 def explained(text, output):
-    return explain.explained(stream.items(source_of(text)), source_of(output))
-
-
-def source_of(text):
-    return stream.Source(io.BytesIO(text), "a text")
+    return explain.explained(plans.items_of(text), plans.source_of(output), known.Known())
 
 
 class Worked(unittest.TestCase):
@@ -203,12 +198,14 @@ class Worked(unittest.TestCase):
             said = f"long-term plan: {plain.day_text(first)} to {plain.day_text(last)}; end of the current plan: "
             self.assertIn(said + plain.moment_text(end), text)
 
-    def check_25(self, planner, _word, _values, _block, detail, text):
-        ring = text.partition("stands: ")[2].split(" waits for ")
-        if len(ring) > 1:
-            self.assertEqual((ring[0], ring[-1]), (detail[0], detail[0]))
-            for app, predecessor in zip(ring, ring[1:]):
-                self.assertIn(predecessor, planner.defined["predecessors"][app])
+    def check_25(self, planner, _word, values, _block, detail, text):
+        ring, lists = text.partition("stands: ")[2].split(" waits for "), planner.defined["predecessors"]
+        if "app" in values:  # a modification of one puts its list alone into force
+            lists = {**planner.in_force, values["app"]: lists.get(values["app"], {})}
+        self.assertGreater(len(ring), 2)
+        self.assertEqual((ring[0], ring[-1]), (detail[0], detail[0]))
+        for app, predecessor in zip(ring, ring[1:]):
+            self.assertIn(predecessor, lists[app])
 
     def check_26(self, planner, _word, values, _block, _detail, text):
         known = values["app"] in planner.defined["applications"]
@@ -237,7 +234,7 @@ class Fields(unittest.TestCase):
     def test_the_field_that_is_named_is_at_fault(self):
         seen = collections.Counter()
         for name, text, _ in worked():
-            for item in stream.items(source_of(text)):
+            for item in plans.items_of(text):
                 if item.statement and item.data is not None and len(item.data) <= MOST_OF_BLOCK:
                     block = blocks.read(item.statement.alone, item.data)
                     with self.subTest(name, line=item.line):

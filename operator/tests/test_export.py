@@ -72,8 +72,8 @@ A@1,$RC,N,DAY,3,1,2024-01-01,,12.00,0,18.00
 ltp-create --from 2024-01-01 --to 2024-01-01 --job 4
 """
 # what no plan may have as a name, and a calendar would take for lines of its own
-NAMES = ["X\r\nATTACH:http://example.com/x", "X\rSUMMARY:Y\nEND:VEVENT", "a;b,c\\d", "\u00e4" * 112, "Z" * 71 + "\U0001d11e" * 9,
-         "\x1b[2J\x9b\x00", "\u2028X", "BEGIN:VEVENT"]
+NAMES = ["X\r\nATTACH:http://example.com/x", "X\rSUMMARY:Y\nEND:VEVENT", "a;b,c\\d", "\u00e4" * 112,
+         "Z" * 71 + "\U0001d11e" * 9, "\x1b[2J\x9b\x00", "\u2028X", "BEGIN:VEVENT"]
 # Debian's python3-icalendar, where it is installed, is a module of Debian's own Python
 DEBIAN = "/usr/bin/python3"
 PARSER = """import icalendar, json, sys

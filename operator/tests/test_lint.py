@@ -1,6 +1,5 @@
 """./plan lint: what it finds is, by the plain planner, what names nothing or means something else than it says."""
 
-import io
 import itertools
 import re
 import shutil
@@ -15,7 +14,6 @@ import known
 import lint
 import lint_checks
 import moments
-import stream
 from test_why_day import defined_by
 
 SLIPS = """* Each slip once.
@@ -50,6 +48,8 @@ CORE,NEVER,N,MON,1,1,2024-01-01,2024-01-01,12.00,0,12.00
 define predecessors --job 5
 CORE,POST
 CORE,NOBODY
+IDLE,PENDING
+PENDING,IDLE
 /*
 ltp-create --from 2024-01-01 --to 2024-04-30 --job 6
 """
@@ -58,21 +58,41 @@ FOUND = [
     (24, "past", ("CORE", "PAST", -8)), (24, "past", ("CORE", "PAST", 8)), (25, "past", ("CORE", "SIXTH", 6)),
     (26, "past", ("CORE", "FIVE", 6)), (27, "due", ("CORE", "END")), (27, "open", ("CORE", "END", -1)),
     (27, "past", ("CORE", "END", 30)), (28, "effect", ("CORE", "NEVER")), (31, "later", ("CORE", "POST")),
-    (32, "unknown", ("CORE", "NOBODY")),
+    (32, "unknown", ("CORE", "NOBODY")), (34, "loop", ("IDLE", "PENDING")),
 ]
 
 
 def findings(text):
-    return lint.findings(stream.Source(io.BytesIO(text.encode() if isinstance(text, str) else text), "stream.in"))
+    return lint.findings(plans.items_of(text), known.Known())
 
 
 def known_after(text):
     """What is known at the end of a stream."""
     now = known.Known()
-    for item in stream.items(stream.Source(io.BytesIO(text), "stream.in")):
+    for item in plans.items_of(text):
         if item.statement and (not item.has_data or item.is_whole):
             now.take(item)
     return now
+
+
+def loops_by_ways(lists):
+    """The applications of each loop: those that are reached from each other."""
+    def reached(app):
+        found, left = set(), [app]
+        while left:
+            more = set(lists.get(left.pop(), ())) - found
+            found |= more
+            left += more
+        return found
+
+    # a list that nobody can come back to is on none
+    left = {app: set(listed) - {app} for app, listed in lists.items()}
+    while ends := [app for app, listed in left.items() if not listed & left.keys()]:
+        for app in ends:
+            del left[app]
+    ways = {app: reached(app) for app in left}
+    loops = ({app} | {other for other in ways[app] & ways.keys() if app in ways[other]} for app in ways)
+    return {tuple(sorted(loop)) for loop in loops if len(loop) > 1}
 
 
 class Found(unittest.TestCase):
@@ -89,6 +109,7 @@ class Found(unittest.TestCase):
             "due": ("11.00,0,10.59", "11.00,0,11.00"),
             "later": ("23.45,1", "22.45,1"),
             "unknown": ("CORE,NOBODY", "CORE,IDLE"),
+            "loop": ("PENDING,IDLE", "PENDING,POST"),
             "open": ("MON,N,2024-03-01,", "MON,N,2024-03-01,2024-03-31"),
         }
         for kind, (old, new) in mends.items():
@@ -132,18 +153,21 @@ class Meaning(unittest.TestCase):
                 for kind, about in self.wanted(planner):
                     seen.add(kind)
                 about_of = {kind: {one.about for one in found if one.kind == kind} for kind in lint_checks.KINDS}
-                for kind in ("calendar", "idle", "unknown", "effect", "due", "exclusion"):
+                for kind in ("calendar", "idle", "unknown", "effect", "due", "exclusion", "loop"):
                     wanted = {about for other, about in self.wanted(planner) if other == kind}
                     self.assertEqual(about_of[kind], wanted, kind)
                 self.check_offsets(planner, now, about_of)
                 self.check_exclusions(planner, about_of["exclusion"])
-        self.assertEqual(seen, {"calendar", "idle", "unknown", "effect", "due", "exclusion"})
+        self.assertEqual(seen, {"calendar", "idle", "unknown", "effect", "due", "exclusion", "loop"})
 
     def check_lines(self, text, found):
         """A finding's line has the record that it is about."""
         lines = text.split(b"\n")
         for one in found:
-            if one.kind != "calendar":
+            if one.kind == "loop":
+                fields = lines[one.line - 1].decode("ascii").rstrip("\r").split(",")
+                self.assertLessEqual(set(fields[:2]), set(one.about))
+            elif one.kind != "calendar":
                 names = [name for name in one.about if isinstance(name, str)]
                 fields = lines[one.line - 1].decode("latin-1").replace('"', "").rstrip("\r").split(",")
                 self.assertEqual(fields[: len(names)], names)
@@ -161,6 +185,7 @@ class Meaning(unittest.TestCase):
         for app, listed in defined["predecessors"].items():
             for other in set(listed) - set(defined["applications"]):
                 yield "unknown", (app, other)
+        yield from (("loop", loop) for loop in loops_by_ways(defined["predecessors"]))
         for app, cycles in defined["run-cycles"].items():
             times = {cycle["time"] for cycle in cycles.values() if cycle["kind"] == "N"}
             for name, cycle in cycles.items():
@@ -292,7 +317,7 @@ class Command(unittest.TestCase):
         self.assertIn("at 2024-01-02 23.45: so it waits for the one of 2024-01-01 23.45", " ".join(ran.stdout.split()))
 
     def test_nothing(self):
-        for text in ("", "list cp\n", (plans.DATA / "data-centre-year.in").read_text(encoding="utf-8")):
+        for text in ("", "list cp\n", (plans.DATA / "monday.in").read_text(encoding="utf-8")):
             ran = self.ask(text)
             self.assertEqual((ran.returncode, ran.stdout), (0, ""))
             self.assertIn("nothing that is likely a slip", ran.stderr)

@@ -25,7 +25,8 @@ SQLITE, TURNS = shutil.which("sqlite3"), 150
 def put_sums(file):
     """Stock SQLite leaves eight bytes of each page free, and tools/put-sums fills them."""
     target = file.with_suffix(".sums")
-    subprocess.run([SQLITE, file, ".filectrl reserve_bytes 8", f"VACUUM INTO '{target}'"], check=True, capture_output=True)
+    words = [SQLITE, file, ".filectrl reserve_bytes 8", f"VACUUM INTO '{target}'"]
+    subprocess.run(words, check=True, capture_output=True)
     subprocess.run([plans.TOP / "tools" / "put-sums", target], check=True)
     return target
 

@@ -184,7 +184,8 @@ class PlanFile(unittest.TestCase):
         numbers = (0, 1, path.stat().st_size // 4096, 512, 4096)
         head = magic + b"".join(number.to_bytes(4, "big") for number in numbers)
         ends = (len(name), sum(name))
-        names = ((1 << 30) // 4096 + 1).to_bytes(4, "big") + name + b"".join(end.to_bytes(4, "big") for end in ends) + magic
+        numbers_behind = b"".join(end.to_bytes(4, "big") for end in ends)
+        names = ((1 << 30) // 4096 + 1).to_bytes(4, "big") + name + numbers_behind + magic
         Path(f"{path}-journal").write_bytes(head + bytes(512 - len(head)) + names)
         self.refused(path, "plan.db-journal stands beside it")
         self.assertTrue(other.exists())

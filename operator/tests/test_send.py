@@ -1,7 +1,6 @@
 """./plan send: statements in words and streams are answered as opcplan answers them, once, also while others have the
 file."""
 
-import os
 import sqlite3
 import subprocess
 import tempfile
@@ -62,9 +61,9 @@ class Send(unittest.TestCase):
             (["start", "report", "2024-01-01/20.00"], "cp-start --app REPORT --ia 2024-01-01/20.00"),
             (["complete", "REPORT", "2024-01-01/20.00", "--job", "70"],
              "cp-complete --app REPORT --ia 2024-01-01/20.00 --job 70"),
-            (["dp-extend", "--to", "2024-01-03/00.00"], "dp-extend --to 2024-01-03/00.00"),
+            (["dp-extend", "--to", "2024-01-03", "00:00"], "dp-extend --to 2024-01-03/00.00"),
             (["start", "LEDGER", "2024-01-02/18.00"], "cp-start --app LEDGER --ia 2024-01-02/18.00"),
-            (["fail", "LEDGER", "2024-01-02/18.00"], "cp-fail --app LEDGER --ia 2024-01-02/18.00"),
+            (["fail", "LEDGER", "2024-01-02", "18.00"], "cp-fail --app LEDGER --ia 2024-01-02/18.00"),
             (["reset", "LEDGER", "2024-01-02/18.00"], "cp-reset --app LEDGER --ia 2024-01-02/18.00"),
             (["delete", "LEDGER", "2024-01-02/18.00"], "cp-delete --app LEDGER --ia 2024-01-02/18.00"),
             (["add", "LEDGER", "2024-01-02/19.00"], "cp-add --app LEDGER --ia 2024-01-02/19.00"),

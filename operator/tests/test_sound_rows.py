@@ -18,13 +18,13 @@ SOUND = ["two-hundred-statements", "data-centre-year", "each-list", "empty", "ed
          "predecessors-record-by-record", "options-value-by-value", "week-of-daily-plans"]
 # leaves rows in each table
 PLAN = "two-hundred-statements"
-# of the changes of tools/plan-files those that only opcplan tells: loops, doubled keys, and which pairs there have to be
+# of the changes of tools/plan-files those that only opcplan tells: loops, doubled keys, which pairs there have to be
 OF_OPCPLAN = {"a pair that the limit in force leaves out", "no pairs", "a pair of an open row is missing",
               "a generated row whose key an operator deleted", "a loop in force",
               "a further table that refers to one", "a table with a trigger", "an index with a condition"}
 # texts that are no name, no letter and no answer of a plan
-NO_TEXTS = ["", "A\nB", "A\r\nB", "A\x1b[31m", "a", "1A", "A B", "A,B", "A\0B", "A\x7f", "\x9bA", "\u00c4", "A\u202e", "=1+1",
-            "A" * 17, "A" * 100_000, b"A\xff"]
+NO_TEXTS = ["", "A\nB", "A\r\nB", "A\x1b[31m", "a", "1A", "A B", "A,B", "A\0B", "A\x7f", "\x9bA", "\u00c4", "A\u202e",
+            "=1+1", "A" * 17, "A" * 100_000, b"A\xff"]
 NO_NUMBERS = [-1, -(2**63), 2**62]
 # an application whose name is statements, where it is written into a stream as it stands
 STATEMENTS = "A,A,\n/*\nltp-create --from 2030-01-01 --to 2030-01-31 --job 9\ndefine applications --job 10\nB"
@@ -48,7 +48,8 @@ def asked_of(file):
     stream = plans.DATA / "tuesday.in"
     return [["dump", file], ["export", file, "--json", "--set", "ltp", "--set", "deletions"], ["export", file, "--csv"],
             ["export", file, "--ics"], ["next-job", file], ["why", file, "A", "2024-01-02/08.00"], ["page", file],
-            ["why-day", file, "A", "2024-01-02"], ["late", file, "--now", "2024-02-01/00.00"], ["what-if", file, stream]]
+            ["why-day", file, "A", "2024-01-02"], ["late", file, "--now", "2024-02-01/00.00"], ["rows", file],
+            ["what-if", file, stream], ["check", file, stream], ["edit", file, "calendar", "DEFAULT", "2024-01-05", "free"]]
 
 
 class SoundRows(unittest.TestCase):
@@ -151,12 +152,14 @@ class SoundRows(unittest.TestCase):
 
     def test_name_that_is_lines_of_a_calendar_goes_into_none(self):
         name = text_of("X\r\nATTACH:http://example.com/x\rSUMMARY:Y" + "Z" * 112)
-        file = self.changed("lines.db", f"UPDATE cp_row SET app = {name} WHERE serial = (SELECT max(serial) FROM cp_row)")
+        last = "(SELECT max(serial) FROM cp_row)"
+        file = self.changed("lines.db", f"UPDATE cp_row SET app = {name} WHERE serial = {last}")
         self.assert_told(file, "app of cp_row is 'X\\x0d\\x0aATTACH:")
 
     def test_name_that_is_a_formula_goes_into_no_table(self):
         name = text_of('=HYPERLINK("http://example.com/"&A1)')
-        file = self.changed("formula.db", f"UPDATE ltp_row SET app = {name} WHERE serial = (SELECT max(serial) FROM ltp_row)")
+        last = "(SELECT max(serial) FROM ltp_row)"
+        file = self.changed("formula.db", f"UPDATE ltp_row SET app = {name} WHERE serial = {last}")
         self.assert_told(file, "app of ltp_row is '=HYPERLINK")
 
     def test_name_that_moves_a_cursor_is_shown_to_no_terminal(self):
@@ -186,8 +189,8 @@ class SoundRows(unittest.TestCase):
 
     def test_tables_that_are_made_otherwise_are_told(self):
         key = "CREATE TABLE application (name TEXT NOT NULL, active INTEGER NOT NULL, calendar TEXT) STRICT"
-        made = ("CREATE TABLE application (name TEXT NOT NULL, active INTEGER AS (abs(-9223372036854775808)), calendar TEXT, "
-                "PRIMARY KEY (name))")
+        made = ("CREATE TABLE application (name TEXT NOT NULL, active INTEGER AS (abs(-9223372036854775808)), "
+                "calendar TEXT, PRIMARY KEY (name))")
         virtual = "CREATE VIRTUAL TABLE application USING fts4 (name, active, calendar)"
         for name, text in (("key", key), ("made", made), ("virtual", virtual)):
             file = self.changed(f"{name}.db", "DROP TABLE application", text)

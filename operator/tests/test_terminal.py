@@ -37,9 +37,9 @@ class Terminal(unittest.TestCase):
         self.addCleanup(room.cleanup)
         self.room = Path(room.name)
 
-    def shown(self, *words):
+    def shown(self, *words, text=b""):
         """What ./plan prints on standard output and error: none of it is a control but line feeds."""
-        ran = subprocess.run([plans.TOP / "plan", *words], capture_output=True, check=False)
+        ran = subprocess.run([plans.TOP / "plan", *words], input=text, capture_output=True, check=False)
         for data in (ran.stdout, ran.stderr):
             text = data.decode()
             self.assertEqual({letter for letter in text if is_control(letter)} - {"\n"}, set(), (words, text[:300]))
@@ -67,17 +67,39 @@ class Terminal(unittest.TestCase):
         self.assertIn(rb"A\x1b[31mB", ran.stdout)
         self.shown("lint", stream)
         for answer in (b"fault \x1b[2J\n", b"ok \x1b[2J\n", b"refused \x1b[2J\n", b"refused\n", b"refused 11\n",
-                       b"refused 11 1\x1b[31m\n", OUTPUT.replace(b"30 1", b"30 1\x9b"), OUTPUT.replace(b"30 1", b"22 \x1b[2J"),
-                       b"\x1b[2J\n" + OUTPUT + b"\x1b[2J"):
+                       b"refused 11 1\x1b[31m\n", OUTPUT.replace(b"30 1", b"30 1\x9b"),
+                       OUTPUT.replace(b"30 1", b"22 \x1b[2J"), b"\x1b[2J\n" + OUTPUT + b"\x1b[2J"):
             output.write_bytes(answer)
             self.assertEqual(self.shown("explain", stream, output).returncode, 1)
 
     @unittest.skipUnless(plans.PROGRAM.exists(), "opcplan is not built")
-    def test_what_if_of_data(self):
-        stream = self.room / "stream.in"
+    def test_data_that_are_tried_and_run(self):
+        stream, file = self.room / "stream.in", plans.copy_of(plans.of_worked("monday"), self.room, f"{CLEAR}.db")
         stream.write_bytes(STREAM)
-        ran = self.shown("what-if", plans.of_worked("monday"), stream, "--program", plans.PROGRAM)
-        self.assertIn(rb"A\x1b[31mB", ran.stdout)
+        for name, more in (("what-if", []), ("check", []), ("run", ["--yes"])):
+            ran = self.shown(name, file, stream, "--program", plans.PROGRAM, *more)
+            self.assertIn(rb"A\x1b[31mB", ran.stdout)
+        ran = self.shown("send", "--db", file, "--program", plans.PROGRAM, text=STREAM.replace(b"--job ", b"--job 10"))
+        self.assertEqual(ran.returncode, 4)
+        self.assertIn(rb"A\x1b[31mB", ran.stderr)
+
+    @unittest.skipUnless(plans.PROGRAM.exists(), "opcplan is not built")
+    def test_copies_under_such_names(self):
+        file, copy = plans.copy_of(plans.of_worked("monday"), self.room, f"{CLEAR}.db"), self.room / f"{CLEAR}\n\u202e"
+        for words in (["backup", file, copy], ["restore", copy, file]):
+            ran = self.shown(*words, "--program", plans.PROGRAM)
+            self.assertEqual((ran.returncode, ran.stderr), (0, b""))
+            self.assertIn(rb"\x1b[2J\x0a\u202e", ran.stdout)
+
+    def test_imports_and_edits(self):
+        file, given = plans.of_worked("monday"), self.room / "given"
+        given.write_bytes(b"0 1 * * * /bin/back\x1b[2Jup\n0 1 * * x \x9bsync\n")
+        self.assertIn(rb"\x1b[2J", self.shown("import", "--cron", given, file).stderr)
+        given.write_bytes(b"2024-02-01,\x1b[2J,\n2024-02-02,FREE,\x9b\n")
+        self.shown("import", "--csv", given, "--calendar", "DEFAULT", file)
+        for words in (["calendar", CLEAR, "MON", "free"], ["run-cycle", "LEDGER", "RC", f"{CLEAR}=1"],
+                      ["options", f"default_calendar={CLEAR}"], ["period", "DAY", CLEAR]):
+            self.assertEqual(self.shown("edit", file, *words).returncode, 2)
 
     def test_text_of_a_job(self):
         """A plan takes any bytes for it, so what it names is no statement where somebody wrote it."""
@@ -97,7 +119,9 @@ class Terminal(unittest.TestCase):
         ran = self.shown("page", file)
         self.assertIn(rb"\x1b[2J.db", ran.stdout)
         self.assertIn(rb"\u001b[2J.db", self.shown("export", file, "--json").stdout)
-        for words in (["late"], ["dump"], ["next-job"], ["export", "--csv"], ["page"], ["why-day"], ["lint"]):
+        for words in (["late"], ["dump"], ["next-job"], ["export", "--csv"], ["page"], ["why-day"], ["lint"], ["rows"],
+                      ["backup", "copy.db"], ["check", "a.in"], ["run", "a.in"],
+                      ["edit", "calendar", "A", "MON", "free"]):
             name, *rest = words
             more = ["A", "2024-01-01"] if name == "why-day" else []
             self.shown(name, folder / "none.db", *more, *rest)
@@ -105,8 +129,10 @@ class Terminal(unittest.TestCase):
         self.shown("explain", folder / "none", folder / "none")
 
     def test_words(self):
-        for words in ([CLEAR], ["late", "plan.db", CLEAR], ["late", "plan.db", f"--{CLEAR}"], ["dump", "plan.db", "--job", CLEAR],
-                      ["why", "plan.db", CLEAR, "x"], ["export", "plan.db", "--csv", "--set", CLEAR, "\x9b\n"]):
+        for words in ([CLEAR], ["late", "plan.db", CLEAR], ["late", "plan.db", f"--{CLEAR}"],
+                      ["dump", "plan.db", "--job", CLEAR], ["why", "plan.db", CLEAR, "x"],
+                      ["export", "plan.db", "--csv", "--set", CLEAR, "\x9b\n"], ["rows", "plan.db", "--status", CLEAR],
+                      ["send", "--db", "plan.db", CLEAR], ["send", "--db", "plan.db", "start", CLEAR, CLEAR]):
             self.assertEqual(self.shown(*words).returncode, 2)
 
 
