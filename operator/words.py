@@ -8,11 +8,13 @@ import sys
 import moments
 import terminal
 
+CALLED = "./plan"  # by make install as the command is called there
+
 
 def tell(message):
     """Says something on standard error, in one line. Where it takes nothing, nobody can be told."""
     try:
-        print(terminal.fit(f"plan: {message}"), file=sys.stderr, flush=True)
+        print(terminal.fit(f"{os.path.basename(CALLED)}: {message}"), file=sys.stderr, flush=True)
     except OSError:
         sys.stderr = open(os.devnull, "w", encoding="utf-8")
 
@@ -23,7 +25,7 @@ class Parser(argparse.ArgumentParser):
     is_mixed = False  # whether options may stand between words that belong together
 
     def error(self, message):
-        tell(f"{message}; ./{self.prog} --help says more")
+        tell(f"{message}; {self.prog} --help says more")
         raise SystemExit(2)
 
     def parse_args(self, args=None, namespace=None):

@@ -114,7 +114,7 @@ class Commands(unittest.TestCase):
         for name in names:
             ran = plans.plan(name, "--help")
             self.assertEqual((ran.returncode, ran.stderr), (0, ""), name)
-            self.assertTrue(ran.stdout.startswith(f"usage: plan {name} "), ran.stdout)
+            self.assertTrue(ran.stdout.startswith(f"usage: ./plan {name} "), ran.stdout)
 
     def test_wrong_words_are_told(self):
         file = plans.of_worked("monday")
