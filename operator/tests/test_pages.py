@@ -63,6 +63,14 @@ class Pages(unittest.TestCase):
         done = self.of("```console\n$ touch plan.db\n```\n```text a.in\nlist cp\n```\n")
         self.assertIn("leaves a.in, plan.db in the folder where it begins\n1 passed, 1 failed\n", done.stdout)
 
+    def test_program_is_found_through_a_symbolic_link(self):
+        with tempfile.TemporaryDirectory() as folder:
+            link = Path(folder) / "opcplan"
+            link.symlink_to(plans.TOP / "opcplan")
+            done = subprocess.run([link, "--help"], cwd=folder, capture_output=True, check=False, timeout=60)
+            self.assertEqual((done.returncode, done.stderr), (0, b""))
+            self.assertIn(b"--db", done.stdout)
+
     def test_other_blocks_are_told(self):
         for block in ("```\nfree\n```\n", "```text\nno name\n```\n", "```text ../up\n```\n",
                       "```console\nno command\n```\n", "```console\n```\n", "```console\n$ true\n"):
