@@ -125,7 +125,7 @@ class Ends(unittest.TestCase):
                     with subprocess.Popen(words, stdout=subprocess.PIPE, stderr=subprocess.PIPE,
                                           env=self.environment(), preexec_fn=heed) as ran:
                         wait_for(lambda: name == "page" or os.listdir(self.temporary))
-                        time.sleep(0.5 if name == "page" else 0.1)
+                        time.sleep(2 if name == "page" else 0.1)
                         ran.send_signal(number)
                         _, told = ran.communicate(timeout=60)
                     self.assertEqual((ran.returncode, told), (-number, b""))
