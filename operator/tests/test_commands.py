@@ -23,7 +23,7 @@ READERS = {
     "backup": ["PLAN", "COPY"],
 }
 OF_STREAMS = {"explain", "lint"}
-WRITERS = {"restore", "send"}
+WRITERS = {"restore", "send", "desk"}
 
 
 def plan_program():
