@@ -107,6 +107,14 @@ class Journal(log.Log):
         asked = f"SELECT {COLUMNS} FROM entry WHERE seq > ? AND reply IS NOT NULL ORDER BY seq LIMIT ?"
         return [entry_of(row) for row in self.reader.execute(asked, (since, most)).fetchall()]
 
+    def every(self):
+        """All Entries, by and by, those without a reply too."""
+        since = -1
+        while found := self.reader.execute(f"SELECT {COLUMNS} FROM entry WHERE seq > ? ORDER BY seq LIMIT 1000",
+                                           (since,)).fetchall():
+            since = found[-1][0]
+            yield from map(entry_of, found)
+
     def unanswered(self):
         asked = f"SELECT {COLUMNS} FROM entry WHERE reply IS NULL ORDER BY seq"
         return [entry_of(row) for row in self.reader.execute(asked).fetchall()]
@@ -189,6 +197,6 @@ def for_desk(path, plan):
             journal.close()
             raise plan_file.Unreadable(
                 f"{path}: it was answered by a later plan than {plan}, which lacks job {last.job}. Run the journal "
-                f"over the plan, by `./plan journal {path} --stream | ./opcplan --db {plan}`, or name a new one by "
-                "--journal")
+                f"over the plan, by `./plan journal {plan} --journal {path} --stream | ./opcplan --db {plan}`, or name a "
+                "new one by --journal")
     return journal

@@ -1,9 +1,11 @@
 """Desks over copies of plans, and callers of them, for tests: each desk listens on a free port and on a socket."""
 
 import contextlib
+import hashlib
 import http.client
 import json
 import os
+import pwd
 import re
 import signal
 import socket
