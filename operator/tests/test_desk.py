@@ -396,6 +396,27 @@ class Guards(desks.Case):
         self.assertEqual(caller.request("POST", "/statements", START)[1], b"ok serial 1 status S\n")
         self.end(desk)
 
+    @unittest.skipIf(os.getuid(), "only root can ask as another user")
+    def test_other_users_of_this_machine(self):
+        users = self.room / "users"
+        users.write_text("daemon operate\n")
+        desk = self.desk("--users", users)
+        os.chmod(self.room, 0o755)
+        ask = (
+            "import http.client, sys\n"
+            "one = http.client.HTTPConnection('127.0.0.1', int(sys.argv[1]))\n"
+            "one.request('POST', '/statements', sys.argv[2], {'X-Opcplan': 'desk'})\n"
+            "print(one.getresponse().status)\n")
+        told = []
+        for user, text in (("nobody", "list cp"), ("daemon", "dp-replan"), ("daemon", START)):
+            ran = subprocess.run(["/usr/bin/python3", "-I", "-c", ask, str(desk.port), text], user=user, cwd="/",
+                                 capture_output=True, text=True, check=False)
+            told.append(ran.stdout)
+        self.assertEqual(told, ["403\n", "403\n", "200\n"])
+        found = json.loads(desk.asked("GET", "/journal")[2])
+        self.assertEqual((found["who"], found["reply"]), ("daemon", "ok serial 1 status S"))
+        self.end(desk)
+
     def test_what_a_proxy_says_of_its_user(self):
         own = desks.own_name()
         users = self.room / "users"
