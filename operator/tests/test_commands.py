@@ -21,8 +21,10 @@ READERS = {
     "what-if": ["PLAN", "STREAM"],
     "export": ["PLAN", "--csv"],
     "dump": ["PLAN"],
+    "backup": ["PLAN", "COPY"],
 }
 OF_STREAMS = {"explain", "lint"}
+WRITERS = {"restore", "send", "desk"}
 
 
 def plan_program():
@@ -42,7 +44,7 @@ class Commands(unittest.TestCase):
         self.stream.write_bytes(plans.stream("tuesday"))
 
     def asked(self, name, file):
-        names = {"PLAN": file, "STREAM": self.stream, "OUT": self.room / "page.html"}
+        names = {"PLAN": file, "STREAM": self.stream, "OUT": self.room / "page.html", "COPY": self.room / "copy"}
         return plans.plan(name, *(names.get(word, word) for word in READERS[name]))
 
     def strangers(self):
@@ -86,7 +88,7 @@ class Commands(unittest.TestCase):
                     self.assertEqual((ran.returncode, ran.stdout), (1, ""), ran.stderr)
                     self.assertRegex(ran.stderr, f"^plan: {file}: [^\n]+\n$")
                     self.assertEqual(plans.prints(file), before)
-        self.assertFalse((self.room / "page.html").exists())
+        self.assertFalse((self.room / "page.html").exists() or (self.room / "copy").exists())
 
     def test_plan_stays_as_it_was(self):
         (self.room / "plan").mkdir()
@@ -100,7 +102,7 @@ class Commands(unittest.TestCase):
         ran = plans.plan("--help")
         self.assertEqual((ran.returncode, ran.stderr), (0, ""))
         names = [line.split()[0] for line in ran.stdout.splitlines() if line.startswith("  ")]
-        self.assertEqual(sorted(names), sorted(READERS.keys() | OF_STREAMS))
+        self.assertEqual(sorted(names), sorted(READERS.keys() | OF_STREAMS | WRITERS))
         self.assertEqual(sorted(plan_program().SUBCOMMANDS), sorted(names))
         for name in names:
             ran = plans.plan(name, "--help")
@@ -110,7 +112,7 @@ class Commands(unittest.TestCase):
     def test_wrong_words_are_told(self):
         file = plans.of_worked("monday")
         for words in ([], ["show"], ["Page"], ["--page"], ["views"], ["plan_file"], ["dump", file, "--no-such-word"],
-                      *([name] for name in [*READERS, *OF_STREAMS])):
+                      *([name] for name in [*READERS, *OF_STREAMS, *WRITERS])):
             ran = plans.plan(*words)
             self.assertEqual((ran.returncode, ran.stdout), (2, ""), words)
             self.assertTrue(ran.stderr.startswith("plan: ") and ran.stderr.count("\n") == 1, ran.stderr)

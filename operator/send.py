@@ -1,0 +1,273 @@
+"""./plan send: a statement in words, or a job stream, to a desk, or to a plan that other programs use too.
+
+A desk is asked under one key until it has answered. Where there is none, `opcplan` ends with fault 50 where another program has the file, and has answered nothing then. So it is started again
+until it has the file, and no statement is ever run twice."""
+
+import argparse
+import contextlib
+import dataclasses
+import math
+import os
+import random
+import re
+import secrets
+import subprocess
+import sys
+import time
+
+import explain
+import locks
+import next_job
+import plan_file
+import statement_words
+import stream
+import what_if
+import words
+from desk import client, entry
+
+SUMMARY = "sends a statement in words, or a job stream, to a desk or a plan, and waits for it"
+FAILED = 8
+HELD = b"another program has FILE open"
+MOST_BYTES = 64 << 20
+# how often a number that another stream took meanwhile is replaced
+TRIES = 9
+SHORT = ("start", "complete", "fail", "reset", "delete", "add")
+
+
+class Refused(Exception):
+    """Why words are not sent."""
+
+
+def add_words(parser):
+    parser.description = (
+        "Sends the job stream on standard input to a desk, or runs it over PLAN.db where no desk has that; or one "
+        "statement in words: `start APP D/HH.MM`, and so "
+        f"{', '.join(SHORT[1:])}, each as the statement cp-..; or any statement but define as docs/STATEMENTS.md has "
+        "it. A statement in words without a job number gets the next one, which is told; a desk gives numbers to all "
+        "that lack one. While the desk is away, or another program has PLAN.db, it is tried again; no statement is "
+        "run twice. The replies are printed as opcplan prints them, and "
+        "what a refusal means on standard error. The exit status is opcplan's: 0, 4 where some were refused, 8 after "
+        "a fault, and where nothing could be sent; 2 where the words are wrong. A stream of more than "
+        f"{MOST_BYTES >> 20} MiB is not sent. A token for the desk stands in the environment as OPCPLAN_TOKEN, or in "
+        "the file that OPCPLAN_TOKEN_FILE names."
+    )
+    where = parser.add_mutually_exclusive_group()
+    where.add_argument("--desk", default=client.usual(), metavar="DESK",
+                       help="http://HOST:PORT, or the path of a desk's socket (else what OPCPLAN_DESK has)")
+    where.add_argument("--db", metavar="PLAN.db", help="the file that opcplan --db keeps")
+    parser.add_argument("--wait", type=seconds, default=0, metavar="SECONDS",
+                        help="how long it is tried again while the desk is away, or another program has PLAN.db (else "
+                        "once)")
+    parser.add_argument("--key", type=key, metavar="KEY",
+                        help="the key under which a desk does the stream once (else a new one)")
+    parser.add_argument("--program", metavar="FILE", help="the planner that runs it (else the one that is built here)")
+    parser.add_argument("words", nargs=argparse.REMAINDER, metavar="STATEMENT",
+                        help="the words of a statement (else the stream on standard input)")
+
+
+def seconds(text):
+    """A number of seconds, for `type=`."""
+    try:
+        found = float(text)
+    except ValueError:
+        found = math.nan
+    if not 0 <= found <= 1_000_000:
+        raise argparse.ArgumentTypeError(f"{text!r} is no number of seconds, 0 to 1000000")
+    return found
+
+
+def key(text):
+    """A key for a desk, for `type=`."""
+    if not re.fullmatch(r"[!-\"$-~]{1,200}", text):
+        raise argparse.ArgumentTypeError(f"{text!r} is no key: 1 to 200 characters, and neither blanks nor #")
+    return text
+
+
+def run(given):
+    until = time.monotonic() + given.wait
+    if given.db is None and given.desk is None:
+        words.tell("one of --desk and --db is wanted; ./plan send --help says more")
+        return 2
+    try:
+        line = line_of(given.words) if given.words else None
+        desk = client.Client(given.desk, client.token()) if given.db is None else None
+    except (Refused, client.Wrong) as why:
+        words.tell(f"{why}; nothing was sent")
+        return 2
+    except OSError as error:
+        words.tell(f"{error.filename}: the token can't be read: {error.strerror}; nothing was sent")
+        return FAILED
+    if desk is not None:
+        return run_by_desk(given, desk, line, until)
+    try:
+        check_file(given.db)
+        program = os.path.abspath(given.program or what_if.built_program())
+        if line is None:
+            text = text_on(sys.stdin)
+            ran = sent(program, given.db, text, until)
+        else:
+            text, ran = sent_in_turn(program, given.db, line, until)
+    except (plan_file.Unreadable, locks.Held) as why:
+        words.tell(str(why) or f"{given.db}: another program sends to it all the while; nothing was sent")
+        return FAILED
+    except OSError as error:
+        words.tell(f"{error.filename or 'standard input'}: {error.strerror}; nothing was sent")
+        return FAILED
+    return shown(text, ran)
+
+
+def check_file(path):
+    """Asks that there is such a file; opcplan would make one. Raises Unreadable."""
+    if not os.path.isfile(path):
+        raise plan_file.Unreadable(f"{path}: there is no such file; `./opcplan --db` makes a new plan")
+    if not os.path.getsize(path):
+        raise plan_file.Unreadable(f"{path}: it is empty, and no plan; `./opcplan --db` makes a new one in it")
+
+
+def text_on(file):
+    """The stream on standard input. Raises Unreadable."""
+    if file is None:
+        raise plan_file.Unreadable("standard input: it is closed; nothing was sent")
+    text = file.buffer.read(MOST_BYTES + 1)
+    if len(text) > MOST_BYTES:
+        raise plan_file.Unreadable(f"standard input: it has more than {MOST_BYTES >> 20} MiB; nothing was sent")
+    return text
+
+
+# By a desk.
+
+
+def run_by_desk(given, desk, line, until):
+    """Has a desk answer, and prints that; the exit status."""
+    used = given.key or secrets.token_hex(16)
+    try:
+        text = text_on(sys.stdin) if line is None else f"{line[0]}\n".encode("ascii")
+        answer = desk.statements(text, used, until)
+    except plan_file.Unreadable as why:
+        words.tell(str(why))
+        return FAILED
+    except client.Refused as why:
+        words.tell(f"{desk.name}: {why}")
+        return FAILED
+    except client.Away as why:
+        told = f"it may be done all the same: send it again with `--key {used}`, and nothing is done twice"
+        words.tell(f"{why}; {told if why.may_be_done else 'nothing was sent'}")
+        return FAILED
+    is_refused = any(reply.startswith("refused") for _, reply in explain.answers(answer))
+    return shown(text, subprocess.CompletedProcess([], 4 if is_refused else 0, answer, b""), used)
+
+
+def items_of(text):
+    """The items of a stream; a statement that lacks its job number has one of the desk's."""
+    for place, item in enumerate(stream.items(text)):
+        if item.statement is None:
+            statement, _ = stream.read_line(item.text + b" --job %d" % (entry.FIRST_JOB + place))
+            item = dataclasses.replace(item, statement=statement or item.statement)
+        yield item
+
+
+# A statement in words.
+
+
+def line_of(given):
+    """The line of a statement in words, and whether it lacks its job number. Raises Refused."""
+    spelled = in_full(given)
+    found, wrong = statement_words.read(spelled)
+    if found is None:
+        found, _ = statement_words.read([*spelled, "--job", "1"])
+        if found is None:
+            raise Refused(wrong)
+        return " ".join(spelled), True
+    return " ".join(spelled), False
+
+
+def in_full(given):
+    """The words of a statement, where `start APP D/HH.MM` stands for `cp-start --app APP --ia D/HH.MM`."""
+    name, *rest = given
+    if name == "define":
+        raise Refused("`define` has data: send it in a stream")
+    if name not in SHORT:
+        return given
+    if len(rest) < 2 or rest[0].startswith("-") or rest[1].startswith("-"):
+        raise Refused(f"`{name}` takes an application and its input arrival, as `{name} PAY 2024-01-31/08.00`")
+    app, ia, *others = rest
+    return [f"cp-{name}", "--app", app.upper(), "--ia", ia, *others]
+
+
+def sent_in_turn(program, path, line, until):
+    """The text and what it was answered, for a line that may lack its job number. Who sends such lines takes turns, so
+    that two never get one number. Raises Held and Unreadable."""
+    text, lacks_job = line
+    if not lacks_job:
+        text = f"{text}\n".encode("ascii")
+        return text, sent(program, path, text, until)
+    number = os.open(path, os.O_RDWR)
+    try:
+        with locks.locked(number, locks.OF_A_SENDER, until):
+            for _ in range(TRIES):
+                whole = f"{text} --job {next_number(path)}"
+                words.tell(f"sends `{whole}`")
+                whole = f"{whole}\n".encode("ascii")
+                ran = sent(program, path, whole, until)
+                if ran.stdout != b"refused 12\n":  # no stream took the number meanwhile
+                    break
+        return whole, ran
+    finally:
+        os.close(number)
+
+
+def next_number(path):
+    """The next job number of a plan. Raises Unreadable."""
+    with plan_file.opened(path) as plan:
+        (used,) = plan.db.execute("SELECT max(number) FROM job").fetchone()
+    number = (used or 0) + 1
+    if number > next_job.GREATEST:
+        raise plan_file.Unreadable(f"{path}: the greatest job number is used; name a lesser one by --job")
+    return number
+
+
+# The run.
+
+
+def sent(program, path, text, until):
+    """What opcplan answers to a text over a file. It is started again, up to a moment of the steady clock, where it
+    ended before the first statement because another program has the file."""
+    while True:
+        ran = subprocess.run([program, "--db", os.path.abspath(path)], input=text, capture_output=True, check=False)
+        if not is_held(ran) or time.monotonic() >= until:
+            return ran
+        time.sleep(random.uniform(0.02, 0.2))
+
+
+def is_held(ran):
+    """Whether a run ended since another program has its file."""
+    return ran.returncode == FAILED and ran.stdout == b"fault 50\n" and HELD in ran.stderr
+
+
+def shown(text, ran, used=None):
+    """Prints what was answered, by a desk under a key that was used, and what refusals mean; the exit status."""
+    try:
+        sys.stdout.flush()
+        sys.stdout.buffer.write(ran.stdout)
+        sys.stdout.buffer.flush()
+    except OSError as error:
+        words.tell(f"the replies can't be printed: {error.strerror}; what was sent was answered, so send it again "
+                   f"with {'`--key ' + used + '`' if used else 'its job numbers'}, and nothing is done twice")
+        return FAILED
+    with contextlib.suppress(OSError):
+        told = refusal_text(items_of(text) if used else stream.items(text), ran.stdout)
+        sys.stderr.write(ran.stderr.decode(errors="backslashreplace") + told)
+        sys.stderr.flush()
+    return ran.returncode if ran.returncode in (0, 4) else FAILED
+
+
+def refusal_text(items, output):
+    """What the refusals in an output mean, by the items of the stream, or nothing where it has none."""
+    replies = explain.answers(output)
+    if not any(reply.startswith("refused") for _, reply in replies):
+        return ""
+    try:
+        lines, _, _ = explain.explained(list(items), replies)
+    except explain.Unlike as why:
+        return f"plan: the planner doesn't answer as opcplan does: {why}\n"
+    return "\n".join(lines).rstrip("\n") + "\n"

@@ -1,0 +1,217 @@
+"""./plan send: statements in words and streams are answered as opcplan answers them, once, also while others have the
+file."""
+
+import os
+import sqlite3
+import subprocess
+import tempfile
+import threading
+import unittest
+from contextlib import closing
+from pathlib import Path
+
+import looks
+import plans
+
+MONDAY = plans.stream("monday")
+EXTENDED = b"dp-extend --to 2024-01-03/00.00 --job 10\n"
+# a planner that ends as its files say: it takes the first one, prints what is in it, and notes that it ran
+STUB = """#!/bin/sh
+cat > "$0.read"
+echo run >> "$0.runs"
+next=$(ls "$0".answer.* | head -n 1)
+cat "$next"
+status=8
+case "$next" in *held*) echo 'opcplan: fault 50: another program has FILE open; it is as it was' >&2 ;;
+*other*) echo 'opcplan: fault 50: FILE is no database' >&2 ;;
+*) status=0 ;; esac
+rm "$next"
+exit $status
+"""
+
+
+@unittest.skipUnless(plans.PROGRAM.exists(), "opcplan is not built")
+class Send(unittest.TestCase):
+    def setUp(self):
+        room = tempfile.TemporaryDirectory(prefix="send-test-")
+        self.addCleanup(room.cleanup)
+        self.room = Path(room.name)
+        self.plan = plans.copy_of(plans.of_worked("monday"), self.room)
+
+    def send(self, *words, text="", db=None, program=plans.PROGRAM, **how):
+        return plans.plan("send", "--db", db or self.plan, "--program", program, *words, text=text, **how)
+
+    def jobs(self):
+        """The jobs above those of the first stream: number and text."""
+        with closing(sqlite3.connect(self.plan)) as db:
+            return db.execute("SELECT number, CAST(body AS TEXT) FROM job WHERE number > 9 ORDER BY number").fetchall()
+
+    def stub(self, *answers):
+        program = self.room / "stub"
+        program.write_text(STUB, encoding="utf-8")
+        program.chmod(0o755)
+        for number, (kind, text) in enumerate(answers):
+            Path(f"{program}.answer.{number}.{kind}").write_text(text, encoding="utf-8")
+        return program
+
+    def runs(self, program):
+        return Path(f"{program}.runs").read_text(encoding="utf-8").count("run")
+
+    def test_a_statement_in_words(self):
+        for words, line in (
+            (["start", "report", "2024-01-01/20.00"], "cp-start --app REPORT --ia 2024-01-01/20.00"),
+            (["complete", "REPORT", "2024-01-01/20.00", "--job", "70"],
+             "cp-complete --app REPORT --ia 2024-01-01/20.00 --job 70"),
+            (["dp-extend", "--to", "2024-01-03/00.00"], "dp-extend --to 2024-01-03/00.00"),
+            (["start", "LEDGER", "2024-01-02/18.00"], "cp-start --app LEDGER --ia 2024-01-02/18.00"),
+            (["fail", "LEDGER", "2024-01-02/18.00"], "cp-fail --app LEDGER --ia 2024-01-02/18.00"),
+            (["reset", "LEDGER", "2024-01-02/18.00"], "cp-reset --app LEDGER --ia 2024-01-02/18.00"),
+            (["delete", "LEDGER", "2024-01-02/18.00"], "cp-delete --app LEDGER --ia 2024-01-02/18.00"),
+            (["add", "LEDGER", "2024-01-02/19.00"], "cp-add --app LEDGER --ia 2024-01-02/19.00"),
+            (["list", "cp"], "list cp"),
+        ):
+            number = max([9, *(number for number, _ in self.jobs())]) + 1
+            sent = line if line.startswith("list") or "--job" in line else f"{line} --job {number}"
+            planner = plans.plain.Planner()
+            plans.plain.run(b"\n".join([MONDAY, *(text.encode() for _, text in self.jobs())]), planner)
+            with self.subTest(line):
+                ran = self.send(*words)
+                self.assertEqual(ran.stdout.splitlines(), plans.plain.run(sent.encode(), planner))
+                self.assertEqual((ran.returncode, ran.stderr), (0, f"plan: sends `{sent}`\n" if sent != line else ""))
+
+    def test_a_refusal_is_explained_on_standard_error(self):
+        ran = self.send("complete", "REPORT", "2024-01-01/20.00")
+        self.assertEqual((ran.returncode, ran.stdout), (4, "refused 29\n"))
+        self.assertIn("wants an occurrence that is started (S) or in error (E)", ran.stderr)
+        self.assertEqual(ran.stderr[-2:].count("\n"), 1)
+
+    def test_a_stream(self):
+        text = plans.stream("tuesday")
+        copy = plans.copy_of(self.plan, self.room, "copy.db")
+        wanted = subprocess.run([plans.PROGRAM, "--db", copy], input=text, capture_output=True, check=False)
+        ran = self.send(text=text.decode())
+        self.assertEqual((ran.stdout.encode(), ran.returncode), (wanted.stdout, wanted.returncode))
+        self.assertEqual(looks.of_file(self.plan), looks.of_stream(MONDAY, text))
+        again = self.send(text=text.decode())
+        self.assertEqual(looks.of_file(self.plan), looks.of_stream(MONDAY, text, text))
+        self.assertEqual(again.stdout.count("ok moved"), 1)
+
+    def test_it_waits_while_another_program_has_the_file(self):
+        with looks.held(self.plan, EXTENDED) as program:
+            ran = self.send("start", "REPORT", "2024-01-01/20.00")
+            self.assertEqual((ran.returncode, ran.stdout), (8, "fault 50\n"))
+            self.assertIn("another program has FILE open", ran.stderr)
+            timer = threading.Timer(0.6, program.stdin.close)
+            timer.start()
+            ran = self.send("--wait", "30", "start", "REPORT", "2024-01-01/20.00")
+            timer.join()
+        self.assertEqual((ran.returncode, ran.stdout), (0, "ok serial 2 status S\n"))
+        self.assertEqual([number for number, _ in self.jobs()], [10, 11])
+
+    def test_many_at_once(self):
+        """Each is answered, none waits for ever, and no two get one number."""
+        (self.room / "open").mkdir()
+        words = [plans.TOP / "plan", "send", "--db", self.plan, "--program", plans.PROGRAM, "--wait", "250"]
+        each = [["add", "LEDGER", f"2024-01-01/{hour:02}.30"] for hour in range(3)]
+        each += [["start", "REPORT", "2024-01-01/20.00"]] * 2
+        started = [subprocess.Popen(words + one, stdout=subprocess.PIPE, stderr=subprocess.DEVNULL, text=True)
+                   for one in each]
+        answers = [program.communicate()[0] for program in started]
+        self.assertEqual(sum(answer.startswith("ok serial") for answer in answers), 4, answers)
+        self.assertEqual(sorted(answers[-2:]), ["ok serial 2 status S\n", "refused 29\n"])
+        self.assertEqual([number for number, _ in self.jobs()], list(range(10, 15)))
+
+    def test_nothing_is_run_twice(self):
+        held, told = ("held", "fault 50\n"), ("ok", "ok serial 2 status S\n")
+        program = self.stub(held, held, told)
+        ran = self.send("--wait", "30", "start", "REPORT", "2024-01-01/20.00", program=program)
+        self.assertEqual((ran.returncode, ran.stdout, self.runs(program)), (0, told[1], 3))
+        for number, answers in enumerate((
+            [("other", "fault 50\n"), told],
+            [("held", "ok rows 0\nfault 50\n"), told],
+            [("held", "fault 41\n"), told],
+            [("held", ""), told],
+        )):
+            with self.subTest(number):
+                for name in self.room.glob("stub*"):
+                    name.unlink()
+                program = self.stub(*answers)
+                ran = self.send("--wait", "1", text="cp-start --app REPORT --ia 2024-01-01/20.00 --job 10\n",
+                                program=program)
+                self.assertEqual((ran.returncode, ran.stdout, self.runs(program)), (8, answers[0][1], 1))
+
+    def test_a_number_that_a_stream_took_meanwhile_is_replaced(self):
+        program = self.stub(("ok", "refused 12\n"), ("ok", "ok serial 2 status S\n"))
+        ran = self.send("start", "REPORT", "2024-01-01/20.00", program=program)
+        self.assertEqual((ran.stdout, self.runs(program)), ("ok serial 2 status S\n", 2))
+        for name in self.room.glob("stub*"):
+            name.unlink()
+        program = self.stub(("ok", "refused 12\n"), ("ok", "ok serial 2 status S\n"))
+        ran = self.send("start", "REPORT", "2024-01-01/20.00", "--job", "5", program=program)
+        self.assertEqual((ran.stdout, self.runs(program)), ("refused 12\n", 1))
+
+    def test_wrong_words_send_nothing(self):
+        before = plans.prints(self.plan)
+        for words in (
+            ["strt", "REPORT", "2024-01-01/20.00"],
+            ["start"],
+            ["start", "REPORT"],
+            ["start", "REPORT", "tomorrow"],
+            ["start", "REPORT", "2024-01-01/20.00\nltp-modify-all --job 99"],
+            ["start", "RÉPORT", "2024-01-01/20.00"],
+            ["start", "REPORT", "2024-01-01/20.00", "--ia", "2024-01-01/21.00"],
+            ["start", "REPORT", "2024-01-01/20.00", "--job", "0"],
+            ["list", "cp", "--job", "1"],
+            ["define", "options", "--job", "10"],
+            [""],
+            ["*"],
+        ):
+            ran = self.send(*words)
+            self.assertEqual((ran.returncode, ran.stdout), (2, ""), words)
+            self.assertRegex(ran.stderr, "^plan: [^\n]*nothing was sent\n$", words)
+        for wait in ("-1", "nan", "inf", "soon", ""):
+            self.assertEqual(self.send("--wait", wait, "list", "cp").returncode, 2, wait)
+        self.assertEqual(plans.prints(self.plan), before)
+
+    def test_no_plan_is_made(self):
+        ran = self.send("list", "cp", db=self.room / "none.db")
+        self.assertEqual((ran.returncode, ran.stdout, ran.stderr.count("\n")), (8, "", 1))
+        self.assertFalse((self.room / "none.db").exists())
+        (self.room / "empty.db").touch()
+        ran = self.send(db=self.room / "empty.db", text="list cp\n")
+        self.assertEqual((ran.returncode, ran.stdout, ran.stderr.count("\n")), (8, "", 1))
+        self.assertEqual((self.room / "empty.db").stat().st_size, 0)
+        ran = self.send("start", "REPORT", "2024-01-01/20.00", db=self.room)
+        self.assertEqual((ran.returncode, ran.stdout, ran.stderr.count("\n")), (8, "", 1))
+
+    def test_names_that_mean_something_to_the_planner(self):
+        for name in (":memory:", "file:x.db", "-x.db", "two words.db"):
+            plans.copy_of(plans.of_worked("monday"), self.room, name)
+            words = [plans.TOP / "plan", "send", f"--db={name}", "--program", plans.PROGRAM, "list", "links"]
+            ran = subprocess.run(words, cwd=self.room, capture_output=True, text=True, check=False)
+            self.assertEqual((ran.returncode, ran.stderr), (0, ""), name)
+            self.assertTrue(ran.stdout.endswith("ok rows 1\n"), ran.stdout)
+
+    def test_standard_output_that_is_full(self):
+        with open("/dev/full", "w", encoding="utf-8") as full:
+            ran = subprocess.run(
+                [plans.TOP / "plan", "send", "--db", self.plan, "--program", plans.PROGRAM, "list", "cp"],
+                stdout=full, stderr=subprocess.PIPE, text=True, check=False)
+        self.assertEqual(ran.returncode, 8)
+        self.assertIn("can't be printed", ran.stderr)
+        self.assertNotIn("Traceback", ran.stderr)
+
+    def test_a_stream_without_end_is_not_sent(self):
+        with open("/dev/zero", "rb") as zeros:
+            ran = subprocess.run([plans.TOP / "plan", "send", "--db", self.plan, "--program", plans.PROGRAM],
+                                 stdin=zeros, capture_output=True, text=True, check=False, timeout=60)
+        self.assertEqual((ran.returncode, ran.stdout, ran.stderr.count("\n")), (8, "", 1))
+        self.assertEqual(self.jobs(), [])
+
+    def test_a_program_that_is_not_there(self):
+        ran = self.send("list", "cp", program=self.room / "none")
+        self.assertEqual((ran.returncode, ran.stdout, ran.stderr.count("\n")), (8, "", 1))
+
+
+if __name__ == "__main__":
+    unittest.main()
