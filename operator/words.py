@@ -6,6 +6,8 @@ import sys
 
 import moments
 
+NAME = re.compile(r"[A-Z@#$][A-Z0-9@#$]{0,15}")
+
 
 def tell(message):
     """Says something on standard error."""
@@ -55,7 +57,7 @@ def moment(text):
 
 def name(text):
     """The name of an application, for `type=`; small letters are taken as capitals."""
-    if not re.fullmatch(r"[A-Z@#$][A-Z0-9@#$]{0,15}", text.upper()):
+    if not NAME.fullmatch(text.upper()):
         raise argparse.ArgumentTypeError(f"{text!r} is no name of an application")
     return text.upper()
 

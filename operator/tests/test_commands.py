@@ -17,6 +17,7 @@ READERS = {
     "why-day": ["PLAN", "LEDGER", "2024-01-01"],
     "late": ["PLAN", "--now", "2024-01-02/12.00"],
     "rows": ["PLAN"],
+    "ready": ["PLAN", "--now", "2024-01-03/12.00"],
     "next-job": ["PLAN"],
     "what-if": ["PLAN", "STREAM"],
     "export": ["PLAN", "--csv"],
@@ -24,7 +25,7 @@ READERS = {
     "backup": ["PLAN", "COPY"],
 }
 OF_STREAMS = {"explain", "lint"}
-WRITERS = {"restore", "send", "desk"}
+WRITERS = {"restore", "send", "desk", "agent"}
 
 
 def plan_program():
