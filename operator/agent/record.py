@@ -4,6 +4,7 @@ The agent writes a record before it says that the job is started. From then on i
 begins the job and how the job ended. The lock of the log belongs to the agent first and then to the runner, for as long
 as that is there."""
 
+import contextlib
 import dataclasses
 import fcntl
 import json
@@ -95,27 +96,27 @@ def forget(folder, serial):
     sync(folder)
 
 
+@contextlib.contextmanager
 def locked_log(folder, serial):
     """The number of the log's open file, with its lock; None where another one has that. Raises OSError."""
     flags = os.O_WRONLY | os.O_CREAT | os.O_APPEND | os.O_NOFOLLOW | os.O_CLOEXEC
     number = os.open(log_of(folder, serial), flags, 0o640)
     try:
+        yield number if is_taken(number) else None
+    finally:
+        os.close(number)
+
+
+def is_taken(number):
+    """Whether an open file got its lock."""
+    try:
         fcntl.flock(number, fcntl.LOCK_EX | fcntl.LOCK_NB)
     except BlockingIOError:
-        os.close(number)
-        return None
-    except BaseException:
-        os.close(number)
-        raise
-    return number
+        return False
+    return True
 
 
 def is_run(folder, serial):
-    """Whether a runner has the job of a serial."""
-    try:
-        number = locked_log(folder, serial)
-    except OSError:
-        return False
-    if number is not None:
-        os.close(number)
-    return number is None
+    """Whether a runner has the job of a serial. Raises OSError."""
+    with locked_log(folder, serial) as log:
+        return log is None

@@ -1,13 +1,12 @@
 """An agent from its beginning to its end."""
 
-import fcntl
 import os
 import signal
 import stat
 import threading
 
 import words
-from agent import work
+from agent import record, work
 from desk import client
 
 LOCK = ".agent"
@@ -62,11 +61,9 @@ def take_folders(given):
 def locked(folder):
     """The number of the open file whose lock says that an agent has a folder of logs. Raises Unable and OSError."""
     number = os.open(os.path.join(folder, LOCK), os.O_WRONLY | os.O_CREAT | os.O_CLOEXEC | os.O_NOFOLLOW, 0o600)
-    try:
-        fcntl.flock(number, fcntl.LOCK_EX | fcntl.LOCK_NB)
-    except BlockingIOError:
+    if not record.is_taken(number):
         os.close(number)
-        raise Unable(f"{folder}: another agent has it") from None
+        raise Unable(f"{folder}: another agent has it")
     return number
 
 
@@ -80,11 +77,11 @@ def watch(given, agent):
     while not stop.is_set():
         try:
             agent.step()
-            if trouble or agent.is_new:
-                work.tell(f"works for {given.desk} on the jobs of {given.jobs}")
-            trouble, rest, agent.is_new = None, given.every, False
+            if trouble:
+                work.tell(f"{given.desk} answers again")
+            trouble, rest = None, given.every
         except (client.Away, client.Refused, OSError) as why:
-            if agent.is_new and isinstance(why, client.Refused) and why.status < 500:
+            if agent.watched.position is None and isinstance(why, client.Refused) and why.status < 500:
                 work.tell(f"{given.desk}: {why}")
                 return 1
             if str(why) != trouble:

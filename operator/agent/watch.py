@@ -23,6 +23,7 @@ class Row(NamedTuple):
     serial: int
     app: str
     ia: str  # as statements have it
+    arrival: int
     deadline: int
     status: str
 
@@ -30,17 +31,14 @@ class Row(NamedTuple):
     def name(self):
         return f"{self.app} {self.ia} (serial {self.serial})"
 
-    @property
-    def arrival(self):
-        return moments.moment_of(self.ia)
-
 
 class Watched:
     """What a desk told of its current plan. `latest` has by serial the status of the last entry on it, and its key."""
 
     def __init__(self, desk):
         self.desk = desk
-        self.rows, self.before, self.latest = {}, {}, {}
+        self.rows, self.before = {}, {}
+        self.latest, self.sure = {}, {}  # `sure`: as it was before entries that may be old answers
         self.position, self.stale = None, NOTHING
 
     def refresh(self, since=None):
@@ -51,7 +49,7 @@ class Watched:
                 self.position, since = None, 0
             if self.position is None:
                 self.begin(since)
-            elif position > self.position:
+            elif position > self.position or self.stale:
                 self.follow()
         except (KeyError, TypeError, ValueError):
             raise client.Away(f"{self.desk.name}: it doesn't answer as a desk does", False) from None
@@ -59,42 +57,42 @@ class Watched:
     def begin(self, since):
         """Asks for all that there is, and who gave it its status since a position."""
         self.latest, self.stale = {}, NOTHING
-        self.ask_all()
-        for one in self.entries(self.position if since is None else since):
-            if one["seq"] <= self.position:
+        position = self.ask_all()
+        for one in self.entries(position if since is None else since):
+            if one["seq"] <= position:
                 self.take_latest(one)
+        self.settle()
+        self.position = position
 
     def follow(self):
         """Takes what came since, and asks anew where that doesn't tell all."""
         for one in self.entries(self.position):
             self.take(one)
-        if self.stale == ALL:
-            self.ask_all()
-        elif self.stale == STATUSES:
-            self.ask_rows()
-        self.stale = NOTHING
+        if self.stale:
+            position = self.ask_all() if self.stale == ALL else self.ask_rows()
+            for one in self.entries(self.position):
+                if one["seq"] <= position:
+                    self.take_latest(one)
+            self.position, self.stale = position, NOTHING
+        self.settle()
 
     def ask_all(self):
-        """Asks for pairs and rows of one plan."""
+        """Asks for pairs and rows of one plan; the position at which they stand."""
         for _ in range(TRIES):
-            pairs, position = self.asked("dependencies")
-            self.ask_rows()
-            if not any(changes_pairs(one) for one in self.entries(position) if one["seq"] <= self.position):
+            pairs, first = self.asked("dependencies")
+            position = self.ask_rows()
+            if not any(changes_pairs(one) for one in self.entries(first) if one["seq"] <= position):
                 self.before = {}
                 for pair in pairs:
                     self.before.setdefault(pair["successor"], []).append(pair["predecessor"])
-                return
+                return position
         raise client.Away(f"{self.desk.name}: the plan changes all the while", False)
 
     def ask_rows(self):
-        """Asks for the rows."""
+        """Asks for the rows; the position at which they stand."""
         told, position = self.asked("cp")
-        known, self.position = self.position, position
-        if known is not None:
-            for one in self.entries(known):
-                if one["seq"] <= position:
-                    self.take_latest(one)
         self.rows = {row.serial: row for row in map(row_of, told) if row}
+        return position
 
     def asked(self, name):
         """The rows of a list, and the position at which they stand."""
@@ -119,10 +117,23 @@ class Watched:
             self.rows[row.serial] = row._replace(status=found[2])
 
     def take_latest(self, one):
-        """Notes who gave an occurrence its status; what is started isn't started again, but may be answered again."""
+        """Notes who gave an occurrence its status. What is started isn't started again."""
         found = STATUS.fullmatch(one["reply"])
-        if found and not (found[2] == "S" and self.latest.get(int(found[1]), ("", ""))[0] == "S"):
-            self.latest[int(found[1])] = found[2], one["key"]
+        if not found:
+            return
+        serial, status = int(found[1]), found[2]
+        if one["job"] < entry.FIRST_JOB:
+            self.sure.setdefault(serial, self.latest.get(serial))
+        if (status, self.latest.get(serial, ("", ""))[0]) != ("S", "S"):
+            self.latest[serial] = status, one["key"]
+
+    def settle(self):
+        """Takes back what the rows don't show: a caller's own number that was answered again as it once was."""
+        for serial, known in self.sure.items():
+            row = self.rows.get(serial)
+            if known and row and row.status != self.latest[serial][0]:
+                self.latest[serial] = known
+        self.sure = {}
 
     def ready(self, now):
         """The rows that have arrived at a moment and wait for nothing, the earliest deadline first."""
@@ -149,9 +160,9 @@ def row_of(told):
     """The row that is told, or None where it isn't one that a plan can have."""
     try:
         serial, app, ia, status = (told[name] for name in ("serial", "app", "ia", "status"))
-        deadline = moments.moment_of(told["deadline"])
+        arrival, deadline = moments.moment_of(ia), moments.moment_of(told["deadline"])
         is_row = (isinstance(serial, int) and 1 <= serial <= 999_999_999 and words.NAME.fullmatch(app)
-                  and moments.moment_of(ia) is not None and deadline is not None and status in tuple("WSECD"))
+                  and None not in (arrival, deadline) and status in tuple("WSECD"))
     except (KeyError, TypeError):
         return None
-    return Row(serial, app, ia, deadline, status) if is_row else None
+    return Row(serial, app, ia, arrival, deadline, status) if is_row else None

@@ -27,7 +27,7 @@ class Agent:
         self.records, self.runners = {}, []
         self.mine = set()  # keys of those that this agent asks to start, and hasn't given to a runner
         self.lost = set()  # serials of runs of which nothing is known
-        self.pauses, self.told, self.is_new = {}, set(), True
+        self.pauses, self.told = {}, set()
 
     def load(self):
         """Takes the records that an agent before this one left."""
@@ -43,6 +43,7 @@ class Agent:
         is_first = self.watched.position is None
         self.watched.refresh(min((one.after for one in self.records.values()), default=None))
         if is_first:
+            tell(f"works for {self.desk.name} on the jobs of {self.given.jobs}")
             self.tell_strangers()
         for one in list(self.records.values()):
             self.tried(self.look_at, one)
@@ -98,7 +99,9 @@ class Agent:
         elif not self.is_ours(one):
             self.forget(one, f"it is {self.status_of(one)} by now")
         elif one.began is None and one.key in self.mine:
-            self.run(one)
+            with record.locked_log(self.given.logs, one.serial) as log:
+                if log is not None:
+                    self.run(one, log)
         elif one.serial not in self.lost:
             self.lost.add(one.serial)
             how = "nothing here says that it began" if one.began is None else f"it began at {one.began} and left no end"
@@ -115,13 +118,14 @@ class Agent:
 
     def report(self, one):
         """Tells the desk how a job ended."""
-        how = runner.ended_text(one)
-        if not self.is_ours(one):
-            self.forget(one, f"it ended ({how}), which isn't told to the desk")
-            return
-        reply = self.ask("complete" if one.is_good else "fail", one, f"{one.key}-end")["reply"]
-        self.watched.refresh()
-        self.forget(one, f"it ended: {how}; the desk says `{reply}`")
+        how, key = runner.ended_text(one), f"{one.key}-end"
+        if self.is_ours(one):
+            self.ask("complete" if one.is_good else "fail", one, key)
+            self.watched.refresh()
+        if self.watched.latest.get(one.serial, ("", ""))[1] == key:
+            self.forget(one, f"it ended: {how}; it is {self.status_of(one)}")
+        else:
+            self.forget(one, f"it ended: {how}; the desk isn't told, for it is {self.status_of(one)} by now")
 
     def forget(self, one, why):
         tell(f"{one.name}: {why}")
@@ -164,10 +168,9 @@ class Agent:
 
     def start(self, one):
         """Says that a job is started, and then has it run."""
-        log = record.locked_log(self.given.logs, one.serial)
-        if log is None:
-            return
-        try:
+        with record.locked_log(self.given.logs, one.serial) as log:
+            if log is None:
+                return
             position = self.watched.position
             answer = self.ask("start", one, one.key)
             if answer["reply"] != f"ok serial {one.serial} status S":
@@ -177,13 +180,9 @@ class Agent:
                 self.forget(one, "it was started before, and waits again")
             else:
                 self.run(one, log)
-        finally:
-            os.close(log)
 
-    def run(self, one, log=None):
-        """Has a runner begin a job that the desk knows as started."""
-        if log is None:
-            log = record.locked_log(self.given.logs, one.serial)
+    def run(self, one, log):
+        """Has a runner begin a job that the desk knows as started; it gets the log with its lock."""
         words = [sys.executable, "-I", "-S", "-B", RUNNER, self.given.logs, str(one.serial), self.given.jobs, str(log)]
         self.runners.append(subprocess.Popen(
             words, stdin=subprocess.DEVNULL, stdout=log, stderr=log, cwd="/", start_new_session=True, pass_fds=(log,)))
