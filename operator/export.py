@@ -7,6 +7,8 @@ import json
 import os
 import sys
 
+import actual
+import export_actual
 import moments
 import plan_file
 import sound_rows
@@ -34,6 +36,8 @@ def add_words(parser):
         "history, or of the sets that are named. Moments are those of the plan, local and without a time zone."
     )
     words.add_plan(parser)
+    actual.add_journal(parser)
+    words.add_now(parser)
     form = parser.add_mutually_exclusive_group(required=True)
     form.add_argument("--ics", dest="form", action="store_const", const=calendar_text, help="iCalendar, an event each")
     form.add_argument("--csv", dest="form", action="store_const", const=csv_text, help="a table with a line of names")
@@ -45,9 +49,13 @@ def add_words(parser):
 
 
 def run(given):
+    if given.now is not None and given.journal is None:
+        words.tell("--now says as of when ends are expected, so it goes with --journal")
+        return 2
     with plan_file.opened(given.plan) as plan, sound_rows.asked_of(plan):
         found = occurrences(plan.db, given.sets or USUAL, given.app, given.first, given.last)
-        text = given.form(plan, found) if found else None
+        ran = export_actual.of_journal(given.journal, plan, given.now) if given.journal else None
+        text = given.form(plan, found, ran) if found else None
     if text is None:
         words.tell(f"{given.plan}: it has no such occurrence")
         return 1
@@ -98,19 +106,20 @@ def spaced(moment):
     return iso(moment, " ")
 
 
-def csv_text(_, found):
+def csv_text(_, found, ran=None):
     text = io.StringIO()
     table = csv.writer(text, lineterminator="\n")
-    table.writerow(COLUMNS)
+    table.writerow([*COLUMNS, *(export_actual.COLUMNS if ran else ())])
     for one in found:
-        table.writerow([int(value) if isinstance(value, bool) else value for value in one.values(spaced)])
+        values = [*one.values(spaced), *(ran.values(one, " ") if ran else ())]
+        table.writerow([int(value) if isinstance(value, bool) else value for value in values])
     return text.getvalue()
 
 
 # For programs: an object, an occurrence on each line of its list.
 
 
-def json_text(plan, found):
+def json_text(plan, found, ran=None):
     waits_for = {}
     for row in plan.db.execute("SELECT successor, predecessor FROM dependency ORDER BY successor, predecessor"):
         waits_for.setdefault(row["successor"], []).append(row["predecessor"])
@@ -120,11 +129,13 @@ def json_text(plan, found):
         "first_day": moments.day_text(meta["first_day"]),
         "last_day": moments.day_text(meta["last_day"]),
         "plan_end": iso(meta["plan_end"]),
+        **({"durations": ran.durations} if ran else {}),
     }
     lines = []
     for one in found:
         values = dict(zip(COLUMNS, one.values(iso)))
-        lines.append(json.dumps({**values, "waits_for": waits_for.get(one.serial, [])}))
+        more = dict(zip(export_actual.COLUMNS, ran.values(one, "T"))) if ran else {}
+        lines.append(json.dumps({**values, "waits_for": waits_for.get(one.serial, []), **more}))
     begin = json.dumps(head, indent=1).removesuffix("\n}")
     return begin + ',\n "occurrences": [\n' + ",\n".join("  " + line for line in lines) + "\n ]\n}\n"
 
@@ -132,11 +143,11 @@ def json_text(plan, found):
 # iCalendar, RFC 5545: an event from input arrival to deadline, in floating local time.
 
 
-def calendar_text(plan, found):
+def calendar_text(plan, found, ran=None):
     stamp = last_written(plan.path).strftime("%Y%m%dT%H%M%SZ")
     lines = ["BEGIN:VCALENDAR", "VERSION:2.0", "PRODID:-//opcplan//plan export//EN", "CALSCALE:GREGORIAN"]
     for one in found:
-        lines += event_lines(one, stamp)
+        lines += event_lines(one, stamp, ran)
     return "".join(folded(line) + "\r\n" for line in [*lines, "END:VCALENDAR"])
 
 
@@ -146,7 +157,7 @@ def last_written(path):
     return datetime.datetime.fromtimestamp(max(times, default=0), datetime.timezone.utc)
 
 
-def event_lines(one, stamp):
+def event_lines(one, stamp, ran):
     """The lines of an event. An end has to come after the start, so a deadline that doesn't is told in words alone."""
     start, end = (iso(moment).replace("-", "").replace(":", "") + "00" for moment in (one.arrival, one.deadline))
     is_gone = one.status == "D" or one.held == "deletions"
@@ -157,7 +168,7 @@ def event_lines(one, stamp):
         f"DTSTART:{start}",
         *([f"DTEND:{end}"] if one.deadline > one.arrival else []),
         f"SUMMARY:{escaped(one.app)}",
-        f"DESCRIPTION:{escaped(description(one))}",
+        f"DESCRIPTION:{escaped(description(one) + (ran.text(one) if ran else ''))}",
         f"CATEGORIES:{escaped(PLACES[one.held])}",
         f"STATUS:{'CANCELLED' if is_gone else 'CONFIRMED'}",
         "TRANSP:TRANSPARENT",

@@ -7,7 +7,9 @@ import os
 import sys
 import tempfile
 
+import actual
 import moments
+import page_actual
 import page_data
 import page_html
 import page_model
@@ -27,6 +29,7 @@ def add_words(parser):
     parser.add_argument("--from", dest="first", type=words.day, metavar="D",
                         help="the first day that is shown (else this month's; the current plan is shown whole)")
     parser.add_argument("--to", dest="last", type=words.day, metavar="D", help="the last one (else next month's)")
+    actual.add_journal(parser)
     parser.add_argument("-o", dest="out", metavar="FILE", help="where the page goes (else standard output)")
 
 
@@ -35,11 +38,11 @@ def run(given):
     if None not in (given.first, given.last) and given.last < given.first:
         words.tell("--to is before --from")
         return 2
-    if given.out and names_a_plan(given.out, given.plan, given.since):
-        words.tell(f"{given.out}: a page there would take the plan away")
+    if given.out and names_a_plan(given.out, given.plan, given.since, given.journal):
+        words.tell(f"{given.out}: a page there would take the plan or its journal away")
         return 2
     gc.disable()  # it looks through 200,000 rows again and again, and finds nothing to throw away
-    page = page_html.page_of(data_of(given.plan, given.now, given.first, given.last, given.since))
+    page = page_html.page_of(data_of(given.plan, given.now, given.first, given.last, given.since, given.journal))
     if given.out is None:
         sys.stdout.write(page)
         return 0
@@ -83,7 +86,7 @@ def umask():
     return mask
 
 
-def data_of(path, now=None, first=None, last=None, since=None):
+def data_of(path, now=None, first=None, last=None, since=None, journal=None):
     """What the page shows of a plan's file."""
     clock = moments.now()
     with contextlib.ExitStack() as files:
@@ -94,6 +97,8 @@ def data_of(path, now=None, first=None, last=None, since=None):
         model = page_model.of_rows(rows, pairs, now)
         defined, lists = page_queries.applications(plan)
         data = page_data.of_model(plan, rows, model, defined, lists, now, first, last)
+        apps = {name: place for place, (name, *_) in enumerate(data["apps"])}
+        data["actual"] = page_actual.of_rows(plan, rows, pairs, apps, actual.of_journal(journal, plan), now)
         if old:
             data["since"] = page_data.since(plan, defined, old, page_queries.applications(old)[0])
         return {**data, "made": clock, "sample": now != clock, "note": note}

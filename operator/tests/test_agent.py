@@ -3,6 +3,7 @@ real one where a day is worked off."""
 
 import argparse
 import contextlib
+import datetime
 import io
 import json
 import os
@@ -332,3 +333,109 @@ class Step(Room):
         told = self.until(lambda: True, self.agent(desk))
         self.assertIn("AA 2024-01-01/08.00 (serial 1) is started, and nothing here tells by whom", told)
         self.assertEqual(len(desk.log), 1)
+
+
+def has_aiohttp():
+    return os.path.exists(DEBIAN) and not subprocess.run([DEBIAN, "-c", "import aiohttp"], capture_output=True).returncode
+
+
+@unittest.skipUnless(plans.PROGRAM.exists(), "opcplan is not built")
+@unittest.skipUnless(has_aiohttp(), "there is no python3-aiohttp")
+class Day(Room):
+    """A real desk, and agents as processes."""
+
+    def begin(self, *words):
+        """A command of ./plan as a process, which ends with the test; what it tells goes to a file."""
+        told = self.room / f"told-{len(list(self.room.glob('told-*')))}"
+        with open(told, "wb") as out:
+            ran = subprocess.Popen([sys.executable, plans.TOP / "plan", *map(str, words)], stdout=out, stderr=out)
+        self.addCleanup(self.end, ran)
+        return ran, told
+
+    def end(self, ran):
+        if ran.poll() is None:
+            ran.terminate()
+            self.assertEqual(ran.wait(PATIENCE), 0)
+
+    def begin_agent(self):
+        return self.begin("agent", "--desk", self.socket, "--jobs", self.jobs, "--logs", self.logs, "--every", "0.1",
+                          "--now", "2024-01-01/12.00", "--most", "3")
+
+    def test_a_day_of_ten_applications_with_agents_that_are_killed(self):
+        self.plan, self.socket = self.room / "plan.db", self.room / "socket"
+        text = day_stream(DAY).encode()
+        subprocess.run([plans.PROGRAM, "--db", self.plan], input=text, check=True, capture_output=True)
+        for name in DAY:
+            self.job(name, f'echo "$@" >> {self.room}/runs; sleep 0.5; [ $1 != CA ]')
+        self.begin("desk", self.plan, "--socket", self.socket, "--program", plans.PROGRAM)
+        self.until(self.socket.exists)
+        agent, _ = self.begin_agent()
+        for count in (2, 4):
+            self.until(lambda count=count: len(self.runs()) >= count)
+            agent.kill()
+            agent.wait()
+            agent, _ = self.begin_agent()
+        second, told = self.begin_agent()
+        self.assertEqual(second.wait(PATIENCE), 1)
+        self.assertIn("another agent has it", told.read_text(encoding="utf-8"))
+        desk = client.Client(str(self.socket))
+        # CA fails, so CB and DB wait: they are not begun until it is mended
+        self.until(lambda: self.statuses(desk) == {**dict.fromkeys(DAY, "C"), "CA": "E", "CB": "W", "DB": "W"})
+        self.job("CA", f'echo "$@" >> {self.room}/runs')
+        desk.statements(b"cp-reset --app CA --ia 2024-01-01/08.06\n", "mended", 0)
+        self.until(lambda: set(self.statuses(desk).values()) == {"C"})
+        self.check(desk)
+
+    def statuses(self, desk):
+        rows = objects(desk.request("GET", "/rows?list=cp")[1])
+        return {row["app"]: row["status"] for row in rows}
+
+    def check(self, desk):
+        """The jobs ran as often and in such an order as the journal has it, and the plain planner answers the same."""
+        log = objects(desk.request("GET", "/journal?from=1")[1])
+        planner = plain.Planner()
+        plain.run(day_stream(DAY).encode(), planner)
+        for one in log:
+            self.assertEqual(plain.run(one["statement"].encode() + b"\n", planner), [one["reply"]])
+        starts = [one["statement"].split()[2] for one in log if one["statement"].startswith("cp-start")]
+        self.assertEqual(sorted(starts), sorted([*DAY, "CA"]))
+        self.assertEqual({one["reply"].split()[0] for one in log}, {"ok"})
+        runs = [app for app, _, _ in self.runs()]
+        self.assertEqual(sorted(runs), sorted([*DAY, "CA"]))
+        for app, others in DAY.items():
+            for other in others.split():
+                last = len(runs) - runs[::-1].index(other)
+                self.assertLess(last - 1, runs.index(app), (app, other))
+        said = {one["key"]: datetime.datetime.fromisoformat(one["at"].replace("Z", "+00:00")).replace(microsecond=0)
+                for one in log}
+        begun = 0
+        for one in log:
+            if one["statement"].startswith("cp-start"):
+                text = (self.logs / f"{int(one['reply'].split()[2]):09}.log").read_text(encoding="utf-8")
+                times = re.findall(r"^== agent: begins .* at (.*)$", text, re.M)
+                self.assertTrue(any(datetime.datetime.fromisoformat(at) >= said[one["key"]] for at in times))
+                begun += 1
+        self.assertEqual(begun, 11)
+
+
+def objects(data):
+    return [json.loads(line) for line in data.decode().splitlines()]
+
+
+class Words(Room):
+    def test_wrong_words_and_folders(self):
+        away = self.room / "nowhere"
+        for words, status in ((["--jobs", self.jobs], 2), (["--desk", "a/b"], 2), (["--desk", "http://", "--jobs", "."], 2),
+                              (["--desk", away, "--jobs", away], 1), (["--desk", away, "--jobs", self.jobs, "--most", "0"], 2),
+                              (["--desk", away, "--jobs", self.jobs, "--limit", "-1"], 2)):
+            ran = plans.plan("agent", *words)
+            self.assertEqual((ran.returncode, ran.stdout), (status, ""), words)
+            self.assertRegex(ran.stderr, "^plan: [^\n]+\n$")
+        self.jobs.chmod(0o777)
+        ran = plans.plan("agent", "--desk", away, "--jobs", self.jobs)
+        self.assertEqual(ran.returncode, 1)
+        self.assertIn("everybody may write into it", ran.stderr)
+
+
+if __name__ == "__main__":
+    unittest.main()
