@@ -1,5 +1,5 @@
-"""What the page is given of a desk's journal: when its rows ran, what applications take, what ended late or is going to,
-and the chain that decides when all is done."""
+"""What the page is given of a desk's journal: when its rows ran, what applications take, what ended late or is going
+to, and the chain that decides when all is done."""
 
 import actual
 import late_ends

@@ -13,7 +13,8 @@ import words
 
 SUMMARY = "what may be started now: it has arrived, and nothing is in its way"
 # none of what it waits for stands in a place where it isn't complete
-READY = f"""SELECT {waits.COLUMNS}, status FROM cp_row WHERE status = 'W' AND ia <= :now AND (:app IS NULL OR app = :app)
+READY = f"""SELECT {waits.COLUMNS}, status FROM cp_row
+    WHERE status = 'W' AND ia <= :now AND (:app IS NULL OR app = :app)
     AND NOT EXISTS (SELECT 1 FROM dependency WHERE successor = cp_row.serial AND (
         EXISTS (SELECT 1 FROM cp_row AS other WHERE other.serial = predecessor AND other.status IN ('W', 'S', 'E'))
         OR EXISTS (SELECT 1 FROM ltp_row WHERE ltp_row.serial = predecessor)))

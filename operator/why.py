@@ -31,9 +31,9 @@ SENTENCES = {
 def add_words(parser):
     parser.description = (
         "Tells where an occurrence stands and why. Of one that waits, all that isn't complete of what it waits for is "
-        "shown as a tree, down to those that wait for nothing. With the journal of a desk also when it ran, how long its "
-        "application takes, and of one that isn't complete when it is likely to end. The exit status is 1 where it "
-        "stands nowhere."
+        "shown as a tree, down to those that wait for nothing. With the journal of a desk also when it ran, how long "
+        "its application takes, and of one that isn't complete when it is likely to end. The exit status is 1 where "
+        "it stands nowhere."
     )
     words.add_plan(parser)
     keys.add_key(parser)

@@ -15,7 +15,8 @@ RUNNER = os.path.realpath(runner.__file__)
 # for how long what was refused isn't asked again, in seconds
 PAUSE = 30
 WORDS = {"S": "started", "E": "in error", "C": "complete", "D": "deleted", "W": "waiting"}
-LEFT = "nothing is touched; where it did its work, `cp-complete` says so, else `cp-fail` and `cp-reset` let it run again"
+LEFT = ("nothing is touched; where it did its work, `cp-complete` says so, else `cp-fail` and `cp-reset` let it run "
+        "again")
 
 
 class Agent:

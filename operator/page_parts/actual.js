@@ -31,7 +31,7 @@ function runPairs(i) {
 }
 
 function chainLine(i) {
-  const [start, , isLeast] = D.actual.expected[i], end = D.actual.expected[i][1];
+  const [start, end, isLeast] = D.actual.expected[i];
   return line(i, at(start) + ' to ' + at(end) + (isLeast ? ' or later' : ''), [WORD[state(i)] + pastText(i, end)]);
 }
 
@@ -47,10 +47,13 @@ const goingLine = i => line(i, 'due ' + at(due[i]),
 function drawEnds() {
   if (!D.actual) return;
   const { going, ended, chain, hours } = D.actual;
-  const box = [list('Going to end late', going.filter(isWanted), goingLine, none('Nothing that is in time is going to end ' +
-    'late.', 'None of these is going to end late.'), 8),
-  list('Ended late in the ' + hours + ' hours before', ended.filter(one => isWanted(one[0])), endedLine, none('Nothing ended late.',
-    'None of these ended late.'), 8)];
+  const goingWanted = going.filter(isWanted), endedWanted = ended.filter(one => isWanted(one[0]));
+  const box = [
+    list('Going to end late', goingWanted, goingLine,
+      none('Nothing that is in time is going to end late.', 'None of these is going to end late.'), 8),
+    list('Ended late in the ' + hours + ' hours before', endedWanted, endedLine,
+      none('Nothing ended late.', 'None of these ended late.'), 8),
+  ];
   if (chain.length) {
     const last = D.actual.expected[chain[chain.length - 1]];
     box.push(list('All is expected to be done ' + endText(last) + ', by this chain', chain, chainLine, '', 12));

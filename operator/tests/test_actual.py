@@ -48,7 +48,7 @@ def stream():
 
 def rows_of(planner):
     """All rows of a planner by application and day of the month."""
-    rows = [row for row, _ in planner.current.values()] + list(planner.history.values()) + list(planner.planned.values())
+    rows = [row for row, _ in planner.current.values()] + [*planner.history.values(), *planner.planned.values()]
     return {(row[1], int(plain.moment_text(row[2])[8:10])): row for row in rows}
 
 
@@ -96,20 +96,21 @@ class Journal(unittest.TestCase):
 class Commands(Journal):
     def test_late(self):
         # ALFA takes 10 minutes in the middle, BRAVO 20, CHARLIE 30: 08.01, 08.11, 08.31, 09.01
-        serial, before = {app: self.rows[app, 3][0] for app in APPS}, self.rows["CHARLIE", 2][0]
+        echo, delta, charlie, before = (self.rows[key][0] for key in (("ECHO", 3), ("DELTA", 3), ("CHARLIE", 3),
+                                                                      ("CHARLIE", 2)))
         self.assertEqual(self.asked("late", "--now", NOW), f"""1 is late at 2024-01-03 08.05:
 
-ECHO 2024-01-03 07.00  in error  due 2024-01-03 07.10  late by 55 min  serial {serial["ECHO"]}
+ECHO 2024-01-03 07.00  in error  due 2024-01-03 07.10  late by 55 min  serial {echo}
     ended in error 2024-01-03 07.05, expected to end not before 2024-01-03 08.09
 
 1 is going to end late:
 
-  CHARLIE 2024-01-03 08.20  due 2024-01-03 08.50, expected to end 2024-01-03 09.01, late by 11 min, serial {serial["CHARLIE"]}
+  CHARLIE 2024-01-03 08.20  due 2024-01-03 08.50, expected to end 2024-01-03 09.01, late by 11 min, serial {charlie}
 
 2 ended late in the 24 hours before:
 
   CHARLIE 2024-01-02 08.20  due 2024-01-02 08.50, ended 2024-01-02 08.55, late by 5 min, serial {before}
-  DELTA 2024-01-03 07.00  due 2024-01-03 07.30, ended 2024-01-03 07.45, late by 15 min, serial {serial["DELTA"]}
+  DELTA 2024-01-03 07.00  due 2024-01-03 07.30, ended 2024-01-03 07.45, late by 15 min, serial {delta}
 
 All that is unfinished is expected to be done at 2024-01-03 09.01, by this chain:
 
@@ -186,11 +187,14 @@ This chain decides it:
             at += step
             numbers[at] = place
         place = {app: numbers[self.rows[app, 3][0]] for app in APPS}
-        minute = plain.read_moment
-        self.assertEqual(told["runs"][place["DELTA"]], [[minute("2024-01-03/07.10"), minute("2024-01-03/07.45"), 2100, "C"]])
-        self.assertEqual(told["runs"][place["ALFA"]], [[minute("2024-01-03/08.01"), None, None, "S"]])
-        self.assertEqual(told["expected"][place["CHARLIE"]], [minute("2024-01-03/08.31"), minute("2024-01-03/09.01"), 0])
-        self.assertEqual(told["expected"][place["FOXTROT"]], [minute("2024-01-03/08.09"), minute("2024-01-03/08.09"), 1])
+
+        def minute(text):
+            return plain.read_moment(f"2024-01-03/{text}")
+
+        self.assertEqual(told["runs"][place["DELTA"]], [[minute("07.10"), minute("07.45"), 2100, "C"]])
+        self.assertEqual(told["runs"][place["ALFA"]], [[minute("08.01"), None, None, "S"]])
+        self.assertEqual(told["expected"][place["CHARLIE"]], [minute("08.31"), minute("09.01"), 0])
+        self.assertEqual(told["expected"][place["FOXTROT"]], [minute("08.09"), minute("08.09"), 1])
         self.assertEqual(told["going"], [place["CHARLIE"]])
         self.assertEqual(told["ended"], [[numbers[self.rows["CHARLIE", 2][0]], 300], [place["DELTA"], 900]])
         self.assertEqual(told["chain"], [place[app] for app in ("ALFA", "BRAVO", "CHARLIE")])
@@ -217,7 +221,8 @@ This chain decides it:
             db.execute("UPDATE happened SET at = 'x'")
             db.commit()
         asked = [(path, ["late"]) for path in (empty, text, odd, self.plan, self.room, self.room / "none")]
-        for path, words in [*asked, *((other, words) for words in (["late"], ["why", "1"], ["export", "--json"], ["page"]))]:
+        asked += [(other, words) for words in (["late"], ["why", "1"], ["export", "--json"], ["page"])]
+        for path, words in asked:
             ran = plans.plan(words[0], self.plan, *words[1:], "--journal", path)
             self.assertEqual((ran.returncode, ran.stdout), (1, ""), (path, words))
             self.assertRegex(ran.stderr, f"^plan: {path}: [^\n]+\n$")
@@ -226,8 +231,8 @@ This chain decides it:
 class Reckoning(unittest.TestCase):
     def happened(self, times):
         """What happened to one application, an occurrence after another: (status, seconds)."""
-        return [(serial, "A", "2024-01-01/08.00", status, f"2024-01-01T{at // 3600:02}:{at // 60 % 60:02}:{at % 60:02}.500Z", 0)
-                for serial, status, at in times]
+        return [(serial, "A", "2024-01-01/08.00", status, f"2024-01-01T{at // 3600:02}:{at // 60 % 60:02}:{at % 60:02}Z",
+                 0) for serial, status, at in times]
 
     def test_the_last_thirty_whole_runs_count(self):
         for count in (1, 2, 3, 29, 30, 31, 45):
@@ -242,8 +247,8 @@ class Reckoning(unittest.TestCase):
             self.assertEqual(found, (middle, last[0], len(last)), count)
 
     def test_what_failed_was_taken_over_or_lacks_its_start_is_no_whole_run(self):
-        times = [(1, "S", 0), (1, "E", 50), (1, "W", 60), (1, "S", 100), (1, "C", 130), (2, "S", 0), (2, "E", 500), (2, "C", 900),
-                 (3, "C", 40), (4, "S", 7), (5, "S", 8), (5, "E", 9), (5, "D", 10)]
+        times = [(1, "S", 0), (1, "E", 50), (1, "W", 60), (1, "S", 100), (1, "C", 130), (2, "S", 0), (2, "E", 500),
+                 (2, "C", 900), (3, "C", 40), (4, "S", 7), (5, "S", 8), (5, "E", 9), (5, "D", 10)]
         known = actual.Actual(self.happened(times))
         self.assertEqual(known.usual, {"A": (30, 30, 1)})
         self.assertEqual([(run.seconds, run.status) for run in known.runs[1]], [(50, "E"), (30, "C")])
@@ -298,13 +303,16 @@ class Reckoning(unittest.TestCase):
 
         with tempfile.TemporaryDirectory(prefix="actual-") as room:
             journal = journals.write(os.path.join(room, "journal"), events)
-            ran = plans.plan("export", plans.of_stream(text), "--json", "--set", "cp", "--journal", journal, "--now", centre.NOW)
-            told = plans.plan("late", plans.of_stream(text), "--journal", journal, "--now", centre.NOW).stdout
-        shown = {one["serial"]: one["expected_end"] for one in json.loads(ran.stdout)["occurrences"] if one["expected_end"]}
+            words = ["--journal", journal, "--now", centre.NOW]
+            ran = plans.plan("export", plans.of_stream(text), "--json", "--set", "cp", *words)
+            told = plans.plan("late", plans.of_stream(text), *words).stdout
+        found = json.loads(ran.stdout)["occurrences"]
+        shown = {one["serial"]: one["expected_end"] for one in found if one["expected_end"]}
         self.assertEqual(set(shown), set(unfinished))
         self.assertGreater(len(shown), 20)
         for serial, text in shown.items():
-            self.assertEqual(text, plain.moment_text(int(-(-end(serial) // 1)), "T").replace(".", ":"), unfinished[serial])
+            wanted = plain.moment_text(int(-(-end(serial) // 1)), "T").replace(".", ":")
+            self.assertEqual(text, wanted, unfinished[serial])
         last = plain.moment_text(int(-(-max(ends.values()) // 1)))
         self.assertIn(f"{last}, by this chain:", told)
 

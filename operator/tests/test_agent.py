@@ -26,18 +26,20 @@ FIRST_JOB = 500_000_001
 DEBIAN = "/usr/bin/python3"
 # in seconds: what a busy machine may take
 PATIENCE = 30
-DAY = {"AA": "", "AB": "AA", "AC": "AA", "AD": "AB AC", "BA": "", "BB": "BA", "CA": "", "CB": "CA BB", "DA": "AD", "DB": "CB"}
+DAY = {"AA": "", "AB": "AA", "AC": "AA", "AD": "AB AC", "BA": "", "BB": "BA", "CA": "", "CB": "CA BB", "DA": "AD",
+       "DB": "CB"}
 
 
 def day_stream(apps):
     """A stream that plans one day of applications, each with the others that it waits for."""
     lines = {"calendars": ["DEFAULT,2024-01-01,WORK"], "periods": ["DAY,A,2024-01-01,1"],
              "applications": [f"{app},A," for app in apps],
-             "run-cycles": [f"{app},DAILY,N,DAY,3,1,2024-01-01,,08.{place:02},0,10.00" for place, app in enumerate(apps)],
+             "run-cycles": [f"{app},DAILY,N,DAY,3,1,2024-01-01,,08.{at:02},0,10.00" for at, app in enumerate(apps)],
              "predecessors": [f"{app},{other}" for app, others in apps.items() for other in others.split()]}
     blocks = [f"define {kind} --job {job}\n" + "".join(f"{line}\n" for line in found) + "/*\n"
               for job, (kind, found) in enumerate(lines.items(), 1) if found]
-    return "".join(blocks) + "ltp-create --from 2024-01-01 --to 2024-01-05 --job 8\ndp-extend --to 2024-01-02/00.00 --job 9\n"
+    planned = "ltp-create --from 2024-01-01 --to 2024-01-05 --job 8\ndp-extend --to 2024-01-02/00.00 --job 9\n"
+    return "".join(blocks) + planned
 
 
 class PlainDesk:
@@ -111,9 +113,9 @@ class Room(unittest.TestCase):
         path.write_text(f"#!/bin/sh\n{text}\n", encoding="utf-8")
         path.chmod(0o755)
 
-    def agent(self, desk, **more):
-        given = argparse.Namespace(jobs=str(self.jobs), logs=str(self.logs), most=4, limit=None, desk="plain", every=0.1,
-                                   now=plain.read_moment("2024-01-01/12.00"), **more)
+    def agent(self, desk):
+        given = argparse.Namespace(jobs=str(self.jobs), logs=str(self.logs), most=4, limit=None,
+                                   now=plain.read_moment("2024-01-01/12.00"))
         found = work.Agent(given, desk)
         found.load()
         return found
@@ -204,7 +206,8 @@ class Step(Room):
                             agent.step()
                         self.assertLess(time.monotonic(), end)
                         time.sleep(0.05)
-                self.assertEqual(desk.asked(), [f"cp-{word} --app AA --ia 2024-01-01/08.00" for word in ("start", "complete")])
+                self.assertEqual(desk.asked(), [f"cp-{word} --app AA --ia 2024-01-01/08.00"
+                                                for word in ("start", "complete")])
                 self.assertEqual(len(self.runs()), 1)
                 (self.room / "runs").unlink()
 
@@ -305,12 +308,13 @@ class Step(Room):
         desk = PlainDesk(day_stream({"AA": ""}))
         (self.room / "OUT").write_text(f"#!/bin/sh\ntouch {self.room}/runs\n", encoding="utf-8")
         (self.room / "OUT").chmod(0o755)
-        names = ["../OUT", "/bin/true", "log", "a", "", ".", "AA;true", "AA\nBB", "AA ", "$(true)", "A" * 17, "-AA", None, 7]
+        names = ["../OUT", "/bin/true", "log", "a", "", ".", "AA;true", "AA\nBB", "AA ", "$(true)", "A" * 17, "-AA",
+                 None, 7]
         rows = [{"serial": 10 + place, "app": name, "ia": "2024-01-01/08.00", "deadline": "2024-01-01/10.00",
                  "status": "W"} for place, name in enumerate(names)]
         good = {"serial": 9, "app": "OUT", "ia": "2024-01-01/08.00", "deadline": "2024-01-01/10.00", "status": "W"}
-        rows += [{**good, **odd} for odd in ({"serial": "../x"}, {"serial": 0}, {"ia": "x"}, {"ia": "2024-01-01/08.00\n"},
-                                             {"deadline": None}, {"status": "WW"})]
+        rows += [{**good, **odd} for odd in ({"serial": "../x"}, {"serial": 0}, {"ia": "x"}, {"deadline": None},
+                                             {"ia": "2024-01-01/08.00\n"}, {"status": "WW"})]
         desk.rows = lambda: [*rows, {**good, "app": "LINK"}, {**good, "serial": 8, "app": "FOLDER"},
                              {**good, "serial": 7, "app": "PLAIN"}, {**good, "serial": 6, "app": "OPEN"}]
         (self.jobs / "LINK").symlink_to(self.room / "OUT")
@@ -340,7 +344,8 @@ class Step(Room):
 
 
 def has_aiohttp():
-    return os.path.exists(DEBIAN) and not subprocess.run([DEBIAN, "-c", "import aiohttp"], capture_output=True).returncode
+    asked = [DEBIAN, "-c", "import aiohttp"]
+    return os.path.exists(DEBIAN) and not subprocess.run(asked, capture_output=True, check=False).returncode
 
 
 @unittest.skipUnless(plans.PROGRAM.exists(), "opcplan is not built")
@@ -442,9 +447,10 @@ def objects(data):
 class Words(Room):
     def test_wrong_words_and_folders(self):
         away = self.room / "nowhere"
-        for words, status in ((["--jobs", self.jobs], 2), (["--desk", "a/b"], 2), (["--desk", "http://", "--jobs", "."], 2),
-                              (["--desk", away, "--jobs", away], 1), (["--desk", away, "--jobs", self.jobs, "--most", "0"], 2),
-                              (["--desk", away, "--jobs", self.jobs, "--limit", "-1"], 2)):
+        good = ["--desk", away, "--jobs", self.jobs]
+        for words, status in ((["--jobs", self.jobs], 2), (["--desk", "a/b"], 2), ([*good, "--most", "0"], 2),
+                              (["--desk", "http://", "--jobs", "."], 2), (["--desk", away, "--jobs", away], 1),
+                              ([*good, "--limit", "-1"], 2)):
             ran = plans.plan("agent", *words)
             self.assertEqual((ran.returncode, ran.stdout), (status, ""), words)
             self.assertRegex(ran.stderr, "^plan: [^\n]+\n$")

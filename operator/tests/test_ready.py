@@ -77,7 +77,8 @@ class Ready(unittest.TestCase):
         found = {int(line.split(" ")[2]) for line in lines}
         arrived = [row for row, status in planner.current.values() if status == "W" and row[2] <= now]
         self.assertTrue(0 < len(found) < len(arrived))
-        for row in [row for row in arrived if row[0] in found][:4] + [row for row in arrived if row[0] not in found][:4]:
+        others = [row for row in arrived if row[0] not in found]
+        for row in [row for row in arrived if row[0] in found][:4] + others[:4]:
             tried = copy.deepcopy(planner)
             statement = f"cp-start --app {row[1]} --ia {plain.moment_text(row[2], '/')} --job 99999\n"
             reply = "".join(plain.run(statement.encode(), tried))
@@ -97,7 +98,8 @@ class Ready(unittest.TestCase):
             before = plans.prints(path)
             shown = plans.plan("ready", path, "--now", centre.NOW, "-0").stdout
             self.assertEqual(plans.prints(path), before)
-        ran = subprocess.run(["xargs", "-0", "-n", "3", "echo"], input=shown, capture_output=True, text=True, check=True)
+        words = ["xargs", "-0", "-n", "3", "echo"]
+        ran = subprocess.run(words, input=shown, capture_output=True, text=True, check=True)
         self.assertEqual(ran.stdout, asked(plans.of_stream(centre.whole()), "--now", centre.NOW)[1])
 
     def test_a_moment_outside_of_the_plan_is_said(self):
