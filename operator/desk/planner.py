@@ -40,6 +40,7 @@ class Ask:
         self.name, self.text, self.wanted = name, text, wanted
         self.entry = None
         self.condition = None  # the tag of the state that it asks for
+        self.streams = []  # that wait for it
         self.begun = time.monotonic()
         self.tries = 0
         self.rows, self.row_bytes = None, 0
@@ -162,6 +163,8 @@ class Planner:
             self.why = f"{self.words[0]}: it can't be run: {error.strerror}"
             return False
         self.lives += 1
+        if self.closing.is_set():
+            self.process.stdin.close()
         told = asyncio.create_task(self.process.stderr.read())
         opened, fault = await self.talk()
         self.is_open, self.open_since = False, None
