@@ -20,12 +20,15 @@ def universal(text):
     return moment.strftime("%Y-%m-%dT%H:%M:%S.") + "000Z"
 
 
-def write(path, events):
-    """Makes a journal of what happened: (serial, application, input arrival, status, when)."""
+def write(path, events, entries=()):
+    """Makes a journal of what happened, (serial, application, input arrival, status, when), and of entries, (when, who,
+    key, job, text, reply)."""
     with closing(sqlite3.connect(path)) as db:
         db.execute("PRAGMA journal_mode = WAL")
         db.executescript(TABLES)
         db.executemany("INSERT INTO happened VALUES (?, ?, ?, ?, ?, ?)",
                        [(*one[:4], universal(one[4]), seq) for seq, one in enumerate(events, 1)])
+        db.executemany("INSERT INTO entry VALUES (?, ?, ?, ?, ?, ?, ?)",
+                       [(seq, universal(one[0]), *one[1:]) for seq, one in enumerate(entries, 1)])
         db.commit()
     return path
