@@ -1,5 +1,6 @@
 """The current plan as a desk tells it, kept up to date by the desk's journal."""
 
+import functools
 import json
 import re
 from typing import NamedTuple
@@ -13,6 +14,7 @@ STATUS = re.compile(r"ok serial ([0-9]{1,9}) status ([WSECD])")
 ON_A_STATUS = ("cp-start", "cp-complete", "cp-fail", "cp-reset")
 IN_THE_WAY = "WSE"
 TRIES = 9
+moment_of = functools.lru_cache(10_000)(moments.moment_of)
 # what has to be asked anew
 NOTHING, STATUSES, ALL = range(3)
 
@@ -44,7 +46,10 @@ class Watched:
     def refresh(self, since=None):
         """Asks what changed; the first time also what the journal has behind a position. Raises Away and Refused."""
         try:
-            position = json.loads(self.desk.request("GET", "/health")[1])["position"]
+            told = json.loads(self.desk.request("GET", "/health")[1])
+            if "position" not in told:  # a caller who may not read hears less; the rows say why
+                self.asked("cp")
+            position = told["position"]
             if self.position is not None and position < self.position:  # the desk has another plan, or an older one
                 self.position, since = None, 0
             if self.position is None:
@@ -160,7 +165,7 @@ def row_of(told):
     """The row that is told, or None where it isn't one that a plan can have."""
     try:
         serial, app, ia, status = (told[name] for name in ("serial", "app", "ia", "status"))
-        arrival, deadline = moments.moment_of(ia), moments.moment_of(told["deadline"])
+        arrival, deadline = moment_of(ia), moment_of(told["deadline"])
         is_row = (isinstance(serial, int) and 1 <= serial <= 999_999_999 and words.NAME.fullmatch(app)
                   and None not in (arrival, deadline) and status in tuple("WSECD"))
     except (KeyError, TypeError):

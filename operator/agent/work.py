@@ -177,6 +177,8 @@ class Agent:
             if answer["reply"] != f"ok serial {one.serial} status S":
                 self.pauses[one.serial] = time.monotonic() + PAUSE
                 self.forget(one, f"it isn't started: the desk says `{answer['reply']}`")
+                if not os.fstat(log).st_size:
+                    os.remove(record.log_of(self.given.logs, one.serial))
             elif answer["seq"] <= position:  # that was before it waited again
                 self.forget(one, "it was started before, and waits again")
             else:

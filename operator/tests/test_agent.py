@@ -14,12 +14,13 @@ import sys
 import tempfile
 import time
 import unittest
+import unittest.mock
 from pathlib import Path
 
 import plans
 from plans import plain
 
-from agent import record, work
+from agent import record, watch, work
 from desk import client
 
 FIRST_JOB = 500_000_001
@@ -304,6 +305,22 @@ class Step(Room):
         state = Path(f"/proc/{job}/stat")
         self.until(lambda: not state.exists() or state.read_text(encoding="utf-8").rpartition(")")[2].split()[0] == "Z")
 
+    def test_what_another_agent_has_is_left_to_it(self):
+        desk = PlainDesk(day_stream({"AA": ""}))
+        self.job("AA", f"touch {self.room}/runs")
+        agent, refresh = self.agent(desk), watch.Watched.refresh
+
+        def slow(watched, since=None):
+            refresh(watched, since)
+            if not desk.log:  # it is started behind what this agent sees
+                desk.put("cp-start --app AA --ia 2024-01-01/08.00")
+
+        with unittest.mock.patch.object(watch.Watched, "refresh", slow):
+            told = self.until(lambda: True, agent)
+        self.assertIn("it isn't started: the desk says `refused 29`", told)
+        self.until(lambda: True, agent)
+        self.assertEqual((len(desk.log), self.runs(), sorted(os.listdir(self.logs))), (2, [], []))
+
     def test_hostile_names_begin_nothing(self):
         desk = PlainDesk(day_stream({"AA": ""}))
         (self.room / "OUT").write_text(f"#!/bin/sh\ntouch {self.room}/runs\n", encoding="utf-8")
@@ -327,6 +344,22 @@ class Step(Room):
         self.assertEqual((desk.log, self.runs(), record.serials(self.logs)), ([], [], []))
         for name in ("LINK", "FOLDER", "PLAIN", "OPEN"):
             self.assertEqual(told.count(f"/{name}: "), 1, told)
+
+    def test_who_may_not_read_is_told_why(self):
+        desk = PlainDesk(day_stream({"AA": ""}))
+
+        def request(method, path, *_):
+            if path != "/health":
+                raise client.Refused(401, "a token is wanted")
+            return {}, b'{"status": "ok"}'
+
+        desk.request = request
+        with self.assertRaisesRegex(client.Refused, "a token is wanted"):
+            self.agent(desk).step()
+        for answer in (b"", b"[]", b"<html>", b'{"position": "9"}', b'{"position": null}', b"\xff"):
+            desk.request = lambda *_, answer=answer: ({}, answer)
+            with self.assertRaisesRegex(client.Away, "doesn't answer as a desk does"):
+                self.agent(desk).step()
 
     def test_a_file_that_can_not_be_run_is_a_failure(self):
         desk = PlainDesk(day_stream({"AA": ""}))
