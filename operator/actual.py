@@ -2,7 +2,6 @@
 
 A journal has universal time, so durations are right where clocks change; a plan has local moments without a zone."""
 
-import contextlib
 import datetime
 import statistics
 from typing import NamedTuple

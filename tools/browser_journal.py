@@ -1,4 +1,4 @@
-"""What tools/page-in-browser asks of a page with a desk's journal: what ended late or is going to, the chain, the cards."""
+"""What tools/page-in-browser asks of a page with a desk's journal: what ended late or is going to, the chain, cards."""
 
 import test_actual
 from browser_checks import SIZES
@@ -45,8 +45,8 @@ def lists_and_cards(browser, folder, ask):
             found = {title: [" ".join(text.split()) for text in texts] for title, texts in browser.js(SHOWN)}
             ask(found == LISTS, f"{look}: lists", found)
             for key, wanted in CARDS.items():
-                text = browser.js(f"choose(rowOfSerial({held.rows[key][0]})); [...document.querySelectorAll('#card dt')]"
-                                  ".map(x => x.textContent + ' ' + x.nextElementSibling.textContent)")
+                text = browser.js(f"choose(rowOfSerial({held.rows[key][0]})); "
+                                  "[...document.querySelectorAll('#card dt')].map(x => x.textContent + ' ' + x.nextElementSibling.textContent)")
                 ask([line for line in text if line.split()[0] in ("Ran", "Takes", "Expected")] == wanted,
                     f"{look}: the card of {key}", text)
             for what, question in (("names", NAMELESS), ("contrast", FAINT)):

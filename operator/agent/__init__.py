@@ -16,8 +16,8 @@ def add_words(parser):
         "occurrence is started at the desk, and then the file is run, with the application, the input arrival and the "
         "serial as its words; its exit status 0 is told as `cp-complete`, any other as `cp-fail`. What it prints goes "
         "to a log by serial. A job is never begun twice: where this agent, or one before it, was ended, jobs go on, "
-        "and the next agent tells how they ended; of one of which nothing is known that is said, and nothing is touched. "
-        "SIGTERM and SIGINT end it, with status 0; status 1 where it can't begin, 2 where the words are wrong."
+        "and the next agent tells how they ended; of one of which nothing is known that is said, and nothing is "
+        "touched. SIGTERM and SIGINT end it, with status 0; status 1 where it can't begin, 2 where the words are wrong."
     )
     parser.add_argument("--desk", metavar="DESK",
                         help="http://HOST:PORT, or the path of a desk's socket (else what OPCPLAN_DESK has)")

@@ -1,6 +1,7 @@
 """What ./plan tells by a desk's journal: durations and ends worked out by hand, and by a second way of reckoning."""
 
 import csv
+import datetime
 import io
 import json
 import os
@@ -139,7 +140,8 @@ This chain decides it:
   ALFA 2024-01-03 08.00     2024-01-03 08.01 to 2024-01-03 08.11
 """, shown)
         shown = self.asked("why", "DELTA", "2024-01-03/07.00")
-        self.assertIn("\nIts runs:\n  started 2024-01-03 07.10, complete 2024-01-03 07.45, after 35 min: late by 15 min\n"
+        self.assertIn("\nIts runs:\n"
+                      "  started 2024-01-03 07.10, complete 2024-01-03 07.45, after 35 min: late by 15 min\n"
                       "The last 3 whole runs of DELTA took 5 min in the middle and 35 min at worst.\n", shown)
         self.assertNotIn("expected", shown)
         shown = self.asked("why", "ALFA", "2024-01-02/08.00")
@@ -208,7 +210,8 @@ This chain decides it:
     def test_a_run_that_goes_on_takes_the_worst_and_then_no_one_knows(self):
         for now, wanted in (("2024-01-03/08.11", "2024-01-03 08.11"), ("2024-01-03/08.12", "2024-01-03 08.13"),
                             ("2024-01-03/08.14", "not before 2024-01-03 08.14")):
-            self.assertIn(f"It is expected to end {wanted}.", self.asked("why", "ALFA", "2024-01-03/08.00", "--now", now))
+            shown = self.asked("why", "ALFA", "2024-01-03/08.00", "--now", now)
+            self.assertIn(f"It is expected to end {wanted}.", shown)
 
     def test_files_that_are_no_journal_of_this_plan(self):
         other, empty, text = self.room / "other", self.room / "empty", self.room / "text"
@@ -231,8 +234,9 @@ This chain decides it:
 class Reckoning(unittest.TestCase):
     def happened(self, times):
         """What happened to one application, an occurrence after another: (status, seconds)."""
-        return [(serial, "A", "2024-01-01/08.00", status, f"2024-01-01T{at // 3600:02}:{at // 60 % 60:02}:{at % 60:02}Z",
-                 0) for serial, status, at in times]
+        at_midnight = datetime.datetime(2024, 1, 1)
+        return [(serial, "A", "2024-01-01/08.00", status, f"{(at_midnight + datetime.timedelta(0, at)).isoformat()}Z", 0)
+                for serial, status, at in times]
 
     def test_the_last_thirty_whole_runs_count(self):
         for count in (1, 2, 3, 29, 30, 31, 45):

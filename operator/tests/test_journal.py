@@ -11,7 +11,8 @@ import plans
 ENTRIES = [
     ("2024-01-01/08.00", "me", None, 500_000_001, "cp-start --app PAY --ia 2024-01-01/08.00 --job 500000001\n",
      "ok serial 1 status S"),
-    ("2024-01-01/23.59.59", "you", "k", 17, "cp-fail --app PAY --ia 2024-01-01/08.00 --job 17\n", "ok serial 1 status E"),
+    ("2024-01-01/23.59.59", "you", "k", 17, "cp-fail --app PAY --ia 2024-01-01/08.00 --job 17\n",
+     "ok serial 1 status E"),
     ("2024-01-02/00.00", "me", None, 18, "define calendars --job 18\nDEFAULT,SAT,FREE\n/*\n", "ok defined 1"),
     ("2024-01-03/10.00", "me", None, 19, "cp-start --app PAY@NIGHT --ia 2024-01-02/08.00 --job 19\n", "refused 28"),
 ]
