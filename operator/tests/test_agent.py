@@ -26,7 +26,7 @@ from desk import client
 FIRST_JOB = 500_000_001
 DEBIAN = "/usr/bin/python3"
 # in seconds: what a busy machine may take
-PATIENCE = 30
+PATIENCE = 300
 DAY = {"AA": "", "AB": "AA", "AC": "AA", "AD": "AB AC", "BA": "", "BB": "BA", "CA": "", "CB": "CA BB", "DA": "AD",
        "DB": "CB"}
 
@@ -198,6 +198,7 @@ class Step(Room):
             with self.subTest(faults=faults):
                 desk = PlainDesk(day_stream({"AA": ""}))
                 desk.faults = list(faults)
+                (self.room / "runs").unlink(missing_ok=True)
                 self.job("AA", f"echo x >> {self.room}/runs")
                 agent = self.agent(desk)
                 end = time.monotonic() + PATIENCE
@@ -210,7 +211,6 @@ class Step(Room):
                 self.assertEqual(desk.asked(), [f"cp-{word} --app AA --ia 2024-01-01/08.00"
                                                 for word in ("start", "complete")])
                 self.assertEqual(len(self.runs()), 1)
-                (self.room / "runs").unlink()
 
     def test_killed_between_the_answer_and_the_run_nothing_is_touched(self):
         desk = PlainDesk(day_stream({"AA": ""}))
