@@ -137,6 +137,14 @@ class Room(unittest.TestCase):
         """What the commands told."""
         return "".join(path.read_text(encoding="utf-8") for path in sorted(self.room.glob("told-*")))
 
+    @property
+    def wait(self):
+        """What a job does until `go`."""
+        return f"until [ -e {self.room}/go ]; do sleep 0.05; done"
+
+    def go(self):
+        (self.room / "go").touch()
+
     def runs(self):
         """The words of each line that the jobs wrote into the file `runs`."""
         path = self.room / "runs"
@@ -263,9 +271,10 @@ class Step(Room):
     def test_an_end_that_was_not_told_is_told_by_the_next_agent(self):
         desk = PlainDesk(day_stream({"AA": "", "BB": ""}))
         for name in ("AA", "BB"):
-            self.job(name, f"echo x >> {self.room}/runs; sleep 0.2; test {name} = AA")
+            self.job(name, f"echo x >> {self.room}/runs; {self.wait}; test {name} = AA")
         agent = self.agent(desk)
         self.until(lambda: len(self.runs()) == 2, agent)
+        self.go()
         self.until(lambda: all(record.read(self.logs, serial).ended for serial in (1, 2)))
         self.assertEqual(len(desk.log), 2)
         self.until(lambda: len(desk.log) == 4, self.agent(desk))
@@ -273,24 +282,26 @@ class Step(Room):
 
     def test_an_end_is_told_of_its_own_start_alone(self):
         desk = PlainDesk(day_stream({"AA": ""}))
-        self.job("AA", f"echo x >> {self.room}/runs; sleep 0.3")
+        self.job("AA", f"echo x >> {self.room}/runs; {self.wait}")
         agent = self.agent(desk)
         self.until(lambda: self.runs(), agent)
         for word in ("fail", "reset", "start"):
             desk.put(f"cp-{word} --app AA --ia 2024-01-01/08.00")
+        self.go()
         told = self.until(lambda: not agent.records, agent)
         self.assertIn("the desk isn't told", told)
         self.assertEqual((desk.status("AA"), len(desk.log), len(self.runs())), ("S", 4, 1))
 
     def test_an_old_job_that_is_answered_again_hides_no_start(self):
         desk = PlainDesk(day_stream({"AA": ""}))
-        self.job("AA", f"echo x >> {self.room}/runs; sleep 0.3")
+        self.job("AA", f"echo x >> {self.room}/runs; {self.wait}")
         for job, word in enumerate(("start", "fail", "reset"), 20):
             desk.put(f"cp-{word} --app AA --ia 2024-01-01/08.00", job=job)
         agent = self.agent(desk)
         self.until(lambda: self.runs(), agent)
         for job, word in enumerate(("start", "fail"), 20):
             self.assertTrue(desk.put(f"cp-{word} --app AA --ia 2024-01-01/08.00", job=job)["reply"].startswith("ok"))
+        self.go()
         self.until(lambda: desk.status("AA") == "C", agent)
         self.assertEqual(len(self.runs()), 1)
 
