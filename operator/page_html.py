@@ -12,8 +12,8 @@ import moments
 
 PARTS = Path(__file__).resolve().parent / "page_parts"
 STYLES = ["colours.css", "frame.css", "day.css", "graph.css", "month.css", "card.css", "small.css", "print.css"]
-SCRIPTS = ["model.js", "words.js", "now.js", "groups.js", "day.js", "arrows.js", "layout.js", "graph.js", "month.js",
-           "card.js", "apps.js", "changes.js", "keys.js"]
+SCRIPTS = ["model.js", "words.js", "now.js", "actual.js", "groups.js", "day.js", "arrows.js", "layout.js",
+           "graph.js", "month.js", "card.js", "apps.js", "changes.js", "keys.js"]
 MOST_WITHOUT_SCRIPT = 500
 STATES = {"E": "in error", "S": "started", "R": "ready", "B": "blocked", "F": "to come"}
 

@@ -135,7 +135,12 @@ class Journal(log.Log):
 
     def happened(self):
         """What happened, in its order: serial, application, input arrival, status, when, and the entry's seq."""
-        return self.reader.execute("SELECT serial, app, ia, status, at, seq FROM happened ORDER BY seq").fetchall()
+        found = self.reader.execute("SELECT serial, app, ia, status, at, seq FROM happened ORDER BY seq").fetchall()
+        for serial, app, ia, status, at, seq in found:
+            texts = (app, ia, status, at)
+            if not (isinstance(serial, int) and all(isinstance(one, str) for one in texts) and entry.is_moment(at)):
+                raise sqlite3.DatabaseError(f"what happened by entry {seq} is nothing that a desk writes")
+        return found
 
     def close(self):
         self.reader.close()

@@ -66,7 +66,7 @@ function drawCard(i) {
     h('dl', {}, pair('Arrives', dayName(ia[i]) + ' ' + clock(ia[i])),
       pair('Due', dayName(due[i]) + ' ' + clock(due[i]), dueNote(i)),
       pair('Run cycle', byHand(i) ? 'added by hand' : D.cycles[D.rows.cycle[i]]),
-      pair('Serial', String(serial[i])),
+      pair('Serial', String(serial[i])), runPairs(i),
       pair('In a stream', h('code', {}, '--app ' + name(i)), ' ',
         h('code', {}, '--ia ' + isoDay(dayOf(ia[i])) + '/' + clock(ia[i])))),
     h('h3', {}, 'Waits for'), wholeTree(i, before, done.length ? 'nothing that isn’t complete' : 'nothing'),

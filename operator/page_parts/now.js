@@ -152,4 +152,5 @@ function drawNow() {
   const coming = rows.filter(i => state(i) === 'F').sort((a, b) => ia[a] - ia[b] || due[a] - due[b]);
   fill('#next', list('Ready, and arriving next', ready.concat(coming), i => line(i, 'due ' + soon(due[i]), why(i)),
     none('Nothing waits to be started.', 'None of these waits to be started.'), 8));
+  drawEnds();
 }

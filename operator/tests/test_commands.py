@@ -17,6 +17,7 @@ READERS = {
     "why-day": ["PLAN", "LEDGER", "2024-01-01"],
     "late": ["PLAN", "--now", "2024-01-02/12.00"],
     "rows": ["PLAN"],
+    "ready": ["PLAN", "--now", "2024-01-03/12.00"],
     "next-job": ["PLAN"],
     "what-if": ["PLAN", "STREAM"],
     "check": ["PLAN", "STREAM"],
@@ -28,7 +29,7 @@ READERS = {
     "import": ["--cron", "CRONTAB", "PLAN"],
 }
 OF_STREAMS = {"explain", "lint"}
-WRITERS = {"restore", "send", "desk"}
+WRITERS = {"restore", "send", "desk", "agent"}
 OF_JOURNALS = {"journal"}
 
 

@@ -1,6 +1,7 @@
 """./plan send: statements in words and streams are answered as opcplan answers them, once, also while others have the
 file."""
 
+import os
 import sqlite3
 import subprocess
 import tempfile
