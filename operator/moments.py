@@ -45,6 +45,12 @@ def moment_of(text):
     return None if day is None or minute is None else day * DAY + minute
 
 
+def typed_moment(text):
+    """The moment of a text that somebody typed: a day, `/`, `T` or blanks, and `HH.MM` or `HH:MM`; or None."""
+    found = re.fullmatch(r"(\S{10})(?:[/T]| +)([0-9]{2})[.:]([0-9]{2})", text)
+    return moment_of(f"{found[1]}/{found[2]}.{found[3]}") if found else None
+
+
 def moment_text(moment):
     """`YYYY-MM-DD HH.MM`."""
     return f"{day_text(moment // DAY)} {minute_text(moment % DAY)}"

@@ -80,7 +80,7 @@ def of_model(plan, rows, model, defined, lists, now, first, last):
     """All but what is asked of an older copy."""
     names = sorted(set(defined.applications) | {row.app for row in rows})
     cycles = sorted({row.cycle for row in rows if row.cycle is not None})
-    meta = plan.meta
+    meta, (jobs, job_count) = plan.meta, page_queries.journal(plan)
     return {
         "file": os.path.basename(plan.path), "now": now, "first": first, "last": last,
         "plan": {"created": plan.is_created, "first": meta["first_day"], "last": meta["last_day"],
@@ -89,8 +89,8 @@ def of_model(plan, rows, model, defined, lists, now, first, last):
         "cycles": cycles,
         "rows": packed(rows, model, {name: place for place, name in enumerate(names)},
                        {name: place for place, name in enumerate(cycles)}),
-        "state": "".join(model.states), "marks": marks(model), "holds": model.holds,
-        "jobs": page_queries.journal(plan), "since": None,
+        "state": "".join(model.states), "marks": marks(model), "holds": model.holds, "holdCount": model.hold_count,
+        "jobs": jobs, "jobCount": job_count, "since": None,
     }
 
 

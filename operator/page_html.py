@@ -11,9 +11,9 @@ from pathlib import Path
 import moments
 
 PARTS = Path(__file__).resolve().parent / "page_parts"
-STYLES = ["colours.css", "frame.css", "day.css", "month.css", "card.css", "small.css", "print.css"]
-SCRIPTS = ["model.js", "words.js", "now.js", "groups.js", "day.js", "arrows.js", "month.js", "card.js", "apps.js",
-           "changes.js", "keys.js"]
+STYLES = ["colours.css", "frame.css", "day.css", "graph.css", "month.css", "card.css", "small.css", "print.css"]
+SCRIPTS = ["model.js", "words.js", "now.js", "groups.js", "day.js", "arrows.js", "layout.js", "graph.js", "month.js",
+           "card.js", "apps.js", "changes.js", "keys.js"]
 MOST_WITHOUT_SCRIPT = 500
 STATES = {"E": "in error", "S": "started", "R": "ready", "B": "blocked", "F": "to come"}
 
@@ -71,4 +71,6 @@ def without_script(data):
             times = f"<td>{moments.moment_text(arrival)}<td>{moments.moment_text(due)}"
             lines.append(f"<tr><td>{html.escape(app)}{times}<td>{status}</tr>")
         lines.append("</table>")
+    if len(told) > MOST_WITHOUT_SCRIPT:
+        lines.append(f"<p>These are {MOST_WITHOUT_SCRIPT} of {len(told)}.</p>")
     return "\n".join(lines)

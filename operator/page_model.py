@@ -23,6 +23,7 @@ class Model:
     roots: dict = field(default_factory=dict)  # the worst of the rows at whose completion the waiting begins
     at_risk: list = field(default_factory=list)
     holds: list = field(default_factory=list)  # a row, how many it holds, how many of these late, the first due
+    hold_count: int = 0  # how many there are, of which the first are in `holds`
 
 
 def is_late(row, now):
@@ -92,14 +93,14 @@ def reached(start, steps, most):
 
 
 def find_holds(model, rows):
-    """The rows that wait for nothing and hold others up, or are in error or late: what is to be mended first."""
+    """The rows that arrived, wait for nothing and hold others up."""
     states = model.states
-    heads = [place for place in range(len(rows)) if place not in model.waits and (
-        states[place] == "E" or states[place] in "SR" and (model.is_late[place] or place in model.behind))]
+    heads = [place for place in model.behind if place not in model.waits and states[place] in "ESR"]
     heads.sort(key=lambda place: (states[place] != "E", rows[place].deadline, place))
+    model.hold_count = len(heads)
     for place in heads[:MOST_HEADS]:
         held = reached(place, model.behind, MOST_HELD)
         late = sum(model.is_late[other] for other in held)
-        first = min(held, key=lambda other: (rows[other].deadline, other)) if held else -1
+        first = min(held, key=lambda other: (rows[other].deadline, other))
         model.holds.append((place, len(held), late, first))
     model.holds.sort(key=lambda one: (states[one[0]] != "E", -one[2], -one[1], rows[one[0]].deadline))

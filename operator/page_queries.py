@@ -67,17 +67,19 @@ def totals(plan):
 
 
 def journal(plan):
-    """The jobs from the last daily plan on, by number: number, statement, answer. A plan keeps no times, so numbers
-    stand for the order in which jobs came."""
-    jobs = []
+    """The jobs from the last daily plan on, by number: number, statement, answer, the last of them where they are many;
+    and how many there are. A plan keeps no times, so numbers stand for the order in which jobs came."""
+    jobs, count = [], 0
     for number, text, reply in plain_cursor(plan).execute(
         "SELECT number, substr(body, 1, 1024), reply FROM job ORDER BY number DESC"
     ):
         statement = bytes(text).split(b"\n")[0].decode("ascii", "replace")
-        jobs.append((number, statement, reply))
-        if len(jobs) == MOST_JOBS or statement.startswith("dp-extend") and reply.startswith("ok"):
+        count += 1
+        if count <= MOST_JOBS:
+            jobs.append((number, statement, reply))
+        if statement.startswith("dp-extend") and reply.startswith("ok"):
             break
-    return jobs[::-1]
+    return jobs[::-1], count
 
 
 def places(plan):

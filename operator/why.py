@@ -1,6 +1,7 @@
 """./plan why: why an occurrence isn't started, or why it stands where it stands."""
 
 import definitions
+import keys
 import moments
 import naming
 import plan_file
@@ -29,8 +30,7 @@ def add_words(parser):
         "shown as a tree, down to those that wait for nothing. The exit status is 1 where it stands nowhere."
     )
     words.add_plan(parser)
-    parser.add_argument("app", metavar="APP", type=words.name, help="the application")
-    parser.add_argument("ia", metavar="D/HH.MM", type=words.moment, help="its input arrival, as 2026-11-25/06.00")
+    keys.add_key(parser)
     words.add_now(parser)
     parser.add_argument("--all", action="store_true", help=f"all lines of the tree, also past {MOST_LINES}")
 
@@ -38,9 +38,12 @@ def add_words(parser):
 def run(given):
     now = moments.now() if given.now is None else given.now
     with plan_file.opened(given.plan) as plan, sound_rows.asked_of(plan):
-        rows = waits.rows_of_key(plan, given.app, given.ia)
-        lines = row_lines(plan, rows[0], now, given.all) if rows else nowhere_lines(plan, given.app, given.ia)
-        lines += earlier_lines(rows[1:]) + job_lines(plan, given.app, given.ia)
+        app, ia, rows = keys.rows_of(plan, given.key)
+        if app is None:
+            lines = [keys.unknown_text(plan, given.key.serial)]
+        else:
+            lines = row_lines(plan, rows[0], now, given.all) if rows else nowhere_lines(plan, app, ia)
+            lines += earlier_lines(rows[1:]) + job_lines(plan, app, ia)
     print("\n".join(lines))
     return 0 if rows else 1
 

@@ -3,6 +3,7 @@
 import textwrap
 
 import definitions
+import keys
 import moments
 import naming
 import naming_words
@@ -28,15 +29,18 @@ def add_words(parser):
         "the day is named, and 1 where it isn't."
     )
     words.add_plan(parser)
-    parser.add_argument("app", metavar="APP", type=words.name, help="the application")
-    parser.add_argument("day", metavar="D", type=words.day, help="the day, as 2026-11-25")
+    keys.add_key_of_day(parser)
 
 
 def run(given):
     with plan_file.opened(given.plan) as plan, sound_rows.asked_of(plan):
-        defined = definitions.of_plan(plan)
-        said = naming.names(defined, given.app, given.day)
-        lines = day_lines(defined, given.app, given.day, said) + plan_lines(plan, given.app, given.day, said)
+        app, ia, _ = keys.rows_of(plan, given.key)
+        if app is None:
+            print(keys.unknown_text(plan, given.key.serial))
+            return 1
+        defined, day = definitions.of_plan(plan), ia // moments.DAY
+        said = naming.names(defined, app, day)
+        lines = day_lines(defined, app, day, said) + plan_lines(plan, app, day, said)
     print("\n".join(lines))
     return 0 if said.is_named else 1
 

@@ -15,9 +15,26 @@ def tell(message):
 class Parser(argparse.ArgumentParser):
     """A parser that tells wrong words in one line and ends with status 2."""
 
+    is_mixed = False  # whether options may stand between words that belong together
+
     def error(self, message):
         tell(f"{message}; ./{self.prog} --help says more")
         raise SystemExit(2)
+
+    def parse_args(self, args=None, namespace=None):
+        """The words; a day and a time that stand apart, as lists print them, are one moment."""
+        parse = self.parse_intermixed_args if self.is_mixed else super().parse_args
+        return parse(joined(sys.argv[1:] if args is None else args), namespace)
+
+
+def joined(given):
+    """Words, of which a day and the time after it are one."""
+    found = []
+    for word in given:
+        if found and moments.day_of(found[-1]) is not None and moments.typed_moment(f"{found[-1]} {word}") is not None:
+            word = f"{found.pop()} {word}"
+        found.append(word)
+    return found
 
 
 def day(text):
@@ -30,7 +47,7 @@ def day(text):
 
 def moment(text):
     """A moment, for `type=`."""
-    found = moments.moment_of(text)
+    found = moments.typed_moment(text)
     if found is None:
         raise argparse.ArgumentTypeError(f"{text!r} is no moment like 2026-11-25/06.00")
     return found

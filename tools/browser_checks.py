@@ -22,6 +22,8 @@ ROOTS = """WITH RECURSIVE way (s) AS (SELECT ? UNION SELECT predecessor FROM dep
 ARRIVALS = """SELECT app, count(*) FROM (SELECT app, ia FROM ltp_row UNION ALL SELECT app, ia FROM history_row
     UNION ALL SELECT app, ia FROM cp_row WHERE status <> 'D') WHERE ia / 1440 BETWEEN ? AND ? GROUP BY 1"""
 SHOWN_ROWS = "[...document.querySelectorAll('.row[data-i]')].map(x => +x.dataset.i)"
+# what is typed into the search is drawn a little later, by a clock that a busy machine holds up too
+SETTLED = "new Promise(done => setTimeout(done, 300))"
 
 
 def ask_plan(text, *given):
@@ -91,7 +93,7 @@ def card(browser, page, ask):
     roots = {one for one, in ask_plan(ROOTS, serial)}
     ask(browser.js("serial[rootOf.get(view.pick)]") in roots, "the root of a row", roots)
     text = browser.js("document.querySelector('#card').innerText")
-    ask("root: POSTLOANS (in error" in text, "the card names the root", text)
+    ask("root: POSTLOANS Tue 23.00 (in error" in text, "the card names the root", text)
     ask(f"and {len(wanted) - 1} more" in text, "the card counts what a row waits for", text)
     ask(browser.js("document.querySelectorAll('.pairs .own').length") == len(wanted), "arrows of the chosen row")
     browser.js("choose(-1)")

@@ -1,8 +1,8 @@
 """What tools/page-in-browser asks of the keys: those of the day, the months and the search, and what Tab reaches."""
 
-import time
+import datetime
 
-from browser_checks import ARRIVALS, ask_plan, texts
+from browser_checks import ARRIVALS, SETTLED, ask_plan, texts
 
 INTERACTIVE = "a[href], button, input, select, summary, td[data-d]"
 
@@ -57,7 +57,7 @@ def search(browser, page, ask):
     browser.key("/")
     ask(focus(browser)[1] == "find", "/ leads to the search", focus(browser))
     browser.type("PAY")
-    time.sleep(0.4)
+    browser.js(SETTLED)
     lists = ".row .name", ".month tbody button", "#now .go .name"
     names = [name for where in lists for name in browser.js(texts(where))]
     ask(names and all("PAY" in name for name in names), "what the search shows", names)
@@ -67,10 +67,19 @@ def search(browser, page, ask):
     browser.key("Enter")
     title = browser.js("document.querySelector('#card h2').textContent")
     ask(title.startswith("PAYROLL") and focus(browser)[1] == "card", "Enter opens the application", title)
-    browser.js("document.querySelector('#find').focus()")
+    row = ask_plan("SELECT serial, app, ia FROM cp_row WHERE status = 'E' ORDER BY serial")[0]
+    at = datetime.datetime(1970, 1, 1) + datetime.timedelta(minutes=row[2])
+    for typed in (f"#{row[0]}", f"{row[0]:09}", f"{row[1]} {at:%Y-%m-%d %H.%M}", f"{row[1]} {at:%Y-%m-%dT%H:%M}"):
+        browser.js(f"choose(-1); document.querySelector('#find').value = '{typed}'")
+        browser.js("document.querySelector('#find').focus()")
+        browser.key("Enter")
+        found = browser.js("[serial[view.pick], document.querySelector('#find').value]")
+        ask(found == [row[0], ""] and focus(browser)[1] == "card", f"Enter opens {typed}", found)
+    browser.js("document.querySelector('#find').value = 'PAY'; document.querySelector('#find').focus(); find()")
+    browser.js(SETTLED)
     browser.key("Escape")
-    time.sleep(0.4)
-    ask(browser.js("[view.find, view.kind]") == ["", "open"], "Escape empties the search", browser.js("view.kind"))
+    browser.js(SETTLED)
+    ask(browser.js("[view.find, view.kind]") == [[], "open"], "Escape empties the search", browser.js("view.kind"))
 
 
 def tab(browser, page, ask):

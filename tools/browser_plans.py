@@ -134,7 +134,9 @@ def empty(browser, folder, ask):
     browser.open(os.path.join(folder, "centre.html"))
     browser.js("document.querySelector('#find').value = 'NOSUCH'; find(); new Promise(done => setTimeout(done, 400))")
     text = browser.js("document.body.innerText")
-    for said in ("NOSUCH” here", "NOSUCH” runs in this month", "Nothing is late", "Nothing waits to be started"):
+    for said in ("Nothing of “NOSUCH” in these hours", "Nothing of “NOSUCH” runs in this month",
+                 "None of these is late", "None of these waits to be started",
+                 "only applications with “NOSUCH”: 0 of "):
         ask(said in text, f"a search without a match: {said}")
     browser.open(os.path.join(folder, "centre.html"), scripts=False)
     heard = " ".join(name for _, name in browser.names())

@@ -1,14 +1,16 @@
 // The card of an application.
+const MOST_APPS = 40;
 
 function cycleLine([title, kind, period, rule, offsets, time, days, minute, inEffect, outEffect]) {
-  const numbers = offsets.slice(0, 12).join(' ') + (offsets.length > 12 ? ' …' : '');
+  const numbers = offsets.slice(0, 12).join(' ') + (offsets.length > 12 ? ' ' + rest(offsets.length, 12) : '');
   const later = days ? ' ' + many(days, 'day') + ' later' : '';
   const deadline = minute === null ? '' : ', due ' + clock(minute) + later;
   const effect = (inEffect * DAY > D.now ? ', from ' + dayName(inEffect * DAY) : '') +
     (outEffect === null ? '' : ', until before ' + dayName(outEffect * DAY));
   const which = (kind === 'X' ? ' takes away ' : ' ') + period + ' ' + numbers;
   const text = which + ' at ' + clock(time) + deadline + effect;
-  return h('p', { class: 'cycle' }, h('b', {}, title), text, h('span', { class: 'quiet' }, '; ' + (RULES[rule] || rule)));
+  const how = h('span', { class: 'quiet' }, '; ' + (RULES[rule] || rule));
+  return h('p', { class: 'cycle' }, h('b', {}, title), text, how);
 }
 
 /** An application in a list: a button where it is defined or has rows. */
@@ -23,13 +25,19 @@ function waitLink(other, hours) {
   return hours === null ? appLink(other) : h('span', {}, appLink(other), limit);
 }
 
-function part(title, rows) {
+function part(title, rows, most = 20) {
   if (!rows.length) return '';
-  const more = rows.length > 20 ? h('li', { class: 'quiet' }, 'and ' + (rows.length - 20) + ' more') : '';
   const line = i => h('li', {}, h('button', { 'data-i': i, on: () => choose(i) }, badge(i),
     h('span', {}, dayName(ia[i]) + ' ' + clock(ia[i])),
     h('small', { class: tone(i) }, late.has(i) ? lateness(i) : 'due ' + at(due[i]))));
-  return [h('h3', {}, title), h('ul', { class: 'tree' }, rows.slice(0, 20).map(line), more)];
+  return [h('h3', {}, title), h('ul', { class: 'tree' }, rows.slice(0, most).map(line), restLine(rows.length, most))];
+}
+
+/** Applications one after another, as links. */
+function appsPart(title, others, linkOf) {
+  const more = others.length > MOST_APPS ? h('span', { class: 'quiet' }, rest(others.length, MOST_APPS)) : '';
+  if (!others.length) return '';
+  return [h('h3', {}, title), h('p', { class: 'apps' }, others.slice(0, MOST_APPS).map(linkOf), more)];
 }
 
 function showApp(k) {
@@ -44,13 +52,12 @@ function showApp(k) {
   fill('#card', close(), h('h2', {}, title),
     h('p', { class: 'quiet' }, status + ', calendar ' + D.calendars[calendar][0] + isDefined),
     part('Not complete', rows.filter(isOpen)),
-    part('Next', rows.filter(i => state(i) === 'L' && ia[i] >= D.now).slice(0, 8)),
-    part('Last', rows.filter(i => 'CH'.includes(state(i))).slice(-5).reverse()),
+    part('Next', rows.filter(i => state(i) === 'L' && ia[i] >= D.now), 8),
+    part('Last', rows.filter(i => 'CH'.includes(state(i))).reverse(), 5),
     part('Deleted or withdrawn', rows.filter(isGone)),
     h('h3', {}, 'Run cycles'), cycles.length ? cycles.map(cycleLine) : h('p', { class: 'quiet' }, 'none'),
-    D.lists[k].length ? [h('h3', {}, 'Waits for'), h('p', { class: 'apps' },
-      D.lists[k].map((other, place) => waitLink(other, D.limits[k][place])))] : '',
-    followers.length ? [h('h3', {}, 'Waits for it'), h('p', { class: 'apps' }, followers.map(appLink))] : '');
+    appsPart('Waits for', D.lists[k], (other, place) => waitLink(other, D.limits[k][place])),
+    appsPart('Waits for it', followers, appLink));
   if (isInCard) $('#card').focus({ preventScroll: true });
   say(title + ', ' + status);
 }

@@ -1,10 +1,12 @@
 // The arrows of the day, in one picture over its rows: all faintly, those of a row that is looked at strongly.
 const MOST_ARROWS = 400;
-const laid = { box: null, lineOf: new Map(), buttons: new Map(), picked: null };
+const laid = { box: null, lineOf: new Map(), buttons: new Map(), picked: null, note: null };
 
 /** Lays the picture over the rows, with the line of now. */
 function layArrows(box, drawn) {
-  Object.assign(laid, { box, lineOf: new Map(), buttons: new Map(), picked: s('g', { class: 'pairs' }) });
+  const note = h('p', { class: 'note-below quiet' });
+  Object.assign(laid, { box, lineOf: new Map(), buttons: new Map(), picked: s('g', { class: 'pairs' }), note });
+  $('#lines .pane').append(note);
   drawn.forEach((line, n) => { if (typeof line === 'number') laid.lineOf.set(line, n); });
   box.querySelectorAll('.row[data-i]').forEach(button => laid.buttons.set(+button.dataset.i, button));
   const isNow = D.now >= view.from && D.now < view.from + DAY, x = share(D.now) + '%';
@@ -19,7 +21,9 @@ function allArrows() {
   for (const successor of laid.lineOf.keys()) {
     for (const row of before.get(successor) || []) if (laid.lineOf.has(row)) pairs.push([row, successor]);
   }
-  return pairs.length <= MOST_ARROWS ? pairs.map(([row, successor]) => arrow(row, successor)) : [];
+  if (pairs.length <= MOST_ARROWS) return pairs.map(([row, successor]) => arrow(row, successor));
+  laid.note.textContent = pairs.length + ' arrows are too many to be drawn: those of a row that is looked at are.';
+  return [];
 }
 
 /** An elbow from the left edge of one box to that of another; lines are counted in heights of a row. */
@@ -35,6 +39,7 @@ function arrow(row, successor, look) {
 
 /** Shows the arrows of a row, and marks the rows of its chain. */
 function showArrows(i) {
+  if (view.graph) return showNode(i);
   for (const button of laid.buttons.values()) button.classList.remove('on', 'up', 'down');
   laid.picked.replaceChildren();
   if (i < 0 || !laid.buttons.has(i)) return;
@@ -46,21 +51,23 @@ function showArrows(i) {
   for (const successor of chain) {
     for (const row of before.get(successor) || []) {
       if (!chain.has(row) || !laid.lineOf.has(row) || !laid.lineOf.has(successor)) continue;
-      if (drawn.length < MOST_ARROWS) drawn.push([row, successor, row === i || successor === i ? 'own' : 'far']);
+      drawn.push([row, successor, row === i || successor === i ? 'own' : 'far']);
     }
   }
   drawn.sort((a, b) => (a[2] === 'own') - (b[2] === 'own'));
-  laid.picked.replaceChildren(...drawn.map(one => arrow(...one)));
+  laid.picked.replaceChildren(...drawn.slice(-MOST_ARROWS).map(one => arrow(...one)));
+  const text = 'Of its chain ' + MOST_ARROWS + ' of ' + drawn.length + ' arrows are drawn.';
+  if (drawn.length > MOST_ARROWS) laid.note.textContent = text;
 }
 
 /** The chosen row's chain stands out, and the other rows are dimmed. */
 function markChosen() {
   const isThere = view.pick >= 0 && laid.buttons.has(view.pick);
-  laid.box.classList.toggle('dim', isThere);
+  laid.box?.classList.toggle('dim', isThere);
   if (isThere) {
-    laid.box.querySelector('.row[tabindex="0"]')?.setAttribute('tabindex', '-1');
+    laid.box.querySelector('[tabindex="0"]')?.setAttribute('tabindex', '-1');
     laid.buttons.get(view.pick).setAttribute('tabindex', '0');
   }
-  markCurrent('.row[data-i]', view.pick);
+  markCurrent('#lines [data-i]', view.pick);
   showArrows(view.pick);
 }

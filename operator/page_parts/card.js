@@ -5,9 +5,9 @@ const MOST_IN_TREE = 80;
 
 /** A row as a button that chooses it. */
 function link(i, more, isDue) {
-  const text = isDue ? late.has(i) ? lateness(i) : 'due ' + at(due[i]) : at(ia[i]);
-  return h('button', { 'data-i': i, title: times(i), on: () => choose(i) }, badge(i), h('span', {}, name(i)),
-    h('small', { class: isDue ? tone(i) : '' }, text + (more || '')));
+  const text = [isDue ? late.has(i) ? lateness(i) : 'due ' + soon(due[i]) : '', more].filter(Boolean).join(', ');
+  return h('button', { 'data-i': i, title: times(i), on: () => choose(i) }, badge(i), h('span', {}, rowName(i)),
+    h('small', { class: isDue ? tone(i) : '' }, text));
 }
 
 /** What is reached from a row and isn't complete, as a tree; what stood above isn't opened again. */
@@ -15,27 +15,37 @@ function tree(i, steps, seen, left) {
   const rows = (steps.get(i) || []).filter(isOpen);
   if (!rows.length) return null;
   return h('ul', { class: 'tree' }, rows.map(k => {
-    if (left.rows-- <= 0) return left.rows === -1 ? h('li', { class: 'quiet' }, 'and further ones') : null;
-    const isAbove = seen.has(k), day = Math.abs(ia[k] - ia[i]) <= DAY / 2 ? '' : ', of ' + dayName(ia[k]);
+    if (left.rows-- <= 0) return null;
+    const isAbove = seen.has(k);
     seen.add(k);
-    return h('li', {}, link(k, day + (isAbove ? ', above' : ''), true), isAbove ? '' : tree(k, steps, seen, left));
+    return h('li', {}, link(k, isAbove ? 'above' : '', true), isAbove ? '' : tree(k, steps, seen, left));
   }));
 }
 
-const links = (title, rows, most, text) => rows.length
+/** The tree of a row, how many it leaves out, or what is said where there is none. */
+function wholeTree(i, steps, nothing) {
+  const seen = new Set([i]), drawn = tree(i, steps, seen, { rows: MOST_IN_TREE });
+  if (!drawn) return h('p', { class: 'quiet' }, nothing);
+  const all = [...walk(i, steps)].filter(isOpen).length;
+  return [drawn, all >= seen.size ? h('p', { class: 'quiet' }, rest(all, seen.size - 1)) : ''];
+}
+
+const links = (title, rows, most) => rows.length
   ? h('details', {}, h('summary', { class: 'quiet' }, rows.length + ' ' + title),
-    h('ul', { class: 'tree' }, rows.slice(0, most).map(i => h('li', {}, link(i, text ? text(i) : '')))))
+    h('ul', { class: 'tree' }, rows.slice(0, most).map(i => h('li', {}, link(i))), restLine(rows.length, most)))
   : '';
 
 /** Where a predecessor of the same day arrives later than the row: it goes by the one before, and that may surprise. */
 function goesByEarlier(i) {
-  return (before.get(i) || []).map(k => {
+  const told = (before.get(i) || []).map(k => {
     const next = perApp.get(app(k)).find(j => ia[j] > ia[i] && !isGone(j));
     const isSurprise = dayOf(ia[k]) < dayOf(ia[i]) && next !== undefined && dayOf(ia[next]) === dayOf(ia[i]);
     if (!isSurprise || app(k) === app(i)) return '';
     return h('p', { class: 'quiet' }, 'It goes by ' + name(k) + ' of ' + dayName(ia[k]) + ': that of ' +
       dayName(ia[next]) + ' arrives later than this, at ' + clock(ia[next]) + '.');
-  }).filter(Boolean).slice(0, 4);
+  }).filter(Boolean);
+  const more = rest(told.length, 4, ' of this kind');
+  return [...told.slice(0, 4), more ? h('p', { class: 'quiet' }, more) : ''];
 }
 
 const pair = (term, ...text) => [h('dt', {}, term), h('dd', {}, text)];
@@ -50,7 +60,7 @@ function drawCard(i) {
   const done = (before.get(i) || []).filter(k => !isOpen(k)), next = (after.get(i) || []).filter(k => !isOpen(k));
   const more = late.has(i) ? ', ' + lateness(i) : risk.has(i) ? ', at risk' : '';
   const [first, ...others] = why(i), reason = asNodes([capital(first), ...others]);
-  fill('#card', close(), h('h2', {}, badge(i), h('span', {}, name(i))),
+  fill('#card', close(), h('h2', {}, badge(i), h('span', {}, name(i), ' ', h('span', { class: 'quiet' }, soon(ia[i])))),
     h('p', { class: tone(i) }, capital(WORD[state(i)]) + more),
     'BFR'.includes(state(i)) ? h('p', {}, reason, '.') : '',
     h('dl', {}, pair('Arrives', dayName(ia[i]) + ' ' + clock(ia[i])),
@@ -59,11 +69,9 @@ function drawCard(i) {
       pair('Serial', String(serial[i])),
       pair('In a stream', h('code', {}, '--app ' + name(i)), ' ',
         h('code', {}, '--ia ' + isoDay(dayOf(ia[i])) + '/' + clock(ia[i])))),
-    h('h3', {}, 'Waits for'), tree(i, before, new Set([i]), { rows: MOST_IN_TREE }) ||
-      h('p', { class: 'quiet' }, done.length ? 'nothing that isn’t complete' : 'nothing'),
+    h('h3', {}, 'Waits for'), wholeTree(i, before, done.length ? 'nothing that isn’t complete' : 'nothing'),
     links('complete', done, 100), goesByEarlier(i),
-    h('h3', {}, 'Waits for it'), tree(i, after, new Set([i]), { rows: MOST_IN_TREE }) ||
-      h('p', { class: 'quiet' }, 'nothing in the current plan'),
+    h('h3', {}, 'Waits for it'), wholeTree(i, after, 'nothing in the current plan'),
     links('planned or complete', next, 100),
     h('p', { class: 'foot' }, h('button', { class: 'in', on: () => showApp(app(i)) }, 'All of ' + name(i))));
 }
@@ -73,6 +81,7 @@ const SIGNS = [['E', 'in error'], ['S', 'started'], ['R', 'ready: arrived, nothi
   ['L', 'planned, not yet in the current plan'], ['D', 'deleted or withdrawn']];
 const KEYS = [['/', 'find an application'], ['↑ ↓', 'rows of the day, cells of the month'],
   ['← →', 'twelve hours back or on'], ['n', 'now'], ['t', 'next in trouble'],
+  ['g', 'the day as rows or as a graph'],
   ['Enter', 'choose; once more: its card'], ['Esc', 'close']];
 
 function drawLegend() {
@@ -100,7 +109,8 @@ function choose(i, isQuiet) {
   if (i < 0 && view.kind === 'chain') view.kind = 'open';
   if (i >= 0 && view.kind !== 'chain' && !KINDS[view.kind](i)) view.kind = 'all';
   view.reveal = true;
-  if (i >= 0 && (ia[i] >= view.from + DAY || lastShown(i) <= view.from)) view.from = dayOf(ia[i]) * DAY;
+  const isDrawn = view.graph && laid.buttons.has(i);
+  if (i >= 0 && isOutside(i) && !isDrawn) view.from = dayOf(ia[i]) * DAY;
   if (!isQuiet) address(i);
   document.body.classList.toggle('chosen', i >= 0);
   $('#card').classList.toggle('idle', i < 0);
@@ -109,7 +119,7 @@ function choose(i, isQuiet) {
   if (i < 0) drawLegend(); else drawCard(i);
   keepFocus(drawDay);
   if (isInCard && i >= 0) $('#card').focus({ preventScroll: true });
-  if (isInCard && i < 0) (laid.buttons.get(old) || $('.row'))?.focus();
+  if (isInCard && i < 0) (laid.buttons.get(old) || $('.row, .node'))?.focus();
   markCurrent('.go', i);
-  if (i >= 0) say(name(i) + ': ' + asText(why(i)));
+  if (i >= 0) say(rowName(i) + ': ' + asText(why(i)));
 }

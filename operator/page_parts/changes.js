@@ -32,39 +32,58 @@ function changeLine([number, , , title, arrival, wasDue, nowDue]) {
 
 function sinceBox(since) {
   const groups = new Map();
-  for (const row of since.rows) put(groups, kindOfChange(row), row);
-  const kinds = ORDER.filter(kind => groups.has(kind));
+  for (const row of since.rows) if (matches(row[3])) put(groups, kindOfChange(row), row);
+  const kinds = ORDER.filter(kind => groups.has(kind)), definitions = since.definitions.filter(isOfThese);
   const kept = since.count > since.rows.length ? h('p', { class: 'quiet' }, 'The first ' + since.rows.length + ' of ' +
     since.count + ' are shown.') : '';
   return h('div', { class: 'pane box' }, h('h3', {}, 'Since ' + since.file + ', which was written ' + since.kept),
     kinds.length ? kinds.map(kind => h('details', {}, h('summary', {}, h('b', {}, String(groups.get(kind).length)),
-      ' ' + kind.toLowerCase()), h('ul', { class: 'tree' }, groups.get(kind).slice(0, 200).map(changeLine))))
-      : h('p', { class: 'empty' }, 'No occurrence changed.'), kept,
-    since.definitions.length ? h('details', {}, h('summary', {}, h('b', {}, String(since.definitions.length)),
-      ' of the definitions'), h('ul', { class: 'tree' }, since.definitions.slice(0, 500).map(([what, title, how]) =>
-      h('li', {}, what + ' ' + title + ': ' + how)))) : h('p', { class: 'quiet' }, 'No definition changed.'));
+      ' ' + kind.toLowerCase()), h('ul', { class: 'tree' }, groups.get(kind).slice(0, 200).map(changeLine),
+      restLine(groups.get(kind).length, 200))))
+      : h('p', { class: 'empty' }, none('No occurrence changed.', 'None of these changed.')), kept,
+    definitions.length ? h('details', {}, h('summary', {}, h('b', {}, String(definitions.length)),
+      ' of the definitions'), h('ul', { class: 'tree' }, definitions.slice(0, 500).map(([what, title, how]) =>
+      h('li', {}, what + ' ' + title + ': ' + how)), restLine(definitions.length, 500)))
+      : h('p', { class: 'quiet' }, none('No definition changed.', 'No definition of these changed.')));
+}
+
+/** Whether a changed definition is shown while applications are filtered: one of theirs, or one of no application. */
+function isOfThese([what, title]) {
+  return !['application', 'run cycles of', 'predecessors of'].includes(what) || matches(title);
+}
+
+/** Whether a job is shown while applications are filtered: those that name one of them. */
+function isJobOfThese([, statement]) {
+  const named = statement.match(/--(?:app|name)[ \t=]+(\S+)/);
+  return !isFiltered() || named !== null && matches(named[1]);
 }
 
 function jobsBox() {
   const counted = { 'cp-start': 0, 'cp-complete': 0 }, rows = [];
   let refused = 0;
-  for (const [number, statement, reply] of D.jobs) {
+  const jobs = D.jobs.filter(isJobOfThese);
+  for (const [number, statement, reply] of jobs) {
     const verb = statement.split(/[ \t]/)[0], isRefused = reply.startsWith('refused');
     refused += isRefused;
     if (verb in counted && !isRefused) counted[verb]++;
     else rows.push([number, statement.replace(/ --job[ =]\d+$/, ''), reply, isRefused]);
   }
   const told = Object.entries(counted).filter(one => one[1]).map(([verb, number]) => number + ' ' + verb).join(', ');
-  const title = 'Jobs since the last daily plan: ' + D.jobs.length + (refused ? ', ' + refused + ' refused' : '');
-  const shown = rows.slice(-200);
+  const title = isFiltered()
+    ? 'Jobs since the last daily plan that name one of these: ' + jobs.length + ' of ' + D.jobCount
+    : 'Jobs since the last daily plan: ' + D.jobCount;
+  const lost = D.jobCount - D.jobs.length, shown = rows.slice(-200);
+  const caption = (told ? 'All but accepted starts and completions' : 'Each') + ', by job number' +
+    (shown.length < rows.length ? ': the last 200 of ' + rows.length : '');
   const head = ['Job', 'Statement', 'Answer'].map(text => h('th', { scope: 'col' }, text));
   const lines = shown.map(([number, statement, reply, isRefused]) => h('tr', {}, h('td', {}, String(number)),
     h('td', {}, statement), h('td', {}, h('span', { class: isRefused ? 'refused' : '' }, reply),
       isRefused ? meaning(reply) : '')));
-  return h('div', { class: 'pane box' }, h('h3', {}, title),
+  return h('div', { class: 'pane box' }, h('h3', {}, title + (refused ? ', ' + refused + ' refused' : '')),
+    lost ? h('p', { class: 'quiet' }, 'The last ' + D.jobs.length + ' of these are shown and counted.') : '',
     told ? h('p', { class: 'quiet' }, told + (rows.length ? ', and these' : '')) : '',
-    shown.length < rows.length ? h('p', { class: 'quiet' }, 'the last 200 of ' + rows.length) : '',
-    lines.length ? h('table', { class: 'jobs' }, h('thead', {}, h('tr', {}, head)), h('tbody', {}, lines)) : '');
+    lines.length ? h('table', { class: 'jobs' }, h('caption', {}, caption), h('thead', {}, h('tr', {}, head)),
+      h('tbody', {}, lines)) : '');
 }
 
 function drawChanges() {

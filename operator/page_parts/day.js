@@ -1,18 +1,23 @@
 // The day: a row an occurrence in the order of arrival, a box from input arrival to deadline.
+const KIND_NAMES = { open: 'Not complete', trouble: 'Trouble', all: 'All', chain: 'Its chain' };
 const TILE_NAMES = { error: 'In error', late: 'Late', risk: 'At risk', hour: 'Due in the hour', started: 'Started',
   ready: 'Ready' };
+
+const kindName = kind => KIND_NAMES[kind] || TILE_NAMES[kind];
 
 /** Where a moment stands in the window, in hundredths; a little outside where it is outside. */
 const share = minute => Math.min(Math.max(100 * (minute - view.from) / DAY, -1), 101);
 
+const isOutside = i => ia[i] >= view.from + DAY || lastShown(i) <= view.from;
+
 /** The rows that the filter takes, and how many each filter of the window would. */
 function rowsOfDay() {
-  const to = view.from + DAY, chain = view.pick >= 0 ? chainOf(view.pick) : new Set();
+  const chain = view.pick >= 0 ? chainOf(view.pick) : new Set();
   const counts = { all: 0, open: 0, trouble: 0, chain: 0 }, rows = [], ofTile = OF_TILES.includes(view.kind);
   for (let i = 0; i < rowCount; i++) {
-    if (!matches(name(i))) continue;
+    if (!isWanted(i)) continue;
     if (ofTile && KINDS[view.kind](i)) rows.push(i);
-    if (ia[i] >= to || lastShown(i) <= view.from) continue;
+    if (isOutside(i)) continue;
     for (const kind in counts) {
       if (kind === 'chain' ? !chain.has(i) : !KINDS[kind](i)) continue;
       counts[kind]++;
@@ -28,7 +33,7 @@ function keepFocus(draw) {
   const old = document.activeElement, { key, i } = old?.dataset || {};
   draw();
   if (!old || old.isConnected) return;
-  const same = key ? '[data-key="' + CSS.escape(key) + '"]' : i ? '.row[data-i="' + i + '"]' : '';
+  const same = key ? '[data-key="' + CSS.escape(key) + '"]' : i ? '#lines [data-i="' + i + '"]' : '';
   if (same) $(same)?.focus({ preventScroll: true });
 }
 
@@ -43,8 +48,9 @@ function step(key, text, label, on, isOff) {
 
 function drawDayTools(counts) {
   const from = view.from, to = from + DAY, isNow = D.now >= from && D.now < to;
-  const kind = (key, text) =>
-    tool('kind ' + key, text + ' ' + counts[key], () => showKind(key), { 'aria-pressed': String(view.kind === key) });
+  const kind = key => tool('kind ' + key, kindName(key) + ' ' + counts[key], () => showKind(key),
+    { 'aria-pressed': String(view.kind === key) });
+  const printed = view.kind === 'chain' ? 'The chain of ' + rowName(view.pick) : kindName(view.kind);
   const middle = isoDay(dayOf(from + DAY / 2));
   const goTo = h('input', { type: 'date', 'aria-label': 'Go to a day', 'data-key': 'go to', value: middle });
   goTo.addEventListener('change', () => {
@@ -58,10 +64,13 @@ function drawDayTools(counts) {
       step('on', '12 h ▸', 'Twelve hours on', () => showFrom(view.from + DAY / 2), isLast)),
     h('b', {}, dayName(from) + ' ' + clock(from) + ' to ' + dayName(to) + ' ' + clock(to)), goTo,
     h('span', { class: 'break' }),
-    h('span', { class: 'set' }, kind('open', 'Not complete'), kind('trouble', 'Trouble'), kind('all', 'All'),
-      view.pick >= 0 ? kind('chain', 'Its chain') : '',
-      view.kind in TILE_NAMES ? kind(view.kind, TILE_NAMES[view.kind]) : ''),
-    h('span', { class: 'set' }, tool('arrows', 'Arrows', () => {
+    h('span', { class: 'set' }, kind('open'), kind('trouble'), kind('all'), view.pick >= 0 ? kind('chain') : '',
+      view.kind in TILE_NAMES ? kind(view.kind) : ''),
+    h('b', { class: 'printed' }, printed + ': ' + counts[view.kind]),
+    h('span', { class: 'set' },
+      tool('rows', 'Rows', () => showAsGraph(false), { 'aria-pressed': String(!view.graph) }),
+      tool('graph', 'Graph', () => showAsGraph(true), { 'aria-pressed': String(view.graph) })),
+    view.graph ? '' : h('span', { class: 'set' }, tool('arrows', 'Arrows', () => {
       view.arrows = !view.arrows;
       keepFocus(drawDay);
     }, { 'aria-pressed': String(view.arrows) })));
@@ -71,10 +80,12 @@ const isoDay = day => dateOf(day * DAY).toISOString().slice(0, 10);
 
 function axis() {
   const from = view.from, to = from + DAY, isNow = D.now >= from && D.now < to, isNarrow = innerWidth < 700;
+  const isTight = !isNarrow && $('#lines').clientWidth < 1000, midnight = Math.ceil(from / DAY) * DAY;
   const stretch = isNarrow ? 240 : 120, marks = [];
   for (let m = Math.ceil((from + 1) / stretch) * stretch; m < to - 30; m += stretch) {
     const isNear = isNow && Math.abs(m - D.now) < (isNarrow ? 190 : m % DAY ? 50 : 70);
-    if (!isNear && m > from + 30) {
+    const isBesideDay = isTight && Math.abs(m - midnight) === stretch;
+    if (!isNear && !isBesideDay && m > from + 30) {
       const [look, text] = m % DAY ? ['', clock(m)] : ['day', dayName(m)];
       marks.push(h('span', { css: 'left:' + share(m) + '%', class: look }, text));
     }
@@ -110,27 +121,41 @@ function track(i) {
       'dominant-baseline': 'central', ...where }, text) : '');
 }
 
-function dayRow(i, n) {
+/** What stands beside a row's name: its day where it arrived before the window, its time where its name comes twice. */
+function sinceText(i, isTwin) {
+  const day = ia[i] < view.from ? '◂ ' + dayName(ia[i]).slice(4) : '';
+  return [day, isTwin ? clock(ia[i]) : ''].filter(Boolean).join(' ');
+}
+
+function dayRow(i, n, isTwin) {
   const more = late.has(i) ? ', ' + lateness(i) : risk.has(i) ? ', at risk' : '';
-  const since = ia[i] < view.from ? '◂ ' + dayName(ia[i]).slice(4) : '';
+  const since = sinceText(i, isTwin);
   return h('li', {}, h('button', { class: 'row', 'data-i': i, tabindex: n ? -1 : 0,
-    'aria-label': name(i) + ', ' + asText(why(i)) + ', due ' + at(due[i]) + more },
+    'aria-label': rowName(i) + ', ' + asText(why(i)) + ', due ' + at(due[i]) + more },
   h('span', { class: 'lab' }, badge(i), h('span', { class: 'name ' + tone(i) }, name(i)),
     since && h('em', { title: 'arrived ' + at(ia[i]) }, since)),
   track(i)));
 }
 
 function nothing(counts) {
-  if (view.find) return 'No application with “' + view.find + '” here.';
+  if (isFiltered()) return 'Nothing of ' + findText() + ' in these hours.';
   if (view.kind === 'all') return 'Nothing arrives or is due in these hours.';
   return 'Nothing of this kind in these hours; “All” shows ' + counts.all + '.';
 }
 
 function drawDay() {
-  const { rows, counts } = rowsOfDay(), lines = linesOf(rows), drawn = lines.slice(0, view.most);
+  const { rows, counts } = rowsOfDay();
+  if (view.graph && view.pick >= 0) counts.chain = wholeChain().length;
   drawDayTools(counts);
-  const box = h('ol', { class: 'rows' },
-    drawn.map((line, n) => typeof line === 'number' ? dayRow(line, n) : groupRow(line, n)));
+  if (view.graph) drawGraph(rows); else drawRows(rows, counts);
+  markChosen();
+}
+
+function drawRows(rows, counts) {
+  const lines = linesOf(rows), drawn = lines.slice(0, view.most), number = new Map();
+  for (const i of rows) number.set(app(i), (number.get(app(i)) || 0) + 1);
+  const box = h('ol', { class: 'rows' }, drawn.map((line, n) =>
+    typeof line === 'number' ? dayRow(line, n, number.get(app(line)) > 1) : groupRow(line, n)));
   const pane = h('div', { class: 'pane' }, axis(), box);
   if (!rows.length) pane.append(h('p', { class: 'empty' }, nothing(counts)));
   if (lines.length > drawn.length) {
@@ -139,7 +164,6 @@ function drawDay() {
   }
   fill('#lines', pane);
   layArrows(box, drawn);
-  markChosen();
 }
 
 function showFrom(minute) {

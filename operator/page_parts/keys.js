@@ -12,7 +12,7 @@ function drawTop() {
   $('#note').hidden = !notes.length;
   $('#note').textContent = notes.join(' ');
   if (D.apps.length <= 2000) $('#names').append(...D.apps.map(one => h('option', { value: one[0] })));
-  if (!created) for (const part of ['#due', '#holds', '#next', '#day']) $(part).hidden = true;
+  if (!created) for (const part of ['#due', '#mend', '#holds', '#next', '#day']) $(part).hidden = true;
 }
 
 /** Says how old the page is, by the viewer's clock; it stands at its moment and doesn't go on. */
@@ -28,21 +28,59 @@ let waiting_ = 0;
 function find() {
   clearTimeout(waiting_);
   waiting_ = setTimeout(() => {
-    const was = view.find;
-    view.find = $('#find').value.trim().toUpperCase();
-    if (view.find && !was) Object.assign(view, { kept: view.kind, kind: 'all' });
-    else if (!view.find && was) view.kind = view.kept;
+    const was = isFiltered();
+    view.find = $('#find').value.toUpperCase().split(/[\s,]+/).filter(Boolean);
+    if (isFiltered() && !was) Object.assign(view, { kept: view.kind, kind: 'all' });
+    else if (!isFiltered() && was) view.kind = view.kept;
     view.most = 400;
+    tellFilter();
     drawNow();
     drawDay();
     drawMonth();
-    say(many(D.apps.filter(one => matches(one[0])).length, 'application'));
+    drawChanges();
   }, 120);
 }
 
-/** Opens the application that the search names or begins. */
+/** Says what is filtered, on the page, on paper and in the title of the tab. */
+function tellFilter() {
+  const number = D.apps.filter(one => matches(one[0])).length;
+  const errors = countStates(i => isWanted(i) && KINDS.error(i)).E, lates = [...late].filter(isWanted).length;
+  document.title = isFiltered() ? errors + ' in error, ' + lates + ' late of ' + findText() + ': ' + titleOfAll
+    : titleOfAll;
+  $('#filtered').hidden = !isFiltered();
+  fill('#filtered', 'only applications with ', h('b', {}, findText()), ': ' + number + ' of ' + D.apps.length + ' ',
+    h('button', { class: 'in', on: () => {
+      $('#find').value = '';
+      $('#find').focus();
+      find();
+    } }, 'Show all'));
+  fit();
+  say(many(number, 'application'));
+}
+const titleOfAll = document.title;
+
+const SERIAL = /^#?0*([1-9]\d{0,8})$/, KEY = /^(\S+)\s+(\d{4}-\d\d-\d\d)(?:[/T]|\s+)(\d\d)[.:](\d\d)$/;
+
+/** The row that a text names by its serial, or by application and arrival as they are printed; else none. */
+function typedRow(text) {
+  const number = text.match(SERIAL), key = text.match(KEY);
+  if (number && !D.apps.some(one => one[0] === text)) return rowOfSerial(+number[1]);
+  if (!key) return undefined;
+  const k = D.apps.findIndex(one => one[0] === key[1]);
+  const arrival = Date.parse(key[2] + 'T00:00Z') / 60000 + 60 * key[3] + +key[4];
+  return (perApp.get(k) || []).find(i => ia[i] === arrival);
+}
+
+/** Opens the row that the search names, or the application that it names or begins. */
 function openFound() {
-  const text = $('#find').value.trim().toUpperCase();
+  const text = $('#find').value.trim().toUpperCase(), row = typedRow(text);
+  if (row !== undefined) {
+    $('#find').value = '';
+    find();
+    choose(row);
+    $('#card').focus();
+    return;
+  }
   const of = test => text ? D.apps.findIndex(test) : -1;
   const found = [of(one => one[0] === text), of(one => one[0].startsWith(text)), of(one => one[0].includes(text))]
     .find(k => k >= 0);
@@ -52,8 +90,8 @@ function openFound() {
 }
 
 function nextTrouble() {
-  const rows = Array.from({ length: rowCount }, (_, i) => i).filter(isTrouble);
-  if (!rows.length) return say('Nothing is in trouble.');
+  const rows = Array.from({ length: rowCount }, (_, i) => i).filter(i => isTrouble(i) && isWanted(i));
+  if (!rows.length) return say(isFiltered() ? 'None of these is in trouble.' : 'Nothing is in trouble.');
   view.kind = 'trouble';
   choose(rows[(rows.indexOf(view.pick) + 1) % rows.length]);
   laid.buttons.get(view.pick)?.focus();
@@ -72,9 +110,9 @@ const STEPS = { ArrowDown: [0, 1], ArrowUp: [0, -1], ArrowRight: [1, 0], ArrowLe
 
 /** Moves the one tab stop of a list or a table. */
 function moveStop(from, to) {
-  if (!to?.matches('.row, ' + CELLS)) return;
-  from.tabIndex = -1;
-  to.tabIndex = 0;
+  if (!to?.matches('.row, .node, ' + CELLS)) return;
+  from.setAttribute('tabindex', '-1');
+  to.setAttribute('tabindex', '0');
   to.focus();
 }
 
@@ -82,6 +120,7 @@ function onKey(event) {
   if (event.ctrlKey || event.metaKey || event.altKey) return;
   if (event.target.matches('input, select')) return inField(event);
   const cell = event.target.closest?.(CELLS), row = event.target.closest?.('.row'), step = STEPS[event.key];
+  const node = event.target.closest?.('.node');
   const done = act => { event.preventDefault(); act(); };
   if (event.key === 'Escape') return choose(-1);
   if (cell && step) return done(() => moveStop(cell, nextCell(cell, step)));
@@ -90,11 +129,17 @@ function onKey(event) {
     const rows = [...document.querySelectorAll('.row')];
     return done(() => moveStop(row, rows[rows.indexOf(row) + step[1]]));
   }
+  if (node && step) return done(() => moveStop(node, nextNode(node, step)));
+  if (node && (event.key === 'Enter' || event.key === ' ')) {
+    const i = +node.dataset.i;
+    return done(() => i === view.pick ? $('#card').focus() : choose(i));
+  }
   if (row && event.key === 'Enter' && +row.dataset.i === view.pick) return done(() => $('#card').focus());
   if (Math.abs(step?.[0]) === 1) return done(() => showFrom(view.from + step[0] * DAY / 2));
   if (event.key === '/') return done(() => { $('#find').focus(); $('#find').select(); });
   if (event.key === 'n') showNow();
   if (event.key === 't') nextTrouble();
+  if (event.key === 'g') showAsGraph(!view.graph);
 }
 
 /** The row that the address names by its serial, as #o970. */
@@ -105,9 +150,12 @@ function addressed() {
 
 /** The pointer and the focus show a row's arrows, a click chooses it. */
 function listen() {
-  const rowOf = event => event.target.closest?.('.row[data-i]');
+  const rowOf = event => event.target.closest?.('.row[data-i], .node');
   const look = event => { const row = rowOf(event); showArrows(row ? +row.dataset.i : view.pick); };
-  $('#lines').addEventListener('click', event => { const row = rowOf(event); if (row) choose(+row.dataset.i); });
+  $('#lines').addEventListener('click', event => {
+    const row = rowOf(event);
+    if (row) choose(+row.dataset.i);
+  });
   $('#lines').addEventListener('mouseover', look);
   $('#lines').addEventListener('mouseleave', () => showArrows(view.pick));
   $('#lines').addEventListener('focusin', event => { if (rowOf(event)?.matches(':focus-visible')) look(event); });
@@ -120,7 +168,7 @@ function listen() {
   addEventListener('resize', fit);
   addEventListener('hashchange', () => { if (addressed() >= 0) choose(addressed(), true); });
   addEventListener('beforeprint', () => {
-    document.querySelectorAll('#due .more, #holds .more').forEach(button => button.click());
+    document.querySelectorAll('#due .more, #mend .more, #holds .more').forEach(button => button.click());
     document.querySelectorAll('#due details').forEach(group => {
       group.drawLines();
       group.open = true;

@@ -64,8 +64,10 @@ const openBefore = i => (before.get(i) || []).filter(isOpen);
 const dayOf = minute => Math.floor(minute / DAY);
 const lastShown = i => late.has(i) ? Math.max(D.now, ia[i] + 1) : Math.max(due[i], ia[i] + 1);
 
+const MOST_WALKED = 3000;
+
 /** All rows that are reached by steps: of those beyond the first step, the ones that aren't complete. */
-function walk(i, steps, most = 3000) {
+function walk(i, steps, most = MOST_WALKED) {
   const seen = new Set(), left = [i];
   while (left.length && seen.size < most) {
     const here = left.pop();
@@ -78,12 +80,14 @@ function walk(i, steps, most = 3000) {
   return seen;
 }
 
-const chainOf = i => new Set([i, ...walk(i, before), ...walk(i, after)]);
+const chainOf = i => new Set([i, ...walk(i, before, Infinity), ...walk(i, after, Infinity)]);
 const behind = i => [...walk(i, after)].filter(isOpen);
 
-/** The rows at whose completion a row's waiting begins, without the worst of them. */
+/** How many rows there are at whose completion a row's waiting begins, without the worst of them; -1 for very many. */
 function otherRoots(i) {
-  return [...walk(i, before)].filter(k => isOpen(k) && k !== rootOf.get(i) && !openBefore(k).length);
+  const found = walk(i, before);
+  if (found.size >= MOST_WALKED) return -1;
+  return [...found].filter(k => isOpen(k) && k !== rootOf.get(i) && !openBefore(k).length).length;
 }
 
 /** What each filter of the day takes. Those of the tiles look at the whole current plan. */
@@ -100,9 +104,11 @@ const KINDS = {
 };
 const OF_TILES = ['error', 'late', 'risk', 'hour', 'started', 'ready'];
 
-/** What is chosen: the day's window, its filter, what is searched, the row, how much is drawn. */
-const view = { from: 0, kind: 'open', find: '', kept: 'open', pick: -1, most: 400, month: null, apps: 120,
-  opened: new Set(), reveal: false, arrows: true };
-const matches = text => !view.find || view.find.split(/[\s,]+/).some(word => word && text.includes(word));
+/** What is chosen: the day's window, its filter, the words that are searched, the row, how much is drawn. */
+const view = { from: 0, kind: 'open', find: [], kept: 'open', pick: -1, most: 400, month: null, apps: 110,
+  opened: new Set(), reveal: false, arrows: true, graph: false };
+const isFiltered = () => view.find.length > 0;
+const matches = text => !isFiltered() || view.find.some(word => text.includes(word));
+const isWanted = i => matches(name(i));
 const nowWindow = () => Math.floor((D.now - DAY / 2) / 60) * 60;
 view.from = nowWindow();

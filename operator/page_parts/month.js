@@ -25,7 +25,7 @@ function countMonth(first, length) {
     if ('CH'.includes(state(i))) cell.done++;
     if (state(i) === 'E') cell.error++;
     if (late.has(i)) cell.late++;
-    if (matches(name(i))) sums[day]++;
+    if (isWanted(i)) sums[day]++;
   }
   return { counts, sums };
 }
@@ -80,7 +80,7 @@ function drawMonthTools(run, idle) {
 }
 
 function sumRow(sums, first) {
-  return h('tr', { class: 'sum' }, h('th', { scope: 'row' }, view.find ? 'All of these' : 'All applications'),
+  return h('tr', { class: 'sum' }, h('th', { scope: 'row' }, isFiltered() ? 'All of these' : 'All applications'),
     sums.map((sum, n) => h('td', { class: first + n === today ? 'today' : '' }, sum ? String(sum) : '')),
     h('td', {}, String(sums.reduce((x, y) => x + y, 0))));
 }
@@ -98,16 +98,19 @@ function drawMonth() {
   const caption = 'Occurrences by application and day, ' + monthName(first * DAY);
   const rows = run.slice(0, view.apps).map((k, row) => monthRow(k, counts.get(k), first, row));
   const calendars = D.calendars.slice(0, MOST_CALENDARS).map((calendar, k) => calendarRow(calendar, k, days));
+  const left = rest(D.calendars.length, MOST_CALENDARS, ' calendars');
+  const cells = [...days, 'All'].map(() => h('td'));
+  if (left) calendars.push(h('tr', { class: 'calendar' }, h('th', { scope: 'row' }, left), cells));
   const table = h('table', { class: 'month', role: 'grid' }, h('caption', { class: 'hidden' }, caption),
     h('thead', {}, headRow(days)), h('tbody', {}, calendars, sumRow(sums, first), rows));
   const pane = h('div', { class: 'pane' }, table);
   if (!run.length) {
-    const what = view.find ? 'No application with “' + view.find + '”' : 'Nothing';
+    const what = isFiltered() ? 'Nothing of ' + findText() : 'Nothing';
     pane.append(h('p', { class: 'empty' }, what + ' runs in this month.'));
   }
-  const left = run.length - rows.length;
-  const more = 'Show ' + Math.min(400, left) + ' more of ' + run.length + ' applications';
-  fill('#grid', pane, left > 0 && h('button', { class: 'more', 'data-key': 'more applications', on: () => {
+  const hidden = run.length - rows.length;
+  const more = 'Show ' + Math.min(400, hidden) + ' more of ' + run.length + ' applications';
+  fill('#grid', pane, hidden > 0 && h('button', { class: 'more', 'data-key': 'more applications', on: () => {
     view.apps += 400;
     keepFocus(drawMonth);
   } }, more));

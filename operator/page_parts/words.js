@@ -22,6 +22,16 @@ function dayName(minute) {
 
 const at = minute => (dayOf(minute) === dayOf(D.now) ? '' : dayName(minute) + ' ') + clock(minute);
 
+/** A moment in few letters: a weekday alone where it is one of the seven days around now. */
+function soon(minute) {
+  const days = dayOf(minute) - dayOf(D.now);
+  if (!days) return clock(minute);
+  return (Math.abs(days) > 3 ? dayName(minute) : WEEKDAYS[dateOf(minute).getUTCDay()]) + ' ' + clock(minute);
+}
+
+/** A row by name and arrival, which tells it from the others of its application. */
+const rowName = i => name(i) + ' ' + soon(ia[i]);
+
 function length(minutes) {
   if (minutes < 60) return minutes + ' min';
   if (minutes < DAY) return Math.floor(minutes / 60) + ' h' + (minutes % 60 ? ' ' + two(minutes % 60) : '');
@@ -47,7 +57,7 @@ function waiters(i) {
   const rows = behind(i);
   if (!rows.length) return [];
   if (rows.length === 1) return ['; ', rows[0], ' waits for it'];
-  return ['; ' + (rows.length >= 2999 ? '3000 or more' : rows.length) + ' wait for it'];
+  return ['; ' + (rows.length >= MOST_WALKED - 1 ? MOST_WALKED + ' or more' : rows.length) + ' wait for it'];
 }
 
 /** Why a row stands where it stands, as parts. */
@@ -55,11 +65,11 @@ function why(i) {
   const waits = openBefore(i);
   if (waits.length && isOpen(i)) {
     const [first, ...others] = waiting(i, waits);
-    return [(state(i) === 'F' ? 'arrives ' + at(ia[i]) + '; ' : '') + first, ...others];
+    return [(state(i) === 'F' ? 'arrives ' + soon(ia[i]) + '; ' : '') + first, ...others];
   }
-  if (state(i) === 'R') return ['arrived ' + at(ia[i]) + ', nothing is in its way', ...waiters(i)];
-  if (state(i) === 'F') return ['arrives ' + at(ia[i]) + ', nothing is in its way', ...waiters(i)];
-  return [WORD[state(i)] + (isOpen(i) ? ', arrived ' + at(ia[i]) : ''), ...(isOpen(i) ? waiters(i) : [])];
+  if (state(i) === 'R') return ['arrived ' + soon(ia[i]) + ', nothing is in its way', ...waiters(i)];
+  if (state(i) === 'F') return ['arrives ' + soon(ia[i]) + ', nothing is in its way', ...waiters(i)];
+  return [WORD[state(i)] + (isOpen(i) ? ', arrived ' + soon(ia[i]) : ''), ...(isOpen(i) ? waiters(i) : [])];
 }
 
 function waiting(i, waits) {
@@ -67,13 +77,20 @@ function waiting(i, waits) {
   if (waits.length > 1) parts.push(' and ' + (waits.length - 1) + ' more');
   if (root === undefined) return parts;
   if (waits.length === 1 && root === waits[0]) return [...parts, ' (' + ofRoot(root) + ')'];
-  const others = otherRoots(i).length;
-  return [...parts, '; root: ', root, ' (' + ofRoot(root) + ')' + (others ? ' and ' + many(others, 'other') : '')];
+  const others = otherRoots(i), more = others < 0 ? ' and many others' : others ? ' and ' + many(others, 'other') : '';
+  return [...parts, '; root: ', root, ' (' + ofRoot(root) + ')' + more];
 }
 
-const asText = parts => parts.map(part => typeof part === 'number' ? name(part) : part).join('');
+const asText = parts => parts.map(part => typeof part === 'number' ? rowName(part) : part).join('');
 const asNodes = parts => parts.map(part => typeof part === 'number' ? reference(part) : part);
-const reference = i => h('button', { class: 'in', title: times(i), on: () => choose(i) }, name(i));
+const reference = i => h('button', { class: 'in', title: times(i), on: () => choose(i) }, rowName(i));
+
+/** The words of the search, as they are told. */
+const findText = () => view.find.map(word => '“' + word + '”').join(' or ');
+
+/** What stands at the end of a list that is cut, or nothing. */
+const rest = (number, shown, what) => number > shown ? 'and ' + (number - shown) + ' more' + (what || '') : '';
+const restLine = (number, shown, what) => number > shown ? h('li', { class: 'quiet' }, rest(number, shown, what)) : '';
 
 /** An element; `on` is what a click does, `css` its style, and an attribute without a value isn't set. */
 function h(tag, attributes, ...inner) {

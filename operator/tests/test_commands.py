@@ -16,6 +16,7 @@ READERS = {
     "why": ["PLAN", "LEDGER", "2024-01-01/18.00"],
     "why-day": ["PLAN", "LEDGER", "2024-01-01"],
     "late": ["PLAN", "--now", "2024-01-02/12.00"],
+    "rows": ["PLAN"],
     "next-job": ["PLAN"],
     "what-if": ["PLAN", "STREAM"],
     "export": ["PLAN", "--csv"],

@@ -4,12 +4,16 @@ import base64
 import hashlib
 import re
 import unittest
+from unittest import mock
 
 import plans
 
 import centre
 import moments
+import page
+import page_html
 import page_model
+import page_queries
 import page_reader as read
 from page_queries import Row
 from page_reader import ask, parts_of
@@ -102,10 +106,22 @@ class Centre(unittest.TestCase):
         text = """WITH RECURSIVE held (s) AS (SELECT ? UNION SELECT successor FROM dependency
             JOIN held ON predecessor = s JOIN cp_row ON serial = successor WHERE status = 'W')
             SELECT count(*) - 1 FROM held"""
-        self.assertTrue(self.data["holds"])
+        holders = """SELECT DISTINCT predecessor FROM dependency JOIN cp_row p ON p.serial = predecessor
+            JOIN cp_row s ON s.serial = successor WHERE s.status = 'W' AND (p.status IN ('E', 'S') OR p.status = 'W'
+            AND p.ia <= ? AND NOT EXISTS (SELECT 1 FROM dependency d JOIN cp_row b ON b.serial = d.predecessor
+                WHERE d.successor = p.serial AND b.status <> 'C'))"""
+        serials = read.serials_in(self.data)
+        found = [serials[place] for place, *_ in self.data["holds"]]
+        wanted = [serial for serial, in ask(self.path, holders, NOW)]
+        self.assertEqual((sorted(found), self.data["holdCount"]), (sorted(wanted), len(wanted)))
+        errors = {serial for serial, in ask(self.path, "SELECT serial FROM cp_row WHERE status = 'E'")}
+        self.assertTrue(errors - set(found), "one in error holds nobody up")
         for place, number, _, first in self.data["holds"]:
-            self.assertEqual(number, ask(self.path, text, read.serials_in(self.data)[place])[0][0])
-            self.assertEqual(first >= 0, number > 0)
+            self.assertEqual(number, ask(self.path, text, serials[place])[0][0])
+            self.assertGreater(number, 0)
+            self.assertEqual(self.shown[serials[first]][3], min(
+                deadline for deadline, in ask(self.path, text.replace("SELECT count(*) - 1 FROM held",
+                "SELECT deadline FROM held JOIN cp_row ON serial = s WHERE s <> ?1"), serials[place])))
 
     def test_free_days(self):
         """A calendar's free days are those on which an application that runs on each of its work days doesn't."""
@@ -128,7 +144,7 @@ class Centre(unittest.TestCase):
         jobs = sorted(self.planner.jobs.items())
         last = max(number for number, (text, reply) in jobs if text.startswith(b"dp-extend") and reply[:2] == "ok")
         wanted = [[number, text.split(b"\n")[0].decode(), reply] for number, (text, reply) in jobs if number >= last]
-        self.assertEqual(self.data["jobs"], wanted)
+        self.assertEqual((self.data["jobs"], self.data["jobCount"]), (wanted, len(wanted)))
 
     def test_since(self):
         old, new = parts_of(plans.planner_of(centre.evening())), parts_of(self.planner)
@@ -156,6 +172,37 @@ class Centre(unittest.TestCase):
             self.assertIn(f"{tag}-src 'sha256-{digest}'", policy)
         self.assertIn("default-src 'none'", policy)
 
+
+
+class Cut(unittest.TestCase):
+    """What is long is cut, and how much there is is told."""
+
+    @classmethod
+    def setUpClass(cls):
+        cls.path = plans.of_stream(centre.whole())
+
+    def data(self, module, most, number):
+        with mock.patch.object(module, most, number):
+            return page.data_of(self.path, NOW)
+
+    def test_jobs(self):
+        jobs = ask(self.path, "SELECT number, substr(CAST(body AS TEXT), 1, 9), reply FROM job ORDER BY number")
+        last = max(place for place, (_, text, reply) in enumerate(jobs) if text == "dp-extend" and reply[:2] == "ok")
+        data = self.data(page_queries, "MOST_JOBS", 5)
+        self.assertEqual([number for number, _, _ in data["jobs"]], [number for number, _, _ in jobs[-5:]])
+        self.assertEqual(data["jobCount"], len(jobs) - last)
+
+    def test_what_holds_others_up(self):
+        whole, cut = page.data_of(self.path, NOW), self.data(page_model, "MOST_HEADS", 2)
+        self.assertEqual((len(cut["holds"]), cut["holdCount"]), (2, len(whole["holds"])))
+
+    def test_without_a_script(self):
+        text = f"SELECT count(*) FROM cp_row WHERE status = 'E' OR status IN ('W', 'S') AND deadline < {NOW}"
+        count = ask(self.path, text)[0][0]
+        with mock.patch.object(page_html, "MOST_WITHOUT_SCRIPT", 3):
+            plain = page_html.without_script(page.data_of(self.path, NOW))
+        self.assertEqual(plain.count("<tr><td>"), 3)
+        self.assertIn(f"<p>These are 3 of {count}.</p>", plain)
 
 
 class Limits(unittest.TestCase):
