@@ -87,7 +87,6 @@ class Guard:
         self.tokens = Listed(given.tokens, token_line) if given.tokens else None
         self.proxy_address, self.proxy_user = proxy_of(given.proxy)
         self.hosts = {host.lower() for host in given.host}
-        self.origins = set()
         self.sessions = {}
 
     def add_listener(self, host, port):
@@ -95,7 +94,6 @@ class Guard:
         shown = f"[{host}]" if ":" in host else host
         names = {shown, "localhost"} if ipaddress.ip_address(host).is_loopback else {shown}
         self.hosts |= {f"{name}:{port}" for name in names}
-        self.origins = {f"{scheme}://{host}" for scheme in ("http", "https") for host in self.hosts}
 
     @web.middleware
     async def middleware(self, request, handler):
@@ -123,7 +121,7 @@ class Guard:
         if is_page and request.headers.get("Host", "").lower() not in self.hosts:
             raise web.HTTPForbidden(text="the desk isn't known under the host of this request; --host names one\n")
         origin = request.headers.get("Origin")
-        if origin is not None and origin.lower() not in self.origins:
+        if origin is not None and re.sub("^https?://", "", origin.lower()) not in self.hosts:
             raise web.HTTPForbidden(text="a page of another origin asks\n")
 
     # By a Unix socket.

@@ -162,6 +162,8 @@ class Planner:
             self.why = f"{self.words[0]}: it can't be run: {error.strerror}"
             return False
         self.lives += 1
+        if self.closing.is_set():
+            self.process.stdin.close()
         told = asyncio.create_task(self.process.stderr.read())
         opened, fault = await self.talk()
         self.is_open, self.open_since = False, None
