@@ -4,6 +4,7 @@ A process of its own makes it from a copy of the plan, so that callers aren't he
 
 import asyncio
 import contextlib
+import datetime
 import os
 import sys
 import tempfile
@@ -60,7 +61,8 @@ class Page:
         return page_html.data_text({
             "who": request["who"], "role": guard.role_name(request["role"]), "tag": made.tag,
             "position": made.position, "clock": minutes_now(), "zone": round(minutes_now() - time.time() / 60),
-            "stands": made.stands, "signs": self.has_tokens and guard.COOKIE in request.cookies, "acts": STATUS_ALONE, "reply": REPLY,
+            "stands": made.stands, "signs": self.has_tokens and guard.COOKIE in request.cookies,
+            "acts": STATUS_ALONE, "reply": REPLY,
         }).encode()
 
     async def page(self, now, since=0):
@@ -68,11 +70,16 @@ class Page:
         begun = time.monotonic()
         async with self.making:
             made = self.made
-            if made is None or made.now != now or not (
-                    made.begun >= begun or made.tag == self.desk.tag() and made.begun > begun - LONGEST
-                    ) or made.position < since:
+            if made is None or made.now != now or not self.is_fresh(made, begun, since):
                 self.made = made = await self.make(now)
         return made
+
+    def is_fresh(self, made, begun, since):
+        """Whether what was made will do for whoever asked at a time, and has the entry `since`."""
+        if made.begun >= begun:
+            return True
+        is_last = made.position >= since if since else made.tag == self.desk.tag()
+        return is_last and made.begun > begun - LONGEST
 
     async def make(self, now):
         with tempfile.TemporaryDirectory(prefix="desk-") as folder:
@@ -133,7 +140,7 @@ def moment_asked(request):
 
 def minutes_now():
     """The clock in minutes since 1970, with the part of the minute that is over, in local time."""
-    return moments.now() + time.time() % 60 / 60
+    return (datetime.datetime.now() - moments.EPOCH).total_seconds() / 60
 
 
 def answer(body, kind, allowed, heads=None):

@@ -1,6 +1,7 @@
-"""The process that makes the live page: its words are a copy of the plan, the name that the plan has, and a moment, or
-`-` for the clock. It prints whether the moment stands, and then the page: what stands before the plan's data, the data, and
-what stands behind, with a NUL between each two."""
+"""The process that makes the live page.
+
+Its words are a copy of the plan, the plan's name, and a moment, or `-` for the clock. It prints 1 where the moment
+stands, else 0; then what the page has before the plan's data, the data, what it has behind; a NUL between each two."""
 
 import gc
 import os
@@ -15,8 +16,7 @@ import page_html  # noqa: E402
 import plan_file  # noqa: E402
 from desk import live_parts  # noqa: E402
 
-OUTSIDE = ("The clock of this machine is outside this plan, so it is shown as of the end of its current plan, and stands "
-           "there.")
+OUTSIDE = "The clock of this machine is outside this plan, so it is shown as of the end of its current plan."
 
 
 def main(copy, name, moment):

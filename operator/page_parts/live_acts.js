@@ -46,9 +46,9 @@ async function press(i, act) {
   const number = serial[i], kept = answers.get(number) || {};
   if (kept.busy) return;
   if (act === 'delete' && kept.sure !== 'delete') {
-    const after_ = behind(i).length;
+    const waiting = behind(i).length;
     answerOf(number, { sure: 'delete', look: 'is-late', text: ['Press “Delete” once more to delete it' +
-      (after_ ? '; ' + many(after_, 'other row waits', 'other rows wait') + ' for it.' : '.')] });
+      (waiting ? '; ' + many(waiting, 'other row waits', 'other rows wait') + ' for it.' : '.')] });
     return;
   }
   const text = 'cp-' + act + ' ' + streamName(i), key = kept.open === text ? kept.key : newKey();

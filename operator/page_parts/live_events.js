@@ -1,7 +1,8 @@
 // What the desk tells: each change is drawn as it comes, and rows are fetched anew where others came or went.
-const MOST_LATELY = 100, LONGEST_WAIT = 2000;
-const live = { position: desk.position, shown: desk.position, wanted: 0, isFetching: false, tries: 0, drawing: 0, cost: 0,
-  begun: Date.now(), source: null, lost: '' };
+const MOST_LATELY = 100, MOST_JOBS = 3000, LONGEST_WAIT = 2000, HOUR = 3600000;
+/** How far the desk was heard, as of where the rows were fetched, and what is under way. */
+const live = { position: desk.position, shown: desk.position, isOld: false, isFetching: false, tries: 0, drawing: 0,
+  cost: 0, begun: Date.now(), source: null, lost: '' };
 const changes = [];  // statuses behind the rows that were fetched: position, serial, status
 const lately = [], unsaid = [], ownKeys = new Set();
 let applied = 0;
@@ -14,10 +15,13 @@ function onEntry(entry) {
   if (entry.seq <= live.position) return;
   live.position = entry.seq;
   keepLately(entry);
+  drawSoon();
+  if (entry.seq <= live.shown) return;
   const { reply, statement, job } = entry, act = statement.match(/^cp-([a-z]+)/)?.[1];
   const found = act in desk.acts && reply.match(desk.reply);
   if (!/^refused 1[012]/.test(reply)) {
     D.jobs.push([job, statement, reply]);
+    if (D.jobs.length > MOST_JOBS) D.jobs.shift();
     D.jobCount++;
   }
   if (found) {
@@ -25,11 +29,7 @@ function onEntry(entry) {
     const kept = answers.get(+found[1]);
     if (kept && !kept.busy && !kept.open && !isOwn(entry)) answers.delete(+found[1]);
     if (!isOwn(entry)) unsaid.push(+found[1]);
-  } else if (reply.startsWith('ok')) {
-    live.wanted = entry.seq;
-    fetchRows();
-  }
-  drawSoon();
+  } else if (reply.startsWith('ok')) fetchRows();
 }
 
 const isOwn = entry => entry.key !== null && ownKeys.has(entry.key);
@@ -67,23 +67,27 @@ function sayChanges() {
     : rows.map(i => rowName(i) + ' is ' + WORD[state(i)]).join('; '));
 }
 
-/** Fetches the rows until they have all that was told. */
+/** Fetches the rows anew, and once more where others came or went meanwhile. */
 async function fetchRows() {
+  live.isOld = true;
   if (live.isFetching) return;
   live.isFetching = true;
-  for (let failed = 0; live.wanted > live.shown;) {
-    const begun = performance.now(), found = await fetchedRows();
+  for (let failed = 0; live.isOld;) {
+    live.isOld = false;
+    const begun = performance.now(), found = await fetchedRows(live.position);
     if (found) takeFetched(found);
+    else live.isOld = true;
     failed = found ? 0 : failed + 1;
-    await rest_(found ? Math.min(20, Math.max(.1, (performance.now() - begun) / 500)) : Math.min(10, 2 ** failed));
+    await pause(found ? Math.min(20, Math.max(.1, (performance.now() - begun) / 500)) : Math.min(10, 2 ** failed));
   }
   live.isFetching = false;
 }
 
-async function fetchedRows() {
+/** The rows as they stood at a position or behind it, or null. */
+async function fetchedRows(since) {
   const now = new URLSearchParams(location.search).get('now');
   try {
-    const asked = '/page/data?since=' + live.wanted + (now ? '&now=' + encodeURIComponent(now) : '');
+    const asked = '/page/data?since=' + since + (now ? '&now=' + encodeURIComponent(now) : '');
     const found = await fetch(asked, { redirect: 'error' });
     if (found.ok) return await found.json();
     tellLink('the plan can’t be fetched: ' + (await found.text()).trim());
@@ -97,7 +101,6 @@ function takeFetched({ plan, desk: own }) {
   Object.assign(desk, own);
   live.begun = Date.now();
   live.shown = own.position;
-  if (own.position > live.position) live.position = own.position;
   drawAll(() => {
     changes.splice(0, changes.length, ...changes.filter(([position]) => position > own.position));
     applied = 0;
@@ -130,22 +133,18 @@ function onState({ tag, position }) {
   const isAnew = tag.split('-')[0] !== desk.tag.split('-')[0];
   desk.tag = tag;
   if (position < live.shown) location.reload();
-  else if (isAnew) {
-    live.wanted = position;
-    live.shown = Math.min(live.shown, position - 1);
-    fetchRows();
-  }
+  else if (isAnew) fetchRows();
 }
 
 /** Asks how the desk is, and listens anew where events stay away. */
-async function look_after() {
+async function lookAfter() {
   try {
     const found = await (await fetch('/health')).json();
     if (found.status === 'stopped') return tellLink('the desk is stopped: ' + (found.why || ''));
     if (found.position === undefined) return tellLink('your session has ended; load the page anew to sign in');
-    const behind_ = live.position;
-    if (live.source && found.position > behind_) {
-      setTimeout(() => { if (live.position === behind_) live.source?.onerror(); }, 3000);
+    const position = live.position;
+    if (live.source && found.position > position) {
+      setTimeout(() => { if (live.position === position) live.source?.onerror(); }, 3000);
     } else if (live.source?.readyState === EventSource.OPEN) tellLink('');
   } catch {
     tellLink('the desk doesn’t answer; what is shown is what it told last');
@@ -157,9 +156,9 @@ function tellLink(lost) {
   if (lost === live.lost && $('#link').textContent) return;
   live.lost = lost;
   document.body.dataset.live = lost ? 'no' : 'yes';
-  const may_ = { read: 'may read', operate: 'may operate', plan: 'may plan' }[desk.role];
+  const role = { read: 'may read', operate: 'may operate', plan: 'may plan' }[desk.role];
   $('#link').className = lost ? 'lost' : '';
-  $('#link').textContent = lost ? 'Not live: ' + lost : 'Live · ' + desk.who + ' ' + may_;
+  $('#link').textContent = lost ? 'Not live: ' + lost : 'Live · ' + desk.who + ' ' + role;
   if (lost) say('Not live: ' + lost);
 }
 
@@ -177,8 +176,10 @@ aboveChanges.push(latelyBox);
 function latelyLine({ at: moment, who, statement, reply }) {
   const time = new Date(Date.parse(moment) + 60000 * desk.zone), isRefused = !reply?.startsWith('ok');
   const when = [time.getUTCHours(), time.getUTCMinutes(), time.getUTCSeconds()].map(two).join('.');
-  return h('tr', {}, h('td', { title: moment }, when), h('td', {}, who), h('td', {}, statement.replace(/ --job[ =]\d+$/, '')),
-    h('td', {}, h('span', { class: isRefused ? 'refused' : '' }, reply ?? ''), isRefused && reply ? meaning(reply) : ''));
+  const answer = h('span', { class: isRefused ? 'refused' : '' }, reply ?? '');
+  return h('tr', {}, h('td', { title: moment }, when), h('td', {}, who),
+    h('td', {}, statement.replace(/ --job[ =]\d+$/, '')),
+    h('td', {}, answer, isRefused && reply ? meaning(reply) : ''));
 }
 
 /** What was asked before the page was opened. */

@@ -69,6 +69,9 @@ function innerPlaces() {
   };
 }
 
+const isSame = (one, other) => one.childNodes.length === other.childNodes.length &&
+  [...one.childNodes].every((node, n) => node.isEqualNode(other.childNodes[n]));
+
 /** Draws a box anew and leaves it where nothing became other, so that what is selected in it stays selected. */
 function redraw(boxes, draw, isNew) {
   const old = boxes.map(box => {
@@ -79,7 +82,7 @@ function redraw(boxes, draw, isNew) {
   });
   draw();
   for (const [box, was, spare] of old) {
-    if (isNew || was.innerHTML !== spare.innerHTML) was.replaceChildren(...spare.childNodes);
+    if (isNew || !isSame(was, spare)) was.replaceChildren(...spare.childNodes);
     was.className = spare.className;
     spare.remove();
     was.id = box.slice(1);

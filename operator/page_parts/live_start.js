@@ -34,5 +34,8 @@ drawAll(applyChanges);
 fit();
 hear();
 fetchLately();
-setInterval(() => { if (clockNow() !== D.now) drawSoon(); }, 5000);
-setInterval(look_after, 20000);
+setInterval(() => {
+  if (clockNow() !== D.now) drawSoon();
+  if (Date.now() - live.begun > HOUR) fetchRows();  // other days are shown by then
+}, 5000);
+setInterval(lookAfter, 20000);

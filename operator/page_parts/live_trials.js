@@ -1,9 +1,10 @@
-// A daily plan, and a modification of the long-term plan: the trial is shown first, and a second press does it as shown.
+// A daily plan, and a change of the long-term plan: the trial is shown first, and a second press does it as shown.
 const WORKS = [
   { what: 'Daily plan: extend the current plan', field: 'moment', trial: 'dp-trial extend', done: 'dp-extend' },
   { what: 'Daily plan: plan the same days anew', trial: 'dp-trial replan', done: 'dp-replan' },
   { what: 'Long-term plan: modify all', trial: 'ltp-trial modify-all', done: 'ltp-modify-all' },
-  { what: 'Long-term plan: modify one application', field: 'app', trial: 'ltp-trial modify-one', done: 'ltp-modify-one' },
+  { what: 'Long-term plan: modify one application', field: 'app', trial: 'ltp-trial modify-one',
+    done: 'ltp-modify-one' },
   { what: 'Long-term plan: extend', field: 'day', trial: 'ltp-trial extend', done: 'ltp-extend' },
 ];
 const SIGNS_OF_TRIAL = { '+': 'would be made', '-': 'would be withdrawn', '>': 'would move to the current plan',
@@ -22,8 +23,8 @@ function wordsOf(work) {
   const day = field('day').value;
   if (work.field === 'day') return day ? { text: ' --to ' + day } : { wrong: 'Choose a day.' };
   const time = field('time').value.slice(0, 5).replace(':', '.');
-  if (work.field === 'moment') return day && time ? { text: ' --to ' + day + '/' + time } : { wrong: 'Choose day and time.' };
-  return { text: '' };
+  if (work.field !== 'moment') return { text: '' };
+  return day && time ? { text: ' --to ' + day + '/' + time } : { wrong: 'Choose day and time.' };
 }
 
 const workNow = () => WORKS[+$('#work').value];
@@ -47,15 +48,15 @@ function planningSection() {
   works.addEventListener('change', () => chooseWork());
   const day = h('input', { type: 'date', id: 'field-day', 'aria-label': 'Day' });
   const time = h('input', { type: 'time', id: 'field-time', 'aria-label': 'Time' });
-  const app_ = h('input', { id: 'field-app', list: 'names', autocomplete: 'off', spellcheck: 'false' });
-  for (const input of [day, time, app_]) input.addEventListener('input', () => { seen = null; tellTrial(); });
+  const input = h('input', { id: 'field-app', list: 'names', autocomplete: 'off', spellcheck: 'false' });
+  for (const one of [day, time, input]) one.addEventListener('input', () => { seen = null; tellTrial(); });
   return h('section', { id: 'planning', 'aria-labelledby': 'h-planning' },
     h('h2', { id: 'h-planning' }, 'Planning'),
     h('div', { class: 'pane box' },
       h('div', { class: 'works tools' }, labelled('What', works),
         h('span', { id: 'fields-when' }, h('span', { class: 'quiet' }, 'to '), day, time),
-        h('span', { id: 'fields-app' }, labelled('Application', app_)),
-        h('button', { class: 'do', id: 'look', on: look }, 'Show what it would do')),
+        h('span', { id: 'fields-app' }, labelled('Application', input)),
+        h('button', { class: 'do', id: 'look', on: lookFirst }, 'Show what it would do')),
       h('div', { id: 'trial', tabindex: -1 })));
 }
 
@@ -68,9 +69,9 @@ function counted(reply) {
 
 /** A row of a trial, of which a line has the fields in fixed places. */
 function trialLine(line) {
-  const at_ = (from, to) => line.slice(from, to).trim();
-  return h('tr', {}, h('td', {}, at_(12, 28)), h('td', {}, at_(40, 56)), h('td', {}, at_(57, 73)),
-    h('td', {}, at_(31, 39) || 'added by hand'));
+  const cycle = line.slice(31, 39).trim() || 'added by hand';
+  const cells = [line.slice(12, 28), line.slice(40, 56), line.slice(57, 73), cycle];
+  return h('tr', {}, cells.map(text => h('td', {}, text.trim())));
 }
 
 function trialGroup(sign, lines) {
@@ -83,12 +84,13 @@ function trialGroup(sign, lines) {
 }
 
 /** Shows the trial that was looked at, with the button that does it, or a sentence alone. */
-function tellTrial(parts = [], look_ = '') {
+function tellTrial(parts = [], look = '') {
   const groups = new Map();
+  for (const sign in SIGNS_OF_TRIAL) groups.set(sign, []);
   for (const line of seen?.rows || []) put(groups, line[0], line);
-  fill('#trial', parts.length ? h('p', { class: 'answer ' + look_, id: 'told' }, parts) : '',
+  fill('#trial', parts.length ? h('p', { class: 'answer ' + look, id: 'told' }, parts) : '',
     seen ? [h('p', { class: 'statement' }, h('code', {}, seen.done)),
-      [...groups].map(([sign, lines]) => trialGroup(sign, lines)),
+      [...groups].filter(one => one[1].length).map(([sign, lines]) => trialGroup(sign, lines)),
       h('button', { class: 'do sure', id: 'do', on: doSeen }, 'Do it as shown')] : '');
   if (parts.length) say(plainText(parts));
 }
@@ -107,7 +109,7 @@ async function trialOf(trial, done) {
 const wouldText = one => 'Nothing is done yet. It would be: ' + counted(one.reply) + '.';
 
 /** The first press. */
-async function look() {
+async function lookFirst() {
   const work = workNow(), { text, wrong } = wordsOf(work);
   seen = null;
   if (wrong) return tellTrial([wrong], 'is-error');
@@ -119,7 +121,7 @@ async function look() {
   $('#trial').focus({ preventScroll: true });
 }
 
-/** The second press: it is done in the state that was looked at, or in a later one in which the trial shows the same. */
+/** The second press: it is done in the state that was looked at, or in a later one where the trial shows the same. */
 async function doSeen() {
   const asked = seen;
   $('#do').disabled = true;
@@ -131,9 +133,8 @@ async function doSeen() {
     if (!again || seen !== asked) return;
     if (!sameTrial(asked, again)) {
       seen = again;
-      tellTrial(['Nothing was done: the plan has changed since you looked, and it would now be other than it was shown: ' +
-        counted(again.reply) + '. Look once more.'], 'is-late');
-      return;
+      const text = 'Nothing was done: the plan has changed since you looked, and it would now be other than shown: ';
+      return tellTrial([text + counted(again.reply) + '. Look once more.'], 'is-late');
     }
     asked.tag = again.tag;
   }

@@ -54,7 +54,8 @@ function groupLine({ root, rows }) {
   const number = rows.filter(i => late.has(i)).length;
   const reason = rowName(root) + ' is ' + ofRoot(root) + '; first due: ' + rowName(rows[0]) + ', by ' +
     soon(due[rows[0]]);
-  const lines = h('ul', { class: 'list' }), group = h('details', { class: 'group', 'data-key': 'group of ' + serial[root] },
+  const lines = h('ul', { class: 'list' }), key = 'group of ' + serial[root];
+  const group = h('details', { class: 'group', 'data-key': key },
     h('summary', {}, h('span', { class: 'name' }, rows.length + ' that wait for ' + rowName(root)),
       h('span', { class: 'when' + (number ? ' is-late' : '') }, number ? number + ' late' : ''),
       h('span', { class: 'why' }, reason)), lines);
