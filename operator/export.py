@@ -7,7 +7,10 @@ import json
 import os
 import sys
 
+import actual
+import late
 import moments
+import page_model
 import plan_file
 import sound_rows
 import words
@@ -24,6 +27,8 @@ STATUSES = {"W": "waiting", "S": "started", "E": "in error", "C": "complete", "D
 REASONS = {"O": "deleted by an operator", "W": "withdrawn", "P": "deleted in the current plan"}
 PLACES = {"ltp": "long-term plan", "cp": "current plan", "history": "history", "deletions": "deletions"}
 COLUMNS = "serial application set status reason arrives due run_cycle added".split()
+# with a journal: the actual times, and of what isn't complete the end by the last durations
+TIMES = "started ended minutes usual_minutes worst_minutes estimated_end".split()
 # of a line of iCalendar, without its end
 MOST_OCTETS = 75
 
@@ -31,9 +36,12 @@ MOST_OCTETS = 75
 def add_words(parser):
     parser.description = (
         "Prints occurrences of PLAN.db by input arrival: those of the long-term plan, of the current plan and of "
-        "history, or of the sets that are named. Moments are those of the plan, local and without a time zone."
+        "history, or of the sets that are named. Moments are those of the plan, local and without a time zone. With the "
+        "journal of the plan's desk also when each was started and ended, how long its application takes, and when "
+        "what isn't complete will end."
     )
     words.add_plan(parser)
+    actual.add_journal(parser)
     form = parser.add_mutually_exclusive_group(required=True)
     form.add_argument("--ics", dest="form", action="store_const", const=calendar_text, help="iCalendar, an event each")
     form.add_argument("--csv", dest="form", action="store_const", const=csv_text, help="a table with a line of names")
@@ -45,8 +53,10 @@ def add_words(parser):
 
 
 def run(given):
-    with plan_file.opened(given.plan) as plan, sound_rows.asked_of(plan):
+    with actual.asked_of(given.journal) as times, plan_file.opened(given.plan) as plan, sound_rows.asked_of(plan):
         found = occurrences(plan.db, given.sets or USUAL, given.app, given.first, given.last)
+        if given.journal:
+            add_times(plan, found, times)
         text = given.form(plan, found) if found else None
     if text is None:
         words.tell(f"{given.plan}: it has no such occurrence")
@@ -76,13 +86,33 @@ class Occurrence:
     def __init__(self, serial, app, arrival, deadline, run_cycle, held, status, reason):
         self.serial, self.app, self.arrival, self.deadline = serial, app, arrival, deadline
         self.run_cycle, self.held, self.status, self.reason = run_cycle, held, status, reason
+        self.times = []  # with a journal, the values of TIMES
 
     def values(self, moment_text):
-        """What the columns show; None where there is nothing to show."""
+        """What the columns show, and those of TIMES with a journal; None where there is nothing to show."""
         status, reason = STATUSES.get(self.status), REASONS.get(self.reason)
         moments_shown = [moment_text(self.arrival), moment_text(self.deadline)]
         added = self.run_cycle is None
-        return [self.serial, self.app, self.held, status, reason, *moments_shown, self.run_cycle, added]
+        return [self.serial, self.app, self.held, status, reason, *moments_shown, self.run_cycle, added, *self.times]
+
+
+def add_times(plan, found, times):
+    """Gives each occurrence its actual times."""
+    rows, pairs = late.unfinished(plan)
+    now = moments.now()
+    ends = {rows[place].serial: one.end
+            for place, one in actual.estimates(rows, page_model.of_rows(rows, pairs, now), times, now).items()}
+    for one in found:
+        run, usual = times.runs.get(one.serial), times.usual(one.app)
+        minutes = [run and run.minutes, usual and usual.middle, usual and usual.worst]
+        started, ended, end = (value if value is None else actual.iso(value) for value in (
+            run and run.started, run and run.ended, ends.get(one.serial)))
+        one.times = [started, ended, *(value if value is None else round(value, 2) for value in minutes), end]
+
+
+def columns(found):
+    """The names of what is shown."""
+    return COLUMNS + TIMES if found[0].times else COLUMNS
 
 
 def iso(moment, between="T"):
@@ -101,7 +131,7 @@ def spaced(moment):
 def csv_text(_, found):
     text = io.StringIO()
     table = csv.writer(text, lineterminator="\n")
-    table.writerow(COLUMNS)
+    table.writerow(columns(found))
     for one in found:
         table.writerow([int(value) if isinstance(value, bool) else value for value in one.values(spaced)])
     return text.getvalue()
@@ -123,7 +153,7 @@ def json_text(plan, found):
     }
     lines = []
     for one in found:
-        values = dict(zip(COLUMNS, one.values(iso)))
+        values = dict(zip(columns(found), one.values(iso)))
         lines.append(json.dumps({**values, "waits_for": waits_for.get(one.serial, [])}))
     begin = json.dumps(head, indent=1).removesuffix("\n}")
     return begin + ',\n "occurrences": [\n' + ",\n".join("  " + line for line in lines) + "\n ]\n}\n"
@@ -171,7 +201,8 @@ def description(one):
     place = ", ".join(filter(None, [PLACES[one.held], status, REASONS.get(one.reason)]))
     origin = "added by hand" if one.run_cycle is None else f"named by run cycle {one.run_cycle}"
     due = f"due {moments.moment_text(one.deadline)}"
-    return f"serial {one.serial}, {place}\narrives {moments.moment_text(one.arrival)}, {due}\n{origin}"
+    times = "".join(f"\n{name.replace('_', ' ')}: {value}" for name, value in zip(TIMES, one.times) if value is not None)
+    return f"serial {one.serial}, {place}\narrives {moments.moment_text(one.arrival)}, {due}\n{origin}{times}"
 
 
 def escaped(text):

@@ -1,9 +1,12 @@
 """./plan why: why an occurrence isn't started, or why it stands where it stands."""
 
+import actual
 import definitions
 import keys
+import late
 import moments
 import naming
+import page_model
 import plan_file
 import sound_rows
 import waits
@@ -27,22 +30,27 @@ SENTENCES = {
 def add_words(parser):
     parser.description = (
         "Tells where an occurrence stands and why. Of one that waits, all that isn't complete of what it waits for is "
-        "shown as a tree, down to those that wait for nothing. The exit status is 1 where it stands nowhere."
+        "shown as a tree, down to those that wait for nothing. With the journal of the plan's desk also when it was "
+        "started and ended, how long its application takes, and when it will end. The exit status is 1 where it stands "
+        "nowhere."
     )
     words.add_plan(parser)
     keys.add_key(parser)
     words.add_now(parser)
+    actual.add_journal(parser)
     parser.add_argument("--all", action="store_true", help=f"all lines of the tree, also past {MOST_LINES}")
 
 
 def run(given):
     now = moments.now() if given.now is None else given.now
-    with plan_file.opened(given.plan) as plan, sound_rows.asked_of(plan):
+    with actual.asked_of(given.journal) as times, plan_file.opened(given.plan) as plan, sound_rows.asked_of(plan):
         app, ia, rows = keys.rows_of(plan, given.key)
         if app is None:
             lines = [keys.unknown_text(plan, given.key.serial)]
         else:
             lines = row_lines(plan, rows[0], now, given.all) if rows else nowhere_lines(plan, app, ia)
+            if rows and given.journal:
+                lines += times_lines(plan, rows[0], times, now)
             lines += earlier_lines(rows[1:]) + job_lines(plan, app, ia)
     print("\n".join(lines))
     return 0 if rows else 1
@@ -60,6 +68,19 @@ def row_lines(plan, row, now, all_lines):
         lines.append(f"At {moments.moment_text(now)} it is {waits.late_text(row, now)}.")
     if row.place == "w":
         lines += ["", *named_lines(plan, row.app, row.ia)]
+    return lines
+
+
+def times_lines(plan, row, times, now):
+    """When a row was started and ended, how long its application takes, and when it will end."""
+    run = times.runs.get(row.serial)
+    told = actual.run_text(run) if run else ""
+    lines = ["", f"By the journal: {told or 'it was never started'}.", f"Of {row.app}: {actual.usual_text(times.usual(row.app))}."]
+    if row.place in waits.UNFINISHED:
+        rows, pairs = late.unfinished(plan)
+        found = actual.estimates(rows, page_model.of_rows(rows, pairs, now), times, now)
+        place = next(place for place, other in enumerate(rows) if other.serial == row.serial)
+        lines.append(f"It ends {actual.about(found[place])} by the last durations.")
     return lines
 
 

@@ -86,9 +86,9 @@ def wrong_words(given):
 
 
 def check_file(path):
-    """Asks that there is such a plan; opcplan would make one. Raises Unreadable."""
-    with plan_file.opened(path):
-        pass
+    """Asks that there is such a file; opcplan would make a plan. Raises Unreadable."""
+    if not os.path.isfile(path):
+        raise plan_file.Unreadable(f"{path}: there is no such file; `./opcplan --db` makes a new plan")
 
 
 def by_debian():

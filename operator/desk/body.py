@@ -18,20 +18,41 @@ class Body:
         self.desk, self.asked, self.who, self.key, self.condition = desk, asked, who, key, condition
         self.at = entry.moment_now()
         self.asks, self.room = asyncio.Queue(), asyncio.Semaphore(WINDOW)
+        self.is_left = False  # nobody reads its answers any more
+        self.is_broken = False  # one of its statements wasn't taken, so none behind it is
 
     async def take(self):
-        """Puts all statements into the queue, up to the first that isn't taken."""
+        """Puts all statements into the queue, up to the first that isn't taken; as many wait as its caller leaves
+        unread, and one where the caller is gone."""
         for place, one in enumerate(self.asked):
-            await self.room.acquire()
-            try:
-                future = self.ask(one, place).wait()
-            except Refused as why:
-                future = asyncio.get_running_loop().create_future()
-                future.set_exception(why)
-            future.add_done_callback(lambda done: done.cancelled() or done.exception() or self.room.release())
+            if not self.is_left:
+                await self.room.acquire()
+            future = self.put(one, place)
             self.asks.put_nowait((one, future))
-            if future.done() and future.exception():
+            if self.is_broken:
                 return
+            if self.is_left:
+                await asyncio.wait([future])
+
+    def put(self, one, place):
+        """A future of a statement's Ask."""
+        try:
+            if self.is_broken:
+                raise Refused(503, "a statement before this one wasn't taken")
+            ask = self.ask(one, place)
+            ask.streams.append(self)
+            future = ask.wait()
+        except Refused as why:
+            self.is_broken = True
+            future = asyncio.get_running_loop().create_future()
+            future.set_exception(why)
+        future.add_done_callback(lambda done: done.cancelled() or done.exception())
+        return future
+
+    def leave(self):
+        """Nobody reads on."""
+        self.is_left = True
+        self.room.release()
 
     def ask(self, one, place):
         """The Ask of a statement. Raises Refused."""
@@ -58,6 +79,7 @@ class Body:
         """The next statement and its Ask, answered. Raises Refused and Stopped."""
         one, future = await self.asks.get()
         ask = await future
+        self.room.release()
         if ask.wrong is not None:
             raise Refused(503, ask.wrong)
         return one, ask

@@ -167,7 +167,7 @@ class Desk:
         ask = self.queue.popleft()
         if ask.condition == self.tag():
             return [ask]
-        self.drop(ask, Refused(412, "the plan has changed since it was looked at; nothing was done"))
+        self.drop_all([ask], Refused(412, "the plan has changed since it was looked at; nothing was done"))
         return []
 
     async def enter(self, batch):
@@ -182,8 +182,7 @@ class Desk:
         except log.Unwritable as why:
             self.replies = replies + self.replies
             self.log_trouble = str(why)
-            for ask in batch:
-                self.drop(ask, Refused(503, f"{why}; nothing was done"))
+            self.drop_all(batch, Refused(503, f"{why}; nothing was done"))
             return False
         self.log_trouble = ""
         self.are_kept(replies)
@@ -193,8 +192,19 @@ class Desk:
             ask.entry = entry.Entry(seq, one.at, one.who, one.key, job, ask.text)
         return True
 
+    def drop_all(self, asks, error):
+        """Sends those away who wait for statements that aren't in the log, and for what their streams have behind them:
+        nothing of a stream is done before what stands before it."""
+        while asks:
+            for ask in asks:
+                self.drop(ask, error)
+            left, self.queue, asks = self.queue, collections.deque(), []
+            for ask in left:
+                (asks if any(one.is_broken for one in ask.streams) else self.queue).append(ask)
+
     def drop(self, ask, error):
-        """Sends those away who wait for a statement that isn't in the log, and forgets it."""
+        for one in ask.streams:
+            one.is_broken = True
         if ask.wanted is not None:
             self.by_key.pop((ask.wanted.who, ask.wanted.key), None)
         self.lists.pop(ask.text, None)
@@ -221,8 +231,7 @@ class Desk:
     def on_stop(self, why):
         """Sends all away who wait for the planner; what stands in the log stays."""
         queue, self.queue = list(self.queue), collections.deque()
-        for ask in queue:
-            self.drop(ask, Stopped(why))
+        self.drop_all(queue, Stopped(why))
         for ask in self.batch:
             ask.fail(Stopped(why))
         self.lists.clear()

@@ -1,17 +1,19 @@
 """Who may ask a desk for what: hosts, origins, an own header, tokens, users and roles."""
 
+import contextlib
 import hashlib
 import hmac
 import ipaddress
 import os
-import pwd
 import re
 import secrets
 import socket
-import struct
 import time
+import weakref
 
 from aiohttp import web
+
+from desk import peers
 
 READ, OPERATE, PLAN = 1, 2, 3
 ROLES = {"read": READ, "operate": OPERATE, "plan": PLAN}
@@ -88,6 +90,7 @@ class Guard:
         self.proxy_address, self.proxy_user = proxy_of(given.proxy)
         self.hosts = {host.lower() for host in given.host}
         self.sessions = {}
+        self.users_of = weakref.WeakKeyDictionary()  # by connection
 
     def add_listener(self, host, port):
         """Takes the names of an address that is listened on among the hosts."""
@@ -111,6 +114,8 @@ class Guard:
             raise web.HTTPForbidden(text="the caller is gone\n")
         by_socket = peer.family == socket.AF_UNIX
         who, role, is_page = self.by_socket(request, peer) if by_socket else self.by_address(request)
+        if not role and not is_open(request):
+            raise web.HTTPForbidden(text=f"{who} may not use this desk\n")
         self.check_origin(request, is_page)
         if request.method not in ("GET", "HEAD") and request.headers.get(OWN_HEADER) != OWN_VALUE:
             raise web.HTTPForbidden(text=f"a change has the header `{OWN_HEADER}: {OWN_VALUE}`\n")
@@ -128,25 +133,19 @@ class Guard:
 
     def by_socket(self, request, peer):
         """Who asks by the socket, the role, and whether a browser's page may be behind it."""
-        _, uid, _ = struct.unpack("3i", peer.getsockopt(socket.SOL_SOCKET, socket.SO_PEERCRED, 12))
-        try:
-            who = pwd.getpwuid(uid).pw_name
-        except KeyError:
-            who = f"uid:{uid}"
+        uid = peers.of_socket(peer)
+        who = peers.name_of(uid)
         if self.proxy_user is not None and who == self.proxy_user:
             name = request.headers.get(LOGIN_HEADER, "")
             if not re.fullmatch(r"[!-~]{1,100}", name) or name == EVERYONE:
                 raise web.HTTPUnauthorized(text=f"the proxy names no user by {LOGIN_HEADER}\n")
             return name, self.role_of(name, 0), True
-        return who, self.role_of(who, PLAN if uid in (0, os.getuid()) else 0), False
+        return who, self.role_of(who, PLAN if peers.is_own(uid) else 0), False
 
     def role_of(self, who, usual):
-        """The role of a user by the file of users. Raises HTTPForbidden where there is none."""
+        """The role of a user by the file of users, 0 where there is none."""
         listed = self.users.now() if self.users else {}
-        role = listed.get(who) or usual or listed.get(EVERYONE)
-        if not role:
-            raise web.HTTPForbidden(text=f"{who} may not use this desk\n")
-        return role
+        return listed.get(who) or usual or listed.get(EVERYONE, 0)
 
     # By an address.
 
@@ -157,14 +156,30 @@ class Guard:
         if not remote.is_loopback and remote != self.proxy_address:
             raise web.HTTPForbidden(text="this address isn't that of the proxy\n")
         if self.tokens is None:
-            return "anyone", PLAN, True
+            who, usual = self.user_of(request)
+            return who, self.role_of(who, usual), True
         found = self.of_token(request) or self.of_session(request)
-        if found is None and (request.path in OPEN_PATHS or request.path.startswith(OPEN_PARTS)):
+        if found is None and is_open(request):
             return "nobody", 0, True
         if found is None:
             raise web.HTTPUnauthorized(text="a token is wanted: `Authorization: Bearer TOKEN`\n",
                                        headers={"WWW-Authenticate": "Bearer"})
         return *found, True
+
+    def meet(self, transport):
+        """Notes whose connection begins: once it ends, the system doesn't tell any more."""
+        peer = transport.get_extra_info("socket")
+        if self.tokens is None and peer is not None and peer.family != socket.AF_UNIX:
+            with contextlib.suppress(OSError):
+                self.users_of[transport] = peers.of_address(peer)
+
+    def user_of(self, request):
+        """The user of this machine that asks by a connection, and the role where the file of users has none. Raises
+        HTTPForbidden."""
+        uid = self.users_of.get(request.transport)
+        if uid is None:
+            raise web.HTTPForbidden(text="this machine doesn't tell whose connection this is: take --tokens\n")
+        return peers.name_of(uid), PLAN if peers.is_own(uid) else 0
 
     def of_token(self, request):
         """Name and role of the bearer of a token, or None."""
@@ -211,6 +226,11 @@ class Guard:
 
 # what may be asked without a token: whether the desk is well, and the page that asks for one and its parts
 OPEN_PATHS, OPEN_PARTS = ("/health", "/"), "/page/"
+
+
+def is_open(request):
+    """Whether a request may be answered whoever asks."""
+    return request.path in OPEN_PATHS or request.path.startswith(OPEN_PARTS)
 
 
 def role_name(role):

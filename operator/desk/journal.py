@@ -6,6 +6,7 @@ import os
 import re
 import sqlite3
 import tempfile
+import time
 
 import plan_file
 from desk import entry, log
@@ -26,6 +27,8 @@ PRAGMA user_version = 1;
 COLUMNS = "seq, at, who, key, job, text, reply"
 STATUS = re.compile(r"ok serial ([0-9]+) status ([WSECD])")
 TAIL = ".journal"
+# how long a plan may be written to before it is opened, in seconds
+PATIENCE = 30
 
 
 class Journal(log.Log):
@@ -188,7 +191,7 @@ def beside(plan):
 def for_desk(path, plan):
     """The Journal of a desk over a plan: it goes on behind what either has. Raises Unreadable where the plan is older
     than the journal."""
-    with plan_file.opened(plan) as held:
+    with at_rest(plan) as held:
         asked = "SELECT max(number) FROM job WHERE number BETWEEN ? AND ?"
         (greatest,) = held.db.execute(asked, (entry.FIRST_JOB, entry.LAST_JOB)).fetchone()
         journal = Journal(path, (greatest or entry.FIRST_JOB - 1) - entry.FIRST_JOB + 1)
@@ -197,6 +200,21 @@ def for_desk(path, plan):
             journal.close()
             raise plan_file.Unreadable(
                 f"{path}: it was answered by a later plan than {plan}, which lacks job {last.job}. Run the journal "
-                f"over the plan, by `./plan journal {plan} --journal {path} --stream | ./opcplan --db {plan}`, or name a "
-                "new one by --journal")
+                f"over the plan, by `./plan journal {plan} --journal {path} --stream | ./opcplan --db {plan}`, or name "
+                "a new one by --journal")
     return journal
+
+
+@contextlib.contextmanager
+def at_rest(plan):
+    """A Plan of the file; where the opcplan of a killed desk still writes, it is waited for. Raises Unreadable."""
+    with contextlib.ExitStack() as files:
+        until = time.monotonic() + PATIENCE
+        while True:
+            try:
+                held = files.enter_context(plan_file.opened(plan))
+                break
+            except plan_file.Unreadable as error:
+                if not str(error).endswith("try again") or time.monotonic() > until:
+                    raise
+        yield held

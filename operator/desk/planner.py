@@ -40,6 +40,7 @@ class Ask:
         self.name, self.text, self.wanted = name, text, wanted
         self.entry = None
         self.condition = None  # the tag of the state that it asks for
+        self.streams = []  # that wait for it
         self.begun = time.monotonic()
         self.tries = 0
         self.rows, self.row_bytes = None, 0

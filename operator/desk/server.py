@@ -67,8 +67,11 @@ class Server:
         except (core.Refused, Stopped):
             if not response.prepared:
                 raise
-            request.transport.abort()  # the answer is cut: its caller sees that it isn't whole
+            if request.transport is not None:
+                request.transport.abort()  # the answer is cut: its caller sees that it isn't whole
             return response
+        finally:
+            stream.leave()
         if not response.prepared:
             await response.prepare(request)
         await response.write_eof()
@@ -236,14 +239,12 @@ async def served(given, program, the_guard, is_same_file):
     listeners = listeners_of(given, the_guard)
     runner = web.AppRunner(server.application(), access_log=None)
     await runner.setup()
+    meet_all(runner.server, the_guard)
     desk.start()
     sites = [web.SockSite(runner, listener, shutdown_timeout=5) for listener, _ in listeners]
     for site, (_, name) in zip(sites, listeners):
         await site.start()
         print(f"desk: listening on {name}", file=sys.stderr, flush=True)
-    if given.listen and not given.tokens:
-        print("desk: there are no --tokens, so whoever is on this machine may plan by that address", file=sys.stderr,
-              flush=True)
     await stop.wait()
     for listener, _ in listeners:
         asyncio.get_running_loop().remove_reader(listener)  # nobody else is taken
@@ -252,6 +253,17 @@ async def served(given, program, the_guard, is_same_file):
     if given.socket:
         with contextlib.suppress(FileNotFoundError):
             os.remove(given.socket)
+
+
+def meet_all(server, the_guard):
+    """Has the guard meet each connection when it begins."""
+    begin = server.connection_made
+
+    def connection_made(handler, transport):
+        the_guard.meet(transport)
+        begin(handler, transport)
+
+    server.connection_made = connection_made
 
 
 def listeners_of(given, the_guard):

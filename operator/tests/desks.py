@@ -152,6 +152,11 @@ class Case(unittest.TestCase):
         self.assertEqual(looks.of_file(self.plan), looks.of_stream(self.TEXT, *texts))
 
 
+def own_name():
+    """The name of the user that runs these tests."""
+    return pwd.getpwuid(os.getuid()).pw_name
+
+
 def raw(port, text):
     """A connection over which a text was sent."""
     found = socket.create_connection(("127.0.0.1", port), timeout=60)

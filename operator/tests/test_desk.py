@@ -93,7 +93,9 @@ class Statements(desks.Case):
         self.assertEqual(desk.posted("list cp --app APP00")[2], answers("list cp --app APP00"))
         self.assertEqual(desk.health()["position"], 0)
         whole = "".join(f"{line}\n" for line in ADDS).encode()
-        desks.raw(desk.port, head + b"Content-Length: %d\r\n\r\n" % len(whole) + whole).close()
+        with closing(socket.socket(socket.AF_UNIX)) as caller:
+            caller.connect(desk.socket)
+            caller.sendall(head + b"Content-Length: %d\r\n\r\n" % len(whole) + whole)
         desk.comes(lambda found: found["position"] == len(ADDS))
         self.end(desk)
         self.assert_plan(numbered(*ADDS))
@@ -150,7 +152,7 @@ class Looked(desks.Case):
             lines = listener.makefile()
             first = self.event(lines)
             self.assertEqual((first["id"], first["event"]), ("2", "entry"))
-            self.assertEqual((first["data"]["reply"], first["data"]["who"]), ("refused 29", "anyone"))
+            self.assertEqual((first["data"]["reply"], first["data"]["who"]), ("refused 29", desks.own_name()))
             state = self.event(lines)
             self.assertEqual((state["event"], state["data"]["position"]), ("state", 2))
             begun = time.monotonic()
@@ -381,7 +383,7 @@ class Guards(desks.Case):
 
     def test_users_of_the_socket(self):
         users = self.room / "users"
-        own = desks.pwd.getpwuid(os.getuid()).pw_name
+        own = desks.own_name()
         users.write_text(f"{own} read\n")
         desk = self.desk("--users", users)
         caller = desks.client.Client(desk.socket)
@@ -395,7 +397,7 @@ class Guards(desks.Case):
         self.end(desk)
 
     def test_what_a_proxy_says_of_its_user(self):
-        own = desks.pwd.getpwuid(os.getuid()).pw_name
+        own = desks.own_name()
         users = self.room / "users"
         users.write_text("mary operate\n")
         desk = self.desk("--users", users, "--proxy", own, "--host", "plan.example")
@@ -409,7 +411,7 @@ class Guards(desks.Case):
         self.assertEqual(caller.request("POST", "/statements", START, heads)[1], b"ok serial 1 status S\n")
         self.assertEqual(desk.posted(COMPLETE, X_Forwarded_User="mary")[0], 200)
         told = [json.loads(line)["who"] for line in desk.asked("GET", "/journal")[2].splitlines()]
-        self.assertEqual(told, ["mary", "anyone"])
+        self.assertEqual(told, ["mary", own])
         self.end(desk)
 
 
