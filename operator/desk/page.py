@@ -18,8 +18,10 @@ import plan_file
 from desk import guard, live_parts, snapshot
 
 HERE = os.path.dirname(os.path.realpath(__file__))
-# the statements that change the status of one row and nothing else, each with the statuses of rows that take it
-STATUS_ALONE = {"start": "W", "complete": "SE", "fail": "S", "reset": "E", "delete": "WE"}
+# what changes the status of a row, each with the statuses that take it; and of these what changes nothing else: the
+# others may give rows other predecessors
+ACTS = {"start": "W", "complete": "SE", "fail": "S", "reset": "E", "delete": "WE"}
+ALONE = ["start", "complete", "fail"]
 REPLY = r"^ok serial (\d+) status ([WSECD])$"
 # seconds for which a page that no change made old is given again: the days that it shows go by the clock
 LONGEST = 600
@@ -39,9 +41,10 @@ class Page:
 
     async def whole(self, request):
         """GET /: the page; who has no token yet is asked for one."""
-        if request["role"] < guard.READ:
+        if self.has_tokens and request["who"] == guard.NOBODY:
             return answer(live_parts.sign_in().encode(), "text/html",
                           live_parts.policy(live_parts.SIGN_STYLES, live_parts.SIGN_SCRIPTS))
+        guard.needed(request, guard.READ, "read")
         made = await self.page(moment_asked(request))
         text = b"".join([made.begin, made.data, END_OF_DATA, self.own(request, made), made.end])
         return answer(text, "text/html", live_parts.policy(live_parts.STYLES, live_parts.SCRIPTS), made.heads())
@@ -62,7 +65,7 @@ class Page:
             "who": request["who"], "role": guard.role_name(request["role"]), "tag": made.tag,
             "position": made.position, "clock": minutes_now(), "zone": round(minutes_now() - time.time() / 60),
             "stands": made.stands, "signs": self.has_tokens and guard.COOKIE in request.cookies,
-            "acts": STATUS_ALONE, "reply": REPLY,
+            "acts": ACTS, "alone": ALONE, "reply": REPLY,
         }).encode()
 
     async def page(self, now, since=0):

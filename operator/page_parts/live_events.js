@@ -10,7 +10,7 @@ let applied = 0;
 /** The desk's clock, in the minutes of the plan; one that stands goes on standing. */
 const clockNow = () => desk.stands ? D.now : Math.floor(desk.clock + (Date.now() - live.begun) / 60000);
 
-/** Takes an entry: a status that one row gets, or a change for which the rows are fetched anew. */
+/** Takes an entry: a status that one row gets, and other changes, for which the rows are fetched anew. */
 function onEntry(entry) {
   if (entry.seq <= live.position) return;
   live.position = entry.seq;
@@ -29,7 +29,8 @@ function onEntry(entry) {
     const kept = answers.get(+found[1]);
     if (kept && !kept.busy && !kept.open && !isOwn(entry)) answers.delete(+found[1]);
     if (!isOwn(entry)) unsaid.push(+found[1]);
-  } else if (reply.startsWith('ok')) fetchRows();
+  }
+  if (reply.startsWith('ok') && !(found && desk.alone.includes(act))) fetchRows();
 }
 
 const isOwn = entry => entry.key !== null && ownKeys.has(entry.key);
