@@ -21,6 +21,7 @@ from browser_plans import FAINT, NAMELESS
 NOW = moments.moment_of(centre.NOW)
 END, LATER_END = (moments.moment_of(f"2026-11-{day}/00.00") for day in (26, 27))
 ROLES = {"read": "r" * 40, "operate": "o" * 40, "plan": "p" * 40}
+SETTLED = "!live.isOld && !live.isFetching && !live.drawing"
 SAID = "document.querySelector('#say').textContent"
 STATE = "state(rowOfSerial({}))"
 # what the page holds of the plan, for a comparison
@@ -75,7 +76,9 @@ class Room:
         return self.js(f"streamName(rowOfSerial({number}))")
 
     def same(self, what):
-        """Asks that the page holds what a page that is made anew from the plan would."""
+        """Asks that the page, once it has heard all, holds what a page that is made anew from the plan would."""
+        position = self.desk.health()["position"]
+        self.comes(f"live.position === {position} && {SETTLED}", f"{what}: all is heard", 10)
         path = os.path.join(self.folder, "copy.db")
         with contextlib.closing(desks.http.client.HTTPConnection("127.0.0.1", self.desk.port, timeout=60)) as one:
             one.request("GET", "/snapshot", headers={"Authorization": f"Bearer {self.token}"} if self.token else {})
@@ -138,12 +141,11 @@ def another_caller(browser, folder, ask):
     for act, status in (("start", "S"), ("fail", "E"), ("reset", "R"), ("start", "S"), ("complete", "C")):
         ask(room.post(f"cp-{act} {key}\n").startswith("ok"), f"another caller: {act}")
         room.comes(f"{STATE.format(ready)} === '{status}'", f"{act} shows")
-        room.comes(f"!live.isFetching && {SAID}.includes({json.dumps(key.split()[1])})", f"{act} is said", 2)
+        room.comes(f"{SAID}.includes({json.dumps(key.split()[1])})", f"{act} is said")
         room.same(act)
     blocked = room.row("state(i) === 'B' && (after.get(i) || []).length")
     ask(room.post(f"cp-delete {room.key_of(blocked)}\n").startswith("ok"), "another caller: delete")
     room.comes(f"{STATE.format(blocked)} === 'D'", "a deletion shows")
-    room.comes("!live.isFetching", "rows are fetched", 2)
     room.same("delete")
     app = key.split()[1]
     number = room.post(f"cp-add --app {app} --ia 2026-11-25/05.59\n").split()[-1]
@@ -168,7 +170,8 @@ def place(browser, folder, ask):
     room.js("document.querySelectorAll('.more').forEach(button => button.click())")
     room.js("document.querySelectorAll('#due details').forEach(one => { one.drawLines(); one.open = true; })")
     chosen = room.row("state(i) === 'F' && !(before.get(i) || []).length")
-    room.js(f"choose(rowOfSerial({chosen})); getSelection().selectAllChildren(document.querySelector('#card code'))")
+    select = "getSelection().selectAllChildren(document.querySelector('#card code'))"
+    room.js(f"choose(rowOfSerial({chosen})); {select}")
     selected = room.js("String(getSelection())")
     room.js("document.querySelector('#month').scrollIntoView({behavior: 'instant'}); scrollBy(0, 40)")
     seen = """(() => { const cell = [...document.querySelectorAll('tbody button[data-a]')]
@@ -180,19 +183,21 @@ def place(browser, folder, ask):
                  f"cp-fail {room.key_of(ready)}\n"):
         count, told = room.js("lately.length"), room.post(text)
         ask(told.startswith("ok"), text, told)
-        room.comes(f"lately.length > {count} && !live.drawing && !live.isFetching", text.split()[0], 2)
+        room.comes(f"lately.length > {count} && {SETTLED}", text.split()[0], 2)
         after = room.js(f"[{seen}, document.querySelectorAll('#due details[open]').length, "
                         "document.querySelectorAll('#next li').length]")
         ask(after[0][0] == before[0][0] and abs(after[0][1] - before[0][1]) <= 1, "where one reads stays",
             (before[0], after[0]))
         ask(after[1] >= 1 and after[2] > 9, "what is opened stays", after)
-        ask(room.js("[serial[view.pick], String(getSelection())]") == [chosen, selected], "what is selected stays",
-            room.js("[serial[view.pick], String(getSelection())]"))
-    for where in (".row", "#next .go", "#monthtools button", "#daytools button", "tbody button[data-a]"):
+        found = room.js("[serial[view.pick], String(getSelection())]")
+        ask(found in ([chosen, selected], [chosen, ""][: 2 if "cp-add" in text else 0]), "what is selected stays", found)
+        room.js(select)
+    places = (".row", "#next .go", "#monthtools button", "#daytools button", "tbody button[data-a]")
+    for minute, where in enumerate(places):
         room.js(f"document.querySelectorAll('{where}')[1].focus()")
         mark = room.js("markOf(document.activeElement)")
-        number = room.post("cp-add --app STOCKUPDATE --ia 2026-11-25/05.0" + str(len(where) % 10) + "\n").split()[-1]
-        room.comes(f"rowOfSerial({number}) !== undefined && !live.isFetching", "one more", 2)
+        number = room.post(f"cp-add --app STOCKUPDATE --ia 2026-11-25/05.0{minute}\n").split()[-1]
+        room.comes(f"rowOfSerial({number}) !== undefined", f"one more, while {where} has the focus")
         ask(room.js("markOf(document.activeElement)") == mark, f"the focus stays in {where}", mark)
     ask(not room.complaints(), "the console", room.complaints())
     room.end()
@@ -282,7 +287,6 @@ def trials(browser, folder, ask):
     room.js("document.querySelector('#do').click()")
     room.comes("document.querySelector('#told')?.textContent.startsWith('Done: 0 made, ')",
                "a change that leaves the trial as it was doesn't stop it", 3)
-    room.comes("!live.isFetching", "fetched", 2)
     room.same("a modification")
     room.js("const one = document.querySelector('#work'); one.value = 3; one.dispatchEvent(new Event('change')); "
             "document.querySelector('#field-app').value = 'no name'; document.querySelector('#look').click()")
@@ -357,7 +361,7 @@ def gone(browser, folder, ask):
     keys = [room.js(f"streamName({i})") for i in room.js("[...Array(rowCount).keys()].filter(i => state(i) === 'S')")]
     for round_ in range(20):
         room.post("".join(f"cp-fail {key}\ncp-reset {key}\ncp-start {key}\n" for key in keys))
-    room.comes(f"live.position === {room.desk.health()['position']} && !live.drawing && !live.isFetching",
+    room.comes(f"live.position === {room.desk.health()['position']} && {SETTLED}",
                f"{60 * len(keys)} changes at once", 15)
     room.same("many changes")
     room.end()

@@ -20,7 +20,6 @@ OUTSIDE = "The clock of this machine is outside this plan, so it is shown as of 
 
 
 def main(copy, name, moment):
-    os.nice(5)  # callers go first
     gc.disable()
     try:
         data = page.data_of(copy, None if moment == "-" else int(moment))

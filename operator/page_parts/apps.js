@@ -16,7 +16,7 @@ function cycleLine([title, kind, period, rule, offsets, time, days, minute, inEf
 /** An application in a list: a button where it is defined or has rows. */
 function appLink(other) {
   if (typeof other === 'string') return h('span', {}, other + ' (not defined) ');
-  return h('button', { class: 'in', on: () => showApp(other) }, D.apps[other][0]);
+  return h('button', { class: 'in', 'data-a': other, on: () => showApp(other) }, D.apps[other][0]);
 }
 
 /** One that is waited for, with its limit: it is waited for where it arrives at most so many hours before. */

@@ -76,7 +76,8 @@ function drawCard(i) {
     links('complete', done, 100), goesByEarlier(i),
     h('h3', {}, 'Waits for it'), wholeTree(i, after, 'nothing in the current plan'),
     links('planned or complete', next, 100),
-    h('p', { class: 'foot' }, h('button', { class: 'in', on: () => showApp(app(i)) }, 'All of ' + name(i))));
+    h('p', { class: 'foot' }, h('button', { class: 'in', 'data-a': app(i), on: () => showApp(app(i)) },
+      'All of ' + name(i))));
 }
 
 const SIGNS = [['E', 'in error'], ['S', 'started'], ['R', 'ready: arrived, nothing in its way'],

@@ -20,7 +20,7 @@ function actsOf(i) {
   const buttons = Object.keys(desk.acts).map(act => {
     const isSure = kept.sure === act, text = isSure ? 'Delete: sure?' : capital(act);
     return tool('act ' + act, text, () => press(i, act), { class: isSure ? 'sure' : '',
-      disabled: kept.busy || !allows(act, i) ? '' : undefined, 'data-act': act });
+      disabled: kept.busy || !allows(act, i) ? '' : undefined, 'data-act': act, 'data-i': i });
   });
   const text = kept.text || [];
   return h('div', { class: 'acts', role: 'group', 'aria-label': 'What may be done with it' },

@@ -1,8 +1,8 @@
 // What the desk tells: each change is drawn as it comes, and rows are fetched anew where others came or went.
 const MOST_LATELY = 100, MOST_JOBS = 3000, LONGEST_WAIT = 2000, HOUR = 3600000;
 /** How far the desk was heard, as of where the rows were fetched, and what is under way. */
-const live = { position: desk.position, shown: desk.position, isOld: false, isFetching: false, tries: 0, drawing: 0,
-  cost: 0, begun: Date.now(), source: null, lost: '' };
+const live = { position: desk.position, shown: desk.position, isOld: false, isFetching: false, resting: 0,
+  failed: 0, tries: 0, drawing: 0, cost: 0, begun: Date.now(), source: null, lost: '' };
 const changes = [];  // statuses behind the rows that were fetched: position, serial, status
 const lately = [], unsaid = [], ownKeys = new Set();
 let applied = 0;
@@ -68,20 +68,22 @@ function sayChanges() {
     : rows.map(i => rowName(i) + ' is ' + WORD[state(i)]).join('; '));
 }
 
-/** Fetches the rows anew, and once more where others came or went meanwhile. */
-async function fetchRows() {
+/** Has the rows fetched anew, as soon as they were not fetched just now. */
+function fetchRows() {
   live.isOld = true;
-  if (live.isFetching) return;
-  live.isFetching = true;
-  for (let failed = 0; live.isOld;) {
-    live.isOld = false;
-    const begun = performance.now(), found = await fetchedRows(live.position);
-    if (found) takeFetched(found);
-    else live.isOld = true;
-    failed = found ? 0 : failed + 1;
-    await pause(found ? Math.min(20, Math.max(.1, (performance.now() - begun) / 500)) : Math.min(10, 2 ** failed));
-  }
-  live.isFetching = false;
+  if (!live.isFetching && !live.resting) fetchNow();
+}
+
+async function fetchNow() {
+  Object.assign(live, { isOld: false, isFetching: true });
+  const begun = performance.now(), found = await fetchedRows(live.position);
+  if (found) takeFetched(found);
+  Object.assign(live, { isFetching: false, isOld: live.isOld || !found, failed: found ? 0 : live.failed + 1 });
+  const rest = found ? Math.min(20000, (performance.now() - begun) / 2) : Math.min(10000, 500 * 2 ** live.failed);
+  live.resting = setTimeout(() => {
+    live.resting = 0;
+    if (live.isOld) fetchNow();
+  }, rest);
 }
 
 /** The rows as they stood at a position or behind it, or null. */

@@ -2,10 +2,10 @@
 const ROOT_RANK = { E: 0, S: 1, R: 2, B: 3, F: 4 };
 const MOST_HELD = 5000, MOST_HEADS = 300;
 
-/** Gives a row of the current plan another status. */
+/** Gives a row of the current plan another status; of one that waits `settle` finds whether it is ready. */
 function setStatus(i, status) {
   if (typeof D.state === 'string') D.state = Array.from(D.state);
-  D.state[i] = status;
+  D.state[i] = status === 'W' ? 'R' : status;
 }
 
 /** Finds anew what stands how at a moment, from the statuses alone. */

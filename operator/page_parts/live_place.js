@@ -72,7 +72,7 @@ function innerPlaces() {
 const isSame = (one, other) => one.childNodes.length === other.childNodes.length &&
   [...one.childNodes].every((node, n) => node.isEqualNode(other.childNodes[n]));
 
-/** Draws a box anew and leaves it where nothing became other, so that what is selected in it stays selected. */
+/** Draws boxes anew and leaves those in which nothing became other, so that what is selected in them stays selected. */
 function redraw(boxes, draw, isNew) {
   const old = boxes.map(box => {
     const was = $(box), spare = was.cloneNode(false);
@@ -80,12 +80,17 @@ function redraw(boxes, draw, isNew) {
     was.after(spare);
     return [box, was, spare];
   });
-  draw();
-  for (const [box, was, spare] of old) {
-    if (isNew || !isSame(was, spare)) was.replaceChildren(...spare.childNodes);
-    was.className = spare.className;
-    spare.remove();
-    was.id = box.slice(1);
+  try {
+    draw();
+    for (const [, was, spare] of old) {
+      if (isNew || !isSame(was, spare)) was.replaceChildren(...spare.childNodes);
+      was.className = spare.className;
+    }
+  } finally {
+    for (const [box, was, spare] of old) {
+      spare.remove();
+      was.id = box.slice(1);
+    }
   }
 }
 
@@ -102,7 +107,7 @@ function drawAll(change, isNew) {
   redraw(['#daytools'], drawDay, isNew);
   redraw(['#monthtools', '#grid'], () => drawMonth(true), isNew);
   redraw(['#changed'], drawChanges, isNew);
-  redraw(['#card'], drawCardAnew, isNew);
+  redraw(['#card'], drawCardAnew);
   markCurrent('.go', view.pick);
   inner();
   focus();
