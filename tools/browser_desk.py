@@ -190,7 +190,8 @@ def place(browser, folder, ask):
             (before[0], after[0]))
         ask(after[1] >= 1 and after[2] > 9, "what is opened stays", after)
         found = room.js("[serial[view.pick], String(getSelection())]")
-        ask(found in ([chosen, selected], [chosen, ""][: 2 if "cp-add" in text else 0]), "what is selected stays", found)
+        may_go = text.startswith("cp-add")  # rows come: the card is drawn anew
+        ask(found[0] == chosen and (may_go or found[1] == selected), "what is selected stays", found)
         room.js(select)
     places = (".row", "#next .go", "#monthtools button", "#daytools button", "tbody button[data-a]")
     for minute, where in enumerate(places):
