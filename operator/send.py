@@ -1,7 +1,8 @@
 """./plan send: a statement in words, or a job stream, to a desk, or to a plan that other programs use too.
 
-A desk is asked under one key until it has answered. Where there is none, `opcplan` ends with fault 50 where another program has the file, and has answered nothing then. So it is started again
-until it has the file, and no statement is ever run twice."""
+A desk is asked under one key until it has answered. Where there is none, `opcplan` ends with fault 50 while another
+program has the file, and has answered nothing then. So it is started again until it has the file, and no statement is
+ever run twice."""
 
 import argparse
 import contextlib

@@ -54,14 +54,23 @@ class Room:
         return self.browser.js(text)
 
     def comes(self, holds, what, most=1.0):
-        """Asks that something holds within a second."""
+        """Asks that something holds within a second, or longer where others keep this machine's processors busy."""
+        most *= max(1, os.getloadavg()[0] / os.cpu_count())
         begun = time.monotonic()
-        while not self.js(f"!!({holds})"):
-            if time.monotonic() > begun + 20:
-                break
+        while not self.holds(holds) and time.monotonic() < begun + 20:
+            pass
         took = time.monotonic() - begun
-        self.ask(took <= most, f"{what}, within {most} s", f"{took:.2f} s")
+        self.ask(took <= most, f"{what}, within {most:.1f} s", f"{took:.2f} s")
         return took
+
+    def holds(self, text):
+        """Whether something holds; not where the page goes just now."""
+        try:
+            return self.js(f"!!({text})")
+        except RuntimeError as error:
+            if "navigated" in str(error) or "context" in str(error) or "null" in str(error):
+                return False
+            raise
 
     def post(self, text):
         """What another caller is answered."""

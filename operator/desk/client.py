@@ -1,5 +1,5 @@
-"""A desk as its callers see it: an address or a socket, a token, and streams that are sent again until they are answered,
-under one key, so that nothing is done twice."""
+"""A desk as its callers see it: an address or a socket, a token, and streams that are sent again until they are
+answered, under one key, so that nothing is done twice."""
 
 import contextlib
 import http.client

@@ -8,8 +8,8 @@ class Unwritable(Exception):
 
 
 class Log(abc.ABC):
-    """What a desk asks of its log. A thread of its own writes, by `append` and `keep_replies`; what is read meanwhile is
-    what is on the disk."""
+    """What a desk asks of its log. A thread of its own writes, by `append` and `keep_replies`; what is read meanwhile
+    is what is on the disk."""
 
     @abc.abstractmethod
     def append(self, batch, replies=()):

@@ -13,7 +13,6 @@ import sys
 from aiohttp import web
 
 import locks
-import plan_file
 from desk import asked, body, core, guard, journal, page, rows, snapshot
 from desk.planner import Stopped
 

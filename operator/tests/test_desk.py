@@ -129,7 +129,8 @@ class Looked(desks.Case):
             status, heads, told = desk.asked("GET", f"/rows?list={name}")
             rows = [json.loads(line) for line in told.splitlines()]
             lines = plans.plain.run(f"list {name}\n".encode(), planner)[:-1]
-            self.assertEqual((status, [self.line(row) for row in rows]), (200, [" ".join(one.split()) for one in lines]))
+            self.assertEqual(status, 200)
+            self.assertEqual([self.line(row) for row in rows], [" ".join(one.split()) for one in lines])
         self.assertEqual(heads["X-Position"], "2")
         self.assertEqual(desk.asked("GET", "/rows?list=links", If_None_Match=heads["ETag"])[0], 304)
         found = desk.asked("GET", "/rows?list=cp&app=APP00&status=WS&to=2024-01-01")[2]
@@ -158,7 +159,7 @@ class Looked(desks.Case):
             begun = time.monotonic()
             desk.posted(COMPLETE)
             self.assertEqual(self.event(lines)["data"]["statement"], f"{COMPLETE} --job 500000003")
-            self.assertLess(time.monotonic() - begun, desks.PATIENCE / 60)
+            self.assertLess(time.monotonic() - begun, desks.QUICK)
             self.assertEqual(self.event(lines)["data"]["position"], 3)
         told = desk.asked("GET", "/journal?from=2")[2].splitlines()
         self.assertEqual([json.loads(line)["seq"] for line in told], [2, 3])
@@ -216,7 +217,7 @@ class Slow(desks.Case):
             time.sleep(1)
             begun = time.monotonic()
             self.assertEqual(desk.posted(START)[2], "ok serial 1 status S\n")
-            self.assertLess(time.monotonic() - begun, desks.PATIENCE / 12)
+            self.assertLess(time.monotonic() - begun, 5 * desks.QUICK)
             self.end(desk)
         self.assert_plan(numbered(START))
 
@@ -259,7 +260,8 @@ class Ends(desks.Case):
         self.assertEqual(desk.asked("GET", "/rows?list=cp")[0], 503)
         self.drop_index()
         desk.comes(lambda found: found["status"] == "ok")
-        self.assertEqual(desk.posted(second, Idempotency_Key="s")[2], answers(numbered(first), numbered(second, first=500_000_002)))
+        wanted = answers(numbered(first), numbered(second, first=500_000_002))
+        self.assertEqual(desk.posted(second, Idempotency_Key="s")[2], wanted)
         self.assertEqual(desk.posted(START)[2], "ok serial 1 status S\n")
         self.end(desk)
         self.assert_plan(numbered(first, second, START))
@@ -394,6 +396,27 @@ class Guards(desks.Case):
         self.assertEqual(refused.exception.status, 403)
         users.write_text(f"{own} operate\n")
         self.assertEqual(caller.request("POST", "/statements", START)[1], b"ok serial 1 status S\n")
+        self.end(desk)
+
+    @unittest.skipIf(os.getuid(), "only root can ask as another user")
+    def test_other_users_of_this_machine(self):
+        users = self.room / "users"
+        users.write_text("daemon operate\n")
+        desk = self.desk("--users", users)
+        os.chmod(self.room, 0o755)
+        ask = (
+            "import http.client, sys\n"
+            "one = http.client.HTTPConnection('127.0.0.1', int(sys.argv[1]))\n"
+            "one.request('POST', '/statements', sys.argv[2], {'X-Opcplan': 'desk'})\n"
+            "print(one.getresponse().status)\n")
+        told = []
+        for user, text in (("nobody", "list cp"), ("daemon", "dp-replan"), ("daemon", START)):
+            ran = subprocess.run(["/usr/bin/python3", "-I", "-c", ask, str(desk.port), text], user=user, cwd="/",
+                                 capture_output=True, text=True, check=False)
+            told.append(ran.stdout)
+        self.assertEqual(told, ["403\n", "403\n", "200\n"])
+        found = json.loads(desk.asked("GET", "/journal")[2])
+        self.assertEqual((found["who"], found["reply"]), ("daemon", "ok serial 1 status S"))
         self.end(desk)
 
     def test_what_a_proxy_says_of_its_user(self):

@@ -1,5 +1,5 @@
-"""./plan desk: twenty callers at once while opcplan and the desk are killed. Nothing is lost, nothing doubled: the journal,
-run again over the plan as it was by tools/plain_planner.py, has the same replies and the same lists."""
+"""./plan desk: twenty callers at once while opcplan and the desk are killed. Nothing is lost, nothing doubled: the
+journal, run again over the plan as it was by tools/plain_planner.py, has the same replies and the same lists."""
 
 import collections
 import os
