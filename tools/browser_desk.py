@@ -184,7 +184,8 @@ def place(browser, folder, ask):
     selected = room.js("String(getSelection())")
     room.js("document.querySelector('#month').scrollIntoView({behavior: 'instant'}); scrollBy(0, 40)")
     seen = """(() => { const cell = [...document.querySelectorAll('tbody button[data-a]')]
-        .find(x => x.getBoundingClientRect().top > 120); return [cell.textContent, cell.getBoundingClientRect().top]; })()"""
+        .find(x => x.getBoundingClientRect().top > 120);
+        return [cell.textContent, cell.getBoundingClientRect().top]; })()"""
     before = room.js(f"[{seen}, document.querySelectorAll('#due details[open]').length, "
                      "document.querySelectorAll('#next li').length]")
     ready = room.row("state(i) === 'R'")
@@ -324,7 +325,8 @@ def roles(browser, folder, ask):
     browser.size(1440, 900)
     for role, wanted in (("read", [0, 0]), ("operate", [5, 0]), ("plan", [5, 1])):
         browser.go(url)
-        ask(room.js("[document.title, document.activeElement.id]") == ["Sign in", "token"], f"{role}: a token is asked for")
+        asked = room.js("[document.title, document.activeElement.id]")
+        ask(asked == ["Sign in", "token"], f"{role}: a token is asked for", asked)
         ask("centre" not in room.js("document.documentElement.outerHTML"), "nothing of the plan is told before")
         browser.type("wrong")
         browser.key("Enter")
@@ -385,12 +387,13 @@ def looks(browser, folder, ask, pictures=None):
             look = f"{width} {'dark' if dark else 'light'}"
             room.open(width, height, dark)
             steps = {
-                "buttons": "choose([...Array(rowCount).keys()].find(i => 'RSE'.includes(state(i)) && i !== view.pick)); "
+                "buttons": "choose([...Array(rowCount).keys()].find(i => 'RSE'.includes(state(i)))); "
                            "answers.set(serial[view.pick], { text: ['It is started (ok serial 242 status S).'], "
                            "look: 'is-done' }); drawCardAnew()",
-                "sure": "answers.set(serial[view.pick], { sure: 'delete', look: 'is-late', text: ['Press once more'] }); "
-                        "drawCardAnew()",
-                "trial": "choose(-1); document.querySelector('#look').click(); new Promise(done => setTimeout(done, 700))",
+                "sure": "answers.set(serial[view.pick], { sure: 'delete', look: 'is-late', "
+                        "text: ['Press once more'] }); drawCardAnew()",
+                "trial": "choose(-1); document.querySelector('#look').click(); "
+                         "new Promise(done => setTimeout(done, 700))",
                 "planning": "document.querySelectorAll('#trial details').forEach(one => { one.open = true; }); "
                             "document.querySelector('#planning').scrollIntoView({behavior: 'instant'})",
                 "lost": "tellLink('the desk doesn’t answer; what is shown is what it told last'); scrollTo(0, 0)",

@@ -214,8 +214,8 @@ class LivePage(desks.Case):
         asked = [f"cp-start {keys[1]}", f"cp-start {keys[0]}", f"cp-start {keys[0]}", f"cp-fail {keys[0]}",
                  f"cp-reset {keys[0]}", f"cp-start {keys[0]}", f"cp-complete {keys[0]}", f"cp-start {keys[1]}",
                  f"cp-fail {keys[1]}", f"cp-complete {keys[1]}", "cp-add --app APP02 --ia 2024-01-01/08.01",
-                 f"cp-delete {keys[2]}", f"cp-delete {keys[5]}", "ltp-add --app APP00 --ia 2024-01-05/01.00", "ltp-delete --app APP00 --ia 2024-01-05/08.00",
-                 "dp-extend --to 2024-01-04/00.00", "dp-replan",
+                 f"cp-delete {keys[2]}", f"cp-delete {keys[5]}", "ltp-add --app APP00 --ia 2024-01-05/01.00",
+                 "ltp-delete --app APP00 --ia 2024-01-05/08.00", "dp-extend --to 2024-01-04/00.00", "dp-replan",
                  "ltp-modify-all", "ltp-modify-one --app APP02", "ltp-extend --to 2024-02-03",
                  "undefine predecessors --name APP07", "define applications\nNEW,A,\n/*", "list cp"]
         before, kinds = tables_of(self.snapshot(desk)), set()
