@@ -21,7 +21,7 @@ OWN_HEADER, OWN_VALUE = "X-Opcplan", "desk"
 LOGIN_HEADER = "X-Forwarded-User"
 COOKIE, SESSION_SECONDS = "opcplan-desk", 12 * 3600
 MOST_SESSIONS = 10_000
-EVERYONE = "*"
+EVERYONE, NOBODY = "*", "nobody"
 
 
 class Wrong(Exception):
@@ -160,7 +160,7 @@ class Guard:
             return who, self.role_of(who, usual), True
         found = self.of_token(request) or self.of_session(request)
         if found is None and is_open(request):
-            return "nobody", 0, True
+            return NOBODY, 0, True
         if found is None:
             raise web.HTTPUnauthorized(text="a token is wanted: `Authorization: Bearer TOKEN`\n",
                                        headers={"WWW-Authenticate": "Bearer"})

@@ -177,11 +177,14 @@ def options(text):
 @contextlib.contextmanager
 def opened(path):
     """A Journal to read: a private copy, which goes when the context ends. Raises Unreadable."""
-    if not os.path.isfile(path) or not os.path.getsize(path):
+    if os.path.exists(path) and not os.path.isfile(path):
+        raise plan_file.Unreadable(f"{path}: it is no file")
+    if not os.path.exists(path) or not os.path.getsize(path):
         raise plan_file.Unreadable(f"{path}: there is no such journal")
     with scratch.folder("journal-") as folder:
         copy = os.path.join(folder, "journal")
         try:
+            plan_file.check_room(os.path.realpath(path), folder)
             plan_file.copied(os.path.realpath(path), copy)
         except (OSError, plan_file.Unreadable) as error:
             raise plan_file.Unreadable(f"{path}: it can't be read: {error}") from None

@@ -14,7 +14,7 @@ from aiohttp import web
 
 import locks
 import stops
-from desk import asked, body, core, guard, journal, rows, snapshot
+from desk import asked, body, core, guard, journal, page, rows, snapshot
 from desk.planner import Stopped
 
 MOST_BYTES = 32 << 20
@@ -38,6 +38,7 @@ class Server:
             web.get("/events", self.desk.events.handle), web.get("/health", self.health),
             web.get("/metrics", self.metrics), web.get("/snapshot", self.snapshot), web.get("/journal", self.journal),
             web.post("/session", self.guard.begin_session), web.delete("/session", self.guard.end_session),
+            *page.Page(self.desk, self.given.plan, self.guard.tokens is not None).routes(),
         ])
         return app
 

@@ -20,10 +20,7 @@ async def handle(desk, path, request):
     with scratch.folder("desk-") as folder:
         copy = os.path.join(folder, "plan.db")
         try:
-            async with desk.hold:
-                await desk.planner.idle_or_stopped()
-                position, tag = desk.position, desk.tag()
-                await asyncio.to_thread(plan_file.copied, os.path.realpath(path), copy)
+            position, tag = await copied(desk, path, copy)
             await asyncio.to_thread(in_one_file, copy)
         except (OSError, sqlite3.Error, plan_file.Unreadable) as error:
             raise web.HTTPServiceUnavailable(text=f"there is no copy: {error}\n") from None
@@ -37,6 +34,15 @@ async def handle(desk, path, request):
                 await response.write(data)
         await response.write_eof()
         return response
+
+
+async def copied(desk, path, copy):
+    """Copies the plan and its log while no statement is in flight; the position and the tag of what was copied."""
+    async with desk.hold:
+        await desk.planner.idle_or_stopped()
+        position, tag = desk.position, desk.tag()
+        await asyncio.to_thread(plan_file.copied, os.path.realpath(path), copy)
+    return position, tag
 
 
 def in_one_file(copy):

@@ -32,7 +32,8 @@ CENTRE = "\n".join([
                                    for place, app in enumerate(APPS)), "/*",
     "define predecessors --job 4", *(f"{later},{app}" for app, later in zip(APPS[::2], APPS[1::2])), "/*",
     "ltp-create --from 2024-01-01 --to 2024-01-31 --job 5", "dp-extend --to 2024-01-03/00.00 --job 6", ""]).encode()
-PATIENCE = paces.limit(60)
+# in seconds: what one answer takes at most, and how long a desk that begins or ends is waited for
+QUICK, PATIENCE = paces.limit(1), paces.limit(150)
 # a place in memory, so that a busy disk doesn't count
 IN_MEMORY = "/dev/shm" if os.access("/dev/shm", os.W_OK) else None
 LISTENS = re.compile(r"desk: listening on http://127\.0\.0\.1:([0-9]+)")
@@ -111,7 +112,7 @@ class Desk:
         """Its exit status."""
         with contextlib.suppress(ProcessLookupError):
             self.process.send_signal(how)
-        status = self.process.wait(timeout=120)
+        status = self.process.wait(timeout=PATIENCE)
         self.reader.join(10)
         self.process.stderr.close()
         return status

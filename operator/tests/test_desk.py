@@ -159,7 +159,7 @@ class Looked(desks.Case):
             begun = time.monotonic()
             desk.posted(COMPLETE)
             self.assertEqual(self.event(lines)["data"]["statement"], f"{COMPLETE} --job 500000003")
-            self.assertLess(time.monotonic() - begun, desks.PATIENCE / 60)
+            self.assertLess(time.monotonic() - begun, desks.QUICK)
             self.assertEqual(self.event(lines)["data"]["position"], 3)
         told = desk.asked("GET", "/journal?from=2")[2].splitlines()
         self.assertEqual([json.loads(line)["seq"] for line in told], [2, 3])
@@ -217,7 +217,7 @@ class Slow(desks.Case):
             time.sleep(1)
             begun = time.monotonic()
             self.assertEqual(desk.posted(START)[2], "ok serial 1 status S\n")
-            self.assertLess(time.monotonic() - begun, desks.PATIENCE / 12)
+            self.assertLess(time.monotonic() - begun, 5 * desks.QUICK)
             self.end(desk)
         self.assert_plan(numbered(START))
 

@@ -207,10 +207,14 @@ class Ends(unittest.TestCase):
         with contextlib.closing(socket.socket(socket.AF_UNIX)) as held:
             held.bind(str(place))
             files = [fifo, folder, place, "/dev/zero", "/dev/full", "/dev/null"]
-            for turn, name in enumerate(sorted(PRINTERS.keys() - {"explain", "lint", "--help"})):
+            for turn, name in enumerate(sorted(PRINTERS.keys() - {"explain", "journal", "lint", "--help"})):
                 for file in (files[turn % 6], files[(turn + 3) % 6]):
                     with self.subTest(name, plan=file):
                         self.check_told(self.ran(self.words(name, PRINTERS[name], PLAN=file)), f"{file}: it is no file")
+            for file in files:
+                with self.subTest("journal", journal=file):
+                    self.check_told(self.ran(self.words("journal", PRINTERS["journal"], JOURNAL=file)),
+                                    f"{file}: it is no file")
             for name, given in OF_STREAMS.items():
                 for file in (folder, place):
                     with self.subTest(name, stream=file):
