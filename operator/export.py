@@ -7,6 +7,8 @@ import json
 import os
 import sys
 
+import actual
+import export_actual
 import moments
 import plan_file
 import terminal
@@ -36,6 +38,8 @@ def add_words(parser):
         "history, or of the sets that are named. Moments are those of the plan, local and without a time zone."
     )
     words.add_plan(parser)
+    actual.add_journal(parser)
+    words.add_now(parser)
     form = parser.add_mutually_exclusive_group(required=True)
     form.add_argument("--ics", dest="form", action="store_const", const=calendar_text, help="iCalendar, an event each")
     form.add_argument("--csv", dest="form", action="store_const", const=csv_text,
@@ -52,10 +56,14 @@ def run(given):
     if given.raw and given.form is not csv_text:
         words.tell("--raw goes with --csv alone")
         return 2
+    if given.now is not None and given.journal is None:
+        words.tell("--now says as of when ends are expected, so it goes with --journal")
+        return 2
     form = raw_csv_text if given.raw else given.form
     with plan_file.opened(given.plan) as plan:
         found = occurrences(plan.db, given.sets or USUAL, given.app, given.first, given.last)
-        text = form(plan, found) if found else None
+        ran = export_actual.of_journal(given.journal, plan, given.now) if given.journal else None
+        text = form(plan, found, ran) if found else None
     if text is None:
         words.tell(f"{given.plan}: it has no such occurrence")
         return 1
@@ -106,19 +114,24 @@ def spaced(moment):
     return iso(moment, " ")
 
 
-def csv_text(_, found):
-    return table_text([cell(value) for value in one.values(spaced)] for one in found)
+def csv_text(_, found, ran=None):
+    return table_text(ran, ([cell(value) for value in row] for row in cells_of(found, ran)))
 
 
-def raw_csv_text(_, found):
-    return table_text(one.values(spaced) for one in found)
+def raw_csv_text(_, found, ran=None):
+    return table_text(ran, cells_of(found, ran))
 
 
-def table_text(rows):
+def cells_of(found, ran):
+    """The values of the rows of a table."""
+    return ([*one.values(spaced), *(ran.values(one, " ") if ran else ())] for one in found)
+
+
+def table_text(ran, rows):
     """The text of a table, with a line of names."""
     text = io.StringIO()
     table = csv.writer(text, lineterminator="\n")
-    table.writerow(COLUMNS)
+    table.writerow([*COLUMNS, *(export_actual.COLUMNS if ran else ())])
     for values in rows:
         table.writerow([int(value) if isinstance(value, bool) else value for value in values])
     return text.getvalue()
@@ -132,7 +145,7 @@ def cell(value):
 # For programs: an object, an occurrence on each line of its list.
 
 
-def json_text(plan, found):
+def json_text(plan, found, ran=None):
     waits_for = {}
     for row in plan.db.execute("SELECT successor, predecessor FROM dependency ORDER BY successor, predecessor"):
         waits_for.setdefault(row["successor"], []).append(row["predecessor"])
@@ -142,11 +155,13 @@ def json_text(plan, found):
         "first_day": moments.day_text(meta["first_day"]),
         "last_day": moments.day_text(meta["last_day"]),
         "plan_end": iso(meta["plan_end"]),
+        **({"durations": ran.durations} if ran else {}),
     }
     lines = []
     for one in found:
         values = dict(zip(COLUMNS, one.values(iso)))
-        lines.append(json.dumps({**values, "waits_for": waits_for.get(one.serial, [])}))
+        more = dict(zip(export_actual.COLUMNS, ran.values(one, "T"))) if ran else {}
+        lines.append(json.dumps({**values, "waits_for": waits_for.get(one.serial, []), **more}))
     begin = json.dumps(head, indent=1).removesuffix("\n}")
     return begin + ',\n "occurrences": [\n' + ",\n".join("  " + line for line in lines) + "\n ]\n}\n"
 
@@ -154,11 +169,11 @@ def json_text(plan, found):
 # iCalendar, RFC 5545: an event from input arrival to deadline, in floating local time.
 
 
-def calendar_text(plan, found):
+def calendar_text(plan, found, ran=None):
     stamp = last_written(plan.path).strftime("%Y%m%dT%H%M%SZ")
     lines = ["BEGIN:VCALENDAR", "VERSION:2.0", "PRODID:-//opcplan//plan export//EN", "CALSCALE:GREGORIAN"]
     for one in found:
-        lines += event_lines(one, stamp)
+        lines += event_lines(one, stamp, ran)
     return "".join(folded(line) + "\r\n" for line in [*lines, "END:VCALENDAR"])
 
 
@@ -168,7 +183,7 @@ def last_written(path):
     return datetime.datetime.fromtimestamp(max(times, default=0), datetime.timezone.utc)
 
 
-def event_lines(one, stamp):
+def event_lines(one, stamp, ran):
     """The lines of an event. An end has to come after the start, so a deadline that doesn't is told in words alone."""
     start, end = (iso(moment).replace("-", "").replace(":", "") + "00" for moment in (one.arrival, one.deadline))
     is_gone = one.status == "D" or one.held == "deletions"
@@ -179,7 +194,7 @@ def event_lines(one, stamp):
         f"DTSTART:{start}",
         *([f"DTEND:{end}"] if one.deadline > one.arrival else []),
         f"SUMMARY:{escaped(one.app)}",
-        f"DESCRIPTION:{escaped(description(one))}",
+        f"DESCRIPTION:{escaped(description(one) + (ran.text(one) if ran else ''))}",
         f"CATEGORIES:{escaped(PLACES[one.held])}",
         f"STATUS:{'CANCELLED' if is_gone else 'CONFIRMED'}",
         "TRANSP:TRANSPARENT",

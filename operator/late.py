@@ -1,5 +1,7 @@
 """./plan late: what is past its deadline at a moment, and what it waits for."""
 
+import actual
+import late_ends
 import moments
 import page_model
 import plan_file
@@ -14,10 +16,13 @@ def add_words(parser):
     parser.description = (
         "Lists the occurrences of the current plan that are neither complete nor deleted and whose deadline is before "
         "the moment, the earliest deadline first; of one that waits, the worst of those at which its waiting begins. "
-        "The exit status is 0 where something is late, and 1 where nothing is."
+        "With the journal of a desk also what is going to end late by what its runs took till now, what ended late in "
+        f"the {late_ends.BACK} hours before, and the chain that decides when all of the current plan is done. "
+        "The exit status is 0 where something is late, ended late or is going to, and 1 where nothing is."
     )
     words.add_plan(parser)
     words.add_now(parser)
+    actual.add_journal(parser)
 
 
 def run(given):
@@ -26,12 +31,14 @@ def run(given):
         rows, pairs = unfinished(plan)
         notes = notes_on(plan, now)
         model = page_model.of_rows(rows, pairs, now)
-    late = in_order(rows, model)
-    moment = moments.moment_text(now)
-    print(terminal.text(late_lines(rows, model, late, moment, now) if late else [f"Nothing is late at {moment}."]))
+        known = actual.of_journal(given.journal, plan)
+        ends = late_ends.of_plan(plan, rows, pairs, known, now) if known else None
+    late, moment = in_order(rows, model), moments.moment_text(now)
+    lines = late_lines(rows, model, late, moment, now, ends) if late else [f"Nothing is late at {moment}."]
+    print(terminal.text([*lines, *(ends.lines if ends else [])]))
     for note in notes:
         words.tell(note)
-    return 0 if late else 1
+    return 0 if late or ends and ends.is_late else 1
 
 
 def in_order(rows, model):
@@ -62,7 +69,7 @@ def notes_on(plan, now):
     return [f"this is as of {moments.moment_text(now)}, but the plan goes from {first} to {last}; --now names a moment"]
 
 
-def late_lines(rows, model, late, moment, now):
+def late_lines(rows, model, late, moment, now, ends=None):
     """A line for each late row, in columns, and below it what else is to be said."""
     keys = [rows[place].key for place in late]
     states = [waits.STATES[model.states[place]] for place in late]
@@ -73,7 +80,8 @@ def late_lines(rows, model, late, moment, now):
         row = rows[place]
         due = moments.moment_text(row.deadline)
         lines.append(f"{key:{wide}}  {state:{far}}  due {due}  late by {length:{long}}  serial {row.serial}")
-        lines += [f"    {text}" for text in (by_hand(row), root_text(rows, model, place)) if text]
+        more = [by_hand(row), root_text(rows, model, place), ends.text_of(row) if ends else ""]
+        lines += [f"    {text}" for text in more if text]
     return lines
 
 

@@ -1,4 +1,4 @@
-"""Locks on a plan's file: the one that a run of opcplan holds, and the turn of those who send to it.
+"""Locks on a plan's file: the one that a run of opcplan holds, the turn of those who send to it, and that of a desk.
 
 They belong to the open file, so they last until it is closed, whatever else this process opens, and go with it."""
 
@@ -10,8 +10,9 @@ import time
 
 # SQLite's pending, reserved and shared bytes: a run holds them all, a reader one
 OF_A_RUN = (1 << 30, 512)
-# a byte behind them, which SQLite never locks
+# bytes behind them, which SQLite never locks
 OF_A_SENDER = ((1 << 30) + 512, 1)
+OF_A_DESK = ((1 << 30) + 513, 1)
 REST = 0.05
 
 

@@ -5,8 +5,10 @@ import datetime
 import gc
 import sys
 
+import actual
 import moments
 import output
+import page_actual
 import page_data
 import page_html
 import page_model
@@ -25,6 +27,7 @@ def add_words(parser):
     parser.add_argument("--from", dest="first", type=words.day, metavar="D",
                         help="the first day that is shown (else this month's; the current plan is shown whole)")
     parser.add_argument("--to", dest="last", type=words.day, metavar="D", help="the last one (else next month's)")
+    actual.add_journal(parser)
     output.add_words(parser, "the page")
 
 
@@ -33,12 +36,12 @@ def run(given):
     if None not in (given.first, given.last) and given.last < given.first:
         words.tell("--to is before --from")
         return 2
-    own = [given.plan, given.since or given.plan]
+    own = [given.plan, given.since or given.plan, given.journal or given.plan]
     if given.out and (why := output.objection(given.out, given.force, *own)):
         words.tell(why)
         return 2
     gc.disable()  # it looks through 200,000 rows again and again, and finds nothing to throw away
-    page = page_html.page_of(data_of(given.plan, given.now, given.first, given.last, given.since))
+    page = page_html.page_of(data_of(given.plan, given.now, given.first, given.last, given.since, given.journal))
     if given.out:
         output.write(given.out, page.encode("utf-8", "replace"), given.force, *own)
     else:
@@ -46,7 +49,7 @@ def run(given):
     return 0
 
 
-def data_of(path, now=None, first=None, last=None, since=None):
+def data_of(path, now=None, first=None, last=None, since=None, journal=None):
     """What the page shows of a plan's file."""
     clock = moments.now()
     with contextlib.ExitStack() as files:
@@ -58,6 +61,8 @@ def data_of(path, now=None, first=None, last=None, since=None):
         model = page_model.of_rows(rows, pairs, now)
         defined, lists = page_queries.applications(plan)
         data = page_data.of_model(plan, rows, model, defined, lists, now, first, last)
+        apps = {name: place for place, (name, *_) in enumerate(data["apps"])}
+        data["actual"] = page_actual.of_rows(plan, rows, pairs, apps, actual.of_journal(journal, plan), now)
         if old:
             data["since"] = page_data.since(plan, defined, old, page_queries.applications(old)[0])
         return {**data, "made": clock, "sample": now != clock, "note": note}

@@ -12,8 +12,8 @@ import moments
 
 PARTS = Path(__file__).resolve().parent / "page_parts"
 STYLES = ["colours.css", "frame.css", "day.css", "graph.css", "month.css", "card.css", "small.css", "print.css"]
-SCRIPTS = ["model.js", "words.js", "now.js", "groups.js", "day.js", "arrows.js", "layout.js", "graph.js", "month.js",
-           "card.js", "apps.js", "changes.js", "keys.js"]
+SCRIPTS = ["model.js", "words.js", "now.js", "actual.js", "groups.js", "day.js", "arrows.js", "layout.js",
+           "graph.js", "month.js", "card.js", "apps.js", "changes.js", "keys.js"]
 MOST_WITHOUT_SCRIPT = 500
 STATES = {"E": "in error", "S": "started", "R": "ready", "B": "blocked", "F": "to come"}
 
@@ -30,17 +30,35 @@ def digest(text):
 
 def page_of(data):
     """The page of what page.data_of gives."""
-    style, script = joined(STYLES), joined(SCRIPTS)
-    filled = {
+    return framed(data, data_text(data))
+
+
+def data_text(data):
+    """A value as a page has it within."""
+    return json.dumps(data, separators=(",", ":")).replace("<", "\\u003c")
+
+
+def policy_of(styles=STYLES, scripts=SCRIPTS, more=""):
+    """What a page of these parts may: its own style and script, and more where that is named."""
+    return (f"default-src 'none'; img-src data:; {more}style-src 'sha256-{digest(joined(styles))}'; "
+            f"script-src 'sha256-{digest(joined(scripts))}'")
+
+
+def framed(data, text, styles=STYLES, scripts=SCRIPTS, more=""):
+    """The page of some parts, with a text in the place of its data; `more` is what it may besides."""
+    return filled("page.html", {
         "title": html.escape(title(data)),
-        "policy": f"default-src 'none'; img-src data:; style-src 'sha256-{digest(style)}'; "
-                  f"script-src 'sha256-{digest(script)}'",
-        "style": style,
+        "policy": policy_of(styles, scripts, more),
+        "style": joined(styles),
         "plain": without_script(data),
-        "data": json.dumps(data, separators=(",", ":")).replace("<", "\\u003c"),
-        "script": script,
-    }
-    return re.sub(r"\{\{(\w+)\}\}", lambda found: filled[found[1]], joined(["page.html"]))
+        "data": text,
+        "script": joined(scripts),
+    })
+
+
+def filled(name, texts):
+    """A part with texts in the places that it names."""
+    return re.sub(r"\{\{(\w+)\}\}", lambda found: texts[found[1]], joined([name]))
 
 
 def title(data):

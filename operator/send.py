@@ -1,14 +1,18 @@
-"""./plan send: a statement in words, or a job stream, to a plan that other programs use too.
+"""./plan send: a statement in words, or a job stream, to a desk, or to a plan that other programs use too.
 
-`opcplan` ends with fault 50 where another program has the file, and has answered nothing then. So it is started again
-until it has the file, and no statement is ever run twice."""
+A desk is asked under one key until it has answered. Where there is none, `opcplan` ends with fault 50 while another
+program has the file, and has answered nothing then. So it is started again until it has the file, and no statement is
+ever run twice."""
 
 import argparse
 import contextlib
+import dataclasses
 import io
 import math
 import os
 import random
+import re
+import secrets
 import subprocess
 import sys
 import time
@@ -25,8 +29,9 @@ import stream
 import terminal
 import trial
 import words
+from desk import client, entry
 
-SUMMARY = "sends a statement in words, or a job stream, and waits while the plan is in use"
+SUMMARY = "sends a statement in words, or a job stream, to a desk or a plan, and waits for it"
 FAILED = 8
 HELD = b"another program has FILE open"
 # how often a number that another stream took meanwhile is replaced
@@ -40,17 +45,25 @@ class Refused(Exception):
 
 def add_words(parser):
     parser.description = (
-        "Runs the job stream on standard input over PLAN.db, or one statement in words: `start APP D/HH.MM`, and so "
+        "Sends the job stream on standard input to a desk, or runs it over PLAN.db where no desk has that; or one "
+        "statement in words: `start APP D/HH.MM`, and so "
         f"{', '.join(SHORT[1:])}, each as the statement cp-..; or any statement but define as docs/STATEMENTS.md has "
-        "it. A statement in words without a job number gets the next one, which is told. While another program has "
-        "PLAN.db, it is tried again; no statement is run twice. The replies are printed as opcplan prints them, and "
+        "it. A statement in words without a job number gets the next one, which is told; a desk gives numbers to all "
+        "that lack one. While the desk is away, or another program has PLAN.db, it is tried again; no statement is "
+        "run twice. The replies are printed as opcplan prints them, and "
         "what a refusal means on standard error. The exit status is opcplan's: 0, 4 where some were refused, 8 after "
-        "a fault, and where nothing could be sent; 2 where the words are wrong. " + stream.BOUND
+        "a fault, and where nothing could be sent; 2 where the words are wrong. " + stream.BOUND + " A token for the "
+        "desk stands in the environment as OPCPLAN_TOKEN, or in the file that OPCPLAN_TOKEN_FILE names."
     )
-    parser.add_argument("--db", required=True, type=words.file, metavar="PLAN.db",
-                        help="the file that opcplan --db keeps")
+    where = parser.add_mutually_exclusive_group()
+    where.add_argument("--desk", default=client.usual(), metavar="DESK",
+                       help="http://HOST:PORT, or the path of a desk's socket (else what OPCPLAN_DESK has)")
+    where.add_argument("--db", type=words.file, metavar="PLAN.db", help="the file that opcplan --db keeps")
     parser.add_argument("--wait", type=seconds, default=0, metavar="SECONDS",
-                        help="how long it is tried again while another program has PLAN.db (else once)")
+                        help="how long it is tried again while the desk is away, or another program has PLAN.db (else "
+                        "once)")
+    parser.add_argument("--key", type=key, metavar="KEY",
+                        help="the key under which a desk does the stream once (else a new one)")
     parser.add_argument("--program", metavar="FILE", type=words.file,
                         help="the planner that runs it (else the one that is built here)")
     parser.add_argument("words", nargs=argparse.REMAINDER, metavar="STATEMENT",
@@ -68,19 +81,34 @@ def seconds(text):
     return found
 
 
+def key(text):
+    """A key for a desk, for `type=`."""
+    if not re.fullmatch(r"[!-\"$-~]{1,200}", text):
+        raise argparse.ArgumentTypeError(f"{text!r} is no key: 1 to 200 characters, and neither blanks nor #")
+    return text
+
+
 def run(given):
     until = time.monotonic() + given.wait
+    if given.db is None and given.desk is None:
+        words.tell("one of --desk and --db is wanted; ./plan send --help says more")
+        return 2
     try:
         line = line_of(given.words) if given.words else None
-    except Refused as why:
+        desk = client.Client(given.desk, client.token()) if given.db is None else None
+    except (Refused, client.Wrong) as why:
         words.tell(f"{why}; nothing was sent")
         return 2
+    except OSError as error:
+        words.tell(f"{error.filename}: the token can't be read: {error.strerror}; nothing was sent")
+        return FAILED
+    if desk is not None:
+        return run_by_desk(given, desk, line, until)
     try:
         check_file(given.db)
         program = os.path.abspath(given.program or trial.built_program())
         if line is None:
-            with stream.opened("-") as source:
-                text = b"".join(source.pieces())
+            text = text_sent()
             ran = sent(program, given.db, text, until)
         else:
             text, ran = sent_in_turn(program, given.db, line, until)
@@ -99,6 +127,44 @@ def check_file(path):
         raise plan_file.Unreadable(f"{path}: there is no such file; `./opcplan --db` makes a new plan")
     if not os.path.getsize(path):
         raise plan_file.Unreadable(f"{path}: it is empty, and no plan; `./opcplan --db` makes a new one in it")
+
+
+def text_sent():
+    """The stream on standard input. Raises Unreadable."""
+    with stream.opened("-") as source:
+        return b"".join(source.pieces())
+
+
+# By a desk.
+
+
+def run_by_desk(given, desk, line, until):
+    """Has a desk answer, and prints that; the exit status."""
+    used = given.key or secrets.token_hex(16)
+    try:
+        text = text_sent() if line is None else f"{line[0]}\n".encode("ascii")
+        answer = desk.statements(text, used, until)
+    except plan_file.Unreadable as why:
+        words.tell(str(why))
+        return FAILED
+    except client.Refused as why:
+        words.tell(f"{desk.name}: {why}")
+        return FAILED
+    except client.Away as why:
+        told = f"it may be done all the same: send it again with `--key {used}`, and nothing is done twice"
+        words.tell(f"{why}; {told if why.may_be_done else 'nothing was sent'}")
+        return FAILED
+    return shown(text, subprocess.CompletedProcess([], 4 if has_refusals(answer) else 0, answer, b""), used)
+
+
+def items_of(source):
+    """The items of a stream; a statement that lacks its job number has one of the desk's."""
+    for place, item in enumerate(stream.items(source)):
+        if item.statement is None:
+            whole = item.text + b" --job %d" % (entry.FIRST_JOB + place)
+            statement, _ = stream.read_line(whole, len(whole))
+            item = dataclasses.replace(item, statement=statement or item.statement)
+        yield item
 
 
 # A statement in words.
@@ -184,30 +250,37 @@ def is_held(ran):
     return ran.returncode == FAILED and ran.stdout == b"fault 50\n" and HELD in ran.stderr
 
 
-def shown(text, ran):
-    """Prints what was answered, and what refusals mean; the exit status."""
+def shown(text, ran, used=None):
+    """Prints what was answered, by a desk under a key that was used, and what refusals mean; the exit status."""
     try:
         sys.stdout.flush()
         sys.stdout.buffer.write(ran.stdout)
         sys.stdout.buffer.flush()
     except (OSError, output.Unwritable) as error:
-        words.tell(f"the replies can't be printed: {error}; what was sent was answered, so send it again "
-                   "with its job numbers, and nothing is done twice")
+        words.tell(f"the replies can't be printed: {error}; what was sent was answered, so send it again with "
+                   f"{'`--key ' + used + '`' if used else 'its job numbers'}, and nothing is done twice")
         return FAILED
     with contextlib.suppress(OSError):
-        told = ran.stderr.decode(errors="surrogateescape").splitlines()
-        sys.stderr.writelines(f"{line}\n" for line in [*map(terminal.fit, told), *refusal_lines(text, ran.stdout)])
+        told = [terminal.fit(line) for line in ran.stderr.decode(errors="surrogateescape").splitlines()]
+        told += refusal_lines(text, ran.stdout, items_of if used else stream.items)
+        sys.stderr.writelines(f"{line}\n" for line in told)
         sys.stderr.flush()
     return ran.returncode if ran.returncode in (0, 4) else FAILED
 
 
-def refusal_lines(text, answered):
-    """What the refusals in an output mean, fit for a terminal, or nothing where it has none."""
-    if not any(line.startswith(b"refused") for line in answered.splitlines()):
+def has_refusals(answered):
+    """Whether an output has replies that refuse."""
+    return any(line.startswith(b"refused") for line in answered.splitlines())
+
+
+def refusal_lines(text, answered, items):
+    """What the refusals in an output mean, fit for a terminal, or nothing where it has none; `items` reads what
+    was sent."""
+    if not has_refusals(answered):
         return []
     asked, answers = (stream.Source(io.BytesIO(data), "what was sent", explain.OF_OUTPUT) for data in (text, answered))
     try:
-        lines, _, _ = explain.explained(stream.items(asked), answers, known.Known())
+        lines, _, _ = explain.explained(items(asked), answers, known.Known())
     except explain.Unlike as why:
         return [terminal.fit(f"plan: the planner doesn't answer as opcplan does: {why}")]
     return ["\n".join(lines).rstrip("\n")]

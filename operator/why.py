@@ -1,9 +1,13 @@
 """./plan why: why an occurrence isn't started, or why it stands where it stands."""
 
+import actual
 import definitions
 import keys
+import late
+import late_ends
 import moments
 import naming
+import outlook
 import plan_file
 import terminal
 import waits
@@ -27,11 +31,14 @@ SENTENCES = {
 def add_words(parser):
     parser.description = (
         "Tells where an occurrence stands and why. Of one that waits, all that isn't complete of what it waits for is "
-        "shown as a tree, down to those that wait for nothing. The exit status is 1 where it stands nowhere."
+        "shown as a tree, down to those that wait for nothing. With the journal of a desk also when it ran, how long "
+        "its application takes, and of one that isn't complete when it is likely to end. The exit status is 1 where "
+        "it stands nowhere."
     )
     words.add_plan(parser)
     keys.add_key(parser)
     words.add_now(parser)
+    actual.add_journal(parser)
     parser.add_argument("--all", action="store_true", help=f"all lines of the tree, also past {MOST_LINES}")
 
 
@@ -43,6 +50,9 @@ def run(given):
             lines = [keys.unknown_text(plan, given.key.serial)]
         else:
             lines = row_lines(plan, rows[0], now, given.all) if rows else nowhere_lines(plan, app, ia)
+            known = actual.of_journal(given.journal, plan)
+            if known and rows:
+                lines += run_lines(rows[0], known) + end_lines(plan, rows[0], known, now)
             lines += earlier_lines(rows[1:]) + job_lines(plan, app, ia)
     print(terminal.text(lines))
     return 0 if rows else 1
@@ -72,8 +82,8 @@ def waiting_lines(plan, row, now, all_lines):
         lines = [f"The current plan ends at {end}; a daily plan that reaches past its arrival takes it."]
     else:
         how = STATE_WORDS[waits.state(row, count, now)]
-        late = f", and {waits.late_text(row, now)}" if waits.is_late(row, now) else ""
-        lines = [f"At {moments.moment_text(now)} it {how}{late}."]
+        late_by = f", and {waits.late_text(row, now)}" if waits.is_late(row, now) else ""
+        lines = [f"At {moments.moment_text(now)} it {how}{late_by}."]
     if not count:
         done = "all that it waits for is complete" if waits.predecessors(plan, row.serial) else "it waits for no other"
         return [*lines, f"Nothing is in its way: {done}."]
@@ -93,6 +103,43 @@ STATE_WORDS = {
     "blocked": "is blocked",
     "its time is to come": "has not arrived yet",
 }
+
+
+RUN_WORDS = {"S": "not ended yet", "C": "complete", "E": "in error"}
+
+
+def run_lines(row, known):
+    """When a row ran, and how long its application takes."""
+    runs = known.runs.get(row.serial, [])
+    told = [f"  {run_text(run)}" for run in runs]
+    if told and runs[-1].status == "C":
+        told[-1] += f": {late_ends.end_text(row, known).partition(', ')[2] or 'in time'}"
+    usual = actual.usual_text(row.app, known.usual.get(row.app))
+    return ["", *(["Its runs:", *told] if told else ["No run of it is known."]), usual]
+
+
+def run_text(run):
+    """When a run began and ended, and how long it took."""
+    begin = "" if run.start is None else f"started {actual.moment_text(run.start)}"
+    end = RUN_WORDS[run.status] + ("" if run.end is None else f" {actual.moment_text(run.end)}")
+    took = "" if run.seconds is None else f", after {actual.length_text(run.seconds)}"
+    return ", ".join(filter(None, [begin, end])) + took
+
+
+def end_lines(plan, row, known, now):
+    """When a row of the current plan that isn't complete is likely to end, and by which chain."""
+    if row.place not in waits.UNFINISHED:
+        return []
+    rows, pairs = late.unfinished(plan)
+    found = outlook.of_rows(rows, pairs, known, now)
+    past = found[row.serial].end_moment - row.deadline
+    late_by = f", late by {waits.length_text(past)}" if past > 0 else ""
+    chain = outlook.chain_of(found, row.serial)
+    lines = [f"It is expected to end {outlook.end_text(found[row.serial])}{late_by}."]
+    if len(chain) == 1:
+        return lines
+    names = {other.serial: other.key for other in rows}
+    return [*lines, "", "This chain decides it:", *outlook.chain_lines(chain, found, names)]
 
 
 def tree_lines(waiting, row, now, all_lines):

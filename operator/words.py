@@ -10,6 +10,8 @@ import terminal
 
 CALLED = "./plan"  # by make install as the command is called there
 
+NAME = re.compile(r"[A-Z@#$][A-Z0-9@#$]{0,15}")
+
 
 def tell(message):
     """Says something on standard error, in one line. Where it takes nothing, nobody can be told."""
@@ -62,7 +64,7 @@ def moment(text):
 
 def name(text):
     """The name of an application, for `type=`; small letters are taken as capitals."""
-    if not re.fullmatch(r"[A-Z@#$][A-Z0-9@#$]{0,15}", text.upper()):
+    if not NAME.fullmatch(text.upper()):
         raise argparse.ArgumentTypeError(f"{text!r} is no name of an application")
     return text.upper()
 

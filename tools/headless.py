@@ -16,6 +16,20 @@ SHIFT = 8
 COMPLAINTS = ("Runtime.exceptionThrown", "Log.entryAdded", "Runtime.consoleAPICalled")
 
 
+class Tally:
+    """What passed and what failed."""
+
+    def __init__(self):
+        self.passed = self.failed = 0
+
+    def ask(self, holds, what, found=""):
+        """Counts one question, and shows it where it doesn't hold."""
+        self.passed += bool(holds)
+        self.failed += not holds
+        if not holds:
+            print(f"{what}: {found}", flush=True)
+
+
 class Browser:
     """One browser with one page."""
 

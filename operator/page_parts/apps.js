@@ -16,7 +16,7 @@ function cycleLine([title, kind, period, rule, offsets, time, days, minute, inEf
 /** An application in a list: a button where it is defined or has rows. */
 function appLink(other) {
   if (typeof other === 'string') return h('span', {}, other + ' (not defined) ');
-  return h('button', { class: 'in', on: () => showApp(other) }, D.apps[other][0]);
+  return h('button', { class: 'in', 'data-a': other, on: () => showApp(other) }, D.apps[other][0]);
 }
 
 /** One that is waited for, with its limit: it is waited for where it arrives at most so many hours before. */
@@ -40,17 +40,14 @@ function appsPart(title, others, linkOf) {
   return [h('h3', {}, title), h('p', { class: 'apps' }, others.slice(0, MOST_APPS).map(linkOf), more)];
 }
 
-function showApp(k) {
+const statusOf = active => active === 1 ? 'active' : active === 0 ? 'pending' : 'no longer defined';
+
+function drawApp(k) {
   const [title, active, calendar, cycles] = D.apps[k], rows = perApp.get(k) || [];
-  const status = active === 1 ? 'active' : active === 0 ? 'pending' : 'no longer defined';
   const followers = D.apps.map((_, other) => other).filter(other => D.lists[other].includes(k));
   const isDefined = D.calendars[calendar][1] ? '' : ' (not defined)';
-  document.body.classList.add('chosen');
-  $('#card').classList.remove('idle');
-  $('#card').scrollTop = 0;
-  const isInCard = $('#card').contains(document.activeElement);
   fill('#card', close(), h('h2', {}, title),
-    h('p', { class: 'quiet' }, status + ', calendar ' + D.calendars[calendar][0] + isDefined),
+    h('p', { class: 'quiet' }, statusOf(active) + ', calendar ' + D.calendars[calendar][0] + isDefined),
     part('Not complete', rows.filter(isOpen)),
     part('Next', rows.filter(i => state(i) === 'L' && ia[i] >= D.now), 8),
     part('Last', rows.filter(i => 'CH'.includes(state(i))).reverse(), 5),
@@ -58,6 +55,15 @@ function showApp(k) {
     h('h3', {}, 'Run cycles'), cycles.length ? cycles.map(cycleLine) : h('p', { class: 'quiet' }, 'none'),
     appsPart('Waits for', D.lists[k], (other, place) => waitLink(other, D.limits[k][place])),
     appsPart('Waits for it', followers, appLink));
+}
+
+function showApp(k) {
+  view.app = k;
+  document.body.classList.add('chosen');
+  $('#card').classList.remove('idle');
+  $('#card').scrollTop = 0;
+  const isInCard = $('#card').contains(document.activeElement);
+  drawApp(k);
   if (isInCard) $('#card').focus({ preventScroll: true });
-  say(title + ', ' + status);
+  say(D.apps[k][0] + ', ' + statusOf(D.apps[k][1]));
 }

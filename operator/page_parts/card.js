@@ -2,6 +2,8 @@
 const RULES = { E: 'work days are counted alone', 1: 'a free day goes to the work day before',
   2: 'a free day goes to the work day after', 3: 'free days too', 4: 'not on free days' };
 const MOST_IN_TREE = 80;
+/** What others put into the card of a row, above its times. */
+const inCard = [];
 
 /** A row as a button that chooses it. */
 function link(i, more, isDue) {
@@ -63,17 +65,19 @@ function drawCard(i) {
   fill('#card', close(), h('h2', {}, badge(i), h('span', {}, name(i), ' ', h('span', { class: 'quiet' }, soon(ia[i])))),
     h('p', { class: tone(i) }, capital(WORD[state(i)]) + more),
     'BFR'.includes(state(i)) ? h('p', {}, reason, '.') : '',
+    inCard.map(part => part(i)),
     h('dl', {}, pair('Arrives', dayName(ia[i]) + ' ' + clock(ia[i])),
       pair('Due', dayName(due[i]) + ' ' + clock(due[i]), dueNote(i)),
       pair('Run cycle', byHand(i) ? 'added by hand' : D.cycles[D.rows.cycle[i]]),
-      pair('Serial', String(serial[i])),
+      pair('Serial', String(serial[i])), runPairs(i),
       pair('In a stream', h('code', {}, '--app ' + name(i)), ' ',
         h('code', {}, '--ia ' + isoDay(dayOf(ia[i])) + '/' + clock(ia[i])))),
     h('h3', {}, 'Waits for'), wholeTree(i, before, done.length ? 'nothing that isn’t complete' : 'nothing'),
     links('complete', done, 100), goesByEarlier(i),
     h('h3', {}, 'Waits for it'), wholeTree(i, after, 'nothing in the current plan'),
     links('planned or complete', next, 100),
-    h('p', { class: 'foot' }, h('button', { class: 'in', on: () => showApp(app(i)) }, 'All of ' + name(i))));
+    h('p', { class: 'foot' }, h('button', { class: 'in', 'data-a': app(i), on: () => showApp(app(i)) },
+      'All of ' + name(i))));
 }
 
 const SIGNS = [['E', 'in error'], ['S', 'started'], ['R', 'ready: arrived, nothing in its way'],
@@ -105,7 +109,7 @@ function address(i) {
 /** Chooses a row, or none. */
 function choose(i, isQuiet) {
   const old = view.pick;
-  view.pick = i;
+  Object.assign(view, { pick: i, app: -1 });
   if (i < 0 && view.kind === 'chain') view.kind = 'open';
   if (i >= 0 && view.kind !== 'chain' && !KINDS[view.kind](i)) view.kind = 'all';
   view.reveal = true;

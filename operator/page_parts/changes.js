@@ -86,8 +86,12 @@ function jobsBox() {
       h('tbody', {}, lines)) : '');
 }
 
+/** What stands above the changes in place of the hint how to see more of them. */
+const aboveChanges = [];
+
 function drawChanges() {
   const hint = 'With --since and an older copy of the plan, each occurrence and definition that changed stands here. ' +
     'A plan keeps no times, so the jobs from its last daily plan on follow by their numbers.';
-  fill('#changed', D.since ? sinceBox(D.since) : h('p', { class: 'hint quiet' }, hint), jobsBox());
+  const above = aboveChanges.length ? aboveChanges.map(part => part()) : h('p', { class: 'hint quiet' }, hint);
+  fill('#changed', D.since ? sinceBox(D.since) : above, jobsBox());
 }

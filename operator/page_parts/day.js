@@ -33,7 +33,8 @@ function keepFocus(draw) {
   const old = document.activeElement, { key, i } = old?.dataset || {};
   draw();
   if (!old || old.isConnected) return;
-  const same = key ? '[data-key="' + CSS.escape(key) + '"]' : i ? '#lines [data-i="' + i + '"]' : '';
+  const among = old.matches('.in') ? '#lines .in' : '#lines :is(.row, .node)';
+  const same = key ? '[data-key="' + CSS.escape(key) + '"]' : i ? among + '[data-i="' + i + '"]' : '';
   if (same) $(same)?.focus({ preventScroll: true });
 }
 

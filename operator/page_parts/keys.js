@@ -44,9 +44,7 @@ function find() {
 /** Says what is filtered, on the page, on paper and in the title of the tab. */
 function tellFilter() {
   const number = D.apps.filter(one => matches(one[0])).length;
-  const errors = countStates(i => isWanted(i) && KINDS.error(i)).E, lates = [...late].filter(isWanted).length;
-  document.title = isFiltered() ? errors + ' in error, ' + lates + ' late of ' + findText() + ': ' + titleOfAll
-    : titleOfAll;
+  nameTab();
   $('#filtered').hidden = !isFiltered();
   fill('#filtered', 'only applications with ', h('b', {}, findText()), ': ' + number + ' of ' + D.apps.length + ' ',
     h('button', { class: 'in', on: () => {
@@ -57,7 +55,14 @@ function tellFilter() {
   fit();
   say(many(number, 'application'));
 }
-const titleOfAll = document.title;
+let titleOfAll = document.title;
+
+/** Says in the title of the tab how bad it is, of what is filtered too. */
+function nameTab() {
+  const errors = countStates(i => isWanted(i) && KINDS.error(i)).E, lates = [...late].filter(isWanted).length;
+  document.title = isFiltered() ? errors + ' in error, ' + lates + ' late of ' + findText() + ': ' + titleOfAll
+    : titleOfAll;
+}
 
 const SERIAL = /^#?0*([1-9]\d{0,8})$/, KEY = /^(\S+)\s+(\d{4}-\d\d-\d\d)(?:[/T]|\s+)(\d\d)[.:](\d\d)$/;
 

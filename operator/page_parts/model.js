@@ -1,11 +1,8 @@
 'use strict';
 // The plan as columns of rows, which are named by their place, and what waits for what.
-const D = JSON.parse(document.getElementById('data').textContent);
 const DAY = 1440;
-const rowCount = D.state.length;
-const serial = new Int32Array(rowCount), ia = new Int32Array(rowCount), due = new Int32Array(rowCount);
 const late = new Set(), risk = new Set(), rootOf = new Map();
-const before = lists(), after = lists(), perApp = lists();
+let D, rowCount, serial, ia, due, before, after, perApp, bySerial;
 
 /** A list for each of many small numbers. */
 function lists() {
@@ -29,7 +26,14 @@ function eachOfRun(flat, take) {
   }
 }
 
-function unpack() {
+/** Takes the plan's data, of which all else is drawn. */
+function take(data) {
+  D = data;
+  rowCount = D.state.length;
+  [serial, ia, due] = [0, 0, 0].map(() => new Int32Array(rowCount));
+  [before, after, perApp] = [lists(), lists(), lists()];
+  bySerial = null;
+  for (const found of [late, risk, rootOf]) found.clear();
   for (let i = 0, at = 0, number = 0; i < rowCount; i++) {
     serial[i] = number += D.rows.serial[i];
     ia[i] = at += D.rows.arrival[i];
@@ -44,9 +48,8 @@ function unpack() {
   });
   eachOfRun(D.rows.roots, (row, root) => rootOf.set(row, root));
 }
-unpack();
+take(JSON.parse(document.getElementById('data').textContent));
 
-let bySerial = null;
 /** The row of a serial, where it is shown. */
 function rowOfSerial(number) {
   bySerial ??= new Map(Array.from(serial, (one, i) => [one, i]));
@@ -106,7 +109,7 @@ const OF_TILES = ['error', 'late', 'risk', 'hour', 'started', 'ready'];
 
 /** What is chosen: the day's window, its filter, the words that are searched, the row, how much is drawn. */
 const view = { from: 0, kind: 'open', find: [], kept: 'open', pick: -1, most: 400, month: null, apps: 110,
-  opened: new Set(), reveal: false, arrows: true, graph: false };
+  opened: new Set(), whole: new Set(), app: -1, reveal: false, arrows: true, graph: false };
 const isFiltered = () => view.find.length > 0;
 const matches = text => !isFiltered() || view.find.some(word => text.includes(word));
 const isWanted = i => matches(name(i));

@@ -1,7 +1,7 @@
 // The months: applications by days, with the work and free days of each calendar.
 const MOST_CALENDARS = 12;
 const isFree = (calendar, day) => D.calendars[calendar][2][day - D.first] === '0';
-const today = dayOf(D.now);
+const isToday = day => day === dayOf(D.now);
 
 /** The first day of each month that is shown, or of the part of it. */
 function firstDays() {
@@ -11,7 +11,7 @@ function firstDays() {
   }
   return days;
 }
-const months = firstDays();
+let months = firstDays();
 
 /** Per application and day of a month: arrivals, and of these the complete, those in error, those late. */
 function countMonth(first, length) {
@@ -31,7 +31,7 @@ function countMonth(first, length) {
 }
 
 function cellClass(cell, calendar, day) {
-  const parts = [isFree(calendar, day) ? 'free' : '', day === today ? 'today' : ''];
+  const parts = [isFree(calendar, day) ? 'free' : '', isToday(day) ? 'today' : ''];
   if (cell.error) parts.push('bad');
   else if (cell.late) parts.push('late');
   else if (cell.all) parts.push(cell.done === cell.all ? 'done' : 'n' + Math.min(cell.all, 3));
@@ -52,14 +52,14 @@ function monthRow(k, cells, first, row) {
 function headRow(days) {
   const plain = D.calendars.findIndex(calendar => calendar[0] === D.plan.calendar);
   return h('tr', {}, h('th', { scope: 'col' }, 'Application'), days.map(day =>
-    h('th', { scope: 'col', class: (isFree(plain, day) ? 'free ' : '') + (day === today ? 'today' : '') },
+    h('th', { scope: 'col', class: (isFree(plain, day) ? 'free ' : '') + (isToday(day) ? 'today' : '') },
       WEEKDAYS[dateOf(day * DAY).getUTCDay()].slice(0, 2), h('br'), String(dateOf(day * DAY).getUTCDate()))),
   h('th', { scope: 'col' }, 'All'));
 }
 
 function calendarRow([title, isDefined], k, days) {
   return h('tr', { class: 'calendar' }, h('th', { scope: 'row' }, title + (isDefined ? '' : ' (not defined)')),
-    days.map(day => h('td', { class: (isFree(k, day) ? 'free ' : '') + (day === today ? 'today' : '') },
+    days.map(day => h('td', { class: (isFree(k, day) ? 'free ' : '') + (isToday(day) ? 'today' : '') },
       isFree(k, day) ? 'free' : '')), h('td'));
 }
 
@@ -81,16 +81,16 @@ function drawMonthTools(run, idle) {
 
 function sumRow(sums, first) {
   return h('tr', { class: 'sum' }, h('th', { scope: 'row' }, isFiltered() ? 'All of these' : 'All applications'),
-    sums.map((sum, n) => h('td', { class: first + n === today ? 'today' : '' }, sum ? String(sum) : '')),
+    sums.map((sum, n) => h('td', { class: isToday(first + n) ? 'today' : '' }, sum ? String(sum) : '')),
     h('td', {}, String(sums.reduce((x, y) => x + y, 0))));
 }
 
-function drawMonth() {
+function drawMonth(isAgain) {
   if (!D.plan.created) {
     fill('#grid', h('div', { class: 'pane' }, h('p', { class: 'empty' }, 'No days are planned yet.')));
     return;
   }
-  if (view.month === null) view.month = Math.max(0, months.findLastIndex(day => day <= today));
+  if (view.month === null) view.month = Math.max(0, months.findLastIndex(day => day <= dayOf(D.now)));
   const first = months[view.month], length = (months[view.month + 1] ?? D.last + 1) - first;
   const days = Array.from({ length }, (_, n) => first + n), { counts, sums } = countMonth(first, length);
   const wanted = [...D.apps.keys()].filter(k => matches(D.apps[k][0])), run = wanted.filter(k => counts.has(k));
@@ -114,7 +114,7 @@ function drawMonth() {
     view.apps += 400;
     keepFocus(drawMonth);
   } }, more));
-  requestAnimationFrame(scrollToToday);
+  if (!isAgain) requestAnimationFrame(scrollToToday);
 }
 
 /** A day of an application is chosen: that day is shown, and its first occurrence. */

@@ -5,11 +5,14 @@ const GROUPED_FROM = 6, MOST_LINES = 500;
 function list(title, items, line, none, most, count = items.length) {
   const lines = h('ul', { class: 'list' }), box = h('div', { class: 'pane' }, lines);
   const draw = number => lines.replaceChildren(...items.slice(0, number).map(line));
-  draw(most);
+  const isWhole = view.whole.has(title);
+  draw(isWhole ? MOST_LINES : most);
+  if (isWhole) lines.append(restLine(count, Math.min(MOST_LINES, items.length)));
   if (!items.length) box.replaceChildren(h('p', { class: 'empty' }, none));
-  if (items.length > most) {
+  if (items.length > most && !isWhole) {
     const all = Math.min(MOST_LINES, items.length);
     box.append(h('button', { class: 'more', on: event => {
+      view.whole.add(title);
       draw(MOST_LINES);
       lines.append(restLine(count, all));
       lines.children[most]?.querySelector('button')?.focus();
@@ -51,7 +54,8 @@ function groupLine({ root, rows }) {
   const number = rows.filter(i => late.has(i)).length;
   const reason = rowName(root) + ' is ' + ofRoot(root) + '; first due: ' + rowName(rows[0]) + ', by ' +
     soon(due[rows[0]]);
-  const lines = h('ul', { class: 'list' }), group = h('details', { class: 'group' },
+  const lines = h('ul', { class: 'list' }), key = 'group of ' + serial[root];
+  const group = h('details', { class: 'group', 'data-key': key },
     h('summary', {}, h('span', { class: 'name' }, rows.length + ' that wait for ' + rowName(root)),
       h('span', { class: 'when' + (number ? ' is-late' : '') }, number ? number + ' late' : ''),
       h('span', { class: 'why' }, reason)), lines);
@@ -111,8 +115,13 @@ function drawTiles() {
   h('p', { class: 'legend' }, summary(n)));
 }
 
-const held = new Map(D.holds.map(([i, number]) => [i, number]));
-const heldBy = i => { if (!held.has(i)) held.set(i, behind(i).length); return held.get(i); };
+let heldOf = null, held;
+/** How many rows a row holds up. */
+function heldBy(i) {
+  if (heldOf !== D.holds) [heldOf, held] = [D.holds, new Map(D.holds.map(([k, number]) => [k, number]))];
+  if (!held.has(i)) held.set(i, behind(i).length);
+  return held.get(i);
+}
 const heldText = number => 'holds ' + (number > 5000 ? 'over 5000' : number);
 
 function holdLine([i, number, , first]) {
@@ -152,4 +161,5 @@ function drawNow() {
   const coming = rows.filter(i => state(i) === 'F').sort((a, b) => ia[a] - ia[b] || due[a] - due[b]);
   fill('#next', list('Ready, and arriving next', ready.concat(coming), i => line(i, 'due ' + soon(due[i]), why(i)),
     none('Nothing waits to be started.', 'None of these waits to be started.'), 8));
+  drawEnds();
 }

@@ -83,7 +83,8 @@ function waiting(i, waits) {
 
 const asText = parts => parts.map(part => typeof part === 'number' ? rowName(part) : part).join('');
 const asNodes = parts => parts.map(part => typeof part === 'number' ? reference(part) : part);
-const reference = i => h('button', { class: 'in', title: times(i), on: () => choose(i) }, rowName(i));
+const reference = i => h('button', { class: 'in', 'data-i': i, title: times(i), on: () => choose(i) },
+  rowName(i));
 
 /** The words of the search, as they are told. */
 const findText = () => view.find.map(word => '“' + word + '”').join(' or ');

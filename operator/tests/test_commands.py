@@ -17,6 +17,7 @@ READERS = {
     "why-day": ["PLAN", "LEDGER", "2024-01-01"],
     "late": ["PLAN", "--now", "2024-01-02/12.00"],
     "rows": ["PLAN"],
+    "ready": ["PLAN", "--now", "2024-01-03/12.00"],
     "next-job": ["PLAN"],
     "what-if": ["PLAN", "STREAM"],
     "check": ["PLAN", "STREAM"],
@@ -28,7 +29,8 @@ READERS = {
     "import": ["--cron", "CRONTAB", "PLAN"],
 }
 OF_STREAMS = {"explain", "lint"}
-WRITERS = {"restore", "send"}
+WRITERS = {"restore", "send", "desk", "agent"}
+OF_JOURNALS = {"journal"}
 
 
 def plan_program():
@@ -109,7 +111,7 @@ class Commands(unittest.TestCase):
         ran = plans.plan("--help")
         self.assertEqual((ran.returncode, ran.stderr), (0, ""))
         names = [line.split()[0] for line in ran.stdout.splitlines() if line.startswith("  ")]
-        self.assertEqual(sorted(names), sorted(READERS.keys() | OF_STREAMS | WRITERS))
+        self.assertEqual(sorted(names), sorted(READERS.keys() | OF_STREAMS | OF_JOURNALS | WRITERS))
         self.assertEqual(sorted(plan_program().SUBCOMMANDS), sorted(names))
         for name in names:
             ran = plans.plan(name, "--help")
@@ -119,7 +121,7 @@ class Commands(unittest.TestCase):
     def test_wrong_words_are_told(self):
         file = plans.of_worked("monday")
         for words in ([], ["show"], ["Page"], ["--page"], ["views"], ["plan_file"], ["dump", file, "--no-such-word"],
-                      *([name] for name in [*READERS, *OF_STREAMS, *WRITERS])):
+                      *([name] for name in [*READERS, *OF_STREAMS, *OF_JOURNALS, *WRITERS])):
             ran = plans.plan(*words)
             self.assertEqual((ran.returncode, ran.stdout), (2, ""), words)
             self.assertTrue(ran.stderr.startswith("plan: ") and ran.stderr.count("\n") == 1, ran.stderr)

@@ -13,6 +13,7 @@ import time
 import unittest
 from pathlib import Path
 
+import journals
 import plans
 
 # of each subcommand words with which it prints something, with PLAN, STREAM and OUTPUT for files
@@ -21,6 +22,7 @@ PRINTERS = {
     "why": ["PLAN", "LEDGER", "2024-01-01/18.00"],
     "why-day": ["PLAN", "LEDGER", "2024-01-01"],
     "late": ["PLAN", "--now", "2024-01-01/12.00"],
+    "ready": ["PLAN", "--now", "2024-01-02/12.00"],
     "rows": ["PLAN"],
     "next-job": ["PLAN"],
     "what-if": ["PLAN", "STREAM", "--program", str(plans.PROGRAM)],
@@ -31,11 +33,14 @@ PRINTERS = {
     "dump": ["PLAN"],
     "explain": ["STREAM", "OUTPUT"],
     "lint": ["SLIP"],
+    "journal": ["PLAN", "--journal", "JOURNAL"],
     "--help": [],
 }
 OF_STREAMS = {"what-if": ["PLAN", "STREAM"], "check": ["PLAN", "STREAM"], "explain": ["STREAM", "OUTPUT"],
               "lint": ["STREAM"]}
 SLIP = b"define calendars --job 1\nOTHER,SAT,FREE\n/*\ndefine applications --job 2\nA,A,\n/*\n"
+ENTRIES = [("2024-01-01/18.00", "me", None, 500_000_001,
+            "cp-start --app LEDGER --ia 2024-01-01/18.00 --job 500000001\n", "ok serial 1 status S")]
 # what a command may take: memory and the bytes of a file, and seconds of a processor
 MOST_MEMORY, MOST_OF_FILE, MOST_TIME = 600 << 20, 90 << 20, 60
 
@@ -50,10 +55,12 @@ class Ends(unittest.TestCase):
         (self.room / "plan").mkdir()
         self.plan = plans.copy_of(plans.of_worked("monday"), self.room / "plan")
         self.files = {"PLAN": self.plan, "STREAM": self.room / "stream.in", "OUTPUT": self.room / "stream.out",
-                      "SLIP": self.room / "slip.in", "COPY": self.room / "copy.db"}
+                      "SLIP": self.room / "slip.in", "COPY": self.room / "copy.db",
+                      "JOURNAL": self.room / "plan.journal"}
         self.files["STREAM"].write_bytes(plans.stream("tuesday"))
         self.files["OUTPUT"].write_bytes((plans.DATA / "tuesday.out").read_bytes())
         self.files["SLIP"].write_bytes(SLIP)
+        journals.write(self.files["JOURNAL"], [], ENTRIES)
 
     def words(self, name, given, **other):
         files = {**self.files, **other}
@@ -200,10 +207,14 @@ class Ends(unittest.TestCase):
         with contextlib.closing(socket.socket(socket.AF_UNIX)) as held:
             held.bind(str(place))
             files = [fifo, folder, place, "/dev/zero", "/dev/full", "/dev/null"]
-            for turn, name in enumerate(sorted(PRINTERS.keys() - {"explain", "lint", "--help"})):
+            for turn, name in enumerate(sorted(PRINTERS.keys() - {"explain", "journal", "lint", "--help"})):
                 for file in (files[turn % 6], files[(turn + 3) % 6]):
                     with self.subTest(name, plan=file):
                         self.check_told(self.ran(self.words(name, PRINTERS[name], PLAN=file)), f"{file}: it is no file")
+            for file in files:
+                with self.subTest("journal", journal=file):
+                    self.check_told(self.ran(self.words("journal", PRINTERS["journal"], JOURNAL=file)),
+                                    f"{file}: it is no file")
             for name, given in OF_STREAMS.items():
                 for file in (folder, place):
                     with self.subTest(name, stream=file):

@@ -1,6 +1,7 @@
 """./plan send: statements in words and streams are answered as opcplan answers them, once, also while others have the
 file."""
 
+import os
 import sqlite3
 import subprocess
 import tempfile
@@ -9,6 +10,7 @@ import unittest
 from contextlib import closing
 from pathlib import Path
 
+import desks
 import looks
 import plans
 
@@ -210,6 +212,92 @@ class Send(unittest.TestCase):
     def test_a_program_that_is_not_there(self):
         ran = self.send("list", "cp", program=self.room / "none")
         self.assertEqual((ran.returncode, ran.stdout, ran.stderr.count("\n")), (8, "", 1))
+
+
+@unittest.skipIf(desks.why_not(), desks.why_not())
+class ToADesk(desks.Case):
+    TEXT = MONDAY
+
+    def send(self, *words, **how):
+        return plans.plan("send", *words, **how)
+
+    def test_replies_and_statuses_are_those_of_opcplan(self):
+        desk = self.desk()
+        begun = ["start", "report", "2024-01-01/20.00"]
+        ran = self.send("--desk", desk.socket, *begun)
+        self.assertEqual((ran.returncode, ran.stdout, ran.stderr), (0, "ok serial 2 status S\n", ""))
+        ran = self.send("--desk", f"http://127.0.0.1:{desk.port}", *begun)
+        self.assertEqual((ran.returncode, ran.stdout), (4, "refused 29\n"))
+        self.assertIn("`cp-start` wants an occurrence that is waiting (W)", ran.stderr)
+        text = "list cp\ndefine applications\nA,A,\nB,Z,\n/*\nx\nlist links\n"
+        ran = self.send(text=text, env={**os.environ, "OPCPLAN_DESK": f"127.0.0.1:{desk.port}"})
+        planner = plans.plain.Planner()
+        plans.plain.run(MONDAY + b"cp-start --app REPORT --ia 2024-01-01/20.00 --job 500000001\n", planner)
+        wanted = plans.plain.run(text.replace("applications", "applications --job 9000").encode(), planner)
+        self.assertEqual((ran.returncode, ran.stdout.splitlines()), (4, wanted))
+        self.assertIn("the field `status` is `Z`", ran.stderr)
+        self.assertIn("line 6: x\n", ran.stderr)
+        for key in ("a", "a"):
+            ran = self.send("--desk", desk.socket, "--key", key, "complete", "REPORT", "2024-01-01/20.00")
+            self.assertEqual((ran.returncode, ran.stdout), (0, "ok serial 2 status C\n"))
+        self.end(desk)
+
+    def test_what_a_desk_does_not_do_is_told(self):
+        tokens = self.room / "tokens"
+        tokens.write_text(f"{desks.hashlib.sha256(b'secret').hexdigest()} job operate\n")
+        desk = self.desk("--tokens", tokens)
+        where = ["--desk", f"http://127.0.0.1:{desk.port}"]
+        for words, text, env, told in (
+            ([*where, "list", "cp"], None, {}, "a token is wanted"),
+            ([*where, "dp-replan"], None, {"OPCPLAN_TOKEN": "secret"}, "job may not dp-replan"),
+            (where, "define applications --job 7\nA,A,\n", {"OPCPLAN_TOKEN": "secret"}, "nothing was done"),
+            ([*where, "list", "cp"], None, {"OPCPLAN_TOKEN_FILE": str(self.room / "none")}, "nothing was sent"),
+            (["--desk", str(self.room / "none"), "list", "cp"], None, {}, "nothing was sent"),
+            (["--desk", "127.0.0.1:1", "list", "cp"], None, {}, "nothing was sent"),
+        ):
+            ran = self.send(*words, text=text, env={**os.environ, **env})
+            self.assertEqual((ran.returncode, ran.stdout, ran.stderr.count("\n")), (8, "", 1), ran.stderr)
+            self.assertIn(told, ran.stderr)
+        for words in (["--desk", "ftp://here", "list", "cp"], ["--desk", "x:y", "list", "cp"], ["list", "cp"],
+                      [*where, "--key", "a b", "list", "cp"], [*where, "--db", self.plan, "list", "cp"],
+                      [*where, "strt"], [*where, "define", "options"]):
+            ran = self.send(*words)
+            self.assertEqual((ran.returncode, ran.stdout, ran.stderr.count("\n")), (2, "", 1), ran.stderr)
+        self.end(desk)
+        self.assert_plan()
+
+    def test_it_waits_for_a_desk(self):
+        where = f"{self.plan}.socket"
+        with subprocess.Popen([plans.TOP / "plan", "send", "--desk", where, "--wait", "60", "start", "REPORT",
+                               "2024-01-01/20.00"], stdout=subprocess.PIPE, stderr=subprocess.PIPE, text=True) as sent:
+            desk = self.desk()
+            told, wrong = sent.communicate(timeout=120)
+        self.assertEqual((sent.returncode, told, wrong), (0, "ok serial 2 status S\n", ""))
+        self.end(desk)
+
+    def test_an_answer_that_breaks_off_is_asked_again(self):
+        """A stand-in for a desk that is killed: the first answer is cut, the second whole, under one key."""
+        seen = []
+        listener = desks.socket.create_server(("127.0.0.1", 0))
+        self.addCleanup(listener.close)
+
+        def answer():
+            for body in (b"14\r\nok serial 2 ", b"15\r\nok serial 2 status S\n\r\n0\r\n\r\n"):
+                one, _ = listener.accept()
+                with one, one.makefile("rb") as lines:
+                    heads = list(iter(lines.readline, b"\r\n"))
+                    lines.read(int(next(head.split()[1] for head in heads if head.startswith(b"Content-Length"))))
+                    seen.append([head for head in heads if head.startswith(b"Idempotency-Key")])
+                    one.sendall(b"HTTP/1.1 200 OK\r\nTransfer-Encoding: chunked\r\n\r\n" + body)
+
+        desk = threading.Thread(target=answer)
+        desk.start()
+        where = f"127.0.0.1:{listener.getsockname()[1]}"
+        ran = self.send("--desk", where, "--wait", "30", "start", "REPORT", "2024-01-01/20.00")
+        desk.join(30)
+        self.assertEqual((ran.returncode, ran.stdout, ran.stderr), (0, "ok serial 2 status S\n", ""))
+        self.assertEqual(len(seen), 2)
+        self.assertTrue(seen[0] and seen[0] == seen[1], seen)
 
 
 if __name__ == "__main__":

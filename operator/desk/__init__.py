@@ -1,0 +1,105 @@
+"""./plan desk: one planner for many callers, all day.
+
+Its parts stand beside this file; those that speak HTTP need aiohttp, which Debian's package python3-aiohttp has."""
+
+import argparse
+import importlib.util
+import ipaddress
+import os
+import sys
+
+import plan_file
+import trial
+import words
+
+SUMMARY = "serves one plan to many callers at once, by HTTP, with a journal"
+USUAL = "127.0.0.1:7411"
+# the Python for which Debian has the package
+DEBIAN = "/usr/bin/python3"
+LACKING = "it needs aiohttp for Python 3, which Debian's package python3-aiohttp has: apt-get install python3-aiohttp"
+
+
+def add_words(parser):
+    parser.description = (
+        "Keeps one opcplan over PLAN.db and answers callers by HTTP: statements, lists, events, a copy of the plan. "
+        "Each change stands in the journal before it is done. docs/DESK.md has what may be asked, who may, and how "
+        "it is run as a service. It ends by SIGTERM or SIGINT, with status 0; what it was asked is answered then, and "
+        "PLAN.db has the plan alone. Status 1 where it can't begin, 2 where the words are wrong."
+    )
+    words.add_plan(parser)
+    parser.add_argument("--listen", type=address, metavar="HOST:PORT",
+                        help=f"an address (else {USUAL} where there is no --socket); port 0 takes a free one")
+    parser.add_argument("--socket", type=words.file, metavar="PATH",
+                        help="a Unix socket, whose callers are known by their user")
+    parser.add_argument("--journal", type=words.file, metavar="FILE",
+                        help="the journal (else PLAN.db.journal beside the plan)")
+    parser.add_argument("--users", type=words.file, metavar="FILE",
+                        help="lines `USER ROLE`; a role is read, operate or plan")
+    parser.add_argument("--tokens", type=words.file, metavar="FILE",
+                        help="lines `SHA256 USER ROLE`, for callers by the address")
+    parser.add_argument("--host", metavar="NAME", action="append", default=[],
+                        help="a name, with its port if it has one, under which pages ask; may stand repeatedly")
+    parser.add_argument("--proxy", metavar="ADDRESS|USER",
+                        help="the proxy: its address, or its user who says by the socket who is logged in")
+    parser.add_argument("--program", type=words.file, metavar="FILE",
+                        help="the planner (else the one that is built here)")
+
+
+def address(text):
+    """Host and port of an address, for `type=`."""
+    host, _, port = text.rpartition(":")
+    try:
+        found = str(ipaddress.ip_address(host.removeprefix("[").removesuffix("]").replace("localhost", "127.0.0.1")))
+    except ValueError:
+        found = ""
+    if not found or not port.isascii() or not port.isdigit() or int(port) > 65535:
+        raise argparse.ArgumentTypeError(f"{text!r} is no address like {USUAL}")
+    return found, int(port)
+
+
+def run(given):
+    if importlib.util.find_spec("aiohttp") is None:
+        return by_debian()
+    if given.listen is None and given.socket is None:
+        given.listen = address(USUAL)
+    if wrong := wrong_words(given):
+        words.tell(wrong)
+        return 2
+    from desk import guard, journal, server
+
+    given.journal = os.path.realpath(given.journal or journal.beside(given.plan))
+    try:
+        program = os.path.abspath(given.program or trial.built_program())
+        check_file(given.plan)
+        server.serve(given, program)
+    except (server.Unable, guard.Wrong) as why:
+        words.tell(str(why))
+        return 1
+    except OSError as error:
+        words.tell(f"{error.filename or given.plan}: {error.strerror}")
+        return 1
+    return 0
+
+
+def wrong_words(given):
+    """What is wrong with the words together, or nothing."""
+    is_open = given.listen and not ipaddress.ip_address(given.listen[0]).is_loopback
+    if is_open and not (given.tokens and given.proxy):
+        return (f"{given.listen[0]} is an address that other machines reach: it takes --tokens, and --proxy with the "
+                "address of a proxy that speaks TLS")
+    return ""
+
+
+def check_file(path):
+    """Asks that there is such a file; opcplan would make a plan. Raises Unreadable."""
+    if not os.path.isfile(path):
+        raise plan_file.Unreadable(f"{path}: there is no such file; `./opcplan --db` makes a new plan")
+
+
+def by_debian():
+    """Runs the same words by the Python that Debian's package is for; the exit status where that can't be."""
+    if os.path.realpath(sys.executable) != os.path.realpath(DEBIAN) and os.access(DEBIAN, os.X_OK):
+        sys.stdout.flush()
+        os.execv(DEBIAN, [DEBIAN, *sys.argv])
+    words.tell(f"desk: {LACKING}")
+    return 1

@@ -1,0 +1,236 @@
+"""The journal of a desk: who asked what, when, and what it was answered; and when what happened, which a plan doesn't
+keep. It is a SQLite file beside the plan, and the first body of the log."""
+
+import contextlib
+import os
+import re
+import sqlite3
+import time
+
+import plan_file
+import scratch
+from desk import entry, log
+
+SCHEMA = """
+CREATE TABLE entry (
+    seq INTEGER PRIMARY KEY, at TEXT NOT NULL, who TEXT NOT NULL, key TEXT, job INTEGER NOT NULL, text NOT NULL,
+    reply TEXT);
+CREATE UNIQUE INDEX entry_by_key ON entry (who, key) WHERE key IS NOT NULL;
+CREATE INDEX entry_by_job ON entry (job);
+CREATE INDEX entry_unanswered ON entry (seq) WHERE reply IS NULL;
+CREATE TABLE happened (
+    serial INTEGER NOT NULL, app TEXT NOT NULL, ia TEXT NOT NULL, status TEXT NOT NULL, at TEXT NOT NULL,
+    seq INTEGER PRIMARY KEY);
+CREATE INDEX happened_by_serial ON happened (serial);
+PRAGMA user_version = 1;
+"""
+COLUMNS = "seq, at, who, key, job, text, reply"
+STATUS = re.compile(r"ok serial ([0-9]+) status ([WSECD])")
+TAIL = ".journal"
+# how long a plan may be written to before it is opened, in seconds
+PATIENCE = 30
+
+
+class Journal(log.Log):
+    """The journal in a file; `floor` is a position that entries stand behind at least."""
+
+    def __init__(self, path, floor=0):
+        self.path, self.floor = path, floor
+        try:
+            self.db = sqlite3.connect(path, isolation_level=None, check_same_thread=False)
+            self.db.execute("PRAGMA journal_mode = WAL")
+            self.db.execute("PRAGMA synchronous = FULL")
+            self.make_tables()
+            # another thread may write meanwhile: what is read is what is on the disk
+            self.reader = sqlite3.connect(path, isolation_level=None)
+        except sqlite3.Error as error:
+            raise plan_file.Unreadable(f"{path}: it can't be opened as a journal: {error}") from None
+
+    def make_tables(self):
+        """Makes the tables in a new file. Raises Unreadable where it is another one's."""
+        (version,) = self.db.execute("PRAGMA user_version").fetchone()
+        names = {name for (name,) in self.db.execute("SELECT name FROM sqlite_schema WHERE type = 'table'")}
+        if not names:
+            self.db.executescript(f"BEGIN IMMEDIATE;{SCHEMA}COMMIT;")
+        elif version != 1 or not {"entry", "happened"} <= names:
+            raise plan_file.Unreadable(f"{self.path}: it is a database, but no journal of a desk")
+
+    def position(self):
+        return self.last(self.reader)
+
+    def last(self, db):
+        (last,) = db.execute("SELECT max(seq) FROM entry").fetchone()
+        return max(last or 0, self.floor)
+
+    def append(self, batch, replies=()):
+        seq = self.last(self.db)
+        entries = []
+        for seq, wanted in enumerate(batch, seq + 1):
+            job = entry.FIRST_JOB + seq - 1 if wanted.job is None else wanted.job
+            if job > entry.LAST_JOB and wanted.job is None:
+                raise log.Unwritable("no job number of the desk's range is left")
+            entries.append((seq, wanted.at, wanted.who, wanted.key, job, stored(wanted.text(job))))
+        with self.transaction():
+            self.db.executemany("INSERT INTO entry (seq, at, who, key, job, text) VALUES (?, ?, ?, ?, ?, ?)", entries)
+            self.put_replies(replies)
+        return [(one[0], one[4]) for one in entries]
+
+    def keep_replies(self, replies):
+        with self.transaction():
+            self.put_replies(replies)
+
+    def put_replies(self, replies):
+        for seq, reply in replies:
+            self.db.execute("UPDATE entry SET reply = ? WHERE seq = ?", (reply, seq))
+            if found := STATUS.fullmatch(reply):
+                self.keep_status(seq, int(found.group(1)), found.group(2))
+
+    def keep_status(self, seq, serial, status):
+        """Keeps when an occurrence got a status, where that isn't a job which was answered before."""
+        at, job, text = self.db.execute("SELECT at, job, text FROM entry WHERE seq = ?", (seq,)).fetchone()
+        if self.db.execute("SELECT 1 FROM entry WHERE job = ? AND seq < ?", (job, seq)).fetchone():
+            return
+        named = options(text)
+        self.db.execute("INSERT OR REPLACE INTO happened VALUES (?, ?, ?, ?, ?, ?)",
+                        (serial, named["app"], named["ia"], status, at, seq))
+
+    @contextlib.contextmanager
+    def transaction(self):
+        """A context that is done whole and synced, or not at all. Raises Unwritable."""
+        try:
+            self.db.execute("BEGIN IMMEDIATE")
+            yield
+            self.db.execute("COMMIT")
+        except sqlite3.Error as error:
+            with contextlib.suppress(sqlite3.Error):
+                self.db.execute("ROLLBACK")
+            raise log.Unwritable(f"the journal {self.path} can't be written: {error}") from None
+
+    def entries(self, since=0, most=-1):
+        asked = f"SELECT {COLUMNS} FROM entry WHERE seq > ? AND reply IS NOT NULL ORDER BY seq LIMIT ?"
+        return [entry_of(row) for row in self.reader.execute(asked, (since, most)).fetchall()]
+
+    def every(self):
+        """All Entries, by and by, those without a reply too."""
+        since = -1
+        while found := self.reader.execute(f"SELECT {COLUMNS} FROM entry WHERE seq > ? ORDER BY seq LIMIT 1000",
+                                           (since,)).fetchall():
+            since = found[-1][0]
+            yield from map(entry_of, found)
+
+    def unanswered(self):
+        asked = f"SELECT {COLUMNS} FROM entry WHERE reply IS NULL ORDER BY seq"
+        return [entry_of(row) for row in self.reader.execute(asked).fetchall()]
+
+    def find(self, who, key):
+        row = self.reader.execute(f"SELECT {COLUMNS} FROM entry WHERE who = ? AND key = ?", (who, key)).fetchone()
+        return row and entry_of(row)
+
+    def last_kept(self):
+        """The last Entry whose job the plan keeps with its reply, or None."""
+        asked = f"""SELECT {COLUMNS} FROM entry WHERE reply IS NOT NULL AND reply NOT LIKE 'refused 10%'
+            AND reply NOT LIKE 'refused 11%' AND reply NOT LIKE 'refused 12%' ORDER BY seq DESC LIMIT 1"""
+        row = self.reader.execute(asked).fetchone()
+        return row and entry_of(row)
+
+    def happened(self):
+        """What happened, in its order: serial, application, input arrival, status, when, and the entry's seq."""
+        found = self.reader.execute("SELECT serial, app, ia, status, at, seq FROM happened ORDER BY seq").fetchall()
+        for serial, app, ia, status, at, seq in found:
+            texts = (app, ia, status, at)
+            if not (isinstance(serial, int) and all(isinstance(one, str) for one in texts) and entry.is_moment(at)):
+                raise sqlite3.DatabaseError(f"what happened by entry {seq} is nothing that a desk writes")
+        return found
+
+    def close(self):
+        self.reader.close()
+        with contextlib.suppress(sqlite3.Error):
+            self.db.execute("PRAGMA wal_checkpoint(TRUNCATE)")
+        self.db.close()
+
+
+def entry_of(row):
+    """The Entry of a row. Raises DatabaseError where no desk wrote it."""
+    seq, at, who, key, job, text, reply = row
+    texts = [at, who, *(one for one in (key, reply) if one is not None)]
+    if not (all(isinstance(one, str) for one in texts) and entry.is_moment(at) and isinstance(job, int)
+            and isinstance(text, (str, bytes))):
+        raise sqlite3.DatabaseError(f"entry {seq} is none of a desk")
+    return entry.Entry(seq, at, who, key, job, text.encode() if isinstance(text, str) else text, reply)
+
+
+def stored(text):
+    """A text as it is kept: as text where it is one."""
+    try:
+        return text if b"\0" in text else text.decode("utf-8")
+    except UnicodeDecodeError:
+        return text
+
+
+def options(text):
+    """The options of a statement's line by name."""
+    line = text.encode() if isinstance(text, str) else text
+    given = line.split(b"\n", 1)[0].decode("ascii").replace("=", " ").split()
+    return {name[2:]: value for name, value in zip(given, given[1:]) if name.startswith("--")}
+
+
+@contextlib.contextmanager
+def opened(path):
+    """A Journal to read: a private copy, which goes when the context ends. Raises Unreadable."""
+    if os.path.exists(path) and not os.path.isfile(path):
+        raise plan_file.Unreadable(f"{path}: it is no file")
+    if not os.path.exists(path) or not os.path.getsize(path):
+        raise plan_file.Unreadable(f"{path}: there is no such journal")
+    with scratch.folder("journal-") as folder:
+        copy = os.path.join(folder, "journal")
+        try:
+            plan_file.check_room(os.path.realpath(path), folder)
+            plan_file.copied(os.path.realpath(path), copy)
+        except (OSError, plan_file.Unreadable) as error:
+            raise plan_file.Unreadable(f"{path}: it can't be read: {error}") from None
+        try:
+            journal = Journal(copy)
+        except plan_file.Unreadable as error:
+            raise plan_file.Unreadable(str(error).replace(copy, path)) from None
+        with contextlib.closing(journal):
+            try:
+                yield journal
+            except sqlite3.Error as error:
+                raise plan_file.Unreadable(f"{path}: it can't be read as a journal: {error}") from None
+
+
+def beside(plan):
+    """The path of the usual journal of a plan."""
+    return os.path.realpath(plan) + TAIL
+
+
+def for_desk(path, plan):
+    """The Journal of a desk over a plan: it goes on behind what either has. Raises Unreadable where the plan is older
+    than the journal."""
+    with at_rest(plan) as held:
+        asked = "SELECT max(number) FROM job WHERE number BETWEEN ? AND ?"
+        (greatest,) = held.db.execute(asked, (entry.FIRST_JOB, entry.LAST_JOB)).fetchone()
+        journal = Journal(path, (greatest or entry.FIRST_JOB - 1) - entry.FIRST_JOB + 1)
+        last = journal.last_kept()
+        if last and held.db.execute("SELECT 1 FROM job WHERE number = ?", (last.job,)).fetchone() is None:
+            journal.close()
+            raise plan_file.Unreadable(
+                f"{path}: it was answered by a later plan than {plan}, which lacks job {last.job}. Run the journal "
+                f"over the plan, by `./plan journal {plan} --journal {path} --stream | ./opcplan --db {plan}`, or name "
+                "a new one by --journal")
+    return journal
+
+
+@contextlib.contextmanager
+def at_rest(plan):
+    """A Plan of the file; where the opcplan of a killed desk still writes, it is waited for. Raises Unreadable."""
+    with contextlib.ExitStack() as files:
+        until = time.monotonic() + PATIENCE
+        while True:
+            try:
+                held = files.enter_context(plan_file.opened(plan))
+                break
+            except plan_file.Unreadable as error:
+                if not str(error).endswith("try again") or time.monotonic() > until:
+                    raise
+        yield held

@@ -1,0 +1,49 @@
+"""Which user of this machine is at the other end of a connection."""
+
+import os
+import pwd
+import socket
+import struct
+
+TABLES = {socket.AF_INET: "/proc/net/tcp", socket.AF_INET6: "/proc/net/tcp6"}
+ESTABLISHED = "01"
+
+
+def of_socket(peer):
+    """The user at the other end of a Unix socket."""
+    _, uid, _ = struct.unpack("3i", peer.getsockopt(socket.SOL_SOCKET, socket.SO_PEERCRED, 12))
+    return uid
+
+
+def of_address(peer):
+    """The user at the other end of a TCP connection from this machine, or None where the system doesn't tell."""
+    wanted = [spelled(peer.family, peer.getpeername()), spelled(peer.family, peer.getsockname()), ESTABLISHED]
+    try:
+        with open(TABLES[peer.family], encoding="ascii") as table:
+            for line in table:
+                fields = line.split()
+                if fields[1:4] == wanted:
+                    return int(fields[7])
+    except OSError:
+        pass
+    return None
+
+
+def spelled(family, address):
+    """An address and its port as the system's tables spell them: each 32 bits as a number of this machine."""
+    packed = socket.inet_pton(family, address[0].partition("%")[0])
+    numbers = struct.unpack(f"={len(packed) // 4}I", packed)
+    return "".join(f"{number:08X}" for number in numbers) + f":{address[1]:04X}"
+
+
+def name_of(uid):
+    """The name of a user."""
+    try:
+        return pwd.getpwuid(uid).pw_name
+    except KeyError:
+        return f"uid:{uid}"
+
+
+def is_own(uid):
+    """Whether a user is the desk's own, or root."""
+    return uid in (0, os.getuid())

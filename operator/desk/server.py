@@ -1,0 +1,309 @@
+"""What a desk answers by HTTP."""
+
+import asyncio
+import contextlib
+import json
+import os
+import re
+import signal
+import socket
+import stat
+import sys
+
+from aiohttp import web
+
+import locks
+import stops
+from desk import asked, body, core, guard, journal, page, rows, snapshot
+from desk.planner import Stopped
+
+MOST_BYTES = 32 << 20
+# seconds in which streams that are under way may end, once the desk is to end
+LAST_SECONDS = 20
+PAGE = 500
+KEY = re.compile(r"[!-\"$-~]{1,200}")
+
+
+class Server:
+    """A desk, and who asks it by HTTP."""
+
+    def __init__(self, given, desk, the_guard):
+        self.given, self.desk, self.guard = given, desk, the_guard
+        self.streams = set()
+
+    def application(self):
+        app = web.Application(middlewares=[self.guard.middleware, told], client_max_size=MOST_BYTES)
+        app.add_routes([
+            web.post("/statements", self.statements), web.get("/rows", self.rows),
+            web.get("/events", self.desk.events.handle), web.get("/health", self.health),
+            web.get("/metrics", self.metrics), web.get("/snapshot", self.snapshot), web.get("/journal", self.journal),
+            web.post("/session", self.guard.begin_session), web.delete("/session", self.guard.end_session),
+            *page.Page(self.desk, self.given.plan, self.guard.tokens is not None).routes(),
+        ])
+        return app
+
+    # Statements.
+
+    async def statements(self, request):
+        """POST /statements."""
+        guard.needed(request, guard.READ, "read")
+        stream = body.Body(self.desk, await self.asked_of(request), request["who"], key_of(request), None)
+        stream.condition = condition_of(request, stream.asked)
+        stream.check_keys()
+        taking = asyncio.create_task(stream.take())
+        self.streams.add(taking)
+        taking.add_done_callback(self.streams.discard)
+        is_json = "application/x-ndjson" in request.headers.get("Accept", "")
+        kind = "application/x-ndjson" if is_json else "text/plain; charset=us-ascii"
+        response = web.StreamResponse(headers={"Content-Type": kind, **SAFE})
+        try:
+            for place in range(len(stream.asked)):
+                one, ask = await stream.next()
+                if place == 0:
+                    response.headers.update(state_of(ask))
+                    await response.prepare(request)
+                for data in (body.as_json if is_json else body.as_text)(one, ask):
+                    await response.write(data)
+        except (core.Refused, Stopped):
+            if not response.prepared:
+                raise
+            if request.transport is not None:
+                request.transport.abort()  # the answer is cut: its caller sees that it isn't whole
+            return response
+        finally:
+            stream.leave()
+        if not response.prepared:
+            await response.prepare(request)
+        await response.write_eof()
+        return response
+
+    async def asked_of(self, request):
+        """What the body of a request asks, where its caller may. Raises Refused and HTTPForbidden."""
+        data = await request.read()
+        try:
+            found = asked.of_stream(data)
+        except asked.Wrong as why:
+            raise core.Refused(400, f"{why}; nothing was done") from None
+        for one in found:
+            guard.needed(request, one.role, one.name)
+        return found
+
+    # What is looked at.
+
+    async def rows(self, request):
+        """GET /rows."""
+        guard.needed(request, guard.READ, "read")
+        try:
+            selection = rows.Selection(request.query)
+        except rows.Wrong as why:
+            raise core.Refused(400, str(why)) from None
+        ask = await self.desk.ask_list(selection.text).wait()
+        if ask.wrong is not None:
+            raise core.Refused(503, ask.wrong)
+        state = state_of(ask)
+        if request.headers.get("If-None-Match") == state["ETag"]:
+            return web.Response(status=304, headers=state)
+        response = web.StreamResponse(headers={"Content-Type": "application/x-ndjson", **SAFE, **state})
+        await response.prepare(request)
+        for data in ask.pieces():
+            for lines in in_parts(data):
+                await response.write(selection.lines(lines))
+                await asyncio.sleep(0)
+        await response.write_eof()
+        return response
+
+    async def journal(self, request):
+        """GET /journal."""
+        guard.needed(request, guard.READ, "read")
+        begin = request.query.get("from", "1")
+        if not re.fullmatch("[0-9]{1,15}", begin):
+            raise core.Refused(400, "`from` is the number of an entry")
+        await self.desk.keep_replies()
+        response = web.StreamResponse(headers={"Content-Type": "application/x-ndjson", **SAFE})
+        await response.prepare(request)
+        since = int(begin) - 1
+        while found := self.desk.log.entries(since, PAGE):
+            await response.write("".join(json.dumps(one.values()) + "\n" for one in found).encode())
+            since = found[-1].seq
+        await response.write_eof()
+        return response
+
+    async def snapshot(self, request):
+        return await snapshot.handle(self.desk, self.given.plan, request)
+
+    async def metrics(self, request):
+        """GET /metrics."""
+        guard.needed(request, guard.READ, "read")
+        return web.Response(body=self.desk.metrics.text(self.desk).encode(),
+                            headers={"Content-Type": "text/plain; version=0.0.4; charset=utf-8"})
+
+    async def health(self, request):
+        """GET /health; whoever may not read hears no more than the status."""
+        desk, planner = self.desk, self.desk.planner
+        wrong = [listed.wrong for listed in (self.guard.users, self.guard.tokens) if listed and listed.wrong]
+        why = "; ".join(filter(None, [desk.trouble, *wrong]))
+        told = {"status": "stopped" if desk.trouble else "ok"}
+        if request["role"] >= guard.READ:
+            told |= {
+                "why": why, "position": desk.position, "planner": planner.process.pid if planner.is_open else None,
+                "running since": planner.open_since, "starts": planner.lives,
+                "waiting": len(desk.queue) + len(planner.in_flight), "journal": self.given.journal,
+                "plan": os.path.realpath(self.given.plan), "tag": desk.tag(),
+            }
+        return web.json_response(told, status=503 if desk.trouble else 200)
+
+    async def end(self):
+        """Lets the streams that are under way end, for a while."""
+        if self.streams:
+            await asyncio.wait(self.streams, timeout=LAST_SECONDS)
+        await self.desk.close()
+
+
+SAFE = {"Cache-Control": "no-store", "X-Content-Type-Options": "nosniff"}
+
+
+@web.middleware
+async def told(request, handler):
+    """Tells in a sentence why something isn't done."""
+    try:
+        return await handler(request)
+    except core.Refused as why:
+        return web.Response(status=why.status, text=f"{why}\n", headers=after(why.status))
+    except Stopped as why:
+        return web.Response(status=503, text=f"the desk is stopped: {why}\n", headers=after(503))
+    except web.HTTPRequestEntityTooLarge:
+        return web.Response(status=413, text=f"the stream has more than {MOST_BYTES >> 20} MiB; nothing was done\n")
+
+
+def after(status):
+    return {"Retry-After": "1"} if status == 503 else {}
+
+
+def state_of(ask):
+    """The headers that name the state in which something was answered."""
+    return {"ETag": f'"{ask.tag}"', "X-Position": str(ask.position)} if ask.tag else {}
+
+
+def key_of(request):
+    """The key of a stream, or None. Raises Refused."""
+    key = request.headers.get("Idempotency-Key")
+    if key is not None and not KEY.fullmatch(key):
+        raise core.Refused(400, "Idempotency-Key has 1 to 200 printable characters, and neither blanks nor #")
+    return key
+
+
+def condition_of(request, found):
+    """The tag of the state that a change asks for, or None. Raises Refused."""
+    text = request.headers.get("If-Match")
+    if text is None:
+        return None
+    if len(found) != 1 or not found[0].changes:
+        raise core.Refused(400, "If-Match goes with one statement, which changes something; nothing was done")
+    return text.strip().strip('"')
+
+
+def in_parts(data, lines=1000):
+    """Whole lines, some at a time."""
+    found = data.splitlines(keepends=True)
+    for begin in range(0, len(found), lines):
+        yield b"".join(found[begin : begin + lines])
+
+
+# The beginning and the end of a desk.
+
+
+class Unable(Exception):
+    """Why a desk doesn't begin."""
+
+
+def serve(given, program):
+    """Runs a desk until it is to end. Raises Unable, Unreadable and guard.Wrong."""
+    the_guard = guard.Guard(given)
+    number, is_same_file = core.file_of(given.plan)
+    try:
+        with locks.locked(number, locks.OF_A_DESK):
+            asyncio.run(served(given, program, the_guard, is_same_file))
+    except locks.Held:
+        raise Unable(f"{given.plan}: another desk has it") from None
+    finally:
+        os.close(number)
+
+
+async def served(given, program, the_guard, is_same_file):
+    stop = asyncio.Event()
+    for one in stops.SIGNALS:
+        if one != signal.SIGHUP or signal.getsignal(one) is not signal.SIG_IGN:  # as under nohup
+            asyncio.get_running_loop().add_signal_handler(one, stop.set)
+    the_log = journal.for_desk(given.journal, given.plan)
+    desk = core.Desk(program, given.plan, the_log, is_same_file)
+    server = Server(given, desk, the_guard)
+    listeners = listeners_of(given, the_guard)
+    runner = web.AppRunner(server.application(), access_log=None)
+    await runner.setup()
+    meet_all(runner.server, the_guard)
+    desk.start()
+    sites = [web.SockSite(runner, listener, shutdown_timeout=5) for listener, _ in listeners]
+    for site, (_, name) in zip(sites, listeners):
+        await site.start()
+        print(f"desk: listening on {name}", file=sys.stderr, flush=True)
+    await stop.wait()
+    for listener, _ in listeners:
+        asyncio.get_running_loop().remove_reader(listener)  # nobody else is taken
+    await server.end()
+    await runner.cleanup()
+    if given.socket:
+        with contextlib.suppress(FileNotFoundError):
+            os.remove(given.socket)
+
+
+def meet_all(server, the_guard):
+    """Has the guard meet each connection when it begins."""
+    begin = server.connection_made
+
+    def connection_made(handler, transport):
+        the_guard.meet(transport)
+        begin(handler, transport)
+
+    server.connection_made = connection_made
+
+
+def listeners_of(given, the_guard):
+    """The sockets that are listened on, each with its name. Raises Unable."""
+    found = []
+    if given.listen:
+        host, port = given.listen
+        try:
+            listener = socket.create_server((host, port), family=socket.AF_INET6 if ":" in host else socket.AF_INET)
+        except OSError as error:
+            raise Unable(f"{host}:{port}: it can't be listened on: {error.strerror}") from None
+        port = listener.getsockname()[1]
+        the_guard.add_listener(host, port)
+        found.append((listener, f"http://[{host}]:{port}" if ":" in host else f"http://{host}:{port}"))
+    if given.socket:
+        found.append((by_socket(given.socket), given.socket))
+    return found
+
+
+def by_socket(path):
+    """A Unix socket at a path, which whoever may be may reach: the guard asks who it is. Raises Unable."""
+    listener = socket.socket(socket.AF_UNIX, socket.SOCK_STREAM)
+    try:
+        if os.path.lexists(path):
+            check_left(path)
+            os.remove(path)
+        listener.bind(path)
+        os.chmod(path, 0o666)
+        listener.listen(128)
+    except OSError as error:
+        raise Unable(f"{path}: it can't be listened on: {error.strerror or error}") from None
+    return listener
+
+
+def check_left(path):
+    """Asks that what stands at a path is a socket that nobody listens on. Raises Unable."""
+    if not stat.S_ISSOCK(os.lstat(path).st_mode):
+        raise Unable(f"{path}: it is no socket; name another path")
+    with socket.socket(socket.AF_UNIX, socket.SOCK_STREAM) as one:
+        with contextlib.suppress(ConnectionRefusedError, FileNotFoundError):
+            one.connect(path)
+            raise Unable(f"{path}: another program listens on it")

@@ -1,0 +1,51 @@
+"""The plan as one file, taken while no statement is in flight."""
+
+import asyncio
+import contextlib
+import os
+import sqlite3
+
+from aiohttp import web
+
+import plan_file
+import scratch
+from desk import guard
+
+PIECE = 1 << 18
+
+
+async def handle(desk, path, request):
+    """GET /snapshot."""
+    guard.needed(request, guard.READ, "read")
+    with scratch.folder("desk-") as folder:
+        copy = os.path.join(folder, "plan.db")
+        try:
+            position, tag = await copied(desk, path, copy)
+            await asyncio.to_thread(in_one_file, copy)
+        except (OSError, sqlite3.Error, plan_file.Unreadable) as error:
+            raise web.HTTPServiceUnavailable(text=f"there is no copy: {error}\n") from None
+        response = web.StreamResponse(headers={
+            "Content-Type": "application/vnd.sqlite3", "Content-Disposition": "attachment; filename=plan.db",
+            "Content-Length": str(os.path.getsize(copy)), "X-Position": str(position), "ETag": f'"{tag}"',
+            "Cache-Control": "no-store", "X-Content-Type-Options": "nosniff"})
+        await response.prepare(request)
+        with open(copy, "rb") as file:
+            while data := await asyncio.to_thread(file.read, PIECE):
+                await response.write(data)
+        await response.write_eof()
+        return response
+
+
+async def copied(desk, path, copy):
+    """Copies the plan and its log while no statement is in flight; the position and the tag of what was copied."""
+    async with desk.hold:
+        await desk.planner.idle_or_stopped()
+        position, tag = desk.position, desk.tag()
+        await asyncio.to_thread(plan_file.copied, os.path.realpath(path), copy)
+    return position, tag
+
+
+def in_one_file(copy):
+    """Puts the log of a copy into it."""
+    with contextlib.closing(sqlite3.connect(copy)) as db:
+        db.execute("PRAGMA wal_checkpoint(TRUNCATE)")

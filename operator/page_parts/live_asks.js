@@ -1,0 +1,55 @@
+// What is asked of the desk: statements under keys, and their answers in words.
+const desk = JSON.parse(document.getElementById('desk').textContent);
+const RESTS = [.3, .7, 1.5, 3, 5, 8, 10];  // seconds between two tries of one request
+const MAY = { read: 1, operate: 2, plan: 3 };
+const may = role => MAY[desk.role] >= MAY[role];
+const pause = seconds => new Promise(done => setTimeout(done, 1000 * seconds));
+
+/** A key that stands for one press of a button. */
+const newKey = () => Array.from(crypto.getRandomValues(new Uint8Array(16)),
+  byte => byte.toString(16).padStart(2, '0')).join('');
+
+/** What the desk answers to a statement: its `lines`, or in `wrong` why there are none; `isOpen` where it may have been
+ * done all the same. It is sent under its key until it is answered, so that it is done once. */
+async function ask(text, key, tag) {
+  const headers = { 'X-Opcplan': 'desk', 'Content-Type': 'text/plain', Accept: 'application/x-ndjson' };
+  if (key) headers['Idempotency-Key'] = key;
+  if (tag) headers['If-Match'] = tag;
+  let wrong = '';
+  for (const seconds of [0, ...RESTS]) {
+    await pause(seconds);
+    try {
+      const found = await fetch('/statements', { method: 'POST', body: text + '\n', headers, redirect: 'error' });
+      const told = await found.text();
+      if (found.ok) {
+        if (live.lost) lookAfter();
+        const lines = told.trim().split('\n').map(line => JSON.parse(line));
+        return { status: 200, lines, tag: found.headers.get('ETag') };
+      }
+      wrong = told.trim();
+      if (found.status !== 503) return { status: found.status, wrong: sentence(found.status, wrong) };
+    } catch (error) {
+      wrong = error.message;
+    }
+    tellLink('no answer yet; it is asked again');
+  }
+  const hint = 'Press again: it is then asked under the same key, and done once.';
+  return { status: 0, isOpen: true, wrong: 'No answer (' + wrong + '). ' + hint };
+}
+
+/** Why nothing was done. */
+function sentence(status, text) {
+  if (status === 401) return 'Nothing was done: your session has ended. Load the page anew to sign in.';
+  if (status === 412) return 'Nothing was done: the plan has changed since it was looked at.';
+  return 'Nothing was done: ' + text;
+}
+
+/** A refusal in words, as parts. */
+function refusal(reply) {
+  const told = meaning(reply).slice(), [, number] = reply.split(' ');
+  if (!told.length) return ['Refused: ' + reply + '.'];
+  return ['Refused: ', told[0].slice(2), ...told.slice(1), ' (refused ' + number + ').'];
+}
+
+/** The text of parts that hold elements. */
+const plainText = parts => parts.map(part => part?.textContent ?? part).join('');

@@ -1,0 +1,41 @@
+// The live page begins: its parts are put into the page, and it listens.
+function addLiveParts() {
+  $('header .line').append(h('p', { id: 'link' }));
+  if (desk.signs) {
+    const leave = async () => {
+      await fetch('/session', { method: 'DELETE', headers: { 'X-Opcplan': 'desk' } });
+      location.reload();
+    };
+    $('header .line').append(h('button', { class: 'in', id: 'leave', on: leave }, 'Sign out'));
+  }
+  if (!may('plan')) return;
+  $('#changes').before(planningSection());
+  $('nav a:last-of-type').before(h('a', { href: '#planning' }, 'Planning'));
+  chooseWork(true);
+}
+
+/** The key that leads to what may be done with the chosen row. */
+function onActKey(event) {
+  const isPlain = !event.ctrlKey && !event.metaKey && !event.altKey;
+  if (event.key !== 'a' || !isPlain || event.target.matches('input, select, textarea')) return;
+  const button = $('.acts button:not([disabled])');
+  if (!button) return say(view.pick < 0 ? 'No row is chosen.' : 'Nothing can be done with it.');
+  event.preventDefault();
+  button.focus();
+}
+
+addLiveParts();
+tellLink('');
+if (may('operate')) {
+  KEYS.splice(-1, 0, ['a', 'what may be done with the chosen row']);
+  addEventListener('keydown', onActKey);
+}
+drawAll(applyChanges);
+fit();
+hear();
+fetchLately();
+setInterval(() => {
+  if (clockNow() !== D.now) drawSoon();
+  if (Date.now() - live.begun > HOUR) fetchRows();  // other days are shown by then
+}, 5000);
+setInterval(lookAfter, 20000);
