@@ -60,7 +60,14 @@ def ask_count(block, names, fewest, fields):
     more, wanted = "more" if count > most else "fewer", f"{most}" if fewest == most else f"{fewest} or {most}"
     of = "the first record" if block.kind in record_fields.FEWEST and block.records > 1 else block.kind
     has = f"it has {count} field{'s' if count != 1 else ''}"
-    raise Wrong("", f"{has}, {more} than the {wanted} of {of}: {', '.join(names)}")
+    raise Wrong("", f"{has}, {more} than the {wanted} of {of}: {', '.join(names)}{parted_else(fields, fewest)}")
+
+
+def parted_else(fields, fewest):
+    """What is said of a record of one field which other marks than commas part into as many as there have to be."""
+    marks = {b";": "semicolons", b"\t": "tabs", b"|": "bars"}
+    told = [name for mark, name in marks.items() if len(fields) == 1 and fields[0].count(mark) + 1 >= fewest]
+    return f"; they are parted by {told[0]}, and commas are wanted" if told else ""
 
 
 def take_record(block, names, take, seen, fields, line):
@@ -123,6 +130,8 @@ def read_options(data):
         at = re.search(r"line ([0-9]+)", str(error))
         line = int(at.group(1)) - 1 if at else max(0, data.count(b"\n") - 1)
         why = f"{error}" if isinstance(error, tomllib.TOMLDecodeError) else "it is too deep or too long to be read"
+        if re.search(rb"(?m)^[ \t]*default_calendar[ \t]*=[ \t]*[A-Za-z@#$]", data):
+            why += '; a name stands in double quotes, default_calendar = "DEFAULT"'
         block.fault = Fault(1, line, "", "", f"it is no TOML: {why}")
     return block
 

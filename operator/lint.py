@@ -31,12 +31,31 @@ def add_words(parser):
 
 def run(given):
     with explain.known_at_first(given.plan) as now, stream.opened(given.stream) as source:
-        found = findings(stream.items(source), now)
+        unread = []
+        found = findings(noted(stream.items(source), unread), now)
     for finding in found:
         print("\n".join(finding_lines(finding)))
     if not found:
-        words.tell(f"{given.stream}: nothing that is likely a slip")
+        words.tell(f"{given.stream}: nothing that is likely a slip{unread_text(unread)}")
     return 1 if found else 0
+
+
+def noted(items, unread):
+    """The items, of which those that are refused for their own sake are noted by their lines."""
+    for item in items:
+        if item.statement is None or item.has_data and not is_sound(item):
+            unread.append(item.line)
+        yield item
+
+
+def unread_text(lines):
+    """What is said of lines that are refused for their own sake, where there are any."""
+    if not lines:
+        return ""
+    if len(lines) == 1:
+        return f"; line {lines[0]} is refused as it stands: `./plan check` tells why"
+    many = f"{len(lines):,} statements, the first at line {lines[0]}, are refused as they stand"
+    return f"; {many}: `./plan check` tells why"
 
 
 def finding_lines(finding):

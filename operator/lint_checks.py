@@ -7,7 +7,7 @@ import loops
 import naming
 from definitions import FIRST_DAY, LAST_DAY
 from moments import DAY, day_text, minute_text, moment_text
-from naming_words import count_text, few
+from naming_words import count_text, few, meant_text
 
 KINDS = {  # those that a stream shows by itself
     "past": "an offset that is past its interval",
@@ -23,6 +23,7 @@ KINDS = {  # those that a stream shows by itself
 }
 KINDS_BY_PLAN = {  # those that show beside what a plan defines
     "lacking": "a calendar, a period or an application that isn't defined and that something names",
+    "pending": "a predecessor that is pending",
 }
 WINDOW = 42  # days over which arrivals are compared
 NIGHT = 6 * 60  # minutes within which a later predecessor belongs to the same night
@@ -144,7 +145,8 @@ def default_calendar(now):
     line = now.gone.get(("calendars", name)) or given
     line = line or min(filter(None, (now.line_of("applications", app) for app in users)), default=None)
     so = "so" if now.is_whole else "where the plan has none either,"
-    text = f"the default calendar {name} isn't defined{elsewhere(now)}, {so} each day is a work day for {few(users)}"
+    none = f"isn't defined{elsewhere(now)}{meant_text(name, now.defined.calendars)}"
+    text = f"the default calendar {name} {none}, {so} each day is a work day for {few(users)}"
     return [Finding("calendar", (name,), line, text)]
 
 
@@ -157,8 +159,12 @@ def predecessors(now):
             if other not in now.defined.applications:
                 line = line or now.gone.get(("applications", other))
                 text = f"{app} waits for {other}, which isn't defined{elsewhere(now)}"
+                text += meant_text(other, now.defined.applications)
                 text += ", and so for nothing" if now.is_whole else ": where the plan has none either, for nothing"
                 found.append(Finding("unknown", (app, other), line, text))
+            elif now.is_whole and not now.defined.applications[other].is_active:
+                text = f"{app} waits for {other}, which is pending, so that no more of it is planned"
+                found.append(Finding("pending", (app, other), line, text))
             elif other != app:
                 both = (arrivals_of(now, name, arrivals) for name in (app, other))
                 text = later_text(app, other, within, *both)
@@ -186,6 +192,7 @@ def lacking(now):
     for app, application in sorted(defined.applications.items()):
         if defined.lacks_calendar(app):
             text = f"{app} names the calendar {application.calendar}, which isn't defined"
+            text += meant_text(application.calendar, defined.calendars)
             text += f": planning is refused 22 {app}" if application.is_active else ""
             line = now.line_of("applications", app) or now.gone.get(("calendars", application.calendar))
             found.append(Finding("lacking", (app, application.calendar), line, text))
@@ -193,11 +200,13 @@ def lacking(now):
         is_active = app in defined.applications and defined.applications[app].is_active
         if app not in defined.applications:
             lines = [now.line_of("run-cycles", app, name) for name in cycles] + [now.gone.get(("applications", app))]
-            text = f"{app} has run cycles, and isn't defined as an application, so it isn't planned"
+            meant = meant_text(app, defined.applications)
+            text = f"{app} has run cycles, and isn't defined as an application{meant}, so it isn't planned"
             found.append(Finding("lacking", (app,), min(filter(None, lines), default=None), text))
         for name, cycle in sorted(cycles.items()):
             if cycle.period not in defined.periods:
                 text = f"run cycle {name} of {app} names the period {cycle.period}, which isn't defined"
+                text += meant_text(cycle.period, defined.periods)
                 text += f": planning is refused 23 {app}" if is_active else ""
                 line = now.line_of("run-cycles", app, name) or now.gone.get(("periods", cycle.period))
                 found.append(Finding("lacking", (app, name), line, text))
@@ -206,6 +215,7 @@ def lacking(now):
             lines = [now.line_of("predecessors", app, other) for other in listed]
             lines.append(now.gone.get(("applications", app)))
             text = f"{app} has a list of predecessors, and isn't defined as an application"
+            text += meant_text(app, defined.applications)
             found.append(Finding("lacking", (app, "list"), min(filter(None, lines), default=None), text))
     return found
 

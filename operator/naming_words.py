@@ -1,5 +1,7 @@
 """What an answer of naming.py says, in sentences."""
 
+import difflib
+
 from definitions import WEEKDAYS, weekday_of
 from moments import day_text
 
@@ -41,6 +43,12 @@ def few(texts, most=SHOWN):
     texts = list(texts)
     more = len(texts) - most
     return ", ".join(texts) if more < 2 else f"{', '.join(texts[:most])} and {more:,} more"
+
+
+def meant_text(name, names):
+    """` (is NAME meant?)` where a known name is like one, else nothing."""
+    found = difflib.get_close_matches(name, names, 1)
+    return f" (is {found[0]} meant?)" if found else ""
 
 
 def entry_text(defined, app, day):

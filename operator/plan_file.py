@@ -81,6 +81,17 @@ def check_begin(path):
             raise Unreadable("it can't be read as a plan: it is not a database")
 
 
+def is_database(path):
+    """Whether a path is a file that begins as a database does."""
+    if not os.path.isfile(path):
+        return False
+    try:
+        with open(path, "rb") as file:
+            return file.read(len(BEGIN)) == BEGIN
+    except OSError:
+        return False
+
+
 def check_room(path, folder):
     """Asks that there is room for a private copy of a file and its log, which is told before it is filled."""
     wanted, free = sum(size for _, size, _, _ in stamps(path)), shutil.disk_usage(folder).free

@@ -1,6 +1,5 @@
 """What a refusal means, in words, at its place in a stream (docs/STATEMENTS.md, docs/PLANS.md)."""
 
-import difflib
 import re
 
 import blocks
@@ -12,6 +11,7 @@ import statement_words
 import stream
 import waits
 from moments import DAY, day_text, moment_text
+from naming_words import meant_text
 
 DATES = {
     "days": "the last day is before the first one or after 2065-12-31, or there are more than 1,461 days",
@@ -99,6 +99,8 @@ def faulty_data(item, detail, known):
     where = f"record {fault.record} of its data, line {number}, is faulty"
     where += "" if str(fault.record) == detail else f" (the output names record {detail})"
     what = f"the field `{fault.field}` is `{fault.value[:60]}`: {fault.wrong}" if fault.field else fault.wrong
+    if item.statement.alone != "options" and text.count('"') % 2:
+        what += "; a double quote on that line has no end there"
     return [where, f"`{text[:90]}`", what]
 
 
@@ -231,8 +233,7 @@ def no_application(item, detail, known):
     found = known.defined.applications.get(app)
     if found is None:
         where = "" if known.is_whole else " in this stream, and in the plan it isn't, or is pending"
-        near = difflib.get_close_matches(app, known.defined.applications, 1)
-        return [f"the application {app} isn't defined{where}{f' (is {near[0]} meant?)' if near else ''}"]
+        return [f"the application {app} isn't defined{where}{meant_text(app, known.defined.applications)}"]
     if found.is_active:
         return [f"the application {app} isn't defined, or it is pending"]
     return [f"the application {app} is pending ({known.where('applications', app)})"]
@@ -263,6 +264,8 @@ def no_occurrence(item, detail, known):
         found = known.times_of(app, ia // DAY)
         times = ", ".join(f"{moments.minute_text(at % DAY)} ({waits.WHERE[stands]})" for at, stands in found)
         told.append(f"on that day {app} arrives at {times}" if times else f"{app} doesn't arrive on that day")
+        if not times and known.is_whole and app not in known.defined.applications:
+            told[-1] = f"the application {app} isn't defined{meant_text(app, known.defined.applications)}"
     return [*told, *bounds_text(known)]
 
 

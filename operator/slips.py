@@ -18,6 +18,9 @@ MEANT = {"\u2010": "-", "\u2011": "-", "\u2012": "-", "\u2013": "-", "\u2014": "
 
 def of_day(text):
     """What is wrong with a day, or nothing where no more can be said than its form."""
+    turned = turned_day(text)
+    if turned != text:
+        return of_day(turned) or f"it is written {turned}"
     found = re.fullmatch(r"([0-9]{1,4})-([0-9]{1,2})-([0-9]{1,2})", text)
     if not found:
         return ""
@@ -35,6 +38,12 @@ def of_day(text):
     return ""
 
 
+def turned_day(text):
+    """A day that is written day.month.year, as it is written here; any other text as it stands."""
+    found = re.fullmatch(r"([0-9]{1,2})[.]([0-9]{1,2})[.]([0-9]{4})", text)
+    return f"{found[3]}-{found[2].zfill(2)}-{found[1].zfill(2)}" if found else text
+
+
 def of_minute(text):
     """What is wrong with a minute of the day, or nothing."""
     found = re.fullmatch(r"([0-9]{1,2})[.:]?([0-9]{2})(?:[.:][0-9]{2})?", text)
@@ -50,10 +59,10 @@ def of_minute(text):
 
 def of_moment(text):
     """What is wrong with a moment, or nothing."""
-    found = re.fullmatch(r"([0-9-]+)(?:[/T_ ]([0-9.:]*))?", text)
+    found = re.fullmatch(r"([0-9-]+|[0-9]{1,2}[.][0-9]{1,2}[.][0-9]{4})(?:[/T_ ]([0-9.:]*))?", text)
     if not found:
         return ""
-    day, minute = found[1], found[2] or ""
+    day, minute = turned_day(found[1]), found[2] or ""
     if day_of(day) is None:
         return of_day(day)
     if not minute:
@@ -80,6 +89,8 @@ def of_bytes(text):
         return f"byte {place + 1} is {text[place]:02X} hexadecimal, {latin} in Latin-1: ASCII alone may stand there"
     meant = f" ({MEANT[character]} is meant?)" if character in MEANT else ""
     what = "which is no printable character" if ord(character) < 128 else "which isn't ASCII"
+    if character == "\r":
+        what += ": a line ends by a line feed, with at most one carriage return before it"
     return f"{at} is {of_character(character)}, {what}{meant}"
 
 

@@ -40,6 +40,8 @@ NEEDED = {  # the options that have to be there; those of trials stand by the fu
 }
 NAMES = [name for name in NEEDED if " " not in name]
 LIST_OPTIONS = ("app",)  # what `list` may have
+COMMENTS = ("#", "//", ";", "--")  # what begins a comment elsewhere
+OF_COMMENTS = ": a comment is a line of its own, which begins with `*`"
 BY_DAYS = ("days", "count")  # what an extension has in place of `to`
 EXTENSIONS = ("dp-extend", "dp-trial extend")
 FORMS = {
@@ -89,12 +91,14 @@ def read(words):
 def statement_of(words):
     name, *rest = words
     if name not in NAMES:
-        raise Wrong(f"there is no statement `{cut(name)}`" + near(name, NAMES))
+        told = OF_COMMENTS if name.startswith(COMMENTS) else near(name, NAMES)
+        raise Wrong(f"there is no statement `{cut(name)}`" + told)
     alone, given = parted(rest)
     if name in ALONE:
         check_alone(name, alone)
     elif alone:
         told = ": a day and its time are one word, 2026-11-25/06.00" if moments.minute_of(alone[0]) is not None else ""
+        told = OF_COMMENTS if alone[0].startswith(("*", *COMMENTS)) else told
         raise Wrong(f"`{name}` takes no word without an option, and `{cut(alone[0])}` is one{told}")
     word = alone[0] if alone else None
     what = f"{name} {word}" if name.endswith("-trial") else name
@@ -123,7 +127,9 @@ def parted(rest):
             alone.append(word)
             continue
         if not word.startswith("--") or word == "--":
-            raise Wrong(f"`{cut(word)}` is neither an option `--name` nor a word")
+            known = {option for needed in NEEDED.values() for option in needed} | {*LIST_OPTIONS, *BY_DAYS}
+            meant = f" (is `-{cut(word)}` meant?)" if word[1:].partition("=")[0] in known else ""
+            raise Wrong(f"`{cut(word)}` is neither an option `--name` nor a word{meant}")
         option, equals, value = word[2:].partition("=")
         if option in given:
             raise Wrong(f"the option `--{cut(option)}` stands twice")
@@ -143,7 +149,8 @@ def check_alone(name, alone):
     if alone[0] not in ALONE[name]:
         raise Wrong(f"`{name}` takes no `{cut(alone[0])}`, but one of {known}" + near(alone[0], ALONE[name]))
     if len(alone) > 1:
-        raise Wrong(f"`{name}` takes one word without an option, and `{cut(alone[1])}` is one more")
+        told = OF_COMMENTS if alone[1].startswith(("*", *COMMENTS)) else ""
+        raise Wrong(f"`{name}` takes one word without an option, and `{cut(alone[1])}` is one more{told}")
 
 
 def form_of(what, word, option):
@@ -164,6 +171,9 @@ def value_of(form, option, text):
 def slip_of(form, text):
     """What is likely wrong with a value, where that is easily said, else nothing."""
     said = {"day": slips.of_day, "moment": slips.of_moment}.get(form, lambda _: "")(text)
+    bare = text.strip("\"'")
+    if not said and bare != text and spelled(form, bare) is not None:
+        said = f"without the quotes it would be one, {cut(bare)}"
     if not said and spelled(form, text.upper()) is not None:
         said = f"in capital letters it would be one, {cut(text.upper())}"
     if not said and form == "job" and re.fullmatch("0+[1-9][0-9]{0,8}", text):

@@ -53,6 +53,8 @@ def tried(path, name, take, program=None):
     """A Trial of a stream over the plan of a file, or over a new plan where there is no path. What is `found` is what
     `take` makes of the items of the stream, of the output, and of what is known before. Raises Unreadable."""
     program = os.path.abspath(program or built_program())
+    if path is not None and plan_file.is_database(name) and not plan_file.is_database(path):
+        raise plan_file.Unreadable(f"{path}: it is no plan, and {name} may be one: are they exchanged?")
     with scratch.folder("trial-") as folder:
         text, copy, said = (os.path.join(folder, name) for name in ("stream.in", "plan.db", "said"))
         with plan_file.opened(new_plan(program, folder) if path is None else path) as plan:

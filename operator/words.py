@@ -6,6 +6,7 @@ import re
 import sys
 
 import moments
+import slips
 import terminal
 
 CALLED = "./plan"  # by make install as the command is called there
@@ -50,7 +51,7 @@ def day(text):
     """A day, for `type=`."""
     found = moments.day_of(text)
     if found is None:
-        raise argparse.ArgumentTypeError(f"{text!r} is no day like 2026-11-25")
+        raise argparse.ArgumentTypeError(f"{text!r} is no day like 2026-11-25{told(slips.of_day(text))}")
     return found
 
 
@@ -58,8 +59,13 @@ def moment(text):
     """A moment, for `type=`."""
     found = moments.typed_moment(text)
     if found is None:
-        raise argparse.ArgumentTypeError(f"{text!r} is no moment like 2026-11-25/06.00")
+        raise argparse.ArgumentTypeError(f"{text!r} is no moment like 2026-11-25/06.00{told(slips.of_moment(text))}")
     return found
+
+
+def told(slip):
+    """What is said behind a word that is not taken, where more than its form can be said."""
+    return f": {slip}" if slip else ""
 
 
 def name(text):

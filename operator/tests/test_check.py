@@ -238,6 +238,52 @@ undefine applications --name SALES --job 24
         replies = plain.run((text + "ltp-modify-all --job 30\n").encode(), planner)
         self.assertEqual(replies[-1], "refused 22 LEDGER")
 
+    def test_a_name_that_is_nearly_a_known_one_is_guessed(self):
+        text = """define run-cycles --job 20
+SALLES,DAILY,N,DAYS,E,1,2026-01-01,,18.00,0,20.00
+/*
+define predecessors --job 21
+LEDGER,SALSE
+SALLES,LEDGER
+/*
+define applications --job 22
+REPORT,A,BNAK
+/*
+define options --job 23
+default_calendar = "DEFALT"
+/*
+"""
+        told = [said for said in self.findings("lint", text) if "meant?" in said[1]]
+        self.assertEqual(told, [
+            (2, "SALLES has run cycles, and isn't defined as an application (is SALES meant?), so it isn't planned"),
+            (2, "run cycle DAILY of SALLES names the period DAYS, which isn't defined (is DAY meant?)"),
+            (5, "LEDGER waits for SALSE, which isn't defined (is SALES meant?), and so for nothing"),
+            (6, "SALLES has a list of predecessors, and isn't defined as an application (is SALES meant?)"),
+            (9, "REPORT names the calendar BNAK, which isn't defined (is BANK meant?): planning is refused 22 REPORT"),
+            (11, "the default calendar DEFALT isn't defined (is DEFAULT meant?), so each day is a work day for LEDGER, "
+                 "SALES"),
+        ])
+
+    def test_a_predecessor_that_is_pending(self):
+        text = "define applications --job 20\nREPORT,P,\n/*\n"
+        said = (2, "BACKUP waits for REPORT, which is pending, so that no more of it is planned")
+        self.assertNotIn(said, self.findings("lint", "ltp-modify-all --job 21\n"))
+        self.assertIn(said[1], [text for _, text in self.findings("lint", text)])
+        planner = plans.planner_of(BASE).copy()
+        plain.run((text + "ltp-modify-all --job 21\n").encode(), planner)
+        self.assertNotIn("REPORT", {row[1] for row in planner.planned.values()})
+
+    def test_lint_says_what_it_did_not_look_at(self):
+        for text, said in (
+            ("", "nothing that is likely a slip"),
+            ("nonsense\n", "nothing that is likely a slip; line 1 is refused as it stands: `./plan check` tells why"),
+            ("list cp\nnonsense\ndefine calendars --job 20\nC,SAT\n/*\n", "nothing that is likely a slip; 2 "
+             "statements, the first at line 2, are refused as they stand: `./plan check` tells why"),
+        ):
+            ran = self.asked("lint", text)
+            self.assertEqual((ran.returncode, ran.stdout), (0, ""))
+            self.assertTrue(ran.stderr.endswith(f": {said}\n"), ran.stderr)
+
     def test_a_default_calendar_that_is_taken_away(self):
         gone = "the default calendar {} isn't defined, so each day is a work day for {}"
         every = "LEDGER, REPORT, SALES"
@@ -330,6 +376,9 @@ class Limits(InRoom):
             ("cp-start --app SALES --ia 2026-11-03/18.01 --job 40", "on that day SALES arrives at 18.00 (ended in "
                                                                     "error"),
             ("cp-start --app REPORT --ia 2026-11-03/18.01 --job 40", "REPORT doesn't arrive on that day"),
+            ("cp-start --app SALSE --ia 2026-11-03/18.00 --job 40",
+             "the application SALSE isn't defined (is SALES meant?)"),
+            ("cp-start --app NOBODY --ia 2026-11-03/18.00 --job 40", "the application NOBODY isn't defined"),
             ("cp-start --app LEDGER --ia 2026-11-03/20.00 --job 40", "serial 4, SALES 2026-11-03 18.00;"),
             ("ltp-add --app SALES --ia 2026-11-04/18.00 --job 40", "SALES 2026-11-04 18.00 stands in the long-term "
                                                                    "plan"),
@@ -419,7 +468,10 @@ class Slips(unittest.TestCase):
             (slips.of_day, "2026-13-01", "there is no month 13"),
             (slips.of_day, "2072-01-01", "the year 2072 is none from 1972 to 2071"),
             (slips.of_day, "2026-6-1", "month and day have two digits: 2026-06-01"),
-            (slips.of_day, "2026-06-30", ""), (slips.of_day, "1.6.2026", ""), (slips.of_day, "", ""),
+            (slips.of_day, "2026-06-30", ""), (slips.of_day, "", ""),
+            (slips.of_day, "1.6.2026", "it is written 2026-06-01"),
+            (slips.of_day, "30.02.2026", "there is no 30 February in 2026: the month has 28 days"),
+            (slips.of_day, "01.06.26", ""), (slips.of_day, "6/1/2026", ""),
             (slips.of_minute, "24.00", "a day ends at 23.59: what is due at 24.00 is due at 00.00 of the next day"),
             (slips.of_minute, "23.60", "there is no 23.60: a day goes from 00.00 to 23.59"),
             (slips.of_minute, "8.00", "it is written 08.00"), (slips.of_minute, "08:00", "it is written 08.00"),
@@ -427,6 +479,9 @@ class Slips(unittest.TestCase):
             (slips.of_moment, "2026-02-30/08.00", "there is no 30 February in 2026: the month has 28 days"),
             (slips.of_moment, "2026-02-03T08:00", "it is written 2026-02-03/08.00"),
             (slips.of_moment, "2026-02-03/8.00", "it is written 2026-02-03/08.00"),
+            (slips.of_moment, "3.2.2026/8.00", "it is written 2026-02-03/08.00"),
+            (slips.of_moment, "30.02.2026/08.00", "there is no 30 February in 2026: the month has 28 days"),
+            (slips.of_moment, "03.02.2026", "it lacks its time: 2026-02-03/00.00 is the midnight that begins the day"),
             (slips.of_moment, "2026-02-03", "it lacks its time: 2026-02-03/00.00 is the midnight that begins the day"),
             (slips.of_moment, "2026-02-03/08.00", ""), (slips.of_moment, "#12", ""),
         ):
@@ -443,6 +498,8 @@ class Slips(unittest.TestCase):
             (b"--app \xdcBER", "byte 7 is DC hexadecimal, `\u00dc` U+00DC (latin capital letter u with diaeresis) in "
                                "Latin-1: ASCII alone may stand there"),
             (b"a\x1b[2J", "character 2 is U+001B, which is no printable character"),
+            (b"list cp\rlist ltp", "character 8 is U+000D, which is no printable character: a line ends by a line "
+                                  "feed, with at most one carriage return before it"),
             ("a\u202e".encode(), "character 2 is U+202E (right-to-left override), which isn't ASCII"),
             (b"\xef\xbb\xbflist cp", "it begins with the bytes EF BB BF, a byte order mark, which an editor put there: "
                                      "save "
@@ -460,6 +517,14 @@ class Slips(unittest.TestCase):
                                                                   "2026"),
             (b"cp-start --app A --ia 2026-02-01 08.00 --job 1\n", "a day and its time are one word, 2026-11-25/06.00"),
             (b"cp-start --app sales --ia 2026-02-01/08.00 --job 1\n", "in capital letters it would be one, SALES"),
+            (b'cp-start --app "SALES" --ia 2026-02-01/08.00 --job 1\n', "without the quotes it would be one, SALES"),
+            (b"ltp-modify-all -job 7\n", "`-job` is neither an option `--name` nor a word (is `--job` meant?)"),
+            (b"# the holidays\n", "there is no statement `#`: a comment is a line of its own, which begins with `*`"),
+            (b"ltp-modify-all --job 7 * at night\n", "and `*` is one: a comment is a line of its own, which begins"),
+            (b"list cp # all\n", "and `#` is one more: a comment is a line of its own, which begins with `*`"),
+            (b"define calendars --job 1\nC;SAT;FREE\n/*\n", "they are parted by semicolons, and commas are wanted"),
+            (b'define calendars --job 1\n"C,SAT,FREE\n/*\n', "a double quote on that line has no end there"),
+            (b"define options --job 1\ndefault_calendar = WEST\n/*\n", "a name stands in double quotes"),
             (b"ltp-modify-all --job 007\n", "without the zeros it would be one, 7"),
             (b"define calendars --job 1\nC,2026-02-30,FREE\n/*\n", "the field `entry` is `2026-02-30`: there is no 30 "
                                                                    "Feb"),

@@ -204,6 +204,13 @@ class Run(unittest.TestCase):
         self.assertEqual((ran.returncode, ran.stderr.count("\n")), (1, 1))
         self.assertIn("nothing was done", ran.stderr)
 
+    def test_a_plan_and_a_stream_that_are_exchanged(self):
+        (self.room / "x.in").write_text("list cp\n", encoding="ascii")
+        for name in ("check", "run", "what-if"):
+            ran = plans.plan(name, self.room / "x.in", self.file, "--program", plans.PROGRAM)
+            self.assertEqual((ran.returncode, ran.stdout), (1, ""))
+            self.assertIn(f"it is no plan, and {self.file} may be one: are they exchanged?", ran.stderr)
+
     def test_a_stream_from_standard_input(self):
         given = [plans.TOP / "plan", "run", self.file, "-", "--program", plans.PROGRAM]
         for words, status in (((), 1), (("--yes",), 0)):
