@@ -20,7 +20,7 @@ def of_day(text):
     """What is wrong with a day, or nothing where no more can be said than its form."""
     turned = turned_day(text)
     if turned != text:
-        return of_day(turned) or f"it is written {turned}"
+        return of_day(turned) or f"as YYYY-MM-DD it is {turned}"
     found = re.fullmatch(r"([0-9]{1,4})-([0-9]{1,2})-([0-9]{1,2})", text)
     if not found:
         return ""

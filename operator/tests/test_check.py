@@ -469,7 +469,7 @@ class Slips(unittest.TestCase):
             (slips.of_day, "2072-01-01", "the year 2072 is none from 1972 to 2071"),
             (slips.of_day, "2026-6-1", "month and day have two digits: 2026-06-01"),
             (slips.of_day, "2026-06-30", ""), (slips.of_day, "", ""),
-            (slips.of_day, "1.6.2026", "it is written 2026-06-01"),
+            (slips.of_day, "1.6.2026", "as YYYY-MM-DD it is 2026-06-01"),
             (slips.of_day, "30.02.2026", "there is no 30 February in 2026: the month has 28 days"),
             (slips.of_day, "01.06.26", ""), (slips.of_day, "6/1/2026", ""),
             (slips.of_minute, "24.00", "a day ends at 23.59: what is due at 24.00 is due at 00.00 of the next day"),

@@ -124,7 +124,7 @@ REFUSED = [
     ("calendar DEFAULT 2027-02-01..2027-02-27 unlist", 1, "nothing would change"),
     ("calendar DEFAULT 2027-02-30 free", 2, "there is no 30 February in 2027"),
     ("calendar DEFAULT 2072-01-01 free", 2, "from 1972 to 2071"),
-    ("calendar DEFAULT 30.10.2027 free", 2, "it is written 2027-10-30"),
+    ("calendar DEFAULT 30.10.2027 free", 2, "as YYYY-MM-DD it is 2027-10-30"),
     ("calendar DEFAULT SATURDAY free", 2, "YYYY-MM-DD"),
     ("calendar DEFAULT 2027-02-03..2027-02-01 free", 2, "before the first"),
     ("calendar DEFAULT 2027-02-03.. free", 2, "YYYY-MM-DD"),
