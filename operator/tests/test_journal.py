@@ -1,8 +1,11 @@
 """./plan journal: the entries of a desk's journal, all or those that are asked for, as lines, as JSON, as a stream."""
 
 import json
+import os
+import sqlite3
 import tempfile
 import unittest
+from contextlib import closing
 from pathlib import Path
 
 import journals
@@ -45,6 +48,27 @@ class Shown(unittest.TestCase):
         first = " ".join(self.asked().stdout.splitlines()[0].split())
         self.assertTrue(first.startswith("1 2024-01-01 08.00.00 me cp-start --app PAY --ia 2024-01-01/08.00"), first)
         self.assertEqual(self.asked("--stream").stdout, "".join(one[4] for one in ENTRIES))
+
+    def test_what_no_desk_wrote_is_told(self):
+        file = f"{self.plan}.journal"
+        for table, change in (("entry", "at = '2024-13-01T00:00:00.000Z'"), ("entry", "at = x'00'"),
+                              ("entry", "at = '9999-12-31T23:59:59.000Z'"), ("entry", "who = x'ff'"),
+                              ("entry", "job = 'many'"), ("entry", "text = 1.5"), ("entry", "reply = x'00'")):
+            with self.subTest(change):
+                journals.write(f"{file}.other", [], ENTRIES)
+                with closing(sqlite3.connect(f"{file}.other")) as db, db:
+                    db.execute(f"UPDATE {table} SET {change} WHERE seq = 1")
+                ran = plans.plan("journal", self.plan, "--journal", f"{file}.other")
+                self.assertEqual((ran.returncode, ran.stdout, ran.stderr.count("\n")), (1, "", 1), ran.stderr)
+                self.assertIn("entry 1 is none of a desk", ran.stderr)
+                os.remove(f"{file}.other")
+
+    def test_no_text_of_it_moves_the_cursor(self):
+        other = journals.write(f"{self.plan}.other", [], [(*ENTRIES[0][:1], "me\x1b[2J\u202e", *ENTRIES[0][2:])])
+        ran = plans.plan("journal", self.plan, "--journal", other)
+        self.assertEqual((ran.returncode, ran.stderr), (0, ""))
+        self.assertIn("me\\x1b[2J\\u202e", ran.stdout)
+        self.assertTrue(ran.stdout.removesuffix("\n").isprintable())
 
     def test_where_there_is_none(self):
         ran = plans.plan("journal", self.plan, "--journal", f"{self.plan}.none")
