@@ -141,9 +141,9 @@ class Case(unittest.TestCase):
         self.desks.append(found)
         return found
 
-    def end(self, desk):
+    def end(self, desk, how=signal.SIGTERM):
         """Ends a desk as it has to end: the plan is one file."""
-        self.assertEqual(desk.ended(), 0, desk.said)
+        self.assertEqual(desk.ended(how), 0, desk.said)
         for tail in ("-wal", ".journal-wal"):
             beside = f"{self.plan}{tail}"
             self.assertTrue(not os.path.exists(beside) or os.path.getsize(beside) < 64, tail)

@@ -289,6 +289,15 @@ class Ends(desks.Case):
         self.end(desk)
         self.assert_plan(numbered(*ADDS))
 
+    def test_each_signal_that_asks_for_its_end_ends_it(self):
+        done = []
+        for how, text in ((signal.SIGINT, START), (signal.SIGHUP, COMPLETE)):
+            desk = self.desk()
+            self.assertTrue(desk.posted(text)[2].startswith("ok serial 1"))
+            done.append(text)
+            self.end(desk, how)
+            self.assert_plan(numbered(*done))
+
     def test_a_disk_that_is_full_under_the_journal(self):
         desk = self.desk()
         desk.posted(START)
