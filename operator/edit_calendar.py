@@ -1,6 +1,7 @@
 """./plan edit PLAN.db calendar: what a calendar lists of days or of a weekday."""
 
 import argparse
+import re
 
 import edit_words
 from definitions import WEEKDAYS, Calendar, weekday_of
@@ -25,6 +26,8 @@ def entries(text):
     weekday = edit_words.weekday(text.upper())
     if weekday is not None:
         return [("weekday", weekday)]
+    if re.match("[A-Za-z]", text):
+        raise argparse.ArgumentTypeError(f"{text!r}: it has to be a weekday, MON to SUN, or a day YYYY-MM-DD")
     first, dots, last = text.partition("..")
     begin = edit_words.day(first)
     end = edit_words.day(last) if dots else begin

@@ -234,8 +234,8 @@ This chain decides it:
 class Reckoning(unittest.TestCase):
     def happened(self, times):
         """What happened to one application, an occurrence after another: (status, seconds)."""
-        at_midnight = datetime.datetime(2024, 1, 1)
-        return [(serial, "A", "2024-01-01/08.00", status, f"{(at_midnight + datetime.timedelta(0, at)).isoformat()}Z", 0)
+        begin = datetime.datetime(2024, 1, 1)
+        return [(serial, "A", "2024-01-01/08.00", status, f"{(begin + datetime.timedelta(0, at)).isoformat()}Z", 0)
                 for serial, status, at in times]
 
     def test_the_last_thirty_whole_runs_count(self):

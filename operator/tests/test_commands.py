@@ -126,6 +126,11 @@ class Commands(unittest.TestCase):
             self.assertEqual((ran.returncode, ran.stdout), (2, ""), words)
             self.assertTrue(ran.stderr.startswith("plan: ") and ran.stderr.count("\n") == 1, ran.stderr)
 
+    def test_a_subcommand_that_is_nearly_one_is_guessed(self):
+        for word, told in (("whatif", " (is what-if meant?)"), ("Page", " (is page meant?)"), ("xyz", "")):
+            self.assertEqual(plans.plan(word).stderr,
+                             f"plan: there is no subcommand {word!r}{told}; ./plan --help lists all\n")
+
     def test_it_runs_from_anywhere_and_by_a_link(self):
         link = self.room / "link"
         link.symlink_to(plans.TOP / "plan")

@@ -125,7 +125,7 @@ REFUSED = [
     ("calendar DEFAULT 2027-02-30 free", 2, "there is no 30 February in 2027"),
     ("calendar DEFAULT 2072-01-01 free", 2, "from 1972 to 2071"),
     ("calendar DEFAULT 30.10.2027 free", 2, "as YYYY-MM-DD it is 2027-10-30"),
-    ("calendar DEFAULT SATURDAY free", 2, "YYYY-MM-DD"),
+    ("calendar DEFAULT SATURDAY free", 2, "a weekday, MON to SUN, or a day YYYY-MM-DD"),
     ("calendar DEFAULT 2027-02-03..2027-02-01 free", 2, "before the first"),
     ("calendar DEFAULT 2027-02-03.. free", 2, "YYYY-MM-DD"),
     ("calendar DEFAULT 2027-02-03 2027-02-05 free", 2, "FIRST..LAST"),

@@ -286,7 +286,8 @@ class Import(unittest.TestCase):
         self.assertEqual(self.ask_printed(ran), (wanted, set()))
 
     def test_wrong_records_are_told(self):
-        for data, says in ((b"2027-02-30\n", "line 1: there is no 30 February in 2027"), (b"01.05.2027\n", "YYYY-MM-DD"),
+        for data, says in ((b"2027-02-30\n", "line 1: there is no 30 February in 2027"),
+                           (b"01.05.2027\n", "line 1: as YYYY-MM-DD it is 2027-05-01"),
                            (b"2027-05-01;free\n", "semicolons"), (b"2027-05-01,closed\n", "'closed'"),
                            (b"2027-05-01,free,a,b\n", "4 fields"), (b"2027-05-01\n\n2027-05-01,work\n", "line 3:"),
                            (b'"2027-05-01\n', "no CSV"), ("2027-05-01\n".encode("utf-16"), "UTF-16"),

@@ -49,7 +49,8 @@ def asked_of(file):
     return [["dump", file], ["export", file, "--json", "--set", "ltp", "--set", "deletions"], ["export", file, "--csv"],
             ["export", file, "--ics"], ["next-job", file], ["why", file, "A", "2024-01-02/08.00"], ["page", file],
             ["why-day", file, "A", "2024-01-02"], ["late", file, "--now", "2024-02-01/00.00"], ["rows", file],
-            ["what-if", file, stream], ["check", file, stream], ["edit", file, "calendar", "DEFAULT", "2024-01-05", "free"]]
+            ["what-if", file, stream], ["check", file, stream],
+            ["edit", file, "calendar", "DEFAULT", "2024-01-05", "free"]]
 
 
 class SoundRows(unittest.TestCase):
