@@ -57,7 +57,8 @@ def add_words(parser):
     )
     where = parser.add_mutually_exclusive_group()
     where.add_argument("--desk", default=client.usual(), metavar="DESK",
-                       help="http://HOST:PORT, or the path of a desk's socket (else what OPCPLAN_DESK has)")
+                       help="http://HOST:PORT, or the path of a desk's socket; several desks of one log with commas "
+                       "between them (else what OPCPLAN_DESK has)")
     where.add_argument("--db", type=words.file, metavar="PLAN.db", help="the file that opcplan --db keeps")
     parser.add_argument("--wait", type=seconds, default=0, metavar="SECONDS",
                         help="how long it is tried again while the desk is away, or another program has PLAN.db (else "
@@ -151,7 +152,9 @@ def run_by_desk(given, desk, line, until):
         words.tell(f"{desk.name}: {why}")
         return FAILED
     except client.Away as why:
-        told = f"it may be done all the same: send it again with `--key {used}`, and nothing is done twice"
+        told = f"send it again with `--key {used}`, and nothing is done twice"
+        if "may be done all the same" not in str(why):
+            told = f"it may be done all the same: {told}"
         words.tell(f"{why}; {told if why.may_be_done else 'nothing was sent'}")
         return FAILED
     return shown(text, subprocess.CompletedProcess([], 4 if has_refusals(answer) else 0, answer, b""), used)

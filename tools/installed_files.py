@@ -11,7 +11,7 @@ import completions
 import man_pages
 
 TOP = Path(__file__).resolve().parent.parent
-DATA = TOP / "crates" / "planner_rows" / "data"
+DATA = TOP / "crates" / "worked_streams" / "data"
 EXAMPLES = ["first-days", "monday", "tuesday"]
 # all pages but those for one who has the sources
 FOR_SOURCES = {"ARCHITECTURE.md", "CONTRIBUTING.md", "DECISIONS.md", "DEFINITIONS.md", "INSTALL.md"}
@@ -22,7 +22,7 @@ SHARE, DOC = "share/opcplan", "share/doc/opcplan"
 CALLED = {"./plan": "opcplan-plan", "./opcplan": "opcplan"}
 COMMAND = re.compile(r"(?<![\w./-])\./(?:opc)?plan(?![\w/-]|\.\w)")
 PAGE = re.compile(rf"(?<![\w./-])docs/(?=(?:{'|'.join(map(re.escape, PAGES))})\b)")
-STREAM = re.compile(rf"(?<![\w./-])crates/planner_rows/data/(?=(?:{'|'.join(EXAMPLES)})\.in\b)")
+STREAM = re.compile(rf"(?<![\w./-])crates/worked_streams/data/(?=(?:{'|'.join(EXAMPLES)})\.in\b)")
 
 
 @dataclass

@@ -102,7 +102,7 @@ class Watched:
     def asked(self, name):
         """The rows of a list, and the position at which they stand."""
         heads, data = self.desk.request("GET", f"/rows?list={name}")
-        return objects(data), int(heads["X-Position"])
+        return objects(data), int(heads["X-Opcplan-Position"])
 
     def entries(self, position):
         """The entries behind a position."""

@@ -11,6 +11,7 @@ import sys
 import plan_file
 import trial
 import words
+from desk import log_words
 
 SUMMARY = "serves one plan to many callers at once, by HTTP, with a journal"
 USUAL = "127.0.0.1:7411"
@@ -22,11 +23,18 @@ LACKING = "it needs aiohttp for Python 3, which Debian's package python3-aiohttp
 def add_words(parser):
     parser.description = (
         "Keeps one opcplan over PLAN.db and answers callers by HTTP: statements, lists, events, a copy of the plan. "
-        "Each change stands in the journal before it is done. docs/DESK.md has what may be asked, who may, and how "
+        "Each change stands in the journal before it is done; with --log in a log that outlives this machine. "
+        "docs/DESK.md has what may be asked, who may, and how "
         "it is run as a service. It ends by SIGTERM or SIGINT, with status 0; what it was asked is answered then, and "
         "PLAN.db has the plan alone. Status 1 where it can't begin, 2 where the words are wrong."
     )
     words.add_plan(parser)
+    parser.add_argument("--log", type=log_words.address, metavar="LOG",
+                        help="a log in etcd that several desks share, each with a plan of its own (else the journal "
+                        f"alone): {log_words.EXAMPLE}")
+    parser.add_argument("--from", dest="source", metavar="DESK",
+                        help="another desk of the log, whose plan is taken where there is no PLAN.db yet")
+    log_words.add_etcd(parser)
     parser.add_argument("--listen", type=address, metavar="HOST:PORT",
                         help=f"an address (else {USUAL} where there is no --socket); port 0 takes a free one")
     parser.add_argument("--socket", type=words.file, metavar="PATH",
@@ -65,14 +73,16 @@ def run(given):
     if wrong := wrong_words(given):
         words.tell(wrong)
         return 2
-    from desk import guard, journal, server
+    from desk import arrival, guard, journal, listeners, server, versions
 
     given.journal = os.path.realpath(given.journal or journal.beside(given.plan))
     try:
         program = os.path.abspath(given.program or trial.built_program())
+        if given.source and not os.path.exists(given.plan):
+            arrival.take(given.source, given.plan, given.journal)
         check_file(given.plan)
         server.serve(given, program)
-    except (server.Unable, guard.Wrong) as why:
+    except (listeners.Unable, guard.Wrong, versions.Unfit) as why:
         words.tell(str(why))
         return 1
     except OSError as error:
@@ -87,7 +97,9 @@ def wrong_words(given):
     if is_open and not (given.tokens and given.proxy):
         return (f"{given.listen[0]} is an address that other machines reach: it takes --tokens, and --proxy with the "
                 "address of a proxy that speaks TLS")
-    return ""
+    if given.log is None and any((given.source, given.etcd_ca, given.etcd_cert, given.etcd_key, given.etcd_user)):
+        return "--from and the options of etcd go with --log"
+    return log_words.wrong_etcd(given)
 
 
 def check_file(path):

@@ -4,7 +4,7 @@ import asyncio
 import json
 
 from desk import entry
-from desk.core import Refused
+from desk.refused import Refused
 from desk.planner import Ask
 
 # statements of one stream that stand in the queue at once
@@ -18,6 +18,7 @@ class Body:
         self.desk, self.asked, self.who, self.key, self.condition = desk, asked, who, key, condition
         self.at = entry.moment_now()
         self.asks, self.room = asyncio.Queue(), asyncio.Semaphore(WINDOW)
+        self.has_changes = any(one.changes for one in asked)
         self.is_left = False  # nobody reads its answers any more
         self.is_broken = False  # one of its statements wasn't taken, so none behind it is
 
@@ -61,7 +62,7 @@ class Body:
             ask.reply, ask.tag, ask.position = one.reply, self.desk.tag(), self.desk.position
             return ask
         if not one.changes:
-            return self.desk.ask_question(one.name, one.text)
+            return self.desk.ask_question(one.name, one.text, self.has_changes)
         return self.desk.ask_change(one.name, self.wanted(one, place), self.condition)
 
     def wanted(self, one, place):
@@ -69,11 +70,10 @@ class Body:
         key = self.key if place == 0 or self.key is None else f"{self.key}#{place}"
         return entry.Wanted(self.who, key, one.words, one.data, one.job, self.at)
 
-    def check_keys(self):
+    async def check_keys(self):
         """Asks that no key stands for another statement. Raises Refused."""
-        for place, one in enumerate(self.asked):
-            if one.changes and one.reply is None:
-                self.desk.known(self.wanted(one, place))
+        await self.desk.check_keys([self.wanted(one, place) for place, one in enumerate(self.asked)
+                                    if one.changes and one.reply is None])
 
     async def next(self):
         """The next statement and its Ask, answered. Raises Refused and Stopped."""

@@ -5,13 +5,16 @@ import contextlib
 import http.client
 import os
 import random
+import re
+import shutil
 import socket
 import time
 import urllib.parse
 
-# of one answer, in seconds
-PATIENCE = 300
+# of one answer, in seconds; and where another desk can be asked
+PATIENCE, PATIENCE_OF_MANY = 300, 30
 SHORTEST_REST, LONGEST_REST = 0.05, 2.0
+BETWEEN = re.compile(r",(?=https?://|/)")
 
 
 class Wrong(Exception):
@@ -37,8 +40,8 @@ class Refused(Exception):
 class BySocket(http.client.HTTPConnection):
     """A connection by a Unix socket."""
 
-    def __init__(self, path):
-        super().__init__("localhost", timeout=PATIENCE)
+    def __init__(self, path, patience):
+        super().__init__("localhost", timeout=patience)
         self.path = path
 
     def connect(self):
@@ -47,29 +50,49 @@ class BySocket(http.client.HTTPConnection):
         self.sock.connect(self.path)
 
 
+def place_of(name):
+    """How a desk is reached, and where. Raises Wrong."""
+    if "/" in name and "://" not in name:
+        return "socket", name
+    found = urllib.parse.urlsplit(name if "://" in name else f"http://{name}")
+    with contextlib.suppress(ValueError):
+        if found.scheme in ("http", "https") and found.hostname and found.path in ("", "/") and not found.query:
+            return found.scheme, (found.hostname, found.port)
+    raise Wrong(f"{name!r} is no desk: a desk is http://HOST:PORT, or the path of its socket")
+
+
 class Client:
-    """Asks a desk: `http://HOST:PORT`, `https://NAME`, `HOST:PORT`, or the path of a socket. Raises Wrong."""
+    """Asks a desk: `http://HOST:PORT`, `https://NAME`, `HOST:PORT`, or the path of a socket. Several desks of one log,
+    with commas between them, are asked in turn. Raises Wrong."""
 
     def __init__(self, name, token=None):
         self.name, self.token = name, token
-        if "/" in name and "://" not in name:
-            self.scheme, self.where = "socket", name
-            return
-        found = urllib.parse.urlsplit(name if "://" in name else f"http://{name}")
-        with contextlib.suppress(ValueError):
-            if found.scheme in ("http", "https") and found.hostname and found.path in ("", "/") and not found.query:
-                self.scheme, self.where = found.scheme, (found.hostname, found.port)
-                return
-        raise Wrong(f"{name!r} is no desk: a desk is http://HOST:PORT, or the path of its socket")
+        self.places, self.turn = [place_of(one) for one in BETWEEN.split(name)], 0
 
     def connection(self):
-        if self.scheme == "socket":
-            return BySocket(self.where)
-        kind = http.client.HTTPSConnection if self.scheme == "https" else http.client.HTTPConnection
-        return kind(*self.where, timeout=PATIENCE)
+        scheme, where = self.places[self.turn % len(self.places)]
+        patience = PATIENCE if len(self.places) == 1 else PATIENCE_OF_MANY
+        if scheme == "socket":
+            return BySocket(where, patience)
+        kind = http.client.HTTPSConnection if scheme == "https" else http.client.HTTPConnection
+        return kind(*where, timeout=patience)
 
     def request(self, method, path, body=None, heads=()):
         """Headers and body of an answer. Raises Away and Refused."""
+        with self.answer(method, path, body, heads) as answer:
+            return answer.headers, answer.read()
+
+    def download(self, path, file):
+        """Puts the body of an answer into a file, and answers its headers. Raises Away and Refused."""
+        with self.answer("GET", path) as answer:
+            shutil.copyfileobj(answer, file)
+            if answer.length:
+                raise http.client.IncompleteRead(b"", answer.length)
+            return answer.headers
+
+    @contextlib.contextmanager
+    def answer(self, method, path, body=None, heads=()):
+        """A context with an answer that isn't read yet. Raises Away and Refused."""
         given = {"X-Opcplan": "desk", **dict(heads)}
         if self.token:
             given["Authorization"] = f"Bearer {self.token}"
@@ -81,12 +104,11 @@ class Client:
             try:
                 connection.request(method, path, body, given)
                 answer = connection.getresponse()
-                data = answer.read()
+                if answer.status >= 400:
+                    raise Refused(answer.status, answer.read().decode("utf-8", "replace").strip() or answer.reason)
+                yield answer
             except (OSError, http.client.HTTPException) as error:
                 raise Away(f"{self.name}: the answer broke off: {error}", True) from None
-        if answer.status >= 400:
-            raise Refused(answer.status, data.decode("utf-8", "replace").strip() or answer.reason)
-        return answer.headers, data
 
     def statements(self, text, key, until, heads=()):
         """What a stream is answered; it is sent again, up to a moment of the steady clock, while the desk is away.
@@ -94,15 +116,18 @@ class Client:
         rest, may_be_done = SHORTEST_REST, False
         heads = {"Idempotency-Key": key, "Content-Type": "text/plain", **dict(heads)}
         while True:
-            try:
-                return self.request("POST", "/statements", text, heads)[1]
-            except Away as why:
-                may_be_done = may_be_done or why.may_be_done
-                last = Away(str(why), may_be_done)
-            except Refused as why:
-                if why.status != 503:
-                    raise
-                last = Away(f"{self.name}: {why}", True)
+            for _ in self.places:
+                try:
+                    return self.request("POST", "/statements", text, heads)[1]
+                except Away as why:
+                    may_be_done = may_be_done or why.may_be_done
+                    last = Away(str(why), may_be_done)
+                except Refused as why:
+                    if why.status != 503:
+                        raise
+                    may_be_done = True
+                    last = Away(f"{self.name}: {why}", True)
+                self.turn += 1
             if time.monotonic() + rest > until:
                 raise last
             time.sleep(random.uniform(rest / 2, rest))

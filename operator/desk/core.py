@@ -1,99 +1,72 @@
-"""A desk: statements of many callers go through one queue into the log, and then to the kept opcplan."""
+"""A desk: what its callers ask, and what they are answered."""
 
 import asyncio
-import collections
 import contextlib
 import os
-import secrets
-from concurrent.futures import ThreadPoolExecutor
+import re
+import time
 
-from desk import entry, log, metrics
+from desk import log, metrics
 from desk.events import Events
+from desk.feed import PATIENCE, Feed
 from desk.planner import Ask, Planner, Stopped
+from desk.refused import Refused, used_otherwise
 
-MOST_QUEUED = 5000
-BATCH = 64
 # of lists that are shared as long as nothing changes
 MOST_LISTS = 64
 # seconds until replies are put into the journal where no change comes that takes them along
 LATE = 0.5
 
 
-class Refused(Exception):
-    """Why a statement isn't taken, with HTTP's status."""
-
-    def __init__(self, status, text):
-        super().__init__(text)
-        self.status = status
-
-
 class Desk:
     """The desk over a plan's file, of which it has the lock, and a log."""
 
-    def __init__(self, program, path, the_log, is_same_file):
+    def __init__(self, program, path, the_log, why_not):
         self.log = the_log
-        self.planner = Planner(program, path, self.on_reply, self.on_stop, is_same_file)
+        self.planner = Planner(program, path, self.on_reply, self.on_stop, why_not)
         self.events, self.metrics = Events(self), metrics.Metrics()
-        self.queue, self.batch = collections.deque(), []
-        self.wake, self.hold = asyncio.Event(), asyncio.Lock()
-        self.writer = ThreadPoolExecutor(1, "log")
-        self.replies = []  # that the log doesn't have yet
-        self.by_key = {}  # by caller and key, what the log doesn't have yet with its reply
+        self.feed = Feed(self)
+        self.replies = []  # that the journal doesn't have yet
+        self.by_key = {}  # by caller and key, what the journal doesn't have yet with its reply
         self.lists = {}
-        self.life, self.changes = secrets.token_hex(4), 0
-        self.log_trouble = ""
-        self.is_closing = False
-        self.position = the_log.position()
-        self.tasks = []
+        self.position = self.changed = the_log.given
+        self.writing = None
 
     def start(self):
-        """Asks again what the log has without a reply, before anything else."""
+        """Asks again what the journal has without a reply, before anything else."""
         for old in self.log.unanswered():
-            ask = Ask(old.line.split(" ")[0], old.text)
-            ask.entry = old
-            self.keep_key(old, ask)
-            self.planner.in_flight.append(ask)
+            self.planner.in_flight.append(self.ask_of(old, old.line.split(" ")[0]))
         self.planner.count_flight()
         self.planner.start()
-        self.tasks = [asyncio.create_task(self.pump()), asyncio.create_task(self.write_late())]
+        self.feed.start()
+        self.writing = asyncio.create_task(self.write_late())
 
     async def close(self):
         """Ends what is in flight, and leaves the plan in one file and the journal whole."""
-        self.is_closing = True
-        self.wake.set()
-        while not self.tasks[0].done():
-            await asyncio.wait(self.tasks[:1], timeout=LATE)
-            if self.planner.stopped:
-                self.tasks[0].cancel()  # what it holds stands in the log
+        await self.feed.close()
         await self.planner.close()
-        self.tasks[1].cancel()
+        self.writing.cancel()
         with contextlib.suppress(log.Unwritable):
             await self.keep_replies()
         self.events.close()
-        self.writer.shutdown()
-        self.log.close()
+        await self.log.close()
 
     # What is taken.
 
     def tag(self):
-        """Names the state of the plan: another life of the desk, or another change, make another tag."""
-        return f"{self.life}-{self.changes}"
+        """Names the state of the plan: another log, or another change, make another tag."""
+        return f"{self.log.life}-{self.changed}"
 
-    def put(self, ask):
-        """Puts a statement into the queue. Raises Refused."""
-        if self.is_closing:
-            raise Refused(503, "the desk is being ended")
-        if self.planner.stopped:
-            raise Refused(503, f"the desk is stopped: {self.planner.stopped}")
-        if len(self.queue) >= MOST_QUEUED:
-            raise Refused(503, "too much is waiting; try again")
-        self.queue.append(ask)
-        self.wake.set()
+    def is_state(self, tag):
+        """Whether a tag names the state of the plan. A desk that began later may have named it by a later entry."""
+        life, _, entry = tag.rpartition("-")
+        is_one = life == self.log.life and re.fullmatch("[0-9]{1,15}", entry)
+        return bool(is_one) and self.changed <= int(entry) <= self.position
 
-    def ask_question(self, name, text):
-        """An Ask of a statement that changes nothing. Raises Refused."""
+    def ask_question(self, name, text, waits=False):
+        """An Ask of a statement that changes nothing; it perhaps waits for the changes before it. Raises Refused."""
         ask = Ask(name, text)
-        self.put(ask)
+        self.feed.put(ask, not waits)
         return ask
 
     def ask_list(self, text):
@@ -112,7 +85,7 @@ class Desk:
             return known
         ask = Ask(name, None, wanted)
         ask.condition = condition
-        self.put(ask)
+        self.feed.put(ask)
         if wanted.key is not None:
             self.by_key[wanted.who, wanted.key] = ask
         return ask
@@ -124,115 +97,79 @@ class Desk:
         ask = self.by_key.get((wanted.who, wanted.key))
         if ask is None:
             old = self.log.find(wanted.who, wanted.key)
-            if old is None:
+            if old is None or old.reply is None:  # of a plan that is older than its journal
                 return None
             ask = Ask("", old.text)
             ask.entry, ask.reply = old, old.reply
         job = ask.entry.job if ask.entry else ask.wanted.job
         text = ask.entry.text if ask.entry else ask.wanted.text(job)
         if wanted.text(job) != text:
-            raise Refused(409, f"the key {wanted.key} stands for another statement")
+            raise used_otherwise(wanted.key)
         return ask
 
-    def keep_key(self, wanted, ask):
-        if wanted.key is not None:
-            self.by_key[wanted.who, wanted.key] = ask
-
-    # What goes to the log, and then to the planner.
-
-    async def pump(self):
-        while True:
-            while not self.queue:
-                if self.is_closing:
-                    return
-                self.wake.clear()
-                await self.wake.wait()
-            self.batch = await self.next_batch()
-            if await self.enter(self.batch):
-                async with self.hold:
-                    for ask in self.batch:
-                        await self.planner.give(ask)
-            self.batch = []
-
-    async def next_batch(self):
-        """The next statements; one with a condition stands alone, and only where its state is that of the plan."""
-        if self.queue[0].condition is None:
-            batch = []
-            while self.queue and len(batch) < BATCH and self.queue[0].condition is None:
-                batch.append(self.queue.popleft())
-            return batch
-        await self.planner.idle_or_stopped()
-        if not self.queue:
-            return []
-        ask = self.queue.popleft()
-        if ask.condition == self.tag():
-            return [ask]
-        self.drop_all([ask], Refused(412, "the plan has changed since it was looked at; nothing was done"))
-        return []
-
-    async def enter(self, batch):
-        """Whether the changes of a batch stand in the log; where they don't, those who wait are told."""
-        changes = [ask for ask in batch if ask.wanted is not None]
-        if not changes:
-            return True
-        replies, self.replies = self.replies, []
+    async def check_keys(self, asked):
+        """Asks that the keys of a stream's changes stand for no other statements. Raises Refused."""
+        unknown = [wanted for wanted in asked if self.known(wanted) is None]
+        if len(unknown) < 2:
+            return  # one alone is found when it is appended
         try:
-            wanted = [ask.wanted for ask in changes]
-            places = await self.by_writer(self.log.append, wanted, replies)
+            found = await self.log.used(unknown)
+        except log.Unwritable:
+            return  # who appends them is told
+        for place, one in found.items():
+            if one is None:
+                raise used_otherwise(unknown[place].key)
+
+    def ask_of(self, one, name):
+        """An Ask of an Entry, which its key finds."""
+        ask = Ask(name, one.text)
+        ask.entry = one
+        if one.key is not None:
+            self.by_key[one.who, one.key] = ask
+        return ask
+
+    async def catch_up(self):
+        """Waits until the plan has what the log has now, and answers the last entry. Raises Refused."""
+        until = time.monotonic() + PATIENCE
+        try:
+            last = await self.log.ask_last(until)
         except log.Unwritable as why:
-            self.replies = replies + self.replies
-            self.log_trouble = str(why)
-            self.drop_all(batch, Refused(503, f"{why}; nothing was done"))
-            return False
-        self.log_trouble = ""
-        self.are_kept(replies)
-        for ask, (seq, job) in zip(changes, places):
-            one = ask.wanted
-            ask.text = one.text(job)
-            ask.entry = entry.Entry(seq, one.at, one.who, one.key, job, ask.text)
-        return True
+            raise Refused(503, f"it isn't known how far the log is: {why}") from None
+        while self.position < last:
+            if self.planner.stopped or time.monotonic() > until:
+                raise Refused(503, f"the plan here is behind the log, which has entry {last}: "
+                                   f"{self.trouble or 'try again'}")
+            await asyncio.sleep(LATE / 50)
+        return last
 
-    def drop_all(self, asks, error):
-        """Sends those away who wait for statements that aren't in the log, and for what their streams have behind them:
-        nothing of a stream is done before what stands before it."""
-        while asks:
-            for ask in asks:
-                self.drop(ask, error)
-            left, self.queue, asks = self.queue, collections.deque(), []
-            for ask in left:
-                (asks if any(one.is_broken for one in ask.streams) else self.queue).append(ask)
-
-    def drop(self, ask, error):
-        for one in ask.streams:
-            one.is_broken = True
-        if ask.wanted is not None:
-            self.by_key.pop((ask.wanted.who, ask.wanted.key), None)
+    def forget(self, ask):
+        """Lets a statement go that wasn't taken."""
+        if ask.wanted is not None and self.by_key.get((ask.wanted.who, ask.wanted.key)) is ask:
+            del self.by_key[ask.wanted.who, ask.wanted.key]
         self.lists.pop(ask.text, None)
-        ask.fail(error)
-
-    def by_writer(self, what, *words):
-        return asyncio.get_running_loop().run_in_executor(self.writer, what, *words)
 
     # What comes back.
 
     def on_reply(self, ask, reply):
         """Takes what a statement was answered, before its caller hears it."""
-        self.metrics.count(ask, reply)
+        if ask.name is not None:
+            self.metrics.count(ask, reply)
         if ask.entry is not None:
             ask.entry.reply = reply
-            self.position = ask.entry.seq
+        if ask.entry is not None and not ask.is_again:
+            self.position = max(self.position, ask.entry.seq)
             self.replies.append((ask.entry.seq, reply))
             if reply.startswith("ok"):
-                self.changes += 1
+                self.changed = self.position
                 self.lists.clear()
             self.events.publish(ask.entry)
         ask.tag, ask.position = self.tag(), self.position
 
     def on_stop(self, why):
         """Sends all away who wait for the planner; what stands in the log stays."""
-        queue, self.queue = list(self.queue), collections.deque()
-        self.drop_all(queue, Stopped(why))
-        for ask in self.batch:
+        self.feed.drop_queue(Stopped(why))
+        self.feed.drop_questions(Stopped(why))
+        for ask in self.feed.batch:
             ask.fail(Stopped(why))
         self.lists.clear()
 
@@ -248,16 +185,14 @@ class Desk:
         replies, self.replies = self.replies, []
         try:
             if replies:
-                await self.by_writer(self.log.keep_replies, replies)
-        except log.Unwritable as why:
+                await self.log.keep_replies(replies)
+        except log.Unwritable:
             self.replies = replies + self.replies
-            self.log_trouble = str(why)
             raise
-        self.log_trouble = ""
         self.are_kept(replies)
 
     def are_kept(self, replies):
-        """The log has these replies: a retry finds them there."""
+        """The journal has these replies: a retry finds them there."""
         kept = {seq for seq, _ in replies}
         if kept:
             self.by_key = {key: ask for key, ask in self.by_key.items()
@@ -266,17 +201,18 @@ class Desk:
     @property
     def trouble(self):
         """Why the desk answers nothing, or takes no change, for now."""
-        return self.planner.stopped or self.log_trouble
+        return self.planner.stopped or self.log.trouble
 
 
 def file_of(path):
-    """Whether a path still names the file that is open, as a question."""
+    """An open file, and a question that says what is wrong once its path names another one."""
     number = os.open(path, os.O_RDWR)
     own = os.fstat(number)
 
-    def is_same():
+    def why_not():
         with contextlib.suppress(OSError):
-            return os.path.samestat(own, os.stat(path))
-        return False
+            if os.path.samestat(own, os.stat(path)):
+                return ""
+        return "another file has the plan's place; end the desk and start it again"
 
-    return number, is_same
+    return number, why_not

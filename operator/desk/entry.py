@@ -5,6 +5,8 @@ import dataclasses
 import datetime
 import re
 
+from desk import log
+
 # the job numbers that a desk gives itself: the first one and the number of the entry from 0 on
 FIRST_JOB, LAST_JOB = 500_000_001, 599_999_999
 
@@ -48,6 +50,22 @@ class Entry:
         """What is told of it, by name."""
         return {"seq": self.seq, "statement": self.line, "job": self.job, "rows": [], "reply": self.reply,
                 "at": self.at, "key": self.key, "who": self.who}
+
+
+def placed(batch, last):
+    """The Entries that a list of Wanted are behind the last one. Raises Unwritable."""
+    found = []
+    for seq, wanted in enumerate(batch, last + 1):
+        job = number_of(seq) if wanted.job is None else wanted.job
+        if wanted.job is None and job > LAST_JOB:
+            raise log.Unwritable("no job number of the desk's range is left")
+        found.append(Entry(seq, wanted.at, wanted.who, wanted.key, job, wanted.text(job)))
+    return found
+
+
+def number_of(seq):
+    """The job number that a desk gives to an entry."""
+    return FIRST_JOB + seq - 1
 
 
 def is_moment(text):

@@ -13,6 +13,8 @@ MOST_WAITING = 1000
 PAGE = 500
 # seconds without an event until the reader is told that the desk is there
 QUIET = 15
+# names no state: entries are lacking here that the reader doesn't have, so it has to look at all anew
+ANEW = "anew-0"
 
 
 class Events:
@@ -58,6 +60,8 @@ class Events:
         """Tells what the log has behind a position; the last position that was told."""
         await self.desk.keep_replies()
         await response.prepare(request)
+        if since < self.desk.log.begins:
+            await response.write(self.state_text(ANEW))
         while found := self.desk.log.entries(since, PAGE):
             for one in found:
                 await response.write(entry_text(one))
@@ -80,8 +84,8 @@ class Events:
                 last = one.seq
                 await response.write(entry_text(one) + (self.state_text() if listener.empty() else b""))
 
-    def state_text(self):
-        told = {"tag": self.desk.tag(), "position": self.desk.position}
+    def state_text(self, tag=None):
+        told = {"tag": tag or self.desk.tag(), "position": self.desk.position}
         return f"event: state\ndata: {json.dumps(told)}\n\n".encode()
 
 

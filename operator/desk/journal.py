@@ -1,5 +1,5 @@
 """The journal of a desk: who asked what, when, and what it was answered; and when what happened, which a plan doesn't
-keep. It is a SQLite file beside the plan, and the first body of the log."""
+keep. It is a SQLite file beside the plan."""
 
 import contextlib
 import os
@@ -24,6 +24,8 @@ CREATE TABLE happened (
 CREATE INDEX happened_by_serial ON happened (serial);
 PRAGMA user_version = 1;
 """
+# of a log that is shared: which one it is, from which entry on it is kept here, and how many jobs the plan had then
+BEGUN = "CREATE TABLE IF NOT EXISTS begun (log TEXT NOT NULL, seq INTEGER NOT NULL, jobs INTEGER NOT NULL)"
 COLUMNS = "seq, at, who, key, job, text, reply"
 STATUS = re.compile(r"ok serial ([0-9]+) status ([WSECD])")
 TAIL = ".journal"
@@ -31,15 +33,17 @@ TAIL = ".journal"
 PATIENCE = 30
 
 
-class Journal(log.Log):
-    """The journal in a file; `floor` is a position that entries stand behind at least."""
+class Journal:
+    """The journal in a file; `floor` is a position that entries stand behind at least. One thread writes it, by `put`
+    and `keep_replies`. Each entry is on the disk then, but with `is_copy`: what a power cut takes of one whose log
+    stands elsewhere is read there again."""
 
-    def __init__(self, path, floor=0):
+    def __init__(self, path, floor=0, is_copy=False):
         self.path, self.floor = path, floor
         try:
             self.db = sqlite3.connect(path, isolation_level=None, check_same_thread=False)
             self.db.execute("PRAGMA journal_mode = WAL")
-            self.db.execute("PRAGMA synchronous = FULL")
+            self.db.execute(f"PRAGMA synchronous = {'NORMAL' if is_copy else 'FULL'}")
             self.make_tables()
             # another thread may write meanwhile: what is read is what is on the disk
             self.reader = sqlite3.connect(path, isolation_level=None)
@@ -56,26 +60,44 @@ class Journal(log.Log):
             raise plan_file.Unreadable(f"{self.path}: it is a database, but no journal of a desk")
 
     def position(self):
-        return self.last(self.reader)
-
-    def last(self, db):
-        (last,) = db.execute("SELECT max(seq) FROM entry").fetchone()
+        """The number of the last entry, at least the floor."""
+        (last,) = self.reader.execute("SELECT max(seq) FROM entry").fetchone()
         return max(last or 0, self.floor)
 
-    def append(self, batch, replies=()):
-        seq = self.last(self.db)
-        entries = []
-        for seq, wanted in enumerate(batch, seq + 1):
-            job = entry.FIRST_JOB + seq - 1 if wanted.job is None else wanted.job
-            if job > entry.LAST_JOB and wanted.job is None:
-                raise log.Unwritable("no job number of the desk's range is left")
-            entries.append((seq, wanted.at, wanted.who, wanted.key, job, stored(wanted.text(job))))
+    def put(self, entries, replies=()):
+        """Keeps Entries under their numbers, and replies, all or nothing. One that stands there stays, and has to be
+        the same. Raises Unwritable."""
         with self.transaction():
-            self.db.executemany("INSERT INTO entry (seq, at, who, key, job, text) VALUES (?, ?, ?, ?, ?, ?)", entries)
+            for one in entries:
+                if one.key is not None:  # that of an entry which is so old that its key was free
+                    self.db.execute("UPDATE entry SET key = NULL WHERE who = ? AND key = ? AND seq <> ?",
+                                    (one.who, one.key, one.seq))
+                put = self.db.execute("""INSERT INTO entry (seq, at, who, key, job, text) VALUES (?, ?, ?, ?, ?, ?)
+                    ON CONFLICT (seq) DO NOTHING""", (one.seq, one.at, one.who, one.key, one.job, stored(one.text)))
+                if not put.rowcount and not self.has(one):
+                    raise log.Unwritable(f"entry {one.seq} of the journal {self.path} isn't that of the log")
             self.put_replies(replies)
-        return [(one[0], one[4]) for one in entries]
+
+    def has(self, one):
+        """Whether an Entry's text stands under its number."""
+        return self.db.execute("SELECT text FROM entry WHERE seq = ?", (one.seq,)).fetchone() == (stored(one.text),)
+
+    def begun(self):
+        """Which log a plan shares, behind which entry it is kept here, and the jobs of the plan then; or None."""
+        if self.db.execute("SELECT 1 FROM sqlite_schema WHERE name = 'begun'").fetchone() is None:
+            return None
+        return self.db.execute("SELECT log, seq, jobs FROM begun").fetchone()
+
+    def begin(self, log_id, seq, jobs):
+        """Keeps which log the plan shares from an entry on. Raises Unwritable."""
+        with self.transaction():
+            self.db.execute(BEGUN)
+            self.db.execute("DELETE FROM begun")
+            self.db.execute("INSERT INTO begun VALUES (?, ?, ?)", (log_id, seq, jobs))
+        self.floor = seq
 
     def keep_replies(self, replies):
+        """Keeps what entries were answered, [(seq, reply)]. Raises Unwritable."""
         with self.transaction():
             self.put_replies(replies)
 
@@ -101,12 +123,15 @@ class Journal(log.Log):
             self.db.execute("BEGIN IMMEDIATE")
             yield
             self.db.execute("COMMIT")
-        except sqlite3.Error as error:
+        except (sqlite3.Error, log.Unwritable) as error:
             with contextlib.suppress(sqlite3.Error):
                 self.db.execute("ROLLBACK")
+            if isinstance(error, log.Unwritable):
+                raise
             raise log.Unwritable(f"the journal {self.path} can't be written: {error}") from None
 
     def entries(self, since=0, most=-1):
+        """At most so many Entries behind a position, in their order, that are answered."""
         asked = f"SELECT {COLUMNS} FROM entry WHERE seq > ? AND reply IS NOT NULL ORDER BY seq LIMIT ?"
         return [entry_of(row) for row in self.reader.execute(asked, (since, most)).fetchall()]
 
@@ -119,10 +144,12 @@ class Journal(log.Log):
             yield from map(entry_of, found)
 
     def unanswered(self):
+        """The Entries whose reply isn't kept, in their order."""
         asked = f"SELECT {COLUMNS} FROM entry WHERE reply IS NULL ORDER BY seq"
         return [entry_of(row) for row in self.reader.execute(asked).fetchall()]
 
     def find(self, who, key):
+        """The Entry of a caller's key, or None."""
         row = self.reader.execute(f"SELECT {COLUMNS} FROM entry WHERE who = ? AND key = ?", (who, key)).fetchone()
         return row and entry_of(row)
 
@@ -143,6 +170,7 @@ class Journal(log.Log):
         return found
 
     def close(self):
+        """Leaves all in one file."""
         self.reader.close()
         with contextlib.suppress(sqlite3.Error):
             self.db.execute("PRAGMA wal_checkpoint(TRUNCATE)")
@@ -208,9 +236,7 @@ def for_desk(path, plan):
     """The Journal of a desk over a plan: it goes on behind what either has. Raises Unreadable where the plan is older
     than the journal."""
     with at_rest(plan) as held:
-        asked = "SELECT max(number) FROM job WHERE number BETWEEN ? AND ?"
-        (greatest,) = held.db.execute(asked, (entry.FIRST_JOB, entry.LAST_JOB)).fetchone()
-        journal = Journal(path, (greatest or entry.FIRST_JOB - 1) - entry.FIRST_JOB + 1)
+        journal = Journal(path, position_of(held))
         last = journal.last_kept()
         if last and held.db.execute("SELECT 1 FROM job WHERE number = ?", (last.job,)).fetchone() is None:
             journal.close()
@@ -219,6 +245,13 @@ def for_desk(path, plan):
                 f"over the plan, by `./plan journal {plan} --journal {path} --stream | ./opcplan --db {plan}`, or name "
                 "a new one by --journal")
     return journal
+
+
+def position_of(held):
+    """How far a plan has a log by itself: the entry of the greatest number that a desk gave."""
+    asked = "SELECT max(number) FROM job WHERE number BETWEEN ? AND ?"
+    (greatest,) = held.db.execute(asked, (entry.FIRST_JOB, entry.LAST_JOB)).fetchone()
+    return greatest - entry.FIRST_JOB + 1 if greatest else 0
 
 
 @contextlib.contextmanager

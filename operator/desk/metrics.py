@@ -27,9 +27,10 @@ class Metrics:
             ("stopped", "gauge", int(bool(desk.trouble))),
             ("planner_starts_total", "counter", planner.lives),
             ("position", "gauge", desk.position),
-            ("queued", "gauge", len(desk.queue)),
+            ("queued", "gauge", len(desk.feed.queue)),
             ("in_flight", "gauge", len(planner.in_flight)),
             ("listeners", "gauge", len(desk.events.listeners)),
+            *((name, "gauge", value) for name, value in desk.log.gauges(desk.position).items()),
         ):
             lines += [f"# TYPE opcplan_desk_{name} {kind}", f"opcplan_desk_{name} {value}"]
         lines.append("# TYPE opcplan_desk_answers_total counter")

@@ -15,7 +15,7 @@ import moments
 import page_html
 import plan_file
 import scratch
-from desk import guard, live_parts, snapshot
+from desk import guard, live_parts, rows, snapshot
 
 HERE = os.path.dirname(os.path.realpath(__file__))
 # what changes the status of a row, each with the statuses that take it; and of these what changes nothing else: the
@@ -45,7 +45,7 @@ class Page:
             return answer(live_parts.sign_in().encode(), "text/html",
                           live_parts.policy(live_parts.SIGN_STYLES, live_parts.SIGN_SCRIPTS))
         guard.needed(request, guard.READ, "read")
-        made = await self.page(moment_asked(request))
+        made = await self.page(moment_asked(request), await self.least(request))
         text = b"".join([made.begin, made.data, END_OF_DATA, self.own(request, made), made.end])
         return answer(text, "text/html", live_parts.policy(live_parts.STYLES, live_parts.SCRIPTS), made.heads())
 
@@ -55,9 +55,16 @@ class Page:
         since = request.query.get("since", "0")
         if not since.isascii() or not since.isdigit() or len(since) > 15:
             raise web.HTTPBadRequest(text="`since` is the number of an entry\n")
-        made = await self.page(moment_asked(request), int(since))
+        made = await self.page(moment_asked(request), max(int(since), await self.least(request)))
         text = b"".join([b'{"plan":', made.data, b',"desk":', self.own(request, made), b"}"])
         return answer(text, "application/json", None, made.heads())
+
+    async def least(self, request):
+        """The entry that what is shown has to have, where it has to be fresh, or 0. Raises HTTPBadRequest."""
+        try:
+            return await self.desk.catch_up() if rows.is_fresh(request.query) else 0
+        except rows.Wrong as why:
+            raise web.HTTPBadRequest(text=f"{why}\n") from None
 
     def own(self, request, made):
         """What the page has besides the plan: who looks at it, what that one may, and the state that is shown."""
@@ -105,7 +112,7 @@ class Made:
         self.begin, self.data, self.end = begin, data, end
 
     def heads(self):
-        return {"ETag": f'"{self.tag}"', "X-Position": str(self.position)}
+        return {"ETag": f'"{self.tag}"', "X-Opcplan-Position": str(self.position)}
 
 
 END_OF_DATA = b'</script>\n<script type="application/json" id="desk">'

@@ -8,6 +8,7 @@ import asyncio
 import collections
 import contextlib
 import re
+import sys
 import tempfile
 import time
 
@@ -39,6 +40,7 @@ class Ask:
     def __init__(self, name, text=None, wanted=None):
         self.name, self.text, self.wanted = name, text, wanted
         self.entry = None
+        self.is_again = False  # its entry was answered before, at this desk or another one
         self.condition = None  # the tag of the state that it asks for
         self.streams = []  # that wait for it
         self.begun = time.monotonic()
@@ -48,6 +50,20 @@ class Ask:
         self.tag, self.position = None, 0  # of the state in which it was answered
         self.wrong = None  # why its rows can't be had
         self.waiting = []
+
+    @property
+    def is_change(self):
+        """Whether it has to stand in the log, and doesn't yet."""
+        return self.wanted is not None and self.entry is None
+
+    @property
+    def size(self):
+        """How many bytes it takes in the log, without its line."""
+        return len(self.wanted.data or b"") if self.wanted is not None else 0
+
+    def stands_for(self, one):
+        """It stands for an Entry that was answered before, and is answered so again."""
+        self.text, self.entry, self.is_again = one.text, one, True
 
     def wait(self):
         """A future of this Ask once it is answered; it raises what `fail` is told."""
@@ -103,11 +119,12 @@ class Ask:
 
 
 class Planner:
-    """The kept opcplan over a file. `on_reply` is called with each Ask that is answered, in their order."""
+    """The kept opcplan over a file. `on_reply` is called with each Ask that is answered, in their order; `why_not` says
+    why the program may not be run for now, or nothing."""
 
-    def __init__(self, program, path, on_reply, on_stop, is_same_file):
+    def __init__(self, program, path, on_reply, on_stop, why_not):
         self.words = [program, "--db", path]
-        self.on_reply, self.on_stop, self.is_same_file = on_reply, on_stop, is_same_file
+        self.on_reply, self.on_stop, self.why_not = on_reply, on_stop, why_not
         self.in_flight = collections.deque()
         self.room, self.idle = asyncio.Event(), asyncio.Event()
         self.room.set()
@@ -116,6 +133,7 @@ class Planner:
         self.is_open, self.closing = False, asyncio.Event()
         self.open_since = None  # seconds since 1970
         self.lives = 0
+        self.said = ""  # what opcplan said of itself in its last life
         self.why = ""  # why the last life ended
         self.stopped = ""  # why nothing is answered for now
         self.task = None
@@ -129,6 +147,8 @@ class Planner:
         while not self.closing.is_set():
             opened = await self.life()
             if self.closing.is_set():
+                if opened and self.said:
+                    print(f"desk: opcplan says: {self.said}", file=sys.stderr, flush=True)
                 return
             if opened:
                 rest, unopened, since = SHORTEST_REST, 0, time.monotonic()
@@ -152,8 +172,8 @@ class Planner:
 
     async def life(self):
         """One life of opcplan: whether it opened the plan."""
-        if not self.is_same_file():
-            self.why = "another file has the plan's place; end the desk and start it again"
+        if why := self.why_not():
+            self.why = why
             return False
         try:
             self.process = await asyncio.create_subprocess_exec(
@@ -169,8 +189,8 @@ class Planner:
         opened, fault = await self.talk()
         self.is_open, self.open_since = False, None
         status = await self.ended()
-        said = (await told).decode("utf-8", "replace").strip().split("\n")[0].removeprefix("opcplan: ")
-        self.why = said or fault or f"opcplan ended with status {status}"
+        self.said = (await told).decode("utf-8", "replace").strip().split("\n")[0].removeprefix("opcplan: ")
+        self.why = self.said or fault or f"opcplan ended with status {status}"
         return opened
 
     async def ended(self):

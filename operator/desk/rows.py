@@ -21,7 +21,7 @@ FIELDS = {
 }
 NUMBERS = {"serial", "successor", "predecessor", "within"}
 MOMENTS = {"ia", "deadline", "predecessor_ia"}
-WORDS = ("list", "app", "from", "to", "status")
+WORDS = ("list", "app", "from", "to", "status", "fresh")
 
 
 class Wrong(Exception):
@@ -45,6 +45,7 @@ class Selection:
         self.first, self.last = day_of(query, "from"), day_of(query, "to")
         if self.name == "links" and (self.first or self.last):
             raise Wrong("`links` have no days")
+        self.is_fresh = is_fresh(query)
         self.status = query.get("status")
         if self.status is not None and ("status" not in self.fields or not re.fullmatch("[WSECD]+", self.status)):
             raise Wrong("`status` is letters of W, S, E, C and D, of the lists cp and history")
@@ -78,6 +79,14 @@ def value_of(name, text):
     if not text:
         return None
     return int(text) if name in NUMBERS and text.isdigit() else text
+
+
+def is_fresh(query):
+    """Whether what is shown has to have all that any desk answered till now. Raises Wrong."""
+    text = query.get("fresh", "0")
+    if text not in ("0", "1"):
+        raise Wrong("`fresh` is 1, or 0")
+    return text == "1"
 
 
 def day_of(query, word):

@@ -6,16 +6,16 @@ import json
 import os
 import re
 import signal
-import socket
-import stat
 import sys
 
 from aiohttp import web
 
 import locks
 import stops
-from desk import asked, body, core, guard, journal, page, rows, snapshot
+from desk import alone, asked, body, core, guard, joining, journal, log, log_words, page, rows, snapshot, versions
+from desk.listeners import Unable, listeners_of
 from desk.planner import Stopped
+from desk.refused import Refused
 
 MOST_BYTES = 32 << 20
 # seconds in which streams that are under way may end, once the desk is to end
@@ -49,7 +49,7 @@ class Server:
         guard.needed(request, guard.READ, "read")
         stream = body.Body(self.desk, await self.asked_of(request), request["who"], key_of(request), None)
         stream.condition = condition_of(request, stream.asked)
-        stream.check_keys()
+        await stream.check_keys()
         taking = asyncio.create_task(stream.take())
         self.streams.add(taking)
         taking.add_done_callback(self.streams.discard)
@@ -64,7 +64,7 @@ class Server:
                     await response.prepare(request)
                 for data in (body.as_json if is_json else body.as_text)(one, ask):
                     await response.write(data)
-        except (core.Refused, Stopped):
+        except (Refused, Stopped):
             if not response.prepared:
                 raise
             if request.transport is not None:
@@ -83,7 +83,7 @@ class Server:
         try:
             found = asked.of_stream(data)
         except asked.Wrong as why:
-            raise core.Refused(400, f"{why}; nothing was done") from None
+            raise Refused(400, f"{why}; nothing was done") from None
         for one in found:
             guard.needed(request, one.role, one.name)
         return found
@@ -96,10 +96,12 @@ class Server:
         try:
             selection = rows.Selection(request.query)
         except rows.Wrong as why:
-            raise core.Refused(400, str(why)) from None
+            raise Refused(400, str(why)) from None
+        if selection.is_fresh:
+            await self.desk.catch_up()
         ask = await self.desk.ask_list(selection.text).wait()
         if ask.wrong is not None:
-            raise core.Refused(503, ask.wrong)
+            raise Refused(503, ask.wrong)
         state = state_of(ask)
         if request.headers.get("If-None-Match") == state["ETag"]:
             return web.Response(status=304, headers=state)
@@ -117,7 +119,7 @@ class Server:
         guard.needed(request, guard.READ, "read")
         begin = request.query.get("from", "1")
         if not re.fullmatch("[0-9]{1,15}", begin):
-            raise core.Refused(400, "`from` is the number of an entry")
+            raise Refused(400, "`from` is the number of an entry")
         await self.desk.keep_replies()
         response = web.StreamResponse(headers={"Content-Type": "application/x-ndjson", **SAFE})
         await response.prepare(request)
@@ -147,8 +149,8 @@ class Server:
             told |= {
                 "why": why, "position": desk.position, "planner": planner.process.pid if planner.is_open else None,
                 "running since": planner.open_since, "starts": planner.lives,
-                "waiting": len(desk.queue) + len(planner.in_flight), "journal": self.given.journal,
-                "plan": os.path.realpath(self.given.plan), "tag": desk.tag(),
+                "waiting": len(desk.feed.queue) + len(planner.in_flight), "journal": self.given.journal,
+                **desk.log.standing(desk.position), "plan": os.path.realpath(self.given.plan), "tag": desk.tag(),
             }
         return web.json_response(told, status=503 if desk.trouble else 200)
 
@@ -167,9 +169,9 @@ async def told(request, handler):
     """Tells in a sentence why something isn't done."""
     try:
         return await handler(request)
-    except core.Refused as why:
+    except Refused as why:
         return web.Response(status=why.status, text=f"{why}\n", headers=after(why.status))
-    except Stopped as why:
+    except (Stopped, log.Unwritable) as why:
         return web.Response(status=503, text=f"the desk is stopped: {why}\n", headers=after(503))
     except web.HTTPRequestEntityTooLarge:
         return web.Response(status=413, text=f"the stream has more than {MOST_BYTES >> 20} MiB; nothing was done\n")
@@ -181,14 +183,14 @@ def after(status):
 
 def state_of(ask):
     """The headers that name the state in which something was answered."""
-    return {"ETag": f'"{ask.tag}"', "X-Position": str(ask.position)} if ask.tag else {}
+    return {"ETag": f'"{ask.tag}"', "X-Opcplan-Position": str(ask.position)} if ask.tag else {}
 
 
 def key_of(request):
     """The key of a stream, or None. Raises Refused."""
     key = request.headers.get("Idempotency-Key")
     if key is not None and not KEY.fullmatch(key):
-        raise core.Refused(400, "Idempotency-Key has 1 to 200 printable characters, and neither blanks nor #")
+        raise Refused(400, "Idempotency-Key has 1 to 200 printable characters, and neither blanks nor #")
     return key
 
 
@@ -198,7 +200,7 @@ def condition_of(request, found):
     if text is None:
         return None
     if len(found) != 1 or not found[0].changes:
-        raise core.Refused(400, "If-Match goes with one statement, which changes something; nothing was done")
+        raise Refused(400, "If-Match goes with one statement, which changes something; nothing was done")
     return text.strip().strip('"')
 
 
@@ -212,30 +214,36 @@ def in_parts(data, lines=1000):
 # The beginning and the end of a desk.
 
 
-class Unable(Exception):
-    """Why a desk doesn't begin."""
-
-
 def serve(given, program):
-    """Runs a desk until it is to end. Raises Unable, Unreadable and guard.Wrong."""
+    """Runs a desk until it is to end. Raises Unable, Unreadable, Wrong and Unfit."""
     the_guard = guard.Guard(given)
-    number, is_same_file = core.file_of(given.plan)
+    number, why_not = core.file_of(given.plan)
     try:
         with locks.locked(number, locks.OF_A_DESK):
-            asyncio.run(served(given, program, the_guard, is_same_file))
+            asyncio.run(served(given, program, the_guard, why_not))
     except locks.Held:
         raise Unable(f"{given.plan}: another desk has it") from None
     finally:
         os.close(number)
 
 
-async def served(given, program, the_guard, is_same_file):
+async def served(given, program, the_guard, why_not):
+    async with contextlib.AsyncExitStack() as left:
+        if given.log is None:
+            the_log = alone.Alone(journal.for_desk(given.journal, given.plan))
+        else:
+            store = await left.enter_async_context(joining.opened(given.log, log_words.access_of(given)))
+            the_log = await joining.joined(store, given.plan, given.journal, program)
+            why_not = versions.of_version(program, the_log.version, why_not)
+        await run(given, the_guard, core.Desk(program, given.plan, the_log, why_not))
+
+
+async def run(given, the_guard, desk):
+    """Has a desk answer until it is to end."""
     stop = asyncio.Event()
     for one in stops.SIGNALS:
         if one != signal.SIGHUP or signal.getsignal(one) is not signal.SIG_IGN:  # as under nohup
             asyncio.get_running_loop().add_signal_handler(one, stop.set)
-    the_log = journal.for_desk(given.journal, given.plan)
-    desk = core.Desk(program, given.plan, the_log, is_same_file)
     server = Server(given, desk, the_guard)
     listeners = listeners_of(given, the_guard)
     runner = web.AppRunner(server.application(), access_log=None)
@@ -265,45 +273,3 @@ def meet_all(server, the_guard):
         begin(handler, transport)
 
     server.connection_made = connection_made
-
-
-def listeners_of(given, the_guard):
-    """The sockets that are listened on, each with its name. Raises Unable."""
-    found = []
-    if given.listen:
-        host, port = given.listen
-        try:
-            listener = socket.create_server((host, port), family=socket.AF_INET6 if ":" in host else socket.AF_INET)
-        except OSError as error:
-            raise Unable(f"{host}:{port}: it can't be listened on: {error.strerror}") from None
-        port = listener.getsockname()[1]
-        the_guard.add_listener(host, port)
-        found.append((listener, f"http://[{host}]:{port}" if ":" in host else f"http://{host}:{port}"))
-    if given.socket:
-        found.append((by_socket(given.socket), given.socket))
-    return found
-
-
-def by_socket(path):
-    """A Unix socket at a path, which whoever may be may reach: the guard asks who it is. Raises Unable."""
-    listener = socket.socket(socket.AF_UNIX, socket.SOCK_STREAM)
-    try:
-        if os.path.lexists(path):
-            check_left(path)
-            os.remove(path)
-        listener.bind(path)
-        os.chmod(path, 0o666)
-        listener.listen(128)
-    except OSError as error:
-        raise Unable(f"{path}: it can't be listened on: {error.strerror or error}") from None
-    return listener
-
-
-def check_left(path):
-    """Asks that what stands at a path is a socket that nobody listens on. Raises Unable."""
-    if not stat.S_ISSOCK(os.lstat(path).st_mode):
-        raise Unable(f"{path}: it is no socket; name another path")
-    with socket.socket(socket.AF_UNIX, socket.SOCK_STREAM) as one:
-        with contextlib.suppress(ConnectionRefusedError, FileNotFoundError):
-            one.connect(path)
-            raise Unable(f"{path}: another program listens on it")

@@ -26,8 +26,9 @@ async def handle(desk, path, request):
             raise web.HTTPServiceUnavailable(text=f"there is no copy: {error}\n") from None
         response = web.StreamResponse(headers={
             "Content-Type": "application/vnd.sqlite3", "Content-Disposition": "attachment; filename=plan.db",
-            "Content-Length": str(os.path.getsize(copy)), "X-Position": str(position), "ETag": f'"{tag}"',
-            "Cache-Control": "no-store", "X-Content-Type-Options": "nosniff"})
+            "Content-Length": str(os.path.getsize(copy)), "X-Opcplan-Position": str(position), "ETag": f'"{tag}"',
+            "Cache-Control": "no-store", "X-Content-Type-Options": "nosniff",
+            **({"X-Opcplan-Log": desk.log.life} if desk.log.is_shared else {})})
         await response.prepare(request)
         with open(copy, "rb") as file:
             while data := await asyncio.to_thread(file.read, PIECE):
@@ -38,7 +39,7 @@ async def handle(desk, path, request):
 
 async def copied(desk, path, copy):
     """Copies the plan and its log while no statement is in flight; the position and the tag of what was copied."""
-    async with desk.hold:
+    async with desk.feed.hold:
         await desk.planner.idle_or_stopped()
         position, tag = desk.position, desk.tag()
         await asyncio.to_thread(plan_file.copied, os.path.realpath(path), copy)

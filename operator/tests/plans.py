@@ -20,7 +20,7 @@ from pathlib import Path
 sys.dont_write_bytecode = True
 TOP = Path(__file__).resolve().parents[2]
 PROGRAM = Path(os.environ.get("OPCPLAN") or TOP / "crates" / "opcplan" / "out" / "opcplan")
-DATA = TOP / "crates" / "planner_rows" / "data"
+DATA = TOP / "crates" / "worked_streams" / "data"
 SCHEMA = TOP / "crates" / "table_schema" / "src" / "texts.rt"
 for folder in (TOP / "tools", TOP / "operator"):
     if str(folder) not in sys.path:

@@ -64,7 +64,7 @@ class PlainDesk:
         else:
             found = self.rows() if query == "list=cp" else [
                 {"successor": first, "predecessor": last} for first, last in self.planner.pairs]
-        return {"X-Position": str(position)}, "".join(json.dumps(one) + "\n" for one in found).encode()
+        return {"X-Opcplan-Position": str(position)}, "".join(json.dumps(one) + "\n" for one in found).encode()
 
     def rows(self):
         return [{"serial": row[0], "app": row[1], "ia": plain.moment_text(row[2], "/"), "status": status,

@@ -29,7 +29,7 @@ READERS = {
     "import": ["--cron", "CRONTAB", "PLAN"],
 }
 OF_STREAMS = {"explain", "lint"}
-WRITERS = {"restore", "send", "desk", "agent"}
+WRITERS = {"restore", "send", "desk", "log", "agent"}
 OF_JOURNALS = {"journal"}
 
 

@@ -131,7 +131,7 @@ class Looked(desks.Case):
             lines = plans.plain.run(f"list {name}\n".encode(), planner)[:-1]
             self.assertEqual(status, 200)
             self.assertEqual([self.line(row) for row in rows], [" ".join(one.split()) for one in lines])
-        self.assertEqual(heads["X-Position"], "2")
+        self.assertEqual(heads["X-Opcplan-Position"], "2")
         self.assertEqual(desk.asked("GET", "/rows?list=links", If_None_Match=heads["ETag"])[0], 304)
         found = desk.asked("GET", "/rows?list=cp&app=APP00&status=WS&to=2024-01-01")[2]
         self.assertEqual([json.loads(line)["serial"] for line in found.splitlines()], [1])
@@ -297,6 +297,13 @@ class Ends(desks.Case):
             done.append(text)
             self.end(desk, how)
             self.assert_plan(numbered(*done))
+
+    def test_a_plan_that_is_taken_away_is_told_as_the_desk_ends(self):
+        desk = self.desk()
+        self.assertEqual(desk.posted(START)[0], 200)
+        os.rename(self.plan, self.room / "elsewhere.db")
+        desk.ended()
+        self.assertIn("FILE was taken away while this ran", desk.said[-1])
 
     def test_a_disk_that_is_full_under_the_journal(self):
         desk = self.desk()

@@ -119,7 +119,7 @@ class LivePage(desks.Case):
         self.assertEqual([tag for tag, _, _ in parts.texts].count("script"), 3)
         data, own = parts.value("data"), parts.value("desk")
         self.assertEqual((own["who"], own["role"], own["position"], own["stands"]), (own["who"], "plan", 3, True))
-        self.assertEqual(heads["X-Position"], "3")
+        self.assertEqual(heads["X-Opcplan-Position"], "3")
         self.assertEqual(heads["ETag"], f'"{own["tag"]}"')
         statuses, _, _ = tables_of(self.snapshot(desk))
         shown = dict(zip(read.serials_in(data), data["state"], strict=True))

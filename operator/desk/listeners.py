@@ -1,0 +1,52 @@
+"""The addresses and sockets on which a desk listens."""
+
+import contextlib
+import os
+import socket
+import stat
+
+
+class Unable(Exception):
+    """Why a desk doesn't begin."""
+
+
+def listeners_of(given, the_guard):
+    """The sockets that are listened on, each with its name. Raises Unable."""
+    found = []
+    if given.listen:
+        host, port = given.listen
+        try:
+            listener = socket.create_server((host, port), family=socket.AF_INET6 if ":" in host else socket.AF_INET)
+        except OSError as error:
+            raise Unable(f"{host}:{port}: it can't be listened on: {error.strerror}") from None
+        port = listener.getsockname()[1]
+        the_guard.add_listener(host, port)
+        found.append((listener, f"http://[{host}]:{port}" if ":" in host else f"http://{host}:{port}"))
+    if given.socket:
+        found.append((by_socket(given.socket), given.socket))
+    return found
+
+
+def by_socket(path):
+    """A Unix socket at a path, which whoever may be may reach: the guard asks who it is. Raises Unable."""
+    listener = socket.socket(socket.AF_UNIX, socket.SOCK_STREAM)
+    try:
+        if os.path.lexists(path):
+            check_left(path)
+            os.remove(path)
+        listener.bind(path)
+        os.chmod(path, 0o666)
+        listener.listen(128)
+    except OSError as error:
+        raise Unable(f"{path}: it can't be listened on: {error.strerror or error}") from None
+    return listener
+
+
+def check_left(path):
+    """Asks that what stands at a path is a socket that nobody listens on. Raises Unable."""
+    if not stat.S_ISSOCK(os.lstat(path).st_mode):
+        raise Unable(f"{path}: it is no socket; name another path")
+    with socket.socket(socket.AF_UNIX, socket.SOCK_STREAM) as one:
+        with contextlib.suppress(ConnectionRefusedError, FileNotFoundError):
+            one.connect(path)
+            raise Unable(f"{path}: another program listens on it")

@@ -1,0 +1,14 @@
+"""Why a desk doesn't take a statement."""
+
+
+class Refused(Exception):
+    """Why a statement isn't taken, with HTTP's status."""
+
+    def __init__(self, status, text):
+        super().__init__(text)
+        self.status = status
+
+
+def used_otherwise(key):
+    """The Refused of a key that stands for another statement."""
+    return Refused(409, f"the key {key} stands for another statement")

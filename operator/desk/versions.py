@@ -1,0 +1,69 @@
+"""Which opcplan answers a log: each desk of it has the same one, since another one may answer otherwise."""
+
+import contextlib
+import os
+import subprocess
+
+# seconds in which opcplan says which version it is
+LONGEST = 30
+
+
+class Unfit(Exception):
+    """Why a plan and a log don't go together, and what to do."""
+
+
+def version_at(versions, seq):
+    """The opcplan that answers an entry, of those from each entry on at which it was moved."""
+    return versions[max((since for since in versions if since <= seq), default=min(versions))]
+
+
+def first_line(version):
+    return version.split("\n", 1)[0]
+
+
+def different(theirs, own):
+    """What tells two versions apart whose first line is the same."""
+    return " of other sources" if first_line(theirs) == first_line(own) else ""
+
+
+def version_of(program):
+    """Which opcplan a program is, as it says itself. Raises Unfit."""
+    try:
+        ran = subprocess.run([program, "--version"], stdin=subprocess.DEVNULL, capture_output=True, check=False,
+                             encoding="utf-8", errors="replace", timeout=LONGEST)
+    except (OSError, subprocess.TimeoutExpired) as error:
+        raise Unfit(f"{program}: it can't be run: {getattr(error, 'strerror', None) or error}") from None
+    if ran.returncode or not ran.stdout.strip():
+        raise Unfit(f"{program}: it doesn't say which version it is")
+    return ran.stdout.strip()
+
+
+def of_version(program, version, why_not):
+    """A question that says what is wrong, by another one, or once a program isn't that opcplan any more."""
+    seen = stamp(program)
+
+    def asked():
+        nonlocal seen
+        if why := why_not():
+            return why
+        if (now := stamp(program)) == seen:
+            return ""
+        try:
+            found = version_of(program)
+        except Unfit as why:
+            return str(why)
+        if found != version:
+            return (f"{program} is {first_line(found)} by now, and the log is answered by {first_line(version)}"
+                    f"{different(found, version)}: start the desk again")
+        seen = now
+        return ""
+
+    return asked
+
+
+def stamp(program):
+    """What changes where another file has a program's place."""
+    with contextlib.suppress(OSError):
+        found = os.stat(program)
+        return found.st_dev, found.st_ino, found.st_mtime_ns, found.st_size
+    return None
