@@ -1,23 +1,19 @@
 -- Edits of lists in the order of a key.
 use Rattle.std.proofs.Common.{◌≡◌, ◌≢◌, ◌↔◌, ℕ, ◌+◌, ◌-◌, ◌<◌, ◌≤◌, ◌⊎◌, Bool, not, List, [], ◌∷◌, ◌++◌, length, get_or}
-use Rattle.std.proofs.Common.{set, take, drop, refl, sym, ap, subst, ◌∙◌, inl, inr, arith, Ordering}
+use Rattle.std.proofs.Common.{set, take, refl, sym, ap, subst, ◌∙◌, inl, inr, arith, Ordering}
 use Rattle.std.specs.declared.cmp.Ordering.TheVariants.{Less, Greater}
-use Rattle.std.specs.List.{Contains, HoldsAt, insert, remove, swap, filter}
+use Rattle.std.specs.List.{Contains, HoldsAt, insert, swap, filter}
 use Rattle.std.specs.List.Sorted.{IsPartitionPoint, IsPermutation, IsSortedBy}
 use Rattle.std.specs.Cmp.{IsTotalOrder}
 use Rattle.std.specs.FinMap.{IsAntisymmetric}
 use Rattle.std.specs.Ordering.{is_lt, ordering_reverse}
-use Rattle.std.proofs.lemmas.Bool.{cases_order, cases_lt, cases_eq, not-true, not_from_false}
+use Rattle.std.proofs.lemmas.Bool.{cases_order, cases_eq, not-true, not_from_false}
 use Rattle.std.proofs.lemmas.List.{get_or-set_same, get_or-set_other, length-set, get_or_default, get_or-take}
-use Rattle.std.proofs.lemmas.List.{length-take-le, length-append, length-drop, append-nil, take-append-le}
-use Rattle.std.proofs.lemmas.List.{drop-append-le}
-use Rattle.std.proofs.Math.Seq.{take-append_seam, drop-append_seam, take-length, drop-length}
-use borrow.Rule.Slice.PartMut.{post_of}
+use Rattle.std.proofs.lemmas.List.{length-take-le}
 use Rattle.std.proofs.lemmas.List.Edits.{length-insert, get_or-insert_below, get_or-insert_at, get_or-insert_above}
-use Rattle.std.proofs.lemmas.List.Edits.{length-remove, get_or-remove_below, get_or-remove_above, Swapped}
+use Rattle.std.proofs.lemmas.List.Edits.{Swapped}
 use Rattle.std.proofs.lemmas.List.Edits.{swapped_from_swap, length-swap}
 use Rattle.std.proofs.lemmas.List.Elements.{Contains-append_cases, Contains-append_left, Contains-append_right}
-use Rattle.std.proofs.lemmas.List.Quantifiers.{all_pairs_remove}
 use Rattle.std.proofs.lemmas.List.Sorted.{IsPermutation-insert, IsPermutation-keeps, Contains-permutation}
 use Rattle.std.proofs.lemmas.List.Sorted.{IsPermutation-sym, sorted_far, ranks_by}
 use Rattle.std.proofs.lemmas.List.Kept.{AllPairs-filter}
@@ -139,45 +135,6 @@ module _ {X K : Type 0} {cmp : K → K → Ordering} (total : IsTotalOrder cmp) 
         backward (inr there) = Contains-permutation (item ∷ xs) (insert xs i item) z (IsPermutation-insert xs i item)
             (contains_later item z xs there)
 
-    -- taken out
-    module _ (xs : List X) (keyed : IsKeyed cmp key xs) (s : K) (i : ℕ) (lt : i < length xs)
-        (holds : HoldsAt (λ x. key x ≡ s) xs i) where
-      short : length (remove xs i) + 1 ≡ length xs
-      short = length-remove xs i lt
-
-      pub remove_keyed : IsKeyed cmp key (remove xs i)
-      remove_keyed = all_pairs_remove (λ x y. cmp (key x) (key y) ≡ Less) xs i lt keyed
-
-      stays : (z : X) (k : ℕ) → k < length xs → get_or xs k z ≡ z → k ≢ i → Contains xs z × (key z ≢ s)
-      stays z k lt_k at other = (
-        (k, lt_k, at),
-        λ same. other (one_place total ties key xs keyed k i z lt_k lt
-            (ap key at ∙ same ∙ sym (holds z))),
-      )
-
-      pub remove_contains : (z : X) → Contains (remove xs i) z ↔ (Contains xs z × (key z ≢ s))
-      remove_contains z = (forward, backward)
-        where
-          forward : Contains (remove xs i) z → Contains xs z × (key z ≢ s)
-          forward (k, lt_k, at) = elim (cases_lt k i) [
-            | inl low ↦ stays z k (omega arith) (sym (get_or-remove_below xs i z k low lt) ∙ at) (λ here. omega arith)
-            | inr high ↦ stays z (k + 1) (omega (arith, short)) (sym (get_or-remove_above xs i z k high lt) ∙ at)
-                (λ here. omega arith)
-          ]
-
-          backward : Contains xs z × (key z ≢ s) → Contains (remove xs i) z
-          backward ((k, lt_k, at), apart) = elim (cases_order k i) [
-            | inl here ↦ absurd (apart (ap key (sym (subst (λ n. get_or xs n z ≡ z) here at)) ∙ holds z))
-            | inr (inl low) ↦ (k, omega (arith, short), get_or-remove_below xs i z k low lt ∙ at)
-            | inr (inr high) ↦
-                let back : k - 1 + 1 ≡ k = omega arith in (
-                  k - 1,
-                  omega (arith, short),
-                  get_or-remove_above xs i z (k - 1) (omega arith) lt
-                      ∙ ap (λ n. get_or xs n z) back ∙ at,
-                )
-          ]
-
     -- the place that an element came from
     abbrev From : ℕ → ℕ → ℕ → ℕ → Type 0
     From a b i p = ((i ≡ a) × (p ≡ b)) ⊎ (((i ≡ b) × (p ≡ a) × (i ≢ a)) ⊎ ((p ≡ i) × (i ≢ a) × (i ≢ b)))
@@ -293,50 +250,6 @@ module _ {X K : Type 0} {cmp : K → K → Ordering} (total : IsTotalOrder cmp) 
           λ same. both.1 item (Contains-append_right fs (item ∷ []) item (contains_first item [])) (sym same),
         ))
 
-    -- one more key is out
-    pub removed_more : (xs ys zs fs : List X) (item : X)
-        → ((x : X) → Contains ys x ↔ (Contains xs x × LacksKey key fs (key x)))
-        → ((x : X) → Contains zs x ↔ (Contains ys x × (key x ≢ key item)))
-        → (x : X) → Contains zs x ↔ (Contains xs x × LacksKey key (fs ++ item ∷ []) (key x))
-    removed_more xs ys zs fs item before now x = (
-      (λ there.
-          let old = (now x).0 there in
-          let stays = (before x).0 old.0 in (
-            stays.0,
-            λ y at_y same. elim (Contains-append_cases fs (item ∷ []) y at_y) [
-              | inl front ↦ stays.1 y front same
-              | inr last ↦ old.1 (sym same ∙ ap key (sym (one_is item y last)))
-            ],
-          )),
-      λ both. (now x).1 (
-        (before x).1 (both.0, λ y at_y. both.1 y (Contains-append_left fs (item ∷ []) y at_y)),
-        λ same. both.1 item (Contains-append_right fs (item ∷ []) item (contains_first item [])) (sym same),
-      ),
-    )
-
-    -- one more item is in
-    pub inserted_more : (xs ys zs fs : List X) (item : X)
-        → ((x : X) → Contains ys x ↔ (Contains fs x ⊎ Contains xs x))
-        → ((x : X) → Contains zs x ↔ ((item ≡ x) ⊎ Contains ys x))
-        → (x : X) → Contains zs x ↔ (Contains (fs ++ item ∷ []) x ⊎ Contains xs x)
-    inserted_more xs ys zs fs item before now x = (
-      (λ there. elim ((now x).0 there) [
-        | inl is ↦ inl (Contains-append_right fs (item ∷ []) x
-            (subst (Contains (item ∷ [])) is (contains_first item [])))
-        | inr old ↦ elim ((before x).0 old) [
-          | inl front ↦ inl (Contains-append_left fs (item ∷ []) x front)
-          | inr was ↦ inr was
-        ]
-      ]),
-      λ either. elim either [
-        | inl there ↦ elim (Contains-append_cases fs (item ∷ []) x there) [
-          | inl front ↦ (now x).1 (inr ((before x).1 (inl front)))
-          | inr last ↦ (now x).1 (inl (one_is item x last))
-        ]
-        | inr was ↦ (now x).1 (inr ((before x).1 (inr was)))
-      ],
-    )
-
     -- a key at a place stands nowhere in front
     pub lacks_front : (xs : List X) → AreApart key xs → (i : ℕ) (d : X) → i < length xs → LacksKey key (take i xs)
         (key (get_or xs i d))
@@ -345,31 +258,3 @@ module _ {X K : Type 0} {cmp : K → K → Ordering} (total : IsTotalOrder cmp) 
         let at_y : get_or xs k y ≡ y = sym (get_or-take i xs k y short) ∙ at in
         let at_i : get_or xs i y ≡ get_or xs i d = get_or_default xs i y d lt in
         apart k i y short lt (ap key at_y ∙ same ∙ ap key (sym at_i))
-
--- put at the end, and turned to its place
-module _ {X : Type 0} where
-  pub put_last : (xs : List X) (x : X) → insert xs (length xs) x ≡ xs ++ x ∷ []
-  put_last xs x = rw (take-length xs, drop-length xs) refl
-
-  pub turned : (xs : List X) (i : ℕ) (x : X) (n k : ℕ) (part rest : List X) → i ≤ length xs → n ≡ length xs + 1
-      → k + i ≡ n → part ≡ drop (length (take k (drop i (xs ++ x ∷ []))) - 1) (take k (drop i (xs ++ x ∷ [])))
-      ++ take (length (take k (drop i (xs ++ x ∷ []))) - 1) (take k (drop i (xs ++ x ∷ [])))
-      → take n ((take i (xs ++ x ∷ []) ++ (part ++ post_of i k (xs ++ x ∷ []))) ++ rest) ≡ insert xs i x
-  turned xs i x n k part rest low n_is k_is part_is =
-      let all = xs ++ x ∷ [] in
-      let ys = drop i xs in
-      let back : drop i all ≡ ys ++ x ∷ [] = drop-append-le i xs (x ∷ []) low in
-      let k_long : length (ys ++ x ∷ []) ≡ k = omega (arith, length-append ys (x ∷ []), length-drop i xs) in
-      let short : length (ys ++ x ∷ []) - 1 ≡ length ys = omega (arith, length-append ys (x ∷ [])) in
-      let taken : take k (ys ++ x ∷ []) ≡ ys ++ x ∷ [] = subst (λ m. take m (ys ++ x ∷ []) ≡ ys ++ x ∷ []) k_long
-      (take-length (ys ++ x ∷ [])) in
-      let first : part ≡ x ∷ ys = (rw (back, taken, short, drop-append_seam ys (x ∷ []), take-append_seam ys (x ∷ []))
-      at part_is) in
-      let none : drop k (ys ++ x ∷ []) ≡ [] = subst (λ m. drop m (ys ++ x ∷ []) ≡ []) k_long
-      (drop-length (ys ++ x ∷ [])) in
-      let after : post_of i k all ≡ [] = ap (drop k) back ∙ none in
-      let long : length (insert xs i x) ≡ n = omega (arith, length-insert xs i x low) in
-      let whole : take i all ++ (part ++ post_of i k all) ≡ insert xs i x =
-      rw (take-append-le i xs (x ∷ []) low, first, after, append-nil (x ∷ ys)) refl in
-      subst (λ w. take n (w ++ rest) ≡ insert xs i x) (sym whole)
-      (subst (λ m. take m (insert xs i x ++ rest) ≡ insert xs i x) long (take-append_seam (insert xs i x) rest))

@@ -14,7 +14,7 @@ use Rattle.std.proofs.lemmas.List.Sorted.{searchable_from_sorted}
 use Rattle.std.proofs.lemmas.Bool.{cases_order, cases_lt, false≢true}
 use Rattle.std.specs.Ordering.{is_eq}
 use Rattle.std.specs.Result.{is_ok}
-use Rattle.keyed_lists.specs.Keyed.{IsKeyed, AreApart, HasKey, LacksKey, holds_key}
+use Rattle.keyed_lists.specs.Keyed.{IsKeyed, HasKey, LacksKey, holds_key}
 
 -- lists and what they contain
 module _ {X : Type 0} where
@@ -88,13 +88,6 @@ module _ {X K : Type 0} {cmp : K → K → Ordering} (total : IsTotalOrder cmp) 
           absurd (false≢true (sym above ∙ ap is_lt flipped))
     ] refl
 
-    pub is_less : (a b : K) → is_lt (cmp a b) ≡ true → cmp a b ≡ Less
-    is_less a b is = elim (cmp a b) as (λ r. is_lt r ≡ true → r ≡ Less) [
-      | Less ↦ λ _. refl
-      | Equal ↦ λ is. absurd (false≢true is)
-      | Greater ↦ λ is. absurd (false≢true is)
-    ] is
-
     -- a list in the order of keys serves a search
     pub searchable : (xs : List X) → IsKeyed cmp key xs → (k : K)
         → IsNonDecreasingBy (λ y. ordering_index (cmp (key y) k)) xs
@@ -117,9 +110,6 @@ module _ {X K : Type 0} {cmp : K → K → Ordering} (total : IsTotalOrder cmp) 
         let at_j' : get_or xs j x ≡ y = get_or_default xs j x y lt_j ∙ at_j in
         let place : i ≡ j = one_place xs rising i j x lt_i lt_j (ap key at_i ∙ same ∙ ap key (sym at_j')) in
         sym at_i ∙ ap (λ n. get_or xs n x) place ∙ at_j'
-
-    pub apart_from_keyed : (xs : List X) → IsKeyed cmp key xs → AreApart key xs
-    apart_from_keyed xs rising i j d below lt = less_apart _ _ (rising i j d below lt)
 
     -- what a search answers
     pub found : (xs : List X) (s : K) (r : Result ℕ ℕ) → IsSearchInRange r (length xs) → IsBinarySearchResult

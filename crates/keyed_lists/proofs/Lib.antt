@@ -1,5 +1,8 @@
 pub mod EditLemmas
 pub mod KeyLemmas
 mod MergeLemmas
+mod MoveLemmas
+mod RangeLemmas
 pub mod SeatLemmas
 pub mod SliceLemmas
+mod ThinLemmas

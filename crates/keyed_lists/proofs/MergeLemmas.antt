@@ -1,21 +1,22 @@
 -- A merge of two lists in the order of a key, from the end on.
-use Rattle.std.proofs.Common.{◌≡◌, ◌≢◌, ◌↔◌, ℕ, zero, suc, ◌+◌, ◌-◌, ◌<◌, ◌≤◌, ◌⊎◌, false, List, [], ◌∷◌, ◌++◌, length}
+use Rattle.std.proofs.Common.{◌≡◌, ◌↔◌, ℕ, zero, suc, ◌+◌, ◌-◌, ◌<◌, ◌≤◌, ◌⊎◌, List, [], ◌∷◌, ◌++◌, length}
 use Rattle.std.proofs.Common.{get_or, set, take, drop, refl, sym, ap, subst, ◌∙◌, inl, inr, arith, Ordering}
 use Rattle.std.proofs.Common.{length-append, length-drop, add-one}
 use Rattle.std.specs.declared.cmp.Ordering.TheVariants.{Less}
 use Rattle.std.specs.List.{Contains}
 use Rattle.std.specs.Cmp.{IsTotalOrder}
 use Rattle.std.specs.FinMap.{IsAntisymmetric}
-use Rattle.std.specs.Ordering.{is_lt}
 use Rattle.std.proofs.Math.Seq.{drop-cons}
 use Rattle.std.proofs.lemmas.Bool.{cases_lt}
 use Rattle.std.proofs.lemmas.List.{length-set, get_or-take, get_or-drop, length-take-le, take_more, drop-set}
-use Rattle.std.proofs.lemmas.List.{take-set-le, take-append-drop, drop_all, take-append-le, take-take}
+use Rattle.std.proofs.lemmas.List.{take-set-le, take-append-drop, take-take, drop-take}
+use Rattle.std.proofs.lemmas.List.{drop-append-le}
 use Rattle.std.proofs.lemmas.List.{get_or_append_left, get_or-append_right, get_or_default}
 use Rattle.std.proofs.lemmas.List.Elements.{Contains-append_cases, Contains-append_left, Contains-append_right}
 use Rattle.std.proofs.lemmas.List.Elements.{Contains-get_or}
 use Rattle.keyed_lists.specs.Keyed.{IsKeyed}
-use Rattle.keyed_lists.proofs.KeyLemmas.{contains_cases, contains_first, contains_later, one_is, nothing, less_from}
+use Rattle.keyed_lists.proofs.SliceLemmas.{drop_keyed}
+use Rattle.keyed_lists.proofs.KeyLemmas.{contains_cases, contains_first, contains_later, one_is}
 
 module _ {X : Type 0} where
   -- the last of a front
@@ -66,10 +67,16 @@ module _ {X : Type 0} where
         ]),
   )
 
-  -- equal fronts have equal items
-  pub front_at : (xs zs : List X) (n k : ℕ) (d : X) → k < n → take n zs ≡ take n xs → get_or xs k d ≡ get_or zs k d
-  front_at xs zs n k d lt same = sym (get_or-take n xs k d lt) ∙ ap (λ l. get_or l k d) (sym same) ∙ get_or-take n zs k
-      d lt
+  back_parts : (xs : List X) (at end : ℕ) → at ≤ end → end ≤ length xs → drop at xs ≡ drop at (take end xs)
+      ++ drop end xs
+  back_parts xs at end le within = ap (drop at) (sym (take-append-drop end xs))
+      ∙ drop-append-le at (take end xs) (drop end xs) (omega (arith, length-take-le end xs within))
+
+  -- up to a place behind, or from there on
+  pub between_cases : (xs : List X) (at end : ℕ) (z : X) → at ≤ end → end ≤ length xs → Contains (drop at xs) z
+      → Contains (drop at (take end xs)) z ⊎ Contains (drop end xs) z
+  between_cases xs at end z le within there = Contains-append_cases (drop at (take end xs)) (drop end xs) z
+      (subst (λ l. Contains l z) (back_parts xs at end le within) there)
 
 module _ {X K : Type 0} {cmp : K → K → Ordering} (total : IsTotalOrder cmp) (ties : IsAntisymmetric cmp) (key : X → K)
   where
@@ -126,162 +133,124 @@ module _ {X K : Type 0} {cmp : K → K → Ordering} (total : IsTotalOrder cmp) 
       pub lefts_low : Below (take left xs) (drop right ys)
       pub rights_low : Below (take right ys) (drop left xs)
 
-    pub merging_begins : (xs ys : List X) → Merging xs ys (xs ++ ys) (length xs) (length ys)
-    merging_begins xs ys =
-        let none : drop (length xs + length ys) (xs ++ ys) ≡ [] = drop_all (length xs + length ys) (xs ++ ys)
-        (omega (arith, length-append xs ys)) in
-        let none_xs : drop (length xs) xs ≡ [] = drop_all (length xs) xs (omega arith) in
-        let none_ys : drop (length ys) ys ≡ [] = drop_all (length ys) ys (omega arith) in
-        record {
-          left_in = omega arith;
-          right_in = omega arith;
-          same_length = length-append xs ys;
-          front = fronts;
-          back_keyed = rw none (λ i j d lt lt_j. absurd (omega arith));
-          back = λ z. rw (none, none_xs, none_ys)
-              ((λ there. inl there), λ either. elim either [ inl h ↦ h | inr h ↦ h ]);
-          lefts_low = λ x y at_x at_y. absurd (nothing y (subst (λ l. Contains l y) none_ys at_y));
-          rights_low = λ x y at_x at_y. absurd (nothing y (subst (λ l. Contains l y) none_xs at_y));
-        }
-      where
-        fronts : take (length xs) (xs ++ ys) ≡ take (length xs) xs
-        fronts = take-append-le (length xs) xs ys (omega arith)
-
     module _ (xs ys zs : List X) (keyed : IsKeyed cmp key xs) (keyed' : IsKeyed cmp key ys) where
-      -- the greater is the last of the first list
-      pub merges_left : (left right : ℕ) (q p : X) → Merging xs ys zs (left + 1) (right + 1) → q ≡ get_or zs left q → p
-          ≡ get_or ys right p → cmp (key p) (key q) ≡ Less → Merging xs ys (set zs (left + 1 + (right + 1) - 1) q) left
-          (right + 1)
-      merges_left left right q p m at_q at_p less =
-          let lt : left < length xs = omega (arith, m.left_in) in
+      -- those of the first list above the last of the second, and that one before them
+      merges_block : (zs' : List X) (left right at : ℕ) (p : X) → Merging xs ys zs left (right + 1)
+          → p ≡ get_or ys right p → at ≤ left
+          → ((x : X) → Contains (take at (take left xs)) x → cmp (key x) (key p) ≡ Less)
+          → ((x : X) → Contains (drop at (take left xs)) x → cmp (key p) (key x) ≡ Less)
+          → length zs' ≡ length zs → take at zs' ≡ take at zs
+          → drop (at + right) zs' ≡ p ∷ take (left - at) (drop at zs) ++ drop (left + (right + 1)) zs
+          → Merging xs ys zs' at right
+      merges_block zs' left right at p m at_p le low high same_length unmoved moved =
           let lt_r : right < length ys = omega (arith, m.right_in) in
-          let place : left + 1 + (right + 1) - 1 ≡ left + (right + 1) = omega arith in
-          let in_zs : left + (right + 1) < length zs = omega (arith, m.left_in, m.right_in, m.same_length) in
-          let q_is : get_or xs left q ≡ q = sym (get_or-take (left + 1) xs left q (omega arith))
-          ∙ ap (λ l. get_or l left q) (sym m.front) ∙ get_or-take (left + 1) zs left q (omega arith) ∙ sym at_q in
-          let back' : drop (left + (right + 1)) (set zs (left + (right + 1)) q) ≡ q ∷ drop (left + 1 + (right + 1)) zs =
-          drop-set zs (left + (right + 1)) q in_zs ∙ ap (λ n. q ∷ drop n zs) (let e : left + (right + 1) + 1
-          ≡ left + 1 + (right + 1) = omega arith in e) in
-          let q_front : Contains (take (left + 1) xs) q = subst (Contains (take (left + 1) xs)) q_is
-          (front_last xs left q lt) in
-          let below_q : (y : X) → Contains (drop (left + 1 + (right + 1)) zs) y → cmp (key q) (key y) ≡ Less =
-          λ y there. elim ((m.back y).0 there) [
-            | inl in_xs ↦ halves_below xs keyed (left + 1) (omega arith) q y q_front in_xs
-            | inr in_ys ↦ m.lefts_low q y q_front in_ys
-          ] in
-          rw place (record {
-            left_in = omega arith;
-            right_in = m.right_in;
-            same_length = length-set zs (left + (right + 1)) q ∙ m.same_length;
-            front = take-set-le left zs (left + (right + 1)) q (omega arith) ∙ fronts left m.front;
-            back_keyed = rw back' (cons_keyed q (drop (left + 1 + (right + 1)) zs) below_q m.back_keyed);
-            back = λ z. rw back' (
-              (λ there. elim (contains_cases q z (drop (left + 1 + (right + 1)) zs) there) [
-                | inl is ↦ inl (subst (Contains (drop left xs)) (q_is ∙ is) (back_first xs left q lt))
-                | inr rest ↦ elim ((m.back z).0 rest) [
-                  | inl in_xs ↦ inl (back_later xs left q z lt in_xs)
-                  | inr in_ys ↦
-                      inr in_ys
-                ]
-              ]),
-              λ either. elim either [
-                | inl in_xs ↦ elim (back_cases xs left q z lt in_xs) [
-                  | inl is ↦ subst (Contains (q ∷ drop (left + 1 + (right + 1)) zs)) (sym q_is ∙ is)
-                      (contains_first q (drop (left + 1 + (right + 1)) zs))
-                  | inr later ↦ contains_later q z (drop (left + 1 + (right + 1)) zs) ((m.back z).1 (inl later))
-                ]
-                | inr in_ys ↦ contains_later q z (drop (left + 1 + (right + 1)) zs) ((m.back z).1 (inr in_ys))
-              ],
-            );
-            lefts_low = λ x y at_x at_y. m.lefts_low x y (front_later xs left q x lt at_x) at_y;
-            rights_low = λ x y at_x at_y. elim (back_cases xs left q y lt at_y) [
-              | inl is ↦ subst (λ z. cmp (key x) (key z) ≡ Less) (sym q_is ∙ is)
-                  (elim (front_cases ys right p x lt_r at_x) [
-                    | inl earlier ↦ total.trans (key x) (key p) (key q) (halves_below ys keyed' right (omega arith) x p
-                        earlier (subst (Contains (drop right ys)) (sym at_p) (back_first ys right p lt_r))) less
-                    | inr last ↦ subst (λ z. cmp (key z) (key q) ≡ Less) (at_p ∙ last) less
-                  ])
-              | inr later ↦ m.rights_low x y at_x later
-            ];
-          })
-        where
-          fronts : (left : ℕ) → take (left + 1) zs ≡ take (left + 1) xs → take left zs ≡ take left xs
-          fronts left same = sym (take-take left (left + 1) zs (omega arith)) ∙ ap (take left) same
-              ∙ take-take left (left + 1) xs (omega arith)
-
-      -- the greater is the last of the second list
-      pub merges_right : (left right : ℕ) (p : X) → Merging xs ys zs left (right + 1) → p ≡ get_or ys right p
-          → ((x : X) → Contains (take left xs) x → cmp (key x) (key p) ≡ Less)
-          → Merging xs ys (set zs (left + (right + 1) - 1) p) left right
-      merges_right left right p m at_p low =
-          let lt_r : right < length ys = omega (arith, m.right_in) in
-          let place : left + (right + 1) - 1 ≡ left + right = omega arith in
-          let in_zs : left + right < length zs = omega (arith, m.left_in, m.right_in, m.same_length) in
-          let back' : drop (left + right) (set zs (left + right) p) ≡ p ∷ drop (left + (right + 1)) zs =
-          drop-set zs (left + right) p in_zs ∙ ap (λ n. p ∷ drop n zs) (let e : left + right + 1
-          ≡ left + (right + 1) = omega arith in e) in
+          let ls = take left xs in
+          let mid = drop at ls in
+          let far = drop (left + (right + 1)) zs in
+          let split : drop at xs ≡ mid ++ drop left xs = back_parts xs at left le m.left_in in
+          let step : at + (left - at) ≡ left = omega arith in
+          let block : take (left - at) (drop at zs) ≡ mid = sym (drop-take at (left - at) zs)
+          ∙ ap (λ n. drop at (take n zs)) step ∙ ap (drop at) m.front in
+          let back' : drop (at + right) zs' ≡ p ∷ mid ++ far = moved ∙ ap (λ l. p ∷ l ++ far) block in
           let p_front : Contains (take (right + 1) ys) p = subst (Contains (take (right + 1) ys)) (sym at_p)
           (front_last ys right p lt_r) in
-          let below_p : (y : X) → Contains (drop (left + (right + 1)) zs) y → cmp (key p) (key y) ≡ Less =
-          λ y there. elim ((m.back y).0 there) [
-            | inl in_xs ↦ m.rights_low p y p_front in_xs
-            | inr in_ys ↦ halves_below ys keyed' (right + 1) (omega arith) p y p_front in_ys
+          let p_back : Contains (drop right ys) p = subst (Contains (drop right ys)) (sym at_p)
+          (back_first ys right p lt_r) in
+          let mid_in : (x : X) → Contains mid x → Contains ls x = λ x there. (halves ls at x).1 (inr there) in
+          let keyed_mid : IsKeyed cmp key mid = drop_keyed cmp key ls (take_keyed xs keyed left m.left_in) at in
+          let below_p : (y : X) → Contains (mid ++ far) y → cmp (key p) (key y) ≡ Less =
+          λ y there. elim (Contains-append_cases mid far y there) [
+            | inl in_mid ↦ high y in_mid
+            | inr in_far ↦ elim ((m.back y).0 in_far) [
+              | inl in_xs ↦ m.rights_low p y p_front in_xs
+              | inr in_ys ↦ halves_below ys keyed' (right + 1) (omega arith) p y p_front in_ys
+            ]
           ] in
-          rw place (record {
-            left_in = m.left_in;
-            right_in = omega arith;
-            same_length = length-set zs (left + right) p ∙ m.same_length;
-            front = take-set-le left zs (left + right) p (omega arith) ∙ m.front;
-            back_keyed = rw back' (cons_keyed p (drop (left + (right + 1)) zs) below_p m.back_keyed);
-            back = λ z. rw back' (
-              (λ there. elim (contains_cases p z (drop (left + (right + 1)) zs) there) [
-                | inl is ↦ inr (subst (Contains (drop right ys)) (sym at_p ∙ is) (back_first ys right p lt_r))
-                | inr rest ↦ elim ((m.back z).0 rest) [
-                  | inl in_xs ↦ inl in_xs
-                  | inr in_ys ↦ inr
-                      (back_later ys right p z lt_r in_ys)
+          let below_mid : Below mid far = λ x y at_x at_y. elim ((m.back y).0 at_y) [
+            | inl in_xs ↦ halves_below xs keyed left m.left_in x y (mid_in x at_x) in_xs
+            | inr in_ys ↦ m.lefts_low x y (mid_in x at_x) in_ys
+          ] in
+          record {
+            left_in = omega (arith, m.left_in);
+            right_in = omega (arith, m.right_in);
+            same_length = same_length ∙ m.same_length;
+            front = unmoved ∙ sym (take-take at left zs le) ∙ ap (take at) m.front ∙ take-take at left xs le;
+            back_keyed = rw back' (cons_keyed p (mid ++ far) below_p
+                (append_keyed mid far keyed_mid m.back_keyed below_mid));
+            back = λ z. rw (back', split) (
+              (λ there. elim (contains_cases p z (mid ++ far) there) [
+                | inl is ↦ inr (subst (Contains (drop right ys)) is p_back)
+                | inr rest ↦ elim (Contains-append_cases mid far z rest) [
+                  | inl in_mid ↦ inl (Contains-append_left mid (drop left xs) z in_mid)
+                  | inr in_far ↦ elim ((m.back z).0 in_far) [
+                    | inl in_xs ↦ inl (Contains-append_right mid (drop left xs) z in_xs)
+                    | inr in_ys ↦ inr (back_later ys right p z lt_r in_ys)
+                  ]
                 ]
               ]),
               λ either. elim either [
-                | inl in_xs ↦ contains_later p z (drop (left + (right + 1)) zs) ((m.back z).1 (inl in_xs))
+                | inl in_xs ↦ contains_later p z (mid ++ far) (elim (Contains-append_cases mid (drop left xs) z in_xs) [
+                  | inl in_mid ↦ Contains-append_left mid far z in_mid
+                  | inr behind ↦ Contains-append_right mid far z ((m.back z).1 (inl behind))
+                ])
                 | inr in_ys ↦ elim (back_cases ys right p z lt_r in_ys) [
-                  | inl is ↦ subst (Contains (p ∷ drop (left + (right + 1)) zs)) (at_p ∙ is)
-                      (contains_first p (drop (left + (right + 1)) zs))
-                  | inr later ↦ contains_later p z (drop (left + (right + 1)) zs) ((m.back z).1 (inr later))
+                  | inl is ↦ subst (Contains (p ∷ mid ++ far)) (at_p ∙ is) (contains_first p (mid ++ far))
+                  | inr later ↦ contains_later p z (mid ++ far) (Contains-append_right mid far z
+                      ((m.back z).1 (inr later)))
                 ]
               ],
             );
-            lefts_low = λ x y at_x at_y. elim (back_cases ys right p y lt_r at_y) [
-              | inl is ↦ subst (λ z. cmp (key x) (key z) ≡ Less) (at_p ∙ is) (low x at_x)
-              | inr later ↦ m.lefts_low x y at_x later
-            ];
-            rights_low = λ x y at_x at_y. m.rights_low x y (front_later ys right p x lt_r at_x) at_y;
-          })
+            lefts_low = λ x y at_x at_y.
+                let there : Contains (take at ls) x = subst (λ l. Contains l x) (sym (take-take at left xs le)) at_x in
+                elim (back_cases ys right p y lt_r at_y) [
+                  | inl is ↦ subst (λ z. cmp (key x) (key z) ≡ Less) (at_p ∙ is) (low x there)
+                  | inr later ↦ m.lefts_low x y ((halves ls at x).1 (inl there)) later
+                ];
+            rights_low = λ x y at_x at_y.
+                elim (Contains-append_cases mid (drop left xs) y (subst (λ l. Contains l y) split at_y)) [
+                  | inl in_mid ↦ total.trans (key x) (key p) (key y)
+                      (halves_below ys keyed' right (omega arith) x p at_x p_back) (high y in_mid)
+                  | inr behind ↦ m.rights_low x y (front_later ys right p x lt_r at_x) behind
+                ];
+          }
 
-      pub merges_left_at : (l r left right : ℕ) (q p : X) → left + 1 ≡ l → right + 1 ≡ r → Merging xs ys zs l r → q
-          ≡ get_or zs left q → p ≡ get_or ys right p → cmp (key p) (key q) ≡ Less → Merging xs ys (set zs (l + r - 1) q)
-          left r
-      merges_left_at l r left right q p is_l is_r m at_q at_p less =
-          rw (← is_l, ← is_r) (merges_left left right q p (subst (λ n. Merging xs ys zs n (right + 1)) (sym is_l)
-          (subst (λ n. Merging xs ys zs l n) (sym is_r) m)) at_q at_p less)
+      merges_block_at : (zs' : List X) (left r right at : ℕ) (p : X) → right + 1 ≡ r → Merging xs ys zs left r
+          → p ≡ get_or ys right p → at ≤ left
+          → ((x : X) → Contains (take at (take left xs)) x → cmp (key x) (key p) ≡ Less)
+          → ((x : X) → Contains (drop at (take left xs)) x → cmp (key p) (key x) ≡ Less)
+          → length zs' ≡ length zs → take at zs' ≡ take at zs
+          → drop (at + right) zs' ≡ p ∷ take (left - at) (drop at zs) ++ drop (left + r) zs
+          → Merging xs ys zs' at right
+      merges_block_at zs' left r right at p is_r m at_p le low high same_length unmoved moved =
+          merges_block zs' left right at p (subst (λ n. Merging xs ys zs left n) (sym is_r) m) at_p le low high
+          same_length unmoved (moved ∙ ap (λ n. p ∷ take (left - at) (drop at zs) ++ drop (left + n) zs) (sym is_r))
 
-      pub merges_right_at : (l r right : ℕ) (p : X) → right + 1 ≡ r → Merging xs ys zs l r → p ≡ get_or ys right p
-          → ((x : X) → Contains (take l xs) x → cmp (key x) (key p) ≡ Less) → Merging xs ys (set zs (l + r - 1) p) l
-          right
-      merges_right_at l r right p is_r m at_p low =
-          rw (← is_r) (merges_right l right p (subst (λ n. Merging xs ys zs l n) (sym is_r) m) at_p low)
-
-      -- all that is left of the first list is below the last of the second
-      pub low_front : (left : ℕ) (q p : X) → left < length xs → get_or xs left q ≡ q → is_lt (cmp (key p) (key q))
-          ≡ false
-          → key q ≢ key p → (x : X) → Contains (take (left + 1) xs) x → cmp (key x) (key p) ≡ Less
-      low_front left q p lt q_is above apart x at_x =
-          let less : cmp (key q) (key p) ≡ Less = less_from total ties key (key q) (key p) above apart in
-          elim (front_cases xs left q x lt at_x) [
-            | inl earlier ↦ total.trans (key x) (key q) (key p) (halves_below xs keyed left (omega arith) x q earlier
-                (subst (Contains (drop left xs)) q_is (back_first xs left q lt))) less
-            | inr last ↦ subst (λ z. cmp (key z) (key p) ≡ Less) (sym q_is ∙ last) less
-          ]
+      pub merges_moved : (us : List X) (left r right at : ℕ) (p : X) → right + 1 ≡ r → Merging xs ys zs left r
+          → p ≡ get_or ys right p → at ≤ left
+          → ((x : X) → Contains (take at (take left xs)) x → cmp (key x) (key p) ≡ Less)
+          → ((x : X) → Contains (drop at (take left xs)) x → cmp (key p) (key x) ≡ Less)
+          → length us ≡ length zs → take at us ≡ take at zs
+          → drop (at + r) us ≡ take (left - at) (drop at zs) ++ drop (at + (left - at) + r) zs
+          → Merging xs ys (set us (at + r - 1) p) at right
+      merges_moved us left r right at p is_r m at_p le low high same_length unmoved moved =
+          let here : at + right ≡ at + r - 1 = omega (arith, is_r) in
+          let next : at + r - 1 + 1 ≡ at + r = omega (arith, is_r) in
+          let last : at + (left - at) + r ≡ left + r = omega (arith, le) in
+          let within : at + r - 1 < length us = omega (
+            arith,
+            is_r,
+            le,
+            same_length,
+            m.left_in,
+            m.right_in,
+            m.same_length,
+          ) in
+          merges_block_at (set us (at + r - 1) p) left r right at p is_r m at_p le low high
+          (length-set us (at + r - 1) p ∙ same_length)
+          (take-set-le at us (at + r - 1) p (omega (arith, is_r)) ∙ unmoved)
+          (ap (λ n. drop n (set us (at + r - 1) p)) here ∙ drop-set us (at + r - 1) p within
+          ∙ ap (λ n. p ∷ drop n us) next ∙ ap (λ l. p ∷ l) moved
+          ∙ ap (λ n. p ∷ take (left - at) (drop at zs) ++ drop n zs) last)
 
       -- nothing of the second list is left
       pub merged : (left : ℕ) → Merging xs ys zs left 0 → IsKeyed cmp key zs

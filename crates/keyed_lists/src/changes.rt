@@ -1,13 +1,8 @@
-ghost use Rattle.std.specs.Prelude.{◌≡◌, ◌≢◌, ℕ, ◌+◌, ◌<◌, ◌≤◌, length, Contains, vec_len, vec_capacity, ◌↔◌, ◌⊎◌};
-ghost use Rattle.std.specs.List.{insert};
+ghost use Rattle.std.specs.Prelude.{◌≡◌, ◌≢◌, ◌+◌, ◌≤◌, ◌++◌, length, take, drop, Contains, vec_len, vec_capacity, ◌↔◌, ◌⊎◌};
 ghost use Rattle.keyed_lists.specs.Keyed.{IsKeyed, AreApart, HasKey, LacksKey};
 
 use crate::keyed::Keyed;
-use crate::merging::merge;
-use crate::search::{find, has_key};
-
-// Up to so many items are taken out or put in one after another, each by a search and a move of the list's tail.
-const FEW: usize = 8;
+use crate::search::{find, range_from_back, range_from_front};
 
 // Writes an item in the place of the one that has its key.
 fn replace_one<T: Keyed>(list: &mut Vec<T>, item: T)
@@ -42,37 +37,22 @@ pub fn replace_all<T: Keyed>(list: &mut Vec<T>, items: &[T])
     }
 }
 
-// Takes out what has the key.
-fn remove_one<T: Keyed>(list: &mut Vec<T>, key: &T::Key)
-    requires { IsKeyed T.Key.cmp T.key_of list.old.items }
-    ensures keyed { IsKeyed T.Key.cmp T.key_of list.new.items }
-    ensures length { vec_len list.new ≤ vec_len list.old }
+// Moves items down to a place before them.
+fn move_down<T: Copy>(list: &mut Vec<T>, from: usize, count: usize, to: usize)
+    requires down { to ≤ from }
+    requires within { from + count ≤ vec_len list.old }
+    ensures moved { take (to + count) list.new.items ≡ take to list.old.items ++ take count (drop from list.old.items) }
+    ensures rest { drop (from + count) list.new.items ≡ drop (from + count) list.old.items }
+    ensures length { vec_len list.new ≡ vec_len list.old }
     ensures capacity { vec_capacity list.new ≡ vec_capacity list.old }
-    ensures removed { (x : T) → Contains list.new.items x ↔ (Contains list.old.items x × (T.key_of x ≢ key.now)) }
 {
-    match find(list.as_slice(), key) {
-        Ok(at) => {
-            list.remove(at);
-        }
-        Err(_at) => {}
+    if to < from {
+        list.copy_within(from..from + count, to);
     }
 }
 
-// Takes out what has the keys of these items, one after another.
-fn remove_each<T: Keyed>(list: &mut Vec<T>, items: &[T])
-    requires { IsKeyed T.Key.cmp T.key_of list.old.items }
-    ensures keyed { IsKeyed T.Key.cmp T.key_of list.new.items }
-    ensures length { vec_len list.new ≤ vec_len list.old }
-    ensures capacity { vec_capacity list.new ≡ vec_capacity list.old }
-    ensures removed { (x : T) → Contains list.new.items x
-        ↔ (Contains list.old.items x × LacksKey T.key_of items.now (T.key_of x)) }
-{
-    for item in items {
-        remove_one(list, &item.key());
-    }
-}
-
-/// Takes out what has the keys of these items, which are given in the order of their keys.
+/// Takes out what has the keys of these items, which are given in the order of their keys. Each item
+/// that stays moves once, with all up to the next that goes, and none before the first that goes.
 pub fn remove_all<T: Keyed>(list: &mut Vec<T>, items: &[T])
     requires keyed { IsKeyed T.Key.cmp T.key_of list.old.items }
     requires sorted { IsKeyed T.Key.cmp T.key_of items.now }
@@ -82,60 +62,32 @@ pub fn remove_all<T: Keyed>(list: &mut Vec<T>, items: &[T])
     ensures removed { (x : T) → Contains list.new.items x
         ↔ (Contains list.old.items x × LacksKey T.key_of items.now (T.key_of x)) }
 {
-    if items.len() <= FEW {
-        remove_each(list, items);
-    } else {
-        list.retain(|x| !has_key(items, &x.key()));
-    }
-}
-
-// Puts an item in at a place: at the end, and from there to the place by a turn, which moves all items between at once.
-// `Vec::insert` alone may move them one by one.
-fn insert_at<T: Copy>(list: &mut Vec<T>, at: usize, item: T)
-    requires place { at ≤ vec_len list.old }
-    requires room { vec_len list.old < vec_capacity list.old }
-    ensures items { list.new.items ≡ insert list.old.items at item }
-    ensures length { vec_len list.new ≡ vec_len list.old + 1 }
-    ensures capacity { vec_capacity list.new ≡ vec_capacity list.old }
-{
-    let end = list.len();
-    let _ = list.insert(end, item);
-    list[at..].rotate_right(1);
-}
-
-// Puts an item in where it belongs.
-fn insert_one<T: Keyed>(list: &mut Vec<T>, item: T)
-    requires keyed { IsKeyed T.Key.cmp T.key_of list.old.items }
-    requires new { LacksKey T.key_of list.old.items (T.key_of item) }
-    requires room { vec_len list.old < vec_capacity list.old }
-    ensures keyed { IsKeyed T.Key.cmp T.key_of list.new.items }
-    ensures length { vec_len list.new ≡ vec_len list.old + 1 }
-    ensures capacity { vec_capacity list.new ≡ vec_capacity list.old }
-    ensures inserted { (x : T) → Contains list.new.items x ↔ ((item ≡ x) ⊎ Contains list.old.items x) }
-{
-    match find(list.as_slice(), &item.key()) {
-        Ok(_at) => {}
-        Err(at) => {
-            insert_at(list, at, item);
-        }
-    }
-}
-
-// Puts in items of new keys, one after another. There is room for them.
-fn insert_each<T: Keyed>(list: &mut Vec<T>, items: &[T])
-    requires keyed { IsKeyed T.Key.cmp T.key_of list.old.items }
-    requires apart { AreApart T.key_of items.now }
-    requires new { (x : T) → Contains items.now x → LacksKey T.key_of list.old.items (T.key_of x) }
-    requires room { vec_len list.old + length items.now ≤ vec_capacity list.old }
-    ensures keyed { IsKeyed T.Key.cmp T.key_of list.new.items }
-    ensures inserted { (x : T) → Contains list.new.items x ↔ (Contains items.now x ⊎ Contains list.old.items x) }
-{
+    let mut kept = 0;
+    let mut rest = 0;
     for item in items {
-        insert_one(list, *item);
+        let (below, upto) = range_from_front(&list[rest..], &item.key());
+        move_down(list, rest, below, kept);
+        kept += below;
+        rest += upto;
     }
+    let count = list.len() - rest;
+    move_down(list, rest, count, kept);
+    list.truncate(kept + count);
 }
 
-/// Puts in items of new keys, which are given in the order of their keys. There is room for them.
+// Moves items up to a place behind theirs.
+fn move_up<T: Copy>(list: &mut Vec<T>, from: usize, count: usize, by: usize)
+    requires { from + count + by ≤ vec_len list.old }
+    ensures front { take from list.new.items ≡ take from list.old.items }
+    ensures moved { drop (from + by) list.new.items
+        ≡ take count (drop from list.old.items) ++ drop (from + count + by) list.old.items }
+    ensures length { vec_len list.new ≡ vec_len list.old }
+{
+    list.copy_within(from..from + count, from + by);
+}
+
+/// Puts in items of new keys, which are given in the order of their keys. There is room for them. From the
+/// last on, what stands between the places of two of them moves at once, and what stands before all stays.
 pub fn insert_all<T: Keyed>(list: &mut Vec<T>, items: &[T])
     requires keyed { IsKeyed T.Key.cmp T.key_of list.old.items }
     requires sorted { IsKeyed T.Key.cmp T.key_of items.now }
@@ -144,9 +96,15 @@ pub fn insert_all<T: Keyed>(list: &mut Vec<T>, items: &[T])
     ensures keyed { IsKeyed T.Key.cmp T.key_of list.new.items }
     ensures inserted { (x : T) → Contains list.new.items x ↔ (Contains items.now x ⊎ Contains list.old.items x) }
 {
-    if items.len() <= FEW {
-        insert_each(list, items);
-    } else {
-        merge(list, items);
+    let mut left = list.len();
+    let mut right = items.len();
+    let _ = list.extend_from_slice(items);
+    while right > 0 {
+        let last = items[right - 1];
+        let (at, _end) = range_from_back(&list[..left], &last.key());
+        move_up(list, at, left - at, right);
+        list[at + right - 1] = last;
+        left = at;
+        right -= 1;
     }
 }

@@ -11,7 +11,6 @@
 
 mod changes;
 mod keyed;
-mod merging;
 mod pairs;
 mod rows;
 mod search;
