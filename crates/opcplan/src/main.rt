@@ -4,11 +4,15 @@
 use std::process::ExitCode;
 use words::Asked;
 
+mod endings;
 mod faults;
+mod hints;
+mod looks;
 mod over_file;
 mod over_lists;
 mod refusals;
 mod terminal;
+mod watch;
 mod words;
 
 fn main(rt: HostRuntime) -> ExitCode {
@@ -16,7 +20,7 @@ fn main(rt: HostRuntime) -> ExitCode {
         Asked::Run(Some(file)) => over_file::answer_over_file(&rt, &file),
         Asked::Run(None) => {
             terminal::greet(&rt, terminal::OVER_LISTS);
-            over_lists::answer_over_lists(&rt)
+            over_lists::answer_over_lists(&rt, terminal::is_typed(&rt))
         }
         Asked::Told(status) => status,
         Asked::Memory => faults::tell(&rt, faults::MEMORY),

@@ -1,14 +1,16 @@
 //! The stream over the plans that a file keeps.
 
+use crate::endings::{Closed, Ending};
 use crate::faults::{MEMORY, explain, tell};
+use crate::hints::Hinting;
 use crate::refusals::tell_refusal;
-use crate::terminal::{OVER_FILE, greet};
+use crate::terminal::{OVER_FILE, greet, is_typed};
+use crate::watch::{Watch, Watched};
 use crate::words::NamedFile;
 use plan_files::{Begun, Opening, run_over_files};
-use plan_store::StoreFault;
-use planner_cli::exit_status;
+use planner_cli::{RunFault, Tally, exit_status};
 use sqlite::Unknown;
-use std::io::{self, BufRead, BufReader, BufWriter, Write};
+use std::io::{self, BufReader, BufWriter, Read, Write};
 
 /// Says on standard error what a run begins with, where that is not the plan as it was, and how it is left at a terminal.
 #[derive(Drop)]
@@ -38,22 +40,25 @@ impl Opening for Told<'_> {
 /// to standard output with its last byte, and a listing some thousand bytes at a time.
 pub fn answer_over_file(rt: &HostRuntime, file: &NamedFile) -> u8 {
     let alloc = rt.alloc();
-    let Ok(mut reader) = BufReader::new(alloc, rt.reader()) else {
+    let stream = Watched::new(rt.reader(), Watch::new(rt, &file.path));
+    let Ok(mut reader) = BufReader::new(alloc, stream) else {
         return tell(rt, MEMORY);
     };
-    let Ok(mut writer) = BufWriter::new(alloc, io::writer(rt)) else {
+    let answers = Hinting::new(io::writer(rt), rt, is_typed(rt));
+    let Ok(mut writer) = BufWriter::new(alloc, answers) else {
         return tell(rt, MEMORY);
     };
     run_over_file(rt, file, &mut reader, &mut writer)
 }
 
 /// Runs the stream of the reader over the plans that the file keeps, and gives the exit status. At the end the log is
-/// copied into the file; where that fails, nothing is lost, and the status is the run's. `Unknown` says of the file that
-/// it may hold anything: what is proved for all contents holds of those that it has.
-fn run_over_file<R: BufRead, W: Write>(
+/// copied into the file; where that fails, or somebody else took the file away or changed it, standard error says so, and
+/// the status is the run's. `Unknown` says of the file that it may hold anything: what is proved for all contents holds
+/// of those that it has.
+fn run_over_file<R: Read, W: Write>(
     rt: &HostRuntime,
     file: &NamedFile,
-    reader: &mut R,
+    reader: &mut BufReader<Watched<'_, R>>,
     writer: &mut W,
 ) -> u8 {
     let mut opening = Told { rt };
@@ -67,24 +72,24 @@ fn run_over_file<R: BufRead, W: Write>(
         writer,
     ) {
         Ok(ended) => {
-            explain(rt, &ended.outcome);
-            if let Err((fault, _left)) = &ended.files {
-                tell_log_stands(rt, *fault);
-            }
+            let closed = match &ended.files {
+                Ok(_) => Closed::Whole,
+                Err((fault, _left)) => Closed::after(*fault),
+            };
+            tell_ending(rt, reader.get_ref().watch.ending(closed), &ended.outcome);
             exit_status(&ended.outcome)
         }
         Err((fault, left, error)) => tell_refusal(rt, file, fault, &left, &error),
     }
 }
 
-/// Says on standard error why the log was not copied into the file. No memory is taken.
-fn tell_log_stands(rt: &impl Eprint, fault: StoreFault) {
-    let _ = rt.eprintln(match fault {
-        StoreFault::Memory => {
-            "opcplan: memory was refused as FILE was closed: what was written last stands in FILE-wal. Nothing is lost; keep both together"
-        }
-        StoreFault::Device => {
-            "opcplan: the disk failed as FILE was closed, or FILE-wal was cut or taken away: what was written last stands in FILE-wal as far as that is whole. Keep both together, and run the whole stream again"
-        }
-    });
+/// Says on standard error what ended a run, if a fault did and what was answered stands, and how the files were left. No
+/// memory is taken.
+fn tell_ending(rt: &impl Eprint, ending: Ending, outcome: &Result<Tally, RunFault>) {
+    if ending.keeps_answers() {
+        explain(rt, outcome);
+    }
+    if let Some(words) = ending.words() {
+        let _ = rt.eprintln(words);
+    }
 }

@@ -37,6 +37,15 @@ fn reason(
         Unrun::Unmigrated(MigrateFault::UnknownVersion) => Some(
             "opcplan: fault 50: FILE's plan is of a version that this program doesn't know; it is as it was",
         ),
+        Unrun::Unmigrated(MigrateFault::Device) => Some(
+            "opcplan: fault 41: the disk failed before the first statement: none was done. FILE's tables of version 1 may be made anew by now. Keep FILE and FILE-wal together, and run again",
+        ),
+        Unrun::Unadopted(OpenFault::Memory) => Some(
+            "opcplan: fault 40: memory was refused before the first statement: none was done. FILE may have got tables of a plan by now, or those of version 1 are made anew. Keep FILE and FILE-wal together, and run again",
+        ),
+        Unrun::Unadopted(OpenFault::Device) => Some(
+            "opcplan: fault 41: the disk failed before the first statement: none was done. FILE may have got tables of a plan by now, or those of version 1 are made anew. Keep FILE and FILE-wal together, and run again",
+        ),
         Unrun::Unadopted(OpenFault::Unopened) => Some(
             "opcplan: fault 50: FILE holds no plan, and can't get one: something in it has a name of a plan's tables, or a table refers to one. It is as it was",
         ),

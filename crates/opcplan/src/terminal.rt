@@ -10,9 +10,14 @@ pub const OVER_FILE: &str =
 pub const OVER_LISTS: &str =
     "opcplan: type a statement a line; opcplan --help lists them, docs/STATEMENTS.md has their words. A line /* ends the data of a define, Ctrl-D the run; nothing is kept without --db FILE";
 
+/// Whether standard input is a terminal.
+pub fn is_typed(rt: &HostRuntime) -> bool {
+    rt.stdin().is_terminal()
+}
+
 /// Says so on standard error, where standard input is a terminal. No memory is taken.
 pub fn greet(rt: &HostRuntime, words: &str) {
-    if rt.stdin().is_terminal() {
+    if is_typed(rt) {
         let _ = rt.eprintln(words);
     }
 }

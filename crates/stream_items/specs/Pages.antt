@@ -26,12 +26,12 @@ item_of (Items.Alone line) = Alone line.now
 item_of (Items.WithBlock line block) = WithBlock line.now (block_shown block)
 
 -- the block of an item, if it has one, has at most as many bytes as a block may have
-abbrev pub Fits : BlockValue → Type 0
-Fits (Blocks.Whole bytes) = length bytes.now ≤ longest_block
-Fits _ = Unit {0}
+abbrev pub BlockFits : BlockValue → Type 0
+BlockFits (Blocks.Whole bytes) = length bytes.now ≤ longest_block
+BlockFits _ = Unit {0}
 
 abbrev pub FitsBlock : ItemValue → Type 0
-FitsBlock (Items.WithBlock line block) = Fits block
+FitsBlock (Items.WithBlock line block) = BlockFits block
 FitsBlock _ = Unit {0}
 
 -- the item that a page holds, or none

@@ -1,0 +1,122 @@
+//! How the files of a run were left, as it is told.
+
+ghost use Rattle.std.specs.Prelude.{◌≡◌, ◌↔◌, false, true};
+ghost use Rattle.plan_store.specs.declared.stores.StoreFault.TheVariants.{Device, Memory};
+ghost use Rattle.opcplan.specs.Endings.{ending_of, keeps_answers};
+ghost use Rattle.opcplan.specs.declared.endings.Closed.TheVariants.{Failed, NoMemory};
+ghost use Rattle.opcplan.specs.declared.looks.Fate.TheVariants.{Same};
+
+use crate::looks::Fate;
+use plan_store::StoreFault;
+
+/// How files were closed.
+#[derive(Clone, Copy, Debug, PartialEq, Eq)]
+pub enum Closed {
+    /// The log was copied into the database file.
+    Whole,
+    /// It was not, for want of memory.
+    NoMemory,
+    /// It was not, since the device failed.
+    Failed,
+}
+
+impl Closed {
+    /// How files were closed where that failed for this.
+    pub fn after(fault: StoreFault) -> Closed
+        ensures memory { fault ≡ Memory → result ≡ NoMemory }
+        ensures device { fault ≡ Device → result ≡ Failed }
+    {
+        match fault {
+            StoreFault::Memory => Closed::NoMemory,
+            StoreFault::Device => Closed::Failed,
+        }
+    }
+}
+
+/// How the files of a run were left.
+#[derive(Clone, Copy, Debug, PartialEq, Eq)]
+pub enum Ending {
+    /// FILE has all.
+    Whole,
+    /// FILE was taken away.
+    TakenAway,
+    /// Another file stands at FILE.
+    Replaced,
+    /// Another file stands at FILE, and beside it the log of the one that was opened, which has something.
+    ReplacedBesideLog,
+    /// FILE was cut.
+    Cut,
+    /// FILE has all, and another file stands at FILE-wal.
+    OtherLog,
+    /// FILE-wal has what was written last.
+    LogStands,
+    /// The same, as far as FILE-wal is whole.
+    LogDamaged,
+}
+
+/// How the files of a run were left, by what became of FILE, whether it was cut, what became of FILE-wal, and how they
+/// were closed. What holds of several is told of the first.
+pub fn ending_by(file: Fate, is_cut: bool, log: Fate, closed: Closed) -> Ending
+    ensures ending { result ≡ ending_of file is_cut log closed }
+    ensures kept { (keeps_answers result ≡ true) ↔ ((file ≡ Same) × (is_cut ≡ false)) }
+{
+    match file {
+        Fate::Gone => Ending::TakenAway,
+        Fate::Other if closed != Closed::Whole && log == Fate::Same => Ending::ReplacedBesideLog,
+        Fate::Other => Ending::Replaced,
+        Fate::Same if is_cut => Ending::Cut,
+        Fate::Same => ending_of_log(log, closed),
+    }
+}
+
+/// The same of files of which FILE stands as it should.
+fn ending_of_log(log: Fate, closed: Closed) -> Ending
+    ensures { result ≡ ending_of Same false log closed }
+{
+    match (closed, log) {
+        (Closed::Whole, Fate::Other) => Ending::OtherLog,
+        (Closed::Whole, _) => Ending::Whole,
+        (Closed::NoMemory, Fate::Same) => Ending::LogStands,
+        _ => Ending::LogDamaged,
+    }
+}
+
+impl Ending {
+    /// Whether what was answered stands in the files, as far as is told.
+    pub fn keeps_answers(self) -> bool
+        ensures { result ≡ keeps_answers self }
+    {
+        match self {
+            Ending::TakenAway | Ending::Replaced | Ending::ReplacedBesideLog | Ending::Cut => false,
+            _ => true,
+        }
+    }
+
+    /// What is said of it on standard error, where anything is.
+    pub fn words(self) -> Option<&'static str> {
+        match self {
+            Ending::Whole => None,
+            Ending::TakenAway => Some(
+                "opcplan: FILE was taken away while this ran, and what was answered with it. Put it back where it was moved, else the last backup in its place (./plan restore), and run the whole stream again",
+            ),
+            Ending::Replaced => Some(
+                "opcplan: FILE is no longer the file that was opened: what was answered went into that one, which has lost its place. Run the whole stream again over the one that shall stand",
+            ),
+            Ending::ReplacedBesideLog => Some(
+                "opcplan: FILE is no longer the file that was opened: what was answered went into that one, which has lost its place, and into FILE-wal. Take FILE-wal away, and run the whole stream again over the one that shall stand",
+            ),
+            Ending::Cut => Some(
+                "opcplan: FILE was cut or overwritten while this ran: it may be damaged. Put the last backup in its place (./plan restore), and run the whole stream again",
+            ),
+            Ending::OtherLog => Some(
+                "opcplan: FILE-wal is not the log that this run wrote: take it away before the next run. FILE is whole",
+            ),
+            Ending::LogStands => Some(
+                "opcplan: memory was refused as FILE was closed: what was written last stands in FILE-wal, and the next run copies it into FILE. Keep both together",
+            ),
+            Ending::LogDamaged => Some(
+                "opcplan: the disk failed as FILE was closed, or FILE-wal was cut or taken away: what was written last stands in FILE-wal as far as that is whole. Keep both together, and run the whole stream again",
+            ),
+        }
+    }
+}

@@ -1,0 +1,78 @@
+//! What stands at a name, and what became of it.
+
+ghost use Rattle.std.specs.Prelude.{◌≡◌, ◌*◌, ◌↔◌, IsTrue};
+ghost use Rattle.opcplan.specs.Looks.{IsFate, IsShorter, LacksPages, page_count, page_size};
+
+/// A file, whatever its name.
+#[derive(Clone, Copy, Debug, PartialEq, Eq)]
+pub struct Inode {
+    /// The device that it is on.
+    pub device: u64,
+    /// Its number there.
+    pub number: u64,
+}
+
+/// What stands at a name.
+#[derive(Clone, Copy, Debug, PartialEq, Eq)]
+pub enum Look {
+    /// A file of so many bytes.
+    File(Inode, u64),
+    /// Nothing.
+    Nothing,
+    /// What the system doesn't tell.
+    Untold,
+}
+
+/// What became of the file at a name.
+#[derive(Clone, Copy, Debug, PartialEq, Eq)]
+pub enum Fate {
+    /// It stands there, as far as is told.
+    Same,
+    /// Nothing stands there.
+    Gone,
+    /// Another file stands there.
+    Other,
+}
+
+/// What became of the file that stood at a name, by what stands there now.
+pub fn fate_between(before: Look, after: Look) -> Fate
+    ensures { IsFate before after result }
+{
+    match (before, after) {
+        (Look::File(_, _), Look::Nothing) => Fate::Gone,
+        (Look::File(old, _), Look::File(new, _)) if old != new => Fate::Other,
+        _ => Fate::Same,
+    }
+}
+
+/// Whether the file that stood at a name stands there with fewer bytes than before.
+pub fn is_shorter(before: Look, after: Look) -> bool
+    ensures { IsTrue result ↔ IsShorter before after }
+{
+    match (before, after) {
+        (Look::File(old, bytes), Look::File(new, found)) => old == new && found < bytes,
+        _ => false,
+    }
+}
+
+/// Whether a file stands at a name that has fewer bytes than its pages take.
+pub fn lacks_pages(now: Look, pages: u64) -> bool
+    ensures { IsTrue result ↔ LacksPages now pages }
+{
+    match now {
+        Look::File(_, found) => found < pages,
+        _ => false,
+    }
+}
+
+/// How many bytes the pages of a database file take, by its first 32 bytes.
+pub fn bytes_of_pages(head: &[u8; 32]) -> u64
+    ensures { result ≡ page_size head.now * page_count head.now }
+{
+    let size = u64::from(head[16]) * 0x100 + u64::from(head[17]) * 0x1_0000;
+    let count = u64::from(head[28]) * 0x100_0000
+        + u64::from(head[29]) * 0x1_0000
+        + u64::from(head[30]) * 0x100
+        + u64::from(head[31]);
+    size * count
+}

@@ -1,0 +1,152 @@
+//! The files of a run, looked at while it reads its stream.
+
+ghost use Rattle.std.specs.Prelude.{◌≡◌, IsTrue, false};
+ghost use Rattle.std.specs.Io.{ReadsAtMost};
+ghost use Rattle.std.specs.Io.KnownBytes.{ReadConsumes};
+ghost use Rattle.opcplan.specs.Endings.{keeps_answers};
+
+use crate::endings::{Closed, Ending, ending_by};
+use crate::looks::{Inode, Look, bytes_of_pages, fate_between, is_shorter, lacks_pages};
+use std::fs::{self, File, Files};
+use std::io::{self, ErrorKind, Read};
+use std::os::unix::fs::MetadataExt;
+
+/// What stood at FILE and FILE-wal as a run began, and whether FILE was cut since.
+#[derive(Drop)]
+pub struct Watch<'a> {
+    rt: &'a HostRuntime,
+    path: &'a str,
+    log_path: Option<String>,
+    has_begun: bool,
+    file: Look,
+    log: Look,
+    was_cut: bool,
+}
+
+impl<'a> Watch<'a> {
+    /// One of the file at a path, which nobody has looked at.
+    pub fn new(rt: &'a HostRuntime, path: &'a str) -> Watch<'a> {
+        Watch {
+            rt,
+            path,
+            log_path: None,
+            has_begun: false,
+            file: Look::Untold,
+            log: Look::Untold,
+            was_cut: false,
+        }
+    }
+
+    /// Looks at both files for the first time. They are open then.
+    fn begin(&mut self)
+        ensures { self.new.was_cut ≡ self.old.was_cut }
+    {
+        self.has_begun = true;
+        self.file = look(self.rt, self.path);
+        if let Ok(path) = path_of_log(self.rt, self.path) {
+            self.log = look(self.rt, path.as_str());
+            self.log_path = Some(path);
+        }
+    }
+
+    /// Whether FILE, as it stands now, was cut. The copying of a log may leave it shorter too, but with all its pages.
+    fn is_cut(&self, now: Look) -> bool {
+        is_shorter(self.file, now) && lacks_pages(now, pages_of(self.rt, self.path))
+    }
+
+    /// Looks whether FILE was cut: a run that ends well copies its log into FILE, which has its length again then.
+    fn look_again(&mut self)
+        ensures remembered { IsTrue self.old.was_cut → IsTrue self.new.was_cut }
+    {
+        if self.is_cut(look(self.rt, self.path)) {
+            self.was_cut = true;
+        }
+    }
+
+    /// How the files were left, which have to be open still, so that no other file has the inode of one.
+    pub fn ending(&self, closed: Closed) -> Ending
+        ensures cut { IsTrue self.now.was_cut → keeps_answers result ≡ false }
+    {
+        let file = look(self.rt, self.path);
+        let log = match &self.log_path {
+            Some(path) => look(self.rt, path.as_str()),
+            None => Look::Untold,
+        };
+        ending_by(
+            fate_between(self.file, file),
+            self.was_cut || self.is_cut(file),
+            fate_between(self.log, log),
+            closed,
+        )
+    }
+}
+
+/// What reads a stream, and looks at the files of its run before the first read and after each.
+#[derive(Drop)]
+pub struct Watched<'a, R> {
+    reader: R,
+    /// What it saw of the files.
+    pub watch: Watch<'a>,
+}
+
+impl<'a, R: Read> Watched<'a, R> {
+    /// One that reads as this does.
+    pub fn new(reader: R, watch: Watch<'a>) -> Watched<'a, R> {
+        Watched { reader, watch }
+    }
+}
+
+impl<R: Read> Read for Watched<'_, R> {
+    ghost remaining = { λ w. R.remaining w.reader };
+
+    fn read(&mut self, buf: &mut [u8]) -> io::Result<usize>
+        ensures bound { ReadsAtMost result buf.new }
+        ensures bytes { ReadConsumes (R.remaining self.old.reader) (R.remaining self.new.reader)
+            result buf.new }
+        ensures remembered { IsTrue self.old.watch.was_cut → IsTrue self.new.watch.was_cut }
+    {
+        if !self.watch.has_begun {
+            self.watch.begin();
+        }
+        let taken = self.reader.read(buf);
+        self.watch.look_again();
+        taken
+    }
+}
+
+/// What stands at a path, by links too. No memory is taken.
+fn look(files: &impl Files, path: &str) -> Look {
+    match fs::metadata(files, path) {
+        Ok(found) => Look::File(
+            Inode {
+                device: found.dev(),
+                number: found.ino(),
+            },
+            found.len(),
+        ),
+        Err(error) => match error.kind() {
+            ErrorKind::NotFound | ErrorKind::NotADirectory => Look::Nothing,
+            _ => Look::Untold,
+        },
+    }
+}
+
+/// How many bytes the pages of a database file take, by its first bytes; where these can't be read, more than it has.
+fn pages_of(rt: &HostRuntime, path: &str) -> u64 {
+    let mut head = [0u8; 32];
+    match read_head(rt, path, &mut head) {
+        Ok(()) => bytes_of_pages(&head),
+        Err(_) => u64::MAX,
+    }
+}
+
+/// Reads the first bytes of a file.
+fn read_head(rt: &HostRuntime, path: &str, head: &mut [u8; 32]) -> io::Result<()> {
+    File::open(rt, path)?.read_exact(head)
+}
+
+/// The path of the log: beside the file to which the path leads.
+fn path_of_log(rt: &HostRuntime, path: &str) -> io::Result<String> {
+    let real = fs::canonicalize(rt, path)?;
+    Ok(format!(in rt.alloc(); "{}-wal", real.as_str())?)
+}
