@@ -1,4 +1,5 @@
 """What stands in a plan file, what has to, and how a stream is run: what the tools on plan files share."""
+import gzip
 import os
 import shutil
 import sqlite3
@@ -13,9 +14,13 @@ sys.dont_write_bytecode = True
 import plain_planner as plain  # noqa: E402
 
 PROGRAM = Path(os.environ.get("OPCPLAN") or TOOLS.parent / "crates" / "opcplan" / "out" / "opcplan")
-DATA = TOOLS.parent / "crates" / "planner_rows" / "data"
+DATA = TOOLS.parent / "crates" / "worked_streams" / "data"
 # of the tables that the program makes
 VERSION = 2
+# a stream that leaves rows in each table
+PLAN = "two-hundred-statements"
+# a log of fewer bytes has no page
+SMALLEST_PAGE = 512
 COLUMNS = {
     "plan_meta": "id, version, created, first_day, last_day, plan_end, issued, default_calendar, max_hours",
     "calendar_entry": "calendar, kind, day, work",
@@ -53,6 +58,39 @@ def rows_of(file):
                  for table, columns in COLUMNS.items()}
         in_order = plan.execute("PRAGMA integrity_check").fetchall() == [("ok",)]
         return found if in_order and not plan.execute("PRAGMA foreign_key_check").fetchall() else None
+
+
+def has_log(file):
+    """Whether pages stand in the log beside the file."""
+    log = Path(f"{file}-wal")
+    return log.exists() and log.stat().st_size >= SMALLEST_PAGE
+
+
+def first_file(file):
+    """The file that an earlier program made of the stream PLAN."""
+    file.write_bytes(gzip.decompress((DATA / "schema-1.db.gz").read_bytes()))
+
+
+def first_rows_of(file):
+    """The version and the rows of each table of schema 1, as stock SQLite shows them, with no limits added."""
+    with closing(sqlite3.connect(file)) as plan:
+        found = {}
+        for table, columns in COLUMNS.items():
+            rows = plan.execute(f"SELECT {columns.replace(', within', ', NULL')} FROM {table}")
+            found[table] = sorted(rows, key=repr)
+        in_order = plan.execute("PRAGMA integrity_check").fetchall() == [("ok",)]
+        return found if in_order else None
+
+
+def as_current(rows):
+    """The rows of schema 1 with the current version."""
+    (meta,) = rows["plan_meta"]
+    return {**rows, "plan_meta": [(meta[0], VERSION, *meta[2:])]}
+
+
+def version_of(file):
+    with closing(sqlite3.connect(file)) as plan:
+        return plan.execute("SELECT version FROM plan_meta").fetchall()
 
 
 def period_rows(name, period):

@@ -2,12 +2,10 @@ ghost use Rattle.std.specs.Prelude.{◌≡◌, ◌≢◌, ◌↔◌, IfOk, IsTru
 ghost use Rattle.planner_machine.specs.Act.{cp_action as decided};
 ghost use Rattle.planner_machine.specs.Content.{Content};
 ghost use Rattle.planner_machine.specs.Pairs.{IsCompleteAt};
-ghost use Rattle.planner_machine.specs.Sound.{AreNumbered, IsSound};
+ghost use Rattle.planner_machine.specs.Sound.{IsSound};
 ghost use Rattle.plan_store.specs.Changes.{LeadsOn, pairs_after};
 ghost use Rattle.plan_store.specs.Verdicts.{VerdictIs};
-ghost use Rattle.plan_store.specs.Asked.{AsksKey};
-ghost use Rattle.plan_store.specs.Views.{Hidden, IsCurrentRow, Sees, Shows, ShowsPart, is_planned, shown};
-ghost use Rattle.plan_store.specs.Views.{with_hidden};
+ghost use Rattle.plan_store.specs.Views.{Behind, BehindPart, IsCurrentRow, Shows, is_planned, shown};
 ghost use Rattle.daily_planning.specs.Actions.{ArePairsActed, ChangesStatus, IsActedOn, LeadsToRowPairs, LivesAt};
 ghost use Rattle.daily_planning.specs.Actions.{WaitsFor};
 
@@ -47,11 +45,9 @@ fn act(
     action: Action,
     current: &CurrentRow,
 ) -> Result<Verdict, AllocError>
-    ensures { IfOk result (λ verdict. (h : Hidden) → IsSound (with_hidden h view.now)
-        → Sees (AsksKey (with_hidden h view.now) current.now.row.key) h view.now
-        → (with_hidden h view.now).sets.bounds ≢ None
-        → IsCurrentRow (with_hidden h view.now).sets current.now.row.key (Some current.now)
-        → VerdictIs (decided current.now.row.key action) (with_hidden h view.now) verdict) }
+    ensures { IfOk result (λ verdict. Behind (Need.Key current.now.row.key) view.now (λ c.
+        c.sets.bounds ≢ None → IsCurrentRow c.sets current.now.row.key (Some current.now)
+        → VerdictIs (decided current.now.row.key action) c verdict)) }
 {
     let Some(status) = next_status(current.status, action) else {
         return Ok(Verdict::Refused(Refusal::StatusForbids));
@@ -69,11 +65,10 @@ fn act(
 
 // The predecessor that forbids the action on a row of the current plan, which waits where it is to start.
 fn waited_for(view: &View<'_>, action: Action, current: &CurrentRow) -> Option<Serial>
-    ensures { (h : Hidden) → IsSound (with_hidden h view.now)
-        → Sees (AsksKey (with_hidden h view.now) current.now.row.key) h view.now
-        → (with_hidden h view.now).sets.cp current.now.row.serial ≡ Some current.now
+    ensures { Behind (Need.Key current.now.row.key) view.now (λ c.
+        c.sets.cp current.now.row.serial ≡ Some current.now
         → (action ≡ Action.Start → current.now.status ≡ Status.W)
-        → WaitsFor (with_hidden h view.now) action current.now.row.serial result }
+        → WaitsFor c action current.now.row.serial result) }
 {
     if !is_start(action) {
         return None;
@@ -95,9 +90,8 @@ fn is_start(action: Action) -> bool
 
 // Whether the live occurrence of the serial is complete: what stands in no plan stands in history.
 fn is_complete(view: &View<'_>, serial: Serial) -> bool
-    ensures { (h : Hidden) → AreNumbered (with_hidden h view.now).sets → ShowsPart h view.now
-        → LivesAt (with_hidden h view.now).sets serial
-        → IsTrue result ↔ IsCompleteAt (with_hidden h view.now).sets serial }
+    ensures { BehindPart view.now (λ c. LivesAt c.sets serial
+        → IsTrue result ↔ IsCompleteAt c.sets serial) }
 {
     match view.placed(serial) {
         Some(placed) => placed.place.is_complete(),
@@ -112,10 +106,8 @@ fn status_change(
     action: Action,
     changed: &CurrentRow,
 ) -> Result<Change, AllocError>
-    ensures { IfOk result (λ change. (h : Hidden) → IsSound (with_hidden h view.now)
-        → Sees (AsksKey (with_hidden h view.now) changed.now.row.key) h view.now
-        → IsActedOn (with_hidden h view.now) action changed.now
-        → ChangesStatus (with_hidden h view.now) action changed.now change) }
+    ensures { IfOk result (λ change. Behind (Need.Key changed.now.row.key) view.now (λ c.
+        IsActedOn c action changed.now → ChangesStatus c action changed.now change)) }
 {
     let rows = single(alloc, *changed)?;
     let pairs = acted_pairs(alloc, view, action, changed)?;
@@ -132,15 +124,11 @@ fn acted_pairs(
     action: Action,
     changed: &CurrentRow,
 ) -> Result<PairChange, AllocError>
-    ensures pairs { IfOk result (λ change. (h : Hidden) → IsSound (with_hidden h view.now)
-        → Sees (AsksKey (with_hidden h view.now) changed.now.row.key) h view.now
-        → IsActedOn (with_hidden h view.now) action changed.now
-        → ArePairsActed (with_hidden h view.now) action changed.now
-        (pairs_after change (with_hidden h view.now).pairs)) }
-    ensures leads { IfOk result (λ change. (h : Hidden) → IsSound (with_hidden h view.now)
-        → Sees (AsksKey (with_hidden h view.now) changed.now.row.key) h view.now
-        → IsActedOn (with_hidden h view.now) action changed.now
-        → LeadsOn (with_hidden h view.now).pairs change) }
+    ensures pairs { IfOk result (λ change. Behind (Need.Key changed.now.row.key) view.now (λ c.
+        IsActedOn c action changed.now
+        → ArePairsActed c action changed.now (pairs_after change c.pairs))) }
+    ensures leads { IfOk result (λ change. Behind (Need.Key changed.now.row.key) view.now (λ c.
+        IsActedOn c action changed.now → LeadsOn c.pairs change)) }
 {
     match action {
         Action::Start | Action::Complete | Action::Fail => Ok(PairChange {
@@ -155,10 +143,9 @@ fn acted_pairs(
 // The change of the pairs, where the row waits again: from those that it had to those with its nearest predecessors.
 // No pair of another row is looked at.
 fn reset_pairs(alloc: Global, view: &View<'_>, row: &Row) -> Result<PairChange, AllocError>
-    ensures { IfOk result (λ change. (h : Hidden) → IsSound (with_hidden h view.now)
-        → Sees (AsksKey (with_hidden h view.now) row.now.key) h view.now
-        → is_planned (shown view.now).sets.ltp (shown view.now).sets.cp row.now.serial ≡ true
-        → LeadsToRowPairs (with_hidden h view.now) row.now change) }
+    ensures { IfOk result (λ change. Behind (Need.Key row.now.key) view.now (λ c.
+        is_planned (shown view.now).sets.ltp (shown view.now).sets.cp row.now.serial ≡ true
+        → LeadsToRowPairs c row.now change)) }
 {
     let mut had = Vec::new(alloc);
     had.extend_from_slice(view.pairs_of_successor(row.serial))?;

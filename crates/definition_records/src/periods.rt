@@ -58,14 +58,6 @@ impl DefinedPeriod {
     {
         &self.period
     }
-
-    /// The period, given back.
-    pub fn into_period(self) -> Period
-        ensures value { result ≡ self }
-        ensures sound { IsSoundPeriod result }
-    {
-        self.period
-    }
 }
 
 impl Clone for DefinedPeriod {

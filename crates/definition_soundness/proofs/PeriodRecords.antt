@@ -21,7 +21,7 @@ use Rattle.definition_records.specs.FieldCounts.{HasPeriodFields}
 use Rattle.definition_records.specs.declared.columns.TheConstants.{PERIOD_LENGTH, PERIOD_ORIGIN}
 use Rattle.definition_records.specs.declared.columns.TheConstants.{PERIOD_TYPE}
 use Rattle.definition_soundness.specs.Given.{IsGiven}
-use Rattle.definition_soundness.specs.Values.{HasDays, IsEntryValue, IsPeriodValue}
+use Rattle.definition_soundness.specs.Values.{HasDaysInRange, IsEntryValue, IsPeriodValue}
 use Rattle.definition_soundness.proofs.NumberLemmas.{number_spelled, number_text}
 use Rattle.definition_soundness.proofs.RecordLemmas.{about, begun, given, rows_of}
 use Rattle.definition_soundness.proofs.TextLemmas.{day_spelled, day_text}
@@ -205,7 +205,7 @@ module _ (name : List ℕ) where
       (refl, day_spelled origin is.days, long.1)
   period_given (Listed entries) sound is = listed_given name entries is.named is.days sound.1 sound.2 sound.0
 
-  days_of : (p : Period) (rows : Records) → IsPeriodOf p rows → HasDays p
+  days_of : (p : Period) (rows : Records) → IsPeriodOf p rows → HasDaysInRange p
   days_of (AllDays origin interval) rows is = is.1.in_range
   days_of (Work origin interval) rows is = is.1.in_range
   days_of (Listed entries) rows is = λ k d lt.

@@ -41,15 +41,15 @@ pub record IsCalendarValue (name : List ℕ) (c : CalendarEntries) : Type 0 wher
 abbrev pub IsEntryValue : Entry → Type 0
 IsEntryValue e = IsDay e.0 × IfSome e.1 IsDay
 
-abbrev pub HasDays : Period → Type 0
-HasDays (AllDays origin interval) = IsDay origin
-HasDays (Work origin interval) = IsDay origin
-HasDays (Listed entries) = All IsEntryValue entries
+abbrev pub HasDaysInRange : Period → Type 0
+HasDaysInRange (AllDays origin interval) = IsDay origin
+HasDaysInRange (Work origin interval) = IsDay origin
+HasDaysInRange (Listed entries) = All IsEntryValue entries
 
 -- a period's short name, and its days
 pub record IsPeriodValue (name : List ℕ) (p : Period) : Type 0 where
   pub named : IsShort name
-  pub days : HasDays p
+  pub days : HasDaysInRange p
 
 -- an application's name, those of predecessors, and their limits
 pub record ArePredecessorValues (name : List ℕ) (listed : List Predecessor) : Type 0 where

@@ -5,7 +5,7 @@ ghost use Rattle.std.specs.List.{All};
 ghost use Rattle.definition_records.specs.Periods.{FitsPeriod, IsPeriodOf};
 ghost use Rattle.definition_records.specs.FieldCounts.{HasPeriodFields};
 ghost use Rattle.definition_soundness.specs.Given.{IsGiven};
-ghost use Rattle.definition_soundness.specs.Values.{HasDays, IsEntryValue, IsPeriodValue};
+ghost use Rattle.definition_soundness.specs.Values.{HasDaysInRange, IsEntryValue, IsPeriodValue};
 
 use crate::given::Given;
 use crate::names::{is_day, is_end, is_short_enough};
@@ -33,7 +33,7 @@ fn are_entries(entries: &[(Day, Option<Day>)]) -> bool
 
 // Whether its days are days.
 fn has_days(period: &Period) -> bool
-    ensures { IsTrue result ↔ HasDays period.now }
+    ensures { IsTrue result ↔ HasDaysInRange period.now }
 {
     match period {
         Period::All { origin, .. } => is_day(*origin),

@@ -1,5 +1,5 @@
 //! Tests of the crates that read a stream and its definitions, `statement_words`, `app_definitions` and
-//! `external_dependencies`, by their public calls alone: what the streams of `planner_rows` can't show. The gate proves
+//! `external_dependencies`, by their public calls alone: what the streams of `worked_streams` can't show. The gate proves
 //! a crate a second time with its tests; this one has nothing else to prove.
 #![tactic(auto)]
 

@@ -5,7 +5,7 @@ use Rattle.std.specs.List.{AllPairs, AllByRecursion}
 use Rattle.std.proofs.lemmas.List.Elements.{All-from_recursion}
 use Rattle.std.proofs.lemmas.List.Kept.{AllPairs-cons}
 use Rattle.std.proofs.lemmas.Bool.{cases_lt}
-use Rattle.external_dependencies.specs.Walk.{Step, IsWalk, Reaches}
+use Rattle.external_dependencies.specs.Walk.{WalkStep, IsWalk, Reaches}
 use Rattle.external_dependencies.specs.Loop.{IsRing, OnRing}
 use Rattle.external_dependencies.proofs.WalkLemmas.{reaches-trans, reaches-step}
 
@@ -98,7 +98,7 @@ module _ {V : Type 0} (E : V → V → Type 0) (decide : (x y : V) → (x ≡ y)
         elim (decide goal x) [
           | inl same ↦ record {
             between = [];
-            walk = subst (λ y. Step E from y) (sym same) walk.0;
+            walk = subst (λ y. WalkStep E from y) (sym same) walk.0;
             different = tt;
             short_of = tt;
           }

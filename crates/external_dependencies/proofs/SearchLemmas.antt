@@ -7,7 +7,7 @@ use Rattle.std.proofs.lemmas.List.Elements.{Contains-get_or}
 use Rattle.std.proofs.lemmas.Bool.{cases_order}
 use Rattle.std.specs.Prelude.{Vec}
 use Rattle.std.specs.declared.alloc.Global.{Global}
-use Rattle.external_dependencies.specs.Walk.{items_of, IsGraph, Edge, Step, IsWalk, Reaches, ReturnsTo}
+use Rattle.external_dependencies.specs.Walk.{items_of, IsGraph, Edge, WalkStep, IsWalk, Reaches, ReturnsTo}
 use Rattle.external_dependencies.specs.Search.{IsReached, Visits}
 use Rattle.external_dependencies.proofs.WalkLemmas.{reaches-trans}
 
@@ -27,9 +27,9 @@ pub record IsSearch (g : List (List ℕ)) (start : ℕ) (reached : List Bool) (o
 module _ (g : List (List ℕ)) (start : ℕ) (reached : List Bool) (order : List ℕ) (done : ℕ)
     (search : IsSearch g start reached order done) where
   -- a step from a visited node leads to what the start reaches
-  from_start : (node w : ℕ) → Contains order node → Step (Edge g) node w → Reaches (Edge g) start w
+  from_start : (node w : ℕ) → Contains order node → WalkStep (Edge g) node w → Reaches (Edge g) start w
   from_start node w here step = elim (search.known node here) [
-    | inl same ↦ ([], subst (λ u. Step (Edge g) u w) same step)
+    | inl same ↦ ([], subst (λ u. WalkStep (Edge g) u w) same step)
     | inr marked ↦ reaches-trans (Edge g) start node w (search.walked node marked).0 ([], step)
   ]
 
@@ -107,7 +107,7 @@ module _ (g : List (List ℕ)) (start : ℕ) (reached : List Bool) (order : List
   -- with every node of the order visited, no walk comes back
   pub search_ended : length order ≤ done → ReturnsTo g start → ⊥
   search_ended all (between, walk) =
-      let keeps : (u v : ℕ) → Contains order u → Step (Edge g) u v → Contains order v × IsReached reached v =
+      let keeps : (u v : ℕ) → Contains order u → WalkStep (Edge g) u v → Contains order v × IsReached reached v =
       λ u v here step.
       let at : get_or order here.0 0 ≡ u = get_or_default order here.0 0 u here.1 ∙ here.2 in
       let marked : IsReached reached v = search.closed here.0 (omega (arith, here.1)) v
@@ -117,7 +117,7 @@ module _ (g : List (List ℕ)) (start : ℕ) (reached : List Bool) (order : List
       (Contains-get_or order 0 0 search.begun) in
       ended start between keeps first walk
     where
-      ended : (u : ℕ) (xs : List ℕ) → ((u v : ℕ) → Contains order u → Step (Edge g) u v → Contains order v
+      ended : (u : ℕ) (xs : List ℕ) → ((u v : ℕ) → Contains order u → WalkStep (Edge g) u v → Contains order v
           × IsReached reached v) → Contains order u → IsWalk (Edge g) u xs start → ⊥
       ended u [] keeps here walk = (search.walked start (keeps u start here walk).1).1 refl
       ended u (x ∷ xs) keeps here walk = ended x xs keeps (keeps u x here walk.0).0 walk.1

@@ -15,13 +15,13 @@ abbrev pub IsGraph : List (List ℕ) → Type 0
 IsGraph g = All (All (λ to. to < length g)) g
 
 -- a step of a walk: an edge between different nodes
-abbrev pub Step : {V : Type 0} → (V → V → Type 0) → V → V → Type 0
-Step E from to = E from to × (from ≢ to)
+abbrev pub WalkStep : {V : Type 0} → (V → V → Type 0) → V → V → Type 0
+WalkStep E from to = E from to × (from ≢ to)
 
 -- steps lead from the first node over those between to the last
 abbrev pub IsWalk : {V : Type 0} → (V → V → Type 0) → V → List V → V → Type 0
-IsWalk E from [] to = Step E from to
-IsWalk E from (x ∷ between) to = Step E from x × IsWalk E x between to
+IsWalk E from [] to = WalkStep E from to
+IsWalk E from (x ∷ between) to = WalkStep E from x × IsWalk E x between to
 
 -- some walk leads from the first node to the last
 abbrev pub Reaches : {V : Type 0} → (V → V → Type 0) → V → V → Type 0

@@ -33,7 +33,7 @@ use Rattle.planner_machine.specs.Sound.{AreDefinitions, IsSound}
 use Rattle.planner_machine.proofs.RangeLemmas.{cycle_ranges}
 use Rattle.plan_store.specs.Views.{IsDeletedKey, IsPlannedRow}
 use Rattle.plan_pairs.proofs.ListLemmas.{filter_has, filter_keeps, none}
-use Rattle.long_term_plan.specs.Drafting.{AddsDrafts, AreCollected, AreDraftsOf, AreInOrder, AreNew, HaveOwnKeys}
+use Rattle.long_term_plan.specs.Drafting.{AddsDrafts, AreCollected, AreDraftsOf, DraftsRise, AreNew, HaveOwnKeys}
 use Rattle.long_term_plan.specs.Drafting.{IsNamedFrom, IsNewKey, NamesFor, drafts_from, is_from}
 use Rattle.long_term_plan.proofs.PairwiseLemmas.{append_pairs, front_pairs, last_pairs, map_pairs}
 
@@ -190,7 +190,7 @@ collected_more all apps app first last old new before adds other = record {
 
 -- in order they are the drafts that are named within the days
 pub named_are : (all : Definitions) → AreDefinitions all → (apps : List (List ℕ)) (first last : ℕ)
-    (drafts sorted : List Draft) → AreCollected all apps first last drafts → AreInOrder sorted
+    (drafts sorted : List Draft) → AreCollected all apps first last drafts → DraftsRise sorted
     → ((draft : Draft) → Contains sorted draft ↔ Contains drafts draft)
     → AreDrafts (NamesFor all apps first (midnight (last + 1))) sorted
 named_are all are apps first last drafts sorted collected in_order same = record {
@@ -229,7 +229,7 @@ named_are all are apps first last drafts sorted collected in_order same = record
 
 pub new_none : (s : Sets) (new : List Draft) → new ≡ [] → AreNew s [] new
 new_none s new is = record {
-  in_order = λ order. subst AreInOrder (sym is) order;
+  in_order = λ order. subst DraftsRise (sym is) order;
   exactly = λ draft. (
     (λ there. absurd (none draft (subst (λ ds. Contains ds draft) is there))),
     λ both. absurd (none draft both.0),

@@ -23,7 +23,7 @@ use Rattle.plan_store.specs.declared.views.View.{View}
 use Rattle.plan_pairs.specs.ByApplications.{HasReached, HasWithList}
 use Rattle.plan_pairs.specs.LiveRows.{AreCompleted, HasLists}
 use Rattle.plan_pairs.specs.Planned.{IsPlannedOf}
-use Rattle.plan_pairs.specs.Turns.{AreKnownLinks, ArePlanned, IsBeside, IsListed, IsTouchOf}
+use Rattle.plan_pairs.specs.Turns.{AreKnownLinks, ArePlanned, IsBeside, IsInLists, IsTouchOf}
 use Rattle.plan_pairs.proofs.GatheredLemmas.{gone_app, of_reached}
 use Rattle.plan_pairs.proofs.PartLemmas.{shown_stood}
 use Rattle.plan_pairs.proofs.SeenLemmas.{completed_rows, pair_shown, seen_hold, was_planned}
@@ -62,7 +62,7 @@ module _ (h : Hidden) (view : View) (sound : IsSound (with_hidden h view))
 
   -- rows of some applications, with their lists, and pairs of some applications
   pub held : (OfRows : List ℕ → Type 0) (live : List PlacedRow)
-      → ((p : PlacedRow) → Contains live p ↔ (IsListed (stay ++ made) current lasts p × OfRows p.row.key.app))
+      → ((p : PlacedRow) → Contains live p ↔ (IsInLists (stay ++ made) current lasts p × OfRows p.row.key.app))
       → ((q : PlacedRow) → Contains turn_seen.now q → IsOpen q.place → MayReach touch links q.row
       → OfRows q.row.key.app × ((app : List ℕ) → Lists links q.row.key.app app → OfRows app))
       → (OfPairs : List ℕ → Type 0) (pairs : List Pair)
@@ -109,7 +109,7 @@ pub gathered_are : (apps : List (List ℕ)) (planned own : List Row) (current : 
     (live : List PlacedRow) → AreOf apps planned own
     → ((p : PlacedRow) → Contains live p ↔ ((Contains own p.row × (p.place ≡ LongTerm))
     ⊎ (IsBeside current lasts p × Contains apps p.row.key.app)))
-    → (p : PlacedRow) → Contains live p ↔ (IsListed planned current lasts p × Contains apps p.row.key.app)
+    → (p : PlacedRow) → Contains live p ↔ (IsInLists planned current lasts p × Contains apps p.row.key.app)
 gathered_are apps planned own current lasts live are_own are p = (
   (λ there. elim ((are p).0 there) [
     | inl first ↦ let both = (are_own p.row).0 first.0 in (inl (both.0, first.1), both.1)

@@ -16,7 +16,7 @@ use Rattle.planner_machine.specs.declared.content.Draft.{Draft}
 use Rattle.planner_machine.specs.Modify.{draft_with}
 use Rattle.keyed_lists.specs.Rows.{HasEachOnce, of_row}
 use Rattle.plan_pairs.proofs.ListLemmas.{first_or_later, further, here, none}
-use Rattle.long_term_plan.specs.Drafting.{AreInOrder}
+use Rattle.long_term_plan.specs.Drafting.{DraftsRise}
 use Rattle.long_term_plan.specs.Modifying.{AreChanged}
 use Rattle.long_term_plan.proofs.PairwiseLemmas.{front_pairs, last_pairs}
 
@@ -146,7 +146,7 @@ module _ (f : Row → Option Row) where
 
 -- ---- the draft of a key
 
-pub draft_there : (key : Key) (named : List Draft) (draft : Draft) → AreInOrder named → Contains named draft
+pub draft_there : (key : Key) (named : List Draft) (draft : Draft) → DraftsRise named → Contains named draft
     → draft.key ≡ key → draft_with key named ≡ Some draft
 draft_there key [] draft order there same = absurd (none draft there)
 draft_there key (first ∷ named) draft order there same =

@@ -27,8 +27,8 @@ abbrev pub HaveOwnKeys : List Draft → Type 0
 HaveOwnKeys drafts = AllPairs (λ a b. a.key ≢ b.key) drafts
 
 -- each draft comes before the next by its key
-abbrev pub AreInOrder : List Draft → Type 0
-AreInOrder drafts = AllPairs (λ a b. KeyBefore a.key b.key) drafts
+abbrev pub DraftsRise : List Draft → Type 0
+DraftsRise drafts = AllPairs (λ a b. KeyBefore a.key b.key) drafts
 
 -- the calendars name the draft for the application, on a day from the moment's to the last, at or after the moment
 pub record IsNamedFrom (all : Definitions) (app : List ℕ) (first last : ℕ) (draft : Draft) : Type 0 where
@@ -70,5 +70,5 @@ pub record IsNewKey (s : Sets) (key : Key) : Type 0 where
 
 -- of the named drafts those of new keys, in their order
 pub record AreNew (s : Sets) (named new : List Draft) : Type 0 where
-  pub in_order : AreInOrder named → AreInOrder new
+  pub in_order : DraftsRise named → DraftsRise new
   pub exactly : (draft : Draft) → Contains new draft ↔ (Contains named draft × IsNewKey s draft.key)

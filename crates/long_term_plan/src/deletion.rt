@@ -3,8 +3,7 @@ ghost use Rattle.planner_machine.specs.Content.{Content};
 ghost use Rattle.planner_machine.specs.Delete.{ltp_delete};
 ghost use Rattle.planner_machine.specs.Sound.{IsSound};
 ghost use Rattle.plan_store.specs.Verdicts.{VerdictIs};
-ghost use Rattle.plan_store.specs.Asked.{AsksKey};
-ghost use Rattle.plan_store.specs.Views.{Hidden, Sees, Shows, with_hidden};
+ghost use Rattle.plan_store.specs.Views.{Behind, Shows};
 ghost use Rattle.long_term_plan.specs.Deletes.{DeletesRow};
 
 use occurrences::{Deletion, Key, Reason, Refusal, Reply, Row};
@@ -30,10 +29,8 @@ pub fn delete(alloc: Global, view: &View<'_>, key: &Key) -> Result<Verdict, Allo
 
 // The row leaves the long-term plan for the deletions.
 fn delete_row(alloc: Global, view: &View<'_>, row: &Row) -> Result<Verdict, AllocError>
-    ensures { IfOk result (λ verdict. (h : Hidden) → IsSound (with_hidden h view.now)
-        → Sees (AsksKey (with_hidden h view.now) row.now.key) h view.now
-        → (with_hidden h view.now).sets.ltp row.now.serial ≡ Some row.now
-        → DeletesRow (with_hidden h view.now) row.now verdict) }
+    ensures { IfOk result (λ verdict. Behind (Need.Key row.now.key) view.now (λ c.
+        c.sets.ltp row.now.serial ≡ Some row.now → DeletesRow c row.now verdict)) }
 {
     let gone = single(alloc, *row)?;
     let deletion = Deletion {

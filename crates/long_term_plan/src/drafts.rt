@@ -6,8 +6,8 @@ ghost use Rattle.planner_machine.specs.declared.content.Draft.{Draft as DraftVal
 ghost use Rattle.planner_machine.specs.Content.{midnight};
 ghost use Rattle.planner_machine.specs.Drafts.{AreDrafts, draft_of};
 ghost use Rattle.planner_machine.specs.Sound.{AreDefinitions};
-ghost use Rattle.plan_store.specs.Views.{Hidden, ShowsDeleted, with_hidden};
-ghost use Rattle.long_term_plan.specs.Drafting.{AddsDrafts, AreInOrder, AreNew, HaveOwnKeys, IsNewKey, NamesFor};
+ghost use Rattle.plan_store.specs.Views.{BehindAny, ShowsDeleted};
+ghost use Rattle.long_term_plan.specs.Drafting.{AddsDrafts, DraftsRise, AreNew, HaveOwnKeys, IsNewKey, NamesFor};
 ghost use Rattle.long_term_plan.specs.Drafting.{drafts_from};
 
 use app_definitions::Definitions;
@@ -98,7 +98,7 @@ fn draft_of(app: &App, named: &Named) -> Draft
 
 // Sorts the drafts by key.
 fn sort_drafts(drafts: &mut Vec<Draft>)
-    ensures in_order { HaveOwnKeys drafts.old.items → AreInOrder drafts.new.items }
+    ensures in_order { HaveOwnKeys drafts.old.items → DraftsRise drafts.new.items }
     ensures same { (draft : DraftValue) → Contains drafts.new.items draft ↔ Contains drafts.old.items draft }
 {
     drafts.sort_unstable_by_key(|draft| draft.key);
@@ -111,9 +111,9 @@ pub(crate) fn new_drafts(
     view: &View<'_>,
     named: &[Draft],
 ) -> Result<Vec<Draft>, AllocError>
-    ensures { IfOk result (λ new. (h : Hidden)
-        → ((draft : DraftValue) → Contains named.now draft → ShowsDeleted h view.now draft.key)
-        → AreNew (with_hidden h view.now).sets named.now new.items) }
+    ensures { IfOk result (λ new. BehindAny view.now (λ c.
+        ((draft : DraftValue) → Contains named.now draft → ShowsDeleted c view.now draft.key)
+        → AreNew c.sets named.now new.items)) }
 {
     let mut new = Vec::new(alloc);
     for draft in named {
@@ -126,8 +126,8 @@ pub(crate) fn new_drafts(
 
 // Whether a planning statement may make the key.
 fn is_new(view: &View<'_>, key: &Key) -> bool
-    ensures { (h : Hidden) → ShowsDeleted h view.now key.now
-        → IsTrue result ↔ IsNewKey (with_hidden h view.now).sets key.now }
+    ensures { BehindAny view.now (λ c. ShowsDeleted c view.now key.now
+        → IsTrue result ↔ IsNewKey c.sets key.now) }
 {
     view.ltp_row(key).is_none() && !view.is_deleted_by_operator(key)
 }

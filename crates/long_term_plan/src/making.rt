@@ -7,8 +7,7 @@ ghost use Rattle.planner_machine.specs.declared.limits.TheConstants.{MOST_PLANNE
 ghost use Rattle.planner_machine.specs.Moves.{numbered_row};
 ghost use Rattle.planner_machine.specs.Plans.{HoldTooMany};
 ghost use Rattle.planner_machine.specs.Sound.{IsSound};
-ghost use Rattle.plan_store.specs.Asked.{AsksPlan};
-ghost use Rattle.plan_store.specs.Views.{Hidden, Sees, ShowsDeleted, shown, with_hidden};
+ghost use Rattle.plan_store.specs.Views.{Behind, BehindAny, ShowsDeleted, shown};
 ghost use Rattle.plan_pairs.specs.Turns.{AreKnownLinks};
 ghost use Rattle.occurrences.specs.declared.key.Key.{Key as KeyValue};
 ghost use Rattle.long_term_plan.specs.Making.{AddsDays, AreDaysAdded, KeepsRowsSound, MakesDrafts, numbered};
@@ -18,7 +17,7 @@ use crate::drafts::{named_drafts, new_drafts};
 use external_dependencies::Links;
 use occurrences::{GREATEST_SERIAL, Refusal, Reply, Row, Serial};
 use plan_pairs::{live_rows_with, pair_change, pairs_of_plans, touch_of};
-use plan_store::{Change, DefinitionChange, Moves, Verdict, View};
+use plan_store::{Change, DefinitionChange, Moves, Need, Verdict, View};
 use planner_machine::{Bounds, Draft, MOST_PLANNED_ROWS};
 use std::alloc::{AllocError, Global};
 use work_calendars::Moment;
@@ -33,13 +32,10 @@ pub(crate) fn add_days(
     first: Moment,
 ) -> Result<Verdict, AllocError>
     requires { bounds.now.last_day ≤ last_kept_day }
-    ensures { IfOk result (λ verdict. (h : Hidden) → IsSound (with_hidden h view.now)
-        → Sees (AsksPlan (with_hidden h view.now)) h view.now
-        → AreKnownLinks (with_hidden h view.now) links
-        → ((key : KeyValue) → first ≤ key.ia → ShowsDeleted h view.now key)
-        → ((new : List DraftValue) → AreDaysAdded (with_hidden h view.now) bounds.now first new
-        → KeepsRowsSound (with_hidden h view.now) bounds.now new)
-        → AddsDays (with_hidden h view.now) bounds.now first links verdict) }
+    ensures { IfOk result (λ verdict. Behind Need.LongTerm view.now (λ c. AreKnownLinks c links
+        → ((key : KeyValue) → first ≤ key.ia → ShowsDeleted c view.now key)
+        → ((new : List DraftValue) → AreDaysAdded c bounds.now first new
+        → KeepsRowsSound c bounds.now new) → AddsDays c bounds.now first links verdict)) }
 {
     let all = view.definitions();
     let apps = all.applications.names(alloc)?;
@@ -54,9 +50,8 @@ pub(crate) fn add_days(
 
 // Whether the plans would hold too many rows, or too many serials were issued.
 fn would_hold_too_many(view: &View<'_>, bounds: &Bounds, new: &[Draft]) -> bool
-    ensures too_many { (h : Hidden) → IsSound (with_hidden h view.now)
-        → IsTrue result
-        ↔ HoldTooMany (planned_sets bounds.now new.now (with_hidden h view.now).sets) }
+    ensures too_many { BehindAny view.now (λ c. IsSound c
+        → IsTrue result ↔ HoldTooMany (planned_sets bounds.now new.now c.sets)) }
     ensures serials { result ≡ false → (shown view.now).sets.issued + length new.now ≤ GREATEST_SERIAL }
 {
     let rows = view.ltp().len() + view.cp().len() + new.len();
@@ -73,11 +68,9 @@ fn make_drafts(
     new: Vec<Draft>,
 ) -> Result<Verdict, AllocError>
     requires { (shown view.now).sets.issued + length new.items ≤ GREATEST_SERIAL }
-    ensures { IfOk result (λ verdict. (h : Hidden) → IsSound (with_hidden h view.now)
-        → Sees (AsksPlan (with_hidden h view.now)) h view.now
-        → AreKnownLinks (with_hidden h view.now) links
-        → KeepsRowsSound (with_hidden h view.now) bounds.now new.items
-        → MakesDrafts (with_hidden h view.now) bounds.now links new.items verdict) }
+    ensures { IfOk result (λ verdict. Behind Need.LongTerm view.now (λ c. AreKnownLinks c links
+        → KeepsRowsSound c bounds.now new.items
+        → MakesDrafts c bounds.now links new.items verdict)) }
 {
     let made = new.len();
     let rows = numbered_rows(alloc, view.issued(), new.as_slice())?;

@@ -15,11 +15,10 @@ ghost use Rattle.planner_machine.specs.Sound.{IsSound};
 ghost use Rattle.keyed_lists.specs.Rows.{of_row};
 ghost use Rattle.plan_store.specs.Changes.{LeadsOn, pairs_after};
 ghost use Rattle.plan_store.specs.Verdicts.{VerdictIs};
-ghost use Rattle.plan_store.specs.Asked.{AsksPlan};
-ghost use Rattle.plan_store.specs.Views.{Hidden, IsAny, ListsSet, Sees, Shows, ShowsDeleted, shown, with_hidden};
+ghost use Rattle.plan_store.specs.Views.{Behind, BehindAny, IsAny, ListsSet, Shows, ShowsDeleted, shown};
 ghost use Rattle.occurrences.specs.declared.key.Key.{Key as KeyValue};
 ghost use Rattle.plan_pairs.specs.Turns.{AreKnownLinks, ArePlanned};
-ghost use Rattle.long_term_plan.specs.Drafting.{AreInOrder};
+ghost use Rattle.long_term_plan.specs.Drafting.{DraftsRise};
 ghost use Rattle.long_term_plan.specs.Modifying.{AreAsked, AreModifying, AreOf, AreTooMany, HavePlanned, Looks};
 ghost use Rattle.long_term_plan.specs.Modifying.{ModifiesPlan, ModifiesRows, modified_sets, outcome};
 
@@ -95,12 +94,10 @@ fn modify(
     only: &Option<App>,
     links: Links,
 ) -> Result<Verdict, AllocError>
-    ensures { IfOk result (λ verdict. (h : Hidden) → IsSound (with_hidden h view.now)
-        → Sees (AsksPlan (with_hidden h view.now)) h view.now
-        → AreKnownLinks (with_hidden h view.now) links
-        → (with_hidden h view.now).sets.bounds ≡ Some bounds.now
-        → ((key : KeyValue) → bounds.now.plan_end ≤ key.ia → ShowsDeleted h view.now key)
-        → ModifiesPlan (with_hidden h view.now) only.now links verdict) }
+    ensures { IfOk result (λ verdict. Behind Need.LongTerm view.now (λ c. AreKnownLinks c links
+        → c.sets.bounds ≡ Some bounds.now
+        → ((key : KeyValue) → bounds.now.plan_end ≤ key.ia → ShowsDeleted c view.now key)
+        → ModifiesPlan c only.now links verdict)) }
 {
     let all = view.definitions();
     let apps = asked(alloc, all, only)?;
@@ -144,10 +141,9 @@ fn last_planned(bounds: &Bounds) -> Day
 // Whether the plans would hold too many rows without those that go and with the new ones, or too many serials were
 // issued.
 fn are_too_many(view: &View<'_>, gone: &[Row], new: &[Draft]) -> bool
-    ensures too_many { (h : Hidden) → IsSound (with_hidden h view.now) → (kept : ℕ)
-        → kept + length gone.now
-        ≡ size (with_hidden h view.now).sets.ltp (with_hidden h view.now).sets.issued
-        → IsTrue result ↔ AreTooMany (with_hidden h view.now).sets kept (length new.now) }
+    ensures too_many { BehindAny view.now (λ c. IsSound c → (kept : ℕ)
+        → kept + length gone.now ≡ size c.sets.ltp c.sets.issued
+        → IsTrue result ↔ AreTooMany c.sets kept (length new.now)) }
     ensures serials { result ≡ false → (shown view.now).sets.issued + length new.now ≤ GREATEST_SERIAL }
 {
     let rows = view.ltp().len() + view.cp().len() + new.len();
@@ -167,16 +163,12 @@ fn pairs_then(
     put: &[Row],
     links: &Links,
 ) -> Result<PairChange, AllocError>
-    ensures { AreInOrder named.items → ListsSet of_row (shown view.now).sets.ltp IsAny rows.now
-        → IfOk result (λ change. (h : Hidden) → IsSound (with_hidden h view.now)
-        → Sees (AsksPlan (with_hidden h view.now)) h view.now
-        → AreKnownLinks (with_hidden h view.now) links.now → (s : Sets)
+    ensures { DraftsRise named.items → ListsSet of_row (shown view.now).sets.ltp IsAny rows.now
+        → IfOk result (λ change. Behind Need.LongTerm view.now (λ c. AreKnownLinks c links.now
+        → (s : Sets)
         → ArePlanned rows.now (filter_map (outcome only.now named.items) rows.now) gone.now put.now
-        → HavePlanned (with_hidden h view.now).sets
-        (filter_map (outcome only.now named.items) rows.now ++ put.now) s
-        → ArePairs (with_hidden h view.now).pairs links.now s
-        (pairs_after change (with_hidden h view.now).pairs)
-        × LeadsOn (with_hidden h view.now).pairs change) }
+        → HavePlanned c.sets (filter_map (outcome only.now named.items) rows.now ++ put.now) s
+        → ArePairs c.pairs links.now s (pairs_after change c.pairs) × LeadsOn c.pairs change)) }
 {
     let current = view.cp();
     let lasts = view.lasts();
@@ -208,7 +200,7 @@ fn planned_of(
     named: &[Draft],
     put: &[Row],
 ) -> Result<Vec<Row>, AllocError>
-    ensures { AreInOrder named.now → (rows : List RowValue)
+    ensures { DraftsRise named.now → (rows : List RowValue)
         → ListsSet of_row (shown view.now).sets.ltp IsAny rows
         → ((row : RowValue) → Contains put.now row → Contains apps.now row.key.app)
         → IfOk result (λ planned. AreOf apps.now
@@ -227,7 +219,7 @@ fn staying_of(
     only: &Option<App>,
     named: &[Draft],
 ) -> Result<Vec<Row>, AllocError>
-    ensures { AreInOrder named.now → (rows : List RowValue)
+    ensures { DraftsRise named.now → (rows : List RowValue)
         → ListsSet of_row (shown view.now).sets.ltp IsAny rows → IfOk result (λ kept.
         AreOf apps.now (filter_map (outcome only.now named.now) rows) kept.items) }
 {
@@ -260,15 +252,11 @@ fn change_rows(
     put: Vec<Row>,
 ) -> Result<Verdict, AllocError>
     requires { (shown view.now).sets.issued + length put.items ≤ GREATEST_SERIAL }
-    ensures { IfOk result (λ verdict. (h : Hidden) → IsSound (with_hidden h view.now)
+    ensures { IfOk result (λ verdict. BehindAny view.now (λ c. IsSound c
         → (only : Option (List ℕ)) (named new : List DraftValue)
-        → AreModifying (with_hidden h view.now).sets only named new gone.items
-        changed.items put.items
-        → ArePairs (with_hidden h view.now).pairs links
-        (modified_sets only named new (with_hidden h view.now).sets)
-        (pairs_after pairs (with_hidden h view.now).pairs)
-        → LeadsOn (with_hidden h view.now).pairs pairs
-        → ModifiesRows (with_hidden h view.now) links only named new verdict) }
+        → AreModifying c.sets only named new gone.items changed.items put.items
+        → ArePairs c.pairs links (modified_sets only named new c.sets) (pairs_after pairs c.pairs)
+        → LeadsOn c.pairs pairs → ModifiesRows c links only named new verdict)) }
 {
     let made = put.len();
     let reply = Reply::Made {

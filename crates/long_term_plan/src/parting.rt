@@ -1,7 +1,7 @@
 ghost use Rattle.std.specs.Prelude.{◌≡◌, ◌↔◌, IfOk, IsTrue, filter, is_none};
 ghost use Rattle.std.specs.List.{filter_map};
 ghost use Rattle.planner_machine.specs.Modify.{draft_with, looks_at};
-ghost use Rattle.long_term_plan.specs.Drafting.{AreInOrder};
+ghost use Rattle.long_term_plan.specs.Drafting.{DraftsRise};
 ghost use Rattle.long_term_plan.specs.Modifying.{AreChanged, IsChanged, looks, outcome};
 
 use occurrences::{Key, Origin, Row};
@@ -17,7 +17,7 @@ pub(crate) fn staying_rows(
     only: &Option<App>,
     named: &[Draft],
 ) -> Result<Vec<Row>, AllocError>
-    ensures { AreInOrder named.now
+    ensures { DraftsRise named.now
         → IfOk result (λ kept. kept.items ≡ filter_map (outcome only.now named.now) rows.now) }
 {
     let mut kept = Vec::with_capacity(alloc, rows.len())?;
@@ -36,7 +36,7 @@ pub(crate) fn withdrawn_rows(
     only: &Option<App>,
     named: &[Draft],
 ) -> Result<Vec<Row>, AllocError>
-    ensures { AreInOrder named.now
+    ensures { DraftsRise named.now
         → IfOk result (λ gone. gone.items ≡ filter (λ row. is_none (outcome only.now named.now row)) rows.now) }
 {
     let mut gone = Vec::new(alloc);
@@ -55,7 +55,7 @@ pub(crate) fn changed_rows(
     only: &Option<App>,
     named: &[Draft],
 ) -> Result<Vec<Row>, AllocError>
-    ensures { AreInOrder named.now
+    ensures { DraftsRise named.now
         → IfOk result (λ changed. AreChanged (outcome only.now named.now) rows.now changed.items) }
 {
     let mut changed = Vec::new(alloc);
@@ -69,7 +69,7 @@ pub(crate) fn changed_rows(
 
 // The row as it is then, where it stays and changes.
 fn changed_row(row: &Row, only: &Option<App>, named: &[Draft]) -> Option<Row>
-    ensures { AreInOrder named.now → IsChanged (outcome only.now named.now) row.now result }
+    ensures { DraftsRise named.now → IsChanged (outcome only.now named.now) row.now result }
 {
     let now = outcome(row, only, named)?;
     if is_same(&now, row) {
@@ -88,7 +88,7 @@ fn is_same(one: &Row, other: &Row) -> bool
 // What becomes of a row: a generated one of an application that the statement looks at takes what is named now under
 // its key, or is withdrawn.
 fn outcome(row: &Row, only: &Option<App>, named: &[Draft]) -> Option<Row>
-    ensures { AreInOrder named.now → result ≡ outcome only.now named.now row.now }
+    ensures { DraftsRise named.now → result ≡ outcome only.now named.now row.now }
 {
     if !looks_at(row, only) {
         return Some(*row);
@@ -124,7 +124,7 @@ pub(crate) fn looks(app: &App, only: &Option<App>) -> bool
 
 // The draft of that key.
 fn draft_with(key: &Key, named: &[Draft]) -> Option<Draft>
-    ensures { AreInOrder named.now → result ≡ draft_with key.now named.now }
+    ensures { DraftsRise named.now → result ≡ draft_with key.now named.now }
 {
     match named.binary_search_by_key(key, |draft| draft.key) {
         Ok(at) => Some(named[at]),

@@ -61,6 +61,7 @@ fn run_adopted<D: Disk + Drop, O: Opening, R: BufRead, W: Write>(
         (W.contents writer.new) (R.remaining reader.old)) ended.outcome ended.files) }
     ensures unrun { IfErr result (IsUnadopted conn) }
     ensures silent { IfErr result (λ _. writer.new ≡ writer.old) }
+    ensures unread { IfErr result (λ _. reader.new ≡ reader.old) }
 {
     match TableStore::adopt(alloc, conn) {
         Ok(store) => {
@@ -87,6 +88,7 @@ pub fn run_over_connection<D: Disk + Drop, O: Opening, R: BufRead, W: Write>(
         (W.contents writer.new) (R.remaining reader.old)) ended.outcome ended.files) }
     ensures unrun { IfErr result (IsUnmade conn) }
     ensures silent { IfErr result (λ _. writer.new ≡ writer.old) }
+    ensures unread { IfErr result (λ _. reader.new ≡ reader.old) }
 {
     let mut conn = conn;
     match migrate_older(alloc, &mut conn) {
@@ -114,6 +116,7 @@ pub fn run_over_files<S: Start, O: Opening, R: BufRead, W: Write>(
     ensures refused { IfErr result (λ left. IsNotRun (λ is_log file. IsFresh is_log file)
         (image_at S.Start) left.0 left.1) }
     ensures silent { IfErr result (λ _. writer.new ≡ writer.old) }
+    ensures unread { IfErr result (λ _. reader.new ≡ reader.old) }
 {
     match open_connection_with(rt, path, new_has_sums, start) {
         Ok(conn) => match run_over_connection(rt.alloc(), conn, opening, reader, writer) {

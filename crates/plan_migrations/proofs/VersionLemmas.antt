@@ -15,7 +15,7 @@ use Rattle.sqlite_trees.specs.Objects.{catalog_tree}
 use Rattle.sqlite_typing.specs.Types.{are_typed, row_classes}
 use Rattle.sqlite_tied.specs.Compute.{everything}
 use Rattle.keyed_lists.proofs.KeyLemmas.{contains_cases, nothing}
-use Rattle.table_schema.specs.Places.{StandsAt}
+use Rattle.table_schema.specs.Places.{TableStandsAt}
 use Rattle.table_schema.specs.Rows.{shown, tables_of}
 use Rattle.table_schema.specs.Schema.{HasTables, name, table_at}
 use Rattle.table_schema.specs.declared.tables.Table.TheVariants as table
@@ -47,10 +47,10 @@ use Rattle.plan_migrations.proofs.ContentLemmas.{mapped, maps}
 -- ---- what it shows
 
 abbrev version_columns : List (List ℕ)
-version_columns = codes "id" ∷ codes "version" ∷ []
+version_columns = codes "version" ∷ codes "version" ∷ []
 
 abbrev version_terms : List Term
-version_terms = col 1 0 ∷ col 1 2 ∷ []
+version_terms = col 1 2 ∷ col 1 2 ∷ []
 
 version_says : IfRead (first version_sql) (IsBareText (length version_sql) (name table.Meta) (map shown_column version_columns))
 unfolding everything
@@ -64,7 +64,7 @@ version_fits : (tree : ℕ) → (has_all (table_at tree table.Meta) version_colu
 unfolding everything
 version_fits tree = (refl, refl, refl, refl, refl)
 
-versions : (schema : Schema) (tree at : ℕ) → StandsAt schema (table_at tree table.Meta) at
+versions : (schema : Schema) (tree at : ℕ) → TableStandsAt schema (table_at tree table.Meta) at
     → ShowsRows schema version_sql tree version_terms version_columns
 versions schema tree at it =
     let fits = version_fits tree in

@@ -30,20 +30,20 @@ upto_next s app moment None none ia within other at later = absurd (none other a
 upto_next s app moment (Some next) is ia within other at later = let le = is.2 other at later in omega (arith, within, le)
 
 module _ (h : Hidden) (view : View) (key : Key) (sees : Sees (AsksKey (with_hidden h view) key) h view) where
-  pub shows_own : ShowsLast h view key.app (key.ia + 1)
+  pub shows_own : ShowsLast (with_hidden h view) view key.app (key.ia + 1)
   shows_own = sees.lasts.lasts key.app (key.ia + 1) (inl (refl, inr refl))
 
-  pub shows_before : ShowsNearest h view key key.app
+  pub shows_before : ShowsNearest (with_hidden h view) view key key.app
   shows_before minute (inl own) = sees.lasts.lasts key.app minute (inl (refl, inl own.1))
   shows_before minute (inr other) = absurd (other.0 refl)
 
 -- of the key's own list, and of those that are reached
 module _ (h : Hidden) (view : View) (row : Row) (sees : Sees (AsksKey (with_hidden h view) row.key) h view) where
-  pub shows_list : ShowsList h view row
+  pub shows_list : ShowsList (with_hidden h view) view row
   shows_list app listed minute limit = sees.lasts.lasts app minute (inr (inl (listed, limit)))
 
   pub shows_reached : (last : Option ℕ) → IsNextPlanned (with_hidden h view).sets row.key.app row.key.ia last
-      → ShowsReached h view row last
+      → ShowsReached (with_hidden h view) view row last
   shows_reached last next p is app listed minute limit =
       sees.lasts.lasts app minute (inr (inr (p.row, reached, (listed, limit))))
     where

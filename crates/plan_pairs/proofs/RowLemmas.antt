@@ -19,7 +19,7 @@ use Rattle.planner_machine.proofs.SeatLemmas.{cases_issued}
 use Rattle.plan_store.specs.Views.{IsAny, ListsSet}
 use Rattle.plan_pairs.proofs.ListLemmas.{none}
 use Rattle.plan_pairs.specs.LiveRows.{AddsCurrent, AddsRows, AreLiveRows, HasLists, IsCurrentIn}
-use Rattle.plan_pairs.specs.Turns.{IsListed}
+use Rattle.plan_pairs.specs.Turns.{IsInLists}
 
 pub rows_none : (place : Place) (old : List PlacedRow) → AddsRows [] place old old
 rows_none place old p =
@@ -205,7 +205,7 @@ module _ (s : Sets) (planned : List Row) (cp : List CurrentRow) (history : List 
 -- the lists, one after another, have what they list
 pub are_listed : (planned : List Row) (current : List CurrentRow) (completed : List Row) (r1 r2 r3 : List PlacedRow)
     → AddsRows planned LongTerm [] r1 → AddsCurrent current r1 r2 → AddsRows completed History r2 r3
-    → (p : PlacedRow) → Contains r3 p ↔ IsListed planned current completed p
+    → (p : PlacedRow) → Contains r3 p ↔ IsInLists planned current completed p
 are_listed planned current completed r1 r2 r3 a1 a2 a3 p = (
   (λ there. elim ((a3 p).0 there) [
     | inr done ↦ inr (inr done)

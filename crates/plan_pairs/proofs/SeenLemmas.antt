@@ -36,7 +36,7 @@ use Rattle.plan_store.specs.declared.views.View.{View}
 use Rattle.plan_store.proofs.PlaceLemmas.{stands_history}
 use Rattle.plan_pairs.specs.LiveRows.{AreCompleted, AreLiveRows}
 use Rattle.plan_pairs.specs.Planned.{IsPlannedOf}
-use Rattle.plan_pairs.specs.Turns.{AreKnownLinks, ArePlanned, IsListed, IsTouchOf}
+use Rattle.plan_pairs.specs.Turns.{AreKnownLinks, ArePlanned, IsInLists, IsTouchOf}
 use Rattle.plan_pairs.proofs.ListLemmas.{first_or_later, further, here, none}
 use Rattle.plan_pairs.proofs.PartLemmas.{is_planned_pair, planned_cp, planned_ltp}
 use Rattle.plan_pairs.proofs.ScratchLemmas.{open_is_live}
@@ -337,7 +337,7 @@ module _ (h : Hidden) (view : View) (sound : IsSound (with_hidden h view))
 
   -- rows of some applications: of the long-term plan and the current plan all, and of history what is shown
   module _ (touch : Touch) (Passes : List ℕ → Type 0) (rows : List PlacedRow)
-      (are : (p : PlacedRow) → Contains rows p ↔ (IsListed planned current lasts p × Passes p.row.key.app))
+      (are : (p : PlacedRow) → Contains rows p ↔ (IsInLists planned current lasts p × Passes p.row.key.app))
       (pass : (q : PlacedRow) → Contains now q → IsOpen q.place → MayReach touch links q.row
       → Passes q.row.key.app × ((app : List ℕ) → Lists links q.row.key.app app → Passes app)) where
     rows_part : (q : PlacedRow) → Contains rows q → Contains now q

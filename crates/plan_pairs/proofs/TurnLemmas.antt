@@ -17,7 +17,7 @@ use Rattle.external_dependencies.specs.declared.touch.Touch.{Touch}
 use Rattle.external_dependencies.proofs.TouchLemmas.{touches_of_rows}
 use Rattle.planner_machine.specs.Content.{Sets}
 use Rattle.plan_pairs.specs.LiveRows.{AddsCurrent, AddsRows, AreLiveRows, HasLists, IsCurrentIn}
-use Rattle.plan_pairs.specs.Turns.{ArePlanned, HasItself, IsBeside, IsListed, IsTouchOf, IsTurn}
+use Rattle.plan_pairs.specs.Turns.{ArePlanned, HasItself, IsBeside, IsInLists, IsTouchOf, IsTurn}
 use Rattle.plan_pairs.proofs.ListLemmas.{none}
 use Rattle.plan_pairs.proofs.RowLemmas.{are_listed, are_live, current_more, current_none, current_skip, rows_both, rows_more, rows_none}
 use Rattle.plan_pairs.proofs.TouchLemmas.{live_once}
@@ -99,7 +99,7 @@ current_added (current ∷ list) old =
 
 -- the occurrences of these lists, and no others
 abbrev pub AreListed : List Row → List CurrentRow → List Row → List PlacedRow → Type 0
-AreListed planned current completed rows = (p : PlacedRow) → Contains rows p ↔ IsListed planned current completed p
+AreListed planned current completed rows = (p : PlacedRow) → Contains rows p ↔ IsInLists planned current completed p
 
 pub record IsLiveList (s : Sets) (planned : List Row) (current : List CurrentRow) (completed : List Row) : Type 0 where
   pub rows : List PlacedRow
@@ -170,7 +170,7 @@ module _ (rows stay gone made : List Row) (plan : ArePlanned rows stay gone made
   anew : (row : Row) → Contains made row → IsAnew touch row.serial
   anew row there = inl ((is.comes row.serial).1 (row, there, refl))
 
-  gone_is : (q : PlacedRow) → IsListed (stay ++ made) current completed q → (row : Row) → Contains gone row
+  gone_is : (q : PlacedRow) → IsInLists (stay ++ made) current completed q → (row : Row) → Contains gone row
       → q.row.serial ≢ row.serial
   gone_is q (inl first) row gone same = elim (Contains-append_cases stay made q.row first.0) [
     | inl stays ↦ plan.gone_apart row q.row gone stays same

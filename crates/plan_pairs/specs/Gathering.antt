@@ -9,7 +9,7 @@ use Rattle.external_dependencies.specs.declared.live.Arrival.{Arrival}
 use Rattle.external_dependencies.specs.declared.rows.PlacedRow.{PlacedRow}
 use Rattle.planner_machine.specs.Content.{Content, Sets, StandsAt}
 use Rattle.planner_machine.specs.Pairs.{LiveAt}
-use Rattle.plan_store.specs.Views.{Hidden, ShowsNearest, with_hidden}
+use Rattle.plan_store.specs.Views.{ShowsNearest}
 use Rattle.plan_store.specs.declared.views.View.{View}
 use Rattle.plan_pairs.specs.Additions.{place_in}
 use Rattle.plan_pairs.specs.Spans.{ArrivesBetween}
@@ -52,13 +52,12 @@ pub record IsReached (c : Content) (row : Row) (last : Option ℕ) (p : PlacedRo
   pub waits : IsOpenBetween c.sets p.row.key.app row.key.ia last p
 
 -- the window shows of history what may precede the row in each application of its list
-abbrev pub ShowsList : Hidden → View → Row → Type 0
-ShowsList h view row = (app : List ℕ) → Lists (with_hidden h view).in_force row.key.app app
-    → ShowsNearest h view row.key app
+abbrev pub ShowsList : Content → View → Row → Type 0
+ShowsList c view row = (app : List ℕ) → Lists c.in_force row.key.app app → ShowsNearest c view row.key app
 
 -- and so for each row that is reached
-abbrev pub ShowsReached : Hidden → View → Row → Option ℕ → Type 0
-ShowsReached h view row last = (p : PlacedRow) → IsReached (with_hidden h view) row last p → ShowsList h view p.row
+abbrev pub ShowsReached : Content → View → Row → Option ℕ → Type 0
+ShowsReached c view row last = (p : PlacedRow) → IsReached c row last p → ShowsList c view p.row
 
 -- the rows are live, and all that are reached are among them, and no other open ones
 pub record HoldsReachedRows (c : Content) (row : Row) (last : Option ℕ) (rows : List PlacedRow) : Type 0 where

@@ -58,8 +58,8 @@ abbrev pub IsBeside : List CurrentRow → List Row → PlacedRow → Type 0
 IsBeside current completed p = IsCurrentIn current p ⊎ (Contains completed p.row × (p.place ≡ History))
 
 -- the occurrence stands in the long-term plan, or beside it
-abbrev pub IsListed : List Row → List CurrentRow → List Row → PlacedRow → Type 0
-IsListed planned current completed p =
+abbrev pub IsInLists : List Row → List CurrentRow → List Row → PlacedRow → Type 0
+IsInLists planned current completed p =
     (Contains planned p.row × (p.place ≡ LongTerm)) ⊎ IsBeside current completed p
 
 -- the touch names all that a change touches that leads from the one sets and lists to the other, where those are the

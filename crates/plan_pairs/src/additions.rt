@@ -4,8 +4,7 @@ ghost use Rattle.planner_machine.specs.Content.{Content};
 ghost use Rattle.planner_machine.specs.Sound.{AreNumbered, IsSound};
 ghost use Rattle.plan_store.specs.Changes.{LeadsOn, pairs_after};
 ghost use Rattle.plan_store.specs.Verdicts.{VerdictIs};
-ghost use Rattle.plan_store.specs.Asked.{AsksKey};
-ghost use Rattle.plan_store.specs.Views.{Hidden, Sees, Shows, ShowsPart, with_hidden};
+ghost use Rattle.plan_store.specs.Views.{Behind, BehindAny, BehindPart, Shows};
 ghost use Rattle.plan_pairs.specs.Additions.{AddsRow, ArePairsWith, IsAddable, IsNewRow, IsNewSerial, IsPutIn};
 ghost use Rattle.plan_pairs.specs.Additions.{IsTouchOfNew, place_in};
 ghost use Rattle.plan_pairs.specs.Gathering.{HoldsWith, ShowsList, ShowsReached};
@@ -58,9 +57,7 @@ pub fn add(alloc: Global, view: &View<'_>, plan: Plan, key: &Key) -> Result<Verd
 
 // The row that is added under the key, or why none is.
 fn new_row(view: &View<'_>, plan: Plan, key: &Key) -> Result<Row, Refusal>
-    ensures { (h : Hidden) → IsSound (with_hidden h view.now)
-        → Sees (AsksKey (with_hidden h view.now) key.now) h view.now
-        → IsNewRow (with_hidden h view.now) plan key.now result }
+    ensures { Behind (Need.Key key.now) view.now (λ c. IsNewRow c plan key.now result) }
 {
     let Some(bounds) = view.bounds() else {
         return Err(Refusal::NoPlan);
@@ -100,8 +97,7 @@ fn is_outside(bounds: &Bounds, plan: Plan, ia: Moment) -> bool
 
 // The next serial, where the plans have room for one more row.
 fn new_serial(view: &View<'_>) -> Option<Serial>
-    ensures { (h : Hidden) → AreNumbered (with_hidden h view.now).sets
-        → IsNewSerial (with_hidden h view.now).sets result }
+    ensures { BehindAny view.now (λ c. AreNumbered c.sets → IsNewSerial c.sets result) }
 {
     if view.ltp().len() + view.cp().len() >= MOST_PLANNED_ROWS {
         return None;
@@ -111,10 +107,8 @@ fn new_serial(view: &View<'_>) -> Option<Serial>
 
 // The row comes to the plan.
 fn add_row(alloc: Global, view: &View<'_>, plan: Plan, row: &Row) -> Result<Verdict, AllocError>
-    ensures { IfOk result (λ verdict. (h : Hidden) → IsSound (with_hidden h view.now)
-        → Sees (AsksKey (with_hidden h view.now) row.now.key) h view.now
-        → IsAddable (with_hidden h view.now) plan row.now
-        → AddsRow (with_hidden h view.now) plan row.now verdict) }
+    ensures { IfOk result (λ verdict. Behind (Need.Key row.now.key) view.now (λ c.
+        IsAddable c plan row.now → AddsRow c plan row.now verdict)) }
 {
     let (planned, current) = put_in(alloc, plan, row)?;
     let pairs = pairs_with(alloc, view, plan, row)?;
@@ -150,12 +144,9 @@ fn pairs_with(
     plan: Plan,
     row: &Row,
 ) -> Result<PairChange, AllocError>
-    ensures { IfOk result (λ change. (h : Hidden) → IsSound (with_hidden h view.now)
-        → Sees (AsksKey (with_hidden h view.now) row.now.key) h view.now
-        → IsAddable (with_hidden h view.now) plan row.now
-        → ArePairsWith (with_hidden h view.now) plan row.now
-        (pairs_after change (with_hidden h view.now).pairs)
-        × LeadsOn (with_hidden h view.now).pairs change) }
+    ensures { IfOk result (λ change. Behind (Need.Key row.now.key) view.now (λ c.
+        IsAddable c plan row.now → ArePairsWith c plan row.now (pairs_after change c.pairs)
+        × LeadsOn c.pairs change)) }
 {
     let last = view.next_planned(&row.key.app, row.key.ia);
     let rows = rows_with(alloc, view, plan, row, &last)?;
@@ -172,9 +163,9 @@ fn rows_with(
     row: &Row,
     last: &Option<Moment>,
 ) -> Result<Rows, AllocError>
-    ensures { IfOk result (λ rows. (h : Hidden) → AreNumbered (with_hidden h view.now).sets
-        → ShowsPart h view.now → ShowsReached h view.now row.now last.now → ShowsList h view.now row.now
-        → HoldsWith (with_hidden h view.now) plan row.now last.now rows) }
+    ensures { IfOk result (λ rows. BehindPart view.now (λ c.
+        ShowsReached c view.now row.now last.now → ShowsList c view.now row.now
+        → HoldsWith c plan row.now last.now rows)) }
 {
     let mut rows = gather(alloc, view, row, last)?;
     push_list(view, row, &mut rows)?;

@@ -2,7 +2,7 @@ ghost use Rattle.std.specs.Prelude.{Contains, IfOk, OnOk};
 ghost use Rattle.external_dependencies.specs.declared.rows.PlacedRow.{PlacedRow as PlacedValue};
 ghost use Rattle.occurrences.specs.Place.{IsOpen};
 ghost use Rattle.planner_machine.specs.Sound.{AreNumbered};
-ghost use Rattle.plan_store.specs.Views.{Hidden, ShowsNearest, ShowsPart, with_hidden};
+ghost use Rattle.plan_store.specs.Views.{BehindAny, BehindPart, ShowsNearest};
 ghost use Rattle.plan_pairs.specs.Gathering.{AddsBetween, AddsLive, Gathers, HoldsList, HoldsNearest, HoldsReachedRows, IsOpenBetween};
 ghost use Rattle.plan_pairs.specs.Gathering.{ShowsList, ShowsReached};
 
@@ -23,9 +23,8 @@ pub(crate) fn gather(
     row: &Row,
     last: &Option<Moment>,
 ) -> Result<Vec<PlacedRow>, AllocError>
-    ensures { IfOk result (λ rows. (h : Hidden) → AreNumbered (with_hidden h view.now).sets
-        → ShowsPart h view.now → ShowsReached h view.now row.now last.now
-        → Gathers (with_hidden h view.now) row.now last.now rows.items) }
+    ensures { IfOk result (λ rows. BehindPart view.now (λ c.
+        ShowsReached c view.now row.now last.now → Gathers c row.now last.now rows.items)) }
 {
     let reached = reached_rows(alloc, view, row, last)?;
     let mut rows = copied(alloc, &reached)?;
@@ -40,8 +39,8 @@ fn reached_rows(
     row: &Row,
     last: &Option<Moment>,
 ) -> Result<Vec<PlacedRow>, AllocError>
-    ensures { IfOk result (λ rows. (h : Hidden) → AreNumbered (with_hidden h view.now).sets
-        → HoldsReachedRows (with_hidden h view.now) row.now last.now rows.items) }
+    ensures { IfOk result (λ rows. BehindAny view.now (λ c. AreNumbered c.sets
+        → HoldsReachedRows c row.now last.now rows.items)) }
 {
     let mut rows = Vec::new(alloc);
     let naming = view.in_force().naming(alloc, &row.key.app)?;
@@ -59,10 +58,10 @@ fn push_between(
     last: &Option<Moment>,
     rows: &mut Vec<PlacedRow>,
 ) -> Result<(), AllocError>
-    ensures { OnOk result ((h : Hidden) → AreNumbered (with_hidden h view.now).sets
-        → AddsBetween (with_hidden h view.now).sets app.now first last.now rows.old.items rows.new.items
-        × ((p : PlacedValue) → IsOpenBetween (with_hidden h view.now).sets app.now first last.now p
-        → Contains rows.new.items p)) }
+    ensures { OnOk result (BehindAny view.now (λ c. AreNumbered c.sets
+        → AddsBetween c.sets app.now first last.now rows.old.items rows.new.items
+        × ((p : PlacedValue) → IsOpenBetween c.sets app.now first last.now p
+        → Contains rows.new.items p))) }
 {
     let planned = between(view.ltp_of(app), first, last);
     push_rows(rows, planned, Place::LongTerm)?;
@@ -77,12 +76,11 @@ fn push_lists(
     reached: &[PlacedRow],
     rows: &mut Vec<PlacedRow>,
 ) -> Result<(), AllocError>
-    ensures { OnOk result ((h : Hidden) → AreNumbered (with_hidden h view.now).sets
-        → ShowsPart h view.now
-        → ((p : PlacedValue) → Contains reached.now p → IsOpen p.place → ShowsList h view.now p.row)
-        → AddsLive (with_hidden h view.now).sets rows.old.items rows.new.items
+    ensures { OnOk result (BehindPart view.now (λ c.
+        ((p : PlacedValue) → Contains reached.now p → IsOpen p.place → ShowsList c view.now p.row)
+        → AddsLive c.sets rows.old.items rows.new.items
         × ((p : PlacedValue) → Contains reached.now p → IsOpen p.place
-        → HoldsList (with_hidden h view.now) rows.new.items p.row)) }
+        → HoldsList c rows.new.items p.row))) }
 {
     for placed in reached {
         if placed.place.is_open() {
@@ -98,10 +96,8 @@ pub(crate) fn push_list(
     row: &Row,
     rows: &mut Vec<PlacedRow>,
 ) -> Result<(), AllocError>
-    ensures { OnOk result ((h : Hidden) → AreNumbered (with_hidden h view.now).sets
-        → ShowsPart h view.now → ShowsList h view.now row.now
-        → AddsLive (with_hidden h view.now).sets rows.old.items rows.new.items
-        × HoldsList (with_hidden h view.now) rows.new.items row.now) }
+    ensures { OnOk result (BehindPart view.now (λ c. ShowsList c view.now row.now
+        → AddsLive c.sets rows.old.items rows.new.items × HoldsList c rows.new.items row.now)) }
 {
     for link in view.in_force().list(&row.key.app) {
         push_nearest(view, &row.key, &link.predecessor, rows)?;
@@ -116,10 +112,9 @@ pub(crate) fn push_nearest(
     app: &App,
     rows: &mut Vec<PlacedRow>,
 ) -> Result<(), AllocError>
-    ensures { OnOk result ((h : Hidden) → AreNumbered (with_hidden h view.now).sets
-        → ShowsPart h view.now → ShowsNearest h view.now key.now app.now
-        → AddsLive (with_hidden h view.now).sets rows.old.items rows.new.items
-        × HoldsNearest (with_hidden h view.now).sets rows.new.items key.now app.now) }
+    ensures { OnOk result (BehindPart view.now (λ c. ShowsNearest c view.now key.now app.now
+        → AddsLive c.sets rows.old.items rows.new.items
+        × HoldsNearest c.sets rows.new.items key.now app.now)) }
 {
     let Some(serial) = view.nearest(key, app, None) else {
         return Ok(());

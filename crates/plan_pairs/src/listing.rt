@@ -2,7 +2,7 @@ ghost use Rattle.std.specs.Prelude.{◌≡◌, ◌++◌, ◌↔◌, Contains, If
 ghost use Rattle.external_dependencies.specs.declared.rows.PlacedRow.{PlacedRow as PlacedValue};
 ghost use Rattle.planner_machine.specs.Content.{Sets};
 ghost use Rattle.plan_pairs.specs.LiveRows.{AddsCurrent, AddsRows, AreLiveRows, HasLists};
-ghost use Rattle.plan_pairs.specs.Turns.{IsListed};
+ghost use Rattle.plan_pairs.specs.Turns.{IsInLists};
 
 use external_dependencies::{PlacedRow, Rows};
 use occurrences::{CurrentRow, Place, Row};
@@ -18,7 +18,7 @@ pub fn live_rows(
     ensures live { IfOk result (λ rows. (s : Sets) → HasLists s planned.now current.now history.now
         → AreLiveRows s rows) }
     ensures listed { IfOk result (λ rows. (p : PlacedValue) → Contains rows p
-        ↔ IsListed planned.now current.now history.now p) }
+        ↔ IsInLists planned.now current.now history.now p) }
 {
     live_rows_with(alloc, planned, &[], current, history)
 }
@@ -34,7 +34,7 @@ pub fn live_rows_with(
     ensures live { IfOk result (λ rows. (s : Sets)
         → HasLists s (planned.now ++ made.now) current.now history.now → AreLiveRows s rows) }
     ensures listed { IfOk result (λ rows. (p : PlacedValue) → Contains rows p
-        ↔ IsListed (planned.now ++ made.now) current.now history.now p) }
+        ↔ IsInLists (planned.now ++ made.now) current.now history.now p) }
 {
     let count = planned.len() + made.len() + current.len() + history.len();
     let mut rows = Vec::with_capacity(alloc, count)?;

@@ -1,7 +1,6 @@
 ghost use Rattle.std.specs.Prelude.{◌↔◌, Contains, IfOk};
 ghost use Rattle.external_dependencies.specs.declared.pairs.Pair.{Pair as PairValue};
-ghost use Rattle.planner_machine.specs.Sound.{AreNumbered};
-ghost use Rattle.plan_store.specs.Views.{Hidden, ShowsPart, with_hidden};
+ghost use Rattle.plan_store.specs.Views.{BehindPart};
 ghost use Rattle.plan_pairs.specs.Gathering.{ShowsList};
 ghost use Rattle.plan_pairs.specs.RowPairs.{IsRowPair};
 
@@ -13,11 +12,8 @@ use std::alloc::{AllocError, Global};
 /// The pairs of one row, were it open: with its nearest predecessor in each application of its list, within its limit,
 /// where there is one. No pair of another row is looked at.
 pub fn row_pairs_of(alloc: Global, view: &View<'_>, row: &Row) -> Result<Pairs, AllocError>
-    ensures { IfOk result (λ own. (h : Hidden) → AreNumbered (with_hidden h view.now).sets
-        → ShowsPart h view.now → ShowsList h view.now row.now
-        → (pair : PairValue)
-        → Contains own pair
-        ↔ IsRowPair (with_hidden h view.now).in_force (with_hidden h view.now).sets row.now pair) }
+    ensures { IfOk result (λ own. BehindPart view.now (λ c. ShowsList c view.now row.now
+        → (pair : PairValue) → Contains own pair ↔ IsRowPair c.in_force c.sets row.now pair)) }
 {
     let mut own = Vec::new(alloc);
     for link in view.in_force().list(&row.key.app) {

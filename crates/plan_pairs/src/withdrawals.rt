@@ -2,10 +2,8 @@ ghost use Rattle.std.specs.Prelude.{◌≡◌, IfOk, filter, nat_eq, not};
 ghost use Rattle.external_dependencies.specs.declared.rows.PlacedRow.{PlacedRow as PlacedValue};
 ghost use Rattle.planner_machine.specs.Content.{Sets};
 ghost use Rattle.planner_machine.specs.Pairs.{ArePairs};
-ghost use Rattle.planner_machine.specs.Sound.{AreNumbered, IsSound};
 ghost use Rattle.plan_store.specs.Changes.{LeadsOn, pairs_after};
-ghost use Rattle.plan_store.specs.Asked.{AsksKey};
-ghost use Rattle.plan_store.specs.Views.{Hidden, Sees, ShowsNearest, ShowsPart, with_hidden};
+ghost use Rattle.plan_store.specs.Views.{Behind, BehindPart, ShowsNearest};
 ghost use Rattle.plan_pairs.specs.Gathering.{HoldsWithout, ShowsReached};
 ghost use Rattle.plan_pairs.specs.Withdrawals.{IsTouchOfWithdrawn, LosesRow};
 
@@ -13,19 +11,16 @@ use crate::gathering::{gather, push_nearest};
 use crate::planned::pairs_of_rows;
 use external_dependencies::{PairChange, Rows, Stretch, Touch, resolve_touched};
 use occurrences::{Row, Serial};
-use plan_store::View;
+use plan_store::{Need, View};
 use std::alloc::{AllocError, Global};
 use work_calendars::Moment;
 
 /// What leads from the pairs before a statement to those after it, and no more, where the row lives no longer and all
 /// others stay as they are.
 pub fn pairs_without(alloc: Global, view: &View<'_>, row: &Row) -> Result<PairChange, AllocError>
-    ensures { IfOk result (λ change. (h : Hidden) → IsSound (with_hidden h view.now)
-        → Sees (AsksKey (with_hidden h view.now) row.now.key) h view.now → (s : Sets)
-        → LosesRow (with_hidden h view.now).sets s row.now
-        → ArePairs (with_hidden h view.now).pairs (with_hidden h view.now).in_force s
-        (pairs_after change (with_hidden h view.now).pairs)
-        × LeadsOn (with_hidden h view.now).pairs change) }
+    ensures { IfOk result (λ change. Behind (Need.Key row.now.key) view.now (λ c. (s : Sets)
+        → LosesRow c.sets s row.now → ArePairs c.pairs c.in_force s (pairs_after change c.pairs)
+        × LeadsOn c.pairs change)) }
 {
     let last = view.next_planned(&row.key.app, row.key.ia);
     let rows = rows_without(alloc, view, row, &last)?;
@@ -41,10 +36,10 @@ fn rows_without(
     row: &Row,
     last: &Option<Moment>,
 ) -> Result<Rows, AllocError>
-    ensures { IfOk result (λ rows. (h : Hidden) → AreNumbered (with_hidden h view.now).sets
-        → ShowsPart h view.now → ShowsReached h view.now row.now last.now
-        → ShowsNearest h view.now row.now.key row.now.key.app
-        → HoldsWithout (with_hidden h view.now) row.now last.now rows) }
+    ensures { IfOk result (λ rows. BehindPart view.now (λ c.
+        ShowsReached c view.now row.now last.now
+        → ShowsNearest c view.now row.now.key row.now.key.app
+        → HoldsWithout c row.now last.now rows)) }
 {
     let mut rows = gather(alloc, view, row, last)?;
     push_nearest(view, &row.key, &row.key.app, &mut rows)?;

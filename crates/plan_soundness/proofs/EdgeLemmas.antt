@@ -9,7 +9,7 @@ use Rattle.std.specs.Cmp.Lexicographic.{bytes_decides, pointwise}
 use Rattle.std.proofs.lemmas.Bool.{cases_eq, false≢true}
 use Rattle.external_dependencies.specs.Link.{KeepsNames, Lists}
 use Rattle.external_dependencies.specs.Loop.{OnLoop, OnRing}
-use Rattle.external_dependencies.specs.Walk.{IsWalk, Reaches, Step}
+use Rattle.external_dependencies.specs.Walk.{IsWalk, Reaches, WalkStep}
 use Rattle.external_dependencies.specs.declared.links.Link.{Link}
 use Rattle.external_dependencies.specs.declared.pairs.Pair.{Pair}
 use Rattle.external_dependencies.proofs.OrderLemmas.{keeps_all, unlimited_once}
@@ -75,7 +75,7 @@ module _ (pairs : List Pair) (links : List Link) (are : HaveLinks pairs links) w
       (node_name x ∷ names, ((named m x walk.0.0, λ same. walk.0.1 (own_name m x same)), rest))
 
   -- a step from the name of a node leads to the name of a node
-  step_back : (m : ℕ) (name : List ℕ) → Step (Lists links) (node_name m) name → (n : ℕ) × Step Edge m n
+  step_back : (m : ℕ) (name : List ℕ) → WalkStep (Lists links) (node_name m) name → (n : ℕ) × WalkStep Edge m n
       × (node_name n ≡ name)
   step_back m name step =
       let is = has_edge (node_name m) name step.0 in
@@ -92,7 +92,7 @@ module _ (pairs : List Pair) (links : List Link) (are : HaveLinks pairs links) w
       → Reaches Edge m n
   walk_back m n [] walk =
       let (k, step, same) = step_back m (node_name n) walk in
-      ([], subst (Step Edge m) (own_name k n same) step)
+      ([], subst (WalkStep Edge m) (own_name k n same) step)
   walk_back m n (x ∷ between) walk =
       let (k, step, same) = step_back m x walk.0 in
       let (rest, on) = walk_back k n between

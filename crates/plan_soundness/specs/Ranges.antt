@@ -11,8 +11,8 @@ use Rattle.planner_machine.specs.declared.content.Bounds.{Bounds}
 abbrev pub IsBoundsValue : Bounds → Type 0
 IsBoundsValue b = IsDay b.first_day × IsDay b.last_day × IsMoment b.plan_end
 
-abbrev pub HasDays : Sets → Type 0
-HasDays s = (b : Bounds) → s.bounds ≡ Some b → IsBoundsValue b
+abbrev pub HasBoundsInRange : Sets → Type 0
+HasBoundsInRange s = (b : Bounds) → s.bounds ≡ Some b → IsBoundsValue b
 
 -- all rows have the ranges and forms of rows
 abbrev pub HaveRanges : Sets → Type 0

@@ -10,7 +10,7 @@ ghost use Rattle.external_dependencies.specs.declared.links.Link.{Link as LinkVa
 ghost use Rattle.external_dependencies.specs.declared.rows.PlacedRow.{PlacedRow as PlacedValue};
 ghost use Rattle.planner_machine.specs.Sound.{AreNumbered, HasRanges, IsLink, IsOrigin, IsRow};
 ghost use Rattle.plan_store.specs.Contents.{content_of};
-ghost use Rattle.plan_soundness.specs.Ranges.{HasDays, HaveRanges, IsBoundsValue};
+ghost use Rattle.plan_soundness.specs.Ranges.{HasBoundsInRange, HaveRanges, IsBoundsValue};
 
 use crate::jobs::is_name;
 use crate::listing::placed_rows;
@@ -105,7 +105,7 @@ fn are_days(bounds: &Bounds) -> bool
 
 // Whether the days of the bounds are days.
 fn has_days(content: &Content) -> bool
-    ensures { IsTrue result ↔ HasDays (content_of content.now).sets }
+    ensures { IsTrue result ↔ HasBoundsInRange (content_of content.now).sets }
 {
     match &content.bounds {
         None => true,

@@ -16,7 +16,7 @@ use Rattle.occurrences.proofs.RowLemmas.{row_cmp_total, row_equal, row_ranks}
 use Rattle.keyed_lists.specs.Rows.{AreRows}
 use Rattle.keyed_lists.proofs.EditLemmas.{sorted_keyed}
 use Rattle.keyed_lists.proofs.KeyLemmas.{contains_cases, contains_first, contains_later, nothing}
-use Rattle.plan_store.specs.Listed.{AreInOrder}
+use Rattle.plan_store.specs.Listed.{SortsRows}
 use Rattle.plan_store.specs.Listings.{Shown, TakesAll}
 use Rattle.plan_store.proofs.ViewLemmas.{once_from_rows}
 
@@ -94,13 +94,13 @@ module _ {X : Type 0} (row_of : X → Row) (xs ys : List X) (moves : IsPermutati
       not_both : Less ≡ Equal → ⊥
       not_both is = cc
 
-  pub in_order : AreInOrder row_of xs ys
+  pub in_order : SortsRows row_of xs ys
   in_order = record { rising = rows_rise; same = same_rows }
 
 -- the same of references to them
 pub in_order_by : {X B : Type 0} (now : B → X) (row_of : X → Row) (xs : List X) (bs cs : List B) → map now bs ≡ xs
-    → IsPermutation bs cs → IsSortedByKey (λ b. row_of (now b)) ghosts.cmp cs → AreInOrder row_of xs (map now cs)
-in_order_by now row_of xs bs cs is moves sorted = subst (λ l. AreInOrder row_of l (map now cs)) is
+    → IsPermutation bs cs → IsSortedByKey (λ b. row_of (now b)) ghosts.cmp cs → SortsRows row_of xs (map now cs)
+in_order_by now row_of xs bs cs is moves sorted = subst (λ l. SortsRows row_of l (map now cs)) is
     (in_order row_of (map now bs) (map now cs) (IsPermutation-map now bs cs moves) (sorted_map now row_of cs sorted))
 
 -- one more item for a sink

@@ -17,7 +17,7 @@ use Rattle.planner_machine.specs.Shown.{IsOfApp}
 use Rattle.keyed_lists.specs.Keyed.{IsKeyed}
 use Rattle.keyed_lists.specs.Rows.{AreRows, HasEachOnce}
 use Rattle.keyed_lists.proofs.KeyLemmas.{contains_cases, contains_first, contains_later, nothing}
-use Rattle.plan_store.specs.Listed.{AreInOrder, EndsWithin, ShowsSet, shown_as}
+use Rattle.plan_store.specs.Listed.{SortsRows, EndsWithin, ShowsSet, shown_as}
 use Rattle.plan_store.specs.Listings.{HandsAll, HandsPart, Shown, TakesAll}
 use Rattle.plan_store.specs.declared.listings.ListFault.{ListFault}
 use Rattle.plan_store.specs.declared.listings.ListFault.TheVariants.{Memory}
@@ -153,7 +153,7 @@ module _ {X : Type 0} (row_of : X → Row) where
       shown = refl;
     }
 
-    pub shows_part : (ys : List X) → AreInOrder row_of part ys → ShowsSet row_of letter_of is_plain xs app
+    pub shows_part : (ys : List X) → SortsRows row_of part ys → ShowsSet row_of letter_of is_plain xs app
         (map (shown_as row_of letter_of is_plain) ys)
     shows_part ys is = shows_sorted ys (is.rising part_rows) is.same
 
@@ -162,7 +162,7 @@ module _ {X : Type 0} (row_of : X → Row) where
         (map (shown_as row_of letter_of is_plain) ys, shows_sorted ys rise same)
 
     module _ {K B : Type 0} (Takes Refuses : K → Shown → K → Type 0) (old new : K) (now : B → X) (bs : List B)
-        (is : AreInOrder row_of part (map now bs)) where
+        (is : SortsRows row_of part (map now bs)) where
       map_twice : (cs : List B) → map (λ b. shown_as row_of letter_of is_plain (now b)) cs
           ≡ map (shown_as row_of letter_of is_plain) (map now cs)
       map_twice [] = refl

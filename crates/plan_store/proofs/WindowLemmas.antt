@@ -228,7 +228,7 @@ sees_plan view c shows = sees LongTerm view c shows.is shows.lasts
 
 -- what a window shows of history stands there
 pub shows_part : (Asked : List ℕ → ℕ → Type 0) (hidden : Hidden) (view : View) → Sees Asked hidden view
-    → ShowsPart hidden view
+    → ShowsPart (with_hidden hidden view) view
 shows_part Asked hidden view sees serial row there = (sees.lasts.only serial row there).0
 
 -- a window of the long-term plan shows whether an operator deleted an occurrence of a key that arrives from the plan
@@ -240,7 +240,7 @@ module _ (view : View) (c : Content) (shows : Shows LongTerm view c) (key : KeyV
       (serial, deletion, (kept_is (bars c.sets.bounds) (c.sets.deletions serial) deletion at).0, reason, keyed)
 
   pub shows_deleted : (b : Bounds) → c.sets.bounds ≡ Some b → b.plan_end ≤ key.ia
-      → ShowsDeleted (hidden_of c) view key
+      → ShowsDeleted c view key
   shows_deleted b bounded late = (
     (λ (serial, deletion, at, reason, keyed).
         let from : b.plan_end ≤ deletion.row.key.ia = subst (λ (k : KeyValue). b.plan_end ≤ k.ia) (sym keyed) late in
@@ -256,7 +256,7 @@ module _ (view : View) (c : Content) (shows : Shows LongTerm view c) (key : KeyV
   )
 
   -- and so it does where nothing is planned
-  pub shows_none_deleted : IsUnplanned c → ShowsDeleted (hidden_of c) view key
+  pub shows_none_deleted : IsUnplanned c → ShowsDeleted c view key
   shows_none_deleted none = ((λ there. absurd (nothing there)), λ there. absurd (nothing (shown_was there)))
     where
       nothing : IsDeletedKey c.sets key → ⊥

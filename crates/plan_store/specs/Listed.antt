@@ -17,7 +17,7 @@ use Rattle.plan_store.specs.Listings.{EndsSo, Shown, Marked, Plain}
 use Rattle.plan_store.specs.declared.listings.ListFault.{ListFault}
 
 -- the same rows, by input arrival, application and serial
-pub record AreInOrder {X : Type 0} (row_of : X → Row) (xs ys : List X) : Type 0 where
+pub record SortsRows {X : Type 0} (row_of : X → Row) (xs ys : List X) : Type 0 where
   pub rising : AreRows row_of xs → AllPairs (λ x y. RowBefore (row_of x) (row_of y)) ys
   pub same : (x : X) → Contains ys x ↔ Contains xs x
 

@@ -8,7 +8,7 @@ use Rattle.plan_store.specs.declared.stores.StoreFault.{StoreFault}
 use Rattle.plan_store.specs.declared.stores.StoreFault.TheVariants.{Device}
 
 -- a store before and after it is read, and what the call answers
-pub record Reads {S T : Type 0} (is_honest : S → Type 0) (content : S → Content) (failures : S → ℕ)
+pub record ReadsStore {S T : Type 0} (is_honest : S → Type 0) (content : S → Content) (failures : S → ℕ)
     (may_leave : S → Content → Type 0) (is_clean is_whole : S → Type 0) (before now : S)
     (result : Result T StoreFault) (IsRight : T → Type 0) : Type 0 where
   -- the answer of an honest store is right, and its content stays
@@ -32,4 +32,4 @@ abbrev pub LendsRead : {T : Type 0} (R : RattleType) (is_honest : R.Denot → Ty
     (failures : R.Denot → ℕ) (may_leave : R.Denot → Content → Type 0) (is_clean is_whole : R.Denot → Type 0)
     (before : R.Denot) (lender : MutBor R.Denot) → Result T StoreFault → (T → Type 0) → Fml
 LendsRead R is_honest content failures may_leave is_clean is_whole before lender result IsRight =
-    Rests R lender (λ now. Reads is_honest content failures may_leave is_clean is_whole before now result IsRight)
+    Rests R lender (λ now. ReadsStore is_honest content failures may_leave is_clean is_whole before now result IsRight)

@@ -18,6 +18,7 @@ use Rattle.planner_machine.specs.Pairs.{LiveAt}
 use Rattle.occurrences.specs.declared.place.CurrentRow.{CurrentRow}
 use Rattle.planner_machine.specs.DailyPlan.{arrives_before, moved}
 use Rattle.planner_machine.specs.Moves.{keep}
+use Rattle.planner_machine.specs.Sound.{AreNumbered, IsSound}
 use Rattle.planner_machine.specs.declared.content.Bounds.{Bounds}
 use Rattle.planner_machine.specs.declared.job.Job.{Job}
 use Rattle.keyed_lists.specs.Rows.{AreRows, look_up, of_row}
@@ -139,10 +140,10 @@ named (need.Daily t) history c = with_plans_alone (λ serial. moved t (c.sets.lt
 
 -- what it asks of history
 abbrev pub Asks : Need → Content → List ℕ → ℕ → Type 0
-Asks need.Definitions c app minute = ⊥
-Asks (need.Key key) c app minute = AsksKey c key app minute
-Asks need.LongTerm c app minute = AsksPlan c app minute
-Asks (need.Daily t) c app minute = ⊥
+Asks need.Definitions c = λ app minute. ⊥
+Asks (need.Key key) c = AsksKey c key
+Asks need.LongTerm c = AsksPlan c
+Asks (need.Daily t) c = λ app minute. ⊥
 
 -- the window shows what the need names of the content, and no more
 pub record Shows (need : Need) (view : View) (c : Content) : Type 0 where
@@ -159,17 +160,31 @@ pub record Sees (Asked : List ℕ → ℕ → Type 0) (hidden : Hidden) (view : 
   pub lasts : HasLasts Asked hidden.history (shown view).sets.history
 
 -- what the window shows of history stands there
-abbrev pub ShowsPart : Hidden → View → Type 0
-ShowsPart hidden view = (serial : ℕ) (row : Row) → (shown view).sets.history serial ≡ Some row
-    → hidden.history serial ≡ Some row
+abbrev pub ShowsPart : Content → View → Type 0
+ShowsPart c view = (serial : ℕ) (row : Row) → (shown view).sets.history serial ≡ Some row
+    → c.sets.history serial ≡ Some row
 
 -- and it shows the last of the application before the minute
-abbrev pub ShowsLast : Hidden → View → List ℕ → ℕ → Type 0
-ShowsLast hidden view app minute = HasLast hidden.history (shown view).sets.history app minute
+abbrev pub ShowsLast : Content → View → List ℕ → ℕ → Type 0
+ShowsLast c view app minute = HasLast c.sets.history (shown view).sets.history app minute
 
 -- so where the minute is the one before which arrives what may precede the key
-abbrev pub ShowsNearest : Hidden → View → Key → List ℕ → Type 0
-ShowsNearest hidden view key app = (minute : ℕ) → IsLimit key app minute → ShowsLast hidden view app minute
+abbrev pub ShowsNearest : Content → View → Key → List ℕ → Type 0
+ShowsNearest c view key app = (minute : ℕ) → IsLimit key app minute → ShowsLast c view app minute
+
+-- it holds of each content that the window may be of, with whatever that hides
+abbrev pub BehindAny : View → (Content → Type 0) → Type 0
+BehindAny view Is = (h : Hidden) → Is (with_hidden h view)
+
+-- it holds of each sound one of them of which the window shows what the need names
+abbrev pub Behind : Need → View → (Content → Type 0) → Type 0
+Behind need view Is = (h : Hidden) → IsSound (with_hidden h view) → Sees (Asks need (with_hidden h view)) h view
+    → Is (with_hidden h view)
+
+-- it holds of each of them whose serials are numbered and of whose history the window shows a part
+abbrev pub BehindPart : View → (Content → Type 0) → Type 0
+BehindPart view Is = (h : Hidden) → AreNumbered (with_hidden h view).sets → ShowsPart (with_hidden h view) view
+    → Is (with_hidden h view)
 
 -- the window shows at least what a daily plan to the moment asks
 abbrev pub ShowsAtLeast : ℕ → View → Content → Type 0
@@ -235,9 +250,9 @@ pub record IsUnshown (s : Sets) (serial : ℕ) : Type 0 where
   pub history : s.history serial ≡ None
 
 -- the occurrence of the serial in a plan or in what is shown of history, and where it stands, or that there is none
-abbrev pub IsFoundAt : Hidden → View → ℕ → Option PlacedRow → Type 0
-IsFoundAt hidden view serial (Some p) = StandsAt (with_hidden hidden view).sets serial p × IsOutsideDeletions p.place
-IsFoundAt hidden view serial None = IsUnshown (shown view).sets serial
+abbrev pub IsFoundAt : Content → View → ℕ → Option PlacedRow → Type 0
+IsFoundAt c view serial (Some p) = StandsAt c.sets serial p × IsOutsideDeletions p.place
+IsFoundAt c view serial None = IsUnshown (shown view).sets serial
 
 -- an operator deleted an occurrence of the key
 abbrev pub IsDeletedKey : Sets → Key → Type 0
@@ -245,8 +260,8 @@ IsDeletedKey s key = (serial : ℕ) × (deletion : Deletion) × (s.deletions ser
     × (deletion.reason ≡ Operator) × (deletion.row.key ≡ key)
 
 -- the window shows whether an operator deleted an occurrence of the key
-abbrev pub ShowsDeleted : Hidden → View → Key → Type 0
-ShowsDeleted hidden view key = IsDeletedKey (with_hidden hidden view).sets key ↔ IsDeletedKey (shown view).sets key
+abbrev pub ShowsDeleted : Content → View → Key → Type 0
+ShowsDeleted c view key = IsDeletedKey c.sets key ↔ IsDeletedKey (shown view).sets key
 
 -- of the live occurrences of the application that arrive before the minute, the one that arrives last, and of several
 -- that do the one of the greatest serial; or that there is none

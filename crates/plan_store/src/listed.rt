@@ -13,7 +13,7 @@ ghost use Rattle.planner_machine.specs.Content.{Sets};
 ghost use Rattle.planner_machine.specs.Shown.{IsOfApp};
 ghost use Rattle.planner_machine.specs.Sound.{AreNumbered};
 ghost use Rattle.plan_store.specs.Contents.{content_of};
-ghost use Rattle.plan_store.specs.Listed.{AreBySerial, AreInOrder, EndsWithin, ShowsSet, link_at};
+ghost use Rattle.plan_store.specs.Listed.{AreBySerial, SortsRows, EndsWithin, ShowsSet, link_at};
 ghost use Rattle.plan_store.specs.Listed.{linked_rows, links_at, row_at, shown_as};
 ghost use Rattle.plan_store.specs.Listings.{HandsAll, HandsPart, IsListing, Shown, TakesAll, in_force_shown, link_shown};
 ghost use Rattle.plan_store.specs.declared.listings.What.{What as Showable};
@@ -80,7 +80,7 @@ impl Lettered for Deletion {
 
 // The rows by input arrival, application and serial. They are sorted in their place, so that no more room is asked.
 fn in_order<T: PlanRow>(alloc: Global, rows: &[T]) -> Result<Vec<&T>, AllocError>
-    ensures { IfOk result (λ found. AreInOrder T.row_of rows.now (map (λ x. x.now) found.items)) }
+    ensures { IfOk result (λ found. SortsRows T.row_of rows.now (map (λ x. x.now) found.items)) }
 {
     let mut found: Vec<&T> = rows.iter().collect(alloc)?;
     found.sort_unstable_by_key(|x| x.row());

@@ -5,7 +5,7 @@ ghost use Rattle.plan_store.specs.Changes.{Fits, after};
 ghost use Rattle.planner_machine.specs.Sound.{AreNumbered, IsSound};
 ghost use Rattle.plan_store.specs.Faults.{MoreFailures};
 ghost use Rattle.plan_store.specs.Listings.{HandsAll, HandsPart, IsListing};
-ghost use Rattle.plan_store.specs.Stores.{LendsRead, Reads};
+ghost use Rattle.plan_store.specs.Stores.{LendsRead, ReadsStore};
 ghost use Rattle.plan_store.specs.Views.{Shows};
 
 use crate::changes::Change;
@@ -67,17 +67,17 @@ pub trait PlanStore {
 
     /// An owned copy of the definitions.
     fn definitions(&mut self) -> Result<Definitions, StoreFault>
-        ensures { Reads is_honest content failures may_leave is_clean is_whole self.old self.new result
+        ensures { ReadsStore is_honest content failures may_leave is_clean is_whole self.old self.new result
             (λ all. all ≡ (content self.old).definitions) };
 
     /// How far the plans reach; `None` before the long-term plan is created.
     fn bounds(&mut self) -> Result<Option<Bounds>, StoreFault>
-        ensures { Reads is_honest content failures may_leave is_clean is_whole self.old self.new result
+        ensures { ReadsStore is_honest content failures may_leave is_clean is_whole self.old self.new result
             (λ bounds. bounds ≡ (content self.old).sets.bounds) };
 
     /// An owned copy of the lists in force.
     fn links(&mut self) -> Result<Links, StoreFault>
-        ensures { Reads is_honest content failures may_leave is_clean is_whole self.old self.new result
+        ensures { ReadsStore is_honest content failures may_leave is_clean is_whole self.old self.new result
             (λ links. links ≡ (content self.old).in_force) };
 
     /// Lends a window that shows what the need names.

@@ -45,10 +45,10 @@ ghost use Rattle.keyed_lists.specs.Rows.{AreRows, of_current, of_deletion, of_ro
 ghost use Rattle.keyed_lists.specs.Seats.{HasSeats};
 
 impl<'a> View<'a> {
-    ghost use Rattle.plan_store.specs.Views.{Hidden, IsAny, IsCurrentRow, IsDeletedKey, IsFoundAt, IsLastBefore};
-    ghost use Rattle.plan_store.specs.Views.{IsLiveRow, IsPlannedRow, IsUnshown, ListsSet, ShowsLast, ShowsNearest};
+    ghost use Rattle.plan_store.specs.Views.{BehindAny, BehindPart, IsAny, IsCurrentRow, IsDeletedKey, IsFoundAt};
+    ghost use Rattle.plan_store.specs.Views.{IsLastBefore, IsLiveRow, IsPlannedRow, IsUnshown, ListsSet, ShowsLast};
+    ghost use Rattle.plan_store.specs.Views.{ShowsNearest, is_planned, shown};
     ghost use Rattle.plan_store.specs.Spans.{IsNextPlanned};
-    ghost use Rattle.plan_store.specs.Views.{ShowsPart, is_planned, shown, with_hidden};
 
     /// The definitions.
     pub fn definitions(&self) -> &'a Definitions
@@ -111,8 +111,8 @@ impl<'a> View<'a> {
     /// The rows of the long-term plan.
     pub fn ltp(&self) -> &'a [Row]
         ensures rows { ListsSet of_row (shown self.now).sets.ltp IsAny result.now }
-        ensures count { (h : Hidden) → AreNumbered (with_hidden h self.now).sets
-            → length result.now ≡ size (shown self.now).sets.ltp (shown self.now).sets.issued }
+        ensures count { BehindAny self.now (λ c. AreNumbered c.sets
+            → length result.now ≡ size (shown self.now).sets.ltp (shown self.now).sets.issued) }
     {
         self.ltp
     }
@@ -120,8 +120,8 @@ impl<'a> View<'a> {
     /// The rows of the current plan.
     pub fn cp(&self) -> &'a [CurrentRow]
         ensures rows { ListsSet of_current (shown self.now).sets.cp IsAny result.now }
-        ensures count { (h : Hidden) → AreNumbered (with_hidden h self.now).sets
-            → length result.now ≡ size (shown self.now).sets.cp (shown self.now).sets.issued }
+        ensures count { BehindAny self.now (λ c. AreNumbered c.sets
+            → length result.now ≡ size (shown self.now).sets.cp (shown self.now).sets.issued) }
     {
         self.cp
     }
@@ -189,9 +189,8 @@ impl<'a> View<'a> {
     /// The live occurrence that has the key, and where it stands, where the window shows the last of its application up
     /// to it.
     pub fn live_row(&self, key: &Key) -> Option<PlacedRow>
-        ensures { (h : Hidden) → AreNumbered (with_hidden h self.now).sets → ShowsPart h self.now
-            → ShowsLast h self.now key.now.app (key.now.ia + 1)
-            → IsLiveRow (with_hidden h self.now).sets key.now result }
+        ensures { BehindPart self.now (λ c. ShowsLast c self.now key.now.app (key.now.ia + 1)
+            → IsLiveRow c.sets key.now result) }
     {
         if let Some(row) = self.ltp_row(key) {
             return Some(PlacedRow {
@@ -221,8 +220,7 @@ impl<'a> View<'a> {
 
     /// The occurrence of the serial in a plan, or among the rows of history that are shown, and where it stands.
     pub fn placed(&self, serial: Serial) -> Option<PlacedRow>
-        ensures { (h : Hidden) → AreNumbered (with_hidden h self.now).sets → ShowsPart h self.now
-            → IsFoundAt h self.now serial result }
+        ensures { BehindPart self.now (λ c. IsFoundAt c self.now serial result) }
     {
         if let Some(row) = of_serial(self.ltp, &self.content.seats, serial) {
             return Some(PlacedRow {
@@ -245,9 +243,8 @@ impl<'a> View<'a> {
 
     // The live occurrence of the application that arrives last before the minute.
     fn last_before(&self, app: &App, minute: u32) -> Option<Arrival>
-        ensures last { (h : Hidden) → AreNumbered (with_hidden h self.now).sets → ShowsPart h self.now
-            → ShowsLast h self.now app.now minute
-            → IsLastBefore (with_hidden h self.now).sets app.now minute result }
+        ensures last { BehindPart self.now (λ c. ShowsLast c self.now app.now minute
+            → IsLastBefore c.sets app.now minute result) }
         ensures shown { IfSome result (λ near. IsUnshown (shown self.now).sets near.serial → ⊥) }
     {
         let ltp = last_of(before(of_app(self.ltp, app), minute));
@@ -259,9 +256,8 @@ impl<'a> View<'a> {
     /// Of the live occurrences of the application that arrive at or before the moment, the one that arrives last, where
     /// the window shows that of history.
     pub fn last_arrival(&self, app: &App, moment: Moment) -> Option<Arrival>
-        ensures { (h : Hidden) → AreNumbered (with_hidden h self.now).sets → ShowsPart h self.now
-            → ShowsLast h self.now app.now (moment + 1)
-            → IsLastBefore (with_hidden h self.now).sets app.now (moment + 1) result }
+        ensures { BehindPart self.now (λ c. ShowsLast c self.now app.now (moment + 1)
+            → IsLastBefore c.sets app.now (moment + 1) result) }
     {
         self.last_before(app, moment.number() + 1)
     }
@@ -271,9 +267,8 @@ impl<'a> View<'a> {
     /// arrive before it count, and where there is a limit none that arrives more than so many hours before it. Of
     /// history those count that the window shows.
     pub fn nearest(&self, key: &Key, app: &App, within: Option<Within>) -> Option<Serial>
-        ensures nearest { (h : Hidden) → AreNumbered (with_hidden h self.now).sets → ShowsPart h self.now
-            → ShowsNearest h self.now key.now app.now
-            → IsNearestAnswer (LiveAt (with_hidden h self.now).sets) key.now app.now within result }
+        ensures nearest { BehindPart self.now (λ c. ShowsNearest c self.now key.now app.now
+            → IsNearestAnswer (LiveAt c.sets) key.now app.now within result) }
         ensures shown { IfSome result (λ serial. IsUnshown (shown self.now).sets serial → ⊥) }
     {
         let arrival = key.ia.number();

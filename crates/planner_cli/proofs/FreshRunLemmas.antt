@@ -24,7 +24,7 @@ use Rattle.planner_cli.specs.FreshRuns.{KeepsInHand, LeavesDefinitions, MakesFre
 use Rattle.planner_cli.specs.FreshRuns.{RunLeavesFresh}
 use Rattle.planner_cli.specs.Meaning.{Answers}
 use Rattle.planner_cli.specs.Outcomes.{answer_text}
-use Rattle.planner_cli.specs.Replies.{Reply, ended as ended_line, is_accepted}
+use Rattle.planner_cli.specs.Replies.{AnswerLines, ended as ended_line, is_accepted}
 use Rattle.planner_cli.specs.Runs.{LeavesInHand}
 use Rattle.planner_cli.specs.Steps.{AnswersAsked, Serves, Step}
 use Rattle.planner_cli.proofs.OutcomeLemmas.{accepted_prints, refused_prints}
@@ -32,18 +32,18 @@ use Rattle.planner_cli.proofs.PlanLemmas.{answers_sound, ended, step_sound}
 use Rattle.planner_cli.proofs.RerunLemmas.{OneStatement, asks_one}
 
 -- whether a reply is accepted is told by its line
-accepted_by_line : (reply : Reply) (line : List ℕ) → reply.line ≡ line
+accepted_by_line : (reply : AnswerLines) (line : List ℕ) → reply.line ≡ line
     → is_accepted reply ≡ is_accepted (record { rows = reply.rows; line = line })
 accepted_by_line reply line is = ap (λ (l : List ℕ). is_accepted (record { rows = reply.rows; line = l })) is
 
-is_ok : (reply : Reply) (outcome : Outcome) → reply.line ≡ answer_text (Ok outcome) → is_accepted reply ≡ true
+is_ok : (reply : AnswerLines) (outcome : Outcome) → reply.line ≡ answer_text (Ok outcome) → is_accepted reply ≡ true
 is_ok reply outcome is =
     let shown = accepted_prints outcome reply.rows (flat_map ended_line reply.rows ++ ended_line (reply_text outcome))
     refl in
     accepted_by_line reply (reply_text outcome) is ∙ sym shown.accepted_is
 
 -- an accepted reply is that of an accepted statement
-outcome_of : (reply : Reply) (a : Answer) → reply.line ≡ answer_text a → is_accepted reply ≡ true
+outcome_of : (reply : AnswerLines) (a : Answer) → reply.line ≡ answer_text a → is_accepted reply ≡ true
     → (outcome : Outcome) × (a ≡ Ok outcome)
 outcome_of reply (Ok outcome) is accepted = (outcome, refl)
 outcome_of reply (Err r) is accepted =
@@ -51,14 +51,14 @@ outcome_of reply (Err r) is accepted =
     let both : false ≡ true = refused.accepted_is ∙ sym (accepted_by_line reply (refusal_text r) is) ∙ accepted in
     absurd (let no : ⊥ = cc both in no)
 
-refused_or_kept : (s : Statement) (c : Content) (reply : Reply) (a : Answer) → reply.line ≡ answer_text a
+refused_or_kept : (s : Statement) (c : Content) (reply : AnswerLines) (a : Answer) → reply.line ≡ answer_text a
     → (Redefines s → is_accepted reply ≡ true → IsRepeated s c) → Redefines s → IsRefused a ⊎ IsRepeated s c
 refused_or_kept s c reply (Ok outcome) is leaves redefines = inr (leaves redefines (is_ok reply outcome is))
 refused_or_kept s c reply (Err r) is leaves redefines = inl tt
 
 module _ (one : OneStatement) (stays : StaysFresh) (keeps : RunsSound) where
   -- an item that leaves the definitions, from fresh content
-  asked_keeps : (asked : Option Statement) (c c' : Content) (reply : Reply) → IsSound c
+  asked_keeps : (asked : Option Statement) (c c' : Content) (reply : AnswerLines) → IsSound c
       → ((s : Statement) → asked ≡ Some s → Redefines s → is_accepted reply ≡ true → IsRepeated s c)
       → AnswersAsked asked c reply c' → IsFresh c → IsFresh c'
   asked_keeps None c c' reply sound leaves h fresh = subst IsFresh (sym h.1) fresh
@@ -67,13 +67,13 @@ module _ (one : OneStatement) (stays : StaysFresh) (keeps : RunsSound) where
       (All-cons IsStatement s [] h.well_formed (λ k d lt. absurd (omega (arith, lt)))) (c', h.steps, refl)
       (refused_or_kept s c reply h.answer h.line (leaves s refl), tt) fresh
 
-  step_keeps : (item : Item) (c c' : Content) (reply : Reply) → IsSound c → LeavesDefinitions item c reply
+  step_keeps : (item : Item) (c c' : Content) (reply : AnswerLines) → IsSound c → LeavesDefinitions item c reply
       → Step c item reply c' → IsFresh c → IsFresh c'
   step_keeps item c c' reply sound leaves (asked, asks, h) fresh =
       asked_keeps asked c c' reply sound
       (λ s is redefines accepted. leaves s (subst (Asks item) is asks) redefines accepted) h fresh
 
-  items_keep : (items : List Item) (replies : List Reply) (c c' : Content) → IsSound c
+  items_keep : (items : List Item) (replies : List AnswerLines) (c c' : Content) → IsSound c
       → (run : Answers Step c items replies c') → KeepsDefinitions items replies c c' run → IsFresh c → IsFresh c'
   items_keep [] replies c c' sound run leaves fresh = subst IsFresh (sym run.1) fresh
   items_keep (item ∷ items) replies c c' sound (reply, rest, between, is, step, later) (leaves, more) fresh =
@@ -113,7 +113,7 @@ module _ (one : OneStatement) (stays : StaysFresh) (keeps : RunsSound) where
         subst IsFresh (sym is)
         (planned change plans c outcome left sound (sound_stays change fine c (Ok outcome) left sound decides) decides)
 
-    serves_plans : (number : ℕ) (text : List ℕ) (change : Change) (c c' : Content) (reply : Reply) → IsSound c
+    serves_plans : (number : ℕ) (text : List ℕ) (change : Change) (c c' : Content) (reply : AnswerLines) → IsSound c
         → MakesPlan change → c.jobs number ≡ None → is_accepted reply ≡ true
         → Serves (Job number text change) c reply c' → IsFresh c'
     serves_plans number text change c c' reply sound plans unknown accepted h =
@@ -122,14 +122,14 @@ module _ (one : OneStatement) (stays : StaysFresh) (keeps : RunsSound) where
         (subst (λ (o : Option KeptJob). AnswersKept number text (decision_of change) c o (Ok outcome) c') unknown
         (subst (λ (a : Answer). AnswersJob number text (decision_of change) c a c') is h.steps))
 
-    step_plans : (item : Item) (c c' : Content) (reply : Reply) → IsSound c → PlansAnew item c reply
+    step_plans : (item : Item) (c c' : Content) (reply : AnswerLines) → IsSound c → PlansAnew item c reply
         → Step c item reply c' → IsFresh c'
     step_plans item c c' reply sound p (asked, asks, h) =
         serves_plans p.number p.text p.change c c' reply sound p.plans p.unknown p.accepted
         (subst (λ (o : Option Statement). AnswersAsked o c reply c')
         (asks_one one item asked (Some (Job p.number p.text p.change)) asks p.asks) h)
 
-    items_make : (items : List Item) (replies : List Reply) (c c' : Content) → IsSound c
+    items_make : (items : List Item) (replies : List AnswerLines) (c c' : Content) → IsSound c
         → (run : Answers Step c items replies c') → MakesFresh items replies c c' run → IsFresh c'
     items_make [] replies c c' sound run makes = absurd makes
     items_make (item ∷ items) replies c c' sound (reply, rest, between, is, step, later) (inl (plans, more)) =

@@ -25,7 +25,7 @@ use Rattle.planner_cli.specs.Asked.{Asks, list_asked}
 use Rattle.planner_cli.specs.Faults.{store_cause}
 use Rattle.planner_cli.specs.Lists.{BeginsInHand, BeginsList}
 use Rattle.planner_cli.specs.Outcomes.{answer_text, answering}
-use Rattle.planner_cli.specs.Replies.{Prints, Reply, ended, is_accepted, is_refused, printed}
+use Rattle.planner_cli.specs.Replies.{Prints, AnswerLines, ended, is_accepted, is_refused, printed}
 use Rattle.planner_cli.specs.Rows.{IsShownText}
 use Rattle.planner_cli.specs.Runs.{IsFrontOf}
 use Rattle.planner_cli.specs.Sinks.{TakesFront, TakesLine, TakesLines, WritesAll, WritesPart}
@@ -148,7 +148,7 @@ module _ {K N : Type 0} (some : K) (contents : K → Option (List ℕ)) (name : 
 -- ---- the step of a listing
 
 -- what a listing of these items answers
-abbrev listing : List Shown → List (List ℕ) → Reply
+abbrev listing : List Shown → List (List ℕ) → AnswerLines
 listing items lines = record { rows = lines; line = answer_text (Ok (Rows (length items))) }
 
 rows_served : (listed : Listed) (app : Option (List ℕ)) (c : Content) (items : List Shown) (lines : List (List ℕ))
@@ -249,7 +249,7 @@ module _ {S : Type 0} (g : Ghosts S) (before now : S) (old mid new : Option (Lis
     IsAnswered printed = Prints (answering (Ok (Rows count))) printed.text.items printed.is_accepted
 
     abbrev Whole : Printed → Type 0
-    Whole printed = (reply : Reply) × (lines : List (List ℕ)) × Step (g.content before) item reply (g.content now)
+    Whole printed = (reply : AnswerLines) × (lines : List (List ℕ)) × Step (g.content before) item reply (g.content now)
         × Prints reply (flat_map ended lines ++ printed.text.items) printed.is_accepted
         × Appends old mid (flat_map ended lines)
 

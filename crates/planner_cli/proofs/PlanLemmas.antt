@@ -14,7 +14,7 @@ use Rattle.planner_cli.specs.Faults.{cause_of, fault_line}
 use Rattle.planner_cli.specs.Meaning.{Answers}
 use Rattle.planner_cli.specs.Outcomes.{answering}
 use Rattle.planner_cli.specs.Plans.{AreAnswered, CrashedPlan, LeadsTo, RanPlan, StoppedPlan}
-use Rattle.planner_cli.specs.Replies.{Reply}
+use Rattle.planner_cli.specs.Replies.{AnswerLines}
 use Rattle.planner_cli.specs.Runs.{Crashed, EndsBy, LeavesInHand, Ran, Stopped, ends_of}
 use Rattle.planner_cli.specs.Steps.{AnswersAsked, Serves, Step}
 use Rattle.planner_cli.specs.declared.faults.Cause.{Cause}
@@ -25,42 +25,42 @@ use Rattle.planner_cli.specs.declared.tally.Tally.{Tally}
 use Rattle.planner_cli.proofs.Progress.{answers_more}
 
 -- a step leaves what is sound sound
-asked_sound : RunsSound → (asked : Option Statement) (c c' : Content) (reply : Reply) → IsSound c
+asked_sound : RunsSound → (asked : Option Statement) (c c' : Content) (reply : AnswerLines) → IsSound c
     → AnswersAsked asked c reply c' → IsSound c'
 asked_sound law None c c' reply sound h = subst IsSound (sym h.1) sound
 asked_sound law (Some s) c c' reply sound h =
     law (s ∷ []) (h.answer ∷ []) c c' sound
     (All-cons IsStatement s [] h.well_formed (λ k d lt. absurd (omega (arith, lt)))) (c', h.steps, refl)
 
-pub step_sound : RunsSound → (c c' : Content) (item : Item) (reply : Reply) → IsSound c → Step c item reply c'
+pub step_sound : RunsSound → (c c' : Content) (item : Item) (reply : AnswerLines) → IsSound c → Step c item reply c'
     → IsSound c'
 step_sound law c c' item reply sound (asked, asks, h) = asked_sound law asked c c' reply sound h
 
-pub answers_sound : RunsSound → (items : List Item) (replies : List Reply) (c c' : Content) → IsSound c
+pub answers_sound : RunsSound → (items : List Item) (replies : List AnswerLines) (c c' : Content) → IsSound c
     → Answers Step c items replies c' → IsSound c'
 answers_sound law [] replies c c' sound h = subst IsSound (sym h.1) sound
 answers_sound law (item ∷ items) replies c c' sound (reply, rest, between, is, step, later) =
     answers_sound law items rest between c' (step_sound law c between item reply sound step) later
 
 -- what a job's reply shows: its answer alone
-abbrev pub TellsJob : Statement → Answer → Reply → Type 0
+abbrev pub TellsJob : Statement → Answer → AnswerLines → Type 0
 TellsJob s answer reply = (number : ℕ) → job_number s ≡ Some number → reply ≡ answering answer
 
 -- how the replies stand to the statements of the items and to their answers
 abbrev pub TellsAsked : Option Statement → (List Statement → List Answer → Type 0) → List Statement → List Answer
-    → Reply → Type 0
+    → AnswerLines → Type 0
 TellsAsked None More stream answers reply = More stream answers
 TellsAsked (Some s) More stream answers reply =
     (rest : List Statement) × (a : Answer) × (later : List Answer) × (stream ≡ s ∷ rest) × (answers ≡ a ∷ later)
     × TellsJob s a reply × More rest later
 
-abbrev pub Tells : List Item → List Statement → List Answer → List Reply → Type 0
+abbrev pub Tells : List Item → List Statement → List Answer → List AnswerLines → Type 0
 Tells [] stream answers replies = Unit {0}
 Tells (item ∷ items) stream answers replies =
-    (asked : Option Statement) × (reply : Reply) × (rest : List Reply) × (replies ≡ reply ∷ rest) × Asks item asked
+    (asked : Option Statement) × (reply : AnswerLines) × (rest : List AnswerLines) × (replies ≡ reply ∷ rest) × Asks item asked
     × TellsAsked asked (λ stream' answers'. Tells items stream' answers' rest) stream answers reply
 
-job_told : (s : Statement) (c c' : Content) (reply : Reply) (h : Serves s c reply c') → TellsJob s h.answer reply
+job_told : (s : Statement) (c c' : Content) (reply : AnswerLines) (h : Serves s c reply c') → TellsJob s h.answer reply
 job_told (DefineJob job text kind given) c c' reply h number is = λ i. record { rows = h.rows i; line = h.line i }
 job_told (Job job text change) c c' reply h number is = λ i. record { rows = h.rows i; line = h.line i }
 job_told (Days app from to) c c' reply h number is = absurd (let no : ⊥ = cc is in no)
@@ -70,7 +70,7 @@ job_told (ListPairs app) c c' reply h number is = absurd (let no : ⊥ = cc is i
 job_told (ListLinks app) c c' reply h number is = absurd (let no : ⊥ = cc is in no)
 
 -- the statements of the items that were answered
-pub record Led (items : List Item) (replies : List Reply) (c c' : Content) : Type 0 where
+pub record Led (items : List Item) (replies : List AnswerLines) (c c' : Content) : Type 0 where
   pub stream : List Statement
   pub answers : List Answer
   pub asked : AreAsked items stream
@@ -78,8 +78,8 @@ pub record Led (items : List Item) (replies : List Reply) (c c' : Content) : Typ
   pub run : Runs stream c answers c'
   pub tells : Tells items stream answers replies
 
-led_on : (item : Item) (items : List Item) (asked : Option Statement) (c between c' : Content) (reply : Reply)
-    (replies all : List Reply)
+led_on : (item : Item) (items : List Item) (asked : Option Statement) (c between c' : Content) (reply : AnswerLines)
+    (replies all : List AnswerLines)
     → all ≡ reply ∷ replies → Asks item asked
     → AnswersAsked asked c reply between → Led items replies between c' → Led (item ∷ items) all c c'
 led_on item items None c between c' reply replies all is asks h rest = record {
@@ -106,7 +106,7 @@ led_on item items (Some s) c between c' reply replies all is asks h rest = recor
   );
 }
 
-pub led : (items : List Item) (replies : List Reply) (c c' : Content) → Answers Step c items replies c'
+pub led : (items : List Item) (replies : List AnswerLines) (c c' : Content) → Answers Step c items replies c'
     → Led items replies c c'
 led [] replies c c' h = record {
   stream = [];
@@ -119,7 +119,7 @@ led [] replies c c' h = record {
 led (item ∷ items) replies c c' (reply, rest, between, e, (asked, asks, h), later) =
     led_on item items asked c between c' reply rest replies e asks h (led items rest between c' later)
 
-pub leads : RunsSound → RunsByFate → (items : List Item) (replies : List Reply) (c c' : Content) → IsSound c
+pub leads : RunsSound → RunsByFate → (items : List Item) (replies : List AnswerLines) (c c' : Content) → IsSound c
     → Answers Step c items replies c' → LeadsTo items c c'
 leads law fates items replies c c' sound h =
     let all = led items replies c c' h in
@@ -140,14 +140,14 @@ ran_leads law fates c c' w w' read tally sound h =
     record { ran = h; leads = leads law fates h.items h.replies c c' sound h.answers }
 
 -- what was answered before a fault
-pub record Reached (done : List Item) (replies : List Reply) (c c' : Content) (hand : Option Item) : Type 0 where
+pub record Reached (done : List Item) (replies : List AnswerLines) (c c' : Content) (hand : Option Item) : Type 0 where
   pub items : List Item
-  pub told : List Reply
+  pub told : List AnswerLines
   pub are_answered : AreAnswered done hand items
   pub answers : Answers Step c items told c'
 
 -- where nothing changed since, or the item in hand was answered
-since : (done : List Item) (replies : List Reply) (c between c' : Content) (hand : Option Item)
+since : (done : List Item) (replies : List AnswerLines) (c between c' : Content) (hand : Option Item)
     → Answers Step c done replies between
     → (c' ≡ between) ⊎ LeavesInHand Step between hand c' → Reached done replies c c' hand
 since done replies c between c' hand h (inl same) = record {

@@ -9,7 +9,7 @@ use Rattle.std.proofs.KnownBytes.{Appends-nil, Appends-trans, Appends-kept}
 use Rattle.planner_machine.specs.Content.{Content}
 use Rattle.stream_items.specs.Items.{Item, items_of}
 use Rattle.stream_items.specs.Pages.{ItemRead}
-use Rattle.planner_cli.specs.Replies.{Answered, Reply, printed, prints, is_accepted, is_refused}
+use Rattle.planner_cli.specs.Replies.{Answered, AnswerLines, printed, prints, is_accepted, is_refused}
 use Rattle.planner_cli.specs.Meaning.{Answers, StepOf, tally_after, tally_of}
 use Rattle.plan_store.specs.declared.stores.StoreFault.{StoreFault}
 use Rattle.plan_store.specs.declared.stores.StoreFault.TheVariants as Stores
@@ -27,7 +27,7 @@ use Rattle.planner_cli.specs.declared.faults.RunFault.{RunFault}
 use Rattle.stream_items.proofs.Kept.{take_short}
 
 -- more items are answered after the first ones
-pub answers_more : {S : Type 0} (Step : StepOf S) (s m t : S) (xs : List Item) (rs : List Reply) (y : Item) (r : Reply)
+pub answers_more : {S : Type 0} (Step : StepOf S) (s m t : S) (xs : List Item) (rs : List AnswerLines) (y : Item) (r : AnswerLines)
     → Answers Step s xs rs m → Step m y r t → Answers Step s (xs ++ y ∷ []) (rs ++ r ∷ []) t
 answers_more Step s m t [] rs y r a step =
     (r, [], t, ap (λ l. l ++ r ∷ []) a.0, subst (λ s'. Step s' y r t) a.1 step, (refl, refl))
@@ -41,13 +41,13 @@ answers_more Step s m t (x ∷ xs) rs y r a step =
       answers_more Step between m t xs rest y r later step,
     )
 
-pub prints-append : (xs ys : List Reply) → prints (xs ++ ys) ≡ prints xs ++ prints ys
+pub prints-append : (xs ys : List AnswerLines) → prints (xs ++ ys) ≡ prints xs ++ prints ys
 unfolding prints
 prints-append [] ys = refl
 prints-append (x ∷ xs) ys = ap (λ l. printed x ++ l) (prints-append xs ys)
     ∙ sym (append_assoc (printed x) (prints xs) (prints ys))
 
-pub prints-one : (reply : Reply) → prints (reply ∷ []) ≡ printed reply
+pub prints-one : (reply : AnswerLines) → prints (reply ∷ []) ≡ printed reply
 unfolding prints
 prints-one reply = append-nil (printed reply)
 
@@ -59,7 +59,7 @@ nothing_counted : tally_of [] ≡ record { accepted = 0; refused = 0 }
 unfolding tally_of tally_after
 nothing_counted = refl
 
-count_by-more : (p : Reply → Bool) (rs : List Reply) (r : Reply)
+count_by-more : (p : AnswerLines → Bool) (rs : List AnswerLines) (r : AnswerLines)
     → count_by p (rs ++ r ∷ []) ≡ count_by p rs + (if p r then 1 else 0)
 count_by-more p rs r = sum_by-append (λ x. cond (p x) 1 0) rs (r ∷ [])
     ∙ ap (λ k. sum_by (λ x. cond (p x) 1 0) rs + k) (zero-add (cond (p r) 1 0))
@@ -79,7 +79,7 @@ saturates : (a b c k n : ℕ) → a ≡ u64_saturate (0 + b) → n ≡ u64_satur
 saturates a b c k n e f g = omega arith
 
 -- the tally of one more reply
-pub tally_of-more : (rs : List Reply) (r : Reply) (met : Bool) (m n : Tally) → m ≡ tally_of rs → met ≡ is_accepted r
+pub tally_of-more : (rs : List AnswerLines) (r : AnswerLines) (met : Bool) (m n : Tally) → m ≡ tally_of rs → met ≡ is_accepted r
     → not met ≡ is_refused r
     → n.accepted ≡ u64_saturate (m.accepted + (if met then 1 else 0))
     → n.refused ≡ u64_saturate (m.refused + (if met then 0 else 1)) → n ≡ tally_of (rs ++ r ∷ [])
@@ -102,7 +102,7 @@ IsLeft done now text = (left : List ℕ) × (now ≡ Some left) × (items_of tex
 pub record Progress {S : Type 0} (Step : StepOf S) (s0 s : S) (w0 w remaining now : Option (List ℕ)) (tally : Tally) : Type 0
   where
     pub done : List Item
-    pub replies : List Reply
+    pub replies : List AnswerLines
     pub read : IfSome remaining (IsLeft done now)
     pub answers : Answers Step s0 done replies s
     pub written : Appends w0 w (prints replies)
@@ -255,7 +255,7 @@ crashes_between Step s0 s w0 w remaining b tally f fault p e tallied c same =
     record { stopped = halts_between Step s0 s w0 w remaining b tally f fault p e tallied; leaves = inl same }
 
 -- what stays, or that after the item in hand
-in_hand : (Step : StepOf Content) (s t : Content) (item : Item) → (t ≡ s) ⊎ ((reply : Reply) × Step s item reply t)
+in_hand : (Step : StepOf Content) (s t : Content) (item : Item) → (t ≡ s) ⊎ ((reply : AnswerLines) × Step s item reply t)
     → (t ≡ s) ⊎ LeavesInHand Step s (Some item) t
 in_hand Step s t item (inl same) = inl same
 in_hand Step s t item (inr did) = inr (item, refl, did)
@@ -264,7 +264,7 @@ pub crashes_within : (Step : StepOf Content) (s0 s s' : Content) (w0 w w' remain
     (one : Option Item) (item : Item) (cause : Cause) (fault : RunFault)
     → Progress Step s0 s w0 w remaining b tally → IfSome b (λ zs. ItemRead zs one c) → one ≡ Some item
     → cause_of fault ≡ cause → tally_in fault ≡ tally
-    → ItemBreaks Step cause s s' w w' item → (left : Content) → (left ≡ s) ⊎ ((reply : Reply) × Step s item reply left)
+    → ItemBreaks Step cause s s' w w' item → (left : Content) → (left ≡ s) ⊎ ((reply : AnswerLines) × Step s item reply left)
     → Crashed Step (λ _. []) (ends_of s0 s' w0 w' remaining) fault left
 unfolding halts_within
 crashes_within Step s0 s s' w0 w w' remaining b c tally one item cause fault p read met_it e tallied breaks left leaves =
@@ -346,7 +346,7 @@ nothing_begun s w w' item kept = ([], inl refl, kept_appends w w' kept)
 pub store_breaks : (Step : StepOf Content) (fault : StoreFault) (cause : Cause) (s s' : Content)
     (w w' : Option (List ℕ)) (item : Item)
     → cause ≡ store_cause fault → Keeps w w' → (fault ≡ Stores.Memory → s' ≡ s)
-    → ((s' ≡ s) ⊎ ((reply : Reply) × Step s item reply s')) → ItemBreaks Step cause s s' w w' item
+    → ((s' ≡ s) ⊎ ((reply : AnswerLines) × Step s item reply s')) → ItemBreaks Step cause s s' w w' item
 store_breaks Step Stores.Memory cause s s' w w' item is kept unchanged whole =
     subst (λ c. ItemBreaks Step c s s' w w' item) (sym is) (unchanged refl, nothing_begun s w w' item kept)
 store_breaks Step Stores.Device cause s s' w w' item is kept unchanged whole =
@@ -360,7 +360,7 @@ memory_breaks Step s w item = (refl, ([], inl refl, Appends-nil w))
 
 -- a writer fails within an answer
 pub writer_breaks : (Step : StepOf Content) (cause : Cause) (s s' : Content) (w w' : Option (List ℕ)) (item : Item)
-    (reply : Reply) (front : List ℕ)
+    (reply : AnswerLines) (front : List ℕ)
     → cause ≡ Device Writer → Step s item reply s' → IsFrontOf front (printed reply) → Appends w w' front
     → ItemBreaks Step cause s s' w w' item
 writer_breaks Step cause s s' w w' item reply front is step begins appended =

@@ -15,7 +15,7 @@ use Rattle.planner_cli.specs.Faults.{fault_line}
 use Rattle.planner_cli.specs.Meaning.{Answers}
 use Rattle.planner_cli.specs.Outcomes.{answering}
 use Rattle.planner_cli.specs.Plans.{AreAnswered}
-use Rattle.planner_cli.specs.Replies.{Reply}
+use Rattle.planner_cli.specs.Replies.{AnswerLines}
 use Rattle.planner_cli.specs.Reruns.{EndsAsOneRun, IsEarlierRun, IsJobItem, RepliesAgree, RerunAfterRuns}
 use Rattle.planner_cli.specs.Reruns.{RerunEndsAsOneRun}
 use Rattle.planner_cli.specs.Runs.{with_hand}
@@ -24,12 +24,12 @@ use Rattle.planner_cli.proofs.PlanLemmas.{Reached, Tells, TellsAsked, TellsJob, 
 use Rattle.planner_cli.proofs.PlanLemmas.{reached_by_crash}
 
 -- what the whole stream is answered parts where the stream does
-abbrev pub AnswersParts : List Item → List Item → List Reply → Content → Content → Type 0
+abbrev pub AnswersParts : List Item → List Item → List AnswerLines → Content → Content → Type 0
 AnswersParts first rest replies c c' =
-    (x : List Reply) × (y : List Reply) × (middle : Content) × (replies ≡ x ++ y) × Answers Step c first x middle
+    (x : List AnswerLines) × (y : List AnswerLines) × (middle : Content) × (replies ≡ x ++ y) × Answers Step c first x middle
     × Answers Step middle rest y c'
 
-answers_parts : (first rest : List Item) (replies : List Reply) (c c' : Content)
+answers_parts : (first rest : List Item) (replies : List AnswerLines) (c c' : Content)
     → Answers Step c (first ++ rest) replies c' → AnswersParts first rest replies c c'
 answers_parts [] rest replies c c' h = ([], replies, c, refl, (refl, refl), h)
 answers_parts (item ∷ first) rest replies c c' (reply, others, between, is, step, later) =
@@ -42,10 +42,10 @@ answers_parts (item ∷ first) rest replies c c' (reply, others, between, is, st
       rests,
     )
 
-answers_joined : (first rest : List Item) (x y : List Reply) (c middle c' : Content) → Answers Step c first x middle
+answers_joined : (first rest : List Item) (x y : List AnswerLines) (c middle c' : Content) → Answers Step c first x middle
     → Answers Step middle rest y c' → Answers Step c (first ++ rest) (x ++ y) c'
 answers_joined [] rest x y c middle c' h more =
-    subst (λ (l : List Reply). Answers Step c rest (l ++ y) c') (sym h.0)
+    subst (λ (l : List AnswerLines). Answers Step c rest (l ++ y) c') (sym h.0)
     (subst (λ (s : Content). Answers Step s rest y c') h.1 more)
 answers_joined (item ∷ first) rest x y c middle c' (reply, others, between, is, step, later) more = (
   reply,
@@ -60,7 +60,7 @@ answers_joined (item ∷ first) rest x y c middle c' (reply, others, between, is
 record Kept (text : List ℕ) (c left : Content) : Type 0 where
   pub items : List Item
   pub others : List Item
-  pub told : List Reply
+  pub told : List AnswerLines
   pub split : items_of text ≡ items ++ others
   pub answers : Answers Step c items told left
 
@@ -73,7 +73,7 @@ after done items hand rest (inr (item, some, is)) = (
       ∙ ap (λ l. l ++ rest) (sym is),
 )
 
-kept_of : (text : List ℕ) (c left : Content) (done rest : List Item) (replies : List Reply) (hand : Option Item)
+kept_of : (text : List ℕ) (c left : Content) (done rest : List Item) (replies : List AnswerLines) (hand : Option Item)
     → items_of text ≡ done ++ with_hand hand rest → Reached done replies c left hand → Kept text c left
 kept_of text c left done rest replies hand read at =
     let (others, split) = after done at.items hand rest at.are_answered in
@@ -106,7 +106,7 @@ kept text c left (end, w, w', inr (fault, inr crashed)) =
 -- where one answering of the whole stream is there, the other one ends so
 abbrev EndsAsEach : Type 0
 EndsAsEach =
-    (first rest : List Item) (before replies again : List Reply) (c c1 c' c'' : Content) → IsSound c
+    (first rest : List Item) (before replies again : List AnswerLines) (c c1 c' c'' : Content) → IsSound c
     → Answers Step c first before c1 → Answers Step c (first ++ rest) replies c'
     → Answers Step c1 (first ++ rest) again c''
     → (c'' ≡ c') × RepliesAgree (first ++ rest) replies again
@@ -152,7 +152,7 @@ module _ (law : OneStatement) where
       )
 
   -- replies agree where answers do
-  job_agrees : (s t : Statement) (a b : Answer) (r q : Reply) (number : ℕ) → t ≡ s → job_number t ≡ Some number
+  job_agrees : (s t : Statement) (a b : Answer) (r q : AnswerLines) (number : ℕ) → t ≡ s → job_number t ≡ Some number
       → TellsJob s a r → TellsJob s b q
       → a ≡ b → r ≡ q
   job_agrees s t a b r q number same is told told' alike =
@@ -161,13 +161,13 @@ module _ (law : OneStatement) where
 
   -- whatever is told of the items, their replies agree
   abbrev AllAgree : List Item → Type 0
-  AllAgree items = (stream : List Statement) (answers again : List Answer) (rs qs : List Reply)
+  AllAgree items = (stream : List Statement) (answers again : List Answer) (rs qs : List AnswerLines)
       → Tells items stream answers rs
       → Tells items stream again qs → AnswersAgree stream answers again → RepliesAgree items rs qs
 
   module _ (item : Item) (items : List Item) (next : AllAgree items) (stream : List Statement)
       (answers again : List Answer)
-      (r q : Reply) (rest rest' : List Reply) (agree : AnswersAgree stream answers again) where
+      (r q : AnswerLines) (rest rest' : List AnswerLines) (agree : AnswersAgree stream answers again) where
     by_asked : (o : Option Statement) → Asks item o → TellsAsked o (λ x y. Tells items x y rest') stream again q
         → TellsAsked o (λ x y. Tells items x y rest) stream answers r
         → (place : ℕ) → IsJobItem (item ∷ items) place → slice_get (q ∷ rest') place ≡ slice_get (r ∷ rest) place
@@ -240,7 +240,7 @@ module _ (law : OneStatement) where
         )
 
     -- the first items, answered again, change nothing
-    first_again : (first : List Item) (before again : List Reply) (c c1 c2 : Content) → IsSound c
+    first_again : (first : List Item) (before again : List AnswerLines) (c c1 c2 : Content) → IsSound c
         → Answers Step c first before c1 → Answers Step c1 first again c2 → c2 ≡ c1
     first_again first before again c c1 c2 sound cut rerun =
         (as_each first [] before before again c c1 c1 c2 sound cut
@@ -263,7 +263,7 @@ module _ (law : OneStatement) where
         }
 
     -- one run from what was left, which ends as this one, ends as one run from the beginning
-    before_it : (text : List ℕ) (c left c' : Content) (again : List Reply) → IsSound c → Kept text c left
+    before_it : (text : List ℕ) (c left c' : Content) (again : List AnswerLines) → IsSound c → Kept text c left
         → EndsAsOneRun (items_of text) left c' again → EndsAsOneRun (items_of text) c c' again
     before_it text c left c' again sound k ends =
         let first = one_run k.items k.others k.told ends.replies c left c' sound k.answers

@@ -29,7 +29,7 @@ use Rattle.plan_store.specs.declared.changes.Verdict.TheVariants.{Done, Refused}
 use Rattle.statements.specs.JobNumber.{IsJobNumber}
 use Rattle.stream_items.specs.Items.{longest_block}
 use Rattle.planner_cli.specs.Outcomes.{answer_text, answering}
-use Rattle.planner_cli.specs.Replies.{Reply}
+use Rattle.planner_cli.specs.Replies.{AnswerLines}
 use Rattle.planner_cli.specs.Rows.{AreDaysLines}
 use Rattle.planner_cli.specs.Steps.{Serves}
 use Rattle.planner_cli.specs.Verdicts.{FitsVerdict, IsKeptAnswer, answer_in, job_left, left_by}
@@ -37,7 +37,7 @@ use Rattle.planner_cli.proofs.ChangeLemmas.{after_with_job, keeps_jobs}
 use Rattle.app_definitions.proofs.BlockNames.{names_few}
 
 -- what a job's step answers
-abbrev pub AnswersBoth : ℕ → List ℕ → MachineChange → Content → Reply → Content → Type 0
+abbrev pub AnswersBoth : ℕ → List ℕ → MachineChange → Content → AnswerLines → Content → Type 0
 AnswersBoth number text change c reply c' =
     (answer : Answer) × AnswersJob number text (decision_of change) c answer c' × (reply ≡ answering answer)
 
@@ -54,13 +54,13 @@ kept_so (Some job) number text d c answer (a, is, h) =
 
 pub serves_job : (number : ℕ) (text : List ℕ) (change : MachineChange) (c : Content) → IsJobNumber number
     → IsWellFormed change
-    → (reply : Reply) (c' : Content) → AnswersBoth number text change c reply c'
+    → (reply : AnswerLines) (c' : Content) → AnswersBoth number text change c reply c'
     → Serves (Job number text change) c reply c'
 serves_job number text change c numbered fine reply c' (answer, step, is) = record {
   answer = answer;
   steps = step;
-  rows = ap (λ (r : Reply). r.rows) is;
-  line = ap (λ (r : Reply). r.line) is;
+  rows = ap (λ (r : AnswerLines). r.rows) is;
+  line = ap (λ (r : AnswerLines). r.line) is;
   well_formed = (let h = numbered.0 in omega arith, let h = numbered.1 in omega arith, fine);
 }
 
@@ -78,13 +78,13 @@ block_well_formed kind bytes block short reads = (shown_names 0 kind bytes short
 pub serves_define : (number : ℕ) (text : List ℕ) (kind : Kind) (bytes : List ℕ) (block : Block) (c : Content)
     → IsJobNumber number
     → length bytes ≤ longest_block → ReadsAs kind bytes block
-    → (reply : Reply) (c' : Content) → AnswersBoth number text (Define block) c reply c'
+    → (reply : AnswerLines) (c' : Content) → AnswersBoth number text (Define block) c reply c'
     → Serves (DefineJob number text kind (Some bytes)) c reply c'
 serves_define number text kind bytes block c numbered short reads reply c' (answer, step, is) = record {
   answer = answer;
   steps = inr (block, reads, step);
-  rows = ap (λ (r : Reply). r.rows) is;
-  line = ap (λ (r : Reply). r.line) is;
+  rows = ap (λ (r : AnswerLines). r.rows) is;
+  line = ap (λ (r : AnswerLines). r.line) is;
   well_formed = (
     let h = numbered.0 in omega arith,
     let h = numbered.1 in
@@ -181,7 +181,7 @@ settled number text verdict change answer c c' fits answered leaves is =
 -- the verdict's job is one that the machine answers so
 pub verdict_answers : (number : ℕ) (text : List ℕ) (change : MachineChange) (verdict : Verdict) (c : Content)
     → VerdictIs (decision_of change) c verdict → c.jobs number ≡ None
-    → (reply : Reply) (c' : Content) → (c' ≡ job_left number text verdict c) × (reply ≡ answering (answer_in verdict))
+    → (reply : AnswerLines) (c' : Content) → (c' ≡ job_left number text verdict c) × (reply ≡ answering (answer_in verdict))
     → AnswersBoth number text change c reply c'
 verdict_answers number text change verdict c is new reply c' h = (
   answer_in verdict,

@@ -5,7 +5,7 @@ use Rattle.planner_machine.specs.Content.{Content}
 use Rattle.plan_store.specs.declared.stores.PlanStore.{Ghosts}
 use Rattle.plan_store.specs.declared.stores.StoreFault.{StoreFault}
 use Rattle.plan_store.specs.declared.stores.StoreFault.TheVariants.{Device, Memory}
-use Rattle.planner_cli.specs.Replies.{Prints, Reply}
+use Rattle.planner_cli.specs.Replies.{Prints, AnswerLines}
 use Rattle.planner_cli.specs.Stores.{AnswersBy, IsBlamed, LeavesOwn, ReadsBy}
 use Rattle.planner_cli.specs.declared.answers.Printed.{Printed}
 
@@ -45,8 +45,8 @@ always_on_err (Err e) P h = h
 
 module _ {S : Type 0} (g : Ghosts S) where
   -- a reply that one may give is one that the other may give
-  pub answers_so : (before now : S) (result : Result Printed StoreFault) (Does More : Reply → Content → Type 0)
-      → (g.is_honest now → (reply : Reply) (c : Content) → Does reply c → More reply c)
+  pub answers_so : (before now : S) (result : Result Printed StoreFault) (Does More : AnswerLines → Content → Type 0)
+      → (g.is_honest now → (reply : AnswerLines) (c : Content) → Does reply c → More reply c)
       → AnswersBy g before now result Does
       → AnswersBy g before now result More
   answers_so before now result Does More more a = record {
@@ -64,13 +64,13 @@ module _ {S : Type 0} (g : Ghosts S) where
     stays_whole = a.stays_whole;
   }
     where
-      left : g.is_honest now → (c : Content) → (c ≡ g.content before) ⊎ ((reply : Reply) × Does reply c)
-          → (c ≡ g.content before) ⊎ ((reply : Reply) × More reply c)
+      left : g.is_honest now → (c : Content) → (c ≡ g.content before) ⊎ ((reply : AnswerLines) × Does reply c)
+          → (c ≡ g.content before) ⊎ ((reply : AnswerLines) × More reply c)
       left honest c (inl same) = inl same
       left honest c (inr (reply, does)) = inr (reply, more honest reply c does)
 
   -- nothing was asked of the store
-  pub untouched : (store : S) (result : Result Printed StoreFault) (reply : Reply) (Does : Reply → Content → Type 0)
+  pub untouched : (store : S) (result : Result Printed StoreFault) (reply : AnswerLines) (Does : AnswerLines → Content → Type 0)
       → Does reply (g.content store)
       → IfOk result (λ printed. Prints reply printed.text.items printed.is_accepted)
       → IfErr result (λ fault. fault ≡ Memory)
@@ -101,7 +101,7 @@ module _ {S : Type 0} (g : Ghosts S) where
   }
 
   -- memory was refused, and nothing was asked of the store since
-  pub refused_memory : (store : S) (Does : Reply → Content → Type 0)
+  pub refused_memory : (store : S) (Does : AnswerLines → Content → Type 0)
       → AnswersBy g store store (Err Memory) Does
   refused_memory store Does = record {
     answers = λ honest. tt;
@@ -119,7 +119,7 @@ module _ {S : Type 0} (g : Ghosts S) where
   module _ {T : Type 0} (before mid : S) (read : Result T StoreFault) (IsRight : T → Type 0)
       (reads : ReadsBy g before mid read IsRight) (stays : g.is_whole before → g.is_whole mid) where
     -- the store was read before
-    pub after_read : (now : S) (result : Result Printed StoreFault) (Does : Content → Reply → Content → Type 0)
+    pub after_read : (now : S) (result : Result Printed StoreFault) (Does : Content → AnswerLines → Content → Type 0)
         → AnswersBy g mid now result (Does (g.content mid))
         → AnswersBy g before now result (Does (g.content before))
     after_read now result Does a = record {
@@ -149,16 +149,16 @@ module _ {S : Type 0} (g : Ghosts S) where
         read_own : g.is_honest now → LeavesOwn g before → LeavesOwn g mid
         read_own honest own c leaves = own c (reads.crash (a.honest honest) c leaves) ∙ sym (same honest)
 
-        left : g.is_honest now → (c : Content) → (c ≡ g.content mid) ⊎ ((reply : Reply) × Does (g.content mid) reply c)
-            → (c ≡ g.content before) ⊎ ((reply : Reply) × Does (g.content before) reply c)
+        left : g.is_honest now → (c : Content) → (c ≡ g.content mid) ⊎ ((reply : AnswerLines) × Does (g.content mid) reply c)
+            → (c ≡ g.content before) ⊎ ((reply : AnswerLines) × Does (g.content before) reply c)
         left honest c (inl is) = inl (is ∙ same honest)
         left honest c (inr (reply, does)) = inr (reply, subst (λ b. Does b reply c) (same honest) does)
 
   module _ {T : Type 0} (before now : S) (read : Result T StoreFault) (IsRight : T → Type 0)
       (reads : ReadsBy g before now read IsRight) (stays : g.is_whole before → g.is_whole now) where
     -- the store was read, and that is all
-    pub read_printed : (printed : Printed) (Does : Reply → Content → Type 0)
-        → (g.is_honest now → (reply : Reply) × Does reply (g.content before)
+    pub read_printed : (printed : Printed) (Does : AnswerLines → Content → Type 0)
+        → (g.is_honest now → (reply : AnswerLines) × Does reply (g.content before)
         × Prints reply printed.text.items printed.is_accepted)
         → AnswersBy g before now (Ok printed) Does
     read_printed printed Does told = record {
@@ -176,8 +176,8 @@ module _ {S : Type 0} (g : Ghosts S) where
     }
 
     -- it was read, and the answer is printed, or memory was refused
-    pub read_answered : (result : Result Printed StoreFault) (Does : Reply → Content → Type 0)
-        → (g.is_honest now → (reply : Reply) × Does reply (g.content before)
+    pub read_answered : (result : Result Printed StoreFault) (Does : AnswerLines → Content → Type 0)
+        → (g.is_honest now → (reply : AnswerLines) × Does reply (g.content before)
         × IfOk result (λ printed. Prints reply printed.text.items printed.is_accepted))
         → IfErr result (λ fault. fault ≡ Memory)
         → AnswersBy g before now result Does
@@ -199,7 +199,7 @@ module _ {S : Type 0} (g : Ghosts S) where
 
 module _ {S : Type 0} (g : Ghosts S) (before now : S) where
   -- it was made
-  pub made : (printed : Printed) (reply : Reply) (Does : Reply → Content → Type 0)
+  pub made : (printed : Printed) (reply : AnswerLines) (Does : AnswerLines → Content → Type 0)
       → (g.is_honest now → Does reply (g.content now))
       → Prints reply printed.text.items printed.is_accepted
       → (g.is_honest now → LeavesOwn g now) → g.failures before ≤ g.failures now
@@ -219,11 +219,11 @@ module _ {S : Type 0} (g : Ghosts S) (before now : S) where
   }
 
   -- it may be made
-  pub not_made : (fault : StoreFault) (Does : Reply → Content → Type 0)
+  pub not_made : (fault : StoreFault) (Does : AnswerLines → Content → Type 0)
       → (g.is_honest now → fault ≡ Memory → g.content now ≡ g.content before)
-      → (g.is_honest now → (g.content now ≡ g.content before) ⊎ ((reply : Reply) × Does reply (g.content now)))
+      → (g.is_honest now → (g.content now ≡ g.content before) ⊎ ((reply : AnswerLines) × Does reply (g.content now)))
       → (g.is_honest now → LeavesOwn g before → (c : Content) → g.may_leave now c
-      → (c ≡ g.content before) ⊎ ((reply : Reply) × Does reply c))
+      → (c ≡ g.content before) ⊎ ((reply : AnswerLines) × Does reply c))
       → (fault ≡ Device → IsBlamed (g.failures before) (g.failures now)) → g.failures before ≤ g.failures now
       → (g.is_honest now → g.is_honest before) → (g.is_clean now → g.is_clean before)
       → AnswersBy g before now (Err fault) Does

@@ -37,7 +37,7 @@ use Rattle.plan_store.specs.declared.changes.Verdict.TheVariants.{Done, Refused}
 use Rattle.plan_store.proofs.PlaceLemmas.{stands_cp}
 use Rattle.plan_store.proofs.ViewLemmas.{once_from_rows}
 use Rattle.planner_cli.specs.Outcomes.{answer_text, answering}
-use Rattle.planner_cli.specs.Replies.{Prints, Reply, ended}
+use Rattle.planner_cli.specs.Replies.{Prints, AnswerLines, ended}
 use Rattle.planner_cli.specs.Changes.{daily_change, plan_change}
 use Rattle.planner_cli.specs.Kinds.{count_of}
 use Rattle.planner_cli.specs.Rows.{ShowsDailyTrial, ShowsPlanTrial, ShowsTrial, daily_signed, plan_signed}
@@ -68,7 +68,7 @@ pub trial_printed : (change : MachineChange) (c : Content) (reply : Outcome) (te
     → TrialShown change c reply text
     → ((lines : List (List ℕ)) → text ≡ flat_map ended lines
     → Prints (record { rows = lines; line = answer_text (Ok reply) }) printed.text.items printed.is_accepted)
-    → (told : Reply) × Serves (Trial change) c told c × Prints told printed.text.items printed.is_accepted
+    → (told : AnswerLines) × Serves (Trial change) c told c × Prints told printed.text.items printed.is_accepted
 trial_printed change c reply text printed shown tells = (
   record { rows = shown.lines; line = answer_text (Ok reply) },
   shown.serves,

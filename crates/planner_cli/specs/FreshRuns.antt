@@ -8,7 +8,7 @@ use Rattle.stream_items.specs.Items.{Item}
 use Rattle.planner_cli.specs.Asked.{Asks}
 use Rattle.planner_cli.specs.Faults.{fault_line}
 use Rattle.planner_cli.specs.Meaning.{Answers}
-use Rattle.planner_cli.specs.Replies.{Reply, is_accepted}
+use Rattle.planner_cli.specs.Replies.{AnswerLines, is_accepted}
 use Rattle.planner_cli.specs.Runs.{Crashed, Ends, Ran, Stopped, ends_of}
 use Rattle.planner_cli.specs.Steps.{Step}
 use Rattle.planner_cli.specs.declared.faults.RunFault.{RunFault}
@@ -21,7 +21,7 @@ MakesPlan ModifyAll = Unit {0}
 MakesPlan change = ⊥
 
 -- where the content is c, the item is `ltp-create` or `ltp-modify-all`, its job is not kept yet, and its reply accepts it
-pub record PlansAnew (item : Item) (c : Content) (reply : Reply) : Type 0 where
+pub record PlansAnew (item : Item) (c : Content) (reply : AnswerLines) : Type 0 where
   pub number : ℕ
   pub text : List ℕ
   pub change : Change
@@ -32,19 +32,19 @@ pub record PlansAnew (item : Item) (c : Content) (reply : Reply) : Type 0 where
 
 -- where the content is c, the item gives and takes away no definition: if it is `define` or `undefine`, it is not
 -- accepted, or answered from a kept job
-abbrev pub LeavesDefinitions : Item → Content → Reply → Type 0
+abbrev pub LeavesDefinitions : Item → Content → AnswerLines → Type 0
 LeavesDefinitions item c reply = (s : Statement) → Asks item (Some s) → Redefines s → is_accepted reply ≡ true
     → IsRepeated s c
 
 -- so does each of the items
-abbrev pub KeepsDefinitions : (items : List Item) (replies : List Reply) (c c' : Content)
+abbrev pub KeepsDefinitions : (items : List Item) (replies : List AnswerLines) (c c' : Content)
     → Answers Step c items replies c' → Type 0
 KeepsDefinitions [] replies c c' run = Unit {0}
 KeepsDefinitions (item ∷ items) replies c c' run =
     LeavesDefinitions item c run.0 × KeepsDefinitions items run.1 run.2 c' run.5
 
 -- one of the items makes the plan anew, and none after it gives or takes away a definition
-abbrev pub MakesFresh : (items : List Item) (replies : List Reply) (c c' : Content)
+abbrev pub MakesFresh : (items : List Item) (replies : List AnswerLines) (c c' : Content)
     → Answers Step c items replies c' → Type 0
 MakesFresh [] replies c c' run = ⊥
 MakesFresh (item ∷ items) replies c c' run =
@@ -53,7 +53,7 @@ MakesFresh (item ∷ items) replies c c' run =
 
 -- the items lead to fresh content: one of them makes the plan anew, or the content was fresh before; and since then
 -- none gives or takes away a definition
-abbrev pub LeadsFresh : (items : List Item) (replies : List Reply) (c c' : Content)
+abbrev pub LeadsFresh : (items : List Item) (replies : List AnswerLines) (c c' : Content)
     → Answers Step c items replies c' → Type 0
 LeadsFresh items replies c c' run =
     MakesFresh items replies c c' run ⊎ (IsFresh c × KeepsDefinitions items replies c c' run)
@@ -61,7 +61,7 @@ LeadsFresh items replies c c' run =
 -- over sound content, whatever was there before
 abbrev pub ItemsLeaveFresh : Type 0
 ItemsLeaveFresh =
-    (items : List Item) (replies : List Reply) (c c' : Content) → IsSound c
+    (items : List Item) (replies : List AnswerLines) (c c' : Content) → IsSound c
     → (run : Answers Step c items replies c') → LeadsFresh items replies c c' run → IsFresh c'
 
 -- a run to the end of a stream

@@ -8,7 +8,7 @@ use Rattle.stream_items.specs.Items.{Item, items_of}
 use Rattle.planner_cli.specs.Asked.{Asks}
 use Rattle.planner_cli.specs.Faults.{fault_line}
 use Rattle.planner_cli.specs.Meaning.{Answers}
-use Rattle.planner_cli.specs.Replies.{Reply}
+use Rattle.planner_cli.specs.Replies.{AnswerLines}
 use Rattle.planner_cli.specs.Runs.{Crashed, Ran, Stopped, ends_of}
 use Rattle.planner_cli.specs.Steps.{Step}
 use Rattle.planner_cli.specs.declared.faults.RunFault.{RunFault}
@@ -21,23 +21,23 @@ IsJobItem items place =
     × ((s : Statement) × Asks item (Some s) × ((number : ℕ) × (job_number s ≡ Some number)))
 
 -- wherever the items have one with a job number, it gets the same reply in both lists of replies
-abbrev pub RepliesAgree : List Item → List Reply → List Reply → Type 0
+abbrev pub RepliesAgree : List Item → List AnswerLines → List AnswerLines → Type 0
 RepliesAgree items replies again = (place : ℕ) → IsJobItem items place → slice_get again place ≡ slice_get replies place
 
 -- there is an answering of the items from c, as one run gives it: it leaves c', and each job gets the reply there that
 -- it has in `again`. And there is no other: each answering of the items from c ends so
-pub record EndsAsOneRun (items : List Item) (c c' : Content) (again : List Reply) : Type 0 where
-  pub replies : List Reply
+pub record EndsAsOneRun (items : List Item) (c c' : Content) (again : List AnswerLines) : Type 0 where
+  pub replies : List AnswerLines
   pub answers : Answers Step c items replies c'
   pub agree : RepliesAgree items replies again
-  pub only : (others : List Reply) (left : Content) → Answers Step c items others left
+  pub only : (others : List AnswerLines) (left : Content) → Answers Step c items others left
       → (left ≡ c') × RepliesAgree items others again
 
 -- where the first items of a stream leave c1, and the whole stream is answered from its start on c1, it ends as one run
 -- of the whole stream from c. Job numbers may come twice
 abbrev pub RerunEndsAsOneRun : Type 0
 RerunEndsAsOneRun =
-    (first rest : List Item) (before again : List Reply) (c c1 c' : Content) → IsSound c
+    (first rest : List Item) (before again : List AnswerLines) (c c1 c' : Content) → IsSound c
     → Answers Step c first before c1 → Answers Step c1 (first ++ rest) again c'
     → EndsAsOneRun (first ++ rest) c c' again
 

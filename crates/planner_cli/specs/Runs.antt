@@ -4,7 +4,7 @@ use Rattle.std.specs.Io.KnownBytes.{Appends}
 use Rattle.planner_machine.specs.Content.{Content}
 use Rattle.stream_items.specs.Items.{Item, items_of}
 use Rattle.planner_cli.specs.Lists.{BeginsInHand, ListsInHand}
-use Rattle.planner_cli.specs.Replies.{Reply, ended, printed, prints}
+use Rattle.planner_cli.specs.Replies.{AnswerLines, ended, printed, prints}
 use Rattle.planner_cli.specs.Meaning.{Answers, StepOf, tally_of}
 use Rattle.planner_cli.specs.Faults.{cause_of, tally_in}
 use Rattle.planner_cli.specs.declared.tally.Tally.{Tally}
@@ -35,7 +35,7 @@ ends_of before after written_before written_after remaining = record {
 -- the bytes to read are known, the items are those that they read as
 pub record Ran (Step : StepOf Content) (ends : Ends) (tally : Tally) : Type 0 where
   pub items : List Item
-  pub replies : List Reply
+  pub replies : List AnswerLines
   pub read : IfSome ends.remaining (λ text. items_of text ≡ items)
   pub answers : Answers Step ends.before items replies ends.after
   pub written : Appends ends.written_before ends.written_after (prints replies)
@@ -52,12 +52,12 @@ with_hand (Some item) rest = item ∷ rest
 
 -- the item in hand, if there is one, is answered by a step that leaves t
 abbrev pub LeavesInHand : {S : Type 0} (Step : StepOf S) → S → Option Item → S → Type 0
-LeavesInHand Step s hand t = (item : Item) × (hand ≡ Some item) × ((reply : Reply) × Step s item reply t)
+LeavesInHand Step s hand t = (item : Item) × (hand ≡ Some item) × ((reply : AnswerLines) × Step s item reply t)
 
 -- the item's change is made, and these bytes are a front of what its reply prints
 abbrev pub IsCutOff : {S : Type 0} (Step : StepOf S) → S → Option Item → S → List ℕ → Type 0
 IsCutOff Step s hand t tail =
-    (item : Item) × (hand ≡ Some item) × ((reply : Reply) × Step s item reply t × IsFrontOf tail (printed reply))
+    (item : Item) × (hand ≡ Some item) × ((reply : AnswerLines) × Step s item reply t × IsFrontOf tail (printed reply))
 
 -- nothing is changed, and these bytes are a front of the first lines of a listing
 abbrev pub IsListCutOff : Content → Option Item → Content → List ℕ → Type 0
@@ -87,7 +87,7 @@ EndsBy Step (Device Writer) line between t hand tail =
 pub record Stopped (Step : StepOf Content) (line : Cause → List ℕ) (ends : Ends) (fault : RunFault) : Type 0 where
   pub done : List Item
   pub hand : Option Item
-  pub replies : List Reply
+  pub replies : List AnswerLines
   pub between : Content
   pub tail : List ℕ
   pub read : IfSome ends.remaining (λ text. (rest : List Item) × (items_of text ≡ done ++ with_hand hand rest))

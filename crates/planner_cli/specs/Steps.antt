@@ -11,7 +11,7 @@ use Rattle.planner_machine.specs.Stream.{IsStatement}
 use Rattle.stream_items.specs.Items.{Item}
 use Rattle.planner_cli.specs.Asked.{Asks}
 use Rattle.planner_cli.specs.Outcomes.{answer_text, refusing}
-use Rattle.planner_cli.specs.Replies.{Prints, Reply}
+use Rattle.planner_cli.specs.Replies.{Prints, AnswerLines}
 use Rattle.planner_cli.specs.declared.answers.Printed.{Printed}
 use Rattle.planner_cli.specs.Rows.{AreDaysLines, IsShownText, ShowsTrial}
 
@@ -29,7 +29,7 @@ ShowsRows (ListLinks app) c (Ok reply) rows =
 ShowsRows statement c answer rows = rows ≡ []
 
 -- a statement is answered by a step of the planner's machine, and the reply prints its rows and its answer
-pub record Serves (statement : Statement) (c : Content) (reply : Reply) (c' : Content) : Type 0 where
+pub record Serves (statement : Statement) (c : Content) (reply : AnswerLines) (c' : Content) : Type 0 where
   pub answer : Answer
   pub steps : Steps statement c answer c'
   pub rows : ShowsRows statement c answer reply.rows
@@ -40,13 +40,13 @@ pub record Serves (statement : Statement) (c : Content) (reply : Reply) (c' : Co
 -- what is printed answers a trial of the change, and the content stays as it is
 abbrev pub PrintsTrial : Change → Content → Printed → Type 0
 PrintsTrial change c printed =
-    (reply : Reply) × Serves (Trial change) c reply c × Prints reply printed.text.items printed.is_accepted
+    (reply : AnswerLines) × Serves (Trial change) c reply c × Prints reply printed.text.items printed.is_accepted
 
 -- what is no statement is refused, and nothing changes
-abbrev pub AnswersAsked : Option Statement → Content → Reply → Content → Type 0
+abbrev pub AnswersAsked : Option Statement → Content → AnswerLines → Content → Type 0
 AnswersAsked None c reply c' = (reply ≡ refusing NotAStatement) × (c' ≡ c)
 AnswersAsked (Some statement) c reply c' = Serves statement c reply c'
 
 -- one step: where the content is c, the item gets this reply, and c' is left
-abbrev pub Step : Content → Item → Reply → Content → Type 0
+abbrev pub Step : Content → Item → AnswerLines → Content → Type 0
 Step c item reply c' = (asked : Option Statement) × Asks item asked × AnswersAsked asked c reply c'

@@ -1,10 +1,10 @@
 -- What a call that answers does to a store.
 use Rattle.std.specs.Prelude.{◌≡◌, ◌⊎◌, ℕ, ◌<◌, ◌≤◌, IfErr, IfOk, OnErr, OnOk, Result}
 use Rattle.planner_machine.specs.Content.{Content}
-use Rattle.planner_cli.specs.Replies.{Answered, Reply}
+use Rattle.planner_cli.specs.Replies.{Answered, AnswerLines}
 use Rattle.planner_cli.specs.declared.answers.Printed.{Printed}
 use Rattle.plan_store.specs.Faults.{MoreFailures}
-use Rattle.plan_store.specs.Stores.{Reads}
+use Rattle.plan_store.specs.Stores.{ReadsStore}
 use Rattle.plan_store.specs.declared.stores.PlanStore.{Ghosts}
 use Rattle.plan_store.specs.declared.stores.StoreFault.{StoreFault}
 use Rattle.plan_store.specs.declared.stores.StoreFault.TheVariants.{Device, Memory}
@@ -23,7 +23,7 @@ LeavesOwn g s = LeavesOnly (g.may_leave s) (g.content s)
 
 -- a store before and after it is read
 abbrev pub ReadsBy : {S T : Type 0} → Ghosts S → (before now : S) → Result T StoreFault → (T → Type 0) → Type 0
-ReadsBy g = Reads g.is_honest g.content g.failures g.may_leave g.is_clean g.is_whole
+ReadsBy g = ReadsStore g.is_honest g.content g.failures g.may_leave g.is_clean g.is_whole
 
 -- a store before and after a call, and what the call answers; of a change that it makes, what that would leave
 pub record Answering {S T : Type 0} (g : Ghosts S) (before now : S) (result : Result T StoreFault)
@@ -47,7 +47,7 @@ pub record Answering {S T : Type 0} (g : Ghosts S) (before now : S) (result : Re
 
 -- a call that answers by printing: the reply is one that this may give
 abbrev pub AnswersBy : {S : Type 0} → Ghosts S → (before now : S) → Result Printed StoreFault
-    → (Reply → Content → Type 0) → Type 0
+    → (AnswerLines → Content → Type 0) → Type 0
 AnswersBy g before now result Does =
     Answering g before now result (λ printed c. Answered Does c printed.text.items printed.is_accepted)
-    (λ c. (reply : Reply) × Does reply c)
+    (λ c. (reply : AnswerLines) × Does reply c)

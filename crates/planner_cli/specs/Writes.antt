@@ -6,7 +6,7 @@ use Rattle.plan_store.specs.declared.stores.StoreFault.{StoreFault}
 use Rattle.planner_machine.specs.Content.{Content}
 use Rattle.stream_items.specs.Items.{Item}
 use Rattle.planner_cli.specs.Faults.{store_cause}
-use Rattle.planner_cli.specs.Replies.{Answered, Reply}
+use Rattle.planner_cli.specs.Replies.{Answered, AnswerLines}
 use Rattle.planner_cli.specs.Runs.{IsFrontOf, ItemBreaks}
 use Rattle.planner_cli.specs.Steps.{Step}
 use Rattle.planner_cli.specs.Stores.{IsBlamed, LeavesOwn}
@@ -26,7 +26,7 @@ pub record AnswersItem {S : Type 0} (g : Ghosts S) (before now : S) (old new : O
   -- after a fault the old one, or that after the item
   pub settled : g.is_honest now → LeavesOwn g before → OnOk result (LeavesOwn g now)
   pub crash : g.is_honest now → LeavesOwn g before → OnErr result ((c : Content) → g.may_leave now c
-      → (c ≡ g.content before) ⊎ ((reply : Reply) × Step (g.content before) item reply c))
+      → (c ≡ g.content before) ⊎ ((reply : AnswerLines) × Step (g.content before) item reply c))
   pub blames : IfErr result (λ cause. cause ≡ Device Store → IsBlamed (g.failures before) (g.failures now))
   pub counts : g.failures before ≤ g.failures now
   pub honest : g.is_honest now → g.is_honest before

@@ -7,7 +7,7 @@ ghost use Rattle.planner_machine.specs.Content.{Content};
 ghost use Rattle.planner_machine.specs.Days.{AreBadDays, DaysRefused, ListsDays};
 ghost use Rattle.planner_machine.specs.Decision.{IsLeastRefusal};
 ghost use Rattle.planner_machine.specs.Statement.{Days as DaysStatement};
-ghost use Rattle.planner_cli.specs.Replies.{Prints, Reply as ReplyValue};
+ghost use Rattle.planner_cli.specs.Replies.{Prints, AnswerLines as ReplyValue};
 ghost use Rattle.planner_cli.specs.Steps.{Serves};
 ghost use Rattle.planner_cli.specs.Stores.{AnswersBy};
 

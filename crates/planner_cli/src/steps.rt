@@ -5,7 +5,7 @@ ghost use Rattle.planner_machine.specs.Statement.{DefineJob, Job as JobStatement
 ghost use Rattle.statements.specs.JobNumber.{IsJobNumber};
 ghost use Rattle.statements.specs.Statement.{Reads};
 ghost use Rattle.stream_items.specs.Items.{WithBlock, longest_block};
-ghost use Rattle.stream_items.specs.Pages.{block_shown, Fits};
+ghost use Rattle.stream_items.specs.Pages.{block_shown, BlockFits};
 ghost use Rattle.planner_cli.specs.Asked.{define_asked};
 ghost use Rattle.planner_cli.specs.Changes.{change_of};
 ghost use Rattle.planner_cli.specs.Steps.{Serves, Step};
@@ -58,7 +58,7 @@ pub(crate) fn answer_with_data<S: PlanStore>(
     line: &[u8],
     block: Block<'_>,
 ) -> Result<Printed, StoreFault>
-    requires fits { Fits block }
+    requires fits { BlockFits block }
     requires sound { S.is_honest store.old → IsSound (S.content store.old) }
     ensures { AnswersBy S.PlanStore store.old store.new result
         (Step (S.content store.old) (WithBlock line.now (block_shown block.entry))) }
@@ -79,7 +79,7 @@ fn answer_block<S: PlanStore>(
     block: Block<'_>,
 ) -> Result<Printed, StoreFault>
     requires reads { Reads line.now (Some statement.now) }
-    requires fits { Fits block }
+    requires fits { BlockFits block }
     requires sound { S.is_honest store.old → IsSound (S.content store.old) }
     ensures { AnswersBy S.PlanStore store.old store.new result
         (Step (S.content store.old) (WithBlock line.now (block_shown block.entry))) }
@@ -108,7 +108,7 @@ pub(crate) fn answer_define<S: PlanStore>(
     kind: Kind,
     block: Block<'_>,
 ) -> Result<Printed, StoreFault>
-    requires fits { Fits block }
+    requires fits { BlockFits block }
     requires numbered { IsJobNumber number }
     requires sound { S.is_honest store.old → IsSound (S.content store.old) }
     ensures { AnswersBy S.PlanStore store.old store.new result

@@ -9,7 +9,7 @@ use Rattle.table_facts.proofs.Decoded.{int_in, nat_in}
 use Rattle.table_definitions.specs.CycleParts.{IsPartRow, IsReadPart, IsSoundPart, offset_tail}
 use Rattle.table_definitions.specs.DraftedCycles.{told_values}
 use Rattle.table_definitions.specs.Gathering.{Alike, Joins}
-use Rattle.table_definitions.specs.Placed.{AreInOrder, ByPlace, IsListed, IsPlaced}
+use Rattle.table_definitions.specs.Placed.{HoldsPlaces, ByPlace, IsRowOfList, IsPlaced}
 use Rattle.table_definitions.specs.declared.cycle_parts.CyclePart.{CyclePart}
 use Rattle.table_definitions.specs.declared.told_cycles.ToldCycle.{ToldCycle}
 use Rattle.table_definitions.proofs.PlaceLemmas.{listed_in_order}
@@ -66,12 +66,12 @@ nine_told name d v long (inl is) = is
 nine_told name d v long (inr (place, k, at, is)) = absurd (apart v long (three name place k v is))
 
 pub other_listed : (name : List ℕ) (d : CyclePart) (v : Values) → (length v ≡ 9 → ⊥) → IsPartRow name d v
-    → IsListed (offset_tail name) d.offsets v
+    → IsRowOfList (offset_tail name) d.offsets v
 other_listed name d v other (inl is) = absurd (other (nine name d.told v is))
 other_listed name d v other (inr is) = is
 
 pub placed_listed : (name : List ℕ) (d : CyclePart) (m : ByPlace ℤ) (v : Values) → IsPlaced (offset_tail name) m v
-    → IsPartRow name d v → IsListed (offset_tail name) d.offsets v
+    → IsPartRow name d v → IsRowOfList (offset_tail name) d.offsets v
 placed_listed name d m v (place, k, at, is) has = other_listed name d v (λ long. apart v long (three name place k v is))
     has
 
@@ -93,19 +93,19 @@ module _ (name : List ℕ) (row : Values) (m : ByPlace ℤ) (d : CyclePart)
         d.told) is))
   ]
 
-  offsets_alike : Alike (IsListed (offset_tail name) d.offsets) (IsPlaced (offset_tail name) m)
+  offsets_alike : Alike (IsRowOfList (offset_tail name) d.offsets) (IsPlaced (offset_tail name) m)
   offsets_alike v = (to, from)
     where
-      to : IsListed (offset_tail name) d.offsets v → IsPlaced (offset_tail name) m v
+      to : IsRowOfList (offset_tail name) d.offsets v → IsPlaced (offset_tail name) m v
       to (place, k, at, is) = elim ((alike v).0 (inr (place, k, at, is))) [
         | inl (it, long, named) ↦ absurd (apart v (ap length it ∙ long) (three name place k v is))
         | inr placed ↦ placed
       ]
 
-      from : IsPlaced (offset_tail name) m v → IsListed (offset_tail name) d.offsets v
+      from : IsPlaced (offset_tail name) m v → IsRowOfList (offset_tail name) d.offsets v
       from placed = placed_listed name d m v placed ((alike v).1 (inr placed))
 
-  pub offsets_in_order : AreInOrder d.offsets m
+  pub offsets_in_order : HoldsPlaces d.offsets m
   offsets_in_order = listed_in_order (offset_tail name) (offset_back name) d.offsets m offsets_alike
 
 -- an offset of a sound run cycle

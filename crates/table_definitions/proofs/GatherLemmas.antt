@@ -19,7 +19,7 @@ use Rattle.definition_records.proofs.ByNameLemmas.{same_name}
 use Rattle.table_facts.specs.Content.{AreEach, ByName, IsOfSome}
 use Rattle.table_facts.proofs.Decoded.{text_in}
 use Rattle.table_definitions.specs.Adding.{IsOfName}
-use Rattle.table_definitions.specs.Gathering.{Alike, AreRead, AreSound, CanFinish, IsMade, Joins, Paired, Within}
+use Rattle.table_definitions.specs.Gathering.{Alike, AreRead, AreSound, CanFinish, IsGathered, Joins, Paired, Within}
 use Rattle.table_definitions.specs.Storing.{AreRowsOf}
 use Rattle.table_definitions.proofs.AddLemmas.{get_at}
 
@@ -228,7 +228,7 @@ module _ {X D : Type 0} (IsRow : List ℕ → D → Values → Type 0) (IsRead :
 
   -- where the entries are those of the maps
   module _ (IsTold : D → Type 0) (es : List (List ℕ × X)) (fs : List (List ℕ × D)) (drafts : ByName X)
-      (made : ByName D) (paired : Paired (IsMade IsRow IsRead IsTold) es fs) (of_drafts : AreEntriesOf es drafts)
+      (made : ByName D) (paired : Paired (IsGathered IsRow IsRead IsTold) es fs) (of_drafts : AreEntriesOf es drafts)
       (of_made : AreEntriesOf fs made) where
     got_draft : (q : List ℕ) → map.get drafts q ≡ lookup (pointwise nat_eq q) es
     got_draft q = ap (λ m. map.get m q) (sym of_drafts.are) ∙ get-view_of es q
@@ -237,7 +237,7 @@ module _ {X D : Type 0} (IsRow : List ℕ → D → Values → Type 0) (IsRead :
     got_made q = ap (λ m. map.get m q) (sym of_made.are) ∙ get-view_of fs q
 
     abbrev Rel : List ℕ → X → D → Type 0
-    Rel = IsMade IsRow IsRead IsTold
+    Rel = IsGathered IsRow IsRead IsTold
 
     pub made_alike : Alike (IsOfSome IsRow made) (IsOfSome IsRead drafts)
     made_alike v = (

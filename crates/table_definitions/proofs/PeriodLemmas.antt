@@ -14,7 +14,7 @@ use Rattle.table_facts.proofs.Decoded.{nat_back, nat_in, or_nat, text_in}
 use Rattle.table_definitions.specs.DraftedPeriods.{AreOfDays, IsReadable, IsSoundPeriodOfDays, LetteredEntry}
 use Rattle.table_definitions.specs.DraftedPeriods.{entries_of, lettered_values, listed_entry}
 use Rattle.table_definitions.specs.Gathering.{Alike}
-use Rattle.table_definitions.specs.Placed.{AreInOrder, ByPlace, IsListed, IsPlaced}
+use Rattle.table_definitions.specs.Placed.{HoldsPlaces, ByPlace, IsRowOfList, IsPlaced}
 use Rattle.table_definitions.proofs.PlaceLemmas.{in_order_listed, listed_in_order, some_is}
 
 abbrev first_letter : List ℕ → ℕ
@@ -48,7 +48,7 @@ only_one e zero x at = (refl, some_is e x at)
 only_one e (suc place) x at = absurd (let h : ⊥ = cc in h)
 
 one_row : (name : List ℕ) (e : LetteredEntry)
-    → Alike (λ v. v ≡ lettered_values name 0 e) (IsListed (lettered_values name) (e ∷ []))
+    → Alike (λ v. v ≡ lettered_values name 0 e) (IsRowOfList (lettered_values name) (e ∷ []))
 one_row name e v = (
   λ is. (0, e, refl, is),
   λ (place, x, at, is). let (first, same) = only_one e place x at in
@@ -56,7 +56,7 @@ one_row name e v = (
 )
 
 pub period_listed : (name : List ℕ) (p : Period)
-    → Alike (IsPeriodRow name p) (IsListed (lettered_values name) (entries_of p))
+    → Alike (IsPeriodRow name p) (IsRowOfList (lettered_values name) (entries_of p))
 period_listed name (period.All origin interval) = one_row name (byte "A", origin, Some interval)
 period_listed name (period.Work origin interval) = one_row name (byte "W", origin, Some interval)
 period_listed name (period.Listed entries) = λ v. (
@@ -167,14 +167,14 @@ back : {P Q : Values → Type 0} → Alike P Q → Alike Q P
 back alike v = ((alike v).1, (alike v).0)
 
 pub period_alike : (name : List ℕ) (p : Period) (m : ByPlace LetteredEntry) (entries : List LetteredEntry)
-    → entries_of p ≡ entries → AreInOrder entries m → Alike (IsPeriodRow name p) (IsPlaced (lettered_values name) m)
-period_alike name p m entries same order = through {Q = IsListed (lettered_values name) (entries_of p)}
+    → entries_of p ≡ entries → HoldsPlaces entries m → Alike (IsPeriodRow name p) (IsPlaced (lettered_values name) m)
+period_alike name p m entries same order = through {Q = IsRowOfList (lettered_values name) (entries_of p)}
     (period_listed name p)
     (in_order_listed (lettered_values name) (lettered_back name) (entries_of p) m
-    (subst (λ l. AreInOrder l m) (sym same) order))
+    (subst (λ l. HoldsPlaces l m) (sym same) order))
 
 pub period_in_order : (name : List ℕ) (p : Period) (m : ByPlace LetteredEntry)
-    → Alike (IsPeriodRow name p) (IsPlaced (lettered_values name) m) → AreInOrder (entries_of p) m
+    → Alike (IsPeriodRow name p) (IsPlaced (lettered_values name) m) → HoldsPlaces (entries_of p) m
 period_in_order name p m alike = listed_in_order (lettered_values name) (lettered_back name) (entries_of p) m
     (through {Q = IsPeriodRow name p} (back {P = IsPeriodRow name p} (period_listed name p)) alike)
 

@@ -11,7 +11,7 @@ use Rattle.std.proofs.lemmas.Bool.{cases_eq, cases_lt, eq-eqb, false≢true, ne_
 use Rattle.std.proofs.lemmas.Option.{slice_get_past, slice_get_within}
 use Rattle.sqlite.specs.Order.{Row as Values}
 use Rattle.table_definitions.specs.Gathering.{Alike, Joins}
-use Rattle.table_definitions.specs.Placed.{AreInOrder, ByPlace, EndsAt, IsListed, IsPlaced}
+use Rattle.table_definitions.specs.Placed.{HoldsPlaces, ByPlace, EndsAt, IsRowOfList, IsPlaced}
 
 pub some_is : {X : Type 0} (a b : X) → Some a ≡ Some b → a ≡ b
 some_is a b e = cc
@@ -101,7 +101,7 @@ module _ {X : Type 0} where
   not_there None none = refl
   not_there (Some x) none = absurd (none x refl)
 
-  pub first_all : (xs : List X) (n : ℕ) (m : ByPlace X) → AreFirst xs n m → EndsAt m n → AreInOrder xs m
+  pub first_all : (xs : List X) (n : ℕ) (m : ByPlace X) → AreFirst xs n m → EndsAt m n → HoldsPlaces xs m
   first_all xs n m h ends k = elim (cases_lt k n) [
     | inl less ↦ h.first k less
     | inr past ↦ slice_get_past xs k (subst (λ l. l ≤ k) (sym h.long) past)
@@ -118,7 +118,7 @@ module _ {X : Type 0} where
   within (x ∷ xs) (suc k) less = within xs k (omega (arith, less))
 
   -- no place is left out below the end
-  pub none_left_out : (xs : List X) (end : ℕ) (m : ByPlace X) (place : ℕ) → EndsAt m end → AreInOrder xs m
+  pub none_left_out : (xs : List X) (end : ℕ) (m : ByPlace X) (place : ℕ) → EndsAt m end → HoldsPlaces xs m
       → place < end → map.get m place ≡ None → ⊥
   none_left_out xs zero m place ends order less none = absurd (omega (arith, less))
   none_left_out xs (suc end) m place ends order less none =
@@ -161,21 +161,21 @@ module _ {X : Type 0} (values_of : ℕ → X → Values)
     ],
   )
 
-  pub listed_at : (xs : List X) (k : ℕ) (x : X) → IsListed values_of xs (values_of k x) → slice_get xs k ≡ Some x
+  pub listed_at : (xs : List X) (k : ℕ) (x : X) → IsRowOfList values_of xs (values_of k x) → slice_get xs k ≡ Some x
   listed_at xs k x (q, y, at, is) = let (same, it) = back k q x y is in
       ap (slice_get xs) same ∙ at ∙ ap Some (sym it)
 
   pub placed_at : (m : ByPlace X) (k : ℕ) (x : X) → IsPlaced values_of m (values_of k x) → map.get m k ≡ Some x
   placed_at m k x (q, y, at, is) = let (same, it) = back k q x y is in ap (map.get m) same ∙ at ∙ ap Some (sym it)
 
-  pub listed_in_order : (xs : List X) (m : ByPlace X) → Alike (IsListed values_of xs) (IsPlaced values_of m)
-      → AreInOrder xs m
+  pub listed_in_order : (xs : List X) (m : ByPlace X) → Alike (IsRowOfList values_of xs) (IsPlaced values_of m)
+      → HoldsPlaces xs m
   listed_in_order xs m alike k = same_option (slice_get xs k) (map.get m k)
       (λ x at. placed_at m k x ((alike (values_of k x)).0 (k, x, at, refl)))
       (λ x at. listed_at xs k x ((alike (values_of k x)).1 (k, x, at, refl)))
 
-  pub in_order_listed : (xs : List X) (m : ByPlace X) → AreInOrder xs m
-      → Alike (IsListed values_of xs) (IsPlaced values_of m)
+  pub in_order_listed : (xs : List X) (m : ByPlace X) → HoldsPlaces xs m
+      → Alike (IsRowOfList values_of xs) (IsPlaced values_of m)
   in_order_listed xs m order v = (
     λ (k, x, at, is). (k, x, sym (order k) ∙ at, is),
     λ (k, x, at, is). (k, x, order k ∙ at, is),
@@ -183,7 +183,7 @@ module _ {X : Type 0} (values_of : ℕ → X → Values)
 
   -- of one place there is one row
   pub one_at : (xs : List X) (m : ByPlace X) (k : ℕ) (x y : X) → map.get m k ≡ Some y
-      → IsListed values_of xs (values_of k x)
-      → ((v : Values) → IsPlaced values_of m v → IsListed values_of xs v) → y ≡ x
+      → IsRowOfList values_of xs (values_of k x)
+      → ((v : Values) → IsPlaced values_of m v → IsRowOfList values_of xs v) → y ≡ x
   one_at xs m k x y at is all = some_is y x (sym (listed_at xs k y (all (values_of k y) (k, y, at, refl)))
       ∙ listed_at xs k x is)

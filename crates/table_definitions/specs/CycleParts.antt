@@ -7,7 +7,7 @@ use Rattle.work_calendars.specs.Name.{IsShort}
 use Rattle.run_cycles.specs.Offset.{IsOffsets}
 use Rattle.table_facts.specs.Facts.{natural}
 use Rattle.table_definitions.specs.DraftedCycles.{IsReadableCycle, told_values}
-use Rattle.table_definitions.specs.Placed.{ByPlace, IsListed, IsPlaced}
+use Rattle.table_definitions.specs.Placed.{ByPlace, IsRowOfList, IsPlaced}
 use Rattle.table_definitions.specs.declared.cycle_parts.CyclePart.{CyclePart}
 
 abbrev pub offset_tail : List ℕ → ℕ → ℤ → Values
@@ -15,7 +15,7 @@ offset_tail name place k = Text name ∷ natural place ∷ Int k ∷ []
 
 -- its own row, or one of an offset
 abbrev pub IsPartRow : List ℕ → CyclePart → Values → Type 0
-IsPartRow name part values = (values ≡ told_values name part.told) ⊎ IsListed (offset_tail name) part.offsets values
+IsPartRow name part values = (values ≡ told_values name part.told) ⊎ IsRowOfList (offset_tail name) part.offsets values
 
 -- the row that was kept, where it is one of a run cycle of the name
 abbrev pub IsReadRow : List ℕ → Values → Values → Type 0

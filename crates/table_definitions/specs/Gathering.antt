@@ -41,7 +41,7 @@ abbrev pub IsFinish : {X D : Type 0} → (List ℕ → D → Values → Type 0) 
 IsFinish IsRow IsRead name x d = Alike (IsRow name d) (IsRead name x)
 
 -- and once a row was read, its rows tell it
-pub record IsMade {X D : Type 0} (IsRow : List ℕ → D → Values → Type 0) (IsRead : List ℕ → X → Values → Type 0)
+pub record IsGathered {X D : Type 0} (IsRow : List ℕ → D → Values → Type 0) (IsRead : List ℕ → X → Values → Type 0)
     (IsTold : D → Type 0) (name : List ℕ) (x : X) (d : D) : Type 0 where
   pub alike : Alike (IsRow name d) (IsRead name x)
   pub told : (values : Values) → IsRead name x values → IsTold d

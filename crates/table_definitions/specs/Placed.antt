@@ -13,8 +13,8 @@ pub record EndsAt {X : Type 0} (by_place : ByPlace X) (end : ℕ) : Type 0 where
   pub last : (place : ℕ) → end ≡ place + 1 → IsSome (map.get by_place place)
 
 -- the list has at each place what stands there
-abbrev pub AreInOrder : {X : Type 0} → List X → ByPlace X → Type 0
-AreInOrder xs by_place = (place : ℕ) → slice_get xs place ≡ map.get by_place place
+abbrev pub HoldsPlaces : {X : Type 0} → List X → ByPlace X → Type 0
+HoldsPlaces xs by_place = (place : ℕ) → slice_get xs place ≡ map.get by_place place
 
 -- the row of what stands at one of the places
 abbrev pub IsPlaced : {X : Type 0} → (ℕ → X → Values) → ByPlace X → Values → Type 0
@@ -22,6 +22,6 @@ IsPlaced {X} values_of by_place values =
     (place : ℕ) × (x : X) × (map.get by_place place ≡ Some x) × (values ≡ values_of place x)
 
 -- the row of what stands at some place of the list
-abbrev pub IsListed : {X : Type 0} → (ℕ → X → Values) → List X → Values → Type 0
-IsListed {X} values_of xs values =
+abbrev pub IsRowOfList : {X : Type 0} → (ℕ → X → Values) → List X → Values → Type 0
+IsRowOfList {X} values_of xs values =
     (place : ℕ) × (x : X) × (slice_get xs place ≡ Some x) × (values ≡ values_of place x)

@@ -10,7 +10,7 @@ ghost use Rattle.table_definitions.specs.CycleParts.{part_named, read_part_named
 ghost use Rattle.table_definitions.specs.DraftedCycles.{IsReadableCycle, told_values};
 ghost use Rattle.table_definitions.specs.declared.told_cycles.ToldCycle.{ToldCycle as ToldValue};
 ghost use Rattle.table_definitions.specs.Gathering.{Joins, Within};
-ghost use Rattle.table_definitions.specs.Placed.{IsListed, IsPlaced};
+ghost use Rattle.table_definitions.specs.Placed.{IsRowOfList, IsPlaced};
 
 use crate::columns::{integer_at, number_at};
 use crate::gathering::Draft;
@@ -54,8 +54,8 @@ fn list_offset(offsets: &mut Places<i16>, place: usize, k: i16) -> Result<bool, 
         → Joins (IsPlaced (offset_tail name) offsets.old)
         (offset_tail name place k) (IsPlaced (offset_tail name) offsets.new)) }
     ensures refused { IfOk result (λ b. (d : List ℤ) (name : List ℕ)
-        → IsListed (offset_tail name) d (offset_tail name place k)
-        → Within (IsPlaced (offset_tail name) offsets.old) (IsListed (offset_tail name) d)
+        → IsRowOfList (offset_tail name) d (offset_tail name place k)
+        → Within (IsPlaced (offset_tail name) offsets.old) (IsRowOfList (offset_tail name) d)
         → IsTrue b) }
 {
     match offsets.get(place) {

@@ -6,7 +6,7 @@ ghost use Rattle.sqlite.specs.Order.{Row as Values, column};
 ghost use Rattle.sqlite.specs.declared.types.Value.TheVariants.{Text};
 ghost use Rattle.table_facts.specs.Content.{AreEach, ByName as Defined, IsOfSome};
 ghost use Rattle.table_definitions.specs.Adding.{IsOfName};
-ghost use Rattle.table_definitions.specs.Gathering.{Alike, AreRead, AreSound, CanFinish, IsFinish, IsMade, Joins};
+ghost use Rattle.table_definitions.specs.Gathering.{Alike, AreRead, AreSound, CanFinish, IsFinish, IsGathered, Joins};
 ghost use Rattle.table_definitions.specs.Gathering.{Paired, Within};
 ghost use Rattle.table_definitions.specs.Storing.{AreRowsOf};
 
@@ -123,7 +123,7 @@ fn finish_each<D: Draft>(
     drafts: &[(Name, D)],
 ) -> Result<Option<Vec<(Name, D::Of)>>, AllocError>
     ensures made { IfOk result (λ found. IfSome found
-        (λ entries. Paired (λ name x d. IsMade D.IsRow D.IsRead D.IsTold name x d)
+        (λ entries. Paired (λ name x d. IsGathered D.IsRow D.IsRead D.IsTold name x d)
         drafts.now entries.items)) }
     ensures found { IfOk result (λ found. All (CanFinish D.IsRow D.IsRead D.IsSound) drafts.now
         → IsSome found) }

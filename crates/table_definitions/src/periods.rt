@@ -16,7 +16,7 @@ ghost use Rattle.table_definitions.specs.DraftedPeriods.{entries_of, entry_named
 ghost use Rattle.table_definitions.specs.DraftedPeriods.{period_named};
 ghost use Rattle.table_definitions.specs.Gathering.{AreSound, Joins, Within};
 ghost use Rattle.table_definitions.specs.Parts.{IsListedRow};
-ghost use Rattle.table_definitions.specs.Placed.{IsListed, IsPlaced};
+ghost use Rattle.table_definitions.specs.Placed.{IsRowOfList, IsPlaced};
 ghost use Rattle.table_definitions.specs.Storing.{AreRowsOf};
 
 use crate::cells::{number, optional_day, optional_number, row_of};
@@ -188,9 +188,9 @@ fn list_entry(
         → Joins (IsPlaced (lettered_values name) entries.old)
         (lettered_values name place entry) (IsPlaced (lettered_values name) entries.new)) }
     ensures refused { IfOk result (λ b. (d : PeriodValue) (name : List ℕ)
-        → IsListed (lettered_values name) (entries_of d) (lettered_values name place entry)
+        → IsRowOfList (lettered_values name) (entries_of d) (lettered_values name place entry)
         → Within (IsPlaced (lettered_values name) entries.old)
-        (IsListed (lettered_values name) (entries_of d))
+        (IsRowOfList (lettered_values name) (entries_of d))
         → IsTrue b) }
 {
     match entries.get(place) {

@@ -2,7 +2,7 @@
 
 ghost use Rattle.std.specs.Prelude.{◌≡◌, ◌<◌, ◌≤◌, ◌+◌, ◌^◌, ◌⊎◌, ℕ, List, OnOk, IfOk, IfSome, IsSome};
 ghost use Rattle.std.specs.FinMap as map;
-ghost use Rattle.table_definitions.specs.Placed.{AreInOrder};
+ghost use Rattle.table_definitions.specs.Placed.{HoldsPlaces};
 
 use std::alloc::{AllocError, Global};
 use std::collections::BTreeMap;
@@ -74,8 +74,8 @@ impl<X> Places<X> {
     pub(crate) fn listed(&self, alloc: Global) -> Result<Option<Vec<X>>, AllocError>
     where
         X: Copy,
-        ensures made { IfOk result (λ found. IfSome found (λ xs. AreInOrder xs.items self.now)) }
-        ensures found { IfOk result (λ found. (xs : List X) → AreInOrder xs self.now
+        ensures made { IfOk result (λ found. IfSome found (λ xs. HoldsPlaces xs.items self.now)) }
+        ensures found { IfOk result (λ found. (xs : List X) → HoldsPlaces xs self.now
             → IsSome found) }
     {
         let mut xs = Vec::new(alloc);

@@ -26,7 +26,7 @@ use Rattle.table_definitions.specs.Defined.{AreSoundDefinitions}
 use Rattle.table_definitions.specs.DraftedCycles.{IsDeadline}
 use Rattle.table_definitions.specs.DraftedPeriods.{IsOfDays}
 use Rattle.table_definitions.specs.WholeCycles.{IsSoundCycle}
-use Rattle.definition_soundness.specs.Values.{HasDays, HasDeadline, IsCycleValue, IsDeadlineValue, IsEntryValue}
+use Rattle.definition_soundness.specs.Values.{HasDaysInRange, HasDeadline, IsCycleValue, IsDeadlineValue, IsEntryValue}
 use Rattle.definition_soundness.proofs.CalendarRecords.{calendar_value}
 use Rattle.definition_soundness.proofs.CycleRecords.{cycles_value}
 use Rattle.definition_soundness.proofs.DefinedLemmas.{calendar_days, calendar_week, cycles_rise, made_of, period_sound}
@@ -34,7 +34,7 @@ use Rattle.definition_soundness.proofs.GivenLemmas.{definable_from}
 use Rattle.definition_soundness.proofs.PeriodRecords.{period_value, short_named}
 use Rattle.definition_soundness.proofs.SimpleLemmas.{application_value, predecessors_value}
 
-days_of : (p : Period) → HasDays p → IsOfDays p
+days_of : (p : Period) → HasDaysInRange p → IsOfDays p
 days_of (AllDays origin interval) days = days
 days_of (Work origin interval) days = days
 days_of (Listed entries) days = λ place e at.

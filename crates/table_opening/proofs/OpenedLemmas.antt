@@ -3,6 +3,7 @@ use Rattle.std.proofs.Common.{◌≡◌, ◌⊎◌, ◌∙◌, ◌≤◌, true, 
 use Rattle.std.proofs.Common.{Result, Ok, Err, None}
 use Rattle.std.specs.Prelude.{IfErr, IfOk, OnOk}
 use Rattle.sqlite.specs.Effect.{Database}
+use Rattle.sqlite.specs.Store.{Ghosts}
 use Rattle.sqlite.specs.State.{HasCleanDisk, IsLive, IsUnchanged, State, Survives}
 use Rattle.sqlite.specs.declared.error.Error.{Error}
 use Rattle.sqlite_trees.specs.declared.error.StoreError.TheVariants as store
@@ -11,17 +12,19 @@ use Rattle.app_definitions.specs.Options.{default_options}
 use Rattle.planner_machine.specs.Content.{Content, nothing_known}
 use Rattle.planner_machine.specs.Sound.{IsSound}
 use Rattle.sqlite_trees.specs.Objects.{catalog_tree}
-use Rattle.table_schema.specs.Made.{IsMadeWhole}
+use Rattle.table_schema.specs.Made.{IsMadeWhole, IsReady}
 use Rattle.table_schema.specs.Rows.{MayFail, Stands, Tables, tables_of, with_cells}
 use Rattle.table_schema.specs.declared.tables.Table.TheVariants as table
 use Rattle.table_facts.specs.Content.{IsContentOf, meta_values}
 use Rattle.table_schema.specs.Schema.{HasOwnIndexes}
 use Rattle.table_schema.proofs.MadeLemmas.{own_indexes}
-use Rattle.table_schema.proofs.MakingLemmas.{others_kept}
+use Rattle.table_schema.proofs.InTurn.{may_fail}
+use Rattle.table_schema.proofs.MakingLemmas.{begins_ready, others_kept}
 use Rattle.table_schema.proofs.NamedLemmas.{tells}
+use Rattle.table_schema.proofs.OnceLemmas.{IsOnce}
 use Rattle.table_schema.proofs.StatementLemmas.{plan_still}
 use Rattle.table_reading.specs.Reading.{HasPlan, Looks}
-use Rattle.table_opening.specs.First.{IsBeside, IsMadeFirst, first_rows}
+use Rattle.table_opening.specs.First.{IsBeside, IsMadeFirst, IsNewPlan, first_rows}
 use Rattle.table_opening.specs.Held.{HasVersion, HoldsPlan}
 use Rattle.table_opening.specs.Opened.{HasRoom, IsCaused, IsStored, IsToldBy, IsUnmade, MakesFirst}
 use Rattle.table_opening.specs.Opening.{IsOpened, IsUnopened}
@@ -55,7 +58,7 @@ first_told all c rows is =
     subst (IsContentOf all) (sym is) (subst (λ (a : Tables). IsContentOf a nothing_known) (sym rows) first_content)
 
 -- what the transaction that makes them commits
-pub makes_of : (old mid : State) → HasRoom old → IsMadeFirst old.now mid → MakesFirst old mid.now.trees
+makes_of : (old mid : State) → HasRoom old → IsMadeFirst old.now mid → MakesFirst old mid.now.trees
 makes_of old mid room is = record {
   room = room;
   schema = mid.now.schema;
@@ -70,9 +73,19 @@ pub makes_first : (old new : State) → HasRoom old → Survives old new (λ db.
     → Survives old new (MakesFirst old)
 makes_first old new room = survives_weaker old new _ _ (λ clean db made. made room)
 
-pub makes_once : (old new : State) → Survives old new (λ db. HasRoom old → HasRoom old → MakesFirst old db)
-    → Survives old new (λ db. HasRoom old → MakesFirst old db)
-makes_once old new = survives_weaker old new _ _ (λ clean db made room. made room room)
+-- in one transaction
+pub first_once : {S : Type 0} (g : Ghosts S) → IsOnce g IsReady IsMadeFirst (λ _. MayFail) HasRoom IsNewPlan MakesFirst
+first_once g = record {
+  starts = begins_ready g;
+  cause = λ base. may_fail;
+  mode = λ base s made. made.mode;
+  leaves = λ old mid new room made is. record {
+    beside = subst (IsBeside old.now) (sym is) made.beside;
+    plan = plan_still mid new is made.plan;
+    rows_are = ap (λ (db : Database). tables_of db.trees) is ∙ made.rows_are;
+  };
+  left = makes_of;
+}
 
 -- the first row makes the tables of which nothing is known
 pub made_first : {A E : Type 0} (r : Result A E) (base : Database) (old new : State) → IsMadeWhole base old

@@ -7,7 +7,7 @@ use Rattle.sqlite_resolve.specs.Compile.{first}
 use Rattle.sqlite_resolve.specs.Scope.{is_rowid}
 use Rattle.sqlite_typing.specs.Types.{are_typed, row_classes}
 use Rattle.sqlite_tied.specs.Compute.{everything}
-use Rattle.table_schema.specs.Places.{StandsAt}
+use Rattle.table_schema.specs.Places.{TableStandsAt}
 use Rattle.table_schema.specs.Schema.{name, table_at}
 use Rattle.table_schema.specs.declared.tables.Table.{Table}
 use Rattle.table_schema.specs.declared.tables.Table.TheVariants.{Meta, CalendarEntry, Period, Application}
@@ -72,7 +72,7 @@ is_word : is_rowid rowid_word ≡ true
 unfolding everything
 is_word = refl
 
-pub rowids : (schema : Schema) (tree at : ℕ) (t : Table) → StandsAt schema (table_at tree t) at → ShowsRows schema (rowid_sql t) tree rowid_terms (rowid_name t ∷ [])
+pub rowids : (schema : Schema) (tree at : ℕ) (t : Table) → TableStandsAt schema (table_at tree t) at → ShowsRows schema (rowid_sql t) tree rowid_terms (rowid_name t ∷ [])
 rowids schema tree at t it =
     let fits = rowid_fits tree t in
     subst (λ n. ShowsRows schema (rowid_sql t) tree rowid_terms (n ∷ [])) fits.1

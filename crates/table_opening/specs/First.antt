@@ -26,3 +26,9 @@ pub record IsMadeFirst (base : Database) (s : State) : Type 0 where
   pub rows_are : tables_of s.now.trees ≡ first_rows
   pub obeys : IsDatabase s.now
   pub mode : IsTrue s.in_transaction
+
+-- and so they stand once that transaction ended
+pub record IsNewPlan (old new : State) : Type 0 where
+  pub beside : IsBeside old.now new.now
+  pub plan : IsPlan new
+  pub rows_are : tables_of new.now.trees ≡ first_rows

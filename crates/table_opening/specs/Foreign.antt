@@ -9,9 +9,9 @@ use Rattle.table_opening.specs.Held.{AreKnown}
 use Rattle.table_opening.specs.declared.faults.OpenFault.{OpenFault}
 use Rattle.table_opening.specs.declared.faults.OpenFault.TheVariants.{Memory, Device, Unopened, Rows, Tables as OtherTables}
 
--- shows the version of a plan
+-- shows the version of a plan, whatever else the table has: in the second column, where a row of the table has it
 abbrev pub version_sql : List ℕ
-version_sql = codes "SELECT id, version FROM plan_meta"
+version_sql = codes "SELECT version, version FROM plan_meta"
 
 -- it refuses to show what the text asks for, neither for want of memory nor for the device
 abbrev pub RefusesToShow : List ℕ → State → State → Type 0

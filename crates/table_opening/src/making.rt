@@ -1,14 +1,11 @@
 // A database gets the tables of a plan.
 
-ghost use Rattle.std.specs.Prelude.{◌≡◌, false, IfErr, OnOk, IsTrue};
-ghost use Rattle.sqlite.specs.State.{HasCleanDisk, Survives};
-ghost use Rattle.sqlite.specs.Held.{state};
-ghost use Rattle.table_schema.specs.Free.{IsFree};
+ghost use Rattle.std.specs.Prelude.{◌≡◌, false};
 ghost use Rattle.table_schema.specs.Made.{IsMadeWhole, IsReady};
-ghost use Rattle.table_schema.specs.Rows.{IsPlan, MayFail, tables_of};
-ghost use Rattle.table_schema.specs.Writes.{Makes};
-ghost use Rattle.table_opening.specs.First.{IsBeside, IsMadeFirst, first_rows};
-ghost use Rattle.table_opening.specs.Opened.{MakesFirst};
+ghost use Rattle.table_schema.specs.Rows.{MayFail};
+ghost use Rattle.table_schema.specs.Writes.{Commits, Makes};
+ghost use Rattle.table_opening.specs.First.{IsMadeFirst, IsNewPlan};
+ghost use Rattle.table_opening.specs.Opened.{HasRoom, MakesFirst};
 
 use app_definitions::MAX_EXTENSION_HOURS;
 use sqlite::types::ValueRef;
@@ -49,24 +46,10 @@ fn make_inside<S: Alter>(tx: &mut Transaction<'_, S>) -> Result<(), Error>
 /// limit on steps.
 pub(crate) fn make_first<S: Alter>(conn: &mut Connection<S>) -> Result<(), Error>
     requires { conn.old.in_transaction ≡ false }
-    ensures done { HasCleanDisk (state S.Store conn.new)
-        → IsFree (state S.Store conn.old).now.schema
-        → OnOk result (IsPlan (state S.Store conn.new)
-        × (tables_of (state S.Store conn.new).now.trees ≡ first_rows)) }
-    ensures beside { HasCleanDisk (state S.Store conn.new)
-        → IsFree (state S.Store conn.old).now.schema
-        → OnOk result (IsBeside (state S.Store conn.old).now (state S.Store conn.new).now) }
-    ensures fails { HasCleanDisk (state S.Store conn.new)
-        → IsFree (state S.Store conn.old).now.schema
-        → IfErr result (MayFail (state S.Store conn.old) (state S.Store conn.new)) }
-    ensures committed { HasCleanDisk (state S.Store conn.new)
-        → OnOk result ((state S.Store conn.new).committed ≡ (state S.Store conn.new).now) }
-    ensures ended { conn.new.in_transaction ≡ false }
-    ensures stays_open { HasCleanDisk (state S.Store conn.new)
-        → OnOk result (IsTrue (state S.Store conn.new).is_open) }
-    ensures crash { Survives (state S.Store conn.old) (state S.Store conn.new)
-        (λ db. IsFree (state S.Store conn.old).now.schema → MakesFirst (state S.Store conn.old) db) }
+    ensures { Commits S.Store conn.old conn.new result HasRoom IsNewPlan MayFail MakesFirst }
 {
+    let settled = conn.is_autocommit();
+    prove!(settled);
     let mut tx = conn.transaction();
     make_inside(&mut tx)?;
     tx.commit()?;

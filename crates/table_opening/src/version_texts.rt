@@ -3,9 +3,10 @@
 ghost use Rattle.std.specs.Prelude.{◌≡◌};
 ghost use Rattle.table_opening.specs.Foreign.{version_sql};
 
-/// The text that asks for the version of a plan.
+/// The text that asks for the version of a plan, and for nothing else: it is shown in the second column too, as in a row
+/// of the table.
 pub fn version_text() -> &'static str
     ensures { result.now ≡ version_sql }
 {
-    "SELECT id, version FROM plan_meta"
+    "SELECT version, version FROM plan_meta"
 }

@@ -14,11 +14,11 @@ use Rattle.plan_store.specs.declared.changes.Moves.{Moves}
 use Rattle.plan_store.proofs.FitLemmas.{fits_put}
 use Rattle.plan_store.proofs.LookLemmas.{look_some, look_at}
 use Rattle.table_reading.specs.Lists.{HasRows, HoldsEach, Puts, PutsRows}
-use Rattle.table_reading.specs.Order.{AreInOrder}
+use Rattle.table_reading.specs.Order.{NumbersRise}
 use Rattle.table_reading.specs.declared.lists.PlanRows.{PlanRows}
 
 module _ {X : Type 0} (number_of : X → ℕ) where
-  pub one_each : (xs : List X) → AreInOrder number_of xs → OneEach number_of xs
+  pub one_each : (xs : List X) → NumbersRise number_of xs → OneEach number_of xs
   one_each xs rise x y (i, lt_i, at_i) (j, lt_j, at_j) same =
       let at_j' : get_or xs j x ≡ y = get_or_default xs j x y lt_j ∙ at_j in
       let alike : number_of (get_or xs i x) ≡ number_of (get_or xs j x) = ap number_of at_i ∙ same
@@ -29,7 +29,7 @@ module _ {X : Type 0} (number_of : X → ℕ) where
         | inr (inr above) ↦ absurd (omega (arith, rise j i x above lt_i, alike))
       ]
 
-  pub holds_each : (xs : List X) → AreInOrder number_of xs → HoldsEach number_of xs (look_up number_of xs)
+  pub holds_each : (xs : List X) → NumbersRise number_of xs → HoldsEach number_of xs (look_up number_of xs)
   holds_each xs rise n x = (
     (λ is. look_some number_of xs n x is),
     λ there. look_at number_of xs (one_each xs rise) x n there.0 there.1,
@@ -39,15 +39,15 @@ module _ {X : Type 0} (row_of : X → Row) where
   abbrev serial_of : X → ℕ
   serial_of x = (row_of x).serial
 
-  pub once : (xs : List X) → AreInOrder serial_of xs → HasEachOnce row_of xs
+  pub once : (xs : List X) → NumbersRise serial_of xs → HasEachOnce row_of xs
   once xs rise i j d below lt same = omega (arith, rise i j d below lt, same)
 
-  module _ (moves : Moves X) (xs : List X) (puts : Puts moves xs) (rise : AreInOrder serial_of xs) where
+  module _ (moves : Moves X) (xs : List X) (puts : Puts moves xs) (rise : NumbersRise serial_of xs) where
     abbrev at_empty : ℕ → Option X
     at_empty n = None
 
-    put_rise : AreInOrder serial_of moves.put.items
-    put_rise = subst (AreInOrder serial_of) (sym puts.put) rise
+    put_rise : NumbersRise serial_of moves.put.items
+    put_rise = subst (NumbersRise serial_of) (sym puts.put) rise
 
     -- rows are put into an empty set
     pub fits_empty : FitsSet row_of moves at_empty

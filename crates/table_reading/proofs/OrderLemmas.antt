@@ -25,7 +25,7 @@ use Rattle.table_facts.proofs.Decoded.{nat_in}
 use Rattle.table_facts.specs.Facts.{natural}
 use Rattle.table_schema.specs.Rows.{Differ, HaveRowids, shown}
 use Rattle.table_schema.specs.declared.tables.Table.{Table}
-use Rattle.table_reading.specs.Order.{AreInOrder}
+use Rattle.table_reading.specs.Order.{NumbersRise}
 use Rattle.table_reading.specs.Readable.{ShowsNumbers}
 
 pub flips : (m n : ℕ) → eqb m n ≡ eqb n m
@@ -66,11 +66,11 @@ module _ {X : Type 0} (number_of : X → ℕ) where
       let other = get_or-map number_of xs j d 0 within in
       differ (one ∙ is ∙ sym other)
 
-  pub rise_differ : (xs : List X) → AreInOrder number_of xs → AllPairs (λ x y. number_of x ≢ number_of y) xs
+  pub rise_differ : (xs : List X) → NumbersRise number_of xs → AllPairs (λ x y. number_of x ≢ number_of y) xs
   rise_differ xs order i j d low within is = omega (arith, is, order i j d low within)
 
   -- numbers that rise in another order differ
-  pub moved_differ : (xs sorted : List X) → IsPermutation xs sorted → AreInOrder number_of sorted
+  pub moved_differ : (xs sorted : List X) → IsPermutation xs sorted → NumbersRise number_of sorted
       → AllPairs (λ x y. number_of x ≢ number_of y) xs
   moved_differ xs sorted same order = distinct_apart xs
       (IsDistinct-IsPermutation eqb flips _ _ (IsPermutation-map number_of sorted xs (IsPermutation-sym _ _ same))
@@ -78,7 +78,7 @@ module _ {X : Type 0} (number_of : X → ℕ) where
 
   -- sorted numbers of which no two are the same rise
   pub apart_rise : (xs sorted : List X) → IsPermutation xs sorted → IsNonDecreasingBy number_of sorted
-      → AllPairs (λ x y. number_of x ≢ number_of y) xs → AreInOrder number_of sorted
+      → AllPairs (λ x y. number_of x ≢ number_of y) xs → NumbersRise number_of sorted
   apart_rise xs sorted same order apart i j d low within =
       let distinct = IsDistinct-IsPermutation eqb flips _ _ (IsPermutation-map number_of xs sorted same)
       (apart_distinct xs apart) in
@@ -188,7 +188,7 @@ module _ {X : Type 0} (t : Table) (values_of : X → Values) (number_of : X → 
 
   -- the rows of items whose numbers rise have own rowids
   pub rise_rowids : (rows : List Values) (xs : List X) → IsPermutation (map (shown t) rows) (map values_of xs)
-      → AreInOrder number_of xs → HaveRowids rows
+      → NumbersRise number_of xs → HaveRowids rows
   rise_rowids rows xs same order = have_rowids rows (naturals rows xs same)
       (IsDistinct-IsPermutation eqb flips (map number_of xs) (row_numbers rows)
       (IsPermutation-sym _ _ (same_numbers rows xs same))

@@ -7,8 +7,8 @@ use Rattle.occurrences.specs.declared.row.Row.{Row}
 use Rattle.planner_machine.specs.declared.job.Job.{Job}
 
 -- each has a greater number than all before it
-abbrev pub AreInOrder : {X : Type 0} → (X → ℕ) → List X → Type 0
-AreInOrder number_of xs = AllPairs (λ x y. number_of x < number_of y) xs
+abbrev pub NumbersRise : {X : Type 0} → (X → ℕ) → List X → Type 0
+NumbersRise number_of xs = AllPairs (λ x y. number_of x < number_of y) xs
 
 -- by what their lists are ordered
 abbrev pub row_number : Row → ℕ

@@ -3,7 +3,7 @@ use Rattle.table_schema.specs.Rows.{Tables}
 use Rattle.table_schema.specs.declared.tables.Table.TheVariants as table
 use Rattle.table_facts.specs.Content.{job_values}
 use Rattle.table_facts.specs.Facts.{current_values, deletion_values, link_values, pair_values, row_values}
-use Rattle.table_reading.specs.Order.{AreInOrder, current_number, deletion_number, job_number, row_number}
+use Rattle.table_reading.specs.Order.{NumbersRise, current_number, deletion_number, job_number, row_number}
 use Rattle.table_reading.specs.Tables.{IsOneOf, ShowsOnce, ShowsOnly, TellsMetaOnce}
 use Rattle.table_reading.specs.declared.meta.Meta.{Meta}
 use Rattle.table_reading.specs.declared.parts.CurrentRows.{CurrentRows}
@@ -24,11 +24,11 @@ Rest = (LinkRows × PairRows) × (Meta × JobRows)
 
 abbrev pub AreRowsInOrder : RowParts → Type 0
 AreRowsInOrder p =
-    (AreInOrder row_number p.0.0.rows.items × AreInOrder current_number p.0.1.rows.items)
-    × (AreInOrder row_number p.1.0.rows.items × AreInOrder deletion_number p.1.1.rows.items)
+    (NumbersRise row_number p.0.0.rows.items × NumbersRise current_number p.0.1.rows.items)
+    × (NumbersRise row_number p.1.0.rows.items × NumbersRise deletion_number p.1.1.rows.items)
 
 abbrev pub AreRestInOrder : Rest → Type 0
-AreRestInOrder p = (Unit {0} × Unit {0}) × (Unit {0} × AreInOrder job_number p.1.1.jobs.items)
+AreRestInOrder p = (Unit {0} × Unit {0}) × (Unit {0} × NumbersRise job_number p.1.1.jobs.items)
 
 abbrev pub TellRowParts : Tables → RowParts → Type 0
 TellRowParts all p =

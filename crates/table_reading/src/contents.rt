@@ -10,7 +10,7 @@ ghost use Rattle.planner_machine.specs.declared.job.Job.{Job as JobValue};
 ghost use Rattle.plan_store.specs.Room.{with_definitions, with_pairs_of};
 ghost use Rattle.table_facts.specs.Content.{IsSmall};
 ghost use Rattle.table_reading.specs.Lists.{HasLists, HasRows, PutsRows, with_bounds, with_links, with_jobs};
-ghost use Rattle.table_reading.specs.Order.{AreInOrder, job_number};
+ghost use Rattle.table_reading.specs.Order.{NumbersRise, job_number};
 
 use crate::jobs::answers_are_small;
 use crate::lists::{PlanLists, PlanRows};
@@ -104,7 +104,7 @@ fn replace_jobs(old: &mut Vec<Job>, new: Vec<Job>)
 }
 
 fn put_jobs(content: &mut Content, jobs: Vec<Job>)
-    requires { AreInOrder job_number jobs.items }
+    requires { NumbersRise job_number jobs.items }
     ensures kept { content_of content.new ≡ with_jobs jobs.items (content_of content.old) }
     ensures small { All (λ (job : JobValue). IsSmall job.reply) jobs.items }
 {

@@ -1,6 +1,6 @@
 // What the tables of the plans list.
 
-ghost use Rattle.table_reading.specs.Order.{AreInOrder, row_number, current_number, deletion_number, job_number};
+ghost use Rattle.table_reading.specs.Order.{NumbersRise, row_number, current_number, deletion_number, job_number};
 
 use crate::meta::Meta;
 use external_dependencies::{Links, Pair};
@@ -18,10 +18,10 @@ pub struct PlanRows {
     pub history: Vec<Row>,
     /// The deletions.
     pub deletions: Vec<Deletion>,
-    ghost ltp_order: { AreInOrder row_number ltp.items },
-    ghost cp_order: { AreInOrder current_number cp.items },
-    ghost history_order: { AreInOrder row_number history.items },
-    ghost deletion_order: { AreInOrder deletion_number deletions.items },
+    ghost ltp_order: { NumbersRise row_number ltp.items },
+    ghost cp_order: { NumbersRise current_number cp.items },
+    ghost history_order: { NumbersRise row_number history.items },
+    ghost deletion_order: { NumbersRise deletion_number deletions.items },
 }
 
 /// What the tables of the plans tell: rows, lists in force, pairs and jobs.
@@ -37,5 +37,5 @@ pub struct PlanLists {
     pub pairs: Vec<Pair>,
     /// The kept jobs, in the order of their numbers.
     pub jobs: Vec<Job>,
-    ghost job_order: { AreInOrder job_number jobs.items },
+    ghost job_order: { NumbersRise job_number jobs.items },
 }

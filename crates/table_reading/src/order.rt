@@ -4,7 +4,7 @@ ghost use Rattle.std.specs.Prelude.{◌≡◌, ◌≢◌, ◌↔◌, ℕ, ◌<�
 ghost use Rattle.std.specs.List.{AllPairs};
 ghost use Rattle.std.specs.List.Sorted.{IsNonDecreasingBy, IsPermutation};
 ghost use Rattle.sqlite.specs.declared.types.Value.TheVariants.{Int};
-ghost use Rattle.table_reading.specs.Order.{AreInOrder};
+ghost use Rattle.table_reading.specs.Order.{NumbersRise};
 ghost use Rattle.table_reading.specs.Rowids.{place_of};
 
 use occurrences::{CurrentRow, Deletion, Row};
@@ -88,7 +88,7 @@ pub(crate) fn numbers_rise<X: Numbered>(xs: &[X]) -> bool
 /// The items in the order of their numbers, if no two have the same.
 pub(crate) fn in_order<X: Numbered + Drop>(xs: Vec<X>) -> Option<Vec<X>>
     ensures same { IfSome result (λ sorted. IsPermutation xs.items sorted.items) }
-    ensures order { IfSome result (λ sorted. AreInOrder X.number_of sorted.items) }
+    ensures order { IfSome result (λ sorted. NumbersRise X.number_of sorted.items) }
     ensures refused { result ≡ None → AllPairs (λ x y. X.number_of x ≢ X.number_of y) xs.items → ⊥ }
 {
     let mut xs = xs;

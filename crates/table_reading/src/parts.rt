@@ -10,7 +10,7 @@ ghost use Rattle.external_dependencies.specs.Link.{AreNamedOnce};
 ghost use Rattle.external_dependencies.specs.Rising.{HaveSame};
 ghost use Rattle.table_facts.specs.Content.{job_values};
 ghost use Rattle.table_facts.specs.Facts.{row_values, current_values, deletion_values, pair_values, link_values};
-ghost use Rattle.table_reading.specs.Order.{AreInOrder, row_number, current_number, deletion_number, job_number};
+ghost use Rattle.table_reading.specs.Order.{NumbersRise, row_number, current_number, deletion_number, job_number};
 ghost use Rattle.table_reading.specs.Cells.{IsNumberedRow, IsPair, IsReadJob};
 ghost use Rattle.table_reading.specs.Readable.{ShowsEachOnce, ShowsLinks, ShowsMeta};
 ghost use Rattle.table_reading.specs.Reading.{HasPlan, Looks};
@@ -85,7 +85,7 @@ pub(crate) struct LongTermRows {
 impl Part for LongTermRows {
     ghost tells = { λ all part. ShowsOnce all LongTerm (IsOneOf row_values part.rows.items) };
 
-    ghost in_order = { λ part. AreInOrder row_number part.rows.items };
+    ghost in_order = { λ part. NumbersRise row_number part.rows.items };
 
     ghost readable = { λ all. ShowsEachOnce all LongTerm row_values IsNumberedRow };
 
@@ -111,7 +111,7 @@ pub(crate) struct CurrentRows {
 impl Part for CurrentRows {
     ghost tells = { λ all part. ShowsOnce all Current (IsOneOf current_values part.rows.items) };
 
-    ghost in_order = { λ part. AreInOrder current_number part.rows.items };
+    ghost in_order = { λ part. NumbersRise current_number part.rows.items };
 
     ghost readable = { λ all. ShowsEachOnce all Current current_values (λ current.
         IsNumberedRow current.row) };
@@ -138,7 +138,7 @@ pub(crate) struct HistoryRows {
 impl Part for HistoryRows {
     ghost tells = { λ all part. ShowsOnce all History (IsOneOf row_values part.rows.items) };
 
-    ghost in_order = { λ part. AreInOrder row_number part.rows.items };
+    ghost in_order = { λ part. NumbersRise row_number part.rows.items };
 
     ghost readable = { λ all. ShowsEachOnce all History row_values IsNumberedRow };
 
@@ -164,7 +164,7 @@ pub(crate) struct DeletionRows {
 impl Part for DeletionRows {
     ghost tells = { λ all part. ShowsOnce all Gone (IsOneOf deletion_values part.rows.items) };
 
-    ghost in_order = { λ part. AreInOrder deletion_number part.rows.items };
+    ghost in_order = { λ part. NumbersRise deletion_number part.rows.items };
 
     ghost readable = { λ all. ShowsEachOnce all Gone deletion_values (λ gone.
         IsNumberedRow gone.row) };
@@ -262,7 +262,7 @@ pub(crate) struct JobRows {
 impl Part for JobRows {
     ghost tells = { λ all part. ShowsOnce all Kept (IsOneOf job_values part.jobs.items) };
 
-    ghost in_order = { λ part. AreInOrder job_number part.jobs.items };
+    ghost in_order = { λ part. NumbersRise job_number part.jobs.items };
 
     ghost readable = { λ all. ShowsEachOnce all Kept job_values IsReadJob };
 

@@ -6,7 +6,7 @@ ghost use Rattle.sqlite.specs.State.{HasCleanDisk};
 ghost use Rattle.sqlite.specs.Held.{state};
 ghost use Rattle.table_schema.specs.Rows.{HaveRowids, MayFail, shown, tables_of};
 ghost use Rattle.table_reading.specs.Reading.{HasPlan, Looks};
-ghost use Rattle.table_reading.specs.Order.{AreInOrder};
+ghost use Rattle.table_reading.specs.Order.{NumbersRise};
 ghost use Rattle.table_reading.specs.Tables.{IsOneOf, ShowsOnly};
 ghost use Rattle.table_reading.specs.Readable.{ShowsEach, ShowsEachOnce, ShowsNumbers};
 
@@ -58,7 +58,7 @@ pub(crate) fn read_in_order<X: Told + Numbered + Drop, S: Alter>(
     ensures rowids { HasCleanDisk (state S.Store conn.new) → HasPlan (state S.Store conn.old)
         → IfOk result (λ found. IfSome found (λ _. ShowsNumbers table X.values X.number_of
         → HaveRowids (tables_of (state S.Store conn.old).now.trees table))) }
-    ensures order { IfOk result (λ found. IfSome found (λ xs. AreInOrder X.number_of xs.items)) }
+    ensures order { IfOk result (λ found. IfSome found (λ xs. NumbersRise X.number_of xs.items)) }
     ensures refused { HasCleanDisk (state S.Store conn.new) → HasPlan (state S.Store conn.old)
         → IfOk result (λ found. found ≡ None → ShowsNumbers table X.values X.number_of
         → ShowsEachOnce (tables_of (state S.Store conn.old).now.trees) table X.values X.has_form

@@ -1,7 +1,7 @@
 -- Why a statement fails. An error that tells of the device, or that the connection is shut, has that cause.
 use Rattle.std.proofs.Common.{◌≡◌, ◌≤◌, ◌∙◌, ℕ, ℤ, Bool, fold, true, false, true≢false, inl, inr, List, [], Option, Some, None, IsTrue}
-use Rattle.std.proofs.Common.{Result, Err, refl, sym, ap, slice_get}
-use Rattle.std.specs.Prelude.{MatchBool, if◌then◌else◌}
+use Rattle.std.proofs.Common.{Result, Err, refl, sym, ap, subst, slice_get}
+use Rattle.std.specs.Prelude.{IfErr, MatchBool, if◌then◌else◌}
 use Rattle.sqlite.specs.Command.{Command}
 use Rattle.sqlite.specs.Command.TheVariants.{DropTable, Insert}
 use Rattle.sqlite.specs.Does.{AtPlace, Concludes, Does, Drops, Empties, HoldWithout, OnRows, Tested}
@@ -34,7 +34,9 @@ use Rattle.sqlite_trees.specs.declared.error.StoreError.TheVariants.{Broken, Cor
 use Rattle.table_schema.specs.Cells.{insert_terms, width}
 use Rattle.table_schema.specs.Rows.{MayFail, Tables}
 use Rattle.table_schema.specs.declared.tables.Table.{Table}
-use Rattle.table_schema.proofs.StopLemmas.{IsStopped, vain_after, vain_before}
+use Rattle.table_schema.proofs.InTurn.{IsCause}
+use Rattle.table_schema.proofs.ResultLemmas.{if_err}
+use Rattle.table_schema.proofs.StopLemmas.{IsStopped, vain_before, vain_since}
 use Rattle.table_remaking.specs.Refusals.{FailsFor, IsRefused, RefusesToDrop, by_rule}
 use Rattle.table_remaking.specs.Remaking.{RefusesRow, RefusesToFill, RefusesToRemake, remade_row}
 use Rattle.table_remaking.specs.Turns.{DeviceHasCause, is_of_device}
@@ -210,16 +212,22 @@ pub calm_fill : (limit : Option ℕ) (schema : Schema) (goal : Tables) (e : Erro
     → is_of_device e ≡ false
 calm_fill limit schema goal e h = calm_row limit h.db h.table (remade_row h.table h.row) e h.refused
 
-pub calm_remake : (limit : Option ℕ) (reads : List FirstRows) (base : Database) (e : Error)
+calm_remake : (limit : Option ℕ) (reads : List FirstRows) (base : Database) (e : Error)
     → RefusesToRemake limit reads base e → is_of_device e ≡ false
 calm_remake limit reads base e (inl h) = calm_drop limit h.db h.table e h.refused
 calm_remake limit reads base e (inr h) = calm_fill limit _ _ e h.1
 
 -- so one that tells of the device has that cause
-pub device_cause : (Refused : Error → Type 0) (a b : State) (e : Error) → (Refused e → is_of_device e ≡ false)
+device_cause : (Refused : Error → Type 0) (a b : State) (e : Error) → (Refused e → is_of_device e ≡ false)
     → FailsFor Refused a b e → DeviceHasCause a b e
 device_cause Refused a b e calm (inl h) = by_may a b e h
 device_cause Refused a b e calm (inr h) = elsewhere a b e (calm h)
+
+-- as of a remaking
+pub remake_cause : {A : Type 0} (r : Result A Error) (reads : List FirstRows) (a b : State)
+    → IfErr r (FailsFor (RefusesToRemake a.step_limit reads a.now) a b) → IfErr r (DeviceHasCause a b)
+remake_cause r reads a b = if_err r _ _ (λ e. device_cause (RefusesToRemake a.step_limit reads a.now) a b e
+    (calm_remake a.step_limit reads a.now e))
 
 -- ---- a statement fails for a common cause, or is refused
 
@@ -243,14 +251,23 @@ pub refused_as : (P Q : Error → Type 0) (a b : State) (e : Error) → (P e →
 refused_as P Q a b e goes (inl h) = inl h
 refused_as P Q a b e goes (inr h) = inr (goes h)
 
--- what caused it has caused it later too
-pub fails_before : (P : Error → Type 0) (a b c : State) (e : Error) → b.faults ≤ c.faults → FailsFor P a b e
-    → FailsFor P a c e
-fails_before P a b c e more (inl h) = inl (vain_before a b c e h more)
-fails_before P a b c e more (inr h) = inr h
+-- what is refused over the database that a transaction began with is a cause
+pub refusing : (X : Option ℕ → Database → Error → Type 0) (base : Database)
+    → IsCause (λ a b. FailsFor (X a.step_limit base) a b)
+refusing X base = record { common = λ a b e h. inl h; since = since; until = until }
+  where
+    since : (a b c : State) (e : Error) → a.faults ≤ b.faults → (IsTrue a.is_open → IsTrue b.is_open)
+        → b.step_limit ≡ a.step_limit → FailsFor (X b.step_limit base) b c e → FailsFor (X a.step_limit base) a c e
+    since a b c e more stays limit (inl h) = inl (vain_since a b c e more stays limit h)
+    since a b c e more stays limit (inr h) = inr (subst (λ l. X l base e) limit h)
 
--- and what causes it once the connection was open causes it since before
+    until : (a b c : State) (e : Error) → b.faults ≤ c.faults → FailsFor (X a.step_limit base) a b e
+        → FailsFor (X a.step_limit base) a c e
+    until a b c e more (inl h) = inl (vain_before a b c e h more)
+    until a b c e more (inr h) = inr h
+
+-- what causes it once the connection was open causes it since before
 pub fails_after : (P Q : Error → Type 0) (a b c : State) (e : Error) → (P e → Q e) → a.faults ≤ b.faults
     → IsTrue b.is_open → b.step_limit ≡ a.step_limit → FailsFor P b c e → FailsFor Q a c e
-fails_after P Q a b c e goes more stays limit (inl h) = inl (vain_after a b c e more stays limit h)
+fails_after P Q a b c e goes more stays limit (inl h) = inl (vain_since a b c e more (λ _. stays) limit h)
 fails_after P Q a b c e goes more stays limit (inr h) = inr (goes h)

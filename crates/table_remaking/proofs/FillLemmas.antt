@@ -1,5 +1,5 @@
 -- What the tables of a plan are once they are made and filled.
-use Rattle.std.proofs.Common.{Option, ℕ, ◌≡◌, ◌∙◌, ◌⊎◌, true, true≢false, IsTrue, Result, Ok, Err, None, IsSome, List, inl, inr, ap, subst, sym, arith}
+use Rattle.std.proofs.Common.{Option, ℕ, ◌≡◌, ◌∙◌, ◌⊎◌, true≢false, IsTrue, Result, Ok, Err, None, IsSome, List, inl, inr, ap, subst, sym, arith}
 use Rattle.std.specs.Prelude.{OnOk}
 use Rattle.sqlite.specs.Effect.{Database}
 use Rattle.sqlite.specs.Held.{Held, state}
@@ -13,20 +13,32 @@ use Rattle.sqlite.specs.declared.error.ErrorCode.TheVariants as code
 use Rattle.sqlite_trees.specs.declared.error.StoreError.{StoreError}
 use Rattle.sqlite_trees.specs.declared.error.StoreError.TheVariants.{Broken, Corrupt, Full, Io, OutOfMemory, Unstorable}
 use Rattle.sqlite_trees.specs.declared.memory.MemStore.{MemStore}
-use Rattle.table_schema.specs.Free.{with_plan}
+use Rattle.table_schema.specs.Free.{IsFree, with_plan}
 use Rattle.table_schema.specs.Made.{IsMadeWhole}
-use Rattle.table_schema.specs.Rows.{IsPlan, Stands, Tables, no_rows, tables_of}
+use Rattle.table_schema.specs.Rows.{Stands, Tables, no_rows, tables_of}
 use Rattle.table_schema.specs.Schema.{no_schema, plan_schema}
 use Rattle.table_schema.proofs.MadeLemmas.{plan_alone}
+use Rattle.table_schema.proofs.MakingLemmas.{begins_ready, others_kept}
+use Rattle.table_schema.proofs.OnceLemmas.{IsOnce}
+use Rattle.table_schema.proofs.StatementLemmas.{plan_still}
 use Rattle.table_remaking.specs.Refusals.{FailsFor}
-use Rattle.table_remaking.specs.Remaking.{RefusesRow, RefusesToFill, remade_row, with_all_put}
+use Rattle.table_remaking.specs.Remaking.{AreAllFirst, AreRemade, AreWhole, CanFill, IsFilled, IsFilledOnce, RefusesRow}
+use Rattle.table_remaking.specs.Remaking.{RefusesToFill, RefusesToFillAll, remade_row, with_all_put}
+use Rattle.table_remaking.proofs.CauseLemmas.{refusing}
+use Rattle.table_remaking.proofs.ShowLemmas.{remade_all}
 use Rattle.table_remaking.specs.declared.rows.FirstRows.{FirstRows}
 
 pub filled : {A E : Type 0} (r : Result A E) (base : Database) (mid new : State) (reads : List FirstRows)
     → IsMadeWhole base mid → OnOk r (Stands mid new (with_all_put reads (tables_of mid.now.trees)))
-    → OnOk r (IsPlan new × (tables_of new.now.trees ≡ with_all_put reads no_rows) × IsTrue new.in_transaction)
-filled (Ok a) base mid new reads made put =
-    (put.plan, put.rows_are ∙ ap (with_all_put reads) made.rows_are, put.mode)
+    → OnOk r (IsFilled reads base new)
+filled (Ok a) base mid new reads made put = record {
+  plan = put.plan;
+  rows_are = put.rows_are ∙ ap (with_all_put reads) made.rows_are;
+  schema = put.schema ∙ made.schema;
+  others = others_kept base mid new made put.others;
+  obeys = put.obeys made.sound;
+  mode = put.mode;
+}
 filled (Err e) base mid new reads made put = tt
 
 -- a row is refused once the tables stand there
@@ -45,16 +57,22 @@ row_refused_then old mid reads base e limit made h = record {
   refused = subst (λ l. RefusesRow l h.db h.table (remade_row h.table h.row) e) limit h.refused;
 }
 
--- what failed once it had begun
-pub fill_fails : {S : Type 0} (g : Ghosts S) (conn begun : Held S) (new : State) (reads : List FirstRows) (e : Error)
-    → begun ≡ record conn { in_transaction = true }
-    → FailsFor (RefusesToFill (state g begun).step_limit (with_plan (state g conn).now.schema) (with_all_put reads no_rows))
-    (state g begun) new e
-    → FailsFor (RefusesToFill (state g conn).step_limit (with_plan (state g conn).now.schema) (with_all_put reads no_rows))
-    (state g conn) new e
-fill_fails g conn begun new reads e is h =
-    subst (λ b. FailsFor (RefusesToFill (state g b).step_limit (with_plan (state g conn).now.schema)
-    (with_all_put reads no_rows)) (state g b) new e) is h
+-- in one transaction
+pub filled_once : {S : Type 0} (g : Ghosts S) (reads : List FirstRows) → AreWhole reads → AreAllFirst reads
+    → IsOnce g (CanFill reads) (IsFilled reads)
+    (λ base old new. FailsFor (RefusesToFillAll reads old.step_limit base) old new) (λ s. IsFree s.now.schema)
+    (IsFilledOnce reads) (λ _ db. AreRemade reads (tables_of db))
+filled_once g reads whole typed = record {
+  starts = λ conn free. (begins_ready g conn free, typed);
+  cause = refusing (RefusesToFillAll reads);
+  mode = λ base s filled. filled.mode;
+  leaves = λ old mid new free filled is. (
+    plan_still mid new is filled.plan,
+    remade_all reads (tables_of new.now.trees) whole typed (ap (λ (db : Database). tables_of db.trees) is
+        ∙ filled.rows_are),
+  );
+  left = λ old mid free filled. remade_all reads (tables_of mid.now.trees) whole typed filled.rows_are;
+}
 
 -- ---- in memory
 

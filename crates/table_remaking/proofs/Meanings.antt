@@ -22,7 +22,7 @@ use Rattle.table_schema.proofs.MeaningLemmas.{Means, Plans, means}
 use Rattle.table_schema.proofs.QueryMeanings.{ShowsRows}
 use Rattle.table_schema.proofs.Written.{IfRead}
 use Rattle.table_schema.proofs.WrittenQueries.{IsBareText, has_all, shown_as, shown_column}
-use Rattle.table_schema.specs.Places.{StandsAt}
+use Rattle.table_schema.specs.Places.{TableStandsAt}
 use Rattle.table_schema.specs.Schema.{name}
 use Rattle.table_schema.specs.declared.tables.Table.{Table}
 use Rattle.table_schema.specs.declared.tables.Table.TheVariants.{Meta, CalendarEntry, Period, Application}
@@ -197,7 +197,7 @@ select_fits tree Deletion = (refl, refl, refl, refl, refl)
 select_fits tree Dependency = (refl, refl, refl, refl, refl)
 select_fits tree Job = (refl, refl, refl, refl, refl)
 
-pub selects : (schema : Schema) (tree at : ℕ) (t : Table) → StandsAt schema (first_table_at tree t) at
+pub selects : (schema : Schema) (tree at : ℕ) (t : Table) → TableStandsAt schema (first_table_at tree t) at
     → ShowsRows schema (first_select_sql t) tree (first_terms t) (first_names t)
 selects schema tree at t it =
     let fits = select_fits tree t in

@@ -24,7 +24,7 @@ use Rattle.table_schema.proofs.StopLemmas.{IsOrdinary, IsStopped, stopped}
 use Rattle.table_schema.proofs.TextMeanings.{insert_means}
 use Rattle.table_schema.specs.Cells.{column_names, insert_terms, width}
 use Rattle.table_schema.specs.Made.{later}
-use Rattle.table_schema.specs.Places.{StandsAt}
+use Rattle.table_schema.specs.Places.{TableStandsAt}
 use Rattle.table_schema.specs.Rows.{IsPlan, tables_of}
 use Rattle.table_schema.specs.Texts.{insert_sql}
 use Rattle.table_schema.specs.Schema.{checks, key, name, orders, primary, references, uniques}
@@ -79,7 +79,7 @@ module _ (t : Table) (base : Database) (old new : State) (has : IsLosing (later 
   abbrev before : Schema
   before = without trees (later t) base.schema
 
-  here : (k : ℕ) × StandsAt before (first_table_at (trees t) t) k
+  here : (k : ℕ) × TableStandsAt before (first_table_at (trees t) t) k
   here = still_there base.schema has.can.has t
 
   drop_is : Means before (drop_sql t) (DropTable here.0) 0

@@ -1,73 +1,41 @@
--- Statements in turn.
-use Rattle.std.proofs.Common.{◌≡◌, ◌∙◌, ℕ, suc, ◌+◌, ◌<◌, List, [], ◌∷◌, ◌++◌, length, drop, fold, get_or, add-one, drop-cons}
-use Rattle.std.proofs.Common.{Bool, true, false, Option, Result, Ok, Err, IsErrAnd, IsTrue, arith, inl, inr, refl, sym, ap, subst}
-use Rattle.std.specs.List.{Contains}
-use Rattle.std.specs.Prelude.{OnErr, OnOk}
-use Rattle.std.proofs.lemmas.List.Elements.{Contains-get_or}
-use Rattle.sqlite.specs.State.{HasCleanDisk, KeepsCommit, State, Survives}
-use Rattle.sqlite.specs.Steps.{FailsToCommit}
-use Rattle.sqlite.specs.declared.error.Error.{Error}
-use Rattle.sqlite.proofs.StateLemmas.{survives_then}
-use Rattle.sqlite.proofs.InsideLemmas.{keeps_then}
-use Rattle.sqlite.specs.declared.transaction.Transaction.{Transaction}
-use Rattle.table_schema.proofs.ResultLemmas.{if_err}
-use Rattle.table_schema.specs.Writes.{seen}
+-- Statements in turn, over tables of schema 1.
+use Rattle.std.proofs.Common.{◌≡◌, ◌∙◌, ℕ, ◌+◌, ◌<◌, List, [], ◌∷◌, ◌++◌, length, drop, get_or}
+use Rattle.std.proofs.Common.{Option, Result, Ok, inl, inr, refl, sym, ap, subst}
 use Rattle.sqlite.specs.Change.{KeepsRows}
 use Rattle.sqlite.specs.Effect.{Database, IsDatabase}
 use Rattle.sqlite.specs.Order.{Row}
-use Rattle.sqlite.specs.Held.{Held, state}
 use Rattle.sqlite.specs.Schema.{Schema}
+use Rattle.sqlite.specs.State.{State}
 use Rattle.sqlite.specs.Store.{Ghosts}
 use Rattle.sqlite.specs.Table.{Table as Described}
+use Rattle.sqlite.specs.declared.error.Error.{Error}
+use Rattle.sqlite.specs.declared.transaction.Transaction.{Transaction}
 use Rattle.sqlite_rules.proofs.ListLemmas.{all_from}
 use Rattle.table_schema.specs.Free.{IsFree, with_plan}
-use Rattle.table_schema.specs.Made.{IsMadeWhole, IsReady}
-use Rattle.table_schema.specs.Rows.{Stands, Tables, tables_of}
+use Rattle.table_schema.specs.Made.{IsReady}
+use Rattle.table_schema.specs.Rows.{Tables, no_rows, tables_of}
 use Rattle.table_schema.specs.Schema.{all_tables}
+use Rattle.table_schema.specs.Writes.{seen}
 use Rattle.table_schema.specs.declared.tables.Table.{Table}
-use Rattle.table_schema.proofs.MakingLemmas.{others_kept}
-use Rattle.table_schema.proofs.StatementLemmas.{stands_after}
-use Rattle.table_remaking.specs.Refusals.{FailsFor}
-use Rattle.table_remaking.specs.Remaking.{CanRemakeInside, IsRemadeInside, RefusesRow, RefusesToFill, RefusesToRemake}
-use Rattle.table_remaking.specs.Remaking.{remade_row, with_all_put, with_rows_put}
+use Rattle.table_schema.proofs.InTurn.{IsOnWay, cut, turns_then, turns_weaker}
+use Rattle.table_schema.proofs.OnceLemmas.{IsOnce}
+use Rattle.table_schema.proofs.ResultLemmas.{if_err, still_ok}
+use Rattle.table_schema.proofs.StatementLemmas.{plan_still}
 use Rattle.table_remaking.specs.FirstSchema.{CanRemake}
-use Rattle.table_remaking.specs.Turns.{IsLosing, Turns}
-use Rattle.table_remaking.proofs.CauseLemmas.{fails_after}
+use Rattle.table_remaking.specs.Refusals.{FailsFor, RefusesToLose}
+use Rattle.table_remaking.specs.Remaking.{AreAllFirst, AreWhole, CanFill, CanRemakeInside, IsFilled, IsRemadeInside}
+use Rattle.table_remaking.specs.Remaking.{IsRemadeOf, IsRemadeOnce, RefusesRow, RefusesToFill, RefusesToFillAll}
+use Rattle.table_remaking.specs.Remaking.{RefusesToRemake, RemakesTo, remade_row, with_all_put, with_rows_put}
+use Rattle.table_remaking.specs.Turns.{IsLosing, TurnsUnless}
 use Rattle.table_remaking.specs.declared.rows.FirstRows.{FirstRows}
+use Rattle.table_remaking.proofs.CauseLemmas.{refused_as, refusing}
+use Rattle.table_remaking.proofs.ShowLemmas.{remade_all, remakes_to}
 use Rattle.table_remaking.proofs.StepLemmas.{both_all}
 use Rattle.table_remaking.proofs.WithoutLemmas.{none_gone}
 
--- on the way: in a transaction the tables have some rows, and what is left to do makes of them what is to come
-abbrev pub IsOnWay : State → State → (Tables → Tables) → Tables → Type 0
-IsOnWay old now rest goal = Stands old now (tables_of now.now.trees) × (rest (tables_of now.now.trees) ≡ goal)
-
-pub survives_both : (a b c : State) → Survives a b (λ _. ⊥) → Survives b c (λ _. ⊥) → Survives a c (λ _. ⊥)
-survives_both a b c one two = survives_then a b c _ _ (λ _. ⊥) (λ _ _ none. none) (λ _ _ none. none) one two
-
--- the item of a loop is one of the list
-pub item_contains : {A : Type 0} (items : List A) (i : ℕ) (item : A) → i < length items → item ≡ get_or items i item
-    → Contains items item
-item_contains items i item low is = subst (Contains items) (sym is) (Contains-get_or items i item low)
-
--- the items that are left begin with it
-cut : {A : Type 0} (items : List A) (i : ℕ) (item : A) → i < length items → item ≡ get_or items i item
-    → drop i items ≡ item ∷ drop (i + 1) items
-cut items i item low is = rw add-one (drop-cons items i item low ∙ ap (λ x. x ∷ drop (suc i) items) (sym is))
-
--- a loop that folds goes on
-pub fold_on : {A C : Type 0} (f : C → A → C) (items : List A) (i : ℕ) (item : A) (mid new goal : C)
-    → i < length items → item ≡ get_or items i item → new ≡ f mid item
-    → fold f mid (drop i items) ≡ goal → fold f new (drop (i + 1) items) ≡ goal
-fold_on f items i item mid new goal low is step so_far =
-    ap (λ c. fold f c (drop (i + 1) items)) step ∙ sym (ap (λ l. fold f mid l) (cut items i item low is)) ∙ so_far
-
-pub stands_on : (old mid new : State) (rows : Tables) → Stands old mid (tables_of mid.now.trees) → Stands mid new rows
-    → Stands old new (tables_of new.now.trees)
-stands_on old mid new rows one two =
-    subst (Stands old new) (sym two.rows_are) (stands_after old mid new _ rows one two)
-
 -- the tables of schema 1 begin to go
-pub begins_losing : (base : Database) (s : State) → CanRemakeInside base s → IsLosing [] base s
+begins_losing : {reads : List FirstRows} (base : Database) (s : State) → CanRemakeInside reads base s
+    → IsLosing [] base s
 begins_losing base s begins = record {
   can = begins.can;
   schema = ap (λ (db : Database). db.schema) begins.is ∙ sym (none_gone base.schema begins.can.has.trees);
@@ -77,29 +45,8 @@ begins_losing base s begins = record {
 }
 
 -- once they are gone, those of a plan can be made
-pub lost_ready : (base : Database) (s : State) → IsLosing all_tables base s → IsReady s.now s
+lost_ready : (base : Database) (s : State) → IsLosing all_tables base s → IsReady s.now s
 lost_ready base s lost = record { free = subst IsFree (sym lost.schema) lost.can.free; is = refl; mode = lost.mode }
-
--- and the rows are put into these
-pub put_into : {A E : Type 0} (r : Result A E) (base : Database) (one two new : State) (reads : List FirstRows)
-    → IsLosing all_tables base one → IsMadeWhole one.now two
-    → OnOk r (Stands two new (with_all_put reads (tables_of two.now.trees))) → OnOk r (IsDatabase new.now)
-    → OnOk r (IsRemadeInside reads base new)
-put_into (Ok a) base one two new reads lost made put obeys = record {
-  remade = record {
-    can = lost.can;
-    schema = put.schema ∙ made.schema ∙ ap with_plan lost.schema;
-    others = subst (λ (s : Schema). KeepsRows s.tables base.trees new.now.trees) lost.schema
-        (both_all (λ (d : Described). new.now.trees d.tree ≡ one.now.trees d.tree) (λ d. one.now.trees d.tree
-        ≡ base.trees d.tree) (λ d. new.now.trees d.tree ≡ base.trees d.tree) (λ d same was. same ∙ was)
-        one.now.schema.tables (others_kept one.now two new made put.others) lost.others);
-  };
-  plan = put.plan;
-  rows_are = put.rows_are ∙ ap (with_all_put reads) made.rows_are;
-  obeys = obeys;
-  mode = put.mode;
-}
-put_into (Err e) base one two new reads lost made put obeys = tt
 
 -- ---- rows are refused
 
@@ -143,88 +90,75 @@ table_refused old mid reads i read e low is limit way refused = record {
   refused = subst (λ l. RefusesRow l refused.db refused.table (remade_row refused.table refused.row) e) limit refused.refused;
 }
 
--- a row is refused once the tables of a plan stand there
-pub fill_refused : (old one two : State) (reads : List FirstRows) (base : Database) (e : Error)
-    → two.step_limit ≡ old.step_limit → IsLosing all_tables base one → IsMadeWhole one.now two
-    → RefusesToFill two.step_limit two.now.schema (with_all_put reads (tables_of two.now.trees)) e
-    → RefusesToRemake old.step_limit reads base e
-fill_refused old one two reads base e limit lost made h = inr (
+-- ---- those of schema 1 go, and those of a plan come in their place
+
+filled_remade : (base : Database) (one new : State) (reads : List FirstRows) → IsLosing all_tables base one
+    → IsFilled reads one.now new → IsRemadeInside reads base new
+filled_remade base one new reads lost filled = record {
+  remade = record {
+    can = lost.can;
+    schema = filled.schema ∙ ap with_plan lost.schema;
+    others = subst (λ (s : Schema). KeepsRows s.tables base.trees new.now.trees) lost.schema
+        (both_all (λ (d : Described). new.now.trees d.tree ≡ one.now.trees d.tree) (λ d. one.now.trees d.tree
+        ≡ base.trees d.tree) (λ d. new.now.trees d.tree ≡ base.trees d.tree) (λ d same was. same ∙ was)
+        one.now.schema.tables filled.others lost.others);
+  };
+  plan = filled.plan;
+  rows_are = filled.rows_are;
+  obeys = filled.obeys;
+  mode = filled.mode;
+}
+
+fill_refused : (limit : Option ℕ) (base : Database) (one : State) (reads : List FirstRows) (e : Error)
+    → IsLosing all_tables base one → RefusesToFillAll reads limit one.now e → RefusesToRemake limit reads base e
+fill_refused limit base one reads e lost h = inr (
   lost.can,
-  record {
-    db = h.db;
-    same = h.same ∙ made.schema ∙ ap with_plan lost.schema;
-    table = h.table;
-    row = h.row;
-    rows = h.rows;
-    reads = h.reads;
-    next = h.next ∙ ap (with_all_put reads) made.rows_are;
-    refused = subst (λ l. RefusesRow l h.db h.table (remade_row h.table h.row) e) limit h.refused;
-  },
+  subst (λ s. RefusesToFill limit s (with_all_put reads no_rows) e) (ap with_plan lost.schema) h,
 )
 
--- a transaction begins
-pub begins_remaking : {S : Type 0} (g : Ghosts S) (conn begun : Held S) → begun ≡ record conn { in_transaction = true }
-    → CanRemake conn.schema → CanRemakeInside (state g conn).now (state g begun)
-begins_remaking g conn begun is can = subst (λ h. CanRemakeInside (state g conn).now (state g h)) (sym is)
-    (record { can = can; is = refl; mode = refl })
+-- they are gone, and the rows that are to come are of schema 1
+abbrev HasLost : List FirstRows → Database → State → Type 0
+HasLost reads base s = IsLosing all_tables base s × AreAllFirst reads
 
--- what failed once it had begun
-pub remake_fails : {S : Type 0} (g : Ghosts S) (conn begun : Held S) (new : State) (reads : List FirstRows) (e : Error)
-    → begun ≡ record conn { in_transaction = true }
-    → FailsFor (RefusesToRemake (state g begun).step_limit reads (state g conn).now) (state g begun) new e
-    → FailsFor (RefusesToRemake (state g conn).step_limit reads (state g conn).now) (state g conn) new e
-remake_fails g conn begun new reads e is h =
-    subst (λ b. FailsFor (RefusesToRemake (state g b).step_limit reads (state g conn).now) (state g b) new e) is h
+pub loses_all : {S T : Type 0} {g : Ghosts S} {a b : Transaction S} {r : Result T Error} {reads : List FirstRows}
+    → TurnsUnless g a b r (IsLosing []) (IsLosing all_tables) RefusesToLose
+    → TurnsUnless g a b r (CanRemakeInside reads) (HasLost reads) (λ limit. RefusesToRemake limit reads)
+loses_all {reads = reads} = turns_weaker begins_losing (λ base s t (from : CanRemakeInside reads base s) lost. (lost, from.typed))
+    (λ base s t e. refused_as (RefusesToLose s.step_limit base) (RefusesToRemake s.step_limit reads base) s t e inl)
 
--- a commit that fails leaves what was committed
-pub commit_fails : (old mid new : State) (e : Error) → (IsTrue old.is_open → old.now ≡ old.committed)
-    → KeepsCommit old mid → IsTrue mid.in_transaction → FailsToCommit mid new e → IsTrue new.is_open
-    → (new.now ≡ old.now) × (new.committed ≡ old.committed)
-commit_fails old mid new e settled keeps mode (inl fails) is_open =
-    let back = fails.3 in
-    let mid_open = back.was_open is_open in
-    let same = keeps.committed mid_open in
-    ((back.undone is_open).0 ∙ same ∙ sym (settled (keeps.was_open mid_open)), (back.undone is_open).1 ∙ same)
-commit_fails old mid new e settled keeps mode (inr late) is_open =
-    absurd (let k : true ≡ false = sym (eq_of_IsTrue mode) ∙ late.1 in cc)
-  where
-    eq_of_IsTrue : {b : Bool} → IsTrue b → b ≡ true
-    eq_of_IsTrue h = h
+pub then_fills : {S T U : Type 0} {g : Ghosts S} {a b c : Transaction S} {t : T} {r : Result U Error}
+    {reads : List FirstRows} → TurnsUnless g a b (Ok t) (IsLosing []) (IsLosing all_tables) RefusesToLose
+    → TurnsUnless g b c r (CanFill reads) (IsFilled reads) (RefusesToFillAll reads)
+    → TurnsUnless g a c r (CanRemakeInside reads) (IsRemadeInside reads) (λ limit. RefusesToRemake limit reads)
+then_fills {g = g} {b = b} {c = c} {r = r} {reads = reads} one two =
+    turns_then (refusing (λ limit. RefusesToRemake limit reads)) (loses_all one) (record {
+      same_reference = two.same_reference;
+      ok = λ clean base from. still_ok r _ _ (filled_remade base (seen g b) (seen g c) reads from.0)
+          (two.ok clean (seen g b).now (lost_ready base (seen g b) from.0, from.1));
+      fails = λ clean base from. if_err r _ _ (λ e. refused_as (RefusesToFillAll reads (seen g b).step_limit (seen g b).now)
+          (RefusesToRemake (seen g b).step_limit reads base) (seen g b) (seen g c) e
+          (fill_refused (seen g b).step_limit base (seen g b) reads e from.0))
+          (two.fails clean (seen g b).now (lost_ready base (seen g b) from.0, from.1));
+      stays_open = λ clean base from. two.stays_open clean (seen g b).now (lost_ready base (seen g b) from.0, from.1);
+      kept = two.kept;
+      survives = two.survives;
+    })
 
--- ---- one after the other
-
-pub turns_then : {S T U : Type 0} {g : Ghosts S} {a b c : Transaction S} {t : T} {r : Result U Error}
-    {P Q R : Database → State → Type 0} {X : Option ℕ → Database → Error → Type 0} → Turns g a b (Ok t) P Q X
-    → Turns g b c r Q R X → Turns g a c r P R X
-turns_then {g = g} {a = a} {b = b} {c = c} {r = r} {X = X} one two = record {
-  same_reference = two.same_reference ∙ one.same_reference;
-  ok = λ clean base from. two.ok clean base (one.ok (calm clean) base from);
-  fails = λ clean base from. if_err r _ _ (λ e h. fails_after (X (seen g b).step_limit base) (X (seen g a).step_limit base)
-      (seen g a) (seen g b) (seen g c) e (subst (λ limit. X limit base e) one.survives.limit) one.survives.counts
-      (one.stays_open (calm clean) base from) one.survives.limit h) (two.fails clean base (one.ok (calm clean) base from));
-  stays_open = λ clean base from. two.stays_open clean base (one.ok (calm clean) base from);
-  kept = λ clean. keeps_then (seen g a) (seen g b) (seen g c) (one.kept (calm clean)) (two.kept clean);
-  survives = survives_both (seen g a) (seen g b) (seen g c) one.survives two.survives;
+-- in one transaction
+pub remade_once : {S : Type 0} (g : Ghosts S) (reads : List FirstRows) → AreWhole reads → AreAllFirst reads
+    → IsOnce g (CanRemakeInside reads) (IsRemadeInside reads)
+    (λ base old new. FailsFor (RefusesToRemake old.step_limit reads base) old new) (λ s. CanRemake s.now.schema)
+    (IsRemadeOnce reads) (λ old. RemakesTo reads old.now)
+remade_once g reads whole typed = record {
+  starts = λ conn can. record { can = can; is = refl; typed = typed; mode = refl };
+  cause = refusing (λ limit. RefusesToRemake limit reads);
+  mode = λ base s made. made.mode;
+  leaves = λ old mid new can made is. record {
+    plan = plan_still mid new is made.plan;
+    remade = subst (IsRemadeOf old.now) (sym is) made.remade;
+    obeys = subst IsDatabase (sym is) made.obeys;
+    rows = remade_all reads (tables_of new.now.trees) whole typed (ap (λ (db : Database). tables_of db.trees) is
+        ∙ made.rows_are);
+  };
+  left = λ old mid can made. remakes_to reads old.now mid whole typed made;
 }
-  where
-    calm : HasCleanDisk (seen g c) → HasCleanDisk (seen g b)
-    calm clean = omega (arith, clean, two.survives.clean)
-
--- an error is handed on
-pub turns_fail : {S T U : Type 0} {g : Ghosts S} {a b : Transaction S} {e : Error} {r : Result U Error}
-    {P Q R : Database → State → Type 0} {X : Option ℕ → Database → Error → Type 0} → Turns {T = T} g a b (Err e) P Q X
-    → IsErrAnd r (λ x. x ≡ e) → Turns g a b r P R X
-turns_fail {r = Ok t} turns h = absurd h
-turns_fail {g = g} {a = a} {b = b} {r = Err x} {X = X} turns h = record {
-  same_reference = turns.same_reference;
-  ok = λ clean base from. tt;
-  fails = λ clean base from. subst (FailsFor (X (seen g a).step_limit base) (seen g a) (seen g b)) (sym h)
-      (turns.fails clean base from);
-  stays_open = λ clean base from. tt;
-  kept = turns.kept;
-  survives = turns.survives;
-}
-
-pub on_err : {A E : Type 0} (r : Result A E) (P : Type 0) → P → OnErr r P
-on_err (Ok a) P h = tt
-on_err (Err e) P h = h

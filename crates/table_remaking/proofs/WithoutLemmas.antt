@@ -16,7 +16,7 @@ use Rattle.sqlite_schema.specs.declared.schema.Keys.TheVariants.{Enforced}
 use Rattle.sqlite_schema.specs.declared.schema.Reference.{Reference}
 use Rattle.table_schema.specs.Free.{plan_names}
 use Rattle.table_schema.specs.Made.{later}
-use Rattle.table_schema.specs.Places.{StandsAt}
+use Rattle.table_schema.specs.Places.{TableStandsAt}
 use Rattle.table_schema.specs.Schema.{IsAside, all_tables, name, table_at, to_run_cycle}
 use Rattle.table_schema.specs.declared.tables.Table.{Table}
 use Rattle.table_schema.specs.declared.tables.Table.TheVariants.{Meta, CalendarEntry, Period, Application}
@@ -109,8 +109,8 @@ not_so true h = refl
 not_so false h = absurd (cc)
 
 stands_left : (schema : Schema) (trees : Table → ℕ) (gone : List Table) (table : Described) (at : ℕ)
-    → StandsAt schema table at → is_among trees gone table.tree ≡ false
-    → (k : ℕ) × StandsAt (without trees gone schema) table k
+    → TableStandsAt schema table at → is_among trees gone table.tree ≡ false
+    → (k : ℕ) × TableStandsAt (without trees gone schema) table k
 stands_left schema trees gone table at it other =
     let e : at ≡ 0 + at = omega arith in
     let r = kept_at (λ (d : Described). same_name d.name table.name) (λ (d : Described). not (is_among trees gone d.tree))
@@ -200,7 +200,7 @@ module _ (schema : Schema) (has : HasFirstTables schema) where
 
   -- it still stands where those after it are taken away
   pub still_there : (t : Table)
-      → (k : ℕ) × StandsAt (without has.trees (later t) schema) (first_table_at (has.trees t) t) k
+      → (k : ℕ) × TableStandsAt (without has.trees (later t) schema) (first_table_at (has.trees t) t) k
   still_there t = stands_left schema has.trees (later t) (first_table_at (has.trees t) t) (has.at t) (has.stands t)
       (not_among t (later t) (names_after t))
 

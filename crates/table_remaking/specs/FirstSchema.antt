@@ -12,7 +12,7 @@ use Rattle.table_schema.specs.Cells.{column_names, select_terms}
 use Rattle.sqlite_trees.specs.Tree.{IsAscending}
 use Rattle.table_schema.specs.Free.{IsFree}
 use Rattle.table_schema.specs.Made.{earlier, up_to}
-use Rattle.table_schema.specs.Places.{StandsAt, TreesDiffer}
+use Rattle.table_schema.specs.Places.{TableStandsAt, TreesDiffer}
 use Rattle.table_schema.specs.Schema.{RefersAside, all_tables, checks, columns, key, name, needed, no_schema, orders}
 use Rattle.table_schema.specs.Schema.{plain_table, primary, references, uniques}
 use Rattle.table_schema.specs.declared.tables.Table.{Table}
@@ -64,7 +64,7 @@ first_schema = with_firsts no_schema all_tables
 pub record HasFirstTables (schema : Schema) : Type 0 where
   pub at : Table → ℕ
   pub trees : Table → ℕ
-  pub stands : (t : Table) → StandsAt schema (first_table_at (trees t) t) (at t)
+  pub stands : (t : Table) → TableStandsAt schema (first_table_at (trees t) t) (at t)
   pub apart : IsAscending TreesDiffer schema.tables
   pub refer : RefersAside schema (trees Offset)
 

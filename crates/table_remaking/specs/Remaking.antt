@@ -9,7 +9,7 @@ use Rattle.sqlite.specs.Order.{Row}
 use Rattle.sqlite.specs.Schema.{Schema}
 use Rattle.sqlite.specs.Source.TheVariants.{Values}
 use Rattle.sqlite.specs.declared.types.Value.TheVariants.{Null, Int}
-use Rattle.sqlite.specs.State.{HasCleanDisk, KeepsCommit, State, Survives}
+use Rattle.sqlite.specs.State.{HasCleanDisk, State}
 use Rattle.sqlite.specs.Store.{Ghosts}
 use Rattle.sqlite.specs.Tree.{Trees}
 use Rattle.sqlite.specs.declared.error.Error.{Error}
@@ -66,10 +66,11 @@ abbrev pub AreRemade : List FirstRows → Tables → Type 0
 AreRemade reads all = All (λ (read : FirstRows).
     IsPermutation (map (remade_row read.table) read.rows.items) (map (shown read.table) (all read.table))) reads
 
--- a transaction begins over a database in which the tables of schema 1 can be remade
-pub record CanRemakeInside (base : Database) (s : State) : Type 0 where
+-- a transaction begins over a database in which the tables of schema 1 can be remade, of these rows
+pub record CanRemakeInside (reads : List FirstRows) (base : Database) (s : State) : Type 0 where
   pub can : CanRemake base.schema
   pub is : s.now ≡ base
+  pub typed : AreAllFirst reads
   pub mode : IsTrue s.in_transaction
 
 -- the tables of a plan stand in place of those of schema 1, behind the others, which keep their rows
@@ -120,8 +121,7 @@ pub record IsRemadeInside (reads : List FirstRows) (base : Database) (s : State)
   pub obeys : IsDatabase s.now
   pub mode : IsTrue s.in_transaction
 
--- over the tables of a plan it fails for a common cause or since this is refused; an Ok leaves the connection open, and
--- a database that keeps its rules
+-- over the tables of a plan it fails for a common cause or since this is refused; an Ok leaves the connection open
 pub record PutsWhere {S T : Type 0} (Fit : Type 0) (Refused : Option ℕ → Database → Error → Type 0) (g : Ghosts S)
     (old new : Transaction S) (result : Result T Error) : Type 0 where
   pub fails : HasCleanDisk (seen g new) → IsPlan (seen g old) → IsTrue (seen g old).in_transaction
@@ -129,34 +129,31 @@ pub record PutsWhere {S T : Type 0} (Fit : Type 0) (Refused : Option ℕ → Dat
       → IfErr result (FailsFor (Refused (seen g old).step_limit (seen g old).now) (seen g old) (seen g new))
   pub stays_open : HasCleanDisk (seen g new) → IsPlan (seen g old) → IsTrue (seen g old).in_transaction
       → IsTrue (seen g old).is_open → Fit → OnOk result (IsTrue (seen g new).is_open)
-  pub obeys : HasCleanDisk (seen g new) → IsPlan (seen g old) → IsTrue (seen g old).in_transaction → Fit
-      → IsDatabase (seen g old).now → OnOk result (IsDatabase (seen g new).now)
 
--- where nothing is in the way of the tables of a plan an Ok makes them with these rows; it fails for a common cause or
--- since one of the rows is refused
-pub record Fills {S T : Type 0} (g : Ghosts S) (old new : Transaction S) (result : Result T Error)
-    (reads : List FirstRows) : Type 0 where
-  pub same_reference : new.conn.ghost_name ≡ old.conn.ghost_name
-  pub ok : HasCleanDisk (seen g new) → (base : Database) → IsReady base (seen g old) → AreAllFirst reads
-      → OnOk result (IsPlan (seen g new) × (tables_of (seen g new).now.trees ≡ with_all_put reads no_rows)
-      × IsTrue (seen g new).in_transaction)
-  pub fails : HasCleanDisk (seen g new) → (base : Database) → IsReady base (seen g old) → AreAllFirst reads
-      → IfErr result (FailsFor (RefusesToFill (seen g old).step_limit (with_plan base.schema) (with_all_put reads no_rows))
-      (seen g old) (seen g new))
-  pub stays_open : HasCleanDisk (seen g new) → (base : Database) → IsReady base (seen g old) → AreAllFirst reads
-      → OnOk result (IsTrue (seen g new).is_open)
-  pub survives : Survives (seen g old) (seen g new) (λ _. ⊥)
+-- a transaction begins over a database in which the tables of a plan can be made, and these rows are of schema 1
+abbrev pub CanFill : List FirstRows → Database → State → Type 0
+CanFill reads base s = IsReady base s × AreAllFirst reads
 
--- of the tables of schema 1 an Ok makes such; it fails for a common cause or since that is refused, and nothing is
--- committed
-pub record Remakes {S T : Type 0} (g : Ghosts S) (old new : Transaction S) (result : Result T Error)
-    (reads : List FirstRows) : Type 0 where
-  pub same_reference : new.conn.ghost_name ≡ old.conn.ghost_name
-  pub ok : HasCleanDisk (seen g new) → (base : Database) → CanRemakeInside base (seen g old) → AreAllFirst reads
-      → OnOk result (IsRemadeInside reads base (seen g new))
-  pub fails : HasCleanDisk (seen g new) → (base : Database) → CanRemakeInside base (seen g old) → AreAllFirst reads
-      → IfErr result (FailsFor (RefusesToRemake (seen g old).step_limit reads base) (seen g old) (seen g new))
-  pub stays_open : HasCleanDisk (seen g new) → (base : Database) → CanRemakeInside base (seen g old) → AreAllFirst reads
-      → OnOk result (IsTrue (seen g new).is_open)
-  pub kept : HasCleanDisk (seen g new) → KeepsCommit (seen g old) (seen g new)
-  pub survives : Survives (seen g old) (seen g new) (λ _. ⊥)
+-- the tables of a plan are made, and these rows put into them; the others stand as they stood, with their rows
+pub record IsFilled (reads : List FirstRows) (base : Database) (s : State) : Type 0 where
+  pub plan : IsPlan s
+  pub rows_are : tables_of s.now.trees ≡ with_all_put reads no_rows
+  pub schema : s.now.schema ≡ with_plan base.schema
+  pub others : KeepsRows base.schema.tables base.trees s.now.trees
+  pub obeys : IsDatabase s.now
+  pub mode : IsTrue s.in_transaction
+
+-- one of the rows can't be put in
+abbrev pub RefusesToFillAll : List FirstRows → Option ℕ → Database → Error → Type 0
+RefusesToFillAll reads limit base = RefusesToFill limit (with_plan base.schema) (with_all_put reads no_rows)
+
+-- the tables of a plan stand in a database, and show the rows
+abbrev pub IsFilledOnce : List FirstRows → State → State → Type 0
+IsFilledOnce reads old new = IsPlan new × AreRemade reads (tables_of new.now.trees)
+
+-- they stand in place of those of schema 1, in a database that keeps its rules
+pub record IsRemadeOnce (reads : List FirstRows) (old new : State) : Type 0 where
+  pub plan : IsPlan new
+  pub remade : IsRemadeOf old.now new.now
+  pub obeys : IsDatabase new.now
+  pub rows : AreRemade reads (tables_of new.now.trees)

@@ -1,16 +1,16 @@
 -- What statements on a transaction make of tables of schema 1.
-use Rattle.std.specs.Prelude.{◌≡◌, ◌⊎◌, ℕ, Bool, true, false, List, Option, Result, IfErr, OnOk, IsTrue}
+use Rattle.std.specs.Prelude.{◌≡◌, ◌⊎◌, ℕ, Bool, true, false, List, Option, Result, IsTrue}
 use Rattle.sqlite.specs.Change.{KeepsRows}
 use Rattle.sqlite.specs.Effect.{Database}
 use Rattle.sqlite.specs.Schema.{Schema}
-use Rattle.sqlite.specs.State.{HasCleanDisk, KeepsCommit, State, Survives}
+use Rattle.sqlite.specs.State.{State}
 use Rattle.sqlite.specs.Store.{Ghosts}
 use Rattle.sqlite.specs.declared.error.Error.{Error}
 use Rattle.sqlite.specs.declared.error.Error.TheVariants.{SqliteFailure}
 use Rattle.sqlite.specs.declared.error.ErrorCode.TheVariants.{Closed, DatabaseCorrupt, DiskFull, SystemIoFailure}
 use Rattle.sqlite.specs.declared.transaction.Transaction.{Transaction}
 use Rattle.sqlite_disk.specs.Disk.{MoreFaults}
-use Rattle.table_schema.specs.Writes.{seen}
+use Rattle.table_schema.specs.Writes.{Turns}
 use Rattle.table_schema.specs.declared.tables.Table.{Table}
 use Rattle.table_remaking.specs.FirstSchema.{CanRemake, without}
 use Rattle.table_remaking.specs.Refusals.{FailsFor}
@@ -39,16 +39,8 @@ pub record IsLosing (gone : List Table) (base : Database) (s : State) : Type 0 w
   pub others : KeepsRows s.now.schema.tables base.trees s.now.trees
   pub mode : IsTrue s.in_transaction
 
--- Whatever it began with, of such a state an Ok makes one of those; it fails for a common cause or since this is
--- refused, and nothing is committed.
-pub record Turns {S T : Type 0} (g : Ghosts S) (old new : Transaction S) (result : Result T Error)
-    (Before After : Database → State → Type 0) (Refused : Option ℕ → Database → Error → Type 0) : Type 0 where
-  pub same_reference : new.conn.ghost_name ≡ old.conn.ghost_name
-  pub ok : HasCleanDisk (seen g new) → (base : Database) → Before base (seen g old)
-      → OnOk result (After base (seen g new))
-  pub fails : HasCleanDisk (seen g new) → (base : Database) → Before base (seen g old)
-      → IfErr result (FailsFor (Refused (seen g old).step_limit base) (seen g old) (seen g new))
-  pub stays_open : HasCleanDisk (seen g new) → (base : Database) → Before base (seen g old)
-      → OnOk result (IsTrue (seen g new).is_open)
-  pub kept : HasCleanDisk (seen g new) → KeepsCommit (seen g old) (seen g new)
-  pub survives : Survives (seen g old) (seen g new) (λ _. ⊥)
+-- such statements fail for a common cause or since this is refused
+abbrev pub TurnsUnless : {S T : Type 0} → Ghosts S → (old new : Transaction S) → Result T Error
+    → (Before After : Database → State → Type 0) → (Option ℕ → Database → Error → Type 0) → Type 0
+TurnsUnless g old new result Before After Refused = Turns g old new result Before After
+    (λ base old new. FailsFor (Refused old.step_limit base) old new)

@@ -1,17 +1,18 @@
 // The tables of a plan are made in memory, with rows of schema 1.
 
-ghost use Rattle.std.specs.Prelude.{◌≡◌, ◌⊎◌, false, None, IfErr, IfOk, IsTrue, OnOk};
-ghost use Rattle.sqlite.specs.State.{HasCleanDisk};
+ghost use Rattle.std.specs.Prelude.{◌≡◌, ◌⊎◌, false, None, IfErr, IfOk, IsTrue};
 ghost use Rattle.sqlite.specs.Held.{state};
 ghost use Rattle.sqlite.specs.Steps.{over_memory};
 ghost use Rattle.sqlite.specs.declared.error.Error.TheVariants.{SqliteFailure};
 ghost use Rattle.sqlite.specs.declared.error.ErrorCode.TheVariants.{OutOfMemory};
-ghost use Rattle.table_schema.specs.Free.{IsFree, with_plan};
+ghost use Rattle.table_schema.specs.Free.{IsFree};
 ghost use Rattle.table_schema.specs.Rows.{IsPlan, no_rows, tables_of};
 ghost use Rattle.table_schema.specs.Schema.{plan_schema};
+ghost use Rattle.table_schema.specs.Writes.{Commits};
 ghost use Rattle.table_remaking.specs.Refusals.{FailsFor};
-ghost use Rattle.table_remaking.specs.Remaking.{AreAllFirst, AreRemade, AreWhole, Fills};
-ghost use Rattle.table_remaking.specs.Remaking.{RefusesToFill, with_all_put};
+ghost use Rattle.table_remaking.specs.Remaking.{AreAllFirst, AreRemade, AreWhole, CanFill, IsFilled, IsFilledOnce};
+ghost use Rattle.table_remaking.specs.Remaking.{RefusesToFill, RefusesToFillAll, with_all_put};
+ghost use Rattle.table_remaking.specs.Turns.{TurnsUnless};
 
 use crate::putting::put_all;
 use crate::rows::FirstRows;
@@ -19,13 +20,14 @@ use sqlite::{Alter, Connection, Error, MemStore, Transaction};
 use std::alloc::Global;
 use table_schema::make_all;
 
-// Makes the tables of a plan with these rows, in a transaction that is open.
-fn fill<S: Alter>(
+/// Makes the tables of a plan with these rows, in a transaction that is open.
+pub(crate) fn fill<S: Alter>(
     tx: &mut Transaction<'_, S>,
     alloc: Global,
     reads: &[FirstRows],
 ) -> Result<(), Error>
-    ensures { Fills S.Store tx.old tx.new result reads.now }
+    ensures { TurnsUnless S.Store tx.old tx.new result (CanFill reads.now) (IsFilled reads.now)
+        (RefusesToFillAll reads.now) }
 {
     make_all(tx)?;
     put_all(tx, alloc, reads)
@@ -40,20 +42,13 @@ fn fill_tables<S: Alter>(
     requires mode { conn.old.in_transaction ≡ false }
     requires whole { AreWhole reads.now }
     requires typed { AreAllFirst reads.now }
-    ensures done { HasCleanDisk (state S.Store conn.new)
-        → IsFree (state S.Store conn.old).now.schema
-        → OnOk result (IsPlan (state S.Store conn.new)
-        × AreRemade reads.now (tables_of (state S.Store conn.new).now.trees)) }
-    ensures fails { HasCleanDisk (state S.Store conn.new)
-        → IsFree (state S.Store conn.old).now.schema
-        → IfErr result (FailsFor (RefusesToFill (state S.Store conn.old).step_limit
-        (with_plan (state S.Store conn.old).now.schema) (with_all_put reads.now no_rows))
-        (state S.Store conn.old) (state S.Store conn.new)) }
-    ensures stays_open { HasCleanDisk (state S.Store conn.new)
-        → OnOk result (IsTrue (state S.Store conn.new).is_open) }
-    ensures limit { (state S.Store conn.new).step_limit ≡ (state S.Store conn.old).step_limit }
-    ensures ended { conn.new.in_transaction ≡ false }
+    ensures { Commits S.Store conn.old conn.new result (λ s. IsFree s.now.schema)
+        (IsFilledOnce reads.now)
+        (λ old. FailsFor (RefusesToFillAll reads.now old.step_limit old.now) old)
+        (λ _ db. AreRemade reads.now (tables_of db)) }
 {
+    let settled = conn.is_autocommit();
+    prove!(settled);
     let mut tx = conn.transaction();
     fill(&mut tx, alloc, reads)?;
     tx.commit()?;

@@ -4,70 +4,31 @@ ghost use Rattle.std.specs.Prelude.{◌≡◌, false, OnOk};
 ghost use Rattle.sqlite.specs.State.{HasCleanDisk};
 ghost use Rattle.sqlite.specs.Held.{state};
 ghost use Rattle.table_schema.specs.Schema.{no_schema};
-ghost use Rattle.table_schema.specs.declared.tables.Table.TheVariants as table;
 ghost use Rattle.table_remaking.specs.FirstSchema.{first_after, first_before, first_schema};
 ghost use Rattle.table_remaking.specs.Refusals.{RefusesToBegin};
-ghost use Rattle.table_remaking.specs.Turns.{IsInside, Turns};
+ghost use Rattle.table_remaking.specs.Turns.{IsInside, TurnsUnless};
 
 use crate::texts::first_create_text;
 use sqlite::{Alter, Connection, Error, Transaction};
-use table_schema::Table;
+use table_schema::{TABLES, Table};
 
 // Makes the table, which is the next.
 fn make<S: Alter>(tx: &mut Transaction<'_, S>, table: Table) -> Result<(), Error>
-    ensures { Turns S.Store tx.old tx.new result (IsInside (first_before table))
+    ensures { TurnsUnless S.Store tx.old tx.new result (IsInside (first_before table))
         (IsInside (first_after table)) RefusesToBegin }
 {
     tx.execute(first_create_text(table), &[])?;
     Ok(())
 }
 
-fn make_definitions<S: Alter>(tx: &mut Transaction<'_, S>) -> Result<(), Error>
-    ensures { Turns S.Store tx.old tx.new result (IsInside no_schema)
-        (IsInside (first_after table.Application)) RefusesToBegin }
-{
-    make(tx, Table::Meta)?;
-    make(tx, Table::CalendarEntry)?;
-    make(tx, Table::Period)?;
-    make(tx, Table::Application)
-}
-
-fn make_cycles<S: Alter>(tx: &mut Transaction<'_, S>) -> Result<(), Error>
-    ensures { Turns S.Store tx.old tx.new result (IsInside (first_before table.RunCycle))
-        (IsInside (first_after table.LinkInForce)) RefusesToBegin }
-{
-    make(tx, Table::RunCycle)?;
-    make(tx, Table::Offset)?;
-    make(tx, Table::Predecessor)?;
-    make(tx, Table::LinkInForce)
-}
-
-fn make_rows<S: Alter>(tx: &mut Transaction<'_, S>) -> Result<(), Error>
-    ensures { Turns S.Store tx.old tx.new result (IsInside (first_before table.LongTerm))
-        (IsInside (first_after table.Deletion)) RefusesToBegin }
-{
-    make(tx, Table::LongTerm)?;
-    make(tx, Table::Current)?;
-    make(tx, Table::History)?;
-    make(tx, Table::Deletion)
-}
-
-fn make_rest<S: Alter>(tx: &mut Transaction<'_, S>) -> Result<(), Error>
-    ensures { Turns S.Store tx.old tx.new result (IsInside (first_before table.Dependency))
+fn make_all<S: Alter>(tx: &mut Transaction<'_, S>) -> Result<(), Error>
+    ensures { TurnsUnless S.Store tx.old tx.new result (IsInside no_schema)
         (IsInside first_schema) RefusesToBegin }
 {
-    make(tx, Table::Dependency)?;
-    make(tx, Table::Job)
-}
-
-fn make_all<S: Alter>(tx: &mut Transaction<'_, S>) -> Result<(), Error>
-    ensures { Turns S.Store tx.old tx.new result (IsInside no_schema) (IsInside first_schema)
-        RefusesToBegin }
-{
-    make_definitions(tx)?;
-    make_cycles(tx)?;
-    make_rows(tx)?;
-    make_rest(tx)
+    for table in &TABLES {
+        make(tx, *table)?;
+    }
+    Ok(())
 }
 
 /// Makes the tables of schema 1 in an empty database.

@@ -10,7 +10,7 @@ use Rattle.sqlite_resolve.specs.Compile.{first}
 use Rattle.sqlite_typing.specs.Types.{are_typed, row_classes}
 use Rattle.table_schema.proofs.ColumnsLemmas as lemmas
 use Rattle.table_schema.proofs.QueryMeanings.{ShowsRows, text_shows}
-use Rattle.table_schema.specs.Places.{StandsAt}
+use Rattle.table_schema.specs.Places.{TableStandsAt}
 use Rattle.table_schema.proofs.Written.{IfRead}
 use Rattle.table_schema.proofs.WrittenQueries.{IfFound, HasColumns, shown_as, shown_column, IsBareText, is_there, has_all}
 
@@ -32,7 +32,7 @@ all_there table (n ∷ ns) h =
     let both = and_parts (is_there table (column_named table n)) (has_all table ns) h in
     (there table (column_named table n) both.0, all_there table ns both.1)
 
-module _ (schema : Schema) (table : Table) (at : ℕ) (it : StandsAt schema table at) (sql : List ℕ) (columns : List (List ℕ)) (terms : List Term) (names : List (List ℕ))
+module _ (schema : Schema) (table : Table) (at : ℕ) (it : TableStandsAt schema table at) (sql : List ℕ) (columns : List (List ℕ)) (terms : List Term) (names : List (List ℕ))
     (text : IfRead (first sql) (IsBareText (length sql) table.name (map shown_column columns)))
     (has : has_all table columns ≡ true) (few : nat_lt (length columns) max_budget ≡ true)
     (terms_are : map (λ o. o.term) (map (shown_as table) columns) ≡ terms) (names_are : map (λ o. o.name) (map (shown_as table) columns) ≡ names)

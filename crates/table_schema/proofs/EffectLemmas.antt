@@ -43,7 +43,7 @@ use Rattle.table_schema.specs.declared.tables.Table.{Table}
 use Rattle.table_schema.specs.declared.tables.Table.TheVariants.{Meta, CalendarEntry, Period, Application, RunCycle}
 use Rattle.table_schema.specs.declared.tables.Table.TheVariants.{Offset, Predecessor, LinkInForce, LongTerm, Current}
 use Rattle.table_schema.specs.declared.tables.Table.TheVariants.{History, Deletion, Dependency, Job}
-use Rattle.table_schema.specs.Places.{StandsAt, TreesDiffer}
+use Rattle.table_schema.specs.Places.{TableStandsAt, TreesDiffer}
 use Rattle.table_schema.proofs.TextMeanings.{delete_means, insert_means}
 
 -- ---- what a step sets off
@@ -133,7 +133,7 @@ given_rows Deletion cells = refl
 given_rows Dependency cells = refl
 given_rows Job cells = refl
 
-module _ (schema : Schema) (at tree : ℕ) (t : Table) (it : StandsAt schema (table_at tree t) at) where
+module _ (schema : Schema) (at tree : ℕ) (t : Table) (it : TableStandsAt schema (table_at tree t) at) where
   pub own : (db : Trees) → overlay db [] tree ≡ db tree
   own db = rw it.stored refl
 

@@ -16,7 +16,9 @@ pub mod MadeLemmas
 pub mod MakingLemmas
 pub mod MeaningLemmas
 pub mod NamedLemmas
+pub mod InTurn
 pub mod OnceLemmas
+pub mod PlaceLemmas
 pub mod PlanLemmas
 pub mod QueryLemmas
 pub mod QueryMeanings

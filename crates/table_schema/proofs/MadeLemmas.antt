@@ -15,7 +15,7 @@ use Rattle.sqlite_tied.specs.Compute.{everything}
 use Rattle.sqlite_trees.specs.Tree.{IsAscending}
 use Rattle.table_schema.specs.Free.{IsFree, with_plan, with_tables}
 use Rattle.table_schema.specs.Made.{AllMade, earlier, later}
-use Rattle.table_schema.specs.Places.{StandsAt, TreesDiffer}
+use Rattle.table_schema.specs.Places.{TableStandsAt, TreesDiffer}
 use Rattle.table_schema.specs.Schema.{HasOwnIndexes, HasTables, IsAside, IsOwnIndex, all_tables, name}
 use Rattle.table_schema.specs.Schema.{no_schema, plan_schema, table_at, to_run_cycle, uniques}
 use Rattle.table_schema.specs.declared.tables.Table.{Table}
@@ -150,8 +150,8 @@ each_made P schema all t =
 
 -- ---- so the plan stands
 
-still : (vs : List Table) (schema : Schema) (table : Described) (at : ℕ) → StandsAt schema table at
-    → StandsAt (with_tables schema vs) table at
+still : (vs : List Table) (schema : Schema) (table : Described) (at : ℕ) → TableStandsAt schema table at
+    → TableStandsAt (with_tables schema vs) table at
 still [] schema table at it = it
 still (v ∷ vs) schema table at it =
     still vs (created schema (table_at 0 v)) table at (stands_still schema table (table_at 0 v) at it)
@@ -208,13 +208,13 @@ indexes_made trees (u ∷ us) schema own news = indexes_made trees us (created s
 
 module _ (schema : Schema) (is : IsFree schema) where
   stands_each : (t : Table)
-      → StandsAt (with_plan schema) (table_at (tree_for schema t) t) (length (with_tables schema (earlier t)).tables)
+      → TableStandsAt (with_plan schema) (table_at (tree_for schema t) t) (length (with_tables schema (earlier t)).tables)
   stands_each t =
       let before = with_tables schema (earlier t) in
       let can = can_make schema is t in
       let room = can.room in
       let new = stands_last before (table_at 0 t) can.free.0 (omega (arith, room)) in
-      subst (λ s. StandsAt s (table_at (next_tree before) t) (length before.tables)) (sym (made_then (earlier t)
+      subst (λ s. TableStandsAt s (table_at (next_tree before) t) (length before.tables)) (sym (made_then (earlier t)
       (later t) schema t) ∙ ap (with_tables schema) (in_order t)) (still (later t) (created before (table_at 0 t))
       _ _ new)
 

@@ -17,3 +17,7 @@ if_err (Err e) P Q f h = f e h
 pub if_from : {A E : Type 0} (r : Result A E) (P Q : E → Type 0) → ((e : E) → P e → Q e) → IsErrAnd r P → IfErr r Q
 if_from (Ok a) P Q f h = tt
 if_from (Err e) P Q f h = f e h
+
+pub still_ok : {A E : Type 0} (r : Result A E) (P Q : Type 0) → (P → Q) → OnOk r P → OnOk r Q
+still_ok (Ok a) P Q f h = f h
+still_ok (Err e) P Q f h = tt

@@ -15,7 +15,7 @@ use Rattle.table_schema.specs.declared.tables.Table.TheVariants.{LongTerm, Curre
 use Rattle.table_schema.specs.declared.tables.Table.TheVariants.{Dependency, Job}
 use Rattle.table_schema.proofs.ColumnQueries.{columns_show}
 use Rattle.table_schema.proofs.QueryMeanings.{ShowsRows}
-use Rattle.table_schema.specs.Places.{StandsAt}
+use Rattle.table_schema.specs.Places.{TableStandsAt}
 use Rattle.table_schema.proofs.Written.{IfRead}
 use Rattle.table_schema.proofs.WrittenQueries.{shown_column, shown_as, IsBareText, has_all}
 
@@ -56,7 +56,7 @@ select_fits tree Deletion = (refl, refl, refl, refl, refl)
 select_fits tree Dependency = (refl, refl, refl, refl, refl)
 select_fits tree Job = (refl, refl, refl, refl, refl)
 
-pub selects : (schema : Schema) (tree at : ℕ) (t : Table) → StandsAt schema (table_at tree t) at → ShowsRows schema (select_sql t) tree (select_terms t) (column_names t)
+pub selects : (schema : Schema) (tree at : ℕ) (t : Table) → TableStandsAt schema (table_at tree t) at → ShowsRows schema (select_sql t) tree (select_terms t) (column_names t)
 selects schema tree at t it =
     let fits = select_fits tree t in
     columns_show schema (table_at tree t) at it (select_sql t) (column_names t) (select_terms t) (column_names t) (select_text t) fits.0 fits.1 fits.2 fits.3 fits.4

@@ -26,7 +26,7 @@ use Rattle.sqlite_schema.specs.declared.schema.Table.{Table as Described}
 use Rattle.sqlite_trees.specs.Objects.{catalog_tree}
 use Rattle.sqlite_trees.specs.Tree.{IsAscending}
 use Rattle.table_schema.specs.Cells.{column_names, delete_tests, insert_terms, select_terms, width}
-use Rattle.table_schema.specs.Places.{StandsAt, TreesDiffer, tree_named}
+use Rattle.table_schema.specs.Places.{TableStandsAt, TreesDiffer, tree_named}
 use Rattle.table_schema.specs.Rows.{AreOfKinds, HaveRowids, IsAlone, IsPlan, KeepsBeside, MayFail, Stands, Tables, matches, placed}
 use Rattle.table_schema.specs.Rows.{shown, stored, tables_of, with_cells, with_rows, without_key}
 use Rattle.table_schema.specs.Schema.{HasTables, RefersAside, all_tables, name, place, table_at}
@@ -92,7 +92,7 @@ abbrev pub moved : (a b : Schema) → a ≡ b → HasTables a → HasTables b
 moved a b same has = record {
   at = has.at;
   trees = has.trees;
-  stands = λ t. subst (λ s. StandsAt s (table_at (has.trees t) t) (has.at t)) same (has.stands t);
+  stands = λ t. subst (λ s. TableStandsAt s (table_at (has.trees t) t) (has.at t)) same (has.stands t);
   apart = subst (λ (s : Schema). IsAscending TreesDiffer s.tables) same has.apart;
   refer = subst (λ s. RefersAside s (has.trees Offset)) same has.refer;
 }

@@ -1,5 +1,5 @@
 -- Why a statement that writes may fail.
-use Rattle.std.proofs.Common.{◌≡◌, ◌≢◌, ◌≤◌, ◌⊎◌, ℕ, false, inl, inr, List, [], length}
+use Rattle.std.proofs.Common.{◌≡◌, ◌≢◌, ◌≤◌, ◌⊎◌, ℕ, Bool, true, false, inl, inr, List, [], length}
 use Rattle.std.proofs.Common.{Option, Some, None, Result, Err, IsSome, IsTrue, true≢false, refl, sym, ap, subst, ◌∙◌, arith, append-nil}
 use Rattle.sqlite.specs.Effect.{is_query}
 use Rattle.sqlite.specs.Clock.{timed}
@@ -141,19 +141,23 @@ vain_before a b c e (inl h) more = inl (h.0, h.1, go h.0 h.2)
     go Unstorable h = h
 vain_before a b c e (inr h) more = inr h
 
--- and what causes it after a statement that left the connection open causes it since that statement began
-pub vain_after : (a b c : State) (e : Error) → a.faults ≤ b.faults → IsTrue b.is_open → b.step_limit ≡ a.step_limit
-    → MayFail b c e → MayFail a c e
-vain_after a b c e more stays limit (inl h) = inl (h.0, h.1, go h.0 h.2)
+-- and what causes it after a statement that shut no connection causes it since that statement began
+pub vain_since : (a b c : State) (e : Error) → a.faults ≤ b.faults → (IsTrue a.is_open → IsTrue b.is_open)
+    → b.step_limit ≡ a.step_limit → MayFail b c e → MayFail a c e
+vain_since a b c e more stays limit (inl h) = inl (h.0, h.1, go h.0 h.2)
   where
+    shut : (o : Bool) → a.is_open ≡ o → b.is_open ≡ false → a.is_open ≡ false
+    shut true is h = absurd (true≢false (sym (stays is) ∙ h))
+    shut false is h = is
+
     go : (cause : StoreError) → HasCause b c ⊥ cause → HasCause a c ⊥ cause
     go OutOfMemory h = tt
     go Io h = omega (arith, more, h)
     go Corrupt h = omega (arith, more, h)
     go Full h = omega (arith, more, h)
-    go Broken h = absurd (true≢false (sym stays ∙ h))
+    go Broken h = shut a.is_open refl h
     go Unstorable h = h
-vain_after a b c e more stays limit (inr h) = inr (h.0, subst IsSome limit h.1)
+vain_since a b c e more stays limit (inr h) = inr (h.0, subst IsSome limit h.1)
 
 pub commit_fails : (old new : State) (e : Error) → IsTrue old.in_transaction → FailsToCommit old new e
     → MayFail old new e

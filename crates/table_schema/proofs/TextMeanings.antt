@@ -23,7 +23,7 @@ use Rattle.table_schema.specs.declared.tables.Table.TheVariants.{Meta, CalendarE
 use Rattle.table_schema.specs.declared.tables.Table.TheVariants.{Offset, Predecessor, LinkInForce, LongTerm, Current}
 use Rattle.table_schema.specs.declared.tables.Table.TheVariants.{History, Deletion, Dependency, Job}
 use Rattle.table_schema.proofs.WrittenTests.{IsCompared, equals}
-use Rattle.table_schema.specs.Places.{StandsAt}
+use Rattle.table_schema.specs.Places.{TableStandsAt}
 use Rattle.table_schema.proofs.Written.{IfRead, Deletes, SaysEqual, SaysPair}
 use Rattle.table_schema.proofs.WrittenKeys.{key_width}
 use Rattle.table_schema.proofs.TestLemmas.{deletes_equal, deletes_pair}
@@ -39,7 +39,7 @@ runs : (schema : Schema) (draft : Draft) → accepts_program schema [] (query_of
 unfolding program
 runs schema draft fits = rw fits refl
 
-module _ (schema : Schema) (table : Described) (at : ℕ) (it : StandsAt schema table at) where
+module _ (schema : Schema) (table : Described) (at : ℕ) (it : TableStandsAt schema table at) where
   equal_deletes : (column : List ℕ) (q n size : ℕ) → IsCompared table column q → accepts_program schema [] (query_of (key_draft table.tree (equals q (n - 1) ∷ []))) [] ≡ true
       → (r : Checked Parsed) → IfRead r (SaysEqual table.name column n size) → IfRead r (Deletes schema table at (key_draft table.tree (equals q (n - 1) ∷ [])) size 1)
   equal_deletes column q n size of fits (Err e) h = absurd h
@@ -70,12 +70,12 @@ module _ (schema : Schema) (table : Described) (at : ℕ) (it : StandsAt schema 
   }
 
 module _ (schema : Schema) (at tree : ℕ) where
-  pub insert_means : (t : Table) → StandsAt schema (table_at tree t) at
+  pub insert_means : (t : Table) → TableStandsAt schema (table_at tree t) at
       → Means schema (insert_sql t) (Insert at (Values (insert_terms t) (width t))) (length (column_names t))
   insert_means t it = means schema (insert_sql t) _ _ (first (insert_sql t)) refl
       (insert_plans schema (table_at tree t) at it (Values (insert_terms t) (width t)) _ _ refl (first (insert_sql t)) (insert_says schema tree t))
 
-  deletes : (t : Table) → StandsAt schema (table_at tree t) at
+  deletes : (t : Table) → TableStandsAt schema (table_at tree t) at
       → IfRead (first (delete_sql t)) (Deletes schema (table_at tree t) at (key_draft tree (delete_tests t)) (length (delete_sql t)) (key_width t))
   deletes Meta it = equal_deletes schema (table_at tree Meta) at it _ 0 1 _ (key_is_compared tree Meta) (delete_accepted schema tree Meta it.stored it.found) (first (delete_sql Meta)) (delete_says Meta)
   deletes CalendarEntry it = equal_deletes schema (table_at tree CalendarEntry) at it _ 1 1 _ (key_is_compared tree CalendarEntry) (delete_accepted schema tree CalendarEntry it.stored it.found) (first (delete_sql CalendarEntry)) (delete_says CalendarEntry)
@@ -92,7 +92,7 @@ module _ (schema : Schema) (at tree : ℕ) where
   deletes Dependency it = pair_deletes schema (table_at tree Dependency) at it _ _ 1 2 1 2 _ (key_is_compared tree Dependency).0 (key_is_compared tree Dependency).1 (delete_accepted schema tree Dependency it.stored it.found) (first (delete_sql Dependency)) (delete_says Dependency)
   deletes Job it = equal_deletes schema (table_at tree Job) at it _ 0 1 _ (key_is_compared tree Job) (delete_accepted schema tree Job it.stored it.found) (first (delete_sql Job)) (delete_says Job)
 
-  pub delete_means : (t : Table) → StandsAt schema (table_at tree t) at
+  pub delete_means : (t : Table) → TableStandsAt schema (table_at tree t) at
       → Means schema (delete_sql t) (Delete at (record { lets = []; body = plain_query tree (delete_tests t) (col 1 0 ∷ []) })) (key_width t)
   delete_means t it = means schema (delete_sql t) _ _ (first (delete_sql t)) refl
       (delete_plans schema (table_at tree t) at it (key_draft tree (delete_tests t)) _ _ (first (delete_sql t)) (deletes t it))

@@ -5,6 +5,7 @@ use Rattle.sqlite.specs.Effect.{Database, IsDatabase}
 use Rattle.sqlite.specs.Schema.{Schema}
 use Rattle.sqlite.specs.State.{State}
 use Rattle.sqlite.specs.Table.{Table as Described}
+use Rattle.sqlite.specs.Tree.{Trees}
 use Rattle.table_schema.specs.Free.{IsFree, with_plan, with_tables}
 use Rattle.table_schema.specs.Rows.{IsPlan, no_rows, tables_of}
 use Rattle.table_schema.specs.Schema.{HasOwnIndexes, all_tables, place, table_at}
@@ -38,7 +39,7 @@ pub record IsReady (base : Database) (s : State) : Type 0 where
   pub mode : IsTrue s.in_transaction
 
 -- these tables are made, without rows; the others stand as they stood, with their rows
-pub record IsMade (done : List Table) (base : Database) (s : State) : Type 0 where
+pub record IsMadeSoFar (done : List Table) (base : Database) (s : State) : Type 0 where
   pub free : IsFree base.schema
   pub schema : s.now.schema ≡ with_tables base.schema done
   pub empty : AllMade (λ t. s.now.trees t.tree ≡ []) base.schema done
@@ -56,3 +57,14 @@ pub record IsMadeWhole (base : Database) (s : State) : Type 0 where
   pub own : HasOwnIndexes s.now.schema
   pub sound : IsDatabase s.now
   pub mode : IsTrue s.in_transaction
+
+-- the tables of a plan were made, without rows; the others stand as they stood, with their rows
+pub record IsMadeBeside (old new : State) : Type 0 where
+  pub plan : IsPlan new
+  pub rows_are : tables_of new.now.trees ≡ no_rows
+  pub schema : new.now.schema ≡ with_plan old.now.schema
+  pub others : KeepsRows old.now.schema.tables old.now.trees new.now.trees
+
+-- what that leaves
+abbrev pub HoldsMade : State → Trees → Type 0
+HoldsMade old db = (tables_of db ≡ no_rows) × KeepsRows old.now.schema.tables old.now.trees db

@@ -19,7 +19,7 @@ use Rattle.sqlite_sql.specs.declared.ops.CompareOp.TheVariants.{Eq}
 use Rattle.sqlite_trees.specs.Tree.{IsAscending}
 use Rattle.sqlite_value.specs.Keys.{plain}
 use Rattle.sqlite_value.specs.declared.keys.Order.{Order}
-use Rattle.table_schema.specs.Places.{StandsAt, TreesDiffer}
+use Rattle.table_schema.specs.Places.{TableStandsAt, TreesDiffer}
 use Rattle.table_schema.specs.declared.tables.Table.{Table}
 use Rattle.table_schema.specs.declared.tables.Table.TheVariants.{Meta, CalendarEntry, Period, Application}
 use Rattle.table_schema.specs.declared.tables.Table.TheVariants.{RunCycle, Offset, Predecessor, LinkInForce}
@@ -306,7 +306,7 @@ RefersAside schema n = AllByRecursion (λ child. AllByRecursion (λ ref. IsAside
 pub record HasTables (schema : Schema) : Type 0 where
   pub at : Table → ℕ
   pub trees : Table → ℕ
-  pub stands : (t : Table) → StandsAt schema (table_at (trees t) t) (at t)
+  pub stands : (t : Table) → TableStandsAt schema (table_at (trees t) t) (at t)
   pub apart : IsAscending TreesDiffer schema.tables
   pub refer : RefersAside schema (trees Offset)
 

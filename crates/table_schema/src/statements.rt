@@ -2,11 +2,10 @@
 
 ghost use Rattle.std.specs.Prelude.{◌≡◌, map, false, Err, IfErr, IfOk, OnOk, IsTrue};
 ghost use Rattle.std.specs.List.Sorted.{IsPermutation};
-ghost use Rattle.sqlite.specs.Effect.{IsDatabase};
 ghost use Rattle.sqlite.specs.State.{ExecutesInside, HasCleanDisk, IsUnchanged, Survives};
 ghost use Rattle.sqlite.specs.Held.{state};
 ghost use Rattle.sqlite.specs.Values.{bound};
-ghost use Rattle.table_schema.specs.Rows.{AreOfKinds, IsAlone, IsPlan, MayFail, shown, tables_of};
+ghost use Rattle.table_schema.specs.Rows.{AreOfKinds, IsAlone, MayFail, shown, tables_of};
 ghost use Rattle.table_schema.specs.Rows.{with_cells, without_key};
 ghost use Rattle.table_schema.specs.Schema.{HasTables};
 ghost use Rattle.table_schema.specs.Takes.{LosesKey, TakesRow};
@@ -35,11 +34,6 @@ pub fn insert<S: Alter>(
         → OnOk result (IsTrue (state S.Store tx.new.conn.now).is_open) }
     ensures takes { TakesWhere (TakesRow table (bound values.now)) S.Store tx.old tx.new result
         (with_cells table (bound values.now)) }
-    ensures obeys { HasCleanDisk (state S.Store tx.new.conn.now)
-        → IsPlan (state S.Store tx.old.conn.now)
-        → IsTrue (state S.Store tx.old.conn.now).in_transaction
-        → AreOfKinds table (bound values.now)
-        → OnOk result (IsDatabase (state S.Store tx.new.conn.now).now) }
 {
     tx.execute(insert_text(table), values)?;
     Ok(())
@@ -56,11 +50,6 @@ pub fn delete<S: Alter>(
         (without_key table (bound key.now)) }
     ensures takes { TakesWhere (LosesKey table (bound key.now)) S.Store tx.old tx.new result
         (without_key table (bound key.now)) }
-    ensures obeys { HasCleanDisk (state S.Store tx.new.conn.now)
-        → IsPlan (state S.Store tx.old.conn.now)
-        → IsTrue (state S.Store tx.old.conn.now).in_transaction
-        → IsAlone table (bound key.now) (tables_of (state S.Store tx.old.conn.now).now.trees)
-        → OnOk result (IsDatabase (state S.Store tx.new.conn.now).now) }
 {
     tx.execute(delete_text(table), key)?;
     Ok(())

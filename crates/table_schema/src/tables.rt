@@ -35,3 +35,21 @@ pub enum Table {
     /// `job`: the kept jobs.
     Job,
 }
+
+/// All tables, in the order in which they are made: those that others refer to before them.
+pub const TABLES: [Table; 14] = [
+    Table::Meta,
+    Table::CalendarEntry,
+    Table::Period,
+    Table::Application,
+    Table::RunCycle,
+    Table::Offset,
+    Table::Predecessor,
+    Table::LinkInForce,
+    Table::LongTerm,
+    Table::Current,
+    Table::History,
+    Table::Deletion,
+    Table::Dependency,
+    Table::Job,
+];

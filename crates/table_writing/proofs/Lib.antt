@@ -1,4 +1,3 @@
-pub mod Turns
 pub mod KindLemmas
 pub mod AloneLemmas
 pub mod TakingLemmas

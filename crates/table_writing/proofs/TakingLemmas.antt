@@ -1,54 +1,29 @@
 -- What statements in turn take, and why they fail.
-use Rattle.std.proofs.Common.{◌≡◌, ◌≤◌, ◌<◌, ◌+◌, ◌∙◌, ℕ, suc, Bool, true, false, inl, inr, List, ◌∷◌, length, drop}
-use Rattle.std.proofs.Common.{get_or, drop-cons, add-one, refl, sym, ap, subst, arith, true≢false, IsSome, IsTrue, Result, Ok, Err}
-use Rattle.std.specs.Prelude.{IfErr, IsErrAnd, OnOk}
+use Rattle.std.proofs.Common.{◌≡◌, ◌<◌, ◌+◌, ◌∙◌, ℕ, true, false, List, length, drop}
+use Rattle.std.proofs.Common.{get_or, refl, sym, ap, subst, arith, IsTrue, Result, Ok, Err}
+use Rattle.std.specs.Prelude.{IfErr, IsErrAnd}
 use Rattle.sqlite.specs.Order.{Row as Values}
 use Rattle.sqlite.specs.Effect.{Database, IsDatabase}
 use Rattle.sqlite.specs.Held.{Held, state}
 use Rattle.sqlite.specs.Schema.{Schema}
-use Rattle.sqlite.specs.State.{HasCause, HasCleanDisk, IsLive, State, Survives}
+use Rattle.sqlite.specs.State.{HasCleanDisk, IsLive, IsRolledBack, Shows, State, Survives}
 use Rattle.sqlite.specs.Tree.{Trees}
-use Rattle.sqlite.proofs.StateLemmas.{survives_then}
 use Rattle.sqlite.specs.Steps.{FailsToCommit}
 use Rattle.sqlite.specs.Store.{Ghosts}
 use Rattle.sqlite.specs.declared.error.Error.{Error}
 use Rattle.sqlite.specs.declared.transaction.Transaction.{Transaction}
-use Rattle.sqlite_trees.specs.declared.error.StoreError.{StoreError}
-use Rattle.sqlite_trees.specs.declared.error.StoreError.TheVariants.{OutOfMemory, Io, Corrupt, Full, Broken, Unstorable}
 use Rattle.table_schema.specs.Rows.{HaveRowids, IsAlone, IsPlan, MayFail, Stands, Tables, tables_of, with_cells, without_key}
 use Rattle.table_schema.specs.Schema.{HasOwnIndexes}
 use Rattle.table_schema.specs.Takes.{IsSoundPlan, LosesKey, TakesRow}
-use Rattle.table_schema.specs.Writes.{TakesWhere, WritesWhere, seen}
+use Rattle.table_schema.specs.Writes.{Commits, TakesWhere, WritesWhere, seen}
+use Rattle.table_schema.proofs.InTurn.{cut}
+use Rattle.table_schema.proofs.OnceLemmas.{ended_so, undone, unended}
+use Rattle.table_schema.proofs.ResultLemmas.{if_err, still_ok}
 use Rattle.table_schema.proofs.StatementLemmas.{plan_still}
+use Rattle.table_schema.proofs.StopLemmas.{vain_before, vain_since}
 use Rattle.table_schema.specs.declared.tables.Table.{Table}
 use Rattle.table_writing.specs.Taking.{TakesEach, WritesTaking}
-use Rattle.table_writing.specs.Writing.{HoldsWritten}
-
--- what causes a failure after a statement caused it since that statement began
-pub may_since : (a b c : State) (e : Error) → a.faults ≤ b.faults → (IsTrue a.is_open → IsTrue b.is_open)
-    → b.step_limit ≡ a.step_limit → MayFail b c e → MayFail a c e
-may_since a b c e more stays limit (inl h) = inl (h.0, h.1, go h.0 h.2)
-  where
-    shut : (o : Bool) → a.is_open ≡ o → b.is_open ≡ false → a.is_open ≡ false
-    shut true is h = absurd (true≢false (sym (stays is) ∙ h))
-    shut false is h = is
-
-    go : (cause : StoreError) → HasCause b c ⊥ cause → HasCause a c ⊥ cause
-    go OutOfMemory h = tt
-    go Io h = omega (arith, more, h)
-    go Corrupt h = omega (arith, more, h)
-    go Full h = omega (arith, more, h)
-    go Broken h = shut a.is_open refl h
-    go Unstorable h = h
-may_since a b c e more stays limit (inr h) = inr (h.0, subst IsSome limit h.1)
-
-if_errs : {T : Type 0} (r : Result T Error) (P Q : Error → Type 0) → ((e : Error) → P e → Q e) → IfErr r P → IfErr r Q
-if_errs (Ok v) P Q f h = tt
-if_errs (Err e) P Q f h = f e h
-
-on_oks : {T : Type 0} (r : Result T Error) (P Q : Type 0) → (P → Q) → OnOk r P → OnOk r Q
-on_oks (Ok v) P Q f h = f h
-on_oks (Err e) P Q f h = tt
+use Rattle.table_writing.specs.Writing.{HasRows, HoldsWritten, MayFailWhere}
 
 -- what is told is the error
 pub if_told : {T : Type 0} (r : Result T Error) (old new : State) (e : Error) → IsErrAnd r (λ told. told ≡ e)
@@ -83,12 +58,12 @@ module _ {S : Type 0} (g : Ghosts S) where
   takes_then A B f h old mid new v r one two first second = record {
     fails = λ clean sound takes.
         let it = first.sound (omega (arith, two.clean)) sound takes.0 in
-        if_errs r (MayFail (seen g mid) (seen g new)) (MayFail (seen g old) (seen g new))
-        (λ e. may_since (seen g old) (seen g mid) (seen g new) e one.counts it.1 one.limit)
+        if_err r (MayFail (seen g mid) (seen g new)) (MayFail (seen g old) (seen g new))
+        (λ e. vain_since (seen g old) (seen g mid) (seen g new) e one.counts it.1 one.limit)
         (second.fails clean it.0 (subst B (sym it.2) takes.1));
     sound = λ clean sound takes.
         let it = first.sound (omega (arith, two.clean)) sound takes.0 in
-        on_oks r _ _ (leaves_then (seen g old) (seen g mid) (seen g new) _ h it)
+        still_ok r _ _ (leaves_then (seen g old) (seen g mid) (seen g new) _ h it)
         (second.sound clean it.0 (subst B (sym it.2) takes.1));
   }
 
@@ -104,40 +79,17 @@ module _ {S : Type 0} (g : Ghosts S) where
 
 -- ---- loops
 
-cut_at : {A : Type 0} (items : List A) (i : ℕ) (item : A) → i < length items → item ≡ get_or items i item
-    → drop i items ≡ item ∷ drop (i + 1) items
-cut_at items i item low is =
-    rw add-one (drop-cons items i item low ∙ ap (λ x. x ∷ drop (suc i) items) (sym is))
-
 -- the next item is taken, and then the rest
 pub each_on : {A : Type 0} (t : Table) (values_of : A → Values) (items : List A) (i : ℕ) (item : A) (all : Tables)
     → i < length items → item ≡ get_or items i item → TakesEach t values_of (drop i items) all
     → TakesRow t (values_of item) all × TakesEach t values_of (drop (i + 1) items) (with_cells t (values_of item) all)
 each_on t values_of items i item all low is h =
-    subst (λ xs. TakesEach t values_of xs all) (cut_at items i item low is) h
+    subst (λ xs. TakesEach t values_of xs all) (cut items i item low is) h
 
 -- ---- a transaction
 
--- what caused a failure causes it still, however many faults follow
-pub may_until : (a b c : State) (e : Error) → b.faults ≤ c.faults → MayFail a b e → MayFail a c e
-may_until a b c e more (inl h) = inl (h.0, h.1, go h.0 h.2)
-  where
-    go : (cause : StoreError) → HasCause a b ⊥ cause → HasCause a c ⊥ cause
-    go OutOfMemory h = tt
-    go Io h = omega (arith, more, h)
-    go Corrupt h = omega (arith, more, h)
-    go Full h = omega (arith, more, h)
-    go Broken h = h
-    go Unstorable h = h
-may_until a b c e more (inr h) = inr h
-
--- a commit in a transaction fails for these alone
-pub commit_may : (old new : State) (e : Error) → IsTrue old.in_transaction → FailsToCommit old new e → MayFail old new e
-commit_may old new e mode (inl fails) = inl (fails.0, fails.1, fails.2)
-commit_may old new e mode (inr late) = absurd (let k : true ≡ false = sym mode ∙ late.1 in true≢false k)
-
 -- a transaction begins with a plan that is sound
-pub begins_sound : {S : Type 0} (g : Ghosts S) (held begun : Held S) → begun ≡ record held { in_transaction = true }
+begins_sound : {S : Type 0} (g : Ghosts S) (held begun : Held S) → begun ≡ record held { in_transaction = true }
     → IsLive (state g held) → IsPlan (state g held) → HasOwnIndexes (state g held).now.schema
     → IsSoundPlan (state g begun)
 begins_sound g held begun is live plan own = subst (λ h. IsSoundPlan (state g h)) (sym is) (record {
@@ -148,7 +100,7 @@ begins_sound g held begun is live plan own = subst (λ h. IsSoundPlan (state g h
 })
 
 -- what is committed is a plan with these rows
-pub plan_on : (mid new : State) (rows : Tables) → new.now ≡ mid.now → IsPlan mid → tables_of mid.now.trees ≡ rows
+plan_on : (mid new : State) (rows : Tables) → new.now ≡ mid.now → IsPlan mid → tables_of mid.now.trees ≡ rows
     → IsPlan new × (tables_of new.now.trees ≡ rows)
 plan_on mid new rows is plan rows_are = (plan_still mid new is plan, ap (λ (db : Database). tables_of db.trees) is ∙ rows_are)
 
@@ -167,7 +119,7 @@ taken_by g old new result t given key same writes takes =
     })
 
 -- what a crash leaves of a commit
-pub holds_written : (old start mid : State) (rows : Tables) (db : Trees) → start.now ≡ old.now → IsLive old
+holds_written : (old start mid : State) (rows : Tables) (db : Trees) → start.now ≡ old.now → IsLive old
     → Stands start mid rows → db ≡ mid.now.trees → HoldsWritten old rows db
 holds_written old start mid rows db same live stands is = record {
   rows_are = ap tables_of is ∙ stands.rows_are;
@@ -179,34 +131,66 @@ holds_written old start mid rows db same live stands is = record {
       (subst (λ (s : Schema). IsDatabase (record { schema = s; trees = mid.now.trees })) kept (stands.obeys was));
 }
 
--- of a whole transaction
-pub left_written : {S : Type 0} (g : Ghosts S) (conn begun : Held S) (mid end : State) (f : Tables → Tables)
-    → begun ≡ record conn { in_transaction = true } → IsLive (state g conn)
-    → Survives (state g begun) mid (λ _. ⊥) → Survives mid end (λ db. db ≡ mid.now.trees)
-    → (HasCleanDisk mid → IsPlan (state g begun) → IsTrue (state g begun).in_transaction
-    → Stands (state g begun) mid (f (tables_of (state g begun).now.trees)))
-    → Survives (state g conn) end (λ db. IsPlan (state g conn)
-    → HoldsWritten (state g conn) (f (tables_of (state g conn).now.trees)) db)
-left_written {S} g conn begun mid end f is live first last writes =
-    let old = state g conn in
-    let start = state g begun in
-    let k = subst (λ (h : Held S). Survives (state g h) mid (λ _. ⊥)) is first in
-    let one : Survives old mid (λ _. ⊥) = record {
-      clean = k.clean;
-      shield = k.shield;
-      counts = k.counts;
-      limit = k.limit;
-      closes = k.closes;
-      crash = k.crash;
-    } in
-    let Left : Trees → Type 0 = λ db. IsPlan old → HoldsWritten old (f (tables_of old.now.trees)) db in
-    survives_then old mid end (λ _. ⊥) (λ db. db ≡ mid.now.trees) Left (λ _ db none. absurd none)
-    (λ clean db left plan.
-    let calm : HasCleanDisk mid = omega (arith, last.clean) in
-    let starts : IsPlan start = subst (λ (h : Held S). IsPlan (state g h)) (sym is)
-    (record { schema = plan.schema; told = plan.told; rowids = plan.rowids }) in
-    let goes : IsTrue start.in_transaction = subst (λ (h : Held S). IsTrue h.in_transaction) (sym is) refl in
-    let stands = writes calm starts goes in
-    holds_written old start mid (f (tables_of old.now.trees)) db (ap (λ (h : Held S). (state g h).now) is) live
-    (subst (λ (all : Tables). Stands start mid (f all)) (ap (λ (h : Held S). tables_of (state g h).now.trees) is) stands)
-    left) one last
+module _ {S : Type 0} (g : Ghosts S) (conn : Held S) (tx mid : Transaction S)
+    (begun : tx.conn.now ≡ record conn { in_transaction = true }) (live : IsLive (state g conn))
+    (settled : IsTrue (state g conn).is_open → (state g conn).now ≡ (state g conn).committed)
+    {Fit Take Takes : Tables → Type 0} (fit : (all : Tables) → Fit all) (take : (all : Tables) → Takes all → Take all)
+    (made : Tables → Tables) (end last : Held S) (same : end ≡ last) (ended : end.in_transaction ≡ false) where
+  abbrev old : State
+  old = state g conn
+
+  abbrev CommitsIt : {U : Type 0} → Result U Error → Type 0
+  CommitsIt r = Commits g conn last r IsPlan (HasRows made) (MayFailWhere Takes)
+      (λ old. HoldsWritten old (made (tables_of old.now.trees)))
+
+  rows : tables_of (seen g tx).now.trees ≡ tables_of old.now.trees
+  rows = ap (λ (h : Held S). tables_of (state g h).now.trees) begun
+
+  stands : {T : Type 0} {t : T} → WritesTaking Fit Take g tx mid (Ok t) made → HasCleanDisk (seen g mid) → IsPlan old
+      → Stands (seen g tx) (seen g mid) (made (tables_of old.now.trees))
+  stands writes calm plan = subst (λ (all : Tables). Stands (seen g tx) (seen g mid) (made all)) rows
+      (writes.ok calm (subst (λ (h : Held S). IsPlan (state g h)) (sym begun)
+      (record { schema = plan.schema; told = plan.told; rowids = plan.rowids }))
+      (subst (λ (h : Held S). IsTrue h.in_transaction) (sym begun) refl) (fit _))
+
+  taken : Takes (tables_of old.now.trees) → Take (tables_of (seen g tx).now.trees)
+  taken takes = take _ (subst Takes (sym rows) takes)
+
+  since : (new : State) (e : Error) → MayFail (seen g tx) new e → MayFail old new e
+  since new e = subst (λ (h : Held S). MayFail (state g h) new e) begun
+
+  pub written_not : {T U : Type 0} {e : Error} (r : Result U Error) → WritesTaking {T = T} Fit Take g tx mid (Err e) made
+      → Survives (seen g mid) (state g end) (λ _. ⊥)
+      → (HasCleanDisk (state g end) → IsRolledBack (seen g mid) (state g end)) → IsErrAnd r (λ x. x ≡ e) → CommitsIt r
+  written_not {e = e} r writes ends back is = undone g conn tx mid begun settled IsPlan (HasRows made)
+      (MayFailWhere Takes) (λ old. HoldsWritten old (made (tables_of old.now.trees))) writes.kept writes.survives end last
+      same ended e r ends back
+      (λ calm plan own takes. since (state g end) e (vain_before (seen g tx) (seen g mid) (state g end) e
+      (writes.takes.fails calm (begins_sound g conn tx.conn.now begun live plan own) (taken takes)) ends.counts)) is
+
+  module _ {T : Type 0} {t : T} (writes : WritesTaking Fit Take g tx mid (Ok t) made)
+      (ends : Survives (seen g mid) (state g end) (λ db. db ≡ (seen g mid).now.trees)) where
+    abbrev Made : Type 0
+    Made = Stands (seen g tx) (seen g mid) (made (tables_of old.now.trees))
+
+    left : IsPlan old → Made → HoldsWritten old (made (tables_of old.now.trees)) (seen g mid).now.trees
+    left plan it = holds_written old (seen g tx) (seen g mid) (made (tables_of old.now.trees)) (seen g mid).now.trees
+        (ap (λ (h : Held S). (state g h).now) begun) live it refl
+
+    pub written_unended : {U : Type 0} {e : Error} (r : Result U Error)
+        → (HasCleanDisk (state g end) → FailsToCommit (seen g mid) (state g end) e) → IsErrAnd r (λ x. x ≡ e)
+        → CommitsIt r
+    written_unended {e = e} r failed is = unended g conn tx mid begun settled IsPlan (HasRows made) (MayFailWhere Takes)
+        (λ old. HoldsWritten old (made (tables_of old.now.trees))) writes.kept writes.survives end last same ended Made
+        (stands writes) left ends e r (λ it. it.mode) failed
+        (λ calm plan may own takes. let was = writes.takes.sound calm
+        (begins_sound g conn tx.conn.now begun live plan own) (taken takes) in
+        since (state g end) e (vain_since (seen g tx) (seen g mid) (state g end) e writes.survives.counts was.1
+        writes.survives.limit may)) is
+
+    pub written_so : {U : Type 0} (u : U)
+        → (HasCleanDisk (state g end) → Shows (seen g mid) (state g end) (seen g mid).now (seen g mid).now false)
+        → CommitsIt (Ok u)
+    written_so u shows = ended_so g conn tx mid begun settled IsPlan (HasRows made) (MayFailWhere Takes)
+        (λ old. HoldsWritten old (made (tables_of old.now.trees))) writes.kept writes.survives end last same ended Made
+        (stands writes) left ends u shows (λ plan it s is. plan_on (seen g mid) s _ is it.plan it.rows_are)

@@ -4,7 +4,10 @@ use Rattle.sqlite.specs.Effect.{IsDatabase}
 use Rattle.sqlite.specs.Order.{Row as Values}
 use Rattle.sqlite.specs.State.{State}
 use Rattle.sqlite.specs.Tree.{Trees}
-use Rattle.table_schema.specs.Rows.{AreOfKinds, HaveRowids, IsAlone, Stands, Tables, tables_of, with_cells, without_key}
+use Rattle.sqlite.specs.declared.error.Error.{Error}
+use Rattle.table_schema.specs.Rows.{AreOfKinds, HaveRowids, IsAlone, IsPlan, MayFail, Tables, tables_of, with_cells}
+use Rattle.table_schema.specs.Rows.{without_key}
+use Rattle.table_schema.specs.Schema.{HasOwnIndexes}
 use Rattle.table_schema.specs.declared.tables.Table.{Table}
 use Rattle.table_schema.specs.declared.tables.Table.TheVariants as table
 use Rattle.std.specs.Prelude.{ℕ, ◌&&◌, Bool, Option, Some, None, filter, nat_eq, not}
@@ -124,6 +127,14 @@ plans_written c change all =
     (meta_moved change c.sets.bounds c.sets.issued c.definitions.options
     (links_moved c.in_force change.in_force (pairs_moved change.pairs (rows_moved change all))))
 
+-- the tables of a plan have what that makes of their rows
+abbrev pub HasRows : (Tables → Tables) → State → State → Type 0
+HasRows made old new = IsPlan new × (tables_of new.now.trees ≡ made (tables_of old.now.trees))
+
+-- where no index was made by hand, and the tables take it, it fails for a common cause
+abbrev pub MayFailWhere : (Tables → Type 0) → State → State → Error → Type 0
+MayFailWhere Takes old new e = HasOwnIndexes old.now.schema → Takes (tables_of old.now.trees) → MayFail old new e
+
 -- what a commit of these rows leaves of a database: its tables have them, no two with one rowid; and where the
 -- connection was open it obeys the schema that it had
 pub record HoldsWritten (old : State) (rows : Tables) (db : Trees) : Type 0 where
@@ -135,7 +146,3 @@ pub record HoldsWritten (old : State) (rows : Tables) (db : Trees) : Type 0 wher
 pub record IsTellableChange (change : Change) : Type 0 where
   pub links : IfSome change.in_force (IsRising link_cmp)
   pub job : IfSome change.job (λ (job : Job). IsSmall job.reply)
-
--- on the way: in a transaction the tables have some rows, and what is left to do makes of them what is to come
-abbrev pub IsOnWay : State → State → (Tables → Tables) → Tables → Type 0
-IsOnWay old now rest goal = Stands old now (tables_of now.now.trees) × (rest (tables_of now.now.trees) ≡ goal)

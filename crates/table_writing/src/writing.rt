@@ -1,10 +1,8 @@
 // A change is written.
 
-ghost use Rattle.std.specs.Prelude.{◌≡◌, ◌<◌, ◌^◌, false, OnOk, OnErr, IfErr, IsTrue, IfSome, ⊤};
-ghost use Rattle.sqlite.specs.State.{HasCleanDisk, Survives};
-ghost use Rattle.sqlite.specs.Held.{state};
-ghost use Rattle.table_schema.specs.Rows.{IsPlan, MayFail, tables_of};
-ghost use Rattle.table_schema.specs.Schema.{HasOwnIndexes};
+ghost use Rattle.std.specs.Prelude.{◌≡◌, ◌<◌, ◌^◌, false, IfSome, ⊤};
+ghost use Rattle.table_schema.specs.Rows.{IsPlan, tables_of};
+ghost use Rattle.table_schema.specs.Writes.{Commits};
 ghost use Rattle.planner_machine.specs.Moves.{or_else};
 ghost use Rattle.planner_machine.specs.declared.job.Job.{Job as JobValue};
 ghost use Rattle.plan_store.specs.Contents.{content_of};
@@ -12,7 +10,7 @@ ghost use Rattle.table_facts.specs.Content.{answer_text};
 ghost use Rattle.table_writing.specs.Redefining.{AreStorableMoves, written};
 ghost use Rattle.table_writing.specs.Taking.{TakesChange, TakesJob, TakesNewMeta, TakesPlans};
 ghost use Rattle.table_writing.specs.Taking.{WritesTaking};
-ghost use Rattle.table_writing.specs.Writing.{HoldsWritten, job_kept, meta_moved, plans_written};
+ghost use Rattle.table_writing.specs.Writing.{HasRows, HoldsWritten, MayFailWhere, job_kept, meta_moved, plans_written};
 
 use crate::lone_rows::{put_job, write_meta};
 use crate::moves::{write_links, write_pairs, write_rows};
@@ -124,29 +122,11 @@ pub fn commit_change<S: Alter>(
     requires mode { conn.old.in_transaction ≡ false }
     requires number { IfSome change.now.job (λ (job : JobValue). job.number < 2 ^ 63) }
     requires line { IfSome change.now.job (λ (job : JobValue). line.now ≡ answer_text job.reply) }
-    ensures done { HasCleanDisk (state S.Store conn.new) → IsPlan (state S.Store conn.old)
-        → OnOk result (IsPlan (state S.Store conn.new)
-        × (tables_of (state S.Store conn.new).now.trees
-        ≡ written (content_of content.now) moves.now change.now
-        (tables_of (state S.Store conn.old).now.trees))) }
-    ensures committed { HasCleanDisk (state S.Store conn.new)
-        → OnOk result ((state S.Store conn.new).committed ≡ (state S.Store conn.new).now) }
-    ensures kept { HasCleanDisk (state S.Store conn.new) → IsPlan (state S.Store conn.old)
-        → IsTrue (state S.Store conn.new).is_open → OnErr result
-        (((state S.Store conn.new).now ≡ (state S.Store conn.old).now)
-        × ((state S.Store conn.new).committed ≡ (state S.Store conn.old).committed)) }
-    ensures fails { HasCleanDisk (state S.Store conn.new) → IsPlan (state S.Store conn.old)
-        → HasOwnIndexes (state S.Store conn.old).now.schema
-        → TakesChange (content_of content.now) moves.now change.now
-        (tables_of (state S.Store conn.old).now.trees)
-        → IfErr result (MayFail (state S.Store conn.old) (state S.Store conn.new)) }
-    ensures ended { conn.new.in_transaction ≡ false }
-    ensures stays_open { HasCleanDisk (state S.Store conn.new) → OnOk result (IsTrue
-        (state S.Store conn.new).is_open) }
-    ensures crash { Survives (state S.Store conn.old) (state S.Store conn.new)
-        (λ db. IsPlan (state S.Store conn.old) → HoldsWritten (state S.Store conn.old)
-        (written (content_of content.now) moves.now change.now
-        (tables_of (state S.Store conn.old).now.trees)) db) }
+    ensures { Commits S.Store conn.old conn.new result IsPlan
+        (HasRows (written (content_of content.now) moves.now change.now))
+        (MayFailWhere (TakesChange (content_of content.now) moves.now change.now))
+        (λ old. HoldsWritten old (written (content_of content.now) moves.now change.now
+        (tables_of old.now.trees))) }
 {
     let settled = conn.is_autocommit();
     prove!(settled);

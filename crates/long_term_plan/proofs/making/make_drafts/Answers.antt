@@ -6,7 +6,7 @@ use Rattle.occurrences.specs.declared.reply.Reply.TheVariants.{Made}
 use Rattle.occurrences.specs.declared.row.Row.{Row}
 use Rattle.planner_machine.proofs.SoundLemmas.{rows_sound}
 use Rattle.plan_store.specs.Views.{with_hidden}
-use Rattle.plan_pairs.specs.Turns.{IsListed, IsTouchOf}
+use Rattle.plan_pairs.specs.Turns.{IsInLists, IsTouchOf}
 use Rattle.long_term_plan.specs.Making.{numbered, planned_sets}
 use Rattle.long_term_plan.specs.Modifying.{HavePlanned}
 use Rattle.long_term_plan.proofs.HeldLemmas.{held, turn_seen}
@@ -40,9 +40,9 @@ returns c h sound sees known keeps =
     let to = turn_seen h view sound sees links known rows c.ltp.ensures.rows c.cp.result.now c.cp.ensures.rows
     c.lasts.result.now c.lasts.ensures s rows [] made have plan touch touches in
     let listed : (p : PlacedRow) → Contains c.in_ok-live.live p
-    ↔ IsListed (rows ++ made) c.cp.result.now c.lasts.result.now p =
+    ↔ IsInLists (rows ++ made) c.cp.result.now c.lasts.result.now p =
     subst (λ (l : List Row). (p : PlacedRow) → Contains c.in_ok-live.live p
-    ↔ IsListed (rows ++ l) c.cp.result.now c.lasts.result.now p) (c.deref-2.ensures.value ∙ put)
+    ↔ IsInLists (rows ++ l) c.cp.result.now c.lasts.result.now p) (c.deref-2.ensures.value ∙ put)
     c.in_ok-live.ensures.listed in
     let holds = held h view sound sees links known rows c.ltp.ensures.rows c.cp.result.now c.cp.ensures.rows
     c.lasts.result.now c.lasts.ensures s rows [] made have plan touch touches (λ app. Unit {0}) c.in_ok-live.live

@@ -16,7 +16,7 @@ use Rattle.plan_store.specs.declared.changes.Verdict.{Verdict}
 use Rattle.plan_store.specs.declared.changes.Verdict.TheVariants.{Done, Refused}
 use Rattle.plan_pairs.specs.LiveRows.{HasLists}
 use Rattle.plan_pairs.specs.Turns.{ArePlanned}
-use Rattle.long_term_plan.specs.Drafting.{AreInOrder, AreNew}
+use Rattle.long_term_plan.specs.Drafting.{DraftsRise, AreNew}
 use Rattle.long_term_plan.specs.Making.{numbered}
 use Rattle.long_term_plan.specs.Modifying.{AreChanged, IsModifiedOrTooMany, ModifiesRows, NamesThen, PartsPlan}
 use Rattle.long_term_plan.specs.Modifying.{modified_sets, outcome}
@@ -68,7 +68,7 @@ returns-then-are_too_many c h sound sees known planned deleted =
     c.definitions-all.ensures c.as_slice.result.now c.args.bounds.now.plan_end _ named c.deref.result.now
     c.in_ok-named.ensures c.deref.ensures.value draft there)))) in
     let go : gone ≡ filter (λ (r : Row). is_none (outcome only named r)) rows =
-    subst (λ (ds : List Draft). AreInOrder ds → gone ≡ filter (λ (r : Row). is_none (outcome only ds r)) looked)
+    subst (λ (ds : List Draft). DraftsRise ds → gone ≡ filter (λ (r : Row). is_none (outcome only ds r)) looked)
     c.deref-2.ensures.value c.in_ok-gone.ensures are_named.rising
     ∙ gone_same content.sets only named rows c.ltp-rows.ensures.rows looked c.looked_rows-looked.ensures in
     let counted : length kept + length c.deref-4.result.now ≡ size content.sets.ltp content.sets.issued =
@@ -113,7 +113,7 @@ returns c = weaker c.change_rows.result _ _ (λ verdict made h sound sees known 
     c.definitions-all.ensures c.as_slice.result.now c.args.bounds.now.plan_end _ named c.deref.result.now
     c.in_ok-named.ensures c.deref.ensures.value draft there)))) in
     let go : gone ≡ filter (λ (r : Row). is_none (outcome only named r)) rows =
-    subst (λ (ds : List Draft). AreInOrder ds → gone ≡ filter (λ (r : Row). is_none (outcome only ds r)) looked)
+    subst (λ (ds : List Draft). DraftsRise ds → gone ≡ filter (λ (r : Row). is_none (outcome only ds r)) looked)
     c.deref-2.ensures.value c.in_ok-gone.ensures are_named.rising
     ∙ gone_same content.sets only named rows c.ltp-rows.ensures.rows looked c.looked_rows-looked.ensures in
     let counted : length kept + length c.deref-4.result.now ≡ size content.sets.ltp content.sets.issued =
@@ -124,7 +124,7 @@ returns c = weaker c.change_rows.result _ _ (λ verdict made h sound sees known 
     (length c.deref-5.result.now) refl (ap length c.deref-5.ensures.value) in
     let change : AreChanged (outcome only named) rows changed =
     changed_same content.sets only named rows c.ltp-rows.ensures.rows looked c.looked_rows-looked.ensures changed
-    (subst (λ (ds : List Draft). AreInOrder ds → AreChanged (outcome only ds) looked changed) c.deref-3.ensures.value
+    (subst (λ (ds : List Draft). DraftsRise ds → AreChanged (outcome only ds) looked changed) c.deref-3.ensures.value
     c.in_ok-changed.ensures are_named.rising) in
     let parts : PartsPlan content.sets only named kept gone changed =
     record {

@@ -13,8 +13,8 @@ use Rattle.keyed_lists.specs.Rows.{of_row}
 use Rattle.plan_store.specs.Views.{IsAny, ListsSet, shown, with_hidden}
 use Rattle.plan_pairs.specs.ByApplications.{AreGathered}
 use Rattle.plan_pairs.specs.Planned.{IsPlannedOfOne}
-use Rattle.plan_pairs.specs.Turns.{IsListed, IsTouchOf}
-use Rattle.long_term_plan.specs.Drafting.{AreInOrder}
+use Rattle.plan_pairs.specs.Turns.{IsInLists, IsTouchOf}
+use Rattle.long_term_plan.specs.Drafting.{DraftsRise}
 use Rattle.long_term_plan.specs.Modifying.{AreOf, outcome}
 use Rattle.long_term_plan.proofs.HeldLemmas.{app_held, gathered_are, gone_held, held, turn_seen}
 use Rattle.long_term_plan.proofs.modification.pairs_then.Goals as goal
@@ -54,7 +54,7 @@ returns c order lists = weaker c.pair_change.result _ _ (λ change led h sound s
     let begun = touches.begun row (inr there) in
     subst (Contains apps) begun.of_app (reached.touched begun.stretch begun.listed).0 in
     let with_rows : (OfRows : List ℕ → Type 0) (live : List PlacedRow)
-    → ((p : PlacedRow) → Contains live p ↔ (IsListed (stay ++ put) current lasts p × OfRows p.row.key.app))
+    → ((p : PlacedRow) → Contains live p ↔ (IsInLists (stay ++ put) current lasts p × OfRows p.row.key.app))
     → ((q : PlacedRow) → Contains to.now q → IsOpen q.place → MayReach touch links q.row
     → OfRows q.row.key.app × ((app : List ℕ) → Lists links q.row.key.app app → OfRows app))
     → HoldsReached touch links to.now h.pairs live c.if-few-2.before = λ OfRows live are pass.
@@ -80,10 +80,10 @@ returns c order lists = weaker c.pair_change.result _ _ (λ change led h sound s
       | then-few+in_ok-planned+in_ok-live w ↦
           let planned = w.in_ok-planned.planned.items in
           let are_planned : AreOf apps (stay ++ put) planned =
-          subst (λ (ds : List Draft). AreInOrder ds → (rs : List Row)
+          subst (λ (ds : List Draft). DraftsRise ds → (rs : List Row)
           → ListsSet of_row content.sets.ltp IsAny rs → ((row : Row) → Contains put row → Contains apps row.key.app)
           → AreOf apps (filter_map (outcome only ds) rs ++ put) planned) w.deref-then-few-2.ensures.value
-          (subst (λ (ys : List (List ℕ)). AreInOrder w.deref-then-few-2.result.now → (rs : List Row)
+          (subst (λ (ys : List (List ℕ)). DraftsRise w.deref-then-few-2.result.now → (rs : List Row)
           → ListsSet of_row content.sets.ltp IsAny rs → ((row : Row) → Contains put row → Contains ys row.key.app)
           → AreOf ys (filter_map (outcome only w.deref-then-few-2.result.now) rs ++ put) planned)
           w.deref-then-few.ensures.value w.in_ok-planned.ensures) order rows lists of_made in
@@ -97,12 +97,12 @@ returns c order lists = weaker c.pair_change.result _ _ (λ change led h sound s
       | else-few+in_ok-kept+in_ok-live-2 w ↦
           let kept : w.deref-else-few-2.result.now ≡ stay =
           w.deref-else-few-2.ensures.value
-          ∙ subst (λ (ds : List Draft). AreInOrder ds
+          ∙ subst (λ (ds : List Draft). DraftsRise ds
           → w.in_ok-kept.kept.items ≡ filter_map (outcome only ds) rows) w.deref-else-few.ensures.value
           w.in_ok-kept.ensures order in
-          let listed : (p : PlacedRow) → Contains w.in_ok-live-2.live p ↔ IsListed (stay ++ put) current lasts p =
+          let listed : (p : PlacedRow) → Contains w.in_ok-live-2.live p ↔ IsInLists (stay ++ put) current lasts p =
           subst (λ (l : List Row). (p : PlacedRow) → Contains w.in_ok-live-2.live p
-          ↔ IsListed (l ++ put) current lasts p) kept w.in_ok-live-2.ensures.listed in
+          ↔ IsInLists (l ++ put) current lasts p) kept w.in_ok-live-2.ensures.listed in
           rw w.live-is (with_rows (λ app. Unit {0}) _
           (λ p. ((λ there. ((listed p).0 there, tt)), λ both. (listed p).1 both.0))
           (λ q there is_open reach. (tt, λ app names. tt)))

@@ -11,9 +11,9 @@ returns g c =
     let first = c.schema-2.ensures.value ∙ c.in_ok-make_first_tables.ensures (memory_is_clean
     c.make_first_tables.new.conn) c.in_ok-first.ensures.empty.2 in
     let empty = c.in_ok-plan.ensures.empty.2 in
-    let beside = c.in_ok-make_tables.ensures.beside (memory_is_clean c.make_tables.new.conn)
+    let beside = c.in_ok-make_tables.ensures.done (memory_is_clean c.make_tables.new.conn)
     (subst IsFree (sym empty) nothing_is_free) in
-    let plan = c.schema-3.ensures.value ∙ beside.0 ∙ ap with_plan empty ∙ plan_alone in
+    let plan = c.schema-3.ensures.value ∙ beside.schema ∙ ap with_plan empty ∙ plan_alone in
     let both = remake_iff _ _ _ first plan in
     let own = c.schema.ensures.value in (
       λ same. subst CanRemake own (both.0 (c.in_ok-can_remake.ensures.0 same)),

@@ -3,7 +3,7 @@ use Rattle.std.specs.List.{Contains}
 use Rattle.occurrences.specs.declared.place.Place.TheVariants.{LongTerm}
 use Rattle.external_dependencies.specs.declared.rows.PlacedRow.{PlacedRow}
 use Rattle.plan_pairs.specs.LiveRows.{AddsRows, AreLiveRows}
-use Rattle.plan_pairs.specs.Turns.{IsListed}
+use Rattle.plan_pairs.specs.Turns.{IsInLists}
 use Rattle.plan_pairs.proofs.RowLemmas.{are_listed, are_live, rows_both}
 use Rattle.plan_pairs.proofs.listing.live_rows_with.Goals as goal
 
@@ -34,5 +34,5 @@ returns-clause-listed c =
     let both = rows_both planned made LongTerm [] r1 r2 first c.in_ok-push_rows-2.ensures in
     let listed = are_listed (planned ++ made) current history r2 c.push_current.new.rows.items
     c.push_rows-3.new.rows.items both c.in_ok-push_current.ensures c.in_ok-push_rows-3.ensures in
-    subst (λ rows. (p : PlacedRow) → Contains rows p ↔ IsListed (planned ++ made) current history p)
+    subst (λ rows. (p : PlacedRow) → Contains rows p ↔ IsInLists (planned ++ made) current history p)
     (sym c.from_vec.ensures) listed

@@ -3,7 +3,7 @@ use Rattle.std.specs.Prelude.{IfSome, IsSome}
 use Rattle.std.proofs.lemmas.Option.{IfSome_then}
 use Rattle.std.proofs.lemmas.Result.{IfOk-weaker}
 use Rattle.definition_records.specs.ByName.{AreEntriesOf, HaveOwnNames}
-use Rattle.table_definitions.specs.Gathering.{IsMade, Paired}
+use Rattle.table_definitions.specs.Gathering.{IsGathered, Paired}
 use Rattle.table_definitions.proofs.GatherLemmas.{can_finish, made_alike, made_told, own_names}
 use Rattle.table_definitions.proofs.gathering.finish_all.Goals as goal
 
@@ -13,7 +13,7 @@ returns-in-Some-clause-made g c =
     let fs = c.in-Some.entries.items in
     let of = subst (λ l. AreEntriesOf l c.args.drafts) (sym c.deref.ensures.value) c.in_ok-drafts.ensures in
     let paired = subst (λ o. IfSome o (λ entries. Paired
-    (λ name x d. IsMade g.D.Draft.IsRow g.D.Draft.IsRead g.D.Draft.IsTold name x d) es entries.items)) c.in-Some.is
+    (λ name x d. IsGathered g.D.Draft.IsRow g.D.Draft.IsRead g.D.Draft.IsTold name x d) es entries.items)) c.in-Some.is
     c.in_ok-entries.ensures.made in
     IfOk-weaker c.from_vec.result (λ made. IfSome made (AreEntriesOf fs)) _
     (λ made h. IfSome_then made h (λ all are. made_alike g.D.Draft.IsRow g.D.Draft.IsRead g.D.Draft.IsSound
@@ -26,7 +26,7 @@ returns-in-Some-clause-told g c =
     let fs = c.in-Some.entries.items in
     let of = subst (λ l. AreEntriesOf l c.args.drafts) (sym c.deref.ensures.value) c.in_ok-drafts.ensures in
     let paired = subst (λ o. IfSome o (λ entries. Paired
-    (λ name x d. IsMade g.D.Draft.IsRow g.D.Draft.IsRead g.D.Draft.IsTold name x d) es entries.items)) c.in-Some.is
+    (λ name x d. IsGathered g.D.Draft.IsRow g.D.Draft.IsRead g.D.Draft.IsTold name x d) es entries.items)) c.in-Some.is
     c.in_ok-entries.ensures.made in
     IfOk-weaker c.from_vec.result (λ made. IfSome made (AreEntriesOf fs)) _
     (λ made h. IfSome_then made h (λ all are read was. made_told g.D.Draft.IsRow g.D.Draft.IsRead g.D.Draft.IsSound
@@ -39,11 +39,11 @@ returns-in-Some-clause-found g c =
     let fs = c.in-Some.entries.items in
     let of = subst (λ l. AreEntriesOf l c.args.drafts) (sym c.deref.ensures.value) c.in_ok-drafts.ensures in
     let paired = subst (λ o. IfSome o (λ entries. Paired
-    (λ name x d. IsMade g.D.Draft.IsRow g.D.Draft.IsRead g.D.Draft.IsTold name x d) es entries.items)) c.in-Some.is
+    (λ name x d. IsGathered g.D.Draft.IsRow g.D.Draft.IsRead g.D.Draft.IsTold name x d) es entries.items)) c.in-Some.is
     c.in_ok-entries.ensures.made in
     IfOk-weaker c.from_vec.result (λ made. IsSome made ↔ HaveOwnNames fs) _
     (λ made valid all read sound are rows. valid.1 (own_names
-    (λ name x d. IsMade g.D.Draft.IsRow g.D.Draft.IsRead g.D.Draft.IsTold name x d) es fs paired of.own_names))
+    (λ name x d. IsGathered g.D.Draft.IsRow g.D.Draft.IsRead g.D.Draft.IsTold name x d) es fs paired of.own_names))
     c.from_vec.ensures.valid
 
 pub returns-clause-found : goal.returns-clause-found

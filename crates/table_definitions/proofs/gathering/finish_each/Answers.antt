@@ -2,7 +2,7 @@ use Rattle.std.proofs.Common.{◌+◌, take, sym, ap, subst, refl, ◌∙◌, �
 use Rattle.std.specs.Prelude.{IfSome, IsSome}
 use Rattle.std.proofs.lemmas.List.{take_more}
 use Rattle.sqlite.specs.Order.{Row as Values}
-use Rattle.table_definitions.specs.Gathering.{CanFinish, IsFinish, IsMade, Paired}
+use Rattle.table_definitions.specs.Gathering.{CanFinish, IsFinish, IsGathered, Paired}
 use Rattle.table_definitions.proofs.GatherLemmas.{paired_push}
 use Rattle.table_definitions.proofs.gathering.finish_each.Goals as goal
 
@@ -17,7 +17,7 @@ loop-draft-preserved g c =
     let drafts = c.args.drafts.now in
     let index = c.loop-draft.draft-index in
     let draft = c.draft-item.result in
-    let paired = paired_push (λ name x d. IsMade g.D.Draft.IsRow g.D.Draft.IsRead g.D.Draft.IsTold name x d)
+    let paired = paired_push (λ name x d. IsGathered g.D.Draft.IsRow g.D.Draft.IsRead g.D.Draft.IsTold name x d)
     (take index drafts) c.loop-draft.entries.items draft (draft.0, c.in-Some.definition) refl
     (record {
       alike = subst (λ o. IfSome o (IsFinish g.D.Draft.IsRow g.D.Draft.IsRead draft.0 draft.1)) c.in-Some.is
@@ -25,10 +25,10 @@ loop-draft-preserved g c =
       told = subst (λ o. IfSome o (λ d. (v : Values) → g.D.Draft.IsRead draft.0 draft.1 v → g.D.Draft.IsTold d))
           c.in-Some.is c.in_ok-definition.ensures.told;
     }) c.loop-draft.invariant in
-    subst (Paired (λ name x d. IsMade g.D.Draft.IsRow g.D.Draft.IsRead g.D.Draft.IsTold name x d)
+    subst (Paired (λ name x d. IsGathered g.D.Draft.IsRow g.D.Draft.IsRead g.D.Draft.IsTold name x d)
     (take (index + 1) drafts))
     (sym c.in_ok-push-in-Some.ensures.items)
-    (subst (λ l. Paired (λ name x d. IsMade g.D.Draft.IsRow g.D.Draft.IsRead g.D.Draft.IsTold name x d) l
+    (subst (λ l. Paired (λ name x d. IsGathered g.D.Draft.IsRow g.D.Draft.IsRead g.D.Draft.IsTold name x d) l
     (c.loop-draft.entries.items ++ (draft.0, c.in-Some.definition) ∷ []))
     (ap (λ r. take index drafts ++ r ∷ []) c.draft-item.is ∙ sym (take_more drafts index draft c.loop-draft-test.true))
     paired)

@@ -10,11 +10,14 @@ returns-in-Ok-clause-opened g c clean =
     let made = c.in-Ok.ensures.done clean c.requires.room in
     record {
       is_open = c.in-Ok.ensures.stays_open clean;
-      plan = made.0;
+      plan = made.plan;
       settled = sym (c.in-Ok.ensures.committed clean);
       content = first_told (tables_of (state g.S.Store c.make_first.new.conn).now.trees) (content_of c.new.result)
-          made.1 c.new.ensures;
+          made.rows_are c.new.ensures;
     }
+
+pub returns-in-Ok-clause-beside : goal.returns-in-Ok-clause-beside
+returns-in-Ok-clause-beside g c clean = (c.in-Ok.ensures.done clean c.requires.room).beside
 
 pub returns-in-Ok-clause-survives : goal.returns-in-Ok-clause-survives
 returns-in-Ok-clause-survives g c =

@@ -10,9 +10,9 @@ use Rattle.table_opening.proofs.own_indexes.has_own_indexes.Goals as goal
 pub returns : goal.returns
 returns g c has =
     let empty = c.in_ok-made.ensures.empty.2 in
-    let beside = c.in_ok-make_tables.ensures.beside (memory_is_clean c.make_tables.new.conn) (subst IsFree (sym empty)
+    let beside = c.in_ok-make_tables.ensures.done (memory_is_clean c.make_tables.new.conn) (subst IsFree (sym empty)
     nothing_is_free) in
-    let alone = c.schema-plan.ensures.value ∙ made_alone _ _ empty beside.0 in
+    let alone = c.schema-plan.ensures.value ∙ made_alone _ _ empty beside.schema in
     own_told c.schema-schema.result.now _ (c.as_slice.ensures) (c.as_slice-2.ensures)
     (c.as_slice-3.ensures ∙ ap (λ (s : Schema). s.tables) alone) c.schema-schema.ensures.value has c.are_own.result
     c.are_own.ensures

@@ -13,8 +13,8 @@ pub returns-then-stand_among : goal.returns-then-stand_among
 unfolding HasPlan
 returns-then-stand_among g c =
     let empty = c.in_ok-made.ensures.empty.2 in
-    let beside = c.in_ok-make_tables.ensures.beside (memory_is_clean c.make_tables.new.conn) (subst IsFree (sym empty) nothing_is_free) in
-    let alone = c.schema-plan.ensures.value ∙ made_alone _ _ empty beside.0 in
+    let beside = c.in_ok-make_tables.ensures.done (memory_is_clean c.make_tables.new.conn) (subst IsFree (sym empty) nothing_is_free) in
+    let alone = c.schema-plan.ensures.value ∙ made_alone _ _ empty beside.schema in
     let both = stand_iff c.schema-schema.result.now c.as_slice-2.result.now (c.as_slice-2.ensures ∙ ap (λ (s : Schema). s.tables) alone) in
     subst HasTables c.schema-schema.ensures.value (both.0 (subst (λ tables. StandAmong tables c.as_slice-2.result.now)
     c.as_slice.ensures (c.stand_among.ensures.0 c.if-stand_among.true)))
@@ -22,8 +22,8 @@ returns-then-stand_among g c =
 pub returns-then-can_make : goal.returns-then-can_make
 returns-then-can_make g c =
     let empty = c.in_ok-made.ensures.empty.2 in
-    let beside = c.in_ok-make_tables.ensures.beside (memory_is_clean c.make_tables.new.conn) (subst IsFree (sym empty) nothing_is_free) in
-    let alone = c.schema-plan.ensures.value ∙ made_alone _ _ empty beside.0 in
+    let beside = c.in_ok-make_tables.ensures.done (memory_is_clean c.make_tables.new.conn) (subst IsFree (sym empty) nothing_is_free) in
+    let alone = c.schema-plan.ensures.value ∙ made_alone _ _ empty beside.schema in
     let both = free_iff c.schema-schema.result.now c.schema-plan.result.now alone in
     subst IsFree c.schema-schema.ensures.value (both.0 (c.can_make.ensures.0 c.if-can_make.true))
 
@@ -31,8 +31,8 @@ pub returns : goal.returns
 unfolding HasPlan
 returns g c =
     let empty = c.in_ok-made.ensures.empty.2 in
-    let beside = c.in_ok-make_tables.ensures.beside (memory_is_clean c.make_tables.new.conn) (subst IsFree (sym empty) nothing_is_free) in
-    let alone = c.schema-plan.ensures.value ∙ made_alone _ _ empty beside.0 in
+    let beside = c.in_ok-make_tables.ensures.done (memory_is_clean c.make_tables.new.conn) (subst IsFree (sym empty) nothing_is_free) in
+    let alone = c.schema-plan.ensures.value ∙ made_alone _ _ empty beside.schema in
     let own = sym c.schema-schema.ensures.value in
     let plan_is = stand_iff c.schema-schema.result.now c.as_slice-2.result.now (c.as_slice-2.ensures ∙ ap (λ (s : Schema). s.tables) alone) in
     let free_is = free_iff c.schema-schema.result.now c.schema-plan.result.now alone in (

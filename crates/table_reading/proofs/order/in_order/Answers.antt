@@ -1,5 +1,5 @@
 use Rattle.std.proofs.Common.{subst, sym}
-use Rattle.table_reading.specs.Order.{AreInOrder}
+use Rattle.table_reading.specs.Order.{NumbersRise}
 use Rattle.table_reading.proofs.OrderLemmas.{apart_rise}
 use Rattle.table_reading.proofs.order.in_order.Goals as goal
 
@@ -8,6 +8,6 @@ returns-else-numbers_rise-clause-refused g c none apart =
     let sorted = c.sort_by_number.ensures in
     let rise = apart_rise g.X.Numbered.number_of c.args.xs.items c.sort_by_number.new.xs.items sorted.same sorted.sorted
     apart in
-    let yes = c.numbers_rise.ensures.1 (subst (AreInOrder g.X.Numbered.number_of) (sym c.deref.ensures.value) rise) in
+    let yes = c.numbers_rise.ensures.1 (subst (NumbersRise g.X.Numbered.number_of) (sym c.deref.ensures.value) rise) in
     let no = c.if-numbers_rise.false in
     cc

@@ -1,6 +1,4 @@
-use Rattle.std.proofs.Common.{◌≡◌, ◌⊎◌, inl, inr, subst, sym}
-use Rattle.sqlite.specs.Held.{state}
-use Rattle.sqlite.specs.Steps.{over_memory}
+use Rattle.std.proofs.Common.{subst, sym}
 use Rattle.sqlite.proofs.Callers.{memory_is_clean}
 use Rattle.table_schema.specs.Free.{IsFree, with_plan}
 use Rattle.table_schema.specs.Rows.{no_rows}

@@ -1,20 +1,26 @@
-use Rattle.table_remaking.proofs.TurnLemmas.{turns_fail, turns_then}
+use Rattle.std.proofs.Common.{arith, inr, take}
+use Rattle.table_schema.specs.Schema.{all_tables, no_schema}
+use Rattle.table_schema.specs.declared.tables.Table.TheVariants.{Meta}
+use Rattle.table_schema.proofs.InTurn.{so_far_done, so_far_then, turns_fail}
+use Rattle.table_schema.proofs.PlaceLemmas.{at_place, place_at}
+use Rattle.table_remaking.specs.FirstSchema.{with_firsts}
+use Rattle.table_remaking.specs.Refusals.{RefusesToBegin}
+use Rattle.table_remaking.specs.Turns.{IsInside}
+use Rattle.table_remaking.proofs.CauseLemmas.{refusing}
 use Rattle.table_remaking.proofs.making.make_all.Goals as goal
 
-pub returns-in_err-make_definitions : goal.returns-in_err-make_definitions
-returns-in_err-make_definitions g c = turns_fail c.in_err-make_definitions.ensures c.from_residual.ensures.1
+pub returns-in_err-make : goal.returns-in_err-make
+returns-in_err-make g c =
+    turns_fail (so_far_then (λ n. IsInside (with_firsts no_schema (take n all_tables))) (refusing RefusesToBegin)
+    c.loop-table.invariant (at_place (λ us. IsInside (with_firsts no_schema us)) _ _
+    (place_at c.loop-table.table-index Meta (omega arith)) c.in_err-make.ensures)) c.from_residual.ensures.1
 
-pub returns-in_err-make_cycles : goal.returns-in_err-make_cycles
-returns-in_err-make_cycles g c =
-    turns_fail (turns_then c.in_ok-make_definitions.ensures c.in_err-make_cycles.ensures)
-    c.from_residual-in_err-make_cycles.ensures.1
-
-pub returns-in_err-make_rows : goal.returns-in_err-make_rows
-returns-in_err-make_rows g c =
-    turns_fail (turns_then c.in_ok-make_definitions.ensures (turns_then c.in_ok-make_cycles.ensures
-    c.in_err-make_rows.ensures)) c.from_residual-in_err-make_rows.ensures.1
+pub loop-table-preserved : goal.loop-table-preserved
+loop-table-preserved g c =
+    inr (so_far_then (λ n. IsInside (with_firsts no_schema (take n all_tables))) (refusing RefusesToBegin)
+    c.loop-table.invariant (at_place (λ us. IsInside (with_firsts no_schema us)) _ _
+    (place_at c.loop-table.table-index Meta (omega arith)) c.in_ok-make.ensures))
 
 pub returns : goal.returns
-returns g c =
-    turns_then c.in_ok-make_definitions.ensures (turns_then c.in_ok-make_cycles.ensures (turns_then
-    c.in_ok-make_rows.ensures c.make_rest.ensures))
+returns g c = so_far_done (λ n. IsInside (with_firsts no_schema (take n all_tables))) 13 (omega arith)
+    c.loop-table.invariant

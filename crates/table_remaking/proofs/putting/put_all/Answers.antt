@@ -12,7 +12,8 @@ use Rattle.table_remaking.specs.Types.{AreFirst}
 use Rattle.table_remaking.specs.declared.rows.FirstRows.{FirstRows}
 use Rattle.table_schema.proofs.ResultLemmas.{if_from}
 use Rattle.table_remaking.proofs.CauseLemmas.{fails_after}
-use Rattle.table_remaking.proofs.TurnLemmas.{fold_on, item_contains, stands_on, survives_both, table_refused}
+use Rattle.table_schema.proofs.InTurn.{fold_on, item_contains, stands_on, survives_both}
+use Rattle.table_remaking.proofs.TurnLemmas.{table_refused}
 use Rattle.table_remaking.proofs.putting.put_all.Goals as goal
 
 pub loop-read-preserved : goal.loop-read-preserved
@@ -34,14 +35,6 @@ loop-read-preserved g c =
           (subst (AreFirst read.table) (sym c.deref.ensures.value)
           (All-contains (λ (one : FirstRows). AreFirst one.table one.rows.items) c.args.reads.now read typed
           (item_contains _ c.loop-read.read-index read (omega arith) c.read-item.is)));
-      obeys = λ clean plan mode typed obeys.
-          let calm : HasCleanDisk mid = omega (arith, c.put_rows.ensures.writes.survives.clean) in
-          let before = c.loop-read.invariant.leaves calm plan mode typed in
-          c.in_ok-put_rows.ensures.puts.obeys clean before.0.plan before.0.mode
-          (subst (AreFirst read.table) (sym c.deref.ensures.value)
-          (All-contains (λ (one : FirstRows). AreFirst one.table one.rows.items) c.args.reads.now read typed
-          (item_contains _ c.loop-read.read-index read (omega arith) c.read-item.is)))
-          (c.loop-read.invariant.obeys calm plan mode typed obeys);
       leaves = λ clean plan mode typed.
           let before = c.loop-read.invariant.leaves (omega
           (arith, c.put_rows.ensures.writes.survives.clean)) plan mode typed in
@@ -84,5 +77,4 @@ returns-in_err-put_rows-clause-puts g c = record {
       (subst (λ rows. FailsFor (here rows) mid new e) c.deref.ensures.value caused)))
       c.from_residual.ensures.1;
   stays_open = search rules;
-  obeys = search rules;
 }

@@ -1,10 +1,9 @@
 use Rattle.std.proofs.Common.{◌≡◌, drop, IsTrue}
-use Rattle.sqlite.specs.Effect.{IsDatabase}
 use Rattle.sqlite.specs.State.{HasCleanDisk, KeepsCommit, Survives}
 use Rattle.sqlite.specs.Held.{state}
 use Rattle.table_schema.specs.Rows.{IsPlan, tables_of}
 use Rattle.table_remaking.specs.Remaking.{AreAllFirst, with_all_put}
-use Rattle.table_remaking.proofs.TurnLemmas.{IsOnWay}
+use Rattle.table_schema.proofs.InTurn.{IsOnWay}
 use Rattle.table_remaking.proofs.putting.put_all.Given as goal
 
 abbrev pub invariant-loop-read : goal.invariant-loop-read
@@ -17,8 +16,6 @@ invariant-loop-read g l =
       survives : Survives old now (λ _. ⊥);
       opened : HasCleanDisk now → IsPlan old → IsTrue old.in_transaction → IsTrue old.is_open → AreAllFirst l.reads
           → IsTrue now.is_open;
-      obeys : HasCleanDisk now → IsPlan old → IsTrue old.in_transaction → AreAllFirst l.reads → IsDatabase old.now
-          → IsDatabase now.now;
       leaves : HasCleanDisk now → IsPlan old → IsTrue old.in_transaction → AreAllFirst l.reads
           → IsOnWay old now (with_all_put (drop l.read-index l.reads)) (with_all_put l.reads (tables_of old.now.trees));
     }

@@ -40,10 +40,4 @@ returns-clause-puts g c = record {
       (λ e h. insert_fails t (remade_row t row) old new e plan (remade_whole t row typed)
       (subst (λ cells. ExecutesInside 0 (insert_sql t) cells old new (Err e)) is h)) (c.insert.ensures.fails clean mode);
   stays_open = λ clean plan mode opened typed. c.insert.ensures.stays_open clean mode;
-  obeys = λ clean plan mode typed _.
-      let t = c.args.table in
-      let row = c.args.row.now in
-      let is : bound c.deref.result.now ≡ remade_row t row =
-      ap bound c.deref.ensures.value ∙ c.in_ok-values.ensures ∙ remade_bound t row typed in
-      c.insert.ensures.obeys clean plan mode (subst (AreOfKinds t) (sym is) (remade_of_kinds t row typed));
 }

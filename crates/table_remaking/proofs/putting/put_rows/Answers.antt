@@ -9,7 +9,8 @@ use Rattle.table_remaking.specs.Remaking.{RefusesRow, RefusesToFill, remade_row,
 use Rattle.table_remaking.specs.Types.{HasTypes, first_types}
 use Rattle.table_schema.proofs.ResultLemmas.{if_from}
 use Rattle.table_remaking.proofs.CauseLemmas.{fails_after}
-use Rattle.table_remaking.proofs.TurnLemmas.{fold_on, item_contains, row_refused, stands_on, survives_both}
+use Rattle.table_schema.proofs.InTurn.{fold_on, item_contains, stands_on, survives_both}
+use Rattle.table_remaking.proofs.TurnLemmas.{row_refused}
 use Rattle.table_remaking.proofs.putting.put_rows.Goals as goal
 
 pub loop-row-preserved : goal.loop-row-preserved
@@ -29,13 +30,6 @@ loop-row-preserved g c =
           (c.loop-row.invariant.opened calm plan mode up typed)
           (All-contains (HasTypes (first_types c.args.table)) c.args.rows.now c.row-item.result typed
           (item_contains _ c.loop-row.row-index c.row-item.result (omega arith) c.row-item.is));
-      obeys = λ clean plan mode typed obeys.
-          let calm : HasCleanDisk mid = omega (arith, c.put_row.ensures.writes.survives.clean) in
-          let before = c.loop-row.invariant.leaves calm plan mode typed in
-          c.in_ok-put_row.ensures.puts.obeys clean before.0.plan before.0.mode
-          (All-contains (HasTypes (first_types c.args.table)) c.args.rows.now c.row-item.result typed
-          (item_contains _ c.loop-row.row-index c.row-item.result (omega arith) c.row-item.is))
-          (c.loop-row.invariant.obeys calm plan mode typed obeys);
       leaves = λ clean plan mode typed.
           let before = c.loop-row.invariant.leaves (omega
           (arith, c.put_row.ensures.writes.survives.clean)) plan mode typed in
@@ -74,5 +68,4 @@ returns-in_err-put_row-clause-puts g c = record {
       survives.counts (c.loop-row.invariant.opened calm plan mode up typed) survives.limit caused))
       c.from_residual.ensures.1;
   stays_open = search rules;
-  obeys = search rules;
 }

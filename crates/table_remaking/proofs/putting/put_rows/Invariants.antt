@@ -1,11 +1,10 @@
 use Rattle.std.proofs.Common.{◌≡◌, drop, IsTrue}
-use Rattle.sqlite.specs.Effect.{IsDatabase}
 use Rattle.sqlite.specs.State.{HasCleanDisk, KeepsCommit, Survives}
 use Rattle.sqlite.specs.Held.{state}
 use Rattle.table_schema.specs.Rows.{IsPlan, tables_of}
 use Rattle.table_remaking.specs.Remaking.{with_rows_put}
 use Rattle.table_remaking.specs.Types.{AreFirst}
-use Rattle.table_remaking.proofs.TurnLemmas.{IsOnWay}
+use Rattle.table_schema.proofs.InTurn.{IsOnWay}
 use Rattle.table_remaking.proofs.putting.put_rows.Given as goal
 
 abbrev pub invariant-loop-row : goal.invariant-loop-row
@@ -18,8 +17,6 @@ invariant-loop-row g l =
       survives : Survives old now (λ _. ⊥);
       opened : HasCleanDisk now → IsPlan old → IsTrue old.in_transaction → IsTrue old.is_open → AreFirst l.table l.rows
           → IsTrue now.is_open;
-      obeys : HasCleanDisk now → IsPlan old → IsTrue old.in_transaction → AreFirst l.table l.rows → IsDatabase old.now
-          → IsDatabase now.now;
       leaves : HasCleanDisk now → IsPlan old → IsTrue old.in_transaction → AreFirst l.table l.rows
           → IsOnWay old now (with_rows_put l.table (drop l.row-index l.rows))
           (with_rows_put l.table l.rows (tables_of old.now.trees));

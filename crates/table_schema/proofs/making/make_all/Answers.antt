@@ -2,4 +2,4 @@ use Rattle.table_schema.proofs.MakingLemmas.{makes_whole}
 use Rattle.table_schema.proofs.making.make_all.Goals as goal
 
 pub returns : goal.returns
-returns g c = makes_whole _ _ _ _ c.make_each.ensures
+returns g c = makes_whole c.make_each.ensures

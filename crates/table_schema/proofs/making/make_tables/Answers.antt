@@ -1,56 +1,27 @@
-use Rattle.std.proofs.Common.{◌≡◌, ◌∙◌, ap, rules, subst, sym}
-use Rattle.sqlite.specs.Change.{KeepsRows}
-use Rattle.sqlite.specs.Effect.{Database}
-use Rattle.sqlite.specs.Held.{state}
-use Rattle.table_schema.proofs.OnceLemmas.{left, made, unended, unmade}
-use Rattle.table_schema.proofs.StatementLemmas.{plan_still}
-use Rattle.table_schema.specs.Made.{IsMadeWhole}
-use Rattle.table_schema.specs.Rows.{no_rows, tables_of}
+use Rattle.std.proofs.Common.{◌∙◌, ap, not, rules}
+use Rattle.table_schema.proofs.MakingLemmas.{made_once}
+use Rattle.table_schema.proofs.OnceLemmas.{ended_in, undone_in, unended_in}
 use Rattle.table_schema.proofs.making.make_tables.Goals as goal
 
-pub returns-in_err-make_all-clause-fails : goal.returns-in_err-make_all-clause-fails
-returns-in_err-make_all-clause-fails g c clean free =
-    unmade g.S.Store c.args.conn.now c.transaction-tx.result c.make_all.new.tx IsMadeWhole
-    c.transaction-tx.ensures.begun c.drop-tx.new.self.0 c.conn-1.given.0 (search rules) _ c.drop-tx.ensures.survives
-    c.in_err-make_all.field-0.0 c.from_residual.result c.in_err-make_all.ensures c.from_residual.ensures.1 clean free
+pub returns-in_err-make_all : goal.returns-in_err-make_all
+returns-in_err-make_all g c =
+    undone_in (made_once g.S.Store) c.args.conn.now c.transaction-tx.result c.make_all.new.tx
+    c.transaction-tx.ensures.begun (c.is_autocommit-settled.ensures.settled (c.is_autocommit-settled.ensures.value
+    ∙ ap not c.requires)) c.drop-tx.new.self.0 c.conn-1.given.0 (search rules) c.drop-tx.ensures.ended
+    c.from_residual.result c.in_err-make_all.ensures c.drop-tx.ensures.survives c.drop-tx.ensures.undone
+    c.from_residual.ensures.1
 
-pub returns-in_err-commit-clause-fails : goal.returns-in_err-commit-clause-fails
-returns-in_err-commit-clause-fails g c clean free =
-    unended g.S.Store c.args.conn.now c.transaction-tx.result c.make_all.new.tx IsMadeWhole
-    c.transaction-tx.ensures.begun c.commit.new.self.0 c.conn-2-1.given.0 (search rules) _ c.commit.ensures.survives
-    _ c.in_ok-make_all.ensures (λ base s is. is.mode) c.in_err-commit.field-0.0 c.from_residual-in_err-commit.result
-    c.in_err-commit.ensures.err c.from_residual-in_err-commit.ensures.1 clean free
+pub returns-in_err-commit : goal.returns-in_err-commit
+returns-in_err-commit g c =
+    unended_in (made_once g.S.Store) c.args.conn.now c.transaction-tx.result c.make_all.new.tx
+    c.transaction-tx.ensures.begun (c.is_autocommit-settled.ensures.settled (c.is_autocommit-settled.ensures.value
+    ∙ ap not c.requires)) c.commit.new.self.0 c.conn-2-1.given.0 (search rules) c.commit.ensures.ended
+    c.from_residual-in_err-commit.result c.in_ok-make_all.ensures c.commit.ensures.survives c.in_err-commit.ensures.err
+    c.from_residual-in_err-commit.ensures.1
 
-pub returns-in_err-commit-clause-crash : goal.returns-in_err-commit-clause-crash
-returns-in_err-commit-clause-crash g c =
-    let old = (state g.S.Store c.args.conn.now).now in
-    left g.S.Store c.args.conn.now c.transaction-tx.result c.make_all.new.tx IsMadeWhole
-    c.transaction-tx.ensures.begun c.commit.new.self.0 c.conn-2-1.given.0 (search rules)
-    _ c.in_ok-make_all.ensures c.commit.ensures.survives
-    (λ db. (tables_of db ≡ no_rows) × KeepsRows old.schema.tables old.trees db) (λ is. (is.rows_are, is.others))
-
-pub returns-clause-done : goal.returns-clause-done
-returns-clause-done g c clean free =
-    let it = made g.S.Store c.args.conn.now c.transaction-tx.result c.make_all.new.tx IsMadeWhole
-    c.transaction-tx.ensures.begun c.commit.new.self.0 c.conn-2-1.given.0 (search rules) _ c.commit.ensures.survives
-    _ c.in_ok-make_all.ensures (λ stands. (c.in_ok-commit.ensures.ok stands).1.now_is) clean free in
-    let same = ap (λ (db : Database). tables_of db.trees) it.1 in
-    (plan_still _ (state g.S.Store c.conn-2-1.given.0) it.1 it.0.plan, same ∙ it.0.rows_are)
-
-pub returns-clause-beside : goal.returns-clause-beside
-returns-clause-beside g c clean free =
-    let it = made g.S.Store c.args.conn.now c.transaction-tx.result c.make_all.new.tx IsMadeWhole
-    c.transaction-tx.ensures.begun c.commit.new.self.0 c.conn-2-1.given.0 (search rules) _ c.commit.ensures.survives
-    _ c.in_ok-make_all.ensures (λ stands. (c.in_ok-commit.ensures.ok stands).1.now_is) clean free in
-    let old = (state g.S.Store c.args.conn.now).now in
-    let same = ap (λ (db : Database). db.schema) it.1 in
-    let kept = subst (λ (db : Database). KeepsRows old.schema.tables old.trees db.trees) (sym it.1) it.0.others in
-    (same ∙ it.0.schema, kept)
-
-pub returns-clause-crash : goal.returns-clause-crash
-returns-clause-crash g c =
-    let old = (state g.S.Store c.args.conn.now).now in
-    left g.S.Store c.args.conn.now c.transaction-tx.result c.make_all.new.tx IsMadeWhole
-    c.transaction-tx.ensures.begun c.commit.new.self.0 c.conn-2-1.given.0 (search rules)
-    _ c.in_ok-make_all.ensures c.commit.ensures.survives
-    (λ db. (tables_of db ≡ no_rows) × KeepsRows old.schema.tables old.trees db) (λ is. (is.rows_are, is.others))
+pub returns : goal.returns
+returns g c =
+    ended_in (made_once g.S.Store) c.args.conn.now c.transaction-tx.result c.make_all.new.tx
+    c.transaction-tx.ensures.begun (c.is_autocommit-settled.ensures.settled (c.is_autocommit-settled.ensures.value
+    ∙ ap not c.requires)) c.commit.new.self.0 c.conn-2-1.given.0 (search rules) c.commit.ensures.ended
+    _ c.in_ok-make_all.ensures c.commit.ensures.survives (λ clean. (c.in_ok-commit.ensures.ok clean).1)

@@ -4,7 +4,7 @@ use Rattle.sqlite.specs.Values.{bound}
 use Rattle.table_schema.specs.Rows.{MayFail}
 use Rattle.table_schema.proofs.GoneLemmas.{lose_fails, lose_sound}
 use Rattle.table_schema.proofs.ResultLemmas.{if_from}
-use Rattle.table_schema.proofs.StatementLemmas.{deleted, gone_soundly}
+use Rattle.table_schema.proofs.StatementLemmas.{deleted}
 use Rattle.table_schema.proofs.statements.delete.Goals as goal
 
 pub returns-clause-writes : goal.returns-clause-writes
@@ -37,9 +37,3 @@ returns-in_err-execute-clause-takes g c = record {
       g.S.Store c.execute.new.self.conn.now)) (sym same) fails) c.from_residual.ensures.1;
   sound = search rules;
 }
-
-pub returns-clause-obeys : goal.returns-clause-obeys
-returns-clause-obeys g c clean plan mode free =
-    (gone_soundly c.args.table (bound c.args.key.now) (state g.S.Store c.args.tx.now.conn.now) (state g.S.Store
-    c.execute.new.self.conn.now) c.in_ok-execute.field-0 plan free
-    (rw c.delete_text.ensures at (c.in_ok-execute.ensures.runs clean mode))).1

@@ -3,7 +3,7 @@ use Rattle.sqlite.specs.Held.{state}
 use Rattle.sqlite.specs.Values.{bound}
 use Rattle.table_schema.specs.Rows.{MayFail}
 use Rattle.table_schema.proofs.ResultLemmas.{if_from}
-use Rattle.table_schema.proofs.StatementLemmas.{inserted, put_soundly}
+use Rattle.table_schema.proofs.StatementLemmas.{inserted}
 use Rattle.table_schema.proofs.TakeLemmas.{take_fails, take_sound}
 use Rattle.table_schema.proofs.statements.insert.Goals as goal
 
@@ -37,9 +37,3 @@ returns-in_err-execute-clause-takes g c = record {
       g.S.Store c.execute.new.self.conn.now)) (sym same) fails) c.from_residual.ensures.1;
   sound = search rules;
 }
-
-pub returns-clause-obeys : goal.returns-clause-obeys
-returns-clause-obeys g c clean plan mode kinds =
-    (put_soundly c.args.table (bound c.args.values.now) (state g.S.Store c.args.tx.now.conn.now) (state g.S.Store
-    c.execute.new.self.conn.now) c.in_ok-execute.field-0 plan kinds
-    (rw c.insert_text.ensures at (c.in_ok-execute.ensures.runs clean mode))).1

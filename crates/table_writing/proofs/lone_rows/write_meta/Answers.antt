@@ -3,7 +3,7 @@ use Rattle.sqlite.specs.Held.{state}
 use Rattle.table_writing.specs.Writing.{with_meta}
 use Rattle.table_writing.proofs.KindLemmas.{meta_storable}
 use Rattle.table_writing.proofs.TakingLemmas.{takes_no_more, takes_then, takes_weaker}
-use Rattle.table_writing.proofs.Turns.{then_ok}
+use Rattle.table_schema.proofs.InTurn.{then_ok}
 use Rattle.table_writing.proofs.lone_rows.write_meta.Goals as goal
 
 pub returns : goal.returns

@@ -3,8 +3,9 @@ use Rattle.sqlite.specs.Held.{state}
 use Rattle.sqlite.proofs.InsideLemmas.{keeps_then}
 use Rattle.table_schema.specs.Rows.{Tables, tables_of, with_cells}
 use Rattle.table_writing.specs.Taking.{TakesEach}
-use Rattle.table_writing.proofs.TakingLemmas.{each_on, if_told, may_since}
-use Rattle.table_writing.proofs.Turns.{fold_on, stands_on, survives_both}
+use Rattle.table_schema.proofs.StopLemmas.{vain_since}
+use Rattle.table_writing.proofs.TakingLemmas.{each_on, if_told}
+use Rattle.table_schema.proofs.InTurn.{fold_on, stands_on, survives_both}
 use Rattle.table_writing.proofs.loops.put_each.Goals as goal
 
 pub loop-fact-preserved : goal.loop-fact-preserved
@@ -58,7 +59,7 @@ returns-in_err-put g c =
             let was = c.loop-fact.invariant.takes (omega (arith, c.put.ensures.survives.clean)) sound takes in
             let next = each_on c.args.table g.R.Fact.values c.args.facts.now c.loop-fact.fact-index c.fact-item.result
             (tables_of mid.now.trees) (omega arith) c.fact-item.is was.2 in
-            if_told c.from_residual.result old new _ c.from_residual.ensures.1 (may_since old mid new _ way.counts was.1
+            if_told c.from_residual.result old new _ c.from_residual.ensures.1 (vain_since old mid new _ way.counts was.1
             way.limit (c.in_err-put.ensures.takes.fails clean was.0 next.0));
         sound = search rules;
       };

@@ -4,7 +4,8 @@ use Rattle.sqlite.specs.Held.{state}
 use Rattle.table_schema.specs.Rows.{IsPlan, tables_of}
 use Rattle.table_schema.specs.Takes.{IsSoundPlan}
 use Rattle.table_writing.specs.Taking.{TakesEach}
-use Rattle.table_writing.specs.Writing.{AreStorable, IsOnWay, with_each}
+use Rattle.table_schema.proofs.InTurn.{IsOnWay}
+use Rattle.table_writing.specs.Writing.{AreStorable, with_each}
 use Rattle.table_writing.proofs.loops.put_each.Given as goal
 
 abbrev pub invariant-loop-fact : goal.invariant-loop-fact

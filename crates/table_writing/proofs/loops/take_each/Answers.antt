@@ -2,9 +2,10 @@ use Rattle.std.proofs.Common.{arith, rules}
 use Rattle.sqlite.specs.Held.{state}
 use Rattle.sqlite.proofs.InsideLemmas.{keeps_then}
 use Rattle.table_schema.specs.Rows.{Tables, tables_of, without_key}
-use Rattle.table_writing.proofs.TakingLemmas.{if_told, may_since}
+use Rattle.table_schema.proofs.StopLemmas.{vain_since}
+use Rattle.table_writing.proofs.TakingLemmas.{if_told}
 use Rattle.table_schema.proofs.StatementLemmas.{stands_done}
-use Rattle.table_writing.proofs.Turns.{fold_done, fold_on, stands_on, survives_both}
+use Rattle.table_schema.proofs.InTurn.{fold_done, fold_on, stands_on, survives_both}
 use Rattle.table_writing.proofs.loops.take_each.Goals as goal
 
 pub loop-fact-preserved : goal.loop-fact-preserved
@@ -57,7 +58,7 @@ returns-in_err-take g c =
         fails = λ clean sound takes.
             let way = c.loop-fact.invariant.survives in
             let was = c.loop-fact.invariant.takes (omega (arith, c.take.ensures.survives.clean)) sound takes in
-            if_told c.from_residual.result old new _ c.from_residual.ensures.1 (may_since old mid new _ way.counts was.1
+            if_told c.from_residual.result old new _ c.from_residual.ensures.1 (vain_since old mid new _ way.counts was.1
             way.limit (c.in_err-take.ensures.takes.fails clean was.0 (
               takes.0 c.fact-item.result,
               takes.1 (g.R.Fact.key

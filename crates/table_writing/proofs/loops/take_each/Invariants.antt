@@ -4,7 +4,8 @@ use Rattle.sqlite.specs.Held.{state}
 use Rattle.table_schema.specs.Rows.{IsPlan, tables_of}
 use Rattle.table_schema.specs.Takes.{IsSoundPlan}
 use Rattle.table_writing.specs.Taking.{AreKeysOf}
-use Rattle.table_writing.specs.Writing.{IsOnWay, StandAlone, without_each}
+use Rattle.table_schema.proofs.InTurn.{IsOnWay}
+use Rattle.table_writing.specs.Writing.{StandAlone, without_each}
 use Rattle.table_writing.proofs.loops.take_each.Given as goal
 
 abbrev pub invariant-loop-fact : goal.invariant-loop-fact

@@ -5,7 +5,7 @@ use Rattle.table_facts.specs.Facts.{link_values}
 use Rattle.table_writing.specs.Writing.{beside, with_each}
 use Rattle.table_writing.proofs.KindLemmas.{links_alone, links_keys, links_storable}
 use Rattle.table_writing.proofs.TakingLemmas.{takes_no_more, takes_then, takes_weaker}
-use Rattle.table_writing.proofs.Turns.{then_ok}
+use Rattle.table_schema.proofs.InTurn.{then_ok}
 use Rattle.table_writing.proofs.moves.replace_links.Goals as goal
 
 pub returns : goal.returns

@@ -3,7 +3,7 @@ use Rattle.sqlite.specs.Held.{state}
 use Rattle.sqlite.specs.State.{HasCleanDisk}
 use Rattle.table_writing.specs.Writing.{with_each, without_each}
 use Rattle.table_writing.proofs.TakingLemmas.{takes_no_more, takes_then, takes_weaker}
-use Rattle.table_writing.proofs.Turns.{stands_then, survives_both, then_ok}
+use Rattle.table_schema.proofs.InTurn.{stands_then, survives_both, then_ok}
 use Rattle.table_writing.proofs.moves.write_moves.Goals as goal
 
 pub returns : goal.returns

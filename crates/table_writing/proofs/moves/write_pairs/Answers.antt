@@ -6,7 +6,7 @@ use Rattle.table_facts.specs.Facts.{pair_values}
 use Rattle.table_writing.specs.Writing.{with_each, without_each}
 use Rattle.table_writing.proofs.KindLemmas.{pairs_alone, pairs_keys, pairs_storable}
 use Rattle.table_writing.proofs.TakingLemmas.{takes_no_more, takes_then, takes_weaker}
-use Rattle.table_writing.proofs.Turns.{stands_then, survives_both, then_ok}
+use Rattle.table_schema.proofs.InTurn.{stands_then, survives_both, then_ok}
 use Rattle.table_writing.proofs.moves.write_pairs.Goals as goal
 
 pub returns : goal.returns

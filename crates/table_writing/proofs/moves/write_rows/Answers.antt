@@ -5,7 +5,7 @@ use Rattle.table_writing.specs.Writing.{cp_moved, deletions_moved, history_moved
 use Rattle.table_writing.proofs.KindLemmas.{cp_alone, cp_keys, deletions_alone, deletions_keys, history_alone, history_keys}
 use Rattle.table_writing.proofs.KindLemmas.{cp_storable, deletions_storable, history_storable, ltp_alone, ltp_keys, ltp_storable}
 use Rattle.table_writing.proofs.TakingLemmas.{takes_no_more, takes_then, takes_weaker}
-use Rattle.table_writing.proofs.Turns.{stands_then, survives_both, then_ok}
+use Rattle.table_schema.proofs.InTurn.{stands_then, survives_both, then_ok}
 use Rattle.table_writing.proofs.moves.write_rows.Goals as goal
 
 pub returns : goal.returns

@@ -4,7 +4,7 @@ use Rattle.table_schema.specs.declared.tables.Table.TheVariants as table
 use Rattle.table_writing.specs.Redefining.{rows_of}
 use Rattle.table_writing.specs.Writing.{with_each}
 use Rattle.table_writing.proofs.TakingLemmas.{takes_no_more, takes_then}
-use Rattle.table_writing.proofs.Turns.{then_ok}
+use Rattle.table_schema.proofs.InTurn.{then_ok}
 use Rattle.table_writing.proofs.redefining.put_cycles.Goals as goal
 
 pub returns : goal.returns

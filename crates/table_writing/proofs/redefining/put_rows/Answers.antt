@@ -4,8 +4,9 @@ use Rattle.sqlite.proofs.InsideLemmas.{keeps_then}
 use Rattle.table_schema.specs.Rows.{Tables, tables_of, with_cells}
 use Rattle.table_writing.specs.Redefining.{rows_of}
 use Rattle.table_writing.specs.Taking.{TakesEach}
-use Rattle.table_writing.proofs.TakingLemmas.{each_on, if_told, may_since}
-use Rattle.table_writing.proofs.Turns.{fold_on, item_contains, stands_on, survives_both}
+use Rattle.table_schema.proofs.StopLemmas.{vain_since}
+use Rattle.table_writing.proofs.TakingLemmas.{each_on, if_told}
+use Rattle.table_schema.proofs.InTurn.{fold_on, item_contains, stands_on, survives_both}
 use Rattle.table_writing.proofs.redefining.put_rows.Goals as goal
 
 pub loop-row-preserved : goal.loop-row-preserved
@@ -66,7 +67,7 @@ returns-in_err-put_row g c =
             mid.now.trees) (omega arith) c.row-item.is was.2 in
             let own = takes.0 c.row-item.result (item_contains _ c.loop-row.row-index c.row-item.result (omega arith)
             c.row-item.is) in
-            if_told c.from_residual.result old new _ c.from_residual.ensures.1 (may_since old mid new _ way.counts was.1
+            if_told c.from_residual.result old new _ c.from_residual.ensures.1 (vain_since old mid new _ way.counts was.1
             way.limit (c.in_err-put_row.ensures.takes.fails clean was.0 (own, next.0)));
         sound = search rules;
       };

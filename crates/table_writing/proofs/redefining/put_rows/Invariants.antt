@@ -5,7 +5,8 @@ use Rattle.table_schema.specs.Rows.{IsPlan, tables_of}
 use Rattle.table_writing.specs.Redefining.{AreRowsFor, rows_of}
 use Rattle.table_schema.specs.Takes.{IsSoundPlan}
 use Rattle.table_writing.specs.Taking.{TakesEach}
-use Rattle.table_writing.specs.Writing.{IsOnWay, with_each}
+use Rattle.table_schema.proofs.InTurn.{IsOnWay}
+use Rattle.table_writing.specs.Writing.{with_each}
 use Rattle.table_writing.proofs.redefining.put_rows.Given as goal
 
 abbrev pub invariant-loop-row : goal.invariant-loop-row

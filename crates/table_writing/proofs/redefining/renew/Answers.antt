@@ -5,7 +5,7 @@ use Rattle.table_writing.specs.Redefining.{AreRowsFor, rows_of}
 use Rattle.table_writing.specs.Writing.{with_each}
 use Rattle.table_writing.proofs.AloneLemmas.{names_alone}
 use Rattle.table_writing.proofs.TakingLemmas.{takes_no_more, takes_then, takes_weaker}
-use Rattle.table_writing.proofs.Turns.{then_ok}
+use Rattle.table_schema.proofs.InTurn.{then_ok}
 use Rattle.table_writing.proofs.redefining.renew.Goals as goal
 
 pub returns : goal.returns

@@ -3,7 +3,7 @@ use Rattle.sqlite.specs.Held.{state}
 use Rattle.table_schema.specs.declared.tables.Table.TheVariants as table
 use Rattle.table_writing.specs.Redefining.{AreRowsFor, cycles_put}
 use Rattle.table_writing.proofs.TakingLemmas.{takes_no_more, takes_then, takes_weaker}
-use Rattle.table_writing.proofs.Turns.{then_ok}
+use Rattle.table_schema.proofs.InTurn.{then_ok}
 use Rattle.table_writing.proofs.redefining.renew_cycles.Goals as goal
 
 pub returns : goal.returns

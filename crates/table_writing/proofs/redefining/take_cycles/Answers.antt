@@ -6,7 +6,7 @@ use Rattle.table_writing.specs.Redefining.{AreAlone, name_key}
 use Rattle.table_writing.specs.Writing.{without_each}
 use Rattle.table_writing.proofs.AloneLemmas.{cycles_alone}
 use Rattle.table_writing.proofs.TakingLemmas.{takes_no_more, takes_then, takes_weaker}
-use Rattle.table_writing.proofs.Turns.{then_ok}
+use Rattle.table_schema.proofs.InTurn.{then_ok}
 use Rattle.table_writing.proofs.redefining.take_cycles.Goals as goal
 
 pub returns : goal.returns

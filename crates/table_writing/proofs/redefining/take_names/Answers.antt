@@ -3,10 +3,11 @@ use Rattle.sqlite.specs.Held.{state}
 use Rattle.sqlite.proofs.InsideLemmas.{keeps_then}
 use Rattle.table_schema.specs.Rows.{Tables, tables_of, without_key}
 use Rattle.table_writing.specs.Redefining.{AreAlone, name_key}
-use Rattle.table_writing.proofs.TakingLemmas.{if_told, may_since}
+use Rattle.table_schema.proofs.StopLemmas.{vain_since}
+use Rattle.table_writing.proofs.TakingLemmas.{if_told}
 use Rattle.table_writing.proofs.AloneLemmas.{alone_still}
 use Rattle.table_schema.proofs.StatementLemmas.{stands_done}
-use Rattle.table_writing.proofs.Turns.{fold_done, fold_on, item_contains, stands_on, survives_both}
+use Rattle.table_schema.proofs.InTurn.{fold_done, fold_on, item_contains, stands_on, survives_both}
 use Rattle.table_writing.proofs.redefining.take_names.Goals as goal
 
 pub loop-name-preserved : goal.loop-name-preserved
@@ -70,7 +71,7 @@ returns-in_err-take_name g c =
             let way = c.loop-name.invariant.survives in
             let was = c.loop-name.invariant.takes (omega (arith, c.take_name.ensures.survives.clean)) sound takes.0
             takes.1 in
-            if_told c.from_residual.result old new _ c.from_residual.ensures.1 (may_since old mid new _ way.counts was.1
+            if_told c.from_residual.result old new _ c.from_residual.ensures.1 (vain_since old mid new _ way.counts was.1
             way.limit (c.in_err-take_name.ensures.takes.fails clean was.0 (
               takes.0 c.name-item.result,
               was.2

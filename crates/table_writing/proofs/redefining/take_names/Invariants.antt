@@ -5,7 +5,8 @@ use Rattle.table_schema.specs.Rows.{IsPlan, tables_of}
 use Rattle.table_writing.specs.Redefining.{AreAlone, name_key}
 use Rattle.table_schema.specs.Takes.{IsSoundPlan}
 use Rattle.table_writing.specs.Taking.{AreKeysOf}
-use Rattle.table_writing.specs.Writing.{IsOnWay, without_each}
+use Rattle.table_schema.proofs.InTurn.{IsOnWay}
+use Rattle.table_writing.specs.Writing.{without_each}
 use Rattle.table_writing.proofs.redefining.take_names.Given as goal
 
 abbrev pub invariant-loop-name : goal.invariant-loop-name

@@ -3,7 +3,7 @@ use Rattle.sqlite.specs.Held.{state}
 use Rattle.plan_store.specs.Contents.{content_of}
 use Rattle.table_writing.specs.Writing.{plans_written}
 use Rattle.table_writing.proofs.TakingLemmas.{takes_no_more, takes_then, takes_weaker}
-use Rattle.table_writing.proofs.Turns.{then_ok}
+use Rattle.table_schema.proofs.InTurn.{then_ok}
 use Rattle.table_writing.proofs.writing.write_change.Goals as goal
 
 pub returns : goal.returns

@@ -1,7 +1,7 @@
 use Rattle.std.proofs.Common.{subst, sym, ◌∙◌}
 use Rattle.std.specs.Prelude.{IfSome, IsSome}
 use Rattle.run_cycles.specs.Offset.{IsOffsets}
-use Rattle.table_definitions.specs.Placed.{AreInOrder}
+use Rattle.table_definitions.specs.Placed.{HoldsPlaces}
 use Rattle.table_definitions.proofs.CycleLemmas.{kept_told, offsets_in_order}
 use Rattle.table_definitions.proofs.PlaceLemmas.{same_list}
 use Rattle.table_definitions.proofs.cycle_parts.PartDraftDraft.finish.Goals as goal
@@ -20,6 +20,6 @@ returns-in_default-2-clause-found c d such alike = let x = c.args.self.now in
 pub returns-in-None-clause-found : goal.returns-in-None-clause-found
 returns-in-None-clause-found c d such alike = let x = c.args.self.now in
     let wanted = offsets_in_order c.args.name.now x.row x.offsets d alike in
-    let order = subst (λ o. IfSome o (λ xs. AreInOrder xs.items x.offsets)) c.in-Some-2.is c.in_ok-items.ensures.made in
+    let order = subst (λ o. IfSome o (λ xs. HoldsPlaces xs.items x.offsets)) c.in-Some-2.is c.in_ok-items.ensures.made in
     let same = same_list d.offsets c.in-Some-2.items.items (λ k. wanted k ∙ sym (order k)) in
     subst IsSome c.in-None.is (c.from_vec.ensures.valid.1 (subst IsOffsets same such.offsets))

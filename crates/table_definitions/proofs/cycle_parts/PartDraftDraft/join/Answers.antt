@@ -7,7 +7,7 @@ use mir.Syntax.{w16}
 use mir.Val.{SFits, of_z, to_z}
 use Rattle.table_definitions.specs.CycleParts.{IsReadRow, offset_tail}
 use Rattle.table_definitions.specs.Gathering.{Joins, Within}
-use Rattle.table_definitions.specs.Placed.{IsListed, IsPlaced}
+use Rattle.table_definitions.specs.Placed.{IsRowOfList, IsPlaced}
 use Rattle.table_definitions.proofs.CycleLemmas.{joins_left, joins_right, nine_told, offset_can, other_listed}
 use Rattle.table_definitions.proofs.CycleLemmas.{placed_listed}
 use Rattle.table_definitions.proofs.cycle_parts.PartDraftDraft.join.Goals as goal
@@ -64,11 +64,11 @@ returns-clause-refused c =
     let fits : SFits w16 c.in-Some.k = search rules in
     let same = to_z-of_z w16 c.in-Some.k fits in
     IfOk-weaker c.list_offset.result (λ b. (d : List ℤ) (name : List ℕ)
-    → IsListed (offset_tail name) d (offset_tail name c.in-Some.place (to_z w16 (of_z w16 c.in-Some.k)))
-    → Within (IsPlaced (offset_tail name) old) (IsListed (offset_tail name) d)
+    → IsRowOfList (offset_tail name) d (offset_tail name c.in-Some.place (to_z w16 (of_z w16 c.in-Some.k)))
+    → Within (IsPlaced (offset_tail name) old) (IsRowOfList (offset_tail name) d)
     → IsTrue b) _
     (λ b refused d such is within. refused d.offsets name
-    (subst (IsListed (offset_tail name) d.offsets)
+    (subst (IsRowOfList (offset_tail name) d.offsets)
     (c.in-Some.ensures.value ∙ sym (ap (offset_tail name c.in-Some.place) same)) (other_listed name d row
     (λ long. c.if-len-eq9.false (c.len.ensures ∙ long)) is))
     (λ v placed. placed_listed name d old v placed (within v (inr placed)))) c.list_offset.ensures.refused

@@ -5,7 +5,7 @@ use Rattle.std.proofs.lemmas.Result.{IfOk-weaker}
 use Rattle.plan_periods.specs.Period.{IsSoundPeriod}
 use Rattle.plan_periods.specs.declared.periods.Period.{Period}
 use Rattle.table_definitions.specs.DraftedPeriods.{IsOfDays, entries_of}
-use Rattle.table_definitions.specs.Placed.{AreInOrder}
+use Rattle.table_definitions.specs.Placed.{HoldsPlaces}
 use Rattle.table_definitions.proofs.PeriodLemmas.{period_alike, period_in_order}
 use Rattle.table_definitions.proofs.PlaceLemmas.{same_list}
 use Rattle.table_definitions.proofs.TellLemmas.{period_told}
@@ -13,7 +13,7 @@ use Rattle.table_definitions.proofs.periods.PeriodDraftDraft.finish.Goals as goa
 
 pub returns-in-Some-clause-made : goal.returns-in-Some-clause-made
 returns-in-Some-clause-made c =
-    let order = subst (λ o. IfSome o (λ xs. AreInOrder xs.items c.args.self.now.entries)) c.in-Some.is
+    let order = subst (λ o. IfSome o (λ xs. HoldsPlaces xs.items c.args.self.now.entries)) c.in-Some.is
     c.in_ok-entries.ensures.made in
     IfOk-weaker c.defined_of.result (λ found. IfSome found (λ p. entries_of p ≡ c.deref.result.now)) _
     (λ found made. IfSome_then found made (λ p is. period_alike c.args._name.now p c.args.self.now.entries
@@ -21,7 +21,7 @@ returns-in-Some-clause-made c =
 
 pub returns-in-Some-clause-told : goal.returns-in-Some-clause-told
 returns-in-Some-clause-told c =
-    let order = subst (λ o. IfSome o (λ xs. AreInOrder xs.items c.args.self.now.entries)) c.in-Some.is
+    let order = subst (λ o. IfSome o (λ xs. HoldsPlaces xs.items c.args.self.now.entries)) c.in-Some.is
     c.in_ok-entries.ensures.made in
     IfOk-weaker c.defined_of.result (λ found. IfSome found (λ p. entries_of p ≡ c.deref.result.now)) _
     (λ found made. IfSome_then found made (λ p same v read. period_told c.args._name.now p v ((period_alike
@@ -31,7 +31,7 @@ returns-in-Some-clause-told c =
 pub returns-in-Some-clause-found : goal.returns-in-Some-clause-found
 returns-in-Some-clause-found c =
     let m = c.args.self.now.entries in
-    let order = subst (λ o. IfSome o (λ xs. AreInOrder xs.items c.args.self.now.entries)) c.in-Some.is
+    let order = subst (λ o. IfSome o (λ xs. HoldsPlaces xs.items c.args.self.now.entries)) c.in-Some.is
     c.in_ok-entries.ensures.made in
     IfOk-weaker c.defined_of.result (λ found. (p : Period) → IsSoundPeriod p → IsOfDays p
     → entries_of p ≡ c.deref.result.now → IsSome found) _

@@ -5,7 +5,7 @@ use Rattle.plan_periods.specs.declared.periods.Period.{Period}
 use Rattle.table_facts.specs.Facts.{IsPeriodRow}
 use Rattle.table_definitions.specs.DraftedPeriods.{entries_of, lettered_values}
 use Rattle.table_definitions.specs.Gathering.{Joins, Within}
-use Rattle.table_definitions.specs.Placed.{IsListed, IsPlaced}
+use Rattle.table_definitions.specs.Placed.{IsRowOfList, IsPlaced}
 use Rattle.table_definitions.proofs.PeriodLemmas.{period_listed, readable}
 use Rattle.table_definitions.proofs.periods.PeriodDraftDraft.join.Goals as goal
 
@@ -32,8 +32,8 @@ returns-clause-refused c =
     let name = c.args.name.now in
     let old = c.args.self.now.entries in
     IfOk-weaker c.list_entry.result (λ b. (d : Period) (name : List ℕ)
-    → IsListed (lettered_values name) (entries_of d) (lettered_values name c.in-Some.place c.in-Some.entry)
-    → Within (IsPlaced (lettered_values name) old) (IsListed (lettered_values name) (entries_of d))
+    → IsRowOfList (lettered_values name) (entries_of d) (lettered_values name c.in-Some.place c.in-Some.entry)
+    → Within (IsPlaced (lettered_values name) old) (IsRowOfList (lettered_values name) (entries_of d))
     → IsTrue b) _
     (λ b refused d such is within. refused d name
     ((period_listed name d (lettered_values name c.in-Some.place c.in-Some.entry)).0
