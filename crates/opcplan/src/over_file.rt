@@ -26,7 +26,7 @@ impl Opening for Told<'_> {
                 "opcplan: FILE held no plan: a new one was made in it. If it should have had one, look at the name",
             ),
             Begun::Migrated => Some(
-                "opcplan: FILE's plan was of version 1: its tables are made anew as those of version 2; an index of yours on one of them is gone",
+                "opcplan: FILE's plan was of version 1: its tables are made anew as those of version 2; if you had made an index on one of them, it is gone",
             ),
         };
         if let Some(told) = told {
