@@ -34,13 +34,6 @@ impl ListStore {
         }
     }
 
-    /// A store of this content.
-    pub fn from_content(content: Content) -> ListStore
-        ensures { listed result ≡ content_of content }
-    {
-        ListStore { content }
-    }
-
     /// The content as a value.
     pub fn content(&self) -> &Content
         ensures { content_of result.now ≡ listed self.now }

@@ -99,10 +99,15 @@ begins_sound g held begun is live plan own = subst (λ h. IsSoundPlan (state g h
   mode = refl;
 })
 
--- what is committed is a plan with these rows
-plan_on : (mid new : State) (rows : Tables) → new.now ≡ mid.now → IsPlan mid → tables_of mid.now.trees ≡ rows
-    → IsPlan new × (tables_of new.now.trees ≡ rows)
-plan_on mid new rows is plan rows_are = (plan_still mid new is plan, ap (λ (db : Database). tables_of db.trees) is ∙ rows_are)
+-- what is committed is a plan with these rows, in that schema
+plan_on : (mid new : State) (rows : Tables) (schema : Schema) → new.now ≡ mid.now → IsPlan mid
+    → tables_of mid.now.trees ≡ rows → mid.now.schema ≡ schema
+    → IsPlan new × (tables_of new.now.trees ≡ rows) × (new.now.schema ≡ schema)
+plan_on mid new rows schema is plan rows_are in_it = (
+  plan_still mid new is plan,
+  ap (λ (db : Database). tables_of db.trees) is ∙ rows_are,
+  ap (λ (db : Database). db.schema) is ∙ in_it,
+)
 
 -- what is taken out by a key that was handed over is taken out by that key
 pub taken_by : {S : Type 0} (g : Ghosts S) (old new : Transaction S) (result : Result (Unit {0}) Error) (t : Table)
@@ -193,4 +198,5 @@ module _ {S : Type 0} (g : Ghosts S) (conn : Held S) (tx mid : Transaction S)
         → CommitsIt (Ok u)
     written_so u shows = ended_so g conn tx mid begun settled IsPlan (HasRows made) (MayFailWhere Takes)
         (λ old. HoldsWritten old (made (tables_of old.now.trees))) writes.kept writes.survives end last same ended Made
-        (stands writes) left ends u shows (λ plan it s is. plan_on (seen g mid) s _ is it.plan it.rows_are)
+        (stands writes) left ends u shows (λ plan it s is. plan_on (seen g mid) s _ _ is it.plan it.rows_are
+        (it.schema ∙ ap (λ (h : Held S). (state g h).now.schema) begun))

@@ -127,9 +127,10 @@ plans_written c change all =
     (meta_moved change c.sets.bounds c.sets.issued c.definitions.options
     (links_moved c.in_force change.in_force (pairs_moved change.pairs (rows_moved change all))))
 
--- the tables of a plan have what that makes of their rows
+-- the tables of a plan have what that makes of their rows, in the schema that there was
 abbrev pub HasRows : (Tables → Tables) → State → State → Type 0
-HasRows made old new = IsPlan new × (tables_of new.now.trees ≡ made (tables_of old.now.trees))
+HasRows made old new =
+    IsPlan new × (tables_of new.now.trees ≡ made (tables_of old.now.trees)) × (new.now.schema ≡ old.now.schema)
 
 -- where no index was made by hand, and the tables take it, it fails for a common cause
 abbrev pub MayFailWhere : (Tables → Type 0) → State → State → Error → Type 0
