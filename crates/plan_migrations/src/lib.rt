@@ -15,5 +15,4 @@ mod versions;
 pub use faults::{MigrateFault, migrate_fault_number};
 pub use migrating::migrate;
 pub use older::migrate_older;
-pub use tables::TABLES;
 pub use versions::{FIRST_VERSION, version};

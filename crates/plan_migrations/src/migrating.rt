@@ -8,11 +8,11 @@ ghost use Rattle.plan_migrations.specs.Migrating.{IsMigrated, IsUnmigrated, MayR
 
 use crate::faults::MigrateFault;
 use crate::renewing::renew;
-use crate::tables::{TABLES, check_tables};
+use crate::tables::check_tables;
 use crate::versions::version;
 use sqlite::{Alter, Connection};
 use std::alloc::Global;
-use table_schema::SCHEMA_VERSION;
+use table_schema::{SCHEMA_VERSION, TABLES};
 
 /// Makes the tables of a plan those of the current schema, with their rows, all of them or none, also over a crash; and
 /// answers the version that it found and the one that it left, (0, 0) where the database is without tables. Tables of the

@@ -14,10 +14,10 @@ ghost use Rattle.plan_migrations.specs.Migrating.{MayRenew};
 use crate::contents::{check_content, remake_fault};
 use crate::faults::MigrateFault;
 use crate::first_tables::{has_first_tables, read_tables};
-use crate::tables::TABLES;
 use sqlite::{Alter, Connection};
 use std::alloc::Global;
 use table_remaking::{FirstRows, remake_tables};
+use table_schema::TABLES;
 
 // Makes the tables anew with the rows that were read.
 fn remake<S: Alter>(

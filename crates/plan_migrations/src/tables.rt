@@ -12,24 +12,6 @@ use sqlite::{Alter, Connection};
 use table_remaking::are_typed;
 use table_schema::{Table, select_text};
 
-/// All tables of a plan, those that others refer to before them.
-pub const TABLES: [Table; 14] = [
-    Table::Meta,
-    Table::CalendarEntry,
-    Table::Period,
-    Table::Application,
-    Table::RunCycle,
-    Table::Offset,
-    Table::Predecessor,
-    Table::LinkInForce,
-    Table::LongTerm,
-    Table::Current,
-    Table::History,
-    Table::Deletion,
-    Table::Dependency,
-    Table::Job,
-];
-
 // Looks whether the table is of its schema.
 fn check_table<S: Alter>(conn: &mut Connection<S>, table: &Table) -> Result<(), MigrateFault>
     requires { conn.old.in_transaction ≡ false }

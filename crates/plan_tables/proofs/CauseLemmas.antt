@@ -27,7 +27,7 @@ use Rattle.plan_store.specs.declared.changes.Change.{Change}
 use Rattle.plan_store.specs.declared.changes.DefinitionChange.TheVariants.{AsBefore}
 use Rattle.plan_tables.specs.Causes.{AreTaken, CanTake, fault_in, HasFailed}
 use Rattle.plan_tables.specs.Stored.{LeavesSound, MayLeave}
-use Rattle.plan_tables.specs.Taken.{FindsRoom, FittingIsTaken, HasRoomFor}
+use Rattle.plan_tables.specs.Taken.{FindsRoom, FittingIsTaken, HasRoomFor, KeepsSchema}
 use Rattle.table_writing.specs.Writing.{IsTellableChange}
 use Rattle.plan_tables.proofs.StoredLemmas.{stored_still}
 
@@ -180,6 +180,13 @@ told_shut (Err told) e old new is h = λ device. ∣ (go (h (sym is ∙ device))
     go : MoreFaults old.faults new.faults ⊎ (old.is_open ≡ false) → HasFailed old new ⊎ (old.is_open ≡ false)
     go (inl more) = inl (inl more)
     go (inr shut) = inr shut
+
+-- what is told is why the schema stays, where memory is short
+pub told_kept : {T : Type 0} (r : Result T StoreFault) (e : StoreFault) (old new : State) → IsErrAnd r (λ told. told ≡ e)
+    → (e ≡ Memory → HasCleanDisk new → IsTrue new.is_open → ∥ new.now.schema ≡ old.now.schema ∥₁)
+    → KeepsSchema old new r
+told_kept (Ok v) e old new is h = absurd is
+told_kept (Err told) e old new is h = λ memory. h (sym is ∙ memory)
 
 -- ---- tables with room
 

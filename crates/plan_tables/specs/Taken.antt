@@ -1,6 +1,6 @@
 -- Changes that tables take by what their content is.
-use Rattle.std.specs.Prelude.{List, IfSome, length, ⊤}
-use Rattle.sqlite.specs.State.{State}
+use Rattle.std.specs.Prelude.{◌≡◌, Err, IfSome, IsTrue, List, Ok, Result, length, ⊤}
+use Rattle.sqlite.specs.State.{HasCleanDisk, State}
 use Rattle.app_definitions.specs.declared.kinds.Kind.{Kind}
 use Rattle.app_definitions.specs.declared.kinds.Kind.TheVariants as kind
 use Rattle.external_dependencies.specs.Pair.{pair_cmp}
@@ -12,6 +12,8 @@ use Rattle.plan_store.specs.Changes.{Fits, after}
 use Rattle.plan_store.specs.declared.changes.Change.{Change}
 use Rattle.plan_store.specs.declared.changes.DefinitionChange.{DefinitionChange}
 use Rattle.plan_store.specs.declared.changes.DefinitionChange.TheVariants.{Merged}
+use Rattle.plan_store.specs.declared.stores.StoreFault.{StoreFault}
+use Rattle.plan_store.specs.declared.stores.StoreFault.TheVariants.{Memory}
 use Rattle.table_schema.specs.Rows.{Tables, tables_of}
 use Rattle.table_schema.specs.Schema.{HasOwnIndexes}
 use Rattle.table_schema.specs.declared.tables.Table.TheVariants as table
@@ -53,3 +55,9 @@ FittingIsTaken = (all : Tables) (c : Content) (change : Change) → IsContentOf 
 -- no index made by hand is of the tables of the database, and a change finds room in them
 abbrev pub HasRoomFor : State → Change → Type 0
 HasRoomFor s change = HasOwnIndexes s.now.schema × FindsRoom change (tables_of s.now.trees)
+
+-- a change that is made, or not for want of memory, keeps the schema, and with it that no index is made by hand
+abbrev pub KeepsSchema : {T : Type 0} → State → State → Result T StoreFault → Type 0
+KeepsSchema old new (Ok _) = HasCleanDisk new → ∥ new.now.schema ≡ old.now.schema ∥₁
+KeepsSchema old new (Err fault) =
+    fault ≡ Memory → HasCleanDisk new → IsTrue new.is_open → ∥ new.now.schema ≡ old.now.schema ∥₁

@@ -261,6 +261,17 @@ pub(crate) fn change_both<S: Alter>(
         → CanTake (state S.Store conn.old) (content_of lists.old) change
         → IfErr result (λ why. why ≡ Unmade.Device
         → HasFailed (state S.Store conn.old) (state S.Store conn.new)) }
+    ensures schema { HasCleanDisk (state S.Store conn.new)
+        → IsStored (state S.Store conn.old) (content_of lists.old)
+        → OnOk result ((state S.Store conn.new).now.schema ≡ (state S.Store conn.old).now.schema) }
+    ensures unmade { HasCleanDisk (state S.Store conn.new)
+        → IsStored (state S.Store conn.old) (content_of lists.old)
+        → IfErr result (λ why. why ≡ Unmade.Memory
+        → (state S.Store conn.new).now ≡ (state S.Store conn.old).now) }
+    ensures unsure { HasCleanDisk (state S.Store conn.new)
+        → IsStored (state S.Store conn.old) (content_of lists.old)
+        → IfErr result (λ why. why ≡ Unmade.Doubt → IsTrue (state S.Store conn.new).is_open
+        → (state S.Store conn.new).now ≡ (state S.Store conn.old).now) }
     ensures ended { conn.new.in_transaction ≡ false }
     ensures crash { Survives (state S.Store conn.old) (state S.Store conn.new)
         (λ db. IsStored (state S.Store conn.old) (content_of lists.old)

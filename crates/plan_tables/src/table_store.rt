@@ -12,14 +12,14 @@ ghost use Rattle.plan_store.specs.Changes.{Fits, after};
 ghost use Rattle.plan_store.specs.Contents.{content_of};
 ghost use Rattle.plan_store.specs.Faults.{MoreFailures};
 ghost use Rattle.plan_store.specs.Listings.{HandsAll, HandsPart, IsListing};
-ghost use Rattle.plan_store.specs.declared.stores.StoreFault.TheVariants.{Device};
+ghost use Rattle.plan_store.specs.declared.stores.StoreFault.TheVariants.{Device, Memory};
 ghost use Rattle.table_facts.specs.Content.{answer_text};
 ghost use Rattle.table_schema.specs.Schema.{HasOwnIndexes, HasTables};
 ghost use Rattle.table_opening.specs.Opened.{IsStored};
 ghost use Rattle.table_writing.specs.Redefining.{AreMovesOf};
 ghost use Rattle.plan_tables.specs.Causes.{CanTake, HasFailed};
 ghost use Rattle.plan_tables.specs.Stored.{LeavesSound, MayLeave};
-ghost use Rattle.plan_tables.specs.Taken.{HasRoomFor};
+ghost use Rattle.plan_tables.specs.Taken.{HasRoomFor, KeepsSchema};
 ghost use Rattle.plan_tables.specs.Told.{IsToldChange};
 
 use crate::answers::{added_rise, change_is_tellable};
@@ -115,6 +115,9 @@ impl<S: Alter + Drop> TableStore<S> {
             → IfErr result (λ fault. fault ≡ Device
             → MoreFaults (state S.Store self.old.conn).faults (state S.Store self.new.conn).faults
             ⊎ ((state S.Store self.old.conn).is_open ≡ false)) }
+        ensures unknown { HasCleanDisk (state S.Store self.new.conn)
+            → IsTrue (state S.Store self.new.conn).is_open → IfErr result (λ fault. fault ≡ Memory
+            → ∥ (state S.Store self.new.conn).now ≡ (state S.Store self.old.conn).now ∥₁) }
     {
         if !self.in_doubt {
             return Ok(());
@@ -190,6 +193,7 @@ impl<S: Alter + Drop> TableStore<S> {
         ensures honest { HasCleanDisk (state S.Store self.new.conn)
             → HasCleanDisk (state S.Store self.old.conn) }
         ensures ends_whole { OnOk result ((self.new.failures ≡ 0) × (self.new.in_doubt ≡ false)) }
+        ensures schema { KeepsSchema (state S.Store self.old.conn) (state S.Store self.new.conn) result }
     {
         tables_have_one_content();
         fitting_changes_are_taken();
@@ -324,7 +328,8 @@ impl<S: Alter + Drop> PlanStore for TableStore<S> {
     }
 
     // The clauses of every store, and why the device is blamed: over an open connection whose tables take the change it
-    // failed meanwhile, by the count of sqlite, or a limit on steps is set. They take each change that finds room.
+    // failed meanwhile, by the count of sqlite, or a limit on steps is set. They take each change that finds room, and
+    // keep their schema.
     fn apply(&mut self, alloc: Global, change: Change) -> Result<(), StoreFault>
         requires fits { ⊤ → Fits change (content_of self.old.lists) }
         requires sound { ⊤ → IsSound (after change (content_of self.old.lists)) }
@@ -357,6 +362,7 @@ impl<S: Alter + Drop> PlanStore for TableStore<S> {
             → IfErr result (λ fault. fault ≡ StoreFault.Device
             → ∥ HasFailed (state S.Store self.old.conn) (state S.Store self.new.conn)
             ⊎ ((state S.Store self.old.conn).is_open ≡ false) ∥₁) }
+        ensures schema { KeepsSchema (state S.Store self.old.conn) (state S.Store self.new.conn) result }
     {
         let prepared = self.prepared(alloc, &change)?;
         self.make_sure()?;

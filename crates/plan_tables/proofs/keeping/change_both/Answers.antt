@@ -84,3 +84,21 @@ returns-in-Err-commit_change-clause-doubt g c clean stored is opens =
     let undone = back.undone opens in
     stored_still old new (content_of c.args.lists.now) stored opens (undone.0 ∙ kept.1 ∙ sym stored.settled)
     (undone.1 ∙ kept.1)
+
+pub returns-in-Ok-commit_change-clause-schema : goal.returns-in-Ok-commit_change-clause-schema
+returns-in-Ok-commit_change-clause-schema g c clean stored = (c.in-Ok-commit_change.ensures.done clean stored.plan).2
+
+pub returns-in-Err-commit_change-clause-unmade : goal.returns-in-Err-commit_change-clause-unmade
+returns-in-Err-commit_change-clause-unmade g c clean stored is =
+    let mid = state g.S.Store c.commit_change.new.conn in
+    let calm : HasCleanDisk mid = omega (arith, c.cause_of.ensures.survives.clean, clean) in
+    let same = c.cause_of.ensures.open clean is in
+    same.0.now_is ∙ (c.in-Err-commit_change.ensures.kept calm stored.plan same.0.was_open).0
+
+pub returns-in-Err-commit_change-clause-unsure : goal.returns-in-Err-commit_change-clause-unsure
+returns-in-Err-commit_change-clause-unsure g c clean stored is opens =
+    let mid = state g.S.Store c.commit_change.new.conn in
+    let calm : HasCleanDisk mid = omega (arith, c.cause_of.ensures.survives.clean, clean) in
+    let back = c.cause_of.ensures.doubt clean is in
+    (back.undone opens).0 ∙ (c.in-Err-commit_change.ensures.kept calm stored.plan (back.was_open opens)).1
+    ∙ sym stored.settled

@@ -1,5 +1,6 @@
-use Rattle.std.proofs.Common.{refl, sym, subst, arith}
+use Rattle.std.proofs.Common.{ap, refl, sym, subst, arith}
 use Rattle.std.proofs.Math.Logic.{∥∥₁_elim, ∥∥₁_map}
+use Rattle.sqlite.specs.Effect.{Database}
 use Rattle.sqlite.specs.Held.{state}
 use Rattle.sqlite.specs.State.{HasCleanDisk}
 use Rattle.planner_machine.specs.Content.{Content}
@@ -132,3 +133,21 @@ returns-in-Err-Device-clause-taken g c clean room is =
     c.in-Err-Device.ensures.blames clean stored (room_takes c.fitting_changes_are_taken.ensures
     (state g.S.Store old.conn) (content_of old.lists) c.args.change stored c.requires.fits c.requires.sound
     c.change_is_tellable.ensures c.added_rise.ensures room) c.in-Err-Device.field-0-is)
+
+pub returns-in-Ok-clause-schema : goal.returns-in-Ok-clause-schema
+returns-in-Ok-clause-schema g c clean =
+    let old = c.args.self.now in
+    let before : HasCleanDisk (state g.S.Store old.conn) = omega (arith, c.change_both.ensures.crash.clean) in
+    ∥∥₁_map (certain old.in_doubt c.requires.sure old.stored) (λ h. c.in-Ok.ensures.schema clean (h c.requires.whole before))
+
+pub returns-in-Err-Memory-clause-schema : goal.returns-in-Err-Memory-clause-schema
+returns-in-Err-Memory-clause-schema g c is clean opens =
+    let old = c.args.self.now in
+    let before : HasCleanDisk (state g.S.Store old.conn) = omega (arith, c.change_both.ensures.crash.clean) in
+    ∥∥₁_map (certain old.in_doubt c.requires.sure old.stored) (λ h. ap (λ (db : Database). db.schema) (c.in-Err-Memory.ensures.unmade clean (h c.requires.whole before) c.in-Err-Memory.field-0-is))
+
+pub returns-in-Err-Doubt-clause-schema : goal.returns-in-Err-Doubt-clause-schema
+returns-in-Err-Doubt-clause-schema g c is clean opens =
+    let old = c.args.self.now in
+    let before : HasCleanDisk (state g.S.Store old.conn) = omega (arith, c.change_both.ensures.crash.clean) in
+    ∥∥₁_map (certain old.in_doubt c.requires.sure old.stored) (λ h. ap (λ (db : Database). db.schema) (c.in-Err-Doubt.ensures.unsure clean (h c.requires.whole before) c.in-Err-Doubt.field-0-is opens))

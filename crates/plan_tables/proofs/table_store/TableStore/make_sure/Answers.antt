@@ -1,4 +1,4 @@
-use Rattle.std.proofs.Common.{arith, refl, rules}
+use Rattle.std.proofs.Common.{◌∙◌, arith, refl, rules, sym}
 use Rattle.std.proofs.Math.Logic.{∥∥₁_map}
 use Rattle.sqlite.specs.Held.{state}
 use Rattle.plan_store.specs.Contents.{content_of}
@@ -45,3 +45,10 @@ invariant_of-self-in-Err-Device g c =
       told = sound_still (state g.S.Store old.conn) (state g.S.Store c.ask_open.new.conn) old.told
           c.ask_open.ensures.survives;
     }
+
+pub returns-in-Err-Memory-clause-unknown : goal.returns-in-Err-Memory-clause-unknown
+returns-in-Err-Memory-clause-unknown g c clean opens is =
+    let old = c.args.self.now in
+    let back = c.in-Err-Memory.ensures.unknown clean c.in-Err-Memory.field-0-is in
+    ∥∥₁_map old.stored (λ h. let stored = h c.requires (omega (arith, c.ask_open.ensures.survives.clean, clean))
+    (λ _. back.was_open opens) in (back.undone opens).0 ∙ sym stored.settled)

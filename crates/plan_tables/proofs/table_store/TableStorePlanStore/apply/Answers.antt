@@ -1,11 +1,13 @@
-use Rattle.std.proofs.Common.{◌≡◌, ap, arith, inl, inr, subst}
+use Rattle.std.proofs.Common.{◌≡◌, ap, arith, inl, inr, refl, subst}
+use Rattle.std.proofs.Math.Logic.{∥∥₁_map}
+use Rattle.sqlite.specs.Effect.{Database}
 use Rattle.sqlite.specs.Held.{state}
 use Rattle.sqlite.specs.State.{HasCleanDisk}
 use Rattle.planner_machine.specs.Content.{Content}
 use Rattle.plan_store.specs.Changes.{after}
 use Rattle.plan_store.specs.Contents.{content_of}
 use Rattle.plan_tables.specs.Stored.{MayLeave}
-use Rattle.plan_tables.proofs.CauseLemmas.{can_still, caused_since, left_still, room_still, told_shut}
+use Rattle.plan_tables.proofs.CauseLemmas.{can_still, caused_since, left_still, room_still, told_kept, told_shut}
 use Rattle.plan_tables.proofs.StoredLemmas.{settled_so, stays_so}
 use Rattle.plan_tables.proofs.ToldLemmas.{told_by_tables}
 use Rattle.plan_tables.proofs.table_store.TableStorePlanStore.apply.Goals as goal
@@ -76,3 +78,16 @@ returns-in_err-make_sure-clause-taken g c none clean room =
 
 pub returns-clause-stays_whole : goal.returns-clause-stays_whole
 returns-clause-stays_whole g c = stays_so c.change_so.result _ _ c.change_so.ensures.ends_whole
+
+pub returns-in_err-prepared-clause-schema : goal.returns-in_err-prepared-clause-schema
+returns-in_err-prepared-clause-schema g c =
+    let old = state g.S.Store c.args.self.now.conn in
+    told_kept c.from_residual.result c.in_err-prepared.field-0.0 old old c.from_residual.ensures.1
+    (λ _ _ _. ∣ refl ∣₁)
+
+pub returns-in_err-make_sure-clause-schema : goal.returns-in_err-make_sure-clause-schema
+returns-in_err-make_sure-clause-schema g c =
+    told_kept c.from_residual-in_err-make_sure.result c.in_err-make_sure.field-0.0
+    (state g.S.Store c.args.self.now.conn) (state g.S.Store c.make_sure.new.self.conn)
+    c.from_residual-in_err-make_sure.ensures.1 (λ memory clean opens.
+    ∥∥₁_map (c.in_err-make_sure.ensures.unknown clean opens memory) (ap (λ (db : Database). db.schema)))
