@@ -7,32 +7,17 @@ import resource
 import signal
 import sqlite3
 import subprocess
-import tempfile
 import unittest
 from contextlib import closing
 from pathlib import Path
 
 import looks
 import plans
-
-MONDAY = plans.stream("monday")
-TUESDAY = b"dp-extend --to 2024-01-03/00.00 --job 10\ncp-start --app REPORT --ia 2024-01-01/20.00 --job 11\n"
+from backup_rooms import MONDAY, TUESDAY, BackupRoom
 
 
 @unittest.skipUnless(plans.PROGRAM.exists(), "opcplan is not built")
-class Backup(unittest.TestCase):
-    def setUp(self):
-        room = tempfile.TemporaryDirectory(prefix="backup-test-")
-        self.addCleanup(room.cleanup)
-        self.room, self.kept = Path(room.name) / "plans", Path(room.name) / "kept"
-        self.room.mkdir()
-        self.kept.mkdir()
-        self.plan = plans.copy_of(plans.of_worked("monday"), self.room)
-        self.file = self.kept / "backup.db"
-
-    def backup(self, *words, **how):
-        return plans.plan("backup", self.plan, self.file, "--program", plans.PROGRAM, *words, **how)
-
+class Backup(BackupRoom, unittest.TestCase):
     def made(self, *words):
         """Asks that a copy is made, and the plan stays."""
         before = plans.prints(self.plan)
@@ -43,11 +28,7 @@ class Backup(unittest.TestCase):
 
     def refused(self, told, *words, status=1, **how):
         """Asks that no copy is made, and all stays."""
-        before = plans.prints(self.plan), plans.prints(self.file)
-        ran = self.backup(*words, **how)
-        self.assertEqual((ran.returncode, ran.stdout), (status, ""), ran.stderr)
-        self.assertRegex(ran.stderr, f"^plan: [^\n]*{told}[^\n]*\n$")
-        self.assertEqual((plans.prints(self.plan), plans.prints(self.file)), before)
+        self.refused_by(lambda: self.backup(*words, **how), told, status)
 
     def changed(self, *texts):
         """Changes the plan by hand, so that it has no log."""

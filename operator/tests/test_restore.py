@@ -5,7 +5,6 @@ import os
 import re
 import shutil
 import sqlite3
-import tempfile
 import unittest
 from contextlib import closing
 from pathlib import Path
@@ -13,11 +12,10 @@ from unittest import mock
 
 import looks
 import plans
+from backup_rooms import MONDAY, TUESDAY, BackupRoom
 
 import restore
 
-MONDAY = plans.stream("monday")
-TUESDAY = b"dp-extend --to 2024-01-03/00.00 --job 10\ncp-start --app REPORT --ia 2024-01-01/20.00 --job 11\n"
 CALLS = ("open", "link", "rename", "replace", "remove", "fsync", "fchmod", "fchown", "close")
 
 
@@ -51,27 +49,14 @@ def stopped_at(number, copy, path):
 
 
 @unittest.skipUnless(plans.PROGRAM.exists(), "opcplan is not built")
-class Restore(unittest.TestCase):
+class Restore(BackupRoom, unittest.TestCase):
     def setUp(self):
-        room = tempfile.TemporaryDirectory(prefix="restore-test-")
-        self.addCleanup(room.cleanup)
-        self.room, self.kept = Path(room.name) / "plans", Path(room.name) / "kept"
-        self.room.mkdir()
-        self.kept.mkdir()
-        self.plan = plans.copy_of(plans.of_worked("monday"), self.room)
-        self.file = self.kept / "backup.db"
-        made = plans.plan("backup", self.plan, self.file, "--program", plans.PROGRAM)
+        super().setUp()
+        made = self.backup()
         self.assertEqual(made.returncode, 0, made.stderr)
 
-    def restore(self):
-        return plans.plan("restore", self.file, self.plan, "--program", plans.PROGRAM)
-
     def refused(self, told, status=1):
-        before = plans.prints(self.plan), plans.prints(self.file)
-        ran = self.restore()
-        self.assertEqual((ran.returncode, ran.stdout), (status, ""), ran.stderr)
-        self.assertRegex(ran.stderr, f"^plan: [^\n]*{told}[^\n]*\n$")
-        self.assertEqual((plans.prints(self.plan), plans.prints(self.file)), before)
+        self.refused_by(self.restore, told, status)
 
     def restored(self):
         """Asks that the plan is the backup, alone, and answers the name under which what stood there is kept."""
