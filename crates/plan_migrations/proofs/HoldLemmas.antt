@@ -60,7 +60,7 @@ module _ (reads : List FirstRows) (whole : AreWhole reads) (s : State) (plan : I
 
   -- what is refused for its rows has no sound content
   unsound : (new : State) → IsUnopened s new OpenFault.Rows → (c : Content) → HaveContent reads c → IsSound c → ⊥
-  unsound new (inl is) c has sound = cc
+  unsound new (inl (is, same)) c has sound = cc
   unsound new (inr (inl (p, h))) c has sound = (h.rows refl).1 (
     has_plan,
     record { content = c; told = has (tables_of s.now.trees) rows; sound = sound; rowids = plan.rowids },

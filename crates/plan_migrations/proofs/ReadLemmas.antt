@@ -34,7 +34,7 @@ use Rattle.table_opening.specs.declared.faults.OpenFault.TheVariants.{Unopened}
 use Rattle.table_remaking.specs.declared.rows.FirstRows.{FirstRows}
 use Rattle.table_remaking.proofs.CauseLemmas.{calm_fill, fails_after}
 use Rattle.table_remaking.proofs.StepLemmas as step
-use Rattle.plan_migrations.specs.Asking.{IsKept}
+use Rattle.table_opening.specs.Kept.{IsKept}
 use Rattle.plan_migrations.specs.FirstContent.{AreOfFirst, IsFirstContentOf}
 use Rattle.plan_migrations.specs.Migrating.{AreNotTaken, AreRead, AreRenewed, AreRowsOf, AreShown, ChecksTables}
 use Rattle.plan_migrations.specs.Migrating.{FailToHold, FailsToRead, FailsToReadAll, FailsToRemake, HaveContent, HaveSound}
@@ -45,7 +45,8 @@ use Rattle.plan_migrations.specs.declared.versions.TheConstants.{FIRST_VERSION}
 use Rattle.table_schema.specs.declared.tables.TheConstants.{SCHEMA_VERSION}
 use Rattle.plan_migrations.specs.declared.faults.MigrateFault.{MigrateFault}
 use Rattle.plan_migrations.specs.declared.faults.MigrateFault.TheVariants.{UnknownVersion, OtherTable, Rows, Memory, Device}
-use Rattle.plan_migrations.proofs.AskLemmas.{device_since, kept_if_same}
+use Rattle.table_opening.proofs.KeptLemmas.{kept_if_same}
+use Rattle.plan_migrations.proofs.AskLemmas.{device_since}
 use Rattle.plan_migrations.proofs.ContentLemmas.{content_kept, content_stays}
 use Rattle.plan_migrations.proofs.TextLemmas.{first_reads}
 use Rattle.plan_migrations.proofs.TurnLemmas.{failure_since, kept_since, memory_since, of_schema_since, of_version}

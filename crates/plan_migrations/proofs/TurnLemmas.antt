@@ -13,11 +13,13 @@ use Rattle.sqlite_resolve.specs.declared.compiled.Compiled.{Compiled}
 use Rattle.sqlite.proofs.Callers.{unchanged_then}
 use Rattle.table_schema.specs.Texts.{select_sql}
 use Rattle.table_schema.specs.declared.tables.Table.{Table}
-use Rattle.table_opening.specs.Foreign.{RefusesToShow, version_sql}
+use Rattle.table_opening.specs.Foreign.{LacksMemory, RefusesToShow, version_sql}
 use Rattle.table_opening.specs.Queries.{IsReading}
+use Rattle.table_reading.proofs.LookLemmas.{undone_since}
 use Rattle.table_opening.proofs.ForeignLemmas.{version_reads}
 use Rattle.table_opening.proofs.QueryLemmas.{refused_same, shown_same, shows_alone}
-use Rattle.plan_migrations.specs.Asking.{HasAnswer, IsFailureOfOne, IsKept, LacksMemory}
+use Rattle.table_opening.specs.Kept.{IsKept}
+use Rattle.plan_migrations.specs.Asking.{HasAnswer, IsFailureOfOne}
 use Rattle.plan_migrations.specs.Migrating.{ChecksTable, ChecksTables, IsUnmigrated}
 use Rattle.table_schema.specs.declared.tables.TheConstants.{SCHEMA_VERSION}
 use Rattle.plan_migrations.specs.Schemas.{IsKnownVersion, IsOfSchema, IsOfVersion, IsOther, ShowsOther, ShowsSuch}
@@ -25,7 +27,7 @@ use Rattle.plan_migrations.specs.Schemas.{ShowsVersion, TellsVersion}
 use Rattle.table_remaking.specs.Types.{AreTyped}
 use Rattle.plan_migrations.specs.declared.faults.MigrateFault.{MigrateFault}
 use Rattle.plan_migrations.specs.declared.faults.MigrateFault.TheVariants.{UnknownVersion, OtherTable, Rows, Memory, Device}
-use Rattle.plan_migrations.proofs.AskLemmas.{cause_since, device_since, has_answer, undone_since}
+use Rattle.plan_migrations.proofs.AskLemmas.{cause_since, device_since, has_answer}
 use Rattle.plan_migrations.proofs.TextLemmas.{select_reads}
 
 abbrev statement_since : (a b : State) (sql : List ℕ) (c : Compiled) → IsUnchanged a b → IsStatement b sql [] c
@@ -93,7 +95,7 @@ module _ (sql : List ℕ) (reading : IsReading sql) (a b c : State) where
     failed.0,
     failed.1,
     cause_since a b c same more failed.0 failed.2,
-    undone_since a b c same more failed.3,
+    undone_since a b c same failed.3,
     failed.4,
   ))
   fails_since e same more limit (inr (comp, it, shows)) =

@@ -1,33 +1,21 @@
--- What becomes of a database of whatever tables that is asked, and why it fails to answer.
-use Rattle.std.specs.Prelude.{◌≡◌, ◌⊎◌, false, ℕ, List, [], IsTrue}
+-- What a database of whatever tables answers that is asked, and why it fails to answer.
+use Rattle.std.specs.Prelude.{◌≡◌, ◌⊎◌, false, ℕ, List, []}
 use Rattle.sqlite.specs.Clock.{timed}
 use Rattle.sqlite.specs.Effect.{Database, Reads}
 use Rattle.sqlite.specs.Listing.{IsSourceOf, reads_listing}
 use Rattle.sqlite.specs.Order.{Row as Values}
-use Rattle.sqlite.specs.State.{FailsToQuery, IsStatement, State}
-use Rattle.sqlite.specs.declared.error.Error.{Error}
+use Rattle.sqlite.specs.State.{IsStatement, State}
 use Rattle.sqlite_disk.specs.Disk.{MoreFaults}
 use Rattle.sqlite_resolve.specs.declared.compiled.Compiled.{Compiled}
 use Rattle.table_schema.specs.declared.tables.Table.{Table}
-use Rattle.table_opening.specs.Faults.{fault_for}
-use Rattle.table_opening.specs.declared.faults.OpenFault.TheVariants as OpenFault
-use Rattle.table_opening.specs.declared.faults.OpenFault.TheVariants.{Unopened}
+use Rattle.table_opening.specs.Foreign.{LacksMemory}
 use Rattle.plan_migrations.specs.declared.faults.MigrateFault.{MigrateFault}
 use Rattle.plan_migrations.specs.declared.faults.MigrateFault.TheVariants.{Memory, Device}
-
--- as long as the connection is open, it sees what it saw, and what was committed
-pub record IsKept (old new : State) : Type 0 where
-  pub now : IsTrue new.is_open → new.now ≡ old.now
-  pub committed : IsTrue new.is_open → new.committed ≡ old.committed
 
 -- these rows are what the database has to show to the question
 abbrev pub HasAnswer : List ℕ → State → List Values → Type 0
 HasAnswer sql s rows = (c : Compiled) × (it : IsStatement s sql [] c) × (db : Database)
     × IsSourceOf (reads_listing s.now.schema sql) s.now db × Reads c.command db (timed [] c.formats it.now) rows
-
--- the question failed for want of memory
-abbrev pub LacksMemory : List ℕ → State → State → Type 0
-LacksMemory sql old new = (e : Error) × FailsToQuery sql [] old new e × (fault_for e Unopened ≡ OpenFault.Memory)
 
 -- the device failed meanwhile, or the connection was shut before
 abbrev pub FailsByDevice : State → State → Type 0

@@ -18,7 +18,7 @@ use Rattle.table_schema.specs.declared.tables.Table.{Table}
 use Rattle.table_schema.specs.declared.tables.TheConstants.{SCHEMA_VERSION}
 use Rattle.table_facts.specs.Content.{IsContentOf}
 use Rattle.table_opening.specs.Faults.{fault_for}
-use Rattle.table_opening.specs.Foreign.{RefusesVersion, version_sql}
+use Rattle.table_opening.specs.Foreign.{LacksMemory, RefusesVersion, version_sql}
 use Rattle.table_opening.specs.Stored.{AllHaveRowids}
 use Rattle.table_opening.specs.declared.faults.OpenFault.TheVariants as OpenFault
 use Rattle.table_opening.specs.declared.faults.OpenFault.TheVariants.{Unopened}
@@ -28,7 +28,8 @@ use Rattle.table_remaking.specs.Refusals.{FailsFor}
 use Rattle.table_remaking.specs.Remaking.{AreAllFirst, AreRemade, AreWhole, IsRemadeOf, RefusesToFill, RefusesToRemake}
 use Rattle.table_remaking.specs.Remaking.{RemakesTo, remade_row, with_all_put}
 use Rattle.table_remaking.specs.declared.rows.FirstRows.{FirstRows}
-use Rattle.plan_migrations.specs.Asking.{FailsByDevice, IsFailure, IsFailureOfOne, IsKept, LacksMemory}
+use Rattle.table_opening.specs.Kept.{IsKept}
+use Rattle.plan_migrations.specs.Asking.{FailsByDevice, IsFailure, IsFailureOfOne}
 use Rattle.plan_migrations.specs.FirstContent.{IsFirstContentOf}
 use Rattle.plan_migrations.specs.Schemas.{IsOfSchema, IsOfVersion, IsOther, IsOtherFirst, ShowsUnknown, ShowsVersion}
 use Rattle.plan_migrations.specs.declared.faults.MigrateFault.{MigrateFault}

@@ -5,7 +5,8 @@ ghost use Rattle.sqlite.specs.State.{HasCleanDisk, IsUnchanged, Shown, Survives}
 ghost use Rattle.sqlite.specs.Held.{state};
 ghost use Rattle.table_opening.specs.Foreign.{RefusesToShow};
 ghost use Rattle.table_opening.specs.Queries.{IsReading};
-ghost use Rattle.plan_migrations.specs.Asking.{IsFailure, IsKept};
+ghost use Rattle.table_opening.specs.Kept.{IsKept};
+ghost use Rattle.plan_migrations.specs.Asking.{IsFailure};
 
 use crate::faults::MigrateFault;
 use sqlite::{Alter, Connection, Row as Cells};

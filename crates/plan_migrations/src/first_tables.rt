@@ -7,7 +7,7 @@ ghost use Rattle.sqlite.specs.Held.{state};
 ghost use Rattle.table_remaking.specs.FirstSchema.{CanRemake};
 ghost use Rattle.table_remaking.specs.Leaving.{left_by};
 ghost use Rattle.table_opening.specs.Standing.{CanMake, StandAmong};
-ghost use Rattle.plan_migrations.specs.Asking.{IsKept};
+ghost use Rattle.table_opening.specs.Kept.{IsKept};
 ghost use Rattle.plan_migrations.specs.Migrating.{AreShown, FailsToRead, FailsToReadAll};
 ghost use Rattle.table_remaking.specs.Remaking.{AreAllFirst, tables_in};
 ghost use Rattle.table_remaking.specs.Types.{AreFirst};

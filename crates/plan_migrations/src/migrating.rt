@@ -3,7 +3,7 @@
 ghost use Rattle.std.specs.Prelude.{◌≡◌, false, IfErr, IfOk, OnErr};
 ghost use Rattle.sqlite.specs.State.{HasCleanDisk, Survives};
 ghost use Rattle.sqlite.specs.Held.{state};
-ghost use Rattle.plan_migrations.specs.Asking.{IsKept};
+ghost use Rattle.table_opening.specs.Kept.{IsKept};
 ghost use Rattle.plan_migrations.specs.Migrating.{IsMigrated, IsUnmigrated, MayRenew};
 
 use crate::faults::MigrateFault;

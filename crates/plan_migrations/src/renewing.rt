@@ -6,7 +6,7 @@ ghost use Rattle.sqlite.specs.Held.{state};
 ghost use Rattle.table_schema.specs.Rows.{tables_of};
 ghost use Rattle.table_remaking.specs.FirstSchema.{CanRemake};
 ghost use Rattle.table_remaking.specs.Remaking.{AreAllFirst, AreWhole, RemakesTo};
-ghost use Rattle.plan_migrations.specs.Asking.{IsKept};
+ghost use Rattle.table_opening.specs.Kept.{IsKept};
 ghost use Rattle.plan_migrations.specs.FirstContent.{AreOfFirst};
 ghost use Rattle.plan_migrations.specs.Migrating.{FailsToRemake, IsRemade, IsRenewed, IsUnrenewed};
 ghost use Rattle.plan_migrations.specs.Migrating.{MayRenew};

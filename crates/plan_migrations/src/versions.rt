@@ -6,7 +6,8 @@ ghost use Rattle.sqlite.specs.Held.{state};
 ghost use Rattle.table_schema.specs.declared.tables.TheConstants.{SCHEMA_VERSION};
 ghost use Rattle.table_opening.specs.Foreign.{version_sql};
 ghost use Rattle.table_opening.specs.Held.{HoldsPlan};
-ghost use Rattle.plan_migrations.specs.Asking.{IsFailure, IsKept};
+ghost use Rattle.table_opening.specs.Kept.{IsKept};
+ghost use Rattle.plan_migrations.specs.Asking.{IsFailure};
 ghost use Rattle.plan_migrations.specs.Schemas.{AreOf, TellsVersion};
 ghost use Rattle.plan_migrations.specs.declared.versions.TheConstants.{FIRST_VERSION};
 

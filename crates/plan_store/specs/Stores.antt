@@ -1,11 +1,13 @@
--- What a reading call of a store does.
-use Rattle.std.specs.Prelude.{◌≡◌, ◌⊎◌, ℕ, ◌<◌, ◌≤◌, IfOk, IfErr, OnOk, Result, Err}
+-- What the calls of a store do.
+use Rattle.std.specs.Prelude.{◌≡◌, ◌⊎◌, ℕ, ◌<◌, ◌≤◌, IfOk, IfErr, OnOk, OnErr, Result, Err}
 use Rattle.std.specs.Borrow.{Fml, MutBor, RattleType}
 use Rattle.std.specs.Io.BufRead.{Rests}
 use Rattle.planner_machine.specs.Content.{Content}
+use Rattle.plan_store.specs.Changes.{after}
 use Rattle.plan_store.specs.Faults.{MoreFailures}
+use Rattle.plan_store.specs.declared.changes.Change.{Change}
 use Rattle.plan_store.specs.declared.stores.StoreFault.{StoreFault}
-use Rattle.plan_store.specs.declared.stores.StoreFault.TheVariants.{Device}
+use Rattle.plan_store.specs.declared.stores.StoreFault.TheVariants.{Device, Memory}
 
 -- a store before and after it is read, and what the call answers
 pub record ReadsStore {S T : Type 0} (is_honest : S → Type 0) (content : S → Content) (failures : S → ℕ)
@@ -33,3 +35,28 @@ abbrev pub LendsRead : {T : Type 0} (R : RattleType) (is_honest : R.Denot → Ty
     (before : R.Denot) (lender : MutBor R.Denot) → Result T StoreFault → (T → Type 0) → Fml
 LendsRead R is_honest content failures may_leave is_clean is_whole before lender result IsRight =
     Rests R lender (λ now. ReadsStore is_honest content failures may_leave is_clean is_whole before now result IsRight)
+
+-- a store before and after it is told a change, and what the call answers
+pub record Applies {S : Type 0} (is_honest : S → Type 0) (content : S → Content) (failures : S → ℕ)
+    (may_leave : S → Content → Type 0) (is_clean is_whole : S → Type 0) (before now : S) (change : Change)
+    (result : Result (Unit {0}) StoreFault) : Type 0 where
+  -- `Ok` says that the change is made, and `Memory` that nothing is; whatever fails, it is made whole or not at all
+  pub done : is_honest now → OnOk result (content now ≡ after change (content before))
+  pub unchanged : is_honest now → IfErr result (λ fault. fault ≡ Memory → content now ≡ content before)
+  pub whole : is_honest now → OnErr result ((content now ≡ content before)
+      ⊎ (content now ≡ after change (content before)))
+  -- what a crash may leave: after `Ok` the content alone, and else at most the new content beside what it might have
+  -- left before
+  pub settled : is_honest now → OnOk result ((c : Content) → may_leave now c → c ≡ content now)
+  pub crash : is_honest now → (c : Content) → may_leave now c → may_leave before c ⊎ (c ≡ content before)
+      ⊎ (c ≡ after change (content before))
+  -- the device is blamed only where it failed, then or before
+  pub blames : IfErr result (λ fault. fault ≡ Device → MoreFailures (failures before) (failures now)
+      ⊎ (0 < failures before))
+  -- and once a failure is counted, no call answers anything else
+  pub broken : 0 < failures before → result ≡ Err Device
+  pub counts : failures before ≤ failures now
+  pub honest : is_honest now → is_honest before
+  pub clean : is_clean now → is_clean before
+  -- a store that answers is as whole as it was
+  pub stays_whole : OnOk result (is_whole before → is_whole now)

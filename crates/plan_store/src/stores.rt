@@ -1,11 +1,11 @@
-ghost use Rattle.std.specs.Prelude.{◌≡◌, ◌⊎◌, ℕ, ◌<◌, ◌≤◌, Err, OnOk, OnErr, IfOk, IfErr, option_copied};
+ghost use Rattle.std.specs.Prelude.{◌≡◌, ◌⊎◌, ℕ, ◌<◌, ◌≤◌, Err, OnOk, IfOk, IfErr, option_copied};
 ghost use Rattle.std.specs.Borrow.{sem};
 ghost use Rattle.planner_machine.specs.Content.{Content as ContentValue};
 ghost use Rattle.plan_store.specs.Changes.{Fits, after};
 ghost use Rattle.planner_machine.specs.Sound.{AreNumbered, IsSound};
 ghost use Rattle.plan_store.specs.Faults.{MoreFailures};
 ghost use Rattle.plan_store.specs.Listings.{HandsAll, HandsPart, IsListing};
-ghost use Rattle.plan_store.specs.Stores.{LendsRead, ReadsStore};
+ghost use Rattle.plan_store.specs.Stores.{Applies, LendsRead, ReadsStore};
 ghost use Rattle.plan_store.specs.Views.{Shows};
 
 use crate::changes::Change;
@@ -121,25 +121,5 @@ pub trait PlanStore {
     fn apply(&mut self, alloc: Global, change: Change) -> Result<(), StoreFault>
         requires fits { is_honest self.old → Fits change (content self.old) }
         requires sound { is_honest self.old → IsSound (after change (content self.old)) }
-
-        ensures done { is_honest self.new → OnOk result (content self.new ≡ after change (content self.old)) }
-        ensures unchanged { is_honest self.new → IfErr result (λ fault. fault ≡ StoreFault.Memory → content self.new
-            ≡ content self.old) }
-        ensures whole { is_honest self.new → OnErr result ((content self.new ≡ content self.old)
-            ⊎ (content self.new ≡ after change (content self.old))) }
-
-        // What a crash may leave: after `Ok` the content alone, and else at most the new content beside what it might
-        // have left before.
-        ensures settled { is_honest self.new → OnOk result ((c : ContentValue) → may_leave self.new c → c
-            ≡ content self.new) }
-        ensures crash { is_honest self.new → (c : ContentValue) → may_leave self.new c → may_leave self.old c
-            ⊎ (c ≡ content self.old) ⊎ (c ≡ after change (content self.old)) }
-
-        ensures blames { IfErr result (λ fault. fault ≡ StoreFault.Device → MoreFailures (failures self.old)
-            (failures self.new) ⊎ (0 < failures self.old)) }
-        ensures broken { 0 < failures self.old → result ≡ Err StoreFault.Device }
-        ensures counts { failures self.old ≤ failures self.new }
-        ensures honest { is_honest self.new → is_honest self.old }
-        ensures clean { is_clean self.new → is_clean self.old }
-        ensures stays_whole { OnOk result (is_whole self.old → is_whole self.new) };
+        ensures { Applies is_honest content failures may_leave is_clean is_whole self.old self.new change result };
 }

@@ -7,3 +7,4 @@ pub mod Told
 pub mod Causes
 pub mod Room
 pub mod Taken
+pub mod Applied

@@ -17,6 +17,7 @@ ghost use Rattle.table_facts.specs.Content.{answer_text};
 ghost use Rattle.table_schema.specs.Schema.{HasOwnIndexes, HasTables};
 ghost use Rattle.table_opening.specs.Opened.{IsStored};
 ghost use Rattle.table_writing.specs.Redefining.{AreMovesOf};
+ghost use Rattle.plan_tables.specs.Applied.{AppliesBy};
 ghost use Rattle.plan_tables.specs.Causes.{CanTake, HasFailed};
 ghost use Rattle.plan_tables.specs.Stored.{LeavesSound, MayLeave};
 ghost use Rattle.plan_tables.specs.Taken.{HasRoomFor, KeepsSchema};
@@ -333,25 +334,7 @@ impl<S: Alter + Drop> PlanStore for TableStore<S> {
     fn apply(&mut self, alloc: Global, change: Change) -> Result<(), StoreFault>
         requires fits { ⊤ → Fits change (content_of self.old.lists) }
         requires sound { ⊤ → IsSound (after change (content_of self.old.lists)) }
-        ensures done { ⊤ → OnOk result (content_of self.new.lists ≡ after change (content_of self.old.lists)) }
-        ensures unchanged { ⊤ → IfErr result (λ fault. fault ≡ StoreFault.Memory → content_of self.new.lists
-            ≡ content_of self.old.lists) }
-        ensures whole { ⊤ → OnErr result ((content_of self.new.lists ≡ content_of self.old.lists)
-            ⊎ (content_of self.new.lists ≡ after change (content_of self.old.lists))) }
-        ensures settled { ⊤ → OnOk result ((c : ContentValue) → HasCleanDisk (state S.Store self.new.conn)
-            × MayLeave (state S.Store self.new.conn) c → c ≡ content_of self.new.lists) }
-        ensures crash { ⊤ → (c : ContentValue) → HasCleanDisk (state S.Store self.new.conn)
-            × MayLeave (state S.Store self.new.conn) c → (HasCleanDisk (state S.Store self.old.conn)
-            × MayLeave (state S.Store self.old.conn) c) ⊎ (c ≡ content_of self.old.lists)
-            ⊎ (c ≡ after change (content_of self.old.lists)) }
-        ensures blames { IfErr result (λ fault. fault ≡ StoreFault.Device
-            → MoreFailures self.old.failures self.new.failures ⊎ (0 < self.old.failures)) }
-        ensures broken { 0 < self.old.failures → result ≡ Err StoreFault.Device }
-        ensures counts { self.old.failures ≤ self.new.failures }
-        ensures honest { ⊤ → ⊤ }
-        ensures clean { HasCleanDisk (state S.Store self.new.conn) → HasCleanDisk (state S.Store self.old.conn) }
-        ensures stays_whole { OnOk result ((self.old.failures ≡ 0) × (self.old.in_doubt ≡ false)
-            → (self.new.failures ≡ 0) × (self.new.in_doubt ≡ false)) }
+        ensures applies { AppliesBy ⟦<TableStore<S> as PlanStore>⟧ self.old self.new change result }
         ensures caused { self.old.failures ≡ 0 → HasCleanDisk (state S.Store self.new.conn)
             → CanTake (state S.Store self.old.conn) (content_of self.old.lists) change
             → IfErr result (λ fault. fault ≡ StoreFault.Device

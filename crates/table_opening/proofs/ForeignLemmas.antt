@@ -20,7 +20,7 @@ commits_none old new = query.commits_none version_sql version_reads old new
 pub foreign_by : (old new : State) (e : Error) → FailsToQuery version_sql [] old new e
     → (fault_for e Unopened ≡ Memory) ⊎ ((fault_for e Unopened ≡ Device) ⊎ (fault_for e Unopened ≡ Unopened))
     → IsForeign old new (fault_for e Unopened)
-foreign_by old new e h (inl is) = subst (IsForeign old new) (sym is) tt
+foreign_by old new e h (inl is) = subst (IsForeign old new) (sym is) (e, h, is)
 foreign_by old new e h (inr (inl is)) =
     subst (IsForeign old new) (sym is) (query.failed_by_device version_sql version_reads old new e h is)
 foreign_by old new e h (inr (inr is)) = subst (IsForeign old new) (sym is) (inl (e, h, is))

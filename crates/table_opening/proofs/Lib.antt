@@ -5,6 +5,8 @@ pub mod RowidLemmas
 pub mod FirstRows
 pub mod StoredLemmas
 pub mod OpenedLemmas
+pub mod KeptLemmas
+pub mod JudgedLemmas
 pub mod OpeningLemmas
 pub mod DefinedLemmas
 pub mod ReadableLemmas

@@ -1,10 +1,10 @@
 -- A database that was opened.
-use Rattle.std.proofs.Common.{◌≡◌, ◌⊎◌, ◌∙◌, ◌≤◌, true, inl, inr, sym, subst, refl, ap, arith, true≢false, IsSome, IsTrue}
+use Rattle.std.proofs.Common.{◌≡◌, ◌∙◌, true, inl, inr, sym, subst, refl, ap, arith, IsTrue}
 use Rattle.std.proofs.Common.{Result, Ok, Err, None}
 use Rattle.std.specs.Prelude.{IfErr, IfOk, OnOk}
 use Rattle.sqlite.specs.Effect.{Database}
 use Rattle.sqlite.specs.Store.{Ghosts}
-use Rattle.sqlite.specs.State.{HasCleanDisk, IsLive, IsUnchanged, State, Survives}
+use Rattle.sqlite.specs.State.{HasCleanDisk, IsLive, State, Survives}
 use Rattle.sqlite.specs.declared.error.Error.{Error}
 use Rattle.sqlite_trees.specs.declared.error.StoreError.TheVariants as store
 use Rattle.sqlite.proofs.StateLemmas.{survives_weaker}
@@ -25,13 +25,13 @@ use Rattle.table_schema.proofs.OnceLemmas.{IsOnce}
 use Rattle.table_schema.proofs.StatementLemmas.{plan_still}
 use Rattle.table_reading.specs.Reading.{HasPlan, Looks}
 use Rattle.table_opening.specs.First.{IsBeside, IsMadeFirst, IsNewPlan, first_rows}
-use Rattle.table_opening.specs.Held.{HasVersion, HoldsPlan}
-use Rattle.table_opening.specs.Opened.{HasRoom, IsCaused, IsStored, IsToldBy, IsUnmade, MakesFirst}
-use Rattle.table_opening.specs.Opening.{IsOpened, IsUnopened}
+use Rattle.table_opening.specs.Kept.{IsKept}
+use Rattle.table_opening.specs.Opened.{HasRoom, IsStored, IsToldBy, IsUnmade, MakesFirst}
+use Rattle.table_opening.specs.Opening.{IsOpened, IsUnopened, IsUnread}
 use Rattle.table_opening.specs.Faults.{fault_for}
 use Rattle.table_opening.specs.Stored.{AllHaveRowids}
 use Rattle.table_opening.specs.declared.faults.OpenFault.{OpenFault}
-use Rattle.table_opening.specs.declared.faults.OpenFault.TheVariants.{Memory, Device, Unopened, Tables as OtherTables, Rows}
+use Rattle.table_opening.specs.declared.faults.OpenFault.TheVariants.{Unopened}
 use Rattle.table_opening.proofs.FirstRows.{first_content}
 
 pub read_opened : (old new : State) (c : Content) → (IsTrue old.is_open → old.now ≡ old.committed) → IsLive old
@@ -122,43 +122,23 @@ opened_of (Err e) old new value sound stored told empty beside = tt
 
 -- ---- why it is not opened
 
-pub unread_of : {A : Type 0} (r : Result A OpenFault) (old new : State) → HasPlan old
-    → IfErr r (IsCaused old new) → (r ≡ Err Rows → HasVersion old × (HoldsPlan old → ⊥))
-    → (HasVersion old → r ≡ Err Unopened → ⊥) → IfErr r (IsUnopened old new)
-unread_of (Ok a) old new plan caused rows version = tt
-unread_of (Err fault) old new plan caused rows version = inr (inl (
-  plan,
-  record { caused = caused; rows = λ is. rows (ap Err is); version = λ is known. version known (ap Err is) },
-))
+pub unread_in : {A : Type 0} (r : Result A OpenFault) (old new : State) → HasPlan old
+    → IfErr r (IsUnread old new) → IfErr r (IsUnopened old new)
+unread_in (Ok a) old new plan h = tt
+unread_in (Err fault) old new plan h = inr (inl (plan, h))
 
 pub unmade_of : {A : Type 0} (r : Result A OpenFault) (old new : State) → HasRoom old
     → IfErr r (IsUnmade old new) → IfErr r (IsUnopened old new)
 unmade_of (Ok a) old new room h = tt
 unmade_of (Err fault) old new room h = inr (inr (inl (room, h)))
 
-pub caused_by : (a b : State) (e : Error) → MayFail a b e → IsCaused a b (fault_for e OtherTables)
-caused_by a b e (inl (store.OutOfMemory, is, more)) = subst (λ x. IsCaused a b (fault_for x OtherTables)) (sym is) tt
-caused_by a b e (inl (store.Io, is, more)) =
-    subst (λ x. IsCaused a b (fault_for x OtherTables)) (sym is) (inl more)
-caused_by a b e (inl (store.Corrupt, is, more)) =
-    subst (λ x. IsCaused a b (fault_for x OtherTables)) (sym is) (inl more)
-caused_by a b e (inl (store.Full, is, more)) =
-    subst (λ x. IsCaused a b (fault_for x OtherTables)) (sym is) (inl more)
-caused_by a b e (inl (store.Broken, is, shut)) =
-    subst (λ x. IsCaused a b (fault_for x OtherTables)) (sym is) (inr shut)
-caused_by a b e (inl (store.Unstorable, is, none)) = absurd none
-caused_by a b e (inr h) = subst (λ x. IsCaused a b (fault_for x OtherTables)) (sym h.0) h.1
-
--- what causes it after a reading that answered causes it since that reading began
-pub caused_since : (a b c : State) → IsUnchanged a b → a.faults ≤ b.faults → b.step_limit ≡ a.step_limit
-    → (f : OpenFault) → IsCaused b c f → IsCaused a c f
-caused_since a b c same more limit Memory h = tt
-caused_since a b c same more limit Device (inl h) = inl (omega (arith, more, h))
-caused_since a b c same more limit Device (inr h) = absurd (true≢false (sym same.0.is_open ∙ h))
-caused_since a b c same more limit Unopened h = tt
-caused_since a b c same more limit OtherTables h = subst IsSome limit h
-caused_since a b c same more limit Rows h = tt
-
-pub caused_by_content : (a b : State) (f : OpenFault) → (f ≡ Memory) ⊎ (f ≡ Rows) → IsCaused a b f
-caused_by_content a b f (inl is) = subst (IsCaused a b) (sym is) tt
-caused_by_content a b f (inr is) = subst (IsCaused a b) (sym is) tt
+-- why the tables are not made, by the error of the call
+pub unmade_by : (a b : State) (e : Error) → IsKept a b → MayFail a b e → IsUnmade a b (fault_for e Unopened)
+unmade_by a b e kept (inl (store.OutOfMemory, is, h)) =
+    subst (λ x. IsUnmade a b (fault_for x Unopened)) (sym is) kept
+unmade_by a b e kept (inl (store.Io, is, h)) = subst (λ x. IsUnmade a b (fault_for x Unopened)) (sym is) (inl h)
+unmade_by a b e kept (inl (store.Corrupt, is, h)) = subst (λ x. IsUnmade a b (fault_for x Unopened)) (sym is) (inl h)
+unmade_by a b e kept (inl (store.Full, is, h)) = subst (λ x. IsUnmade a b (fault_for x Unopened)) (sym is) (inl h)
+unmade_by a b e kept (inl (store.Broken, is, h)) = subst (λ x. IsUnmade a b (fault_for x Unopened)) (sym is) (inr h)
+unmade_by a b e kept (inl (store.Unstorable, is, none)) = absurd none
+unmade_by a b e kept (inr h) = subst (λ x. IsUnmade a b (fault_for x Unopened)) (sym h.0) h.1

@@ -5,6 +5,7 @@ use Rattle.table_reading.specs.Reading.{HasPlan}
 use Rattle.table_opening.specs.Opened.{HasRoom, IsUnmade}
 use Rattle.table_opening.specs.Opening.{IsUnopened}
 use Rattle.table_opening.specs.declared.faults.OpenFault.{OpenFault}
+use Rattle.table_opening.proofs.KeptLemmas.{kept_if_untouched}
 use Rattle.table_opening.proofs.StandingLemmas.{free_has_none}
 
 -- what has room for the tables of a plan has them not
@@ -15,7 +16,8 @@ room_has_none s room plan = free_has_none s.now.schema room plan
 -- it has room for them
 pub unmade_when : (old new : State) (fault : OpenFault) → IsUnopened old new fault → HasRoom old
     → IsUnmade old new fault
-unmade_when old new fault (inl is) room = subst (IsUnmade old new) (sym is) tt
+unmade_when old new fault (inl (is, same)) room =
+    subst (IsUnmade old new) (sym is) (kept_if_untouched old new same)
 unmade_when old new fault (inr (inl (plan, h))) room = absurd (room_has_none old room plan)
 unmade_when old new fault (inr (inr (inl (none, h)))) room = h
 unmade_when old new fault (inr (inr (inr (others, h)))) room = absurd (others.1 room)

@@ -19,6 +19,7 @@ use Rattle.table_opening.specs.Opened.{IsCommon}
 use Rattle.table_opening.specs.Opening.{IsUnopened, IsUnread}
 use Rattle.table_opening.specs.declared.faults.OpenFault.{OpenFault}
 use Rattle.table_opening.specs.declared.faults.OpenFault.TheVariants.{Memory, Device, Unopened, Rows, Tables as OtherTables}
+use Rattle.table_opening.proofs.KeptLemmas.{kept_if_untouched}
 use Rattle.table_opening.proofs.OpeningLemmas.{room_has_none}
 
 -- where one value alone is shown, it is shown once
@@ -49,14 +50,15 @@ sound_is_known all h =
     )
 
 unread : (old new : State) (fault : OpenFault) → HoldsPlan old → IsUnread old new fault → IsCommon old new fault
-unread old new Memory holds h = tt
+unread old new Memory holds h = h.caused
 unread old new Device holds h = h.caused
 unread old new OtherTables holds h = h.caused
 unread old new Rows holds h = (h.rows refl).1 holds
 unread old new Unopened holds h = h.version refl (holds.0, sound_is_known _ holds.1)
 
 pub common : (old new : State) (fault : OpenFault) → HoldsPlan old → IsUnopened old new fault → IsCommon old new fault
-common old new fault holds (inl is) = subst (IsCommon old new) (sym is) tt
+common old new fault holds (inl (is, same)) =
+    subst (IsCommon old new) (sym is) (kept_if_untouched old new same)
 common old new fault holds (inr (inl (plan, h))) = unread old new fault holds h
 common old new fault holds (inr (inr (inl (room, h)))) = absurd (room_has_none old room holds.0)
 common old new fault holds (inr (inr (inr (others, h)))) = absurd (others.0 holds.0)

@@ -1,5 +1,5 @@
 -- A database of other tables.
-use Rattle.std.specs.Prelude.{◌≡◌, ◌⊎◌, false, ℕ, List, [], codes, ⊤}
+use Rattle.std.specs.Prelude.{◌≡◌, ◌⊎◌, false, ℕ, List, [], codes}
 use Rattle.sqlite.specs.Order.{Row as Values}
 use Rattle.sqlite.specs.State.{State, FailsToQuery, Shown}
 use Rattle.sqlite.specs.declared.error.Error.{Error}
@@ -13,6 +13,10 @@ use Rattle.table_opening.specs.declared.faults.OpenFault.TheVariants.{Memory, De
 abbrev pub version_sql : List ℕ
 version_sql = codes "SELECT version, version FROM plan_meta"
 
+-- it fails to show what the text asks for, for want of memory
+abbrev pub LacksMemory : List ℕ → State → State → Type 0
+LacksMemory sql old new = (e : Error) × FailsToQuery sql [] old new e × (fault_for e Unopened ≡ Memory)
+
 -- it refuses to show what the text asks for, neither for want of memory nor for the device
 abbrev pub RefusesToShow : List ℕ → State → State → Type 0
 RefusesToShow sql old new = (e : Error) × FailsToQuery sql [] old new e × (fault_for e Unopened ≡ Unopened)
@@ -21,11 +25,11 @@ RefusesToShow sql old new = (e : Error) × FailsToQuery sql [] old new e × (fau
 abbrev pub RefusesVersion : State → State → Type 0
 RefusesVersion = RefusesToShow version_sql
 
--- why a database of other tables is not opened: memory is short; the device failed meanwhile, or the connection was
--- shut before; or by what it shows that is asked for the version of a plan: a known one, none that is known, or nothing,
--- since it refuses
+-- why a database of other tables is not opened: asked for the version of a plan, it fails for want of memory; the device
+-- failed meanwhile, or the connection was shut before; or by what it shows then: a known one, none that is known, or
+-- nothing, since it refuses
 abbrev pub IsForeign : State → State → OpenFault → Type 0
-IsForeign old new Memory = ⊤
+IsForeign old new Memory = LacksMemory version_sql old new
 IsForeign old new Device = MoreFaults old.faults new.faults ⊎ (old.is_open ≡ false)
 IsForeign old new OtherTables = (rows : List Values) × Shown version_sql [] old new rows × AreKnown rows
 IsForeign old new Unopened =

@@ -6,6 +6,8 @@ pub mod Faults
 pub mod Opened
 pub mod Opening
 pub mod Held
+pub mod Kept
+pub mod Judging
 pub mod Queries
 pub mod Foreign
 pub mod Files

@@ -11,6 +11,7 @@ use Rattle.table_schema.specs.Rows.{IsPlan, tables_of}
 use Rattle.table_schema.specs.Free.{IsFree}
 use Rattle.table_schema.specs.Schema.{HasTables}
 use Rattle.table_facts.specs.Content.{IsContentOf}
+use Rattle.table_opening.specs.Kept.{IsKept}
 use Rattle.table_opening.specs.Stored.{AllHaveRowids}
 use Rattle.table_opening.specs.declared.faults.OpenFault.{OpenFault}
 use Rattle.table_opening.specs.declared.faults.OpenFault.TheVariants.{Memory, Device, Unopened, Tables as OtherTables}
@@ -44,24 +45,25 @@ pub record MakesFirst (s : State) (db : Trees) : Type 0 where
 
 -- why a database that has the tables of the plan is not opened: for the device only where it failed meanwhile or the
 -- connection was shut before, and for its tables only where a limit on steps is set; of its version and rows other
--- clauses tell, and memory may be short at any time
+-- clauses tell; and where memory is short, as it may be at any time, an open connection sees what it saw
 abbrev pub IsCaused : State → State → OpenFault → Type 0
+IsCaused old new Memory = IsKept old new
 IsCaused old new Device = MoreFaults old.faults new.faults ⊎ (old.is_open ≡ false)
 IsCaused old new OtherTables = IsSome old.step_limit
 IsCaused old new _ = ⊤
 
--- why a database in which nothing is in their way does not get the tables: memory is short, the device failed meanwhile,
--- the connection was shut before, or a limit on steps is set
+-- why a database in which nothing is in their way does not get the tables: memory is short, and an open connection sees
+-- what it saw; the device failed meanwhile, the connection was shut before, or a limit on steps is set
 abbrev pub IsUnmade : State → State → OpenFault → Type 0
-IsUnmade old new Memory = ⊤
+IsUnmade old new Memory = IsKept old new
 IsUnmade old new Device = MoreFaults old.faults new.faults ⊎ (old.is_open ≡ false)
 IsUnmade old new Unopened = IsSome old.step_limit
 IsUnmade old new _ = ⊥
 
--- why a database that holds a sound plan is not opened, for nothing that stands in it: memory is short, the device failed
--- meanwhile, the connection was shut before, or a limit on steps is set
+-- why a database that holds a sound plan is not opened, for nothing that stands in it: memory is short, and an open
+-- connection sees what it saw; the device failed meanwhile, the connection was shut before, or a limit on steps is set
 abbrev pub IsCommon : State → State → OpenFault → Type 0
-IsCommon old new Memory = ⊤
+IsCommon old new Memory = IsKept old new
 IsCommon old new Device = MoreFaults old.faults new.faults ⊎ (old.is_open ≡ false)
 IsCommon old new OtherTables = IsSome old.step_limit
 IsCommon old new _ = ⊥

@@ -8,6 +8,7 @@ use Rattle.table_reading.specs.Reading.{HasPlan}
 use Rattle.table_opening.specs.First.{IsBeside}
 use Rattle.table_opening.specs.Foreign.{IsForeign}
 use Rattle.table_opening.specs.Held.{HasVersion, HoldsPlan}
+use Rattle.table_opening.specs.Kept.{IsUntouched}
 use Rattle.table_opening.specs.Opened.{HasRoom, IsCaused, IsStored, IsToldBy, IsUnmade}
 use Rattle.table_opening.specs.declared.faults.OpenFault.{OpenFault}
 use Rattle.table_opening.specs.declared.faults.OpenFault.TheVariants.{Memory, Rows, Unopened}
@@ -41,9 +42,9 @@ pub record IsUnread (old new : State) (fault : OpenFault) : Type 0 where
   pub rows : fault ≡ Rows → HasVersion old × (HoldsPlan old → ⊥)
   pub version : fault ≡ Unopened → HasVersion old → ⊥
 
--- why a database is not opened: memory is short, or by what is there
+-- why a database is not opened: memory is short before it is asked anything, or by what is there
 abbrev pub IsUnopened : State → State → OpenFault → Type 0
-IsUnopened old new fault = (fault ≡ Memory)
+IsUnopened old new fault = ((fault ≡ Memory) × IsUntouched old new)
     ⊎ (HasPlan old × IsUnread old new fault)
     ⊎ (HasRoom old × IsUnmade old new fault)
     ⊎ (HasOthers old × IsForeign old new fault)

@@ -50,6 +50,7 @@ pub fn open_connection_with<S: Start>(
         → (file_state conn).IsShielded) }
     ensures cases { IfErr result (λ left. (left.0 ≡ Memory) ⊎ (left.0 ≡ Device)
         ⊎ (left.0 ≡ Unopened)) }
+    ensures told { IfErr result (λ left. left.0 ≡ unopened_for left.2) }
     ensures unopened { IfErr result (λ left. left.1 ≡ None → (left.0 ≡ Memory)
         ⊎ (left.0 ≡ Unopened)) }
     ensures caused { IfErr result (λ left. IfSome left.1 (λ rest. (files : _)

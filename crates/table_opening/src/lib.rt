@@ -3,6 +3,7 @@
 
 mod faults;
 mod files;
+mod judging;
 mod making;
 mod opening;
 mod own_indexes;

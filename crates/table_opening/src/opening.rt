@@ -1,6 +1,6 @@
 // A database is opened.
 
-ghost use Rattle.std.specs.Prelude.{◌≡◌, ◌⊎◌, ◌↔◌, false, is_ok, map, Err, IfErr, IfOk, IsTrue};
+ghost use Rattle.std.specs.Prelude.{◌≡◌, ◌↔◌, false, is_ok, map, None, IfErr, IfOk, IfSome, IsTrue};
 ghost use Rattle.sqlite.specs.State.{HasCleanDisk, Survives};
 ghost use Rattle.sqlite.specs.Held.{state};
 ghost use Rattle.planner_machine.specs.Content.{nothing_known};
@@ -11,15 +11,17 @@ ghost use Rattle.plan_store.specs.Contents.{content_of};
 ghost use Rattle.table_facts.specs.Content.{IsContentOf};
 ghost use Rattle.table_reading.specs.Reading.{HasPlan, Looks};
 ghost use Rattle.table_reading.specs.Tables.{TellPlans};
-ghost use Rattle.table_opening.specs.declared.faults.OpenFault.TheVariants.{Memory, Rows, Unopened};
+ghost use Rattle.table_opening.specs.declared.faults.OpenFault.TheVariants.{Rows};
 ghost use Rattle.table_opening.specs.First.{IsBeside};
 ghost use Rattle.table_opening.specs.Foreign.{IsForeign};
-ghost use Rattle.table_opening.specs.Held.{AreKnown, HoldSound, HoldsPlan};
-ghost use Rattle.table_opening.specs.Opened.{HasRoom, IsCaused, IsCommon, IsStored, IsUnmade, MakesFirst};
-ghost use Rattle.table_opening.specs.Opening.{IsOpened, IsUnopened};
+ghost use Rattle.table_opening.specs.Held.{AreKnown, HasVersion, HoldSound, HoldsPlan};
+ghost use Rattle.table_opening.specs.Judging.{IsJudged, IsSoundIfFound};
+ghost use Rattle.table_opening.specs.Opened.{HasRoom, IsCommon, IsStored, IsUnmade, MakesFirst};
+ghost use Rattle.table_opening.specs.Opening.{IsOpened, IsUnopened, IsUnread};
 ghost use Rattle.table_opening.specs.Stored.{TellStored};
 
 use crate::faults::{OpenFault, fault_for};
+use crate::judging::{Judged, found_by, tell};
 use crate::making::make_first;
 use crate::schemas::{Found, find_tables};
 use crate::version_texts::version_text;
@@ -29,44 +31,46 @@ use plan_store::Content;
 use planner_machine::empty_content_is_sound;
 use sqlite::types::ValueRef;
 use sqlite::{Alter, Connection, Error, Row as Cells};
-use std::alloc::Global;
+use std::alloc::{AllocError, Global};
 use table_definitions::StoredRows;
 use table_facts::tables_have_one_content;
 use table_reading::{Part, PlanLists};
 use table_schema::{SCHEMA_VERSION, Table, select};
 
 // The content, if it is sound.
-fn if_sound(alloc: Global, content: Content) -> Result<Content, OpenFault>
-    ensures sound { IfOk result (λ same. IsSound (content_of same)) }
-    ensures same { IfOk result (λ same. content_of same ≡ content_of content) }
-    ensures refused { result ≡ Err Rows → IsSound (content_of content) → ⊥ }
-    ensures version { result ≡ Err Unopened → ⊥ }
-    ensures caused { IfErr result (λ fault. (fault ≡ Memory) ⊎ (fault ≡ Rows)) }
+fn if_sound(alloc: Global, content: Content) -> Result<Option<Content>, AllocError>
+    ensures sound { IfOk result (λ found. IfSome found (λ same. IsSound (content_of same))) }
+    ensures same { IfOk result (λ found. IfSome found (λ same.
+        content_of same ≡ content_of content)) }
+    ensures refused { IfOk result (λ found. found ≡ None → IsSound (content_of content) → ⊥) }
 {
     match is_sound(alloc, &content) {
-        Ok(true) => Ok(content),
-        Ok(false) => Err(OpenFault::Rows),
-        Err(_) => Err(OpenFault::Memory),
+        Ok(true) => Ok(Some(content)),
+        Ok(false) => Ok(None),
+        Err(error) => Err(error),
     }
 }
 
-// The sound content that has these lists and rows.
-fn sound_content(alloc: Global, lists: PlanLists, stored: &StoredRows) -> Result<Content, OpenFault>
-    ensures sound { IfOk result (λ content. IsSound (content_of content)) }
-    ensures content { IfOk result (λ content. (all : Tables) → TellPlans all lists
+// The sound content that has these lists and rows, if there is one.
+fn sound_content(
+    alloc: Global,
+    lists: PlanLists,
+    stored: &StoredRows,
+) -> Result<Option<Content>, AllocError>
+    ensures sound { IfOk result (λ found. IfSome found (λ content. IsSound (content_of content))) }
+    ensures content { IfOk result (λ found. IfSome found (λ content. (all : Tables)
+        → TellPlans all lists
         → TellStored all stored.now
-        → IsContentOf all (content_of content)) }
-    ensures refused { result ≡ Err Rows → (all : Tables) → TellPlans all lists
+        → IsContentOf all (content_of content))) }
+    ensures refused { IfOk result (λ found. found ≡ None → (all : Tables) → TellPlans all lists
         → TellStored all stored.now
-        → HoldSound all → ⊥ }
-    ensures version { result ≡ Err Unopened → ⊥ }
-    ensures caused { IfErr result (λ fault. (fault ≡ Memory) ⊎ (fault ≡ Rows)) }
+        → HoldSound all → ⊥) }
 {
     tables_have_one_content();
     match content_of_tables(alloc, lists, stored) {
         Ok(Some(content)) => if_sound(alloc, content),
-        Ok(None) => Err(OpenFault::Rows),
-        Err(_) => Err(OpenFault::Memory),
+        Ok(None) => Ok(None),
+        Err(error) => Err(error),
     }
 }
 
@@ -99,23 +103,16 @@ fn has_version<S: Alter>(conn: &mut Connection<S>) -> Result<bool, Error>
     Ok(is_known(&rows))
 }
 
-// The content of the tables.
-fn read_whole<S: Alter>(alloc: Global, conn: &mut Connection<S>) -> Result<Content, OpenFault>
+// What is found of tables of a known version.
+fn read_whole<S: Alter>(alloc: Global, conn: &mut Connection<S>) -> Result<Judged, Error>
     requires { conn.old.in_transaction ≡ false }
-    ensures opened { HasCleanDisk (state S.Store conn.new) → HasPlan (state S.Store conn.old)
-        → IfOk result (λ content. IsStored (state S.Store conn.new) (content_of content)) }
-    ensures told { HasCleanDisk (state S.Store conn.new) → HasPlan (state S.Store conn.old)
-        → IfOk result (λ content. IsContentOf (tables_of (state S.Store conn.old).now.trees)
-        (content_of content)) }
-    ensures sound { IfOk result (λ content. IsSound (content_of content)) }
-    ensures rows { HasCleanDisk (state S.Store conn.new) → HoldsPlan (state S.Store conn.old)
-        → result ≡ Err Rows → ⊥ }
-    ensures version { result ≡ Err Unopened → ⊥ }
-    ensures caused { HasCleanDisk (state S.Store conn.new) → HasPlan (state S.Store conn.old)
-        → IfErr result (IsCaused (state S.Store conn.old) (state S.Store conn.new)) }
+    ensures judged { HasCleanDisk (state S.Store conn.new) → HasVersion (state S.Store conn.old)
+        → IfOk result (IsJudged (state S.Store conn.old) (state S.Store conn.new)) }
+    ensures sound { IfOk result IsSoundIfFound }
+    ensures looks { Looks (state S.Store conn.old) (state S.Store conn.new) (is_ok result) }
+    ensures fails { HasCleanDisk (state S.Store conn.new) → HasPlan (state S.Store conn.old)
+        → IfErr result (MayFail (state S.Store conn.old) (state S.Store conn.new)) }
     ensures mode { conn.new.in_transaction ≡ false }
-    ensures survives { Survives (state S.Store conn.old) (state S.Store conn.new)
-        (λ _. HasPlan (state S.Store conn.old) → ⊥) }
 {
     let settled = conn.is_autocommit();
     prove!(settled);
@@ -123,10 +120,30 @@ fn read_whole<S: Alter>(alloc: Global, conn: &mut Connection<S>) -> Result<Conte
     let _ = conn.schema();
     match <(RowidPart, (PlanPart, DefinitionPart))>::read(alloc, conn) {
         Ok(Some((_, (plans, definitions)))) => {
-            sound_content(alloc, plans.lists, &definitions.stored)
+            let found = sound_content(alloc, plans.lists, &definitions.stored);
+            Ok(found_by(found))
         }
-        Ok(None) => Err(OpenFault::Rows),
-        Err(error) => Err(fault_for(&error, OpenFault::Tables)),
+        Ok(None) => Ok(Judged::Unsound),
+        Err(error) => Err(error),
+    }
+}
+
+// What is found of a database that has the tables of the plan.
+fn read_plan<S: Alter>(alloc: Global, conn: &mut Connection<S>) -> Result<Judged, Error>
+    requires plan { HasPlan (state S.Store conn.old) }
+    requires mode { conn.old.in_transaction ≡ false }
+    ensures judged { HasCleanDisk (state S.Store conn.new)
+        → IfOk result (IsJudged (state S.Store conn.old) (state S.Store conn.new)) }
+    ensures sound { IfOk result IsSoundIfFound }
+    ensures looks { Looks (state S.Store conn.old) (state S.Store conn.new) (is_ok result) }
+    ensures fails { HasCleanDisk (state S.Store conn.new)
+        → IfErr result (MayFail (state S.Store conn.old) (state S.Store conn.new)) }
+    ensures mode { conn.new.in_transaction ≡ false }
+{
+    match has_version(conn) {
+        Ok(true) => read_whole(alloc, conn),
+        Ok(false) => Ok(Judged::Unknown),
+        Err(error) => Err(error),
     }
 }
 
@@ -140,23 +157,15 @@ fn open_plan<S: Alter>(alloc: Global, conn: &mut Connection<S>) -> Result<Conten
         → IfOk result (λ content. IsContentOf (tables_of (state S.Store conn.old).now.trees)
         (content_of content)) }
     ensures sound { IfOk result (λ content. IsSound (content_of content)) }
-    ensures rows { HasCleanDisk (state S.Store conn.new) → HoldsPlan (state S.Store conn.old)
-        → result ≡ Err Rows → ⊥ }
-    ensures known { HasCleanDisk (state S.Store conn.new) → result ≡ Err Rows
-        → AreKnown (map (shown Meta) (tables_of (state S.Store conn.old).now.trees Meta)) }
-    ensures version { HasCleanDisk (state S.Store conn.new)
-        → AreKnown (map (shown Meta) (tables_of (state S.Store conn.old).now.trees Meta))
-        → result ≡ Err Unopened → ⊥ }
-    ensures caused { HasCleanDisk (state S.Store conn.new)
-        → IfErr result (IsCaused (state S.Store conn.old) (state S.Store conn.new)) }
+    ensures unread { HasCleanDisk (state S.Store conn.new)
+        → IfErr result (IsUnread (state S.Store conn.old) (state S.Store conn.new)) }
     ensures mode { conn.new.in_transaction ≡ false }
     ensures survives { Survives (state S.Store conn.old) (state S.Store conn.new) (λ _. ⊥) }
 {
-    match has_version(conn) {
-        Ok(true) => read_whole(alloc, conn),
-        Ok(false) => Err(OpenFault::Unopened),
-        Err(error) => Err(fault_for(&error, OpenFault::Tables)),
-    }
+    let settled = conn.is_autocommit();
+    prove!(settled);
+    let found = read_plan(alloc, conn);
+    tell(found)
 }
 
 // Opens a database in which nothing is in the way of the tables: it gets them beside its own.

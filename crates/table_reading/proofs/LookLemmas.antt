@@ -2,14 +2,14 @@
 use Rattle.std.proofs.Common.{◌≡◌, ◌∙◌, ◌≤◌, Bool, true, ap, arith, inl, inr, refl, subst, sym, true≢false}
 use Rattle.std.proofs.Common.{IsTrue, Result, Ok, Err, is_ok}
 use Rattle.sqlite.specs.Effect.{Database}
-use Rattle.sqlite.specs.State.{HasCause, HasCleanDisk, IsUnchanged, State}
+use Rattle.sqlite.specs.State.{HasCause, HasCleanDisk, IsRolledBack, IsUnchanged, State}
 use Rattle.sqlite.specs.declared.error.Error.{Error}
 use Rattle.sqlite_trees.specs.declared.error.StoreError.{StoreError}
 use Rattle.sqlite_trees.specs.declared.error.StoreError.TheVariants.{OutOfMemory, Io, Corrupt, Full, Broken, Unstorable}
 use Rattle.sqlite.proofs.Callers.{unchanged_then}
 use Rattle.sqlite.proofs.StateLemmas.{survives_then}
 use Rattle.std.specs.Prelude.{IfOk, IsSome}
-use Rattle.table_schema.specs.Rows.{MayFail, tables_of}
+use Rattle.table_schema.specs.Rows.{MayFail, StaysOrIsUndone, tables_of}
 use Rattle.table_schema.specs.Schema.{HasTables}
 use Rattle.table_reading.specs.Reading.{HasPlan, Looks}
 
@@ -28,12 +28,32 @@ tables_still a b same = ap (λ (d : Database). tables_of d.trees) same.0.now_is
 pub clean_before : (a b : State) (o : Bool) → Looks a b o → HasCleanDisk b → HasCleanDisk a
 clean_before a b o look clean = omega (arith, look.survives.clean, clean)
 
+-- what is undone after a reading that answered is undone since that reading began
+pub undone_since : (a b c : State) → IsUnchanged a b → IsRolledBack b c → IsRolledBack a c
+undone_since a b c same undone = record {
+  was_open = λ _. same.0.was_open;
+  undone = λ up. ((undone.undone up).0 ∙ same.0.committed_is, (undone.undone up).1 ∙ same.0.committed_is);
+  autocommit = undone.autocommit;
+  unmarked = undone.unmarked;
+  counts = record {
+    changes = undone.counts.changes ∙ same.1.changes;
+    last_rowid = undone.counts.last_rowid ∙ same.1.last_rowid;
+  };
+}
+
+left_since : (a b c : State) → IsUnchanged a b → StaysOrIsUndone b c → StaysOrIsUndone a c
+left_since a b c same (inl stays) = inl (unchanged_then a b c same stays)
+left_since a b c same (inr undone) = inr (undone_since a b c same undone)
+
 -- after a reading that answered, the next
 pub looks_then : (a b c : State) (o : Bool) → Looks a b true → Looks b c o → Looks a c o
 looks_then a b c o one two = record {
   same = λ clean plan done.
       let same = one.same (clean_before b c o two clean) plan refl in
       unchanged_then a b c same (two.same clean (plan_still a b same plan) done);
+  leaves = λ clean plan.
+      let same = one.same (clean_before b c o two clean) plan refl in
+      left_since a b c same (two.leaves clean (plan_still a b same plan));
   survives = survives_then a b c _ _ (λ _. HasPlan a → ⊥) (λ _ _ none. none)
       (λ clean _ none plan. none (plan_still a b (one.same (clean_before b c o two clean) plan refl) plan))
       one.survives two.survives;

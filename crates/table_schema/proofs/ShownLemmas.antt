@@ -18,7 +18,7 @@ use Rattle.sqlite.specs.declared.types.Value.TheVariants.{Null}
 use Rattle.sqlite.proofs.Callers.{IsPlain, command_of, never_commits, reads_as}
 use Rattle.sqlite.proofs.StateLemmas.{survives_weaker}
 use Rattle.sqlite_typing.specs.Types.{accepts_program}
-use Rattle.table_schema.specs.Rows.{MayFail}
+use Rattle.table_schema.specs.Rows.{MayFail, StaysOrIsUndone}
 use Rattle.table_schema.proofs.MeaningLemmas.{IsWhole}
 use Rattle.table_schema.proofs.StopLemmas.{is_refused}
 use Rattle.table_schema.proofs.Steps.{plain_query, plain_rows, shown_by}
@@ -69,6 +69,18 @@ module _ (schema : Schema) (sql : List ℕ) (tree : ℕ) (terms : List Term) (na
       let db : ran.0 ≡ old.now = subst (λ b. IsSourceOf b old.now ran.0) (ap (λ s. reads_listing s sql) has ∙ it.unlisted) ran.1 in
       inr (stops old.step_limit ran.0 e (ap (λ (d : Database). d.schema) db ∙ has)
       (subst (λ k. RefusesToRead old.step_limit k ran.0 [] e) (ap command_of known ∙ it.means) ran.2))
+
+  -- where it fails, all stays, or it is undone that was not committed
+  pub failed : (old new : State) (e : Error) → old.now.schema ≡ schema → FailsToQuery sql [] old new e
+      → StaysOrIsUndone old new
+  unfolding FailsToQuery IsNotRun
+  failed old new e has (inl (inl (h, same))) = inl same
+  failed old new e has (inl (inr h)) = inr h.3
+  failed old new e has (inr h) =
+      let known = sym h.1.is ∙ ap (λ s. understood s sql) has in
+      let bare = subst IsPlain (sym known) it.plain in
+      let ran = rw (bare.0, bare.1, append-nil []) at h.2 in
+      inl ran.3
 
   -- it commits nothing
   pub quiet : (old new : State) → Survives old new (CommitsShowing sql [] old) → Survives old new (λ _. old.now.schema ≡ schema → ⊥)

@@ -1,6 +1,7 @@
 -- What one statement makes of a plan.
-use Rattle.std.proofs.Common.{◌≡◌, ◌≢◌, ◌==◌, ◌∙◌, ℕ, Bool, true, false, cond, IsTrue, List, [], ◌∷◌, map, filter, find, unwrap_or, not, Ok, refl, sym, ap, subst, arith}
+use Rattle.std.proofs.Common.{◌≡◌, ◌≢◌, ◌==◌, ◌∙◌, ℕ, Bool, true, false, cond, IsTrue, List, [], ◌∷◌, map, filter, find, unwrap_or, not, Result, Ok, Err, inl, refl, sym, ap, subst, arith}
 use Rattle.std.specs.List.Sorted.{IsPermutation}
+use Rattle.std.specs.Prelude.{IfErr, IfOk}
 use Rattle.std.proofs.lemmas.Bool.Decides.{nat_tests}
 use Rattle.sqlite.specs.Command.TheVariants.{Insert, Delete}
 use Rattle.sqlite.specs.Effect.{Database, IsDatabase}
@@ -27,7 +28,7 @@ use Rattle.sqlite_trees.specs.Objects.{catalog_tree}
 use Rattle.sqlite_trees.specs.Tree.{IsAscending}
 use Rattle.table_schema.specs.Cells.{column_names, delete_tests, insert_terms, select_terms, width}
 use Rattle.table_schema.specs.Places.{TableStandsAt, TreesDiffer, tree_named}
-use Rattle.table_schema.specs.Rows.{AreOfKinds, HaveRowids, IsAlone, IsPlan, KeepsBeside, MayFail, Stands, Tables, matches, placed}
+use Rattle.table_schema.specs.Rows.{AreOfKinds, HaveRowids, IsAlone, IsPlan, KeepsBeside, MayFail, Stands, StaysOrIsUndone, Tables, matches, placed}
 use Rattle.table_schema.specs.Rows.{shown, stored, tables_of, with_cells, with_rows, without_key}
 use Rattle.table_schema.specs.Schema.{HasTables, RefersAside, all_tables, name, place, table_at}
 use Rattle.table_schema.specs.Texts.{delete_sql, insert_sql, select_sql}
@@ -295,6 +296,13 @@ module _ (t : Table) (sql : List ℕ) (terms : List Term) (names : List (List �
   pub text_fails : (e : Error) → FailsToQuery sql [] old new e → MayFail old new e
   text_fails e h = caller.fails old.now.schema sql (has.trees t) terms names means old new e refl h
 
+  -- whatever it answers, all stays, or it is undone that was not committed
+  pub text_leaves : {A : Type 0} (items : A → List Row) (r : Result A Error)
+      → IfOk r (λ rows. Shown sql [] old new (items rows)) → IfErr r (FailsToQuery sql [] old new)
+      → StaysOrIsUndone old new
+  text_leaves items (Ok rows) ok err = inl (text_stays (items rows) ok)
+  text_leaves items (Err e) ok err = caller.failed old.now.schema sql (has.trees t) terms names means old new e refl err
+
 -- such a text commits nothing
 pub text_quiet : (sql : List ℕ) (old new : State) → (HasTables old.now.schema → IsPlain (understood old.now.schema sql))
     → Survives old new (CommitsShowing sql [] old) → Survives old new (λ _. HasTables old.now.schema → ⊥)
@@ -315,6 +323,10 @@ module _ (t : Table) (old new : State) where
 
   pub fails : (has : HasTables old.now.schema) (e : Error) → FailsToQuery (select_sql t) [] old new e → MayFail old new e
   fails has = text_fails t (select_sql t) (select_terms t) (column_names t) old new has (means has)
+
+  pub leaves : {A : Type 0} (has : HasTables old.now.schema) (items : A → List Row) (r : Result A Error)
+      → IfOk r (λ rows. Shown (select_sql t) [] old new (items rows)) → IfErr r (FailsToQuery (select_sql t) [] old new) → StaysOrIsUndone old new
+  leaves has = text_leaves t (select_sql t) (select_terms t) (column_names t) old new has (means has)
 
   pub quiet : Survives old new (CommitsShowing (select_sql t) [] old)
       → Survives old new (λ _. HasTables old.now.schema → ⊥)

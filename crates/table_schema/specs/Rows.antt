@@ -4,7 +4,7 @@ use Rattle.std.specs.List.{AllByRecursion, list_all}
 use Rattle.std.specs.Ordering.{is_eq, match_ordering}
 use Rattle.sqlite.specs.Effect.{Database, IsDatabase}
 use Rattle.sqlite.specs.Order.{Row}
-use Rattle.sqlite.specs.State.{HasCause, State, store_error}
+use Rattle.sqlite.specs.State.{HasCause, IsRolledBack, IsUnchanged, State, store_error}
 use Rattle.sqlite_trees.specs.declared.error.StoreError.{StoreError}
 use Rattle.sqlite.specs.declared.error.Error.{Error}
 use Rattle.sqlite.specs.declared.error.Error.TheVariants.{SqliteFailure}
@@ -108,6 +108,10 @@ pub record Stands (old new : State) (rows : Tables) : Type 0 where
 abbrev pub MayFail : State → State → Error → Type 0
 MayFail old new e = ((cause : StoreError) × (e ≡ store_error cause) × HasCause old new ⊥ cause)
     ⊎ ((e ≡ SqliteFailure OperationInterrupted) × IsSome old.step_limit)
+
+-- all is as it was, or what was not committed is undone
+abbrev pub StaysOrIsUndone : State → State → Type 0
+StaysOrIsUndone old new = IsUnchanged old new ⊎ IsRolledBack old new
 
 -- no table has a row
 abbrev pub no_rows : Tables

@@ -5,7 +5,7 @@ ghost use Rattle.std.specs.List.Sorted.{IsPermutation};
 ghost use Rattle.sqlite.specs.State.{ExecutesInside, HasCleanDisk, IsUnchanged, Survives};
 ghost use Rattle.sqlite.specs.Held.{state};
 ghost use Rattle.sqlite.specs.Values.{bound};
-ghost use Rattle.table_schema.specs.Rows.{AreOfKinds, IsAlone, MayFail, shown, tables_of};
+ghost use Rattle.table_schema.specs.Rows.{AreOfKinds, IsAlone, MayFail, StaysOrIsUndone, shown, tables_of};
 ghost use Rattle.table_schema.specs.Rows.{with_cells, without_key};
 ghost use Rattle.table_schema.specs.Schema.{HasTables};
 ghost use Rattle.table_schema.specs.Takes.{LosesKey, TakesRow};
@@ -68,6 +68,9 @@ pub fn select<S: Alter>(conn: &mut Connection<S>, table: Table) -> Result<Vec<Ro
     ensures fails { HasCleanDisk (state S.Store conn.new)
         → HasTables (state S.Store conn.old).now.schema
         → IfErr result (MayFail (state S.Store conn.old) (state S.Store conn.new)) }
+    ensures leaves { HasCleanDisk (state S.Store conn.new)
+        → HasTables (state S.Store conn.old).now.schema
+        → StaysOrIsUndone (state S.Store conn.old) (state S.Store conn.new) }
     ensures mode { conn.old.in_transaction ≡ false → conn.new.in_transaction ≡ false }
     ensures survives { Survives (state S.Store conn.old) (state S.Store conn.new)
         (λ _. HasTables (state S.Store conn.old).now.schema → ⊥) }

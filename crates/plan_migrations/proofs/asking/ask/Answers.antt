@@ -3,7 +3,8 @@ use Rattle.std.specs.Prelude.{not}
 use Rattle.sqlite.specs.Held.{state}
 use Rattle.sqlite.specs.State.{HasCleanDisk, IsUnchanged}
 use Rattle.table_opening.proofs.QueryLemmas.{commits_none, failed_by_device, refused_same, shown_same}
-use Rattle.plan_migrations.proofs.AskLemmas.{kept_by, kept_if_same, third}
+use Rattle.table_opening.proofs.KeptLemmas.{kept_if_same}
+use Rattle.plan_migrations.proofs.AskLemmas.{kept_by, third}
 use Rattle.plan_migrations.proofs.asking.ask.Goals as goal
 
 pub returns-in-Ok-clause-same : goal.returns-in-Ok-clause-same

@@ -1,9 +1,10 @@
-use Rattle.std.proofs.Common.{inl, inr}
+use Rattle.std.proofs.Common.{inl, inr, refl}
 use Rattle.sqlite.specs.Held.{state}
 use Rattle.table_schema.proofs.ResultLemmas.{if_ok}
 use Rattle.plan_store.specs.Contents.{content_of}
 use Rattle.table_reading.specs.Reading.{HasPlan}
-use Rattle.table_opening.proofs.OpenedLemmas.{opened_of, unmade_of, unread_of}
+use Rattle.table_opening.proofs.KeptLemmas.{untouched}
+use Rattle.table_opening.proofs.OpenedLemmas.{opened_of, unmade_of, unread_in}
 use Rattle.table_opening.proofs.OpeningLemmas.{room_has_none}
 use Rattle.table_opening.proofs.SoundLemmas.{common_of}
 use Rattle.table_opening.proofs.opening.open_content.Goals as goal
@@ -23,9 +24,7 @@ returns-in-Ok-Plan-clause-unopened g c clean =
     let old = state g.S.Store c.args.conn.now in
     let new = state g.S.Store c.open_plan.new.conn in
     let plan = rw c.in-Ok-Plan.field-0-is at c.in-Ok-Plan.ensures in
-    unread_of c.open_plan.result old new plan (c.open_plan.ensures.caused clean)
-    (λ is. ((plan, c.open_plan.ensures.known clean is), λ held. c.open_plan.ensures.rows clean held is))
-    (λ has. c.open_plan.ensures.version clean has.1)
+    unread_in c.open_plan.result old new plan (c.open_plan.ensures.unread clean)
 
 pub returns-in-Ok-Room-clause-opened : goal.returns-in-Ok-Room-clause-opened
 returns-in-Ok-Room-clause-opened g c =
@@ -52,10 +51,8 @@ returns-in-Ok-Plan-clause-holds g c clean holds =
     let old = state g.S.Store c.args.conn.now in
     let new = state g.S.Store c.open_plan.new.conn in
     let plan = rw c.in-Ok-Plan.field-0-is at c.in-Ok-Plan.ensures in
-    common_of c.open_plan.result old new holds (unread_of c.open_plan.result old new plan
-    (c.open_plan.ensures.caused clean)
-    (λ is. ((plan, c.open_plan.ensures.known clean is), λ held. c.open_plan.ensures.rows clean held is))
-    (λ has. c.open_plan.ensures.version clean has.1))
+    common_of c.open_plan.result old new holds
+    (unread_in c.open_plan.result old new plan (c.open_plan.ensures.unread clean))
 
 pub returns-in-Ok-Plan-clause-tells : goal.returns-in-Ok-Plan-clause-tells
 returns-in-Ok-Plan-clause-tells g c clean holds = c.open_plan.ensures.told clean
@@ -72,3 +69,9 @@ pub returns-in-Ok-Others-clause-holds : goal.returns-in-Ok-Others-clause-holds
 returns-in-Ok-Others-clause-holds g c clean holds =
     let others = rw c.in-Ok-Others.field-0-is at c.in-Ok-Others.ensures in
     absurd (others.0 holds.0)
+
+pub returns-in-Err-clause-unopened : goal.returns-in-Err-clause-unopened
+returns-in-Err-clause-unopened g c clean = inl (refl, untouched (state g.S.Store c.args.conn.now))
+
+pub returns-in-Err-clause-holds : goal.returns-in-Err-clause-holds
+returns-in-Err-clause-holds g c clean holds = record { now = λ _. refl; committed = λ _. refl }

@@ -1,68 +1,53 @@
-use Rattle.std.proofs.Common.{arith, refl, subst, sym}
+use Rattle.std.proofs.Common.{◌∙◌, ap, subst, sym}
+use Rattle.std.specs.Prelude.{IfErr, IfOk, not}
 use Rattle.sqlite.specs.Held.{state}
-use Rattle.table_facts.specs.Content.{IsContentOf}
-use Rattle.table_schema.proofs.ResultLemmas.{if_err, if_ok}
+use Rattle.sqlite.proofs.StateLemmas.{survives_weaker}
+use Rattle.planner_machine.specs.Sound.{IsSound}
 use Rattle.plan_store.specs.Contents.{content_of}
-use Rattle.sqlite.proofs.StateLemmas.{survives_then}
-use Rattle.table_reading.proofs.LookLemmas.{plan_still, tables_still}
-use Rattle.table_opening.specs.Held.{HoldSound}
-use Rattle.table_opening.specs.Opened.{IsCaused}
-use Rattle.table_opening.proofs.OpenedLemmas.{caused_by, caused_since}
+use Rattle.table_schema.specs.Rows.{tables_of}
+use Rattle.table_facts.specs.Content.{IsContentOf}
+use Rattle.table_schema.proofs.ResultLemmas.{if_ok}
+use Rattle.table_opening.specs.Judging.{told}
+use Rattle.table_opening.specs.Opened.{IsStored}
+use Rattle.table_opening.specs.Opening.{IsUnread}
+use Rattle.table_opening.proofs.JudgedLemmas.{told_content, told_sound, unread_of}
+use Rattle.table_opening.proofs.KeptLemmas.{kept_if_left}
 use Rattle.table_opening.proofs.opening.open_plan.Goals as goal
 
-pub returns-in-Ok-true-clause-caused : goal.returns-in-Ok-true-clause-caused
-returns-in-Ok-true-clause-caused g c clean =
-    let a = state g.S.Store c.args.conn.now in
-    let b = state g.S.Store c.has_version.new.conn in
-    let d = state g.S.Store c.read_whole.new.conn in
-    let look = c.in-Ok-true.ensures.looks in
-    let same = look.same (omega (arith, c.read_whole.ensures.survives.clean, clean)) c.requires.plan refl in
-    if_err c.read_whole.result _ _ (caused_since a b d same look.survives.counts look.survives.limit)
-    (c.read_whole.ensures.caused clean (plan_still a b same c.requires.plan))
+pub returns-clause-opened : goal.returns-clause-opened
+returns-clause-opened g c clean =
+    let old = state g.S.Store c.args.conn.now in
+    let new = state g.S.Store c.read_plan-found.new.conn in
+    let found = c.read_plan-found in
+    let tells = told_content old new found.result (found.ensures.judged clean) in
+    subst (λ r. IfOk r (λ content. IsStored new (content_of content))) (sym c.tell.ensures)
+    (if_ok (told found.result) _ _ (λ content h. h.0) tells)
 
-pub returns-in-Err-clause-caused : goal.returns-in-Err-clause-caused
-returns-in-Err-clause-caused g c clean =
-    let a = state g.S.Store c.args.conn.now in
-    let b = state g.S.Store c.has_version.new.conn in
-    subst (IsCaused a b) (sym c.fault_for.ensures.value)
-    (caused_by a b c.in-Err.error (c.in-Err.ensures.fails clean c.requires.plan))
+pub returns-clause-told : goal.returns-clause-told
+returns-clause-told g c clean =
+    let old = state g.S.Store c.args.conn.now in
+    let new = state g.S.Store c.read_plan-found.new.conn in
+    let found = c.read_plan-found in
+    let tells = told_content old new found.result (found.ensures.judged clean) in
+    subst (λ r. IfOk r (λ content. IsContentOf (tables_of old.now.trees) (content_of content))) (sym c.tell.ensures)
+    (if_ok (told found.result) _ _ (λ content h. h.1) tells)
 
-pub returns-in-Ok-true-clause-opened : goal.returns-in-Ok-true-clause-opened
-returns-in-Ok-true-clause-opened g c clean =
-    let a = state g.S.Store c.args.conn.now in
-    let b = state g.S.Store c.has_version.new.conn in
-    let same = c.in-Ok-true.ensures.looks.same (omega (arith, c.read_whole.ensures.survives.clean, clean))
-    c.requires.plan refl in
-    c.read_whole.ensures.opened clean (plan_still a b same c.requires.plan)
+pub returns-clause-sound : goal.returns-clause-sound
+returns-clause-sound g c =
+    subst (λ r. IfOk r (λ content. IsSound (content_of content))) (sym c.tell.ensures)
+    (told_sound c.read_plan-found.result c.read_plan-found.ensures.sound)
 
-pub returns-in-Ok-true-clause-told : goal.returns-in-Ok-true-clause-told
-returns-in-Ok-true-clause-told g c clean =
-    let a = state g.S.Store c.args.conn.now in
-    let b = state g.S.Store c.has_version.new.conn in
-    let same = c.in-Ok-true.ensures.looks.same (omega (arith, c.read_whole.ensures.survives.clean, clean))
-    c.requires.plan refl in
-    if_ok c.read_whole.result _ _ (λ content. subst (λ all. IsContentOf all (content_of content))
-    (tables_still a b same)) (c.read_whole.ensures.told clean (plan_still a b same c.requires.plan))
+pub returns-clause-unread : goal.returns-clause-unread
+returns-clause-unread g c clean =
+    let old = state g.S.Store c.args.conn.now in
+    let new = state g.S.Store c.read_plan-found.new.conn in
+    let found = c.read_plan-found.ensures in
+    let kept = kept_if_left old new (c.is_autocommit-settled.ensures.settled (c.is_autocommit-settled.ensures.value
+    ∙ ap not c.requires.mode)) (found.looks.leaves clean c.requires.plan) in
+    subst (λ r. IfErr r (IsUnread old new)) (sym c.tell.ensures) (unread_of old new c.read_plan-found.result kept
+    (found.judged clean) (found.fails clean))
 
-pub returns-in-Ok-true-clause-rows : goal.returns-in-Ok-true-clause-rows
-returns-in-Ok-true-clause-rows g c clean held =
-    let a = state g.S.Store c.args.conn.now in
-    let b = state g.S.Store c.has_version.new.conn in
-    let same = c.in-Ok-true.ensures.looks.same (omega (arith, c.read_whole.ensures.survives.clean, clean))
-    c.requires.plan refl in
-    c.read_whole.ensures.rows clean (plan_still a b same held.0, subst HoldSound (sym (tables_still a b same)) held.1)
-
-pub returns-in-Ok-true-clause-survives : goal.returns-in-Ok-true-clause-survives
-returns-in-Ok-true-clause-survives g c =
-    let a = state g.S.Store c.args.conn.now in
-    let b = state g.S.Store c.has_version.new.conn in
-    let d = state g.S.Store c.read_whole.new.conn in
-    let look = c.in-Ok-true.ensures.looks in
-    survives_then a b d _ _ (λ _. ⊥) (λ _ _ none. none c.requires.plan) (λ clean _ none. none (plan_still a b
-    (look.same (omega (arith, c.read_whole.ensures.survives.clean, clean)) c.requires.plan refl) c.requires.plan))
-    look.survives c.read_whole.ensures.survives
-
-pub returns-in-Ok-true-clause-known : goal.returns-in-Ok-true-clause-known
-returns-in-Ok-true-clause-known g c clean is =
-    (c.in-Ok-true.ensures.told (omega (arith, c.read_whole.ensures.survives.clean, clean)) c.requires.plan).0
-    c.in-Ok-true.field-0-test
+pub returns-clause-survives : goal.returns-clause-survives
+returns-clause-survives g c =
+    survives_weaker (state g.S.Store c.args.conn.now) (state g.S.Store c.read_plan-found.new.conn) _ _
+    (λ clean db none. none c.requires.plan) c.read_plan-found.ensures.looks.survives

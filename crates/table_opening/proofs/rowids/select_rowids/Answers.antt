@@ -1,7 +1,7 @@
 use Rattle.std.proofs.Common.{[], ◌∷◌}
 use Rattle.sqlite.specs.Held.{state}
 use Rattle.table_schema.proofs.ResultLemmas.{if_err, if_ok}
-use Rattle.table_schema.proofs.StatementLemmas.{text_fails, text_quiet, text_stays}
+use Rattle.table_schema.proofs.StatementLemmas.{text_fails, text_leaves, text_quiet, text_stays}
 use Rattle.table_opening.specs.Rowids.{rowid_sql, rowid_terms}
 use Rattle.table_reading.specs.Reading.{HasPlan}
 use Rattle.table_reading.proofs.LookLemmas.{on_done}
@@ -27,6 +27,10 @@ returns-clause-looks g c =
           on_done c.query_all.result _ _ (λ rows h. text_stays t (rowid_sql t) rowid_terms (rowid_name t ∷ []) old new
           has (rowids old.now.schema (has.trees t) (has.at t) t (has.stands t)) rows.items h)
           (rw c.rowid_text.ensures at (c.query_all.ensures.ok clean)) done;
+      leaves = λ clean has.
+          text_leaves t (rowid_sql t) rowid_terms (rowid_name t ∷ []) old new has (rowids old.now.schema (has.trees t)
+          (has.at t) t (has.stands t)) (λ rows. rows.items) c.query_all.result (rw c.rowid_text.ensures at (c.query_all.ensures.ok clean))
+          (rw c.rowid_text.ensures at (c.query_all.ensures.err clean));
       survives = text_quiet (rowid_sql t) old new (λ has. (rowids old.now.schema (has.trees t) (has.at t) t
           (has.stands t)).plain) (rw c.rowid_text.ensures at c.query_all.ensures.survives);
     }

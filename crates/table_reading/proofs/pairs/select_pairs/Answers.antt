@@ -1,6 +1,6 @@
 use Rattle.sqlite.specs.Held.{state}
 use Rattle.table_schema.proofs.ResultLemmas.{if_err, if_ok}
-use Rattle.table_schema.proofs.StatementLemmas.{text_fails, text_quiet, text_reads, text_stays}
+use Rattle.table_schema.proofs.StatementLemmas.{text_fails, text_leaves, text_quiet, text_reads, text_stays}
 use Rattle.table_schema.specs.declared.tables.Table.TheVariants.{Dependency}
 use Rattle.table_reading.specs.Reading.{HasPlan}
 use Rattle.table_reading.specs.Rowids.{pair_sql, pair_terms}
@@ -25,6 +25,11 @@ returns-clause-looks g c =
       same = λ clean has done.
           on_done c.query_all.result _ _ (λ rows h. text_stays Dependency pair_sql pair_terms pair_names old new has
           (pairs_means old has) rows.items h) (rw c.pair_text.ensures at (c.query_all.ensures.ok clean)) done;
+      leaves = λ clean has.
+          text_leaves Dependency pair_sql pair_terms pair_names old new has (pairs_means old has) (λ rows. rows.items)
+          c.query_all.result
+          (rw c.pair_text.ensures at (c.query_all.ensures.ok clean))
+          (rw c.pair_text.ensures at (c.query_all.ensures.err clean));
       survives = text_quiet pair_sql old new (λ has. (pairs_means old has).plain)
           (rw c.pair_text.ensures at c.query_all.ensures.survives);
     }

@@ -1,6 +1,6 @@
 use Rattle.sqlite.specs.Held.{state}
 use Rattle.table_schema.proofs.ResultLemmas.{if_err, if_ok, on_ok}
-use Rattle.table_schema.proofs.StatementLemmas.{fails, quiet, reads, stays}
+use Rattle.table_schema.proofs.StatementLemmas.{fails, leaves, quiet, reads, stays}
 use Rattle.table_schema.proofs.statements.select.Goals as goal
 
 pub returns-clause-rows : goal.returns-clause-rows
@@ -24,4 +24,10 @@ pub returns-clause-fails : goal.returns-clause-fails
 returns-clause-fails g c clean has =
     if_err c.query_all.result _ _ (λ e h. fails c.args.table (state g.S.Store c.args.conn.now) (state g.S.Store
     c.query_all.new.self) has e h)
+    (rw c.select_text.ensures at (c.query_all.ensures.err clean))
+
+pub returns-clause-leaves : goal.returns-clause-leaves
+returns-clause-leaves g c clean has =
+    leaves c.args.table (state g.S.Store c.args.conn.now) (state g.S.Store c.query_all.new.self) has
+    (λ rows. rows.items) c.query_all.result (rw c.select_text.ensures at (c.query_all.ensures.ok clean))
     (rw c.select_text.ensures at (c.query_all.ensures.err clean))

@@ -1,0 +1,10 @@
+-- What a store does with a change.
+use Rattle.std.specs.Prelude.{Result}
+use Rattle.plan_store.specs.Stores.{Applies}
+use Rattle.plan_store.specs.declared.changes.Change.{Change}
+use Rattle.plan_store.specs.declared.stores.PlanStore.{Ghosts}
+use Rattle.plan_store.specs.declared.stores.StoreFault.{StoreFault}
+
+-- a store before and after it is told a change, and what the call answers
+abbrev pub AppliesBy : {S : Type 0} → Ghosts S → (before now : S) → Change → Result (Unit {0}) StoreFault → Type 0
+AppliesBy g = Applies g.is_honest g.content g.failures g.may_leave g.is_clean g.is_whole
