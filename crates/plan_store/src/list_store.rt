@@ -46,10 +46,8 @@ impl ListStore {
         ensures filled { OnOk result (IsFilled need.now self.new.content) }
         ensures memory { IfErr result (λ fault. fault ≡ StoreFault.Memory) }
     {
-        match self.content.fill_window(need) {
-            Ok(()) => Ok(()),
-            Err(_) => Err(StoreFault::Memory),
-        }
+        self.content.fill_window(need)?;
+        Ok(())
     }
 
     fn kept_job(&self, number: u64) -> Option<&Job>
@@ -76,10 +74,7 @@ impl PlanStore for ListStore {
     ghost is_whole = { λ _. ⊤ };
 
     fn definitions(&mut self) -> Result<Definitions, StoreFault> {
-        match self.content.definitions.clone() {
-            Ok(definitions) => Ok(definitions),
-            Err(_) => Err(StoreFault::Memory),
-        }
+        Ok(self.content.definitions.clone()?)
     }
 
     fn bounds(&mut self) -> Result<Option<Bounds>, StoreFault> {
@@ -87,10 +82,7 @@ impl PlanStore for ListStore {
     }
 
     fn links(&mut self) -> Result<Links, StoreFault> {
-        match self.content.in_force.clone() {
-            Ok(links) => Ok(links),
-            Err(_) => Err(StoreFault::Memory),
-        }
+        Ok(self.content.in_force.clone()?)
     }
 
     fn read_window<'a>(&'a mut self, need: Need) -> Result<View<'a>, StoreFault> {
@@ -113,9 +105,7 @@ impl PlanStore for ListStore {
     }
 
     fn apply(&mut self, alloc: Global, change: Change) -> Result<(), StoreFault> {
-        match self.content.apply(alloc, change) {
-            Ok(()) => Ok(()),
-            Err(_) => Err(StoreFault::Memory),
-        }
+        self.content.apply(alloc, change)?;
+        Ok(())
     }
 }

@@ -15,7 +15,7 @@ use app_definitions::Definitions;
 use external_dependencies::Links;
 use occurrences::Key;
 use planner_machine::{Bounds, Job};
-use std::alloc::Global;
+use std::alloc::{AllocError, Global};
 use thiserror::Error;
 use work_calendars::{App, Moment};
 
@@ -43,6 +43,16 @@ pub enum StoreFault {
     /// The device failed. The store answers so until it is opened again.
     #[error("the device failed")]
     Device,
+}
+
+impl From<AllocError> for StoreFault {
+    ghost use Rattle.plan_store.specs.declared.stores.StoreFault.TheVariants.{Memory};
+
+    ghost from_gives = { λ _ fault. fault ≡ Memory };
+
+    fn from(_: AllocError) -> Self {
+        StoreFault::Memory
+    }
 }
 
 /// What keeps a planner's content.

@@ -149,10 +149,7 @@ impl<S: Alter + Drop> TableStore<S> {
         if self.failures > 0 {
             return Err(StoreFault::Device);
         }
-        match prepare(alloc, change) {
-            Ok(prepared) => Ok(prepared),
-            Err(_) => Err(StoreFault::Memory),
-        }
+        Ok(prepare(alloc, change)?)
     }
 
     // Makes a change that is prepared in the tables and in the lists, all of it or nothing, also over a crash.
@@ -255,10 +252,7 @@ impl<S: Alter + Drop> PlanStore for TableStore<S> {
         if self.failures > 0 {
             return Err(StoreFault::Device);
         }
-        match self.lists.definitions.clone() {
-            Ok(definitions) => Ok(definitions),
-            Err(_) => Err(StoreFault::Memory),
-        }
+        Ok(self.lists.definitions.clone()?)
     }
 
     fn bounds(&mut self) -> Result<Option<Bounds>, StoreFault>
@@ -281,20 +275,15 @@ impl<S: Alter + Drop> PlanStore for TableStore<S> {
         if self.failures > 0 {
             return Err(StoreFault::Device);
         }
-        match self.lists.in_force.clone() {
-            Ok(links) => Ok(links),
-            Err(_) => Err(StoreFault::Memory),
-        }
+        Ok(self.lists.in_force.clone()?)
     }
 
     fn read_window<'a>(&'a mut self, need: Need) -> Result<View<'a>, StoreFault> {
         if self.failures > 0 {
             return Err(StoreFault::Device);
         }
-        match self.lists.fill_window(&need) {
-            Ok(()) => Ok(self.lists.window(&need)),
-            Err(_) => Err(StoreFault::Memory),
-        }
+        self.lists.fill_window(&need)?;
+        Ok(self.lists.window(&need))
     }
 
     fn job<'a>(&'a mut self, number: u64) -> Result<Option<&'a Job>, StoreFault> {

@@ -1,6 +1,6 @@
 -- Lemmas on calls that answer over a store.
 use Rattle.std.proofs.Common.{◌≡◌, ◌⊎◌, ℕ, zero, suc, ◌+◌, ◌-◌, ◌^◌, ◌≤◌, ◌∙◌, refl, sym, subst, inl, inr, arith, min}
-use Rattle.std.specs.Prelude.{Err, IfErr, IfOk, Ok, OnErr, OnOk, Result}
+use Rattle.std.specs.Prelude.{Err, IfErr, IfOk, IsErrAnd, Ok, OnErr, OnOk, Result}
 use Rattle.planner_machine.specs.Content.{Content}
 use Rattle.plan_store.specs.declared.stores.PlanStore.{Ghosts}
 use Rattle.plan_store.specs.declared.stores.StoreFault.{StoreFault}
@@ -116,6 +116,14 @@ module _ {S : Type 0} (g : Ghosts S) where
     stays_whole = tt;
   }
 
+  -- so a result says
+  pub refused_so : (store : S) (result : Result Printed StoreFault) (Does : AnswerLines → Content → Type 0)
+      → IsErrAnd result (λ fault. fault ≡ Memory)
+      → AnswersBy g store store result Does
+  refused_so store (Ok printed) Does is = absurd is
+  refused_so store (Err fault) Does is =
+      subst (λ f. AnswersBy g store store (Err f) Does) (sym is) (refused_memory store Does)
+
   module _ {T : Type 0} (before mid : S) (read : Result T StoreFault) (IsRight : T → Type 0)
       (reads : ReadsBy g before mid read IsRight) (stays : g.is_whole before → g.is_whole mid) where
     -- the store was read before
@@ -175,14 +183,12 @@ module _ {S : Type 0} (g : Ghosts S) where
       stays_whole = stays;
     }
 
-    -- it was read, and the answer is printed, or memory was refused
-    pub read_answered : (result : Result Printed StoreFault) (Does : AnswerLines → Content → Type 0)
-        → (g.is_honest now → (reply : AnswerLines) × Does reply (g.content before)
-        × IfOk result (λ printed. Prints reply printed.text.items printed.is_accepted))
-        → IfErr result (λ fault. fault ≡ Memory)
+    -- it was read, and memory was refused
+    pub read_refused : (result : Result Printed StoreFault) (Does : AnswerLines → Content → Type 0)
+        → IsErrAnd result (λ fault. fault ≡ Memory)
         → AnswersBy g before now result Does
-    read_answered (Ok printed) Does told memory = read_printed printed Does told
-    read_answered (Err fault) Does told memory = record {
+    read_refused (Ok printed) Does memory = absurd memory
+    read_refused (Err fault) Does memory = record {
       answers = λ honest. tt;
       unchanged = λ honest is. reads.same honest;
       whole = λ honest. inl (reads.same honest);
@@ -194,6 +200,15 @@ module _ {S : Type 0} (g : Ghosts S) where
       clean = reads.clean;
       stays_whole = tt;
     }
+
+    -- it was read, and the answer is printed, or memory was refused
+    pub read_answered : (result : Result Printed StoreFault) (Does : AnswerLines → Content → Type 0)
+        → (g.is_honest now → (reply : AnswerLines) × Does reply (g.content before)
+        × IfOk result (λ printed. Prints reply printed.text.items printed.is_accepted))
+        → IfErr result (λ fault. fault ≡ Memory)
+        → AnswersBy g before now result Does
+    read_answered (Ok printed) Does told memory = read_printed printed Does told
+    read_answered (Err fault) Does told memory = read_refused (Err fault) Does memory
 
 -- ---- a change that is made
 

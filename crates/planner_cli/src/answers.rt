@@ -73,10 +73,7 @@ pub(crate) fn print_alone(alloc: Global, answer: &Answer) -> Result<Printed, Sto
     ensures prints { IfOk result (λ printed. Prints (answering answer.now) printed.text.items printed.is_accepted) }
     ensures err { IfErr result (λ fault. fault ≡ Memory) }
 {
-    match print_answer(alloc, Vec::new(alloc), answer) {
-        Ok(printed) => Ok(printed),
-        Err(_) => Err(StoreFault::Memory),
-    }
+    Ok(print_answer(alloc, Vec::new(alloc), answer)?)
 }
 
 /// What a line that is no statement prints.

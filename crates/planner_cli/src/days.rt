@@ -37,10 +37,7 @@ pub(crate) fn answer_days<S: PlanStore>(
         (Serves (DaysStatement app.now from to) (S.content store.old)) }
 {
     let view = store.read_window(Need::Definitions)?;
-    match days(alloc, view.definitions(), kept, app, from, to) {
-        Ok(printed) => Ok(printed),
-        Err(_) => Err(StoreFault::Memory),
-    }
+    Ok(days(alloc, view.definitions(), kept, app, from, to)?)
 }
 
 // Lists the days that an application's run cycles name.

@@ -42,13 +42,8 @@ pub(crate) fn answer_change<S: PlanStore>(
         (Serves (JobStatement number (texts.line_text line.now) (change_of change.now)) (S.content store.old)) }
 {
     change_is_well_formed(change);
-    match joined_words(alloc, line) {
-        Ok(text) => {
-            let text = JobText::from_vec(text);
-            answer_job(alloc, store, number, text, JobChange::Statement(*change))
-        }
-        Err(_) => Err(StoreFault::Memory),
-    }
+    let text = JobText::from_vec(joined_words(alloc, line)?);
+    answer_job(alloc, store, number, text, JobChange::Statement(*change))
 }
 
 /// Answers a line with data.
@@ -63,10 +58,9 @@ pub(crate) fn answer_with_data<S: PlanStore>(
     ensures { AnswersBy S.PlanStore store.old store.new result
         (Step (S.content store.old) (WithBlock line.now (block_shown block.entry))) }
 {
-    match read_statement(alloc, line) {
-        Ok(Some(statement)) => answer_block(alloc, store, line, &statement, block),
-        Ok(None) => no_statement(alloc),
-        Err(_) => Err(StoreFault::Memory),
+    match read_statement(alloc, line)? {
+        Some(statement) => answer_block(alloc, store, line, &statement, block),
+        None => no_statement(alloc),
     }
 }
 

@@ -41,10 +41,7 @@ pub(crate) fn answer_plan_trial<S: PlanStore>(
         (Serves (Trial (plan_change function.now)) (S.content store.old)) }
 {
     let view = store.read_window(Need::LongTerm)?;
-    match plan_trial(alloc, &view, function) {
-        Ok(printed) => Ok(printed),
-        Err(_) => Err(StoreFault::Memory),
-    }
+    Ok(plan_trial(alloc, &view, function)?)
 }
 
 // What a trial of the long-term plan prints.
@@ -104,10 +101,7 @@ fn answer_within<S: PlanStore>(
         (Serves (Trial (daily_change function.now)) (S.content store.old)) }
 {
     let view = store.read_window(need_of_daily(bounds, function))?;
-    match daily_trial(alloc, &view, function) {
-        Ok(printed) => Ok(printed),
-        Err(_) => Err(StoreFault::Memory),
-    }
+    Ok(daily_trial(alloc, &view, function)?)
 }
 
 // What a trial of a daily plan prints.

@@ -3,10 +3,15 @@ use Rattle.statements.specs.Statement.{Reads}
 use Rattle.stream_items.specs.Items.{WithBlock}
 use Rattle.stream_items.specs.Pages.{block_shown}
 use Rattle.planner_cli.proofs.StatementLemmas.{item_refused}
+use Rattle.planner_cli.proofs.StoreLemmas.{refused_so}
 use Rattle.planner_cli.proofs.steps.answer_with_data.Goals as goal
 
-pub returns-in-Ok-None : goal.returns-in-Ok-None
-returns-in-Ok-None g c =
+pub returns-in-None : goal.returns-in-None
+returns-in-None g c =
     let reads : Reads c.args.line.now None = search rules in
     item_refused g.S.PlanStore _ c.no_statement.result (WithBlock c.args.line.now (block_shown c.args.block))
     (None, reads, refl) c.no_statement.ensures.prints c.no_statement.ensures.err
+
+pub returns-in_err-statement : goal.returns-in_err-statement
+returns-in_err-statement g c =
+    refused_so g.S.PlanStore c.args.store.now c.from_residual.result _ c.from_residual.ensures.1
