@@ -290,6 +290,8 @@ class Ends(desks.Case):
         self.assert_plan(numbered(*ADDS))
 
     def test_each_signal_that_asks_for_its_end_ends_it(self):
+        # tests that are run by nohup would hand on a SIGHUP that is ignored
+        self.addCleanup(signal.signal, signal.SIGHUP, signal.signal(signal.SIGHUP, signal.SIG_DFL))
         done = []
         for how, text in ((signal.SIGINT, START), (signal.SIGHUP, COMPLETE)):
             desk = self.desk()
