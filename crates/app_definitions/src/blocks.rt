@@ -30,9 +30,11 @@ impl Block {
 // The definitions that a block of one kind gives.
 fn read_kind<D: Definition>(alloc: Global, text: &[u8]) -> Result<ByName<D>, BlockFault>
     requires { length text.now ≤ LONGEST_BLOCK }
-    ensures good { OnOk result (AllGood (FitsKind D.HasFields D.FitsName) (block_records text.now)) }
+    ensures good { OnOk result (AllGood (FitsKind D.HasFields D.FitsName)
+        (block_records text.now)) }
     ensures given { IfOk result (λ d. AreGivenBy D.IsMadeOf d (block_records text.now)) }
-    ensures faulty { IfErr result (IsFirstFaulty (FitsKind D.HasFields D.FitsName) (block_records text.now)) }
+    ensures faulty { IfErr result (IsFirstFaulty (FitsKind D.HasFields D.FitsName)
+        (block_records text.now)) }
 {
     let mut definitions = ByName::new(alloc);
     gather_all(alloc, text, &mut definitions)?;

@@ -41,7 +41,8 @@ fn hours_of(value: &Value) -> Option<u16>
 
 // The name of the default calendar that a table gives.
 fn calendar_in(table: &Table) -> Option<Name>
-    ensures given { IfSome result (GivesCalendar (get_member (codes "default_calendar") (table_view table.now))) }
+    ensures given { IfSome result
+        (GivesCalendar (get_member (codes "default_calendar") (table_view table.now))) }
     ensures refused { IfNone result ((n : List ℕ)
         → ¬ (GivesCalendar (get_member (codes "default_calendar") (table_view table.now)) n)) }
 {
@@ -53,7 +54,8 @@ fn calendar_in(table: &Table) -> Option<Name>
 
 // The hours that a table gives.
 fn hours_in(table: &Table) -> Option<u16>
-    ensures given { IfSome result (GivesHours (get_member (codes "max_extension_hours") (table_view table.now))) }
+    ensures given { IfSome result
+        (GivesHours (get_member (codes "max_extension_hours") (table_view table.now))) }
     ensures refused { IfNone result ((n : ℕ)
         → ¬ (GivesHours (get_member (codes "max_extension_hours") (table_view table.now)) n)) }
 {

@@ -14,7 +14,8 @@ fn push_links(
     app: App,
     listed: &[Predecessor],
 ) -> Result<(), AllocError>
-    ensures { OnOk result (links.new.items ≡ links.old.items ++ map (λ predecessor. (app, predecessor)) listed.now) }
+    ensures { OnOk result (links.new.items ≡ links.old.items ++ map (λ predecessor.
+        (app, predecessor)) listed.now) }
 {
     for predecessor in listed {
         links.push((app, *predecessor))?;

@@ -38,7 +38,8 @@ pub fn named_occurrences(
 ) -> Result<Vec<Named>, AllocError>
     requires planned { to ≤ last_kept_day }
     requires indexes { AreIndexesOf all.now indexes.old }
-    ensures listed { IfOk result (λ list. ListsNamed all.now app.now application.now from to list.items) }
+    ensures listed { IfOk result (λ list.
+        ListsNamed all.now app.now application.now from to list.items) }
     ensures indexes { AreIndexesOf all.now indexes.new }
 {
     let name = calendar_name(all, application);

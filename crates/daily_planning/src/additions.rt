@@ -15,7 +15,8 @@ use std::alloc::{AllocError, Global};
 /// application isn't active (26), where a live occurrence has the key (27), and where both plans would hold too many
 /// rows or no serial is left (31).
 pub fn cp_add(alloc: Global, view: &View<'_>, key: &Key) -> Result<Verdict, AllocError>
-    ensures { IfOk result (λ verdict. (c : Content) → Shows (Need.Key key.now) view.now c → IsSound c
+    ensures { IfOk result (λ verdict. (c : Content) → Shows (Need.Key key.now) view.now c
+        → IsSound c
         → VerdictIs (decided key.now) c verdict) }
 {
     plan_pairs::add(alloc, view, Plan::Current, key)

@@ -78,8 +78,8 @@ pub fn replan_need(bounds: Option<Bounds>) -> Need
 /// `dp-replan`: a daily plan to the plan end as it is, which takes nothing from the long-term plan. It is refused
 /// where nothing is planned (20).
 pub fn replan(alloc: Global, view: &View<'_>) -> Result<Verdict, AllocError>
-    ensures { IfOk result (λ verdict. (c : Content) → Shows (replan_need c.sets.bounds) view.now c → IsSound c →
-        VerdictIs dp_replan c verdict) }
+    ensures { IfOk result (λ verdict. (c : Content) → Shows (replan_need c.sets.bounds) view.now c
+        → IsSound c → VerdictIs dp_replan c verdict) }
 {
     let Some(bounds) = view.bounds() else {
         return Ok(Verdict::Refused(Refusal::NoPlan));
@@ -144,7 +144,8 @@ fn finished_rows(alloc: Global, rows: &[CurrentRow]) -> Result<Vec<CurrentRow>, 
 
 // How many rows of the current plan are neither complete nor deleted.
 fn count_uncompleted(rows: &[CurrentRow]) -> usize
-    ensures { result ≡ length (filter (λ (current : CurrentRow). is_uncompleted current.status) rows.now) }
+    ensures { result ≡ length
+        (filter (λ (current : CurrentRow). is_uncompleted current.status) rows.now) }
 {
     rows.iter()
         .filter(|current| current.status != Status::C && current.status != Status::D)

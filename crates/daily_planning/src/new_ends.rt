@@ -20,7 +20,8 @@ pub fn new_end(
     count: Count,
 ) -> Result<Option<Moment>, AllocError>
     ensures some { IfOk result (λ end. IfSome end (IsNewEnd all.now plan_end n count)) }
-    ensures none { IfOk result (λ end. IfNone end ((t : ℕ) → ¬ (IsNewEnd all.now plan_end n count t))) }
+    ensures none { IfOk result (λ end. IfNone end ((t : ℕ)
+        → ¬ (IsNewEnd all.now plan_end n count t))) }
 {
     match new_day(alloc, all, plan_end.day(), n, count)? {
         Some(day) => Ok(Some(Moment::new(day, plan_end.minute()))),
@@ -37,7 +38,8 @@ fn new_day(
     count: Count,
 ) -> Result<Option<Day>, AllocError>
     ensures some { IfOk result (λ day. IfSome day (IsNewDay all.now from n count)) }
-    ensures none { IfOk result (λ day. IfNone day ((x : ℕ) → IsDay x → ¬ (IsNewDay all.now from n count x))) }
+    ensures none { IfOk result (λ day. IfNone day ((x : ℕ) → IsDay x
+        → ¬ (IsNewDay all.now from n count x))) }
 {
     match count {
         Count::AllDays => Ok(from.plus(u32::from(n))),

@@ -152,7 +152,8 @@ fn rule_of(letter: &[u8]) -> Option<Rule>
 
 // The deadline that these two fields spell.
 fn deadline_of(day: &[u8], time: &[u8]) -> Option<Deadline>
-    ensures valid { IsSome result ↔ ((deadline : DeadlineValue) × SpellsDeadline day.now time.now deadline) }
+    ensures valid { IsSome result ↔ ((deadline : DeadlineValue)
+        × SpellsDeadline day.now time.now deadline) }
     ensures value { IfSome result (SpellsDeadline day.now time.now) }
 {
     let days = number_of(day, MAX_DEADLINE_DAYS as u16)? as u8;
@@ -162,7 +163,8 @@ fn deadline_of(day: &[u8], time: &[u8]) -> Option<Deadline>
 
 // The type that this letter and the two fields of the deadline spell.
 fn type_of(letter: &[u8], day: &[u8], time: &[u8]) -> Option<CycleType>
-    ensures valid { IsSome result ↔ ((kind : CycleTypeValue) × SpellsType letter.now day.now time.now kind) }
+    ensures valid { IsSome result ↔ ((kind : CycleTypeValue)
+        × SpellsType letter.now day.now time.now kind) }
     ensures value { IfSome result (SpellsType letter.now day.now time.now) }
 {
     match letter {
@@ -228,7 +230,8 @@ fn is_rising(cycles: &[RunCycle]) -> bool
 // Where the run cycle of this name stands, or else the place where one of this name would stand.
 fn place_of(cycles: &[RunCycle], name: &Short) -> Result<usize, usize>
     requires { AreRising (λ cycle. cycle.name) cycles.now }
-    ensures found { IfOk result (λ k. (k < length cycles.now) × HoldsAt (λ cycle. cycle.name ≡ name.now) cycles.now k) }
+    ensures found { IfOk result (λ k. (k < length cycles.now)
+        × HoldsAt (λ cycle. cycle.name ≡ name.now) cycles.now k) }
     ensures free { IfErr result (IsPlaceFor (λ cycle. cycle.name) cycles.now name.now) }
 {
     cycles.binary_search_by_key(name, |cycle| cycle.name)

@@ -75,7 +75,8 @@ fn interval_of(row: &ByteRecord) -> Option<(Day, u16)>
     ensures valid { IsSome result
         ↔ (IsDayText (field (fields_of row.now) PERIOD_ORIGIN) × HasInterval (fields_of row.now)) }
     ensures origin { IfSome result (λ p. SpellsDay (field (fields_of row.now) PERIOD_ORIGIN) p.0) }
-    ensures interval { IfSome result (λ p. p.1 ≡ number_value (field (fields_of row.now) PERIOD_LENGTH)) }
+    ensures interval { IfSome result (λ p. p.1
+        ≡ number_value (field (fields_of row.now) PERIOD_LENGTH)) }
     ensures in_range { IfSome result (λ p. (1 ≤ p.1) × (p.1 ≤ MAX_INTERVAL)) }
 {
     let origin = day_of(field_at(row, PERIOD_ORIGIN))?;

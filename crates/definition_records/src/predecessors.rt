@@ -100,7 +100,8 @@ fn is_rising(listed: &[Predecessor]) -> bool
 // Where this name stands, or else the place where it would stand.
 fn place_of(listed: &[Predecessor], name: &Name) -> Result<usize, usize>
     requires { AreRising (λ p. p.name) listed.now }
-    ensures found { IfOk result (λ k. (k < length listed.now) × HoldsAt (λ p. p.name ≡ name.now) listed.now k) }
+    ensures found { IfOk result (λ k. (k < length listed.now)
+        × HoldsAt (λ p. p.name ≡ name.now) listed.now k) }
     ensures free { IfErr result (IsPlaceFor (λ p. p.name) listed.now name.now) }
 {
     listed.binary_search_by_key(name, |listed| listed.name)

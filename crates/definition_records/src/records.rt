@@ -45,9 +45,11 @@ pub fn gather_all<D: Definition>(
 ) -> Result<(), BlockFault>
     requires short { length text.now ≤ LONGEST_BLOCK }
     requires starts { AreGivenBy D.IsMadeOf into.old [] }
-    ensures good { OnOk result (AllGood (FitsKind D.HasFields D.FitsName) (block_records text.now)) }
+    ensures good { OnOk result (AllGood (FitsKind D.HasFields D.FitsName)
+        (block_records text.now)) }
     ensures gathered { OnOk result (AreGivenBy D.IsMadeOf into.new (block_records text.now)) }
-    ensures faulty { IfErr result (IsFirstFaulty (FitsKind D.HasFields D.FitsName) (block_records text.now)) }
+    ensures faulty { IfErr result (IsFirstFaulty (FitsKind D.HasFields D.FitsName)
+        (block_records text.now)) }
 {
     let reader = ReaderBuilder::new()
         .has_headers(false)

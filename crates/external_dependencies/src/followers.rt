@@ -55,7 +55,8 @@ impl Followers {
     pub fn of_predecessor(&self, predecessor: Serial) -> &[Follower]
         ensures rising { IsRising follower_cmp result.now }
         ensures all { (follower : Follower) →
-            Contains result.now follower ↔ (Contains self.now follower × (follower.predecessor ≡ predecessor)) }
+            Contains result.now follower ↔ (Contains self.now follower
+            × (follower.predecessor ≡ predecessor)) }
     {
         let start = self
             .followers

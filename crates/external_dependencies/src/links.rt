@@ -29,7 +29,8 @@ pub struct Link {
 }
 
 impl PartialEq for Link {
-    ghost eq = { eq_of_both (on (λ l. l.app) (pointwise ◌==◌)) (on (λ l. l.predecessor) (pointwise ◌==◌)) };
+    ghost eq = { eq_of_both (on (λ l. l.app) (pointwise ◌==◌))
+        (on (λ l. l.predecessor) (pointwise ◌==◌)) };
 
     ghost laws = { Prim.search (comparing, rules) };
 
@@ -43,7 +44,8 @@ impl Eq for Link {
 }
 
 impl Ord for Link {
-    ghost cmp = { then_cmp (on (λ l. l.app) (slice_cmp nat_cmp)) (on (λ l. l.predecessor) (slice_cmp nat_cmp)) };
+    ghost cmp = { then_cmp (on (λ l. l.app) (slice_cmp nat_cmp))
+        (on (λ l. l.predecessor) (slice_cmp nat_cmp)) };
 
     ghost total = { Prim.search (comparing, rules) };
 
@@ -150,7 +152,8 @@ impl Links {
     /// The list of an application.
     pub fn list(&self, app: &App) -> &[Link]
         ensures rising { IsRising link_cmp result.now }
-        ensures all { (link : Link) → Contains result.now link ↔ (Contains self.now link × (link.app ≡ app.now)) }
+        ensures all { (link : Link) → Contains result.now link
+            ↔ (Contains self.now link × (link.app ≡ app.now)) }
     {
         let start = self.links.partition_point(|link| link.app < *app);
         let rest = &self.links[start..];
@@ -162,7 +165,8 @@ impl Links {
     pub fn naming(&self, alloc: Global, predecessor: &App) -> Result<Vec<Link>, AllocError>
         ensures rising { IfOk result (λ found. IsRising link_cmp found.items) }
         ensures all { IfOk result (λ found. (link : Link) →
-            Contains found.items link ↔ (Contains self.now link × (link.predecessor ≡ predecessor.now))) }
+            Contains found.items link
+            ↔ (Contains self.now link × (link.predecessor ≡ predecessor.now))) }
     {
         links_naming(alloc, self.links.as_slice(), predecessor)
     }

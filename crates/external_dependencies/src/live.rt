@@ -47,7 +47,8 @@ impl Model for Live {
 impl Live {
     /// The live ones of these rows.
     pub fn build(alloc: Global, rows: &Rows) -> Result<Live, AllocError>
-        ensures { IfOk result (λ live. (arrival : Arrival) → Contains live arrival ↔ IsLiveIn rows.now arrival) }
+        ensures { IfOk result (λ live. (arrival : Arrival) → Contains live arrival
+            ↔ IsLiveIn rows.now arrival) }
     {
         let mut arrivals = Vec::new(alloc);
         for placed in rows.as_slice() {

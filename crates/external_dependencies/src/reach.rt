@@ -54,7 +54,8 @@ impl Reach {
 
 // The occurrences that were made and those that were opened.
 fn anew(alloc: Global, touch: &Touch) -> Result<Vec<Serial>, AllocError>
-    ensures { IfOk result (λ serials. (serial : ℕ) → Contains serials.items serial ↔ IsAnew touch.now serial) }
+    ensures { IfOk result (λ serials. (serial : ℕ) → Contains serials.items serial
+        ↔ IsAnew touch.now serial) }
 {
     let mut serials = touch.made.clone()?;
     serials.extend_from_slice(&touch.opened)?;

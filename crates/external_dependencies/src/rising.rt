@@ -7,7 +7,8 @@ ghost use Rattle.external_dependencies.specs.Rising.{IsRising};
 pub(crate) fn into_ordered<T: Ord + Copy>(mut items: Vec<T>) -> Vec<T>
     ensures rising { IsRising T.cmp result.items }
     ensures only { (x : T) → Contains result.items x → Contains items.items x }
-    ensures all { (x : T) → Contains items.items x → (y : T) × Contains result.items y × (T.cmp x y ≡ Equal) }
+    ensures all { (x : T) → Contains items.items x → (y : T) × Contains result.items y
+        × (T.cmp x y ≡ Equal) }
 {
     items.sort_unstable();
     items.dedup();

@@ -11,7 +11,8 @@ fn replace_one<T: Keyed>(list: &mut Vec<T>, item: T)
     ensures keyed { IsKeyed T.Key.cmp T.key_of list.new.items }
     ensures length { vec_len list.new ≡ vec_len list.old }
     ensures capacity { vec_capacity list.new ≡ vec_capacity list.old }
-    ensures stand { (k : T.Key) → HasKey T.key_of list.old.items k → HasKey T.key_of list.new.items k }
+    ensures stand { (k : T.Key) → HasKey T.key_of list.old.items k
+        → HasKey T.key_of list.new.items k }
     ensures replaced { (x : T) → Contains list.new.items x
         ↔ ((item ≡ x) ⊎ (Contains list.old.items x × (T.key_of x ≢ T.key_of item))) }
 {
@@ -41,7 +42,8 @@ pub fn replace_all<T: Keyed>(list: &mut Vec<T>, items: &[T])
 fn move_down<T: Copy>(list: &mut Vec<T>, from: usize, count: usize, to: usize)
     requires down { to ≤ from }
     requires within { from + count ≤ vec_len list.old }
-    ensures moved { take (to + count) list.new.items ≡ take to list.old.items ++ take count (drop from list.old.items) }
+    ensures moved { take (to + count) list.new.items ≡ take to list.old.items
+        ++ take count (drop from list.old.items) }
     ensures rest { drop (from + count) list.new.items ≡ drop (from + count) list.old.items }
     ensures length { vec_len list.new ≡ vec_len list.old }
     ensures capacity { vec_capacity list.new ≡ vec_capacity list.old }
@@ -94,7 +96,8 @@ pub fn insert_all<T: Keyed>(list: &mut Vec<T>, items: &[T])
     requires new { (x : T) → Contains items.now x → LacksKey T.key_of list.old.items (T.key_of x) }
     requires room { vec_len list.old + length items.now ≤ vec_capacity list.old }
     ensures keyed { IsKeyed T.Key.cmp T.key_of list.new.items }
-    ensures inserted { (x : T) → Contains list.new.items x ↔ (Contains items.now x ⊎ Contains list.old.items x) }
+    ensures inserted { (x : T) → Contains list.new.items x
+        ↔ (Contains items.now x ⊎ Contains list.old.items x) }
 {
     let mut left = list.len();
     let mut right = items.len();

@@ -19,8 +19,8 @@ pub trait PlanRow: Keyed {
         ensures { result ≡ row_of self.now };
 
     // keys compare as arrivals do
-    ghost ordered: { (x y : Self) → Self.Key.cmp (Self.key_of x) (Self.key_of y) ≡ arrival_cmp (arrival_of (row_of x))
-        (arrival_of (row_of y)) };
+    ghost ordered: { (x y : Self) → Self.Key.cmp (Self.key_of x) (Self.key_of y)
+        ≡ arrival_cmp (arrival_of (row_of x)) (arrival_of (row_of y)) };
 }
 
 // Where a row stands in the list of a set.

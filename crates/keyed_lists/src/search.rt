@@ -8,10 +8,11 @@ use crate::keyed::Keyed;
 
 /// Where the key stands in the list, or where it would stand.
 pub fn find<T: Keyed>(list: &[T], key: &T::Key) -> Result<usize, usize>
-    ensures taken { IfOk result (λ i. (i < length list.now) × HoldsAt (λ x. T.key_of x ≡ key.now) list.now i) }
+    ensures taken { IfOk result (λ i. (i < length list.now)
+        × HoldsAt (λ x. T.key_of x ≡ key.now) list.now i) }
     ensures free { IsKeyed T.Key.cmp T.key_of list.now → IfErr result (λ i. (i ≤ length list.now)
-        × IsPartitionPoint (λ x. T.Key.cmp (T.key_of x) key.now ≡ Less) (λ x. T.Key.cmp (T.key_of x) key.now ≡ Greater)
-        list.now i) }
+        × IsPartitionPoint (λ x. T.Key.cmp (T.key_of x) key.now ≡ Less) (λ x.
+        T.Key.cmp (T.key_of x) key.now ≡ Greater) list.now i) }
 {
     list.binary_search_by_key(key, |x| x.key())
 }
@@ -20,9 +21,12 @@ pub fn find<T: Keyed>(list: &[T], key: &T::Key) -> Result<usize, usize>
 fn equal_range<T: Keyed>(list: &[T], key: &T::Key) -> (usize, usize)
     requires { IsKeyed T.Key.cmp T.key_of list.now }
     ensures order { (result.0 ≤ result.1) × (result.1 ≤ length list.now) }
-    ensures below { (y : T) → Contains (take result.0 list.now) y → T.Key.cmp (T.key_of y) key.now ≡ Less }
-    ensures equal { (y : T) → Contains (drop result.0 (take result.1 list.now)) y → T.key_of y ≡ key.now }
-    ensures above { (y : T) → Contains (drop result.1 list.now) y → T.Key.cmp key.now (T.key_of y) ≡ Less }
+    ensures below { (y : T) → Contains (take result.0 list.now) y → T.Key.cmp (T.key_of y) key.now
+        ≡ Less }
+    ensures equal { (y : T) → Contains (drop result.0 (take result.1 list.now)) y
+        → T.key_of y ≡ key.now }
+    ensures above { (y : T) → Contains (drop result.1 list.now) y → T.Key.cmp key.now (T.key_of y)
+        ≡ Less }
 {
     match find(list, key) {
         Ok(at) => (at, at + 1),
@@ -35,7 +39,8 @@ fn ends_range<T: Keyed>(list: &[T], end: usize, key: &T::Key) -> bool
     requires keyed { IsKeyed T.Key.cmp T.key_of list.now }
     requires within { (1 ≤ end) × (end ≤ length list.now) }
     ensures inside { result ≡ false → end < length list.now }
-    ensures above { result ≡ true → (y : T) → Contains (drop end list.now) y → T.Key.cmp key.now (T.key_of y) ≡ Less }
+    ensures above { result ≡ true → (y : T) → Contains (drop end list.now) y
+        → T.Key.cmp key.now (T.key_of y) ≡ Less }
 {
     end == list.len() || list[end - 1].key().cmp(key).is_ge()
 }
@@ -44,9 +49,12 @@ fn ends_range<T: Keyed>(list: &[T], end: usize, key: &T::Key) -> bool
 pub(crate) fn range_from_front<T: Keyed>(list: &[T], key: &T::Key) -> (usize, usize)
     requires { IsKeyed T.Key.cmp T.key_of list.now }
     ensures order { (result.0 ≤ result.1) × (result.1 ≤ length list.now) }
-    ensures below { (y : T) → Contains (take result.0 list.now) y → T.Key.cmp (T.key_of y) key.now ≡ Less }
-    ensures equal { (y : T) → Contains (drop result.0 (take result.1 list.now)) y → T.key_of y ≡ key.now }
-    ensures above { (y : T) → Contains (drop result.1 list.now) y → T.Key.cmp key.now (T.key_of y) ≡ Less }
+    ensures below { (y : T) → Contains (take result.0 list.now) y → T.Key.cmp (T.key_of y) key.now
+        ≡ Less }
+    ensures equal { (y : T) → Contains (drop result.0 (take result.1 list.now)) y
+        → T.key_of y ≡ key.now }
+    ensures above { (y : T) → Contains (drop result.1 list.now) y → T.Key.cmp key.now (T.key_of y)
+        ≡ Less }
 {
     if list.is_empty() {
         return (0, 0);
@@ -63,7 +71,8 @@ fn begins_range<T: Keyed>(list: &[T], start: usize, key: &T::Key) -> bool
     requires keyed { IsKeyed T.Key.cmp T.key_of list.now }
     requires within { start < length list.now }
     ensures inside { result ≡ false → 0 < start }
-    ensures below { result ≡ true → (y : T) → Contains (take start list.now) y → T.Key.cmp (T.key_of y) key.now ≡ Less }
+    ensures below { result ≡ true → (y : T) → Contains (take start list.now) y
+        → T.Key.cmp (T.key_of y) key.now ≡ Less }
 {
     start == 0 || list[start].key().cmp(key).is_le()
 }
@@ -72,9 +81,12 @@ fn begins_range<T: Keyed>(list: &[T], start: usize, key: &T::Key) -> bool
 pub(crate) fn range_from_back<T: Keyed>(list: &[T], key: &T::Key) -> (usize, usize)
     requires { IsKeyed T.Key.cmp T.key_of list.now }
     ensures order { (result.0 ≤ result.1) × (result.1 ≤ length list.now) }
-    ensures below { (y : T) → Contains (take result.0 list.now) y → T.Key.cmp (T.key_of y) key.now ≡ Less }
-    ensures equal { (y : T) → Contains (drop result.0 (take result.1 list.now)) y → T.key_of y ≡ key.now }
-    ensures above { (y : T) → Contains (drop result.1 list.now) y → T.Key.cmp key.now (T.key_of y) ≡ Less }
+    ensures below { (y : T) → Contains (take result.0 list.now) y → T.Key.cmp (T.key_of y) key.now
+        ≡ Less }
+    ensures equal { (y : T) → Contains (drop result.0 (take result.1 list.now)) y
+        → T.key_of y ≡ key.now }
+    ensures above { (y : T) → Contains (drop result.1 list.now) y → T.Key.cmp key.now (T.key_of y)
+        ≡ Less }
 {
     if list.is_empty() {
         return (0, 0);
@@ -89,7 +101,8 @@ pub(crate) fn range_from_back<T: Keyed>(list: &[T], key: &T::Key) -> (usize, usi
 
 /// Whether an item of the list has the key.
 pub fn has_key<T: Keyed>(list: &[T], key: &T::Key) -> bool
-    ensures { IsKeyed T.Key.cmp T.key_of list.now → result ≡ holds_key T.Key.cmp T.key_of list.now key.now }
+    ensures { IsKeyed T.Key.cmp T.key_of list.now
+        → result ≡ holds_key T.Key.cmp T.key_of list.now key.now }
 {
     find(list, key).is_ok()
 }

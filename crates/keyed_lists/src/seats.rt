@@ -74,7 +74,8 @@ pub fn note_rows<T: PlanRow>(
     requires seats { AreSeats seats.old.items }
     requires once { HasEachOnce T.row_of rows.now }
     ensures seats { AreSeats seats.new.items }
-    ensures stay { (seat : SeatValue) → Contains seats.old.items seat → Contains seats.new.items seat }
+    ensures stay { (seat : SeatValue) → Contains seats.old.items seat
+        → Contains seats.new.items seat }
     ensures noted { OnOk result (HasSeats T.row_of rows.now seats.new.items) }
 {
     let mut missing = missing_seats(alloc, seats.as_slice(), rows)?;

@@ -15,7 +15,8 @@ use std::alloc::{AllocError, Global};
 /// isn't active (26), where a live occurrence has the key (27), and where both plans would hold too many rows or no
 /// serial is left (31).
 pub fn add(alloc: Global, view: &View<'_>, key: &Key) -> Result<Verdict, AllocError>
-    ensures { IfOk result (λ verdict. (c : Content) → Shows (Need.Key key.now) view.now c → IsSound c
+    ensures { IfOk result (λ verdict. (c : Content) → Shows (Need.Key key.now) view.now c
+        → IsSound c
         → VerdictIs (ltp_add key.now) c verdict) }
 {
     plan_pairs::add(alloc, view, Plan::LongTerm, key)

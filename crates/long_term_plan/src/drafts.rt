@@ -55,7 +55,8 @@ fn add_drafts(
     requires planned { last ≤ last_kept_day }
     requires indexes { AreIndexesOf all.now indexes.old }
     ensures indexes { AreIndexesOf all.now indexes.new }
-    ensures added { OnOk result (AddsDrafts all.now app.now first last drafts.old.items drafts.new.items) }
+    ensures added { OnOk result
+        (AddsDrafts all.now app.now first last drafts.old.items drafts.new.items) }
 {
     let Some(application) = active(all, app) else {
         return Ok(());
@@ -71,7 +72,8 @@ fn push_drafts(
     named: &[Named],
     first: Moment,
 ) -> Result<(), AllocError>
-    ensures { OnOk result (drafts.new.items ≡ drafts.old.items ++ drafts_from app.now first named.now) }
+    ensures { OnOk result (drafts.new.items ≡ drafts.old.items
+        ++ drafts_from app.now first named.now) }
 {
     for occurrence in named {
         let draft = draft_of(app, occurrence);
@@ -99,7 +101,8 @@ fn draft_of(app: &App, named: &Named) -> Draft
 // Sorts the drafts by key.
 fn sort_drafts(drafts: &mut Vec<Draft>)
     ensures in_order { HaveOwnKeys drafts.old.items → DraftsRise drafts.new.items }
-    ensures same { (draft : DraftValue) → Contains drafts.new.items draft ↔ Contains drafts.old.items draft }
+    ensures same { (draft : DraftValue) → Contains drafts.new.items draft
+        ↔ Contains drafts.old.items draft }
 {
     drafts.sort_unstable_by_key(|draft| draft.key);
 }

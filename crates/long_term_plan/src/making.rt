@@ -52,7 +52,8 @@ pub(crate) fn add_days(
 fn would_hold_too_many(view: &View<'_>, bounds: &Bounds, new: &[Draft]) -> bool
     ensures too_many { BehindAny view.now (λ c. IsSound c
         → IsTrue result ↔ HoldTooMany (planned_sets bounds.now new.now c.sets)) }
-    ensures serials { result ≡ false → (shown view.now).sets.issued + length new.now ≤ GREATEST_SERIAL }
+    ensures serials { result ≡ false → (shown view.now).sets.issued + length new.now
+        ≤ GREATEST_SERIAL }
 {
     let rows = view.ltp().len() + view.cp().len() + new.len();
     let issued = view.issued() as usize + new.len();

@@ -144,7 +144,8 @@ fn are_too_many(view: &View<'_>, gone: &[Row], new: &[Draft]) -> bool
     ensures too_many { BehindAny view.now (λ c. IsSound c → (kept : ℕ)
         → kept + length gone.now ≡ size c.sets.ltp c.sets.issued
         → IsTrue result ↔ AreTooMany c.sets kept (length new.now)) }
-    ensures serials { result ≡ false → (shown view.now).sets.issued + length new.now ≤ GREATEST_SERIAL }
+    ensures serials { result ≡ false → (shown view.now).sets.issued + length new.now
+        ≤ GREATEST_SERIAL }
 {
     let rows = view.ltp().len() + view.cp().len() + new.len();
     let issued = view.issued() as usize + new.len();

@@ -37,7 +37,8 @@ pub(crate) fn withdrawn_rows(
     named: &[Draft],
 ) -> Result<Vec<Row>, AllocError>
     ensures { DraftsRise named.now
-        → IfOk result (λ gone. gone.items ≡ filter (λ row. is_none (outcome only.now named.now row)) rows.now) }
+        → IfOk result (λ gone. gone.items
+        ≡ filter (λ row. is_none (outcome only.now named.now row)) rows.now) }
 {
     let mut gone = Vec::new(alloc);
     for row in rows {

@@ -12,7 +12,8 @@ use work_calendars::{Day, Minute};
 /// Appends a date.
 pub(crate) fn append_day<const N: usize>(line: &mut ArrayVec<u8, N>, day: Day)
     requires { array_vec_len line.old + 10 ≤ N }
-    ensures items { (text : List ℕ) × SpellsDay text day × (line.new.items ≡ line.old.items ++ text) }
+    ensures items { (text : List ℕ) × SpellsDay text day
+        × (line.new.items ≡ line.old.items ++ text) }
     ensures len { array_vec_len line.new ≡ array_vec_len line.old + 10 }
 {
     let mut text = [0; 10];
@@ -23,7 +24,8 @@ pub(crate) fn append_day<const N: usize>(line: &mut ArrayVec<u8, N>, day: Day)
 /// Appends a time.
 pub(crate) fn append_minute<const N: usize>(line: &mut ArrayVec<u8, N>, minute: Minute)
     requires { array_vec_len line.old + 5 ≤ N }
-    ensures items { (text : List ℕ) × SpellsMinute text minute × (line.new.items ≡ line.old.items ++ text) }
+    ensures items { (text : List ℕ) × SpellsMinute text minute
+        × (line.new.items ≡ line.old.items ++ text) }
     ensures len { array_vec_len line.new ≡ array_vec_len line.old + 5 }
 {
     let mut text = [0; 5];

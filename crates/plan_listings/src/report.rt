@@ -41,7 +41,8 @@ fn push_rows(
 
 // Adds rows that would be carried, each with its status.
 fn push_carried(all: &mut Vec<Signed>, rows: &[(Row, Status)]) -> Result<(), AllocError>
-    ensures { OnOk result (all.new.items ≡ all.old.items ++ map (λ c. daily_sign (byte "=") c.1 c.0) rows.now) }
+    ensures { OnOk result (all.new.items ≡ all.old.items
+        ++ map (λ c. daily_sign (byte "=") c.1 c.0) rows.now) }
 {
     for carried in rows {
         let letter = Some(carried.1.letter());
@@ -119,7 +120,8 @@ pub fn dp_report(
     completed: &[Row],
     deleted: &[Row],
 ) -> Result<Vec<u8>, AllocError>
-    ensures { IfOk result (λ text. IsReport (daily_signs moved.now carried.now completed.now deleted.now) text.items) }
+    ensures { IfOk result (λ text.
+        IsReport (daily_signs moved.now carried.now completed.now deleted.now) text.items) }
 {
     let mut rows = Vec::new(alloc);
     push_rows(&mut rows, moved, b'>', Some(Status::W.letter()))?;

@@ -71,7 +71,8 @@ fn append_origin<const N: usize>(line: &mut ArrayVec<u8, N>, origin: Origin)
 /// Appends a moment's date and time.
 fn append_moment<const N: usize>(line: &mut ArrayVec<u8, N>, moment: Moment)
     requires { array_vec_len line.old + 16 ≤ N }
-    ensures items { (text : List ℕ) × IsMomentText moment text × (line.new.items ≡ line.old.items ++ text) }
+    ensures items { (text : List ℕ) × IsMomentText moment text
+        × (line.new.items ≡ line.old.items ++ text) }
     ensures len { array_vec_len line.new ≡ array_vec_len line.old + 16 }
 {
     append_day(line, moment.day());
@@ -93,7 +94,8 @@ fn append_front<const N: usize>(line: &mut ArrayVec<u8, N>, row: &Row)
 /// Appends a row's input arrival and deadline.
 fn append_times<const N: usize>(line: &mut ArrayVec<u8, N>, row: &Row)
     requires { array_vec_len line.old + 33 ≤ N }
-    ensures items { (text : List ℕ) × AreTimesText row.now text × (line.new.items ≡ line.old.items ++ text) }
+    ensures items { (text : List ℕ) × AreTimesText row.now text
+        × (line.new.items ≡ line.old.items ++ text) }
     ensures len { array_vec_len line.new ≡ array_vec_len line.old + 33 }
 {
     append_moment(line, row.key.ia);
@@ -104,7 +106,8 @@ fn append_times<const N: usize>(line: &mut ArrayVec<u8, N>, row: &Row)
 /// Appends a row.
 fn append_row<const N: usize>(line: &mut ArrayVec<u8, N>, row: &Row)
     requires { array_vec_len line.old + 71 ≤ N }
-    ensures items { (text : List ℕ) × IsRowText row.now text × (line.new.items ≡ line.old.items ++ text) }
+    ensures items { (text : List ℕ) × IsRowText row.now text
+        × (line.new.items ≡ line.old.items ++ text) }
     ensures len { array_vec_len line.new ≡ array_vec_len line.old + 71 }
 {
     append_front(line, row);
@@ -115,7 +118,8 @@ fn append_row<const N: usize>(line: &mut ArrayVec<u8, N>, row: &Row)
 /// Appends an end of a dependency.
 fn append_end<const N: usize>(line: &mut ArrayVec<u8, N>, row: &Row)
     requires { array_vec_len line.old + 43 ≤ N }
-    ensures items { (text : List ℕ) × IsEndText row.now text × (line.new.items ≡ line.old.items ++ text) }
+    ensures items { (text : List ℕ) × IsEndText row.now text
+        × (line.new.items ≡ line.old.items ++ text) }
     ensures len { array_vec_len line.new ≡ array_vec_len line.old + 43 }
 {
     append_name(line, row);

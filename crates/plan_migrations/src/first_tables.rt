@@ -85,7 +85,8 @@ pub(crate) fn read_tables<S: Alter>(
     tables: &[Table],
 ) -> Result<Vec<FirstRows>, MigrateFault>
     requires mode { conn.old.in_transaction ≡ false }
-    requires open { HasCleanDisk (state S.Store conn.old) → IsTrue (state S.Store conn.old).is_open }
+    requires open { HasCleanDisk (state S.Store conn.old)
+        → IsTrue (state S.Store conn.old).is_open }
     ensures whole { IfOk result (λ reads. tables_in reads.items ≡ tables.now) }
     ensures typed { IfOk result (λ reads. AreAllFirst reads.items) }
     ensures shown { HasCleanDisk (state S.Store conn.new)

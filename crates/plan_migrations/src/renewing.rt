@@ -52,7 +52,8 @@ fn remake<S: Alter>(
 fn renew_first<S: Alter>(alloc: Global, conn: &mut Connection<S>) -> Result<(), MigrateFault>
     requires mode { conn.old.in_transaction ≡ false }
     requires first { CanRemake (state S.Store conn.old).now.schema }
-    requires open { HasCleanDisk (state S.Store conn.old) → IsTrue (state S.Store conn.old).is_open }
+    requires open { HasCleanDisk (state S.Store conn.old)
+        → IsTrue (state S.Store conn.old).is_open }
     requires told { HasCleanDisk (state S.Store conn.old)
         → AreOfFirst (tables_of (state S.Store conn.old).now.trees) }
     ensures renewed { HasCleanDisk (state S.Store conn.new)
@@ -80,7 +81,8 @@ fn renew_first<S: Alter>(alloc: Global, conn: &mut Connection<S>) -> Result<(), 
 /// is sound.
 pub(crate) fn renew<S: Alter>(alloc: Global, conn: &mut Connection<S>) -> Result<(), MigrateFault>
     requires mode { conn.old.in_transaction ≡ false }
-    requires open { HasCleanDisk (state S.Store conn.old) → IsTrue (state S.Store conn.old).is_open }
+    requires open { HasCleanDisk (state S.Store conn.old)
+        → IsTrue (state S.Store conn.old).is_open }
     requires told { HasCleanDisk (state S.Store conn.old)
         → CanRemake (state S.Store conn.old).now.schema
         → AreOfFirst (tables_of (state S.Store conn.old).now.trees) }

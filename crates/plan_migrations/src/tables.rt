@@ -39,7 +39,8 @@ pub(crate) fn check_tables<S: Alter>(
     tables: &[Table],
 ) -> Result<(), MigrateFault>
     requires mode { conn.old.in_transaction ≡ false }
-    requires open { HasCleanDisk (state S.Store conn.old) → IsTrue (state S.Store conn.old).is_open }
+    requires open { HasCleanDisk (state S.Store conn.old)
+        → IsTrue (state S.Store conn.old).is_open }
     ensures checked { HasCleanDisk (state S.Store conn.new)
         → ChecksTables (state S.Store conn.old) (state S.Store conn.new) tables.now result }
     ensures kept { HasCleanDisk (state S.Store conn.new)

@@ -110,7 +110,8 @@ impl<'a> Iterator for Intervals<'a> {
 
     fn next(&mut self) -> Option<Interval>
         ensures steps { YieldsFirst (λ walk. walk.left) self.old result self.new }
-        ensures goes { MakesProgress (λ (_ : Walk). ⊤) (item_count (λ walk. walk.left)) self.old result self.new }
+        ensures goes { MakesProgress (λ (_ : Walk). ⊤)
+            (item_count (λ walk. walk.left)) self.old result self.new }
         ensures goes_on { GoesOn self.old result self.new }
     {
         match self.period {

@@ -32,7 +32,8 @@ fn arrives_in(bounds: &Bounds, placed: &PlacedRow) -> bool
 
 // Whether all rows do.
 pub(crate) fn all_arrive(bounds: &Bounds, all: &[PlacedRow]) -> bool
-    ensures { IsTrue result ↔ All (λ (p : PlacedValue). ArrivesIn bounds.now p.row.key.ia p.place) all.now }
+    ensures { IsTrue result ↔ All
+        (λ (p : PlacedValue). ArrivesIn bounds.now p.row.key.ia p.place) all.now }
 {
     for placed in all {
         if !arrives_in(bounds, placed) {
@@ -63,7 +64,8 @@ fn operator_keys(alloc: Global, deletions: &[Deletion]) -> Result<Vec<Key>, Allo
 
 // These keys as a set.
 fn key_set(alloc: Global, keys: &[Key]) -> Result<HashSet<Key>, AllocError>
-    ensures { IfOk result (λ set. (key : KeyValue) → IsTrue (contains ⟦<Key as PartialEq>⟧.eq set key)
+    ensures { IfOk result (λ set. (key : KeyValue)
+        → IsTrue (contains ⟦<Key as PartialEq>⟧.eq set key)
         ↔ Contains keys.now key) }
 {
     key_order();

@@ -17,7 +17,8 @@ fn is_live(placed: &PlacedRow) -> bool
 
 // The keys of the live ones of the rows.
 fn live_keys(alloc: Global, all: &[PlacedRow]) -> Result<Vec<Key>, AllocError>
-    ensures { IfOk result (λ keys. keys.items ≡ map (λ (p : PlacedValue). p.row.key) (filter is_live_row all.now)) }
+    ensures { IfOk result (λ keys. keys.items ≡ map (λ (p : PlacedValue). p.row.key)
+        (filter is_live_row all.now)) }
 {
     all.iter()
         .filter(|placed| is_live(placed))

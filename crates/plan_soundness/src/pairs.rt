@@ -34,7 +34,8 @@ fn all_among(pairs: &[Pair], others: &Pairs) -> bool
 
 // Whether both have the same pairs.
 fn same_pairs(pairs: &Pairs, others: &Pairs) -> bool
-    ensures { (IsTrue result ↔ (All (Contains others.now) pairs.now × All (Contains pairs.now) others.now))
+    ensures { (IsTrue result ↔ (All (Contains others.now) pairs.now
+        × All (Contains pairs.now) others.now))
         × IsRising pair_cmp pairs.now }
 {
     all_among(pairs.as_slice(), others) && all_among(others.as_slice(), pairs)
@@ -110,8 +111,8 @@ fn fits(table: &[Option<PlacedRow>], pair: &Pair) -> bool
 
 // Whether so it is of all pairs.
 fn all_fit(table: &[Option<PlacedRow>], pairs: &[Pair]) -> bool
-    ensures { IsTrue result ↔ All (λ (pair : PairValue). FitsRows (at_serial table.now pair.successor)
-        (at_serial table.now pair.predecessor)) pairs.now }
+    ensures { IsTrue result ↔ All (λ (pair : PairValue). FitsRows
+        (at_serial table.now pair.successor) (at_serial table.now pair.predecessor)) pairs.now }
 {
     for pair in pairs {
         if !fits(table, pair) {

@@ -184,8 +184,8 @@ impl Content {
         requires ltp_seats { HasSeats of_row ltp.now self.now.seats.items }
         requires cp_rows { AreRows of_current cp.now }
         requires cp_seats { HasSeats of_current cp.now self.now.seats.items }
-        ensures { shown result ≡ with_plans_alone (look_up row_serial ltp.now) (look_up current_serial cp.now)
-            (content_of self.now) }
+        ensures { shown result ≡ with_plans_alone (look_up row_serial ltp.now)
+            (look_up current_serial cp.now) (content_of self.now) }
     {
         View {
             content: self,
@@ -282,7 +282,8 @@ impl Content {
     /// Changes the definitions, or where memory is refused, nothing.
     pub fn redefine(&mut self, change: DefinitionChange) -> Result<(), AllocError>
         ensures ok { OnOk result (content_of self.new
-            ≡ with_definitions (redefined change (content_of self.old).definitions) (content_of self.old)) }
+            ≡ with_definitions (redefined change (content_of self.old).definitions)
+            (content_of self.old)) }
         ensures err { OnErr result (content_of self.new ≡ content_of self.old) }
         ensures room { (next : ChangeValue) (room : RoomValue)
             → HasRoom next self.old room → HasRoom next self.new room }
@@ -296,7 +297,8 @@ impl Content {
         requires fits { Fits change (content_of self.old) }
         requires room { HasRoom change self.old room }
         requires defined { change.definitions ≡ AsBefore }
-        ensures { content_of self.new ≡ after change (with_pairs_of room.pairs.items (content_of self.old)) }
+        ensures { content_of self.new
+            ≡ after change (with_pairs_of room.pairs.items (content_of self.old)) }
     {
         let Room { mut pairs } = room;
         let Change {
@@ -358,7 +360,8 @@ fn note_puts(alloc: Global, seats: &mut Vec<Seat>, change: &Change) -> Result<()
     ensures ltp { OnOk result (HasSeats of_row change.now.ltp.put.items seats.new.items) }
     ensures cp { OnOk result (HasSeats of_current change.now.cp.put.items seats.new.items) }
     ensures history { OnOk result (HasSeats of_row change.now.history.put.items seats.new.items) }
-    ensures deletions { OnOk result (HasSeats of_deletion change.now.deletions.put.items seats.new.items) }
+    ensures deletions { OnOk result
+        (HasSeats of_deletion change.now.deletions.put.items seats.new.items) }
 {
     note_rows(alloc, seats, &change.ltp.put)?;
     note_rows(alloc, seats, &change.cp.put)?;

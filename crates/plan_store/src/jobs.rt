@@ -12,8 +12,8 @@ use planner_machine::Job;
 
 // Where the job of the number stands, or where it would stand.
 pub(crate) fn find_job(jobs: &[Job], number: u64) -> Result<usize, usize>
-    ensures taken { IfOk result (λ i. (i < length jobs.now) × HoldsAt (λ (kept : JobValue). kept.number ≡ number)
-        jobs.now i) }
+    ensures taken { IfOk result (λ i. (i < length jobs.now)
+        × HoldsAt (λ (kept : JobValue). kept.number ≡ number) jobs.now i) }
     ensures free { AreJobs jobs.now → IfErr result (λ i. (i ≤ length jobs.now)
         × IsPartitionPoint (λ (kept : JobValue). nat_cmp kept.number number ≡ Less)
         (λ (kept : JobValue). nat_cmp kept.number number ≡ Greater) jobs.now i) }
@@ -41,8 +41,8 @@ fn insert_job(jobs: &mut Vec<Job>, job: Job)
 // Keeps the job, if there is one. Its number is new, and there is room for it.
 pub(crate) fn keep_job(jobs: &mut Vec<Job>, job: Option<Job>)
     requires numbered { AreJobs jobs.old.items }
-    requires new { (new : JobValue) → job ≡ Some new → look_up (λ (kept : JobValue). kept.number) jobs.old.items
-        new.number ≡ None }
+    requires new { (new : JobValue) → job ≡ Some new
+        → look_up (λ (kept : JobValue). kept.number) jobs.old.items new.number ≡ None }
     requires room { vec_len jobs.old + 1 ≤ vec_capacity jobs.old }
     ensures numbered { AreJobs jobs.new.items }
     ensures kept { (number : ℕ) → look_up (λ (kept : JobValue). kept.number) jobs.new.items number

@@ -36,10 +36,12 @@ pub(crate) fn key_lasts(
     requires ltp { AreRows of_row ltp.now }
     requires cp { AreRows of_current cp.now }
     ensures rows { OnOk result (AreRows of_row lasts.new.items) }
-    ensures part { OnOk result ((row : RowValue) → Contains lasts.new.items row → Contains history.now row) }
+    ensures part { OnOk result ((row : RowValue) → Contains lasts.new.items row
+        → Contains history.now row) }
     ensures lasts { OnOk result ((c : ContentValue) → c.in_force ≡ in_force.now
         → c.sets.ltp ≡ look_up row_serial ltp.now → c.sets.cp ≡ look_up current_serial cp.now
-        → HasLasts (AsksKey c key.now) (look_up row_serial history.now) (look_up row_serial lasts.new.items)) }
+        → HasLasts (AsksKey c key.now) (look_up row_serial history.now)
+        (look_up row_serial lasts.new.items)) }
 {
     places.clear();
     note_own(history, key, places)?;
@@ -64,11 +66,13 @@ pub(crate) fn plan_lasts(
     requires history { AreRows of_row history.now }
     requires cp { AreRows of_current cp.now }
     ensures rows { OnOk result (AreRows of_row lasts.new.items) }
-    ensures part { OnOk result ((row : RowValue) → Contains lasts.new.items row → Contains history.now row) }
+    ensures part { OnOk result ((row : RowValue) → Contains lasts.new.items row
+        → Contains history.now row) }
     ensures lasts { OnOk result ((c : ContentValue) → c.in_force ≡ in_force.now
         → c.definitions ≡ definitions.now → c.sets.bounds ≡ bounds
         → c.sets.cp ≡ look_up current_serial cp.now
-        → HasLasts (AsksPlan c) (look_up row_serial history.now) (look_up row_serial lasts.new.items)) }
+        → HasLasts (AsksPlan c) (look_up row_serial history.now)
+        (look_up row_serial lasts.new.items)) }
 {
     places.clear();
     note_plan_end(history, bounds, places)?;
@@ -80,7 +84,8 @@ pub(crate) fn plan_lasts(
 // Where the last row of the application stands that arrives before the minute.
 fn last_place(history: &[Row], app: &App, minute: u32) -> Option<usize>
     requires { AreRows of_row history.now }
-    ensures { MatchOption result (LacksBefore history.now app.now minute) (IsLastPlace history.now app.now minute) }
+    ensures { MatchOption result (LacksBefore history.now app.now minute)
+        (IsLastPlace history.now app.now minute) }
 {
     let count = history.partition_point(|x| x
         .key
@@ -107,7 +112,8 @@ fn note_last(
     places: &mut Vec<usize>,
 ) -> Result<(), AllocError>
     requires { AreRows of_row history.now }
-    ensures { OnOk result (Notes (IsAsked app.now minute) history.now places.old.items places.new.items) }
+    ensures { OnOk result (Notes
+        (IsAsked app.now minute) history.now places.old.items places.new.items) }
 {
     if let Some(place) = last_place(history, app, minute) {
         places.push(place)?;
@@ -134,7 +140,8 @@ fn note_nearest(
     places: &mut Vec<usize>,
 ) -> Result<(), AllocError>
     requires { AreRows of_row history.now }
-    ensures { OnOk result (Notes (IsNear key.now app.now) history.now places.old.items places.new.items) }
+    ensures { OnOk result (Notes
+        (IsNear key.now app.now) history.now places.old.items places.new.items) }
 {
     let arrival = key.ia.number();
     let limit = if *app == key.app {
@@ -154,7 +161,8 @@ fn note_list(
     places: &mut Vec<usize>,
 ) -> Result<(), AllocError>
     requires { AreRows of_row history.now }
-    ensures { OnOk result (Notes (AsksList in_force.now key.now) history.now places.old.items places.new.items) }
+    ensures { OnOk result (Notes
+        (AsksList in_force.now key.now) history.now places.old.items places.new.items) }
 {
     for link in in_force.list(&key.app) {
         note_nearest(history, key, &link.predecessor, places)?;
@@ -188,7 +196,8 @@ fn note_named(
     places: &mut Vec<usize>,
 ) -> Result<(), AllocError>
     requires { AreRows of_row history.now }
-    ensures { OnOk result (Notes (AskedByOne (λ (p : PredecessorValue). IsNear key.now p.name) listed.now)
+    ensures { OnOk result (Notes
+        (AskedByOne (λ (p : PredecessorValue). IsNear key.now p.name) listed.now)
         history.now places.old.items places.new.items) }
 {
     for predecessor in listed {
@@ -205,7 +214,8 @@ fn note_rows(
     places: &mut Vec<usize>,
 ) -> Result<(), AllocError>
     requires { AreRows of_row history.now }
-    ensures { OnOk result (Notes (AskedByOne (AsksRow in_force.now) rows.now) history.now places.old.items
+    ensures { OnOk result (Notes
+        (AskedByOne (AsksRow in_force.now) rows.now) history.now places.old.items
         places.new.items) }
 {
     for row in rows {
@@ -222,7 +232,8 @@ fn note_waiting(
     places: &mut Vec<usize>,
 ) -> Result<(), AllocError>
     requires { AreRows of_row history.now }
-    ensures { OnOk result (Notes (AskedByOne (AsksWaiting in_force.now) rows.now) history.now places.old.items
+    ensures { OnOk result (Notes
+        (AskedByOne (AsksWaiting in_force.now) rows.now) history.now places.old.items
         places.new.items) }
 {
     for current in rows {
@@ -248,7 +259,8 @@ fn note_within(
     requires history { AreRows of_row history.now }
     requires ltp { AreRows of_row ltp.now }
     requires cp { AreRows of_current cp.now }
-    ensures { OnOk result (Notes (AsksWithin in_force.now ltp.now cp.now first last.now app.now) history.now
+    ensures { OnOk result (Notes
+        (AsksWithin in_force.now ltp.now cp.now first last.now app.now) history.now
         places.old.items places.new.items) }
 {
     note_rows(
@@ -280,7 +292,8 @@ fn note_reached(
     requires history { AreRows of_row history.now }
     requires ltp { AreRows of_row ltp.now }
     requires cp { AreRows of_current cp.now }
-    ensures { OnOk result (Notes (AskedByOne (AsksNaming in_force.now ltp.now cp.now key.now next.now) in_force.now)
+    ensures { OnOk result (Notes
+        (AskedByOne (AsksNaming in_force.now ltp.now cp.now key.now next.now) in_force.now)
         history.now places.old.items places.new.items) }
 {
     for link in in_force.as_slice() {
@@ -329,7 +342,8 @@ fn note_both(
     places: &mut Vec<usize>,
 ) -> Result<(), AllocError>
     requires { AreRows of_row history.now }
-    ensures { OnOk result (Notes (AskedByOne (AsksBoth in_force.now definitions.now) rows.now) history.now
+    ensures { OnOk result (Notes
+        (AskedByOne (AsksBoth in_force.now definitions.now) rows.now) history.now
         places.old.items places.new.items) }
 {
     for current in rows {

@@ -89,8 +89,10 @@ fn in_order<T: PlanRow>(alloc: Global, rows: &[T]) -> Result<Vec<&T>, AllocError
 
 // Hands the sink one row, with its letter or plain.
 fn hand<T: Lettered, K: RowSink>(x: &T, is_plain: bool, sink: &mut K) -> Result<(), SinkFault>
-    ensures taken { OnOk result (K.takes sink.old (shown_as T.row_of T.letter_of is_plain x.now) sink.new) }
-    ensures refused { OnErr result (K.refuses sink.old (shown_as T.row_of T.letter_of is_plain x.now) sink.new) }
+    ensures taken { OnOk result
+        (K.takes sink.old (shown_as T.row_of T.letter_of is_plain x.now) sink.new) }
+    ensures refused { OnErr result
+        (K.refuses sink.old (shown_as T.row_of T.letter_of is_plain x.now) sink.new) }
 {
     let row = x.row();
     if is_plain {
@@ -123,9 +125,10 @@ fn hand_each<T: Lettered, K: RowSink>(
 
 // The rows of one application, or all.
 fn part_of<'a, T: PlanRow>(rows: &'a [T], app: Option<&App>) -> &'a [T]
-    ensures keyed { IsKeyed arrival_cmp (λ x. arrival_of (T.row_of x)) rows.now → IsKeyed arrival_cmp
-        (λ x. arrival_of (T.row_of x)) result.now }
-    ensures all { IsKeyed arrival_cmp (λ x. arrival_of (T.row_of x)) rows.now → (x : T) → Contains result.now x
+    ensures keyed { IsKeyed arrival_cmp (λ x. arrival_of (T.row_of x)) rows.now
+        → IsKeyed arrival_cmp (λ x. arrival_of (T.row_of x)) result.now }
+    ensures all { IsKeyed arrival_cmp (λ x. arrival_of (T.row_of x)) rows.now → (x : T)
+        → Contains result.now x
         ↔ (Contains rows.now x × IsOfApp (option_copied app.entry) (T.row_of x).key.app) }
 {
     match app {
@@ -143,8 +146,8 @@ fn hand_rows<T: Lettered, K: RowSink>(
     sink: &mut K,
 ) -> Result<usize, ListFault>
     ensures all { AreRows T.row_of rows.now
-        → IfOk result (HandsAll K.takes (ShowsSet T.row_of T.letter_of is_plain rows.now (option_copied app.entry))
-        sink.old sink.new) }
+        → IfOk result (HandsAll K.takes (ShowsSet T.row_of T.letter_of is_plain rows.now
+        (option_copied app.entry)) sink.old sink.new) }
     ensures part { AreRows T.row_of rows.now
         → IfErr result (HandsPart K.takes K.refuses (ShowsSet T.row_of T.letter_of is_plain rows.now
         (option_copied app.entry)) sink.old sink.new) }
@@ -172,7 +175,8 @@ fn push_occurrences<'a, T: Lettered>(
 
 // The occurrence of the serial, where these are sorted by serial.
 fn with_number(all: &[&Row], serial: Serial) -> Option<Row>
-    ensures { (s : Sets) → AreNumbered s → AreBySerial (λ row. row.now) s all.now → result ≡ row_at s serial }
+    ensures { (s : Sets) → AreNumbered s → AreBySerial (λ row. row.now) s all.now
+        → result ≡ row_at s serial }
 {
     match all.binary_search_by_key(&serial.get(), |row| row.serial.get()) {
         Ok(at) => Some(*all[at]),
@@ -239,8 +243,8 @@ fn lists_of<'a>(links: &'a Links, app: Option<&App>) -> &'a [Link]
 fn hand_lists<K: RowSink>(links: &[Link], sink: &mut K) -> Result<usize, ListFault>
     ensures all { IfOk result (λ count. (count ≡ length links.now)
         × TakesAll K.takes sink.old (map in_force_shown links.now) sink.new) }
-    ensures part { IfErr result (λ fault. EndsWithin K.takes K.refuses sink.old (map in_force_shown links.now)
-        sink.new fault) }
+    ensures part { IfErr result (λ fault. EndsWithin K.takes K.refuses sink.old
+        (map in_force_shown links.now) sink.new fault) }
     ensures blames { IfErr result (λ fault. fault ≢ ListFault.Device) }
 {
     for link in links {
@@ -256,7 +260,8 @@ impl Content {
     // The occurrences of all sets, by serial.
     fn by_serial(&self, alloc: Global) -> Result<Vec<&Row>, AllocError>
         ensures { AreNumbered (content_of self.now).sets
-            → IfOk result (λ all. AreBySerial (λ row. row.now) (content_of self.now).sets all.items) }
+            → IfOk result (λ all. AreBySerial (λ row. row.now)
+            (content_of self.now).sets all.items) }
     {
         let ltp = self.ltp.as_slice();
         let cp = self.cp.as_slice();
@@ -281,7 +286,8 @@ impl Content {
     ) -> Result<usize, ListFault>
         ensures rising { IsRising pair_cmp (content_of self.now).pairs }
         ensures all { AreNumbered (content_of self.now).sets → IfOk result (λ count.
-            (count ≡ length (links_at (content_of self.now).sets (option_copied app.entry) (content_of self.now).pairs))
+            (count ≡ length (links_at (content_of self.now).sets (option_copied app.entry)
+            (content_of self.now).pairs))
             × TakesAll K.takes sink.old (map link_shown
             (links_at (content_of self.now).sets (option_copied app.entry) (content_of self.now).pairs)) sink.new) }
         ensures part { AreNumbered (content_of self.now).sets
@@ -307,11 +313,11 @@ impl Content {
         sink: &mut K,
     ) -> Result<usize, ListFault>
         ensures all { AreNumbered (content_of self.now).sets
-            → IfOk result (HandsAll K.takes (IsListing what (option_copied app.entry) (content_of self.now)) sink.old
-            sink.new) }
+            → IfOk result (HandsAll K.takes (IsListing what (option_copied app.entry)
+            (content_of self.now)) sink.old sink.new) }
         ensures part { AreNumbered (content_of self.now).sets
-            → IfErr result (HandsPart K.takes K.refuses (IsListing what (option_copied app.entry) (content_of self.now))
-            sink.old sink.new) }
+            → IfErr result (HandsPart K.takes K.refuses (IsListing what (option_copied app.entry)
+            (content_of self.now)) sink.old sink.new) }
         ensures blames { IfErr result (λ fault. fault ≢ ListFault.Device) }
     {
         match what {

@@ -11,8 +11,8 @@ pub(crate) fn move_rows<T: PlanRow>(list: &mut Vec<T>, moves: Moves<T>)
     requires fits { FitsSet T.row_of moves (look_up (λ x. (T.row_of x).serial) list.old.items) }
     requires room { vec_len list.old + vec_len moves.put ≤ vec_capacity list.old }
     ensures rows { AreRows T.row_of list.new.items }
-    ensures moved { (serial : ℕ) → look_up (λ x. (T.row_of x).serial) list.new.items serial ≡ moved_set T.row_of moves
-        (look_up (λ x. (T.row_of x).serial) list.old.items) serial }
+    ensures moved { (serial : ℕ) → look_up (λ x. (T.row_of x).serial) list.new.items serial
+        ≡ moved_set T.row_of moves (look_up (λ x. (T.row_of x).serial) list.old.items) serial }
 {
     let Moves {
         mut gone,

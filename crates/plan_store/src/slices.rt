@@ -18,9 +18,10 @@ use work_calendars::{App, Moment};
 
 // The rows of an application.
 pub(crate) fn of_app<'a, T: PlanRow>(list: &'a [T], app: &App) -> &'a [T]
-    ensures keyed { IsKeyed arrival_cmp (λ x. arrival_of (T.row_of x)) list.now → IsKeyed arrival_cmp
-        (λ x. arrival_of (T.row_of x)) result.now }
-    ensures all { IsKeyed arrival_cmp (λ x. arrival_of (T.row_of x)) list.now → (x : T) → Contains result.now x
+    ensures keyed { IsKeyed arrival_cmp (λ x. arrival_of (T.row_of x)) list.now
+        → IsKeyed arrival_cmp (λ x. arrival_of (T.row_of x)) result.now }
+    ensures all { IsKeyed arrival_cmp (λ x. arrival_of (T.row_of x)) list.now → (x : T)
+        → Contains result.now x
         ↔ (Contains list.now x × ((T.row_of x).key.app ≡ app.now)) }
 {
     let start = list.partition_point(|x| x.row().key.app < *app);
@@ -31,9 +32,10 @@ pub(crate) fn of_app<'a, T: PlanRow>(list: &'a [T], app: &App) -> &'a [T]
 
 // The rows of a key.
 pub(crate) fn of_key<'a, T: PlanRow>(list: &'a [T], key: &Key) -> &'a [T]
-    ensures keyed { IsKeyed arrival_cmp (λ x. arrival_of (T.row_of x)) list.now → IsKeyed arrival_cmp
-        (λ x. arrival_of (T.row_of x)) result.now }
-    ensures all { IsKeyed arrival_cmp (λ x. arrival_of (T.row_of x)) list.now → (x : T) → Contains result.now x
+    ensures keyed { IsKeyed arrival_cmp (λ x. arrival_of (T.row_of x)) list.now
+        → IsKeyed arrival_cmp (λ x. arrival_of (T.row_of x)) result.now }
+    ensures all { IsKeyed arrival_cmp (λ x. arrival_of (T.row_of x)) list.now → (x : T)
+        → Contains result.now x
         ↔ (Contains list.now x × ((T.row_of x).key ≡ key.now)) }
 {
     let rows = of_app(list, &key.app);
@@ -45,11 +47,13 @@ pub(crate) fn of_key<'a, T: PlanRow>(list: &'a [T], key: &Key) -> &'a [T]
 
 // The rows of one application that arrive before the minute.
 pub(crate) fn before<'a, T: PlanRow>(rows: &'a [T], minute: u32) -> &'a [T]
-    ensures keyed { IsKeyed arrival_cmp (λ x. arrival_of (T.row_of x)) rows.now → IsKeyed arrival_cmp
-        (λ x. arrival_of (T.row_of x)) result.now }
-    ensures all { IsKeyed arrival_cmp (λ x. arrival_of (T.row_of x)) rows.now → HaveOneApp T.row_of rows.now
+    ensures keyed { IsKeyed arrival_cmp (λ x. arrival_of (T.row_of x)) rows.now
+        → IsKeyed arrival_cmp (λ x. arrival_of (T.row_of x)) result.now }
+    ensures all { IsKeyed arrival_cmp (λ x. arrival_of (T.row_of x)) rows.now
+        → HaveOneApp T.row_of rows.now
         → (x : T) → Contains result.now x ↔ (Contains rows.now x × ((T.row_of x).key.ia < minute)) }
-    ensures value { IsKeyed arrival_cmp (λ x. arrival_of (T.row_of x)) rows.now → HaveOneApp T.row_of rows.now
+    ensures value { IsKeyed arrival_cmp (λ x. arrival_of (T.row_of x)) rows.now
+        → HaveOneApp T.row_of rows.now
         → result.now ≡ filter (λ x. arrives_before minute (T.row_of x)) rows.now }
 {
     let count = rows.partition_point(|x| x.row().key.ia.number() < minute);
@@ -105,7 +109,8 @@ pub(crate) fn first_live(rows: &[CurrentRow]) -> Option<CurrentRow>
 
 // Whether an operator deleted one of these.
 pub(crate) fn has_operator(rows: &[Deletion]) -> bool
-    ensures { IsTrue result ↔ ((x : DeletionValue) × Contains rows.now x × (x.reason ≡ Reason.Operator)) }
+    ensures { IsTrue result ↔ ((x : DeletionValue) × Contains rows.now x
+        × (x.reason ≡ Reason.Operator)) }
 {
     rows.iter()
         .any(|deletion| deletion.reason == Reason::Operator)
@@ -146,9 +151,10 @@ pub(crate) fn arriving_before(
 
 // The rows of one application that arrive at that minute or after it.
 pub(crate) fn from_on<'a, T: PlanRow>(rows: &'a [T], first: u32) -> &'a [T]
-    ensures keyed { IsKeyed arrival_cmp (λ x. arrival_of (T.row_of x)) rows.now → IsKeyed arrival_cmp
-        (λ x. arrival_of (T.row_of x)) result.now }
-    ensures all { IsKeyed arrival_cmp (λ x. arrival_of (T.row_of x)) rows.now → HaveOneApp T.row_of rows.now
+    ensures keyed { IsKeyed arrival_cmp (λ x. arrival_of (T.row_of x)) rows.now
+        → IsKeyed arrival_cmp (λ x. arrival_of (T.row_of x)) result.now }
+    ensures all { IsKeyed arrival_cmp (λ x. arrival_of (T.row_of x)) rows.now
+        → HaveOneApp T.row_of rows.now
         → (x : T) → Contains result.now x ↔ (Contains rows.now x × (first ≤ (T.row_of x).key.ia)) }
     ensures value { IsKeyed arrival_cmp (λ x. arrival_of (T.row_of x)) rows.now
         → HaveOneApp T.row_of rows.now

@@ -77,29 +77,29 @@ pub trait PlanStore {
 
     /// An owned copy of the definitions.
     fn definitions(&mut self) -> Result<Definitions, StoreFault>
-        ensures { ReadsStore is_honest content failures may_leave is_clean is_whole self.old self.new result
-            (λ all. all ≡ (content self.old).definitions) };
+        ensures { ReadsStore is_honest content failures may_leave is_clean is_whole
+            self.old self.new result (λ all. all ≡ (content self.old).definitions) };
 
     /// How far the plans reach; `None` before the long-term plan is created.
     fn bounds(&mut self) -> Result<Option<Bounds>, StoreFault>
-        ensures { ReadsStore is_honest content failures may_leave is_clean is_whole self.old self.new result
-            (λ bounds. bounds ≡ (content self.old).sets.bounds) };
+        ensures { ReadsStore is_honest content failures may_leave is_clean is_whole
+            self.old self.new result (λ bounds. bounds ≡ (content self.old).sets.bounds) };
 
     /// An owned copy of the lists in force.
     fn links(&mut self) -> Result<Links, StoreFault>
-        ensures { ReadsStore is_honest content failures may_leave is_clean is_whole self.old self.new result
-            (λ links. links ≡ (content self.old).in_force) };
+        ensures { ReadsStore is_honest content failures may_leave is_clean is_whole
+            self.old self.new result (λ links. links ≡ (content self.old).in_force) };
 
     /// Lends a window that shows what the need names.
     fn read_window<'a>(&'a mut self, need: Need) -> Result<View<'a>, StoreFault>
-        ensures* { sem 𝓛 (LendsRead Self.row is_honest content failures may_leave is_clean is_whole self.old
-            self.entry result
+        ensures* { sem 𝓛 (LendsRead Self.row is_honest content failures may_leave is_clean is_whole
+            self.old self.entry result
             (λ view. Shows need view (content self.old))) };
 
     /// Lends the job that is kept under the number, if there is one.
     fn job<'a>(&'a mut self, number: u64) -> Result<Option<&'a Job>, StoreFault>
-        ensures* { sem 𝓛 (LendsRead Self.row is_honest content failures may_leave is_clean is_whole self.old
-            self.entry result
+        ensures* { sem 𝓛 (LendsRead Self.row is_honest content failures may_leave is_clean is_whole
+            self.old self.entry result
             (λ job. option_copied job ≡ (content self.old).jobs number)) };
 
     /// Hands the sink what a listing shows, in its order, of one application or of all, and answers how many items it
@@ -112,15 +112,16 @@ pub trait PlanStore {
         sink: &mut K,
     ) -> Result<usize, ListFault>
         ensures all { is_honest self.new → AreNumbered (content self.old).sets
-            → IfOk result (HandsAll K.takes (IsListing what (option_copied app.entry) (content self.old)) sink.old
-            sink.new) }
+            → IfOk result (HandsAll K.takes (IsListing what (option_copied app.entry)
+            (content self.old)) sink.old sink.new) }
         ensures part { is_honest self.new → AreNumbered (content self.old).sets
-            → IfErr result (HandsPart K.takes K.refuses (IsListing what (option_copied app.entry) (content self.old))
-            sink.old sink.new) }
+            → IfErr result (HandsPart K.takes K.refuses (IsListing what (option_copied app.entry)
+            (content self.old)) sink.old sink.new) }
         ensures same { is_honest self.new → content self.new ≡ content self.old }
-        ensures crash { is_honest self.new → (c : ContentValue) → may_leave self.new c → may_leave self.old c }
-        ensures blames { IfErr result (λ fault. fault ≡ ListFault.Device → MoreFailures (failures self.old)
-            (failures self.new) ⊎ (0 < failures self.old)) }
+        ensures crash { is_honest self.new → (c : ContentValue) → may_leave self.new c
+            → may_leave self.old c }
+        ensures blames { IfErr result (λ fault. fault ≡ ListFault.Device
+            → MoreFailures (failures self.old) (failures self.new) ⊎ (0 < failures self.old)) }
         ensures broken { 0 < failures self.old → result ≡ Err ListFault.Device }
         ensures counts { failures self.old ≤ failures self.new }
         ensures honest { is_honest self.new → is_honest self.old }
@@ -131,5 +132,6 @@ pub trait PlanStore {
     fn apply(&mut self, alloc: Global, change: Change) -> Result<(), StoreFault>
         requires fits { is_honest self.old → Fits change (content self.old) }
         requires sound { is_honest self.old → IsSound (after change (content self.old)) }
-        ensures { Applies is_honest content failures may_leave is_clean is_whole self.old self.new change result };
+        ensures { Applies is_honest content failures may_leave is_clean is_whole
+            self.old self.new change result };
 }

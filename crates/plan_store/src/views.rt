@@ -135,21 +135,24 @@ impl<'a> View<'a> {
 
     /// The rows of an application in the long-term plan.
     pub fn ltp_of(&self, app: &App) -> &'a [Row]
-        ensures { ListsSet of_row (shown self.now).sets.ltp (λ row. row.key.app ≡ app.now) result.now }
+        ensures { ListsSet of_row (shown self.now).sets.ltp (λ row. row.key.app
+            ≡ app.now) result.now }
     {
         of_app(self.ltp, app)
     }
 
     /// The rows of an application in the current plan.
     pub fn cp_of(&self, app: &App) -> &'a [CurrentRow]
-        ensures { ListsSet of_current (shown self.now).sets.cp (λ current. current.row.key.app ≡ app.now) result.now }
+        ensures { ListsSet of_current (shown self.now).sets.cp (λ current. current.row.key.app
+            ≡ app.now) result.now }
     {
         of_app(self.cp, app)
     }
 
     /// Of history the rows of an application that the need asks for.
     pub fn lasts_of(&self, app: &App) -> &'a [Row]
-        ensures { ListsSet of_row (shown self.now).sets.history (λ row. row.key.app ≡ app.now) result.now }
+        ensures { ListsSet of_row (shown self.now).sets.history (λ row. row.key.app
+            ≡ app.now) result.now }
     {
         of_app(self.lasts, app)
     }
@@ -157,8 +160,8 @@ impl<'a> View<'a> {
     /// The rows of the long-term plan that arrive before the moment, as a list of their own, which the change of a
     /// daily plan takes. Costs a few searches for each application, and what moves.
     pub fn ltp_before(&self, alloc: Global, moment: Moment) -> Result<Vec<Row>, AllocError>
-        ensures { IfOk result (λ rows. ListsSet of_row (shown self.now).sets.ltp (λ row. row.key.ia < moment)
-            rows.items) }
+        ensures { IfOk result (λ rows. ListsSet of_row (shown self.now).sets.ltp (λ row.
+            row.key.ia < moment) rows.items) }
     {
         let mut found = Vec::new(alloc);
         arriving_before(&mut found, self.ltp, moment)?;

@@ -191,7 +191,8 @@ impl<S: Alter + Drop> TableStore<S> {
         ensures honest { HasCleanDisk (state S.Store self.new.conn)
             → HasCleanDisk (state S.Store self.old.conn) }
         ensures ends_whole { OnOk result ((self.new.failures ≡ 0) × (self.new.in_doubt ≡ false)) }
-        ensures schema { KeepsSchema (state S.Store self.old.conn) (state S.Store self.new.conn) result }
+        ensures schema { KeepsSchema (state S.Store self.old.conn)
+            (state S.Store self.new.conn) result }
     {
         tables_have_one_content();
         fitting_changes_are_taken();
@@ -301,14 +302,15 @@ impl<S: Alter + Drop> PlanStore for TableStore<S> {
         sink: &mut K,
     ) -> Result<usize, ListFault>
         ensures all { AreNumbered (content_of self.old.lists).sets
-            → IfOk result (HandsAll K.takes (IsListing what (option_copied app.entry) (content_of self.old.lists))
-            sink.old sink.new) }
+            → IfOk result (HandsAll K.takes (IsListing what (option_copied app.entry)
+            (content_of self.old.lists)) sink.old sink.new) }
         ensures part { AreNumbered (content_of self.old.lists).sets
             → IfErr result (HandsPart K.takes K.refuses (IsListing what (option_copied app.entry)
             (content_of self.old.lists)) sink.old sink.new) }
         ensures kept { self.new ≡ self.old }
         ensures blames { IfErr result (λ fault. fault ≡ ListFault.Device → 0 < self.old.failures) }
-        ensures broken { 0 < self.old.failures → (result ≡ Err ListFault.Device) × (sink.new ≡ sink.old) }
+        ensures broken { 0 < self.old.failures → (result ≡ Err ListFault.Device)
+            × (sink.new ≡ sink.old) }
     {
         self.lists.has_listings();
         if self.failures > 0 {
@@ -334,7 +336,8 @@ impl<S: Alter + Drop> PlanStore for TableStore<S> {
             → IfErr result (λ fault. fault ≡ StoreFault.Device
             → ∥ HasFailed (state S.Store self.old.conn) (state S.Store self.new.conn)
             ⊎ ((state S.Store self.old.conn).is_open ≡ false) ∥₁) }
-        ensures schema { KeepsSchema (state S.Store self.old.conn) (state S.Store self.new.conn) result }
+        ensures schema { KeepsSchema (state S.Store self.old.conn)
+            (state S.Store self.new.conn) result }
     {
         let prepared = self.prepared(alloc, &change)?;
         self.make_sure()?;

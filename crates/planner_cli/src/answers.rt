@@ -28,7 +28,8 @@ pub(crate) fn print_answer(
     answer: &Answer,
 ) -> Result<Printed, AllocError>
     ensures { IfOk result (λ printed. (lines : List (List ℕ)) → rows.items ≡ flat_map ended lines
-        → Prints (record { rows = lines; line = answer_text answer.now }) printed.text.items printed.is_accepted) }
+        → Prints (record { rows = lines; line = answer_text answer.now })
+        printed.text.items printed.is_accepted) }
 {
     match answer {
         Ok(reply) => accepted(alloc, rows, reply),
@@ -43,7 +44,8 @@ pub(crate) fn refused(
     refusal: &Refusal,
 ) -> Result<Printed, AllocError>
     ensures { IfOk result (λ printed. (lines : List (List ℕ)) → rows.items ≡ flat_map ended lines
-        → Prints (record { rows = lines; line = refusal_text refusal.now }) printed.text.items printed.is_accepted) }
+        → Prints (record { rows = lines; line = refusal_text refusal.now })
+        printed.text.items printed.is_accepted) }
 {
     let mut text = rows;
     append_line(&mut text, &refusal_line(alloc, refusal)?)?;
@@ -58,7 +60,8 @@ ghost use Rattle.plan_listings.specs.Reply.{refusal_text, reply_text};
 /// What an accepted statement prints.
 pub(crate) fn accepted(alloc: Global, rows: Vec<u8>, reply: &Reply) -> Result<Printed, AllocError>
     ensures { IfOk result (λ printed. (lines : List (List ℕ)) → rows.items ≡ flat_map ended lines
-        → Prints (record { rows = lines; line = reply_text reply.now }) printed.text.items printed.is_accepted) }
+        → Prints (record { rows = lines; line = reply_text reply.now })
+        printed.text.items printed.is_accepted) }
 {
     let mut text = rows;
     append_line(&mut text, &reply_line(alloc, reply)?)?;
@@ -70,7 +73,8 @@ pub(crate) fn accepted(alloc: Global, rows: Vec<u8>, reply: &Reply) -> Result<Pr
 
 /// What an answer without rows prints.
 pub(crate) fn print_alone(alloc: Global, answer: &Answer) -> Result<Printed, StoreFault>
-    ensures prints { IfOk result (λ printed. Prints (answering answer.now) printed.text.items printed.is_accepted) }
+    ensures prints { IfOk result (λ printed.
+        Prints (answering answer.now) printed.text.items printed.is_accepted) }
     ensures err { IfErr result (λ fault. fault ≡ Memory) }
 {
     Ok(print_answer(alloc, Vec::new(alloc), answer)?)
@@ -78,7 +82,8 @@ pub(crate) fn print_alone(alloc: Global, answer: &Answer) -> Result<Printed, Sto
 
 /// What a line that is no statement prints.
 pub(crate) fn no_statement(alloc: Global) -> Result<Printed, StoreFault>
-    ensures prints { IfOk result (λ printed. Prints (refusing NotAStatement) printed.text.items printed.is_accepted) }
+    ensures prints { IfOk result (λ printed.
+        Prints (refusing NotAStatement) printed.text.items printed.is_accepted) }
     ensures err { IfErr result (λ fault. fault ≡ Memory) }
 {
     print_alone(alloc, &Err(Refusal::NotAStatement))

@@ -71,10 +71,13 @@ fn named_days(
     from: Day,
     to: Day,
 ) -> Result<Result<Vec<Named>, Refusal>, AllocError>
-    ensures listed { IfOk result (λ answer. IfOk answer (λ list. ListsDays all.now app.now from to list.items)) }
-    ensures good { IfOk result (λ answer. OnOk answer ((c : Content) → c.definitions ≡ all.now → (r : RefusalValue)
+    ensures listed { IfOk result (λ answer.
+        IfOk answer (λ list. ListsDays all.now app.now from to list.items)) }
+    ensures good { IfOk result (λ answer. OnOk answer ((c : Content) → c.definitions ≡ all.now
+        → (r : RefusalValue)
         → ¬ (DaysRefused app.now from to c r))) }
-    ensures refused { IfOk result (λ answer. IfErr answer (λ r. (c : Content) → c.definitions ≡ all.now
+    ensures refused { IfOk result (λ answer. IfErr answer (λ r. (c : Content)
+        → c.definitions ≡ all.now
         → IsLeastRefusal (DaysRefused app.now from to c) r)) }
 {
     let application = match application_for(all, app, from, to) {
@@ -129,7 +132,8 @@ fn missing_definition(all: &Definitions, app: &App, application: &Application) -
     requires { IsActive all.now app.now application.now }
     ensures some { IfSome result (λ r. (c : Content) → c.definitions ≡ all.now → (from to : ℕ)
         → IsLeastRefusal (DaysRefused app.now from to c) r) }
-    ensures none { IfNone result ((¬ (LacksCalendar all.now application.now)) × ¬ (LacksPeriod all.now app.now)) }
+    ensures none { IfNone result ((¬ (LacksCalendar all.now application.now))
+        × ¬ (LacksPeriod all.now app.now)) }
 {
     if lacks_calendar(all, application) {
         return Some(Refusal::CalendarUndefined { app: *app });

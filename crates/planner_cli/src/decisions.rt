@@ -64,7 +64,8 @@ pub(crate) fn need_of_daily(bounds: Option<Bounds>, function: &DailyFunction) ->
 
 /// The verdict on a change.
 pub(crate) fn decide(alloc: Global, view: &View<'_>, job: JobChange) -> Result<Verdict, AllocError>
-    ensures { IfOk result (λ verdict. (c : Content) → Shows (need_of c.sets.bounds job) view.now c → IsSound c
+    ensures { IfOk result (λ verdict. (c : Content) → Shows (need_of c.sets.bounds job) view.now c
+        → IsSound c
         → VerdictIs (decision_of (job_change job)) c verdict) }
 {
     match job {
@@ -79,7 +80,8 @@ fn decide_change(
     view: &View<'_>,
     change: &ChangeStatement,
 ) -> Result<Verdict, AllocError>
-    ensures { IfOk result (λ verdict. (c : Content) → Shows (need_of_change c.sets.bounds change.now) view.now c
+    ensures { IfOk result (λ verdict. (c : Content)
+        → Shows (need_of_change c.sets.bounds change.now) view.now c
         → IsSound c → VerdictIs (decision_of (change_of change.now)) c verdict) }
 {
     match change {
@@ -120,7 +122,8 @@ pub(crate) fn decide_daily(
     view: &View<'_>,
     function: &DailyFunction,
 ) -> Result<Verdict, AllocError>
-    ensures { IfOk result (λ verdict. (c : Content) → Shows (need_of_daily c.sets.bounds function.now) view.now c
+    ensures { IfOk result (λ verdict. (c : Content)
+        → Shows (need_of_daily c.sets.bounds function.now) view.now c
         → IsSound c → VerdictIs (decision_of (daily_change function.now)) c verdict) }
 {
     match function {

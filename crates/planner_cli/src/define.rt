@@ -25,7 +25,8 @@ pub(crate) fn define(alloc: Global, block: Block) -> Verdict
 
 /// `undefine`: the definition of the name is taken away. Refused where there is none (13).
 pub(crate) fn undefine(alloc: Global, view: &View<'_>, kind: Kind, name: &Name) -> Verdict
-    ensures { (c : Content) → Shows need.Definitions view.now c → VerdictIs (decided.undefine kind name.now) c result }
+    ensures { (c : Content) → Shows need.Definitions view.now c
+        → VerdictIs (decided.undefine kind name.now) c result }
 {
     if !is_defined(view.definitions(), kind, name) {
         return Verdict::Refused(Refusal::NotDefined);

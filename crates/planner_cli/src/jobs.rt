@@ -126,10 +126,12 @@ fn settle<S: PlanStore>(
     verdict: Verdict,
 ) -> Result<Printed, StoreFault>
     requires fits { S.is_honest store.old → FitsVerdict verdict (S.content store.old) }
-    requires sound { S.is_honest store.old → IsSound (job_left number text verdict (S.content store.old)) }
+    requires sound { S.is_honest store.old
+        → IsSound (job_left number text verdict (S.content store.old)) }
     requires new { S.is_honest store.old → (S.content store.old).jobs number ≡ None }
     ensures { AnswersBy S.PlanStore store.old store.new result (λ reply c.
-        (c ≡ job_left number text verdict (S.content store.old)) × (reply ≡ answering (answer_in verdict))) }
+        (c ≡ job_left number text verdict (S.content store.old))
+        × (reply ≡ answering (answer_in verdict))) }
 {
     let (mut change, answer) = parts_of(alloc, verdict);
     let printed = print_alone(alloc, &answer)?;

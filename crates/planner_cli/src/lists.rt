@@ -46,8 +46,10 @@ impl<W: Write> RowSink for LineSink<'_, W> {
 
 // Writes the line of an item.
 fn write_item<W: Write>(writer: &mut W, item: Item<'_>) -> Result<(), Cause>
-    ensures ok { OnOk result (TakesLine (W.contents writer.old) (item_shown item.entry) (W.contents writer.new)) }
-    ensures front { OnErr result (TakesFront (W.contents writer.old) (item_shown item.entry) (W.contents writer.new)) }
+    ensures ok { OnOk result (TakesLine (W.contents writer.old) (item_shown item.entry)
+        (W.contents writer.new)) }
+    ensures front { OnErr result (TakesFront (W.contents writer.old) (item_shown item.entry)
+        (W.contents writer.new)) }
 {
     match item {
         Item::Plan(row) => write_line(writer, &row_line(row)),
@@ -66,7 +68,8 @@ fn write_item<W: Write>(writer: &mut W, item: Item<'_>) -> Result<(), Cause>
 // Writes a line and the line feed that ends it.
 #[tactic(auto, unfolding(crate::specs::Replies::ended))]
 fn write_line<W: Write>(writer: &mut W, line: &[u8]) -> Result<(), Cause>
-    ensures ok { OnOk result (Appends (W.contents writer.old) (W.contents writer.new) (ended line.now)) }
+    ensures ok { OnOk result (Appends (W.contents writer.old) (W.contents writer.new)
+        (ended line.now)) }
     ensures front { OnErr result ((front : List ℕ) × IsFrontOf front (ended line.now)
         × Appends (W.contents writer.old) (W.contents writer.new) front) }
 {
@@ -83,12 +86,15 @@ fn write_lines<S: PlanStore, W: Write>(
     writer: &mut W,
 ) -> Result<usize, ListFault>
     requires { S.is_honest store.old → IsSound (S.content store.old) }
-    ensures all { S.is_honest store.new → IfOk result (WritesAll (IsListing what (option_copied app.entry)
+    ensures all { S.is_honest store.new
+        → IfOk result (WritesAll (IsListing what (option_copied app.entry)
         (S.content store.old)) (W.contents writer.old) (W.contents writer.new)) }
-    ensures part { S.is_honest store.new → IfErr result (WritesPart (IsListing what (option_copied app.entry)
+    ensures part { S.is_honest store.new
+        → IfErr result (WritesPart (IsListing what (option_copied app.entry)
         (S.content store.old)) (W.contents writer.old) (W.contents writer.new)) }
     ensures same { S.is_honest store.new → S.content store.new ≡ S.content store.old }
-    ensures crash { S.is_honest store.new → (c : Content) → S.may_leave store.new c → S.may_leave store.old c }
+    ensures crash { S.is_honest store.new → (c : Content) → S.may_leave store.new c
+        → S.may_leave store.old c }
     ensures blames { IfErr result (λ fault. fault ≡ list_fault.Device
         → IsBlamed (S.failures store.old) (S.failures store.new)) }
     ensures counts { S.failures store.old ≤ S.failures store.new }

@@ -75,12 +75,14 @@ fn answer_all<S: PlanStore, R: BufRead, W: Write>(
     requires { S.is_honest store.old → IsSound (S.content store.old) }
     ensures ran { S.is_honest store.new → IfOk result (Ran Step (ends_of (S.content store.old)
         (S.content store.new) (W.contents writer.old) (W.contents writer.new) (R.remaining reader.old))) }
-    ensures fault { S.is_honest store.new → IfErr result (Stopped Step (λ _. []) (ends_of (S.content store.old)
+    ensures fault { S.is_honest store.new
+        → IfErr result (Stopped Step (λ _. []) (ends_of (S.content store.old)
         (S.content store.new) (W.contents writer.old) (W.contents writer.new) (R.remaining reader.old))) }
     ensures settled { S.is_honest store.new → LeavesOwn S.PlanStore store.old
         → OnOk result (LeavesOwn S.PlanStore store.new) }
     ensures crash { S.is_honest store.new → LeavesOwn S.PlanStore store.old → IfErr result (λ fault.
-        (c : Content) → S.may_leave store.new c → Crashed Step (λ _. []) (ends_of (S.content store.old)
+        (c : Content) → S.may_leave store.new c
+        → Crashed Step (λ _. []) (ends_of (S.content store.old)
         (S.content store.new) (W.contents writer.old) (W.contents writer.new) (R.remaining reader.old)) fault c) }
     ensures blames { IfErr result (λ fault. cause_of fault ≡ Device Store
         → IsBlamed (S.failures store.old) (S.failures store.new)) }

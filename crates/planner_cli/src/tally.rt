@@ -25,8 +25,10 @@ impl Tally {
 
     /// Counts one more reply.
     pub fn count(&mut self, is_accepted: bool)
-        ensures accepted { self.new.accepted ≡ u64_saturate (self.old.accepted + (if is_accepted then 1 else 0)) }
-        ensures refused { self.new.refused ≡ u64_saturate (self.old.refused + (if is_accepted then 0 else 1)) }
+        ensures accepted { self.new.accepted
+            ≡ u64_saturate (self.old.accepted + (if is_accepted then 1 else 0)) }
+        ensures refused { self.new.refused
+            ≡ u64_saturate (self.old.refused + (if is_accepted then 0 else 1)) }
     {
         let Tally { accepted, refused } = *self;
         *self = if is_accepted {

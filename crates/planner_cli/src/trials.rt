@@ -60,8 +60,10 @@ fn plan_trial(
 
 // What a trial prints of the verdict on a change of the long-term plan.
 fn print_plan(alloc: Global, verdict: &Verdict) -> Result<Printed, AllocError>
-    ensures { IfOk result (λ printed. (function : PlanValue) (c : Content) → IsWellFormed (plan_change function) → IsSound c
-        → VerdictIs (decision_of (plan_change function)) c verdict.now → PrintsTrial (plan_change function) c printed) }
+    ensures { IfOk result (λ printed. (function : PlanValue) (c : Content)
+        → IsWellFormed (plan_change function) → IsSound c
+        → VerdictIs (decision_of (plan_change function)) c verdict.now
+        → PrintsTrial (plan_change function) c printed) }
 {
     fate_is_followed();
     sound_content_stays_sound();
@@ -110,7 +112,8 @@ fn daily_trial(
     view: &View<'_>,
     function: &DailyFunction,
 ) -> Result<Printed, AllocError>
-    ensures { IfOk result (λ printed. (c : Content) → Shows (need_of_daily c.sets.bounds function.now) view.now c
+    ensures { IfOk result (λ printed. (c : Content)
+        → Shows (need_of_daily c.sets.bounds function.now) view.now c
         → IsSound c → PrintsTrial (daily_change function.now) c printed) }
 {
     let verdict = decide_daily(alloc, view, function)?;
@@ -125,7 +128,8 @@ fn print_daily(
 ) -> Result<Printed, AllocError>
     ensures { IfOk result (λ printed. (function : DailyValue) (c : Content) → IsSound c
         → ListsSet of_current c.sets.cp IsAny current.now
-        → VerdictIs (decision_of (daily_change function)) c verdict.now → PrintsTrial (daily_change function) c printed) }
+        → VerdictIs (decision_of (daily_change function)) c verdict.now
+        → PrintsTrial (daily_change function) c printed) }
 {
     fate_is_followed();
     sound_content_stays_sound();
@@ -140,7 +144,8 @@ fn print_daily(
 
 // The rows of a trial of a daily plan that moves these rows into the current plan.
 fn daily_rows(alloc: Global, current: &[CurrentRow], moved: &[Row]) -> Result<Vec<u8>, AllocError>
-    ensures { IfOk result (λ text. IsReport (map daily_signed (daily_changes moved.now current.now)) text.items) }
+    ensures { IfOk result (λ text.
+        IsReport (map daily_signed (daily_changes moved.now current.now)) text.items) }
 {
     let carried = carried_rows(alloc, current)?;
     let completed = completed_rows(alloc, current)?;
@@ -150,7 +155,8 @@ fn daily_rows(alloc: Global, current: &[CurrentRow], moved: &[Row]) -> Result<Ve
 
 // The rows of the current plan that are neither complete nor deleted, each with its status.
 fn carried_rows(alloc: Global, rows: &[CurrentRow]) -> Result<Vec<(Row, Status)>, AllocError>
-    ensures { IfOk result (λ found. found.items ≡ map (λ (current : CurrentRowValue). (current.row, current.status))
+    ensures { IfOk result (λ found. found.items
+        ≡ map (λ (current : CurrentRowValue). (current.row, current.status))
         (filter (λ (current : CurrentRowValue). is_uncompleted current.status) rows.now)) }
 {
     rows.iter()

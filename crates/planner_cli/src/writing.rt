@@ -48,7 +48,8 @@ pub(crate) fn write_answer<W: Write>(
     answered: Result<Printed, StoreFault>,
 ) -> Result<bool, Cause>
     ensures ok { IfOk result (IsWritten answered (W.contents writer.old) (W.contents writer.new)) }
-    ensures err { IfErr result (IsUnwritten answered (W.contents writer.old) (W.contents writer.new)) }
+    ensures err { IfErr result (IsUnwritten answered (W.contents writer.old)
+        (W.contents writer.new)) }
 {
     let printed = match answered {
         Ok(printed) => printed,

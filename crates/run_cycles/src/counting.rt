@@ -21,7 +21,8 @@ pub(crate) fn any_offset_has_place(
 ) -> bool
     requires { IsIntervalLength interval }
     ensures { IsTrue result
-        ↔ Any (λ k. IsCountedDay (Work origin interval) (offset_of k) (is_work_in index.now) day) offsets.now }
+        ↔ Any (λ k. IsCountedDay (Work origin interval) (offset_of k)
+        (is_work_in index.now) day) offsets.now }
 {
     if !index.is_work(day) || day < origin {
         return false;
@@ -62,7 +63,8 @@ pub(crate) fn any_offset_counts(
 ) -> bool
     requires { IsSoundPeriod period.now }
     ensures { IsTrue result
-        ↔ Any (λ k. IsCountedInInterval period.now (offset_of k) (is_work_in index.now) day) offsets.now }
+        ↔ Any (λ k. IsCountedInInterval period.now (offset_of k)
+        (is_work_in index.now) day) offsets.now }
 {
     any_interval_counts(Intervals::new(period, day, day), offsets, index, day)
 }
@@ -75,8 +77,8 @@ fn any_interval_counts(
     day: Day,
 ) -> bool
     ensures { IsTrue result
-        ↔ Any (λ i. Any (λ k. IsWorkDayAt (is_work_in index.now) (offset_of k) i.first i.last day) offsets.now)
-        intervals.entry.left }
+        ↔ Any (λ i. Any (λ k. IsWorkDayAt (is_work_in index.now)
+        (offset_of k) i.first i.last day) offsets.now) intervals.entry.left }
 {
     intervals.any(|interval| any_counts_in(offsets, &interval, index, day))
 }
@@ -84,8 +86,8 @@ fn any_interval_counts(
 // Whether one of the offsets counts the day among the work days of the interval.
 fn any_counts_in(offsets: &[i16], interval: &Interval, index: &WorkIndex, day: Day) -> bool
     ensures { IsTrue result
-        ↔ Any (λ k. IsWorkDayAt (is_work_in index.now) (offset_of k) interval.now.first interval.now.last day)
-        offsets.now }
+        ↔ Any (λ k. IsWorkDayAt (is_work_in index.now)
+        (offset_of k) interval.now.first interval.now.last day) offsets.now }
 {
     if !index.is_work(day) || !holds(interval, day) {
         return false;
@@ -108,7 +110,8 @@ fn holds(interval: &Interval, day: Day) -> bool
 
 // How many work days there are up to the last day, if there is one.
 fn up_to(index: &WorkIndex, last: Option<Day>) -> Option<usize>
-    ensures { result ≡ option_map (λ last. work_days_before (is_work_in index.now) (last + 1)) last }
+    ensures { result ≡ option_map (λ last. work_days_before (is_work_in index.now)
+        (last + 1)) last }
 {
     match last {
         Some(last) => Some(rank_after(index, last)),
@@ -138,7 +141,8 @@ fn any_has_count(
 ) -> bool
     requires before { before < 2 ^ 32 }
     requires before_first { before_first < 2 ^ 32 }
-    ensures { IsTrue result ↔ Any (λ k. HasCount (offset_of k) before before_first up_to_last) offsets.now }
+    ensures { IsTrue result ↔ Any (λ k.
+        HasCount (offset_of k) before before_first up_to_last) offsets.now }
 {
     offsets.iter().any(|offset| has_count(*offset, before, before_first, up_to_last))
 }

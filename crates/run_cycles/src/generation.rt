@@ -71,7 +71,8 @@ fn decided(namings: &[Naming], place: usize) -> Option<Named>
 fn all_decided(alloc: Global, namings: &[Naming]) -> Result<Vec<Named>, AllocError>
     requires planned { All (λ x. x.day ≤ last_kept_day) namings.now }
     requires order { InOrder namings.now }
-    ensures { IfOk result (λ list. ListsInOrder (IsDecidedBefore namings.now (length namings.now)) list.items) }
+    ensures { IfOk result (λ list.
+        ListsInOrder (IsDecidedBefore namings.now (length namings.now)) list.items) }
 {
     let mut list = Vec::new(alloc);
     for place in 0..namings.len() {
@@ -99,7 +100,8 @@ pub fn generate(
     requires names { HaveOwnNames cycles.now }
     requires planned { to ≤ last_kept_day }
     ensures { IfOk result
-        (λ list. ListsOccurrences cycles.now periods.now (is_work_in index.now) from to list.items) }
+        (λ list. ListsOccurrences cycles.now periods.now
+        (is_work_in index.now) from to list.items) }
 {
     let namings = all_namings(alloc, cycles, periods, index, from, to)?;
     let list = all_decided(alloc, &namings)?;

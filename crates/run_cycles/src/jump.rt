@@ -68,7 +68,8 @@ fn offsets_within(alloc: Global, offsets: &[i16], reach: u16) -> Result<Vec<i16>
 // rule makes of the day of that number.
 fn day_of_place(index: &mut CountedIndex, rule: Rule, place: usize) -> Option<Day>
     ensures found { IfSome result (λ d. GivesPlace rule (is_work_in index.old.statuses) place d) }
-    ensures only { (d : ℕ) → GivesPlace rule (is_work_in index.old.statuses) place d → result ≡ Some d }
+    ensures only { (d : ℕ) → GivesPlace rule (is_work_in index.old.statuses) place d
+        → result ≡ Some d }
     ensures asked { AsksAtMost (questions_of rule) index.old index.new }
 {
     match rule {
@@ -81,7 +82,8 @@ fn day_of_place(index: &mut CountedIndex, rule: Rule, place: usize) -> Option<Da
 fn shifted(index: &mut CountedIndex, rule: Rule, number: usize) -> Option<Day>
     requires { ¬ (rule ≡ WorkDaysOnly) }
     ensures found { IfSome result (λ d. GivesPlace rule (is_work_in index.old.statuses) number d) }
-    ensures only { (d : ℕ) → GivesPlace rule (is_work_in index.old.statuses) number d → result ≡ Some d }
+    ensures only { (d : ℕ) → GivesPlace rule (is_work_in index.old.statuses) number d
+        → result ≡ Some d }
     ensures asked { AsksAtMost 2 index.old index.new }
 {
     if number > Day::LAST.number() as usize {
@@ -151,7 +153,8 @@ fn push_days(
         (IsInWindow window.now.low window.now.high
         (IsGivenAt rule (is_work_in index.old.statuses) start end) offsets.now)
         days.old.items days.new.items) }
-    ensures asked { OnOk result (AsksAtMost (length offsets.now * questions_of rule) index.old index.new) }
+    ensures asked { OnOk result
+        (AsksAtMost (length offsets.now * questions_of rule) index.old index.new) }
 {
     for offset in offsets {
         push_day(days, index, rule, window, *offset, start, end)?;
@@ -243,7 +246,8 @@ fn push_intervals(
         (GivesInMet period.now rule (is_work_in index.old.statuses) low high) offsets.now)
         days.old.items days.new.items) }
     ensures visited { IfOk result (λ visited. VisitsFew period.now low high visited) }
-    ensures asked { IfOk result (λ visited. AsksAtMost (visited * (2 * length offsets.now + 2)) index.old index.new) }
+    ensures asked { IfOk result (λ visited.
+        AsksAtMost (visited * (2 * length offsets.now + 2)) index.old index.new) }
 {
     let mut intervals = Intervals::new(period, low, high);
     while let Some(interval) = next_met(&mut intervals) {
@@ -254,7 +258,8 @@ fn push_intervals(
 
 // The next interval of the walk.
 fn next_met(intervals: &mut Intervals) -> Option<Interval>
-    ensures step { MatchOption result (intervals.old.left ≡ []) (λ x. intervals.old.left ≡ x ∷ intervals.new.left) }
+    ensures step { MatchOption result (intervals.old.left ≡ []) (λ x. intervals.old.left
+        ≡ x ∷ intervals.new.left) }
     ensures goes_on { GoesOn intervals.old result intervals.new }
 {
     intervals.next()
@@ -278,8 +283,8 @@ fn push_work_intervals(
     requires high { window.now.high ≤ to + 1 }
     ensures days { OnOk result (AddsDays
         (IsInWindow window.now.low window.now.high
-        (λ k d. IsCountedDay (WorkPeriod origin interval) k (is_work_in index.old.statuses) d) offsets.now)
-        days.old.items days.new.items) }
+        (λ k d. IsCountedDay (WorkPeriod origin interval) k
+        (is_work_in index.old.statuses) d) offsets.now) days.old.items days.new.items) }
     ensures statuses { OnOk result (index.new.statuses ≡ index.old.statuses) }
 {
     let length = usize::from(interval);
@@ -370,7 +375,11 @@ impl<'a> Model for JumpDays<'a> {
 
     ghost Value = { Jump };
 
-    ghost view = { λ j. record { left = drop j.given j.days.items; visited = j.visited; asked = j.index.asked } };
+    ghost view = { λ j. record {
+      left = drop j.given j.days.items;
+      visited = j.visited;
+      asked = j.index.asked;
+    } };
 }
 
 impl<'a> JumpDays<'a> {
@@ -389,11 +398,14 @@ impl<'a> JumpDays<'a> {
     ) -> Result<JumpDays<'a>, AllocError>
         requires { IsSoundPeriod period.now }
         ensures lists { IfOk result
-            (λ j. ListsNamedDays cycle.now period.now (is_work_in index.entry.statuses) from to j.left) }
+            (λ j. ListsNamedDays cycle.now period.now
+            (is_work_in index.entry.statuses) from to j.left) }
         ensures visited { IfOk result
-            (λ j. WalksRawRange period.now cycle.now.rule (is_work_in index.entry.statuses) from to j.visited) }
+            (λ j. WalksRawRange period.now cycle.now.rule
+            (is_work_in index.entry.statuses) from to j.visited) }
         ensures asked { IfOk result
-            (λ j. index.entry.asked ≡ 0 → AsksFew period.now j.visited (length cycle.now.offsets) j.asked) }
+            (λ j. index.entry.asked ≡ 0
+            → AsksFew period.now j.visited (length cycle.now.offsets) j.asked) }
     {
         let mut index = index;
         let mut days = Vec::new(alloc);
@@ -463,7 +475,8 @@ impl<'a> Iterator for JumpDays<'a> {
 
     fn next(&mut self) -> Option<Day>
         ensures steps { YieldsFirst (λ j. j.left) self.old result self.new }
-        ensures goes { MakesProgress (λ (_ : Jump). ⊤) (item_count (λ j. j.left)) self.old result self.new }
+        ensures goes { MakesProgress (λ (_ : Jump). ⊤)
+            (item_count (λ j. j.left)) self.old result self.new }
         ensures keeps { KeepsCounts self.old self.new }
     {
         if self.given >= self.days.len() {

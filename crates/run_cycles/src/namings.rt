@@ -83,7 +83,8 @@ fn given_by(cycle: &RunCycle) -> Option<Given>
 
 // What the run cycle names, where these are its days.
 fn namings_on<'a>(days: JumpDays<'a>, cycle: &RunCycle) -> Namings<'a>
-    ensures { result ≡ map (naming_on cycle.now.ia (given_by cycle.now.kind cycle.now.name)) days.entry.left }
+    ensures { result ≡ map (naming_on cycle.now.ia
+        (given_by cycle.now.kind cycle.now.name)) days.entry.left }
 {
     let given = given_by(cycle);
     let time = cycle.ia;
@@ -119,9 +120,11 @@ fn push_namings<'a>(
     to: Day,
 ) -> Result<(), AllocError>
     ensures each { OnOk result
-        (AddsNamings (λ x. (from ≤ x.day) × (x.day ≤ to) × IsNamingOf periods.now (is_work_in index.now) x cycle.now)
+        (AddsNamings (λ x. (from ≤ x.day) × (x.day ≤ to)
+        × IsNamingOf periods.now (is_work_in index.now) x cycle.now)
         sources.old.items sources.new.items) }
-    ensures rising { OnOk result (All RisesByDay sources.old.items → All RisesByDay sources.new.items) }
+    ensures rising { OnOk result (All RisesByDay sources.old.items
+        → All RisesByDay sources.new.items) }
 {
     if let Some(period) = periods.get(&cycle.period) {
         sources.push(namings_of(alloc, cycle, period, index, from, to)?)?;
@@ -153,7 +156,8 @@ fn sources<'a>(
 fn merged(alloc: Global, sources: Vec<Namings>) -> Result<Vec<Naming>, AllocError>
     requires { All RisesByDay sources.items }
     ensures each { IfOk result
-        (λ list. (x : Naming) → Contains list.items x ↔ Any (λ source. Contains source x) sources.entry.items) }
+        (λ list. (x : Naming) → Contains list.items x
+        ↔ Any (λ source. Contains source x) sources.entry.items) }
     ensures order { IfOk result (λ list. InOrder list.items) }
 {
     let merge = sources.into_iter().kmerge(alloc)?;

@@ -15,7 +15,8 @@ use work_calendars::{Day, WorkIndex};
 pub(crate) fn raw_days_of(rule: Rule, index: &WorkIndex, day: Day) -> Option<(Day, Day)>
     ensures none { IfNone result ((x : ℕ) → ¬ (IsShifted rule (is_work_in index.now) x day)) }
     ensures some { IfSome result
-        (λ r. (x : ℕ) → IsDay x → (IsShifted rule (is_work_in index.now) x day ↔ ((r.0 ≤ x) × (x ≤ r.1)))) }
+        (λ r. (x : ℕ) → IsDay x → (IsShifted rule (is_work_in index.now) x day
+        ↔ ((r.0 ≤ x) × (x ≤ r.1)))) }
 {
     if rule == Rule::Same {
         return Some((day, day));
@@ -46,7 +47,8 @@ fn day_before_next_work(index: &WorkIndex, day: Day) -> Day
 fn day_after_last_work(index: &WorkIndex, day: Day) -> Day
     ensures to { result ≤ day }
     ensures free { (x : ℕ) → result ≤ x → x < day → IsFalse (is_work_in index.now x) }
-    ensures last { (x : ℕ) → IsDay x → x < result → (e : ℕ) × (e + 1 ≡ result) × IsTrue (is_work_in index.now e) }
+    ensures last { (x : ℕ) → IsDay x → x < result → (e : ℕ) × (e + 1 ≡ result)
+        × IsTrue (is_work_in index.now e) }
 {
     match index.prev_work(day) {
         Some(last) => Day::from_number(last.number() + 1).unwrap(),
@@ -57,7 +59,8 @@ fn day_after_last_work(index: &WorkIndex, day: Day) -> Day
 /// Whether some day from `low` to `high` is the raw day of one of the offsets.
 pub(crate) fn any_raw_day(offsets: &[i16], period: &Period, low: Day, high: Day) -> bool
     requires { IsSoundPeriod period.now }
-    ensures { IsTrue result ↔ Any (λ k. IsRawDayWithin low high period.now (offset_of k)) offsets.now }
+    ensures { IsTrue result ↔ Any (λ k. IsRawDayWithin low high period.now
+        (offset_of k)) offsets.now }
 {
     any_interval_has_day(Intervals::new(period, low, high), offsets, low, high)
 }
@@ -65,7 +68,8 @@ pub(crate) fn any_raw_day(offsets: &[i16], period: &Period, low: Day, high: Day)
 // Whether some day from `low` to `high` is at one of the offsets of one of the intervals.
 fn any_interval_has_day(mut intervals: Intervals, offsets: &[i16], low: Day, high: Day) -> bool
     ensures { IsTrue result
-        ↔ Any (λ i. Any (λ k. IsDayAtWithin low high (offset_of k) i.first i.last) offsets.now) intervals.entry.left }
+        ↔ Any (λ i. Any (λ k. IsDayAtWithin low high
+        (offset_of k) i.first i.last) offsets.now) intervals.entry.left }
 {
     intervals.any(|interval| any_day_at(offsets, interval, low, high))
 }
@@ -82,7 +86,8 @@ fn any_day_at(offsets: &[i16], interval: Interval, low: Day, high: Day) -> bool
 
 // Whether some day from `low` to `high` is at the offset of the interval.
 fn is_day_at_within(offset: i16, interval: Interval, low: Day, high: Day) -> bool
-    ensures { IsTrue result ↔ IsDayAtWithin low high (offset_of offset) interval.first interval.last }
+    ensures { IsTrue result ↔ IsDayAtWithin low high
+        (offset_of offset) interval.first interval.last }
 {
     match place_at(
         offset,

@@ -27,7 +27,8 @@ impl Form<'_> {
         alloc: Global,
         words: &'a [&'a str],
     ) -> Result<Option<Values<'a>>, AllocError>
-        ensures { IfOk result (λ values. values ≡ reading_of (layout_of self.now) (texts words.now)) }
+        ensures { IfOk result (λ values. values ≡ reading_of (layout_of self.now)
+            (texts words.now)) }
     {
         if has_stray(words) {
             return Ok(None);

@@ -4,5 +4,6 @@ ghost use Rattle.statement_words.specs.Written.{IsReading};
 
 /// A list of words is read as the uses that it writes out one after another, and as no others.
 pub fn reads_what_is_written()
-    ensures { (l : Layout) (words : List Text) (us : List Use) → (reading_of l words ≡ Some us) ↔ IsReading l words us }
+    ensures { (l : Layout) (words : List Text) (us : List Use) → (reading_of l words ≡ Some us)
+        ↔ IsReading l words us }
 {}

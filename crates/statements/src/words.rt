@@ -60,7 +60,8 @@ impl FunctionWord {
     /// The function that the word names.
     pub fn from_text(text: &str) -> Option<FunctionWord>
         ensures some { IfSome result (λ function. text.now ≡ function_text function) }
-        ensures none { IfNone result ((function : FunctionWord) → text.now ≢ function_text function) }
+        ensures none { IfNone result ((function : FunctionWord)
+            → text.now ≢ function_text function) }
     {
         match text {
             "create" => Some(FunctionWord::Create),

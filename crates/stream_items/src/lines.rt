@@ -89,7 +89,8 @@ pub fn read_line<R: BufRead>(
     all: &mut Vec<u8>,
     all_limit: usize,
 ) -> Result<bool, ReadFault>
-    ensures some { IfOk result (λ any. IfSome (R.remaining reader.old) (λ xs. IsTrue any ↔ (0 < length xs))) }
+    ensures some { IfOk result (λ any. IfSome (R.remaining reader.old) (λ xs. IsTrue any
+        ↔ (0 < length xs))) }
     ensures rest { OnOk result (DropsThrough (R.remaining reader.old) (R.remaining reader.new) 10) }
     ensures head { OnOk result (IfSome (R.remaining reader.old)
         (λ xs. head.new.items ≡ kept head_limit head.old.items (take_through 10 xs))) }

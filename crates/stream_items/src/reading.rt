@@ -74,8 +74,10 @@ impl Page {
         requires { self.old.held ≡ Held.Nothing }
         ensures part { IfOk result (λ held. IfSome (R.remaining reader.old) (λ text.
             PartRead text (item_held held self.new.line.items self.new.block.items) (R.remaining reader.new))) }
-        ensures end { result ≡ Ok Held.Nothing → IfSome (R.remaining reader.old) (λ text. text ≡ []) }
-        ensures fits { result ≡ Ok (Held.WithBlock Ending.Whole) → length self.new.block.items ≤ longest_block }
+        ensures end { result ≡ Ok Held.Nothing → IfSome (R.remaining reader.old) (λ text. text
+            ≡ []) }
+        ensures fits { result ≡ Ok (Held.WithBlock Ending.Whole)
+            → length self.new.block.items ≤ longest_block }
         ensures nothing_held { self.new.held ≡ Held.Nothing }
     {
         self.line.clear();

@@ -159,7 +159,8 @@ pub(crate) fn optional_day_at(row: &Row, at: usize) -> Option<Option<Day>>
 
 /// The limit of the hours in the column, or no limit where it has NULL.
 pub(crate) fn optional_limit_at(row: &Row, at: usize) -> Option<Option<Within>>
-    ensures value { IfSome result (λ hours. column row.now at ≡ or_null (option_map natural hours)) }
+    ensures value { IfSome result (λ hours. column row.now at
+        ≡ or_null (option_map natural hours)) }
     ensures found { (hours : Option ℕ) → IfSome hours IsWithinHours
         → column row.now at ≡ or_null (option_map natural hours)
         → result ≡ Some hours }

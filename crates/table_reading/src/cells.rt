@@ -136,7 +136,8 @@ pub(crate) fn origin_at(cells: &Cells, at: usize) -> Option<Origin>
 // The hours of a limit in the cell, if it holds such.
 fn hours_at(cells: &Cells, at: usize) -> Option<Within>
     ensures value { IfSome result (λ hours. column cells.now at ≡ natural hours) }
-    ensures none { result ≡ None → (hours : ℕ) → IsWithinHours hours → column cells.now at ≡ natural hours
+    ensures none { result ≡ None → (hours : ℕ) → IsWithinHours hours → column cells.now at
+        ≡ natural hours
         → ⊥ }
 {
     Within::from_hours(number_at(cells, at)?)
@@ -144,7 +145,8 @@ fn hours_at(cells: &Cells, at: usize) -> Option<Within>
 
 /// The limit in the cell: its hours, or none.
 pub(crate) fn limit_at(cells: &Cells, at: usize) -> Option<Option<Within>>
-    ensures value { IfSome result (λ within. column cells.now at ≡ or_null (option_map natural within)) }
+    ensures value { IfSome result (λ within. column cells.now at
+        ≡ or_null (option_map natural within)) }
     ensures none { result ≡ None → (within : Option ℕ) → IfSome within IsWithinHours
         → column cells.now at ≡ or_null (option_map natural within) → ⊥ }
 {

@@ -13,7 +13,8 @@ use sqlite::{Alter, Connection, Error, Transaction};
 
 // Makes the table, which is the next.
 fn make<S: Alter>(tx: &mut Transaction<'_, S>, table: Table) -> Result<(), Error>
-    ensures { Makes S.Store tx.old tx.new result (IsMadeSoFar (earlier table)) (IsMadeSoFar (up_to table)) }
+    ensures { Makes S.Store tx.old tx.new result (IsMadeSoFar (earlier table))
+        (IsMadeSoFar (up_to table)) }
 {
     tx.execute(create_text(table), &[])?;
     Ok(())

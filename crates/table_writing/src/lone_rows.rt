@@ -77,7 +77,8 @@ fn put_bounds<S: Alter>(
     issued: u32,
     options: &Options,
 ) -> Result<(), Error>
-    ensures { WritesTaking (λ _. AreOfKinds table (meta_values (Some bounds.now) issued options.now))
+    ensures { WritesTaking (λ _.
+        AreOfKinds table (meta_values (Some bounds.now) issued options.now))
         (TakesRow table (meta_values (Some bounds.now) issued options.now))
         S.Store tx.old tx.new result
         (with_cells table (meta_values (Some bounds.now) issued options.now)) }

@@ -120,7 +120,8 @@ impl Calendar {
 
     // The same, as if no date were listed: week after week, up to the last day.
     fn weekday_statuses(&self, alloc: Global) -> Result<Vec<bool>, AllocError>
-        ensures { IfOk result (λ statuses. AreStatuses (is_work_day (without_dates self.now)) statuses.items) }
+        ensures { IfOk result (λ statuses.
+            AreStatuses (is_work_day (without_dates self.now)) statuses.items) }
     {
         let week = self.first_week();
         let mut statuses = Vec::with_capacity(alloc, WEEKS * 7)?;
@@ -133,7 +134,8 @@ impl Calendar {
 
     // Of each of the seven days from the first day on, whether its weekday is one of work days.
     fn first_week(&self) -> [bool; 7]
-        ensures { (i : ℕ) → i < 7 → slice_index_or result i false ≡ is_work_weekday self.now (first_day + i) }
+        ensures { (i : ℕ) → i < 7 → slice_index_or result i false
+            ≡ is_work_weekday self.now (first_day + i) }
     {
         let mut week = self.week();
         week.rotate_left(Day::FIRST.weekday() as usize);
@@ -142,7 +144,8 @@ impl Calendar {
 
     // Of each weekday, whether it is one of work days.
     fn week(&self) -> [bool; 7]
-        ensures { (w : ℕ) → w < 7 → slice_index_or result w false ≡ is_work_status (weekday_status self.now w) }
+        ensures { (w : ℕ) → w < 7 → slice_index_or result w false
+            ≡ is_work_status (weekday_status self.now w) }
     {
         self.weekdays
             .map(|status| status.unwrap_or(DayStatus::Work).is_work())

@@ -66,9 +66,11 @@ impl<'a> CountedIndex<'a> {
 
     /// The work day before which there are that many work days.
     pub fn nth(&mut self, place: usize) -> Option<Day>
-        ensures none { IsNone result ↔ ((d : ℕ) → ¬ (IsNthWorkDay (is_work_in self.old.statuses) place d)) }
+        ensures none { IsNone result
+            ↔ ((d : ℕ) → ¬ (IsNthWorkDay (is_work_in self.old.statuses) place d)) }
         ensures value { IfSome result (IsNthWorkDay (is_work_in self.old.statuses) place) }
-        ensures found { IsSome result ↔ (place < work_days_before (is_work_in self.old.statuses) (last_day + 1)) }
+        ensures found { IsSome result
+            ↔ (place < work_days_before (is_work_in self.old.statuses) (last_day + 1)) }
         ensures counted { self.new ≡ one_asked self.old }
     {
         self.ask().nth(place)

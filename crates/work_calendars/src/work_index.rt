@@ -81,7 +81,8 @@ impl WorkIndex {
     pub fn nth(&self, place: usize) -> Option<Day>
         ensures none { IsNone result ↔ ((d : ℕ) → ¬ (IsNthWorkDay (is_work_in self.now) place d)) }
         ensures value { IfSome result (IsNthWorkDay (is_work_in self.now) place) }
-        ensures found { IsSome result ↔ (place < work_days_before (is_work_in self.now) (last_day + 1)) }
+        ensures found { IsSome result
+            ↔ (place < work_days_before (is_work_in self.now) (last_day + 1)) }
     {
         self.days.get(place).copied()
     }
