@@ -13,6 +13,16 @@ pub struct Room {
 ghost use Rattle.external_dependencies.specs.Pair.{pair_cmp};
 ghost use Rattle.external_dependencies.specs.Rising.{IsRising};
 
+impl Room {
+    /// The pairs of the content, in rising order, as long as they are out of it.
+    pub fn pairs(&self) -> &[Pair]
+        ensures all { result.now ≡ self.now.pairs.items }
+        ensures rising { IsRising pair_cmp self.now.pairs.items }
+    {
+        self.pairs.as_slice()
+    }
+}
+
 // Room for so many more items. A list that has to grow gets an eighth of its length at least, so that a long one is
 // seldom moved and holds little that it doesn't need.
 pub(crate) fn grow<T>(list: &mut Vec<T>, more: usize) -> Result<(), AllocError>

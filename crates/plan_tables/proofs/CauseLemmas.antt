@@ -10,6 +10,7 @@ use Rattle.sqlite.specs.declared.error.Error.{Error}
 use Rattle.sqlite_disk.specs.Disk.{MoreFaults}
 use Rattle.sqlite_trees.specs.declared.error.StoreError.{StoreError}
 use Rattle.sqlite_trees.specs.declared.error.StoreError.TheVariants.{OutOfMemory, Io, Corrupt, Full, Broken, Unstorable}
+use Rattle.external_dependencies.specs.declared.pairs.Pair.{Pair}
 use Rattle.planner_machine.specs.Content.{Content}
 use Rattle.plan_store.specs.declared.stores.StoreFault.{StoreFault}
 use Rattle.plan_store.specs.declared.stores.StoreFault.TheVariants.{Device, Memory}
@@ -134,13 +135,15 @@ failed_so old mid new e P Q opens calm one two (inl (cause, is, has)) why = go c
 
 -- so it is of what is left of the change, once the definitions are changed and the pairs are out of the lists
 pub taken_rest : (c : Content) (change : Change) (moves : DefinitionMoves) (left : Change)
-    → left ≡ record change { definitions = AsBefore } → (d : Content)
-    → d ≡ with_definitions (redefined change.definitions c.definitions) (with_pairs_of [] c) → (all : Tables)
+    → left ≡ record change { definitions = AsBefore } → (d : Content) (pairs : List Pair)
+    → d ≡ with_definitions (redefined change.definitions c.definitions) (with_pairs_of [] c) → pairs ≡ c.pairs
+    → (all : Tables)
     → TakesChange (with_definitions (redefined change.definitions c.definitions) c) moves change all
-    → TakesChange d moves left all
-taken_rest c change moves left is_rest d is all takes =
-    subst (λ (k : Change). TakesChange d moves k all) (sym is_rest)
-    (subst (λ (k : Content). TakesChange k moves (record change { definitions = AsBefore }) all) (sym is) takes)
+    → TakesChange (with_pairs_of pairs d) moves left all
+taken_rest c change moves left is_rest d pairs is out all takes =
+    subst (λ (k : Change). TakesChange (with_pairs_of pairs d) moves k all) (sym is_rest)
+    (subst (λ (k : Content). TakesChange k moves (record change { definitions = AsBefore }) all)
+    (sym (λ i. with_pairs_of (out i) (is i))) takes)
 
 -- ---- a store that asks before it changes
 

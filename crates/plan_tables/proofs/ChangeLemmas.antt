@@ -15,7 +15,7 @@ use Rattle.planner_machine.specs.declared.content.Bounds.{Bounds}
 use Rattle.planner_machine.specs.declared.job.Job.{Job}
 use Rattle.table_schema.specs.Rows.{Tables, shown, stored, without_key}
 use Rattle.table_schema.specs.declared.tables.Table.TheVariants as table
-use Rattle.plan_store.specs.Changes.{jobs_after, pairs_after}
+use Rattle.plan_store.specs.Changes.{is_among, jobs_after, pairs_after}
 use Rattle.external_dependencies.specs.Pair.{pair_cmp}
 use Rattle.keyed_lists.specs.Keyed.{holds_key}
 use Rattle.external_dependencies.proofs.PairLemmas.{pair_ties}
@@ -29,7 +29,7 @@ use Rattle.plan_store.proofs.PairLemmas.{held_pair, itself, pair_total, pairs_af
 use Rattle.table_facts.specs.Facts.{link_key, link_values, natural, pair_values}
 use Rattle.table_facts.specs.Content.{IsOfList, IsOfSet, job_values, meta_values}
 use Rattle.table_writing.specs.Writing.{beside, holds_link, job_put, links_replaced, meta_told, pairs_moved}
-use Rattle.table_writing.specs.Writing.{without_each}
+use Rattle.table_writing.specs.Writing.{standing, without_each}
 use Rattle.table_writing.proofs.LinkLemmas.{holds_link-Decides}
 use Rattle.plan_tables.proofs.Held.{Shows, matched, natural_itself, one_natural, one_text, same_cell}
 use Rattle.plan_tables.proofs.Held.{text_itself}
@@ -84,13 +84,13 @@ among xs p = go (holds_key pair_cmp itself xs p) refl
 
 pub pairs_shown : (change : PairChange) (pairs : List Pair) (all : Tables)
     → ((v : Values) → Shows table.Dependency (all table.Dependency) v ↔ IsOfList pair_values pairs v) → (v : Values)
-    → Shows table.Dependency (pairs_moved change all table.Dependency) v ↔ IsOfList pair_values
+    → Shows table.Dependency (pairs_moved pairs change all table.Dependency) v ↔ IsOfList pair_values
     (pairs_after change pairs) v
 pairs_shown change pairs all held v = (
   (λ there. elim ((shows_with table.Dependency pair_values pair_shows change.added _ v).0 there) [
     | inl new ↦ (new.0, (pairs_after_contains change pairs new.0).1 (inl new.1), new.2)
     | inr old ↦
-        let k = (shows_without table.Dependency pair_values change.added
+        let k = (shows_without table.Dependency pair_values (standing pairs change.added)
         (without_each table.Dependency pair_values change.removed all) v).0 old in
         let h = (shows_without table.Dependency pair_values change.removed all v).0 k.0 in
         let (p, has, is) = (held v).0 h.0 in
@@ -115,18 +115,19 @@ pairs_shown change pairs all held v = (
     -- it may stand among those that are added too
     go : (p : Pair) → v ≡ pair_values p → Contains pairs p × (Contains change.removed p → ⊥)
         → Contains change.added p ⊎ (Contains change.added p → ⊥)
-        → Shows table.Dependency (pairs_moved change all table.Dependency) v
+        → Shows table.Dependency (pairs_moved pairs change all table.Dependency) v
     go p is old (inl new) = (shows_with table.Dependency pair_values pair_shows change.added _ v).1 (inl (p, new, is))
     go p is old (inr lacks) = (shows_with table.Dependency pair_values pair_shows change.added _ v).1 (inr
-        ((shows_without table.Dependency pair_values change.added
+        ((shows_without table.Dependency pair_values (standing pairs change.added)
         (without_each table.Dependency pair_values change.removed all) v).1 (
           stays p is old,
           λ q has. subst (λ w. matched table.Dependency (pair_values q) w ≡ false) (sym is)
-              (pair_apart change.added p lacks q has),
+              (pair_apart (standing pairs change.added) p
+              (λ there. lacks (contains_filter (is_among pairs) change.added p there).0) q has),
         )))
 
     back : (p : Pair) → v ≡ pair_values p → Contains pairs p × (Contains change.removed p → ⊥)
-        → Shows table.Dependency (pairs_moved change all table.Dependency) v
+        → Shows table.Dependency (pairs_moved pairs change all table.Dependency) v
     back p is old = go p is old (among change.added p)
 
 -- ---- links

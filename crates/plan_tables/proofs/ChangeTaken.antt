@@ -34,7 +34,7 @@ use Rattle.table_schema.specs.Rows.{Tables, with_cells, without_key}
 use Rattle.table_schema.specs.Takes.{TakesRow}
 use Rattle.table_schema.specs.declared.tables.Table.{Table}
 use Rattle.table_schema.specs.declared.tables.Table.TheVariants as table
-use Rattle.plan_store.specs.Changes.{Fits, after, jobs_after, redefined}
+use Rattle.plan_store.specs.Changes.{Fits, after, is_among, jobs_after, redefined}
 use Rattle.plan_store.specs.Room.{with_definitions}
 use Rattle.plan_store.specs.declared.changes.Change.{Change}
 use Rattle.plan_store.specs.declared.changes.DefinitionChange.{DefinitionChange}
@@ -55,7 +55,8 @@ use Rattle.table_writing.specs.Redefining.{AreMovesOf, BringsRows, definitions_m
 use Rattle.table_writing.specs.Taking.{TakesChange, TakesEach, TakesJob, TakesKind, TakesLinks, TakesMeta, TakesNewMeta, TakesPairs}
 use Rattle.table_writing.specs.Taking.{TakesPlans, TakesRows}
 use Rattle.table_writing.specs.Writing.{IsTellableChange, beside, cp_moved, history_moved, links_moved, ltp_moved}
-use Rattle.table_writing.specs.Writing.{meta_moved, pairs_moved, rows_moved, without_each}
+use Rattle.table_writing.specs.Writing.{meta_moved, pairs_moved, rows_moved, standing, without_each}
+use Rattle.table_writing.proofs.PairLemmas.{is_among-Decides}
 use Rattle.table_writing.specs.declared.redefining.DefinitionMoves.{DefinitionMoves}
 use Rattle.table_writing.proofs.KindLemmas.{job_storable, links_storable, meta_storable, pairs_storable}
 use Rattle.plan_tables.specs.Room.{CanBeStored, HaveRoom}
@@ -119,12 +120,13 @@ less_pair x xs now room = subst (RoomFor xs) (sym (at_itself table.Dependency _ 
 
 pairs_taken : (change : PairChange) (pairs : List Pair) (now : Tables)
     → ((v : Values) → Shows table.Dependency (now table.Dependency) v → IsOfList pair_values pairs v)
-    → IsRising pair_cmp change.added → HaveRoom (length change.added) (now table.Dependency) → TakesPairs change now
+    → IsRising pair_cmp change.added → HaveRoom (length change.added) (now table.Dependency)
+    → TakesPairs pairs change now
 pairs_taken change pairs now held rising room = each_taken table.Dependency pair_values AnyPair AreOtherPairs
     (λ xs at. RoomFor xs (at table.Dependency)) (λ p so. pair_shows p) one_pair (λ x xs at so. less_pair x xs at) change.added left (pairs_apart change.added rising) (λ x has. tt) (
       length change.added,
       omega arith,
-      room_without (length change.added) table.Dependency pair_values change.added bare
+      room_without (length change.added) table.Dependency pair_values (standing pairs change.added) bare
           (room_without (length change.added) table.Dependency pair_values change.removed now room),
     ) beside_these
   where
@@ -132,19 +134,22 @@ pairs_taken change pairs now held rising room = each_taken table.Dependency pair
     bare = without_each table.Dependency pair_values change.removed now
 
     left : Tables
-    left = without_each table.Dependency pair_values change.added bare
+    left = without_each table.Dependency pair_values (standing pairs change.added) bare
 
     beside_these : StandBeside table.Dependency pair_values AnyPair AreOtherPairs change.added
         (left table.Dependency)
     beside_these v there =
-        let k = (shows_without table.Dependency pair_values change.added bare v).0 there in
+        let k = (shows_without table.Dependency pair_values (standing pairs change.added) bare v).0 there in
         let h = (shows_without table.Dependency pair_values change.removed now v).0 k.0 in
         let (p, has, shows) = held v h.0 in (
           p,
           shows,
           tt,
-          λ x among same. false≢true (sym (k.1 x among) ∙ ap (matched table.Dependency (pair_values x)) (shows
-              ∙ ap pair_values same) ∙ pair_itself x),
+          λ x among same.
+              let stands = (is_among-Decides pairs x).1 (subst (Contains pairs) same has) in
+              let taken = filter_contains (is_among pairs) change.added x among stands in
+              false≢true (sym (k.1 x taken) ∙ ap (matched table.Dependency (pair_values x)) (shows ∙ ap pair_values same)
+              ∙ pair_itself x),
         )
 
 -- ---- links
@@ -260,7 +265,7 @@ module _ (c : Content) (change : Change) (all : Tables) (is : IsContentOf all c)
   rows = rows_moved change all
 
   abbrev paired : Tables
-  paired = pairs_moved change.pairs rows
+  paired = pairs_moved c.pairs change.pairs rows
 
   abbrev linked : Tables
   linked = links_moved c.in_force change.in_force paired
@@ -346,17 +351,17 @@ module _ (c : Content) (change : Change) (all : Tables) (is : IsContentOf all c)
         at_pairs = rows_other table.Dependency refl refl refl refl change all
 
         at_links : paired table.LinkInForce ≡ all table.LinkInForce
-        at_links = pairs_other table.LinkInForce refl change.pairs rows
+        at_links = pairs_other table.LinkInForce refl c.pairs change.pairs rows
             ∙ rows_other table.LinkInForce refl refl refl refl change all
 
         at_meta : linked table.Meta ≡ all table.Meta
         at_meta = links_other table.Meta refl c.in_force change.in_force paired
-            ∙ pairs_other table.Meta refl change.pairs rows ∙ rows_other table.Meta refl refl refl refl change all
+            ∙ pairs_other table.Meta refl c.pairs change.pairs rows ∙ rows_other table.Meta refl refl refl refl change all
 
         at_jobs : noted table.Job ≡ all table.Job
         at_jobs = meta_other table.Job refl change c.sets.bounds c.sets.issued c.definitions.options linked
             ∙ links_other table.Job refl c.in_force change.in_force paired
-            ∙ pairs_other table.Job refl change.pairs rows ∙ rows_other table.Job refl refl refl refl change all
+            ∙ pairs_other table.Job refl c.pairs change.pairs rows ∙ rows_other table.Job refl refl refl refl change all
 
 -- ---- definitions
 

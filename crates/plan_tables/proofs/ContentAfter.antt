@@ -15,6 +15,7 @@ use Rattle.external_dependencies.specs.Link.{link_cmp}
 use Rattle.external_dependencies.specs.Rising.{IsRising}
 use Rattle.external_dependencies.specs.declared.change.PairChange.{PairChange}
 use Rattle.external_dependencies.specs.declared.links.Link.{Link}
+use Rattle.external_dependencies.specs.declared.pairs.Pair.{Pair}
 use Rattle.planner_machine.specs.Content.{Content}
 use Rattle.planner_machine.specs.Moves.{or_else}
 use Rattle.planner_machine.specs.declared.content.Bounds.{Bounds}
@@ -38,7 +39,7 @@ use Rattle.table_facts.specs.Content.{IsTold, IsUnderOwn, job_values, meta_value
 use Rattle.run_cycles.specs.declared.cycles.RunCycle.{RunCycle}
 use Rattle.definition_records.specs.declared.predecessors.Predecessor.{Predecessor}
 use Rattle.table_writing.specs.Writing.{IsTellableChange, job_kept, links_moved, meta_moved, meta_told, pairs_moved}
-use Rattle.table_writing.specs.Writing.{beside, rows_moved, plans_written}
+use Rattle.table_writing.specs.Writing.{beside, rows_moved, plans_written, standing}
 use Rattle.plan_tables.proofs.ChangeLemmas.{and_both, and_true, job_shown, links_shown, meta_key, meta_shown}
 use Rattle.plan_tables.proofs.ChangeLemmas.{pairs_shown}
 use Rattle.plan_tables.proofs.Held.{Shows, natural_itself, one_natural, same_cell}
@@ -109,10 +110,10 @@ links_other u apart old None all = refl
 links_other u apart old (Some new) all = with_other table.LinkInForce link_values u apart (beside old new) _
     ∙ without_other table.LinkInForce link_key u apart (beside new old) all
 
-pub pairs_other : (u : Table) → IsApart u table.Dependency → (change : PairChange) (all : Tables)
-    → pairs_moved change all u ≡ all u
-pairs_other u apart change all = with_other table.Dependency pair_values u apart change.added _
-    ∙ without_other table.Dependency pair_values u apart change.added _
+pub pairs_other : (u : Table) → IsApart u table.Dependency → (pairs : List Pair) (change : PairChange) (all : Tables)
+    → pairs_moved pairs change all u ≡ all u
+pairs_other u apart pairs change all = with_other table.Dependency pair_values u apart change.added _
+    ∙ without_other table.Dependency pair_values u apart (standing pairs change.added) _
     ∙ without_other table.Dependency pair_values u apart change.removed all
 
 pub rows_other : (u : Table) → IsApart u table.LongTerm → IsApart u table.Current → IsApart u table.History
@@ -127,7 +128,7 @@ rows_other u a b c d change all =
 
 module _ (c : Content) (change : Change) (all : Tables) where
   abbrev linked : Tables
-  linked = links_moved c.in_force change.in_force (pairs_moved change.pairs (rows_moved change all))
+  linked = links_moved c.in_force change.in_force (pairs_moved c.pairs change.pairs (rows_moved change all))
 
   abbrev noted : Tables
   noted = meta_moved change c.sets.bounds c.sets.issued c.definitions.options linked
@@ -138,8 +139,8 @@ module _ (c : Content) (change : Change) (all : Tables) where
       → plans_written c change all u ≡ rows_moved change all u
   upper u a b l d = job_other u a change.job noted ∙ meta_other u b change c.sets.bounds c.sets.issued
       c.definitions.options linked
-      ∙ links_other u l c.in_force change.in_force (pairs_moved change.pairs (rows_moved change all))
-      ∙ pairs_other u d change.pairs (rows_moved change all)
+      ∙ links_other u l c.in_force change.in_force (pairs_moved c.pairs change.pairs (rows_moved change all))
+      ∙ pairs_other u d c.pairs change.pairs (rows_moved change all)
 
   whole : (u : Table) → IsApart u table.Job → IsApart u table.Meta → IsApart u table.LinkInForce
       → IsApart u table.Dependency
@@ -235,25 +236,25 @@ module _ (c : Content) (change : Change) (all : Tables) where
     -- ---- pairs, links, jobs, bounds
 
     pair_facts : (v : Values) → ShowsAs table.Dependency (plans_written c change all table.Dependency) v
-    pair_facts v = on table.Dependency (pairs_moved change.pairs (rows_moved change all) table.Dependency) v
+    pair_facts v = on table.Dependency (pairs_moved c.pairs change.pairs (rows_moved change all) table.Dependency) v
         (job_other table.Dependency refl change.job noted
         ∙ meta_other table.Dependency refl change c.sets.bounds c.sets.issued c.definitions.options linked
-        ∙ links_other table.Dependency refl c.in_force change.in_force (pairs_moved change.pairs
+        ∙ links_other table.Dependency refl c.in_force change.in_force (pairs_moved c.pairs change.pairs
         (rows_moved change all)))
         (pairs_shown change.pairs c.pairs (rows_moved change all)
         (still table.Dependency (rows_moved change all) (rows_other table.Dependency refl refl refl refl change all)) v)
 
-    link_rows : pairs_moved change.pairs (rows_moved change all) table.LinkInForce ≡ all table.LinkInForce
-    link_rows = pairs_other table.LinkInForce refl change.pairs (rows_moved change all)
+    link_rows : pairs_moved c.pairs change.pairs (rows_moved change all) table.LinkInForce ≡ all table.LinkInForce
+    link_rows = pairs_other table.LinkInForce refl c.pairs change.pairs (rows_moved change all)
         ∙ rows_other table.LinkInForce refl refl refl refl change all
 
     link_facts_by : (new : Option (List Link)) (v : Values)
-        → Shows table.LinkInForce (links_moved c.in_force new (pairs_moved change.pairs
+        → Shows table.LinkInForce (links_moved c.in_force new (pairs_moved c.pairs change.pairs
         (rows_moved change all)) table.LinkInForce) v
         ↔ IsOfList link_values (unwrap_or new c.in_force) v
-    link_facts_by None v = still table.LinkInForce (pairs_moved change.pairs (rows_moved change all)) link_rows v
-    link_facts_by (Some new) v = links_shown c.in_force new is.tellable.in_force (pairs_moved change.pairs (rows_moved change all))
-        (still table.LinkInForce (pairs_moved change.pairs (rows_moved change all)) link_rows) v
+    link_facts_by None v = still table.LinkInForce (pairs_moved c.pairs change.pairs (rows_moved change all)) link_rows v
+    link_facts_by (Some new) v = links_shown c.in_force new is.tellable.in_force (pairs_moved c.pairs change.pairs (rows_moved change all))
+        (still table.LinkInForce (pairs_moved c.pairs change.pairs (rows_moved change all)) link_rows) v
 
     link_facts : (v : Values) → ShowsAs table.LinkInForce (plans_written c change all table.LinkInForce) v
     link_facts v = on table.LinkInForce (linked table.LinkInForce) v
@@ -263,9 +264,9 @@ module _ (c : Content) (change : Change) (all : Tables) where
 
     linked_other : (u : Table) → IsApart u table.LinkInForce → IsApart u table.Dependency → IsApart u table.LongTerm
         → IsApart u table.Current → IsApart u table.History → IsApart u table.Deletion → linked u ≡ all u
-    linked_other u l d e f g h = links_other u l c.in_force change.in_force (pairs_moved change.pairs
+    linked_other u l d e f g h = links_other u l c.in_force change.in_force (pairs_moved c.pairs change.pairs
         (rows_moved change all))
-        ∙ pairs_other u d change.pairs (rows_moved change all) ∙ rows_other u e f g h change all
+        ∙ pairs_other u d c.pairs change.pairs (rows_moved change all) ∙ rows_other u e f g h change all
 
     job_rows : noted table.Job ≡ all table.Job
     job_rows = meta_other table.Job refl change c.sets.bounds c.sets.issued c.definitions.options linked

@@ -1,5 +1,5 @@
 -- A database keeps a content, before and after.
-use Rattle.std.proofs.Common.{◌≡◌, ◌∙◌, refl, sym, ap, subst, IsTrue, Result, Ok, Err, []}
+use Rattle.std.proofs.Common.{List, ◌≡◌, ◌∙◌, refl, sym, ap, subst, IsTrue, Result, Ok, Err, []}
 use Rattle.std.specs.Prelude.{OnOk}
 use Rattle.sqlite.specs.Tree.{Trees}
 use Rattle.sqlite.specs.Effect.{Database, IsDatabase}
@@ -8,6 +8,7 @@ use Rattle.std.proofs.Math.Logic.{∥∥₁_elim, ∥∥₁_map}
 use Rattle.sqlite.specs.Held.{Held, state}
 use Rattle.sqlite.specs.Store.{Ghosts}
 use Rattle.sqlite.specs.State.{HasCleanDisk, IsLive, IsUnchanged, State, Survives}
+use Rattle.external_dependencies.specs.declared.pairs.Pair.{Pair}
 use Rattle.planner_machine.specs.Content.{Content}
 use Rattle.planner_machine.specs.Sound.{IsSound}
 use Rattle.table_schema.specs.Rows.{tables_of}
@@ -64,25 +65,28 @@ module _ (c : Content) (change : Change) (moves : DefinitionMoves) (fits : Fits 
       (subst (λ (k : Content). Fits rest k) (sym is)
       (record { ltp = fits.ltp; cp = fits.cp; history = fits.history; deletions = fits.deletions; job = fits.job }))
 
-  -- the pairs are out of the lists while the tables are written
-  pub tables_after : (left : Change) → left ≡ rest → (old : State) (db : Trees) (d : Content)
-      → d ≡ with_definitions (redefined change.definitions c.definitions) (with_pairs_of [] c) → IsStored old c
-      → tables_of db ≡ written d moves left (tables_of old.now.trees) → IsContentOf (tables_of db) (after change c)
-  tables_after left is_rest old db d is stored e =
-      subst (λ all. IsContentOf all (after change c)) (sym (e ∙ (λ i. written (is i) moves (is_rest i)
-      (tables_of old.now.trees)))) (content_after (tables_of old.now.trees) stored.content)
+  -- the pairs are out of the lists while the tables are written, and stand beside them
+  pub tables_after : (left : Change) → left ≡ rest → (old : State) (db : Trees) (d : Content) (pairs : List Pair)
+      → d ≡ with_definitions (redefined change.definitions c.definitions) (with_pairs_of [] c) → pairs ≡ c.pairs
+      → IsStored old c
+      → tables_of db ≡ written (with_pairs_of pairs d) moves left (tables_of old.now.trees)
+      → IsContentOf (tables_of db) (after change c)
+  tables_after left is_rest old db d pairs is out stored e =
+      subst (λ all. IsContentOf all (after change c)) (sym (e ∙ (λ i. written (with_pairs_of (out i) (is i)) moves
+      (is_rest i) (tables_of old.now.trees)))) (content_after (tables_of old.now.trees) stored.content)
 
   -- what a crash leaves of the commit has the tables of the plan, and tells the content after the change
-  pub tells_after : (left : Change) → left ≡ rest → (old : State) (db : Trees) (d : Content)
-      → d ≡ with_definitions (redefined change.definitions c.definitions) (with_pairs_of [] c) → IsStored old c
-      → HoldsWritten old (written d moves left (tables_of old.now.trees)) db
+  pub tells_after : (left : Change) → left ≡ rest → (old : State) (db : Trees) (d : Content) (pairs : List Pair)
+      → d ≡ with_definitions (redefined change.definitions c.definitions) (with_pairs_of [] c) → pairs ≡ c.pairs
+      → IsStored old c
+      → HoldsWritten old (written (with_pairs_of pairs d) moves left (tables_of old.now.trees)) db
       → Tells db (after change c) × AllHaveRowids (tables_of db)
-  tells_after left is_rest old db d is stored h = (
+  tells_after left is_rest old db d pairs is out stored h = (
     record {
       schema = old.now.schema;
       obeys = h.obeys stored.is_open;
       plan = stored.plan.schema;
-      content = tables_after left is_rest old db d is stored h.rows_are;
+      content = tables_after left is_rest old db d pairs is out stored h.rows_are;
     },
     h.rowids,
   )

@@ -281,7 +281,8 @@ pub(crate) fn change_both<S: Alter>(
         Ok(underway) => underway,
         Err(_) => return Err(Unmade::Memory),
     };
-    match commit_change(conn, alloc, lists, moves, &underway.rest, line) {
+    let pairs = underway.begun.room.pairs();
+    match commit_change(conn, alloc, lists, pairs, moves, &underway.rest, line) {
         Ok(()) => {
             complete(lists, underway);
             Ok(())

@@ -2,3 +2,4 @@ pub mod KindLemmas
 pub mod AloneLemmas
 pub mod TakingLemmas
 pub mod LinkLemmas
+pub mod PairLemmas

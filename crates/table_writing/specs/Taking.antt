@@ -10,6 +10,7 @@ use Rattle.app_definitions.specs.declared.kinds.Kind.TheVariants as kind
 use Rattle.app_definitions.specs.declared.options.Options.{Options}
 use Rattle.external_dependencies.specs.declared.change.PairChange.{PairChange}
 use Rattle.external_dependencies.specs.declared.links.Link.{Link}
+use Rattle.external_dependencies.specs.declared.pairs.Pair.{Pair}
 use Rattle.planner_machine.specs.Content.{Content}
 use Rattle.planner_machine.specs.Moves.{or_else}
 use Rattle.planner_machine.specs.declared.content.Bounds.{Bounds}
@@ -26,7 +27,7 @@ use Rattle.table_schema.specs.declared.tables.Table.{Table}
 use Rattle.table_schema.specs.declared.tables.Table.TheVariants as table
 use Rattle.table_writing.specs.Redefining.{cycles_gone, definitions_moved, name_key, rows_of}
 use Rattle.table_writing.specs.Writing.{beside, cp_moved, history_moved, links_moved, ltp_moved, meta_moved, pairs_moved}
-use Rattle.table_writing.specs.Writing.{rows_moved, with_each, without_each}
+use Rattle.table_writing.specs.Writing.{rows_moved, standing, with_each, without_each}
 use Rattle.table_writing.specs.declared.redefining.DefinitionMoves.{DefinitionMoves}
 
 -- a row for each of these in turn
@@ -55,9 +56,9 @@ TakesRows change all =
     × TakesMoves table.Deletion deletion_values deletion_key change.deletions
     (history_moved change (cp_moved change (ltp_moved change all)))
 
-abbrev pub TakesPairs : PairChange → Tables → Type 0
-TakesPairs change all = TakesEach table.Dependency pair_values change.added
-    (without_each table.Dependency pair_values change.added
+abbrev pub TakesPairs : List Pair → PairChange → Tables → Type 0
+TakesPairs pairs change all = TakesEach table.Dependency pair_values change.added
+    (without_each table.Dependency pair_values (standing pairs change.added)
     (without_each table.Dependency pair_values change.removed all))
 
 abbrev pub TakesLinks : List Link → Option (List Link) → Tables → Type 0
@@ -81,9 +82,9 @@ TakesJob (Some job) all = TakesRow table.Job (job_values job) all
 abbrev pub TakesPlans : Content → Change → Tables → Type 0
 TakesPlans c change all =
     let rows = rows_moved change all in
-    let pairs = pairs_moved change.pairs rows in
+    let pairs = pairs_moved c.pairs change.pairs rows in
     let links = links_moved c.in_force change.in_force pairs in
-    TakesRows change all × TakesPairs change.pairs rows × TakesLinks c.in_force change.in_force pairs
+    TakesRows change all × TakesPairs c.pairs change.pairs rows × TakesLinks c.in_force change.in_force pairs
     × TakesNewMeta change c.sets.bounds c.sets.issued c.definitions.options links
     × TakesJob change.job (meta_moved change c.sets.bounds c.sets.issued c.definitions.options links)
 

@@ -17,8 +17,10 @@ use Rattle.std.specs.Str.{bytes_eq}
 use Rattle.app_definitions.specs.declared.options.Options.{Options}
 use Rattle.external_dependencies.specs.declared.change.PairChange.{PairChange}
 use Rattle.external_dependencies.specs.declared.links.Link.{Link}
+use Rattle.external_dependencies.specs.declared.pairs.Pair.{Pair}
 use Rattle.planner_machine.specs.declared.content.Bounds.{Bounds}
 use Rattle.planner_machine.specs.declared.job.Job.{Job}
+use Rattle.plan_store.specs.Changes.{is_among}
 use Rattle.plan_store.specs.declared.changes.Change.{Change}
 use Rattle.plan_store.specs.declared.changes.Moves.{Moves}
 use Rattle.table_facts.specs.Facts.{current_key, current_values, deletion_key, deletion_values, link_values, natural}
@@ -68,11 +70,15 @@ deletions_moved change all = moved_in table.Deletion deletion_values deletion_ke
 abbrev pub rows_moved : Change → Tables → Tables
 rows_moved change all = deletions_moved change (history_moved change (cp_moved change (ltp_moved change all)))
 
--- pairs that are added are taken out first, since they may stand there already
-abbrev pub pairs_moved : PairChange → Tables → Tables
-pairs_moved change all =
+-- those of the added pairs that stand there already
+abbrev pub standing : List Pair → List Pair → List Pair
+standing pairs added = filter (is_among pairs) added
+
+-- they are taken out before they are put in
+abbrev pub pairs_moved : List Pair → PairChange → Tables → Tables
+pairs_moved pairs change all =
     with_each table.Dependency pair_values change.added
-    (without_each table.Dependency pair_values change.added
+    (without_each table.Dependency pair_values (standing pairs change.added)
     (without_each table.Dependency pair_values change.removed all))
 
 -- whether the two links have the same names and the same limit
@@ -120,12 +126,12 @@ meta_moved change bounds issued options all =
     if is_some change.bounds || is_some change.issued
     then meta_told (or_else change.bounds bounds) (unwrap_or change.issued issued) options all else all
 
--- what changes beside the definitions, of a content that had these lists in force and reached so far
+-- what changes beside the definitions, of a content that had these pairs and lists in force and reached so far
 abbrev pub plans_written : Content → Change → Tables → Tables
 plans_written c change all =
     job_kept change.job
     (meta_moved change c.sets.bounds c.sets.issued c.definitions.options
-    (links_moved c.in_force change.in_force (pairs_moved change.pairs (rows_moved change all))))
+    (links_moved c.in_force change.in_force (pairs_moved c.pairs change.pairs (rows_moved change all))))
 
 -- the tables of a plan have what that makes of their rows, in the schema that there was
 abbrev pub HasRows : (Tables → Tables) → State → State → Type 0

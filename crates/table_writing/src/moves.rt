@@ -4,11 +4,15 @@ ghost use Rattle.std.specs.Prelude.{◌≡◌, IfOk, Some, ⊤};
 ghost use Rattle.table_writing.specs.Taking.{AreKeysOf, TakesLinks, TakesMoves, TakesPairs};
 ghost use Rattle.table_writing.specs.Taking.{TakesRows, WritesTaking};
 ghost use Rattle.table_writing.specs.Writing.{AreStorable, StandAlone, moved_in, rows_moved, pairs_moved};
-ghost use Rattle.table_writing.specs.Writing.{beside, holds_link, links_moved, links_replaced};
+ghost use Rattle.external_dependencies.specs.Pair.{pair_cmp};
+ghost use Rattle.external_dependencies.specs.Rising.{IsRising};
+ghost use Rattle.plan_store.specs.Changes.{is_among};
+ghost use Rattle.table_writing.specs.Writing.{beside, holds_link, links_moved, links_replaced, standing};
 
 use crate::facts::Fact;
 use crate::loops::{put_each, take_each};
-use external_dependencies::{Link, Links, PairChange};
+use external_dependencies::{Link, Links, Pair, PairChange};
+use keyed_lists::has_key;
 use plan_store::{Change, Moves};
 use sqlite::{Alter, Error, Transaction};
 use std::alloc::{AllocError, Global};
@@ -47,17 +51,40 @@ pub(crate) fn write_rows<S: Alter>(
     write_moves(tx, Table::Deletion, &change.deletions)
 }
 
-/// Makes a change of the pairs.
+// Whether the pair is one of these.
+fn has_pair(pairs: &[Pair], pair: &Pair) -> bool
+    ensures { IsRising pair_cmp pairs.now → result ≡ is_among pairs.now pair.now }
+{
+    has_key(pairs, pair)
+}
+
+// Those of the added pairs that are among these.
+fn standing(alloc: Global, pairs: &[Pair], added: &[Pair]) -> Result<Vec<Pair>, AllocError>
+    requires { IsRising pair_cmp pairs.now }
+    ensures { IfOk result (λ found. found.items ≡ standing pairs.now added.now) }
+{
+    added
+        .iter()
+        .copied()
+        .filter(|pair| has_pair(pairs, pair))
+        .collect(alloc)
+}
+
+/// Makes a change of the pairs. Of those that are added none stands there, as a rule, and none is then taken out.
 #[tactic(auto, using(crate::proofs::KindLemmas::kinds))]
 pub(crate) fn write_pairs<S: Alter>(
     tx: &mut Transaction<'_, S>,
+    alloc: Global,
+    old: &[Pair],
     change: &PairChange,
 ) -> Result<(), Error>
-    ensures { WritesTaking (λ _. ⊤) (TakesPairs change.now) S.Store tx.old tx.new result
-        (pairs_moved change.now) }
+    requires { IsRising pair_cmp old.now }
+    ensures { WritesTaking (λ _. ⊤) (TakesPairs old.now change.now) S.Store tx.old tx.new result
+        (pairs_moved old.now change.now) }
 {
+    let there = standing(alloc, old, change.added.as_slice())?;
     take_each(tx, Table::Dependency, change.removed.as_slice())?;
-    take_each(tx, Table::Dependency, change.added.as_slice())?;
+    take_each(tx, Table::Dependency, &there)?;
     put_each(tx, Table::Dependency, change.added.as_slice())
 }
 

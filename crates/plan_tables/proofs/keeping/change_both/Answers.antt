@@ -28,7 +28,8 @@ returns-in-Ok-commit_change-clause-done g c clean stored =
       content = tables_after (content_of c.args.lists.now) c.args.change c.args.moves.now c.requires.fits
           c.requires.moves c.requires.told c.in-Ok.underway.rest c.in-Ok.ensures.rest
           (state g.S.Store c.args.conn.now) (state g.S.Store c.commit_change.new.conn).now.trees
-          (content_of c.start.new.lists) c.in-Ok.ensures.ok stored d.1;
+          (content_of c.start.new.lists) c.pairs-pairs.result.now
+          c.in-Ok.ensures.ok (c.pairs-pairs.ensures.all ∙ c.in-Ok.ensures.pairs) stored d.1;
     }
 
 pub returns-in-Ok-commit_change-clause-crash : goal.returns-in-Ok-commit_change-clause-crash
@@ -36,7 +37,8 @@ returns-in-Ok-commit_change-clause-crash g c =
     survives_weaker (state g.S.Store c.args.conn.now) (state g.S.Store c.commit_change.new.conn) _ _
     (λ clean db h stored. tells_after (content_of c.args.lists.now) c.args.change c.args.moves.now c.requires.fits
     c.requires.moves c.requires.told c.in-Ok.underway.rest c.in-Ok.ensures.rest
-    (state g.S.Store c.args.conn.now) db (content_of c.start.new.lists) c.in-Ok.ensures.ok stored (h stored.plan))
+    (state g.S.Store c.args.conn.now) db (content_of c.start.new.lists) c.pairs-pairs.result.now
+    c.in-Ok.ensures.ok (c.pairs-pairs.ensures.all ∙ c.in-Ok.ensures.pairs) stored (h stored.plan))
     c.commit_change.ensures.crash
 
 pub returns-in-Err-commit_change-clause-crash : goal.returns-in-Err-commit_change-clause-crash
@@ -45,7 +47,8 @@ returns-in-Err-commit_change-clause-crash g c =
     (state g.S.Store c.cause_of.new.conn) _ (λ _. ⊥) _
     (λ clean db h stored. tells_after (content_of c.args.lists.now) c.args.change c.args.moves.now c.requires.fits
     c.requires.moves c.requires.told c.in-Ok.underway.rest c.in-Ok.ensures.rest
-    (state g.S.Store c.args.conn.now) db (content_of c.start.new.lists) c.in-Ok.ensures.ok stored (h stored.plan))
+    (state g.S.Store c.args.conn.now) db (content_of c.start.new.lists) c.pairs-pairs.result.now
+    c.in-Ok.ensures.ok (c.pairs-pairs.ensures.all ∙ c.in-Ok.ensures.pairs) stored (h stored.plan))
     (λ _ _ none. absurd none)
     c.commit_change.ensures.crash c.cause_of.ensures.survives
 
@@ -56,7 +59,8 @@ returns-in-Err-commit_change-clause-blames g c clean stored can is =
     let new = state g.S.Store c.cause_of.new.conn in
     let calm : HasCleanDisk mid = omega (arith, c.cause_of.ensures.survives.clean, clean) in
     let taken = taken_rest (content_of c.args.lists.now) c.args.change c.args.moves.now c.in-Ok.underway.rest
-    c.in-Ok.ensures.rest (content_of c.start.new.lists) c.in-Ok.ensures.ok (tables_of old.now.trees)
+    c.in-Ok.ensures.rest (content_of c.start.new.lists) c.pairs-pairs.result.now c.in-Ok.ensures.ok
+    (c.pairs-pairs.ensures.all ∙ c.in-Ok.ensures.pairs) (tables_of old.now.trees)
     (can.1 c.args.moves.now c.requires.moves) in
     failed_so old mid new _ _ _ stored.is_open calm c.commit_change.ensures.crash c.cause_of.ensures.survives
     (c.in-Err-commit_change.ensures.fails calm stored.plan can.0 taken) (c.cause_of.ensures.shut clean is)

@@ -3,7 +3,7 @@ use Rattle.sqlite.specs.Held.{state}
 use Rattle.sqlite.specs.State.{HasCleanDisk}
 use Rattle.table_schema.specs.declared.tables.Table.TheVariants as table
 use Rattle.table_facts.specs.Facts.{pair_values}
-use Rattle.table_writing.specs.Writing.{with_each, without_each}
+use Rattle.table_writing.specs.Writing.{standing, with_each, without_each}
 use Rattle.table_writing.proofs.KindLemmas.{pairs_alone, pairs_keys, pairs_storable}
 use Rattle.table_writing.proofs.TakingLemmas.{takes_no_more, takes_then, takes_weaker}
 use Rattle.table_schema.proofs.InTurn.{stands_then, survives_both, then_ok}
@@ -23,8 +23,9 @@ returns g c = record {
       let two = c.in_ok-take_each-2.ensures.ok calm_third one.plan one.mode pairs_alone in
       let change = c.args.change.now in
       then_ok c.put_each.result first third last _ (with_each table.Dependency pair_values change.added)
-      (stands_then first second third _ (without_each table.Dependency pair_values change.added)
-      (rw c.as_slice.ensures.all at one) (rw c.as_slice-2.ensures.all at two))
+      (stands_then first second third _ (without_each table.Dependency pair_values (standing c.args.old.now change.added))
+      (rw c.as_slice-2.ensures.all at one)
+      (rw (c.deref.ensures.value, c.in_ok-there.ensures, c.as_slice.ensures.all) at two))
       (rw c.as_slice-3.ensures.all at (c.put_each.ensures.ok clean two.plan two.mode pairs_storable));
   kept = search rules;
   survives = search rules;
@@ -33,8 +34,8 @@ returns g c = record {
       (takes_then g.S.Store _ _ _ _ _ _ _ _ _ (survives_both _ _ _ c.take_each.ensures.survives
       c.take_each-2.ensures.survives) c.put_each.ensures.survives
       (takes_then g.S.Store _ _ _ _ _ _ _ _ _ c.take_each.ensures.survives c.take_each-2.ensures.survives
-      (rw c.as_slice.ensures.all at c.in_ok-take_each.ensures.takes)
-      (rw c.as_slice-2.ensures.all at c.in_ok-take_each-2.ensures.takes))
+      (rw c.as_slice-2.ensures.all at c.in_ok-take_each.ensures.takes)
+      (rw (c.deref.ensures.value, c.in_ok-there.ensures, c.as_slice.ensures.all) at c.in_ok-take_each-2.ensures.takes))
       (rw c.as_slice-3.ensures.all at c.put_each.ensures.takes));
 }
 
@@ -45,8 +46,8 @@ returns-in_err-take_each g c = record {
   kept = search rules;
   survives = search rules;
   takes =
-      takes_no_more g.S.Store _ _ _ _ _ _ _ c.from_residual.result c.from_residual.ensures.1
-      (λ all t. (pairs_keys, pairs_alone)) (rw c.as_slice.ensures.all at c.in_err-take_each.ensures.takes);
+      takes_no_more g.S.Store _ _ _ _ _ _ _ c.from_residual-in_err-take_each.result
+      c.from_residual-in_err-take_each.ensures.1 (λ all t. (pairs_keys, pairs_alone)) (rw c.as_slice-2.ensures.all at c.in_err-take_each.ensures.takes);
 }
 
 pub returns-in_err-take_each-2 : goal.returns-in_err-take_each-2
@@ -61,6 +62,6 @@ returns-in_err-take_each-2 g c = record {
         (pairs_keys, pairs_alone),
         (pairs_keys, pairs_alone),
       )) (takes_then g.S.Store _ _ _ _ _ _ _ _ _ c.take_each.ensures.survives
-      c.take_each-2.ensures.survives (rw c.as_slice.ensures.all at c.in_ok-take_each.ensures.takes)
-      (rw c.as_slice-2.ensures.all at c.in_err-take_each-2.ensures.takes));
+      c.take_each-2.ensures.survives (rw c.as_slice-2.ensures.all at c.in_ok-take_each.ensures.takes)
+      (rw (c.deref.ensures.value, c.in_ok-there.ensures, c.as_slice.ensures.all) at c.in_err-take_each-2.ensures.takes));
 }

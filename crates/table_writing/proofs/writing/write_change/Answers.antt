@@ -1,6 +1,7 @@
 use Rattle.std.proofs.Common.{arith, rules}
 use Rattle.sqlite.specs.Held.{state}
 use Rattle.plan_store.specs.Contents.{content_of}
+use Rattle.plan_store.specs.Room.{with_pairs_of}
 use Rattle.table_writing.specs.Writing.{plans_written}
 use Rattle.table_writing.proofs.TakingLemmas.{takes_no_more, takes_then, takes_weaker}
 use Rattle.table_schema.proofs.InTurn.{then_ok}
@@ -15,7 +16,7 @@ returns g c = record {
       let new = state g.S.Store c.write_plans.new.tx.conn.now in
       let one = c.in_ok-write_definitions.ensures.ok (omega (arith, c.write_plans.ensures.survives.clean)) plan mode
       storable in
-      then_ok c.write_plans.result old mid new _ (plans_written (content_of c.args.content.now) c.args.change.now) one
+      then_ok c.write_plans.result old mid new _ (plans_written (with_pairs_of c.args.pairs.now (content_of c.args.content.now)) c.args.change.now) one
       (c.write_plans.ensures.ok clean one.plan one.mode tt);
   kept = search rules;
   survives = search rules;

@@ -23,7 +23,7 @@ returns g c = record {
       let c2 : HasCleanDisk s2 = omega (arith, c.write_links.ensures.survives.clean) in
       let c1 : HasCleanDisk s1 = omega (arith, c.write_pairs.ensures.survives.clean) in
       let one = c.in_ok-write_rows.ensures.ok c1 plan mode tt in
-      let two = stands_then old s1 s2 _ (pairs_moved change.pairs) one
+      let two = stands_then old s1 s2 _ (pairs_moved c.args.pairs.now change.pairs) one
       (c.in_ok-write_pairs.ensures.ok c2 one.plan one.mode tt) in
       let three = stands_then old s2 s3 _ (links_moved kept.in_force change.in_force) two
       (c.in_ok-write_links.ensures.ok c3 two.plan two.mode tt) in
