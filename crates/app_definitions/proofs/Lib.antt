@@ -1,3 +1,4 @@
 pub mod OptionLemmas
 pub mod OneBlock
 pub mod BlockNames
+pub mod TakenBack

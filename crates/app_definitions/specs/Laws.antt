@@ -1,6 +1,9 @@
 -- What the definitions of blocks imply.
 use Rattle.std.specs.Prelude.{◌≡◌, ℕ, List}
 use Rattle.app_definitions.specs.Blocks.{ReadsAs, IsFaultyAt}
+use Rattle.app_definitions.specs.Definitions.{merged}
+use Rattle.app_definitions.specs.Replacing.{CanPutBack, put_back, replaced_by}
+use Rattle.app_definitions.specs.declared.definitions.Definitions.{Definitions}
 use Rattle.app_definitions.specs.declared.kinds.Block.{Block}
 use Rattle.app_definitions.specs.declared.kinds.Kind.{Kind}
 
@@ -16,3 +19,8 @@ ReadsOrIsFaulty = (kind : Kind) (text : List ℕ) (b : Block) (number : ℕ) →
 -- a text is faulty at one record at most
 abbrev pub IsFaultyOnce : Type 0
 IsFaultyOnce = (kind : Kind) (text : List ℕ) (m n : ℕ) → IsFaultyAt kind text m → IsFaultyAt kind text n → m ≡ n
+
+-- once a block is merged, what stood under its names can be put back, and then the definitions are those before
+abbrev pub MergeIsTakenBack : Type 0
+MergeIsTakenBack = (all : Definitions) (block : Block) → CanPutBack (replaced_by all block) (merged all block)
+    × (put_back (replaced_by all block) (merged all block) ≡ all)

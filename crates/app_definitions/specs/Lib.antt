@@ -3,3 +3,4 @@ pub mod Definitions
 pub mod Laws
 pub mod Limits
 pub mod Options
+pub mod Replacing

@@ -1,6 +1,6 @@
 //! Laws of the definitions: each is the contract of a function that does nothing.
 
-ghost use Rattle.app_definitions.specs.Laws.{IsFaultyOnce, ReadsAsOne, ReadsOrIsFaulty};
+ghost use Rattle.app_definitions.specs.Laws.{IsFaultyOnce, MergeIsTakenBack, ReadsAsOne, ReadsOrIsFaulty};
 
 /// A text reads as one block of a kind at most.
 pub fn reads_as_one()
@@ -15,4 +15,9 @@ pub fn reads_or_is_faulty()
 /// A text is faulty at one record at most.
 pub fn is_faulty_once()
     ensures { IsFaultyOnce }
+{}
+
+/// Once a block is merged, what stood under its names can be put back, and then the definitions are those before.
+pub fn merge_is_taken_back()
+    ensures { MergeIsTakenBack }
 {}

@@ -1,6 +1,6 @@
 // The index of work days of one calendar, beside what that calendar lists.
 
-ghost use Rattle.std.specs.Prelude.{◌≡◌, ◌↔◌, ℕ, IfOk, IsTrue, length};
+ghost use Rattle.std.specs.Prelude.{◌≡◌, ◌↔◌, ℕ, IfOk, IfSome, IsTrue, length};
 ghost use Rattle.std.specs.FinMap as map;
 ghost use Rattle.work_calendars.specs.Calendar.{is_work_day};
 ghost use Rattle.work_calendars.specs.WorkIndex.{is_work_in};
@@ -35,22 +35,6 @@ impl Model for CalendarIndex {
 }
 
 impl CalendarIndex {
-    /// The index of the calendar of that name: the one that is kept, where the calendar lists what that one's did, or
-    /// one that is built.
-    pub fn of(
-        alloc: Global,
-        kept: Option<CalendarIndex>,
-        all: &Definitions,
-        name: &Name,
-    ) -> Result<CalendarIndex, AllocError>
-        ensures { IfOk result (λ index. (d : ℕ) → is_work_in index d ≡ work_in all.now name.now d) }
-    {
-        match all.calendars.get(name) {
-            Some(calendar) => index_of(alloc, kept, calendar),
-            None => index_of(alloc, kept, &Calendar::new(alloc)),
-        }
-    }
-
     /// The index itself.
     pub fn index(&self) -> &WorkIndex
         ensures { result.now ≡ self.now }
@@ -66,27 +50,84 @@ impl CalendarIndex {
     }
 }
 
-// The kept index, where it is that of a calendar which lists the same, or one that is built.
-fn index_of(
-    alloc: Global,
-    kept: Option<CalendarIndex>,
-    calendar: &Calendar,
-) -> Result<CalendarIndex, AllocError>
-    ensures { IfOk result (λ index. (d : ℕ) → is_work_in index d ≡ is_work_day calendar.now d) }
-{
-    let weekdays = weekdays_of(calendar);
-    let dates = calendar.dates(alloc)?;
-    if let Some(kept) = kept
-        && kept.is_of(&weekdays, &dates)
-    {
-        return Ok(kept);
+/// How many indexes are kept at most.
+pub const MOST_KEPT_INDEXES: usize = 8;
+
+/// Indexes of calendars that were asked for lately, for the questions that come. One is taken out while it serves.
+#[derive(Drop)]
+pub struct CalendarIndexes {
+    kept: Vec<CalendarIndex>,
+}
+
+impl CalendarIndexes {
+    /// Of no calendar.
+    pub fn new(alloc: Global) -> CalendarIndexes {
+        CalendarIndexes {
+            kept: Vec::new(alloc),
+        }
     }
-    let index = WorkIndex::build(alloc, calendar)?;
-    Ok(CalendarIndex {
-        weekdays,
-        dates,
-        index,
-    })
+
+    /// The index of the calendar of that name: one that was kept, where the calendar lists what that one's did, or one
+    /// that is built.
+    pub fn of(
+        &mut self,
+        alloc: Global,
+        all: &Definitions,
+        name: &Name,
+    ) -> Result<CalendarIndex, AllocError>
+        ensures { IfOk result (λ index. (d : ℕ) → is_work_in index d ≡ work_in all.now name.now d) }
+    {
+        match all.calendars.get(name) {
+            Some(calendar) => self.of_calendar(alloc, calendar),
+            None => self.of_calendar(alloc, &Calendar::new(alloc)),
+        }
+    }
+
+    /// Keeps the index; the one that was kept longest goes where there are too many.
+    pub fn keep(&mut self, index: CalendarIndex) -> Result<(), AllocError> {
+        if self.kept.len() >= MOST_KEPT_INDEXES {
+            drop(self.kept.remove(0));
+        }
+        self.kept.push(index)?;
+        Ok(())
+    }
+
+    // The kept index of a calendar that lists the same, or one that is built.
+    fn of_calendar(
+        &mut self,
+        alloc: Global,
+        calendar: &Calendar,
+    ) -> Result<CalendarIndex, AllocError>
+        ensures { IfOk result (λ index. (d : ℕ) → is_work_in index d ≡ is_work_day calendar.now d) }
+    {
+        let weekdays = weekdays_of(calendar);
+        let dates = calendar.dates(alloc)?;
+        if let Some(kept) = self.take(&weekdays, &dates) {
+            return Ok(kept);
+        }
+        let index = WorkIndex::build(alloc, calendar)?;
+        Ok(CalendarIndex {
+            weekdays,
+            dates,
+            index,
+        })
+    }
+
+    // Takes out the index whose calendar listed these weekdays and dates, if one is kept.
+    fn take(
+        &mut self,
+        weekdays: &[Option<DayStatus>; 7],
+        dates: &[(Day, DayStatus)],
+    ) -> Option<CalendarIndex>
+        ensures { IfSome result (λ index. IsIndexOf weekdays.now dates.now index) }
+    {
+        for at in 0..self.kept.len() {
+            if self.kept[at].is_of(weekdays, dates) {
+                return Some(self.kept.remove(at));
+            }
+        }
+        None
+    }
 }
 
 // What is listed for each weekday, from Monday on.

@@ -19,8 +19,8 @@ mod named;
 mod work_indexes;
 
 pub use applications::{active, calendar_name, cycles_of, lacks_calendar, lacks_period};
-pub use calendar_index::CalendarIndex;
+pub use calendar_index::{CalendarIndex, CalendarIndexes, MOST_KEPT_INDEXES};
 pub use least_names::{least_without_calendar, least_without_period};
 pub use links::defined_links;
 pub use named::{named_by_index, named_occurrences};
-pub use work_indexes::WorkIndexes;
+pub use work_indexes::{WorkIndexes, work_index};

@@ -31,8 +31,8 @@ impl Model for WorkIndexes {
     ghost view = { λ w. w.by_name };
 }
 
-// The index of the work days of the calendar of that name.
-fn index_of(alloc: Global, all: &Definitions, name: &Name) -> Result<WorkIndex, AllocError>
+/// The index of the work days of the calendar of that name.
+pub fn work_index(alloc: Global, all: &Definitions, name: &Name) -> Result<WorkIndex, AllocError>
     ensures { IfOk result (λ index. (d : ℕ) → is_work_in index d ≡ work_in all.now name.now d) }
 {
     match all.calendars.get(name) {
@@ -68,7 +68,7 @@ impl WorkIndexes {
         ensures err { OnErr result (self.new ≡ self.old) }
     {
         if self.by_name.get(name).is_none() {
-            let index = index_of(alloc, all, name)?;
+            let index = work_index(alloc, all, name)?;
             self.by_name.insert(*name, index)?;
         }
         Ok(())

@@ -41,7 +41,6 @@ use Rattle.plan_store.specs.Views.{IsCurrentRow}
 use Rattle.plan_store.specs.declared.changes.Change.{Change}
 use Rattle.plan_store.specs.declared.changes.Moves.{Moves}
 use Rattle.plan_store.specs.declared.changes.Verdict.TheVariants.{Done, Refused}
-use Rattle.plan_pairs.proofs.PartLemmas.{planned_cp}
 use Rattle.daily_planning.specs.Actions.{ChangesStatus, IsActedOn, WaitsFor}
 use Rattle.plan_pairs.specs.Withdrawals.{LosesRow}
 use Rattle.daily_planning.proofs.ChangeLemmas.{after_moves, fits_moves, moved_is}
@@ -176,7 +175,7 @@ module _ (c : Content) (sound : IsSound c) (action : Action) (changed : CurrentR
     of_row = refl;
     stood = stands_in_cp c.sets rows changed.row.serial (record { row = changed.row; status = is.was }) is.stands;
     lived = is.live;
-    planned = planned_cp c.sets changed.row.serial (record { row = changed.row; status = is.was }) is.stands;
+    planned = λ past. cc;
     gone = λ p at live. deleted_gone (to_deleted is.was changed.status
         (ap (changed_status is.was) (sym deletes) ∙ is.allowed)) p.place p.row at live;
     others = λ serial other p. ((λ at. same_seat serial other ∙ at), λ at. sym (same_seat serial other) ∙ at);

@@ -6,7 +6,7 @@ use Rattle.std.specs.Ordering.{MatchOrdering}
 use Rattle.std.specs.declared.cmp.Ordering.TheVariants.{Less}
 use Rattle.std.proofs.lemmas.List.{get_or_default}
 use Rattle.std.proofs.lemmas.Bool.{cases_eq, cases_lt}
-use Rattle.occurrences.specs.Place.{IsComplete, IsLive, IsOpen}
+use Rattle.occurrences.specs.Place.{IsLive, IsOpen}
 use Rattle.occurrences.specs.Status.{changed_status}
 use Rattle.occurrences.specs.declared.place.Place.{Place}
 use Rattle.occurrences.specs.declared.place.Place.TheVariants.{LongTerm, Current, History, Deleted}
@@ -25,6 +25,7 @@ use Rattle.planner_machine.specs.Content.{Content, Seat, Sets, StandsAt, alone, 
 use Rattle.planner_machine.specs.Pairs.{IsCompleteAt, pair_of}
 use Rattle.planner_machine.specs.Sound.{IsSound}
 use Rattle.planner_machine.proofs.SeatLemmas.{one_place}
+use Rattle.plan_store.specs.Views.{IsOutside}
 use Rattle.plan_store.proofs.PlaceLemmas.{stands_cp}
 use Rattle.daily_planning.specs.Actions.{LivesAt}
 
@@ -119,17 +120,16 @@ predecessor_lives c sound row waits pair there own = elim ((sound.pairs.settled.
       absurd (is.waits_no_more (subst (λ (p : PlacedRow). IsOpen p.place) one refl))
 ]
 
--- what lives and is shown in no plan and not in history is complete
-pub unshown_complete : (s : Sets) (serial : ℕ) → s.ltp serial ≡ None → s.cp serial ≡ None → LivesAt s serial
-    → IsCompleteAt s serial
-unshown_complete s serial no_ltp no_cp (p, stands, live) = (p, stands, by_place p.place p.row stands live)
+-- what lives stands in a plan or in history
+pub outside_dead : (s : Sets) (serial : ℕ) → IsOutside s serial → LivesAt s serial → ⊥
+outside_dead s serial outside (p, stands, live) = by_place p.place p.row stands live
   where
     no : {X : Type 0} (o : Option X) (x : X) → o ≡ None → o ≡ Some x → ⊥
     no o x none some = cc
 
-    by_place : (place : Place) (row : Row) → seat s serial ≡ alone row place → IsLive place → IsComplete place
-    by_place LongTerm row at live = absurd (no (s.ltp serial) row no_ltp (ap (λ (x : Seat). x.ltp) at))
+    by_place : (place : Place) (row : Row) → seat s serial ≡ alone row place → IsLive place → ⊥
+    by_place LongTerm row at live = no (s.ltp serial) row outside.ltp (ap (λ (x : Seat). x.ltp) at)
     by_place (Current status) row at live =
-        absurd (no (s.cp serial) (record { row = row; status = status }) no_cp (ap (λ (x : Seat). x.cp) at))
-    by_place History row at live = tt
-    by_place (Deleted reason) row at live = absurd live
+        no (s.cp serial) (record { row = row; status = status }) outside.cp (ap (λ (x : Seat). x.cp) at)
+    by_place History row at live = no (s.history serial) row outside.history (ap (λ (x : Seat). x.history) at)
+    by_place (Deleted reason) row at live = live

@@ -38,6 +38,11 @@ pub record IsActedOn (c : Content) (action : Action) (changed : CurrentRow) : Ty
   pub live : was ≢ D
   pub allowed : changed_status was action ≡ Some changed.status
 
+-- the row stands in the current plan, and is live
+abbrev pub IsLiveCurrent : Sets → Row → Type 0
+IsLiveCurrent s row =
+    (status : Status) × (s.cp row.serial ≡ Some (record { row = row; status = status })) × (status ≢ D)
+
 -- the pairs after the action
 abbrev pub ArePairsActed : Content → Action → CurrentRow → List Pair → Type 0
 ArePairsActed c action changed pairs =

@@ -1,23 +1,35 @@
 -- What a daily plan changes.
-use Rattle.std.specs.Prelude.{ℕ, Bool, None, Option, Some, not}
+use Rattle.std.specs.Prelude.{◌≡◌, ℕ, Bool, None, Option, Some, not}
 use Rattle.occurrences.specs.declared.place.CurrentRow.{CurrentRow}
 use Rattle.occurrences.specs.declared.reply.Reply.{Reply}
 use Rattle.planner_machine.specs.declared.content.Bounds.{Bounds}
+use Rattle.planner_machine.specs.declared.counts.Count.{Count}
 use Rattle.planner_machine.specs.Content.{Content}
 use Rattle.planner_machine.specs.DailyExtend.{ExtendsDaily}
 use Rattle.planner_machine.specs.DailyPlan.{is_uncompleted}
 use Rattle.planner_machine.specs.InForce.{PutsNone}
+use Rattle.planner_machine.specs.NewEnd.{IsNewEnd}
 use Rattle.planner_machine.specs.Plans.{ChangesPlans}
 use Rattle.plan_store.specs.Changes.{Fits, LeadsOn, after}
 use Rattle.plan_store.specs.declared.changes.Change.{Change}
 use Rattle.plan_store.specs.declared.stores.Need.{Need}
 use Rattle.plan_store.specs.declared.stores.Need.TheVariants.{Daily, Definitions}
 
--- what `dp-replan` has to see where the plans reach so far: what a daily plan to the plan end asks, and the definitions
--- alone where nothing is planned
-abbrev pub replan_need : Option Bounds → Need
-replan_need (Some b) = Daily b.plan_end
-replan_need None = Definitions
+-- what a daily plan to its end has to see, and the definitions alone where it has no end
+abbrev pub daily_need : Option ℕ → Need
+daily_need (Some t) = Daily t
+daily_need None = Definitions
+
+-- where the current plan ends, if anything is planned
+abbrev pub plan_end_of : Option Bounds → Option ℕ
+plan_end_of (Some b) = Some b.plan_end
+plan_end_of None = None
+
+-- the new plan end that so many days give; or that there is none, where nothing is planned or they give none
+abbrev pub IsEndBy : Content → ℕ → Count → Option ℕ → Type 0
+IsEndBy c n count (Some t) = (b : Bounds) × (c.sets.bounds ≡ Some b) × IsNewEnd c.definitions b.plan_end n count t
+IsEndBy c n count None = (b : Bounds) → c.sets.bounds ≡ Some b → (t : ℕ)
+    → ¬ (IsNewEnd c.definitions b.plan_end n count t)
 
 -- a row of the current plan that a daily plan takes from it
 abbrev pub is_finished : CurrentRow → Bool

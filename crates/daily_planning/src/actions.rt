@@ -1,15 +1,15 @@
-ghost use Rattle.std.specs.Prelude.{◌≡◌, ◌≢◌, ◌↔◌, IfOk, IsTrue, None, Some, true};
+ghost use Rattle.std.specs.Prelude.{◌≡◌, ◌≢◌, ◌↔◌, Contains, IfOk, IsTrue, None, Some};
 ghost use Rattle.planner_machine.specs.Act.{cp_action as decided};
 ghost use Rattle.planner_machine.specs.Content.{Content};
 ghost use Rattle.planner_machine.specs.Pairs.{IsCompleteAt};
 ghost use Rattle.planner_machine.specs.Sound.{IsSound};
 ghost use Rattle.plan_store.specs.Changes.{LeadsOn, pairs_after};
 ghost use Rattle.plan_store.specs.Verdicts.{VerdictIs};
-ghost use Rattle.plan_store.specs.Views.{Behind, BehindPart, IsCurrentRow, Shows, is_planned, shown};
-ghost use Rattle.daily_planning.specs.Actions.{ArePairsActed, ChangesStatus, IsActedOn, LeadsToRowPairs, LivesAt};
-ghost use Rattle.daily_planning.specs.Actions.{WaitsFor};
+ghost use Rattle.plan_store.specs.Views.{Behind, BehindPairs, IsCurrentRow, Shows, shown};
+ghost use Rattle.daily_planning.specs.Actions.{ArePairsActed, ChangesStatus, IsActedOn, IsLiveCurrent, LeadsToRowPairs};
+ghost use Rattle.daily_planning.specs.Actions.{LivesAt, WaitsFor};
 
-use external_dependencies::{PairChange, Pairs};
+use external_dependencies::{Pair, PairChange, Pairs};
 use occurrences::{Action, CurrentRow, Key, Refusal, Reply, Row, Serial, Status, next_status};
 use plan_pairs::{pairs_without, row_pairs_of, single};
 use plan_store::{Change, Need, Verdict, View};
@@ -74,7 +74,7 @@ fn waited_for(view: &View<'_>, action: Action, current: &CurrentRow) -> Option<S
         return None;
     }
     for pair in view.pairs_of_successor(current.row.serial) {
-        if !is_complete(view, pair.predecessor) {
+        if !is_complete(view, pair) {
             return Some(pair.predecessor);
         }
     }
@@ -88,14 +88,15 @@ fn is_start(action: Action) -> bool
     action == Action::Start
 }
 
-// Whether the live occurrence of the serial is complete: what stands in no plan stands in history.
-fn is_complete(view: &View<'_>, serial: Serial) -> bool
-    ensures { BehindPart view.now (λ c. LivesAt c.sets serial
-        → IsTrue result ↔ IsCompleteAt c.sets serial) }
+// Whether the predecessor of a pair that is shown is complete. It lives, so it stands in a plan or in history.
+fn is_complete(view: &View<'_>, pair: &Pair) -> bool
+    requires { Contains (shown view.now).pairs pair.now }
+    ensures { BehindPairs view.now (λ c. LivesAt c.sets pair.now.predecessor
+        → IsTrue result ↔ IsCompleteAt c.sets pair.now.predecessor) }
 {
-    match view.placed(serial) {
+    match view.predecessor(pair) {
         Some(placed) => placed.place.is_complete(),
-        None => true,
+        None => false,
     }
 }
 
@@ -140,12 +141,11 @@ fn acted_pairs(
     }
 }
 
-// The change of the pairs, where the row waits again: from those that it had to those with its nearest predecessors.
-// No pair of another row is looked at.
+// The change of the pairs, where the live row of the current plan waits again: from those that it had to those with its
+// nearest predecessors. No pair of another row is looked at.
 fn reset_pairs(alloc: Global, view: &View<'_>, row: &Row) -> Result<PairChange, AllocError>
     ensures { IfOk result (λ change. Behind (Need.Key row.now.key) view.now (λ c.
-        is_planned (shown view.now).sets.ltp (shown view.now).sets.cp row.now.serial ≡ true
-        → LeadsToRowPairs c row.now change)) }
+        IsLiveCurrent c.sets row.now → LeadsToRowPairs c row.now change)) }
 {
     let mut had = Vec::new(alloc);
     had.extend_from_slice(view.pairs_of_successor(row.serial))?;

@@ -1,15 +1,17 @@
-ghost use Rattle.std.specs.Prelude.{◌≡◌, ◌↔◌, IsTrue, IfOk, Some, map};
+ghost use Rattle.std.specs.Prelude.{◌≡◌, ◌↔◌, ℕ, IsTrue, IfOk, None, Some, map};
 ghost use Rattle.std.specs.List.{filter};
 ghost use Rattle.planner_machine.specs.Content.{Content};
 ghost use Rattle.planner_machine.specs.DailyPlan.{deleted_in_plan, is_completed, is_deleted, is_uncompleted, waiting};
 ghost use Rattle.planner_machine.specs.DailyExtend.{IsBadPlanEnd, dp_extend};
-ghost use Rattle.planner_machine.specs.DailyExtendBy.{dp_extend_by};
+ghost use Rattle.planner_machine.specs.DailyExtendBy.{DailyExtendByRefused, dp_extend_by};
+ghost use Rattle.planner_machine.specs.Decision.{IsLeastRefusal};
 ghost use Rattle.planner_machine.specs.Replan.{dp_replan};
 ghost use Rattle.planner_machine.specs.Sound.{IsSound};
+ghost use Rattle.planner_machine.specs.declared.counts.Count.{Count as CountValue};
 ghost use Rattle.plan_store.specs.Verdicts.{VerdictIs};
-ghost use Rattle.plan_store.specs.Views.{Shows, ShowsAtLeast};
-ghost use Rattle.plan_store.specs.declared.stores.Need.TheVariants.{Daily, LongTerm};
-ghost use Rattle.daily_planning.specs.DailyPlans.{DoesDaily, is_finished, replan_need};
+ghost use Rattle.plan_store.specs.Views.{Shows};
+ghost use Rattle.plan_store.specs.declared.stores.Need.TheVariants.{Daily, Definitions};
+ghost use Rattle.daily_planning.specs.DailyPlans.{DoesDaily, IsEndBy, daily_need, is_finished, plan_end_of};
 
 use crate::new_ends::new_end;
 use occurrences::{CurrentRow, Deletion, Reason, Refusal, Reply, Row, Status};
@@ -18,18 +20,20 @@ use planner_machine::{Bounds, Count, daily_plans};
 use std::alloc::{AllocError, Global};
 use work_calendars::Moment;
 
+/// What a daily plan to its end has to see; the definitions alone where it has no end.
+pub fn daily_need(end: Option<Moment>) -> Need
+    ensures { result ≡ daily_need end }
+{
+    match end {
+        Some(to) => Need::Daily(to),
+        None => Need::Definitions,
+    }
+}
+
 /// `dp-extend`: a daily plan to the moment. It is refused where nothing is planned (20), and where the moment is not
 /// after the plan end, past the end of the last day, or more hours on than the options allow (32).
 pub fn extend(alloc: Global, view: &View<'_>, to: Moment) -> Result<Verdict, AllocError>
     ensures { IfOk result (λ verdict. (c : Content) → Shows (Daily to) view.now c → IsSound c →
-        VerdictIs (dp_extend to) c verdict) }
-{
-    extend_to(alloc, view, to)
-}
-
-// The same over any window that shows at least what it asks.
-fn extend_to(alloc: Global, view: &View<'_>, to: Moment) -> Result<Verdict, AllocError>
-    ensures { IfOk result (λ verdict. (c : Content) → ShowsAtLeast to view.now c → IsSound c →
         VerdictIs (dp_extend to) c verdict) }
 {
     let Some(bounds) = view.bounds() else {
@@ -43,42 +47,54 @@ fn extend_to(alloc: Global, view: &View<'_>, to: Moment) -> Result<Verdict, Allo
     Ok(Verdict::Done(change, reply))
 }
 
-/// `dp-extend` by days: the daily plan to the new end that they give. It is refused where nothing is planned (20), and
-/// where they give no new end, or one to which the plan can't be extended (32).
-pub fn extend_by(
+/// The end of a `dp-extend` by days, as the definitions give it: the new end where there is a plan and the days give
+/// one.
+pub fn end_by(
     alloc: Global,
     view: &View<'_>,
     days: u8,
     count: Count,
-) -> Result<Verdict, AllocError>
-    ensures { IfOk result (λ verdict. (c : Content) → Shows LongTerm view.now c → IsSound c →
-        VerdictIs (dp_extend_by days count) c verdict) }
+) -> Result<Option<Moment>, AllocError>
+    ensures { IfOk result (λ end. (c : Content) → Shows Definitions view.now c
+        → IsEndBy c days count end) }
 {
-    daily_plans();
-    let Some(bounds) = view.bounds() else {
-        return Ok(Verdict::Refused(Refusal::NoPlan));
-    };
-    match new_end(alloc, view.definitions(), bounds.plan_end, days, count)? {
-        Some(to) => extend_to(alloc, view, to),
-        None => Ok(Verdict::Refused(Refusal::PlanEndOutOfRange)),
+    match view.bounds() {
+        Some(bounds) => new_end(alloc, view.definitions(), bounds.plan_end, days, count),
+        None => Ok(None),
     }
 }
 
-/// What `dp-replan` has to see where the plans reach so far: what a daily plan to the plan end asks, and the
-/// definitions alone where nothing is planned.
-pub fn replan_need(bounds: Option<Bounds>) -> Need
-    ensures { result ≡ replan_need bounds }
+/// `dp-extend` by days: the daily plan to the new end that they give, which `end_by` finds. It is refused where nothing
+/// is planned (20), and where they give no new end, or one to which the plan can't be extended (32).
+pub fn extend_by(alloc: Global, view: &View<'_>, end: Option<Moment>) -> Result<Verdict, AllocError>
+    ensures { IfOk result (λ verdict. (days : ℕ) (count : CountValue) (c : Content)
+        → IsEndBy c days count end → Shows (daily_need end) view.now c → IsSound c
+        → VerdictIs (dp_extend_by days count) c verdict) }
 {
-    match bounds {
-        Some(bounds) => Need::Daily(bounds.plan_end),
-        None => Need::Definitions,
+    daily_plans();
+    match end {
+        Some(to) => extend(alloc, view, to),
+        None => Ok(Verdict::Refused(without_end(view))),
+    }
+}
+
+// Why there is no end of an extension by days: nothing is planned, or the days give none.
+fn without_end(view: &View<'_>) -> Refusal
+    ensures { (days : ℕ) (count : CountValue) (c : Content) → IsEndBy c days count None
+        → Shows Definitions view.now c
+        → IsLeastRefusal (DailyExtendByRefused days count c) result }
+{
+    match view.bounds() {
+        Some(_) => Refusal::PlanEndOutOfRange,
+        None => Refusal::NoPlan,
     }
 }
 
 /// `dp-replan`: a daily plan to the plan end as it is, which takes nothing from the long-term plan. It is refused
 /// where nothing is planned (20).
 pub fn replan(alloc: Global, view: &View<'_>) -> Result<Verdict, AllocError>
-    ensures { IfOk result (λ verdict. (c : Content) → Shows (replan_need c.sets.bounds) view.now c
+    ensures { IfOk result (λ verdict. (c : Content)
+        → Shows (daily_need (plan_end_of c.sets.bounds)) view.now c
         → IsSound c → VerdictIs dp_replan c verdict) }
 {
     let Some(bounds) = view.bounds() else {
@@ -105,7 +121,7 @@ fn daily_plan(
     bounds: &Bounds,
     to: Moment,
 ) -> Result<(Change, Reply), AllocError>
-    ensures { IfOk result (λ done. (c : Content) → ShowsAtLeast to view.now c → IsSound c →
+    ensures { IfOk result (λ done. (c : Content) → Shows (Daily to) view.now c → IsSound c →
         c.sets.bounds ≡ Some bounds.now → DoesDaily to c done.0 done.1) }
 {
     let moved = view.ltp_before(alloc, to)?;

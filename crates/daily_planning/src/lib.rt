@@ -18,6 +18,6 @@ mod new_ends;
 
 pub use actions::cp_action;
 pub use additions::cp_add;
-pub use daily_plans::{extend, extend_by, replan, replan_need};
+pub use daily_plans::{daily_need, end_by, extend, extend_by, replan};
 pub use laws::status_changes_leave_pairs;
 pub use new_ends::new_end;

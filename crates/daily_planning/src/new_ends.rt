@@ -5,7 +5,7 @@ ghost use Rattle.work_calendars.specs.Day.{IsDay};
 ghost use Rattle.work_calendars.specs.WorkIndex.{is_work_in};
 
 use app_definitions::Definitions;
-use app_occurrences::CalendarIndex;
+use app_occurrences::work_index;
 use planner_machine::Count;
 use std::alloc::{AllocError, Global};
 use work_calendars::{Day, Moment, WorkIndex};
@@ -58,8 +58,8 @@ fn day_after_work(
     ensures none { IfOk result (λ day. IfNone day ((x : ℕ) → IsDay x
         → ¬ (IsNewDay all.now from n counts.WorkDays x))) }
 {
-    let index = CalendarIndex::of(alloc, None, all, &all.options.default_calendar)?;
-    match nth_from(index.index(), from, n) {
+    let index = work_index(alloc, all, &all.options.default_calendar)?;
+    match nth_from(&index, from, n) {
         Some(day) => Ok(day.next()),
         None => Ok(None),
     }

@@ -143,7 +143,7 @@ get-overlaid old more q =
     ∙ cc (sym (map.get-entries more q), sym (map.get-entries old q))
 
 -- a name that no entry has is not found
-lookup-absent : {X : Type 0} (k : List ℕ) (es : List (List ℕ × X))
+pub lookup-absent : {X : Type 0} (k : List ℕ) (es : List (List ℕ × X))
     → AllByRecursion (λ y. pointwise nat_eq k y ≡ false) (keys_of es) → lookup (pointwise nat_eq k) es ≡ None
 lookup-absent k [] h = refl
 lookup-absent k (e ∷ es) h = rw (h.0) (lookup-absent k es h.1)

@@ -2,6 +2,7 @@ pub mod LengthLemmas
 mod RecordLemmas
 pub mod RisingLemmas
 pub mod ByNameLemmas
+pub mod ReplacedLemmas
 pub mod EntryLemmas
 pub mod FieldLemmas
 pub mod CalendarLemmas

@@ -1,6 +1,7 @@
 -- Definitions by name, as the records of a block give them.
 use Rattle.std.specs.Prelude.{◌≡◌, ◌≢◌, ◌↔◌, ℕ, Bool, ◌++◌, ◌∷◌, List, [], filter, length, Option, None, Some, IsSome}
 use Rattle.std.specs.Prelude.{Contains, IfSome, IsTrue, nat_eq}
+use Rattle.std.specs.Prelude.{map as list_map}
 use Rattle.std.specs.Cmp.Lexicographic.{pointwise, slice_cmp}
 use Rattle.std.specs.List.{IsDistinct}
 use Rattle.std.specs.Map.{keys_of}
@@ -66,6 +67,32 @@ pub record AreEntriesOf {D : Type 0} (entries : List (List ℕ × D))
 abbrev pub overlaid : {D : Type 0} → map.FinMap (slice_cmp nat_cmp) D → map.FinMap (slice_cmp nat_cmp) D
     → map.FinMap (slice_cmp nat_cmp) D
 overlaid old more = map.from_entries (map.entries more ++ map.entries old)
+
+-- what stands in `old` under each name of `more`: its definition, or that there is none
+abbrev pub replaced : {D : Type 0} → map.FinMap (slice_cmp nat_cmp) D → map.FinMap (slice_cmp nat_cmp) D
+    → map.FinMap (slice_cmp nat_cmp) (Option D)
+replaced old more = map.from_entries (list_map (λ e. (e.0, map.get old e.0)) (map.entries more))
+
+-- the definitions with this one under the name, or with none
+abbrev pub with_one : {D : Type 0} → List ℕ → Option D → map.FinMap (slice_cmp nat_cmp) D
+    → map.FinMap (slice_cmp nat_cmp) D
+with_one name None all = map.remove all name
+with_one name (Some definition) all = map.insert all name definition
+
+abbrev pub with_each : {D : Type 0} → List (List ℕ × Option D) → map.FinMap (slice_cmp nat_cmp) D
+    → map.FinMap (slice_cmp nat_cmp) D
+with_each [] all = all
+with_each (noted ∷ rest) all = with_one noted.0 noted.1 (with_each rest all)
+
+-- the definitions with what was noted of a name under it, and with all others as they are
+abbrev pub restored : {D : Type 0} → map.FinMap (slice_cmp nat_cmp) (Option D) → map.FinMap (slice_cmp nat_cmp) D
+    → map.FinMap (slice_cmp nat_cmp) D
+restored was all = with_each (map.entries was) all
+
+-- each name of which something was noted has a definition
+abbrev pub AllStand : {D : Type 0} → map.FinMap (slice_cmp nat_cmp) (Option D) → map.FinMap (slice_cmp nat_cmp) D
+    → Type 0
+AllStand was all = (name : List ℕ) → IsSome (map.get was name) → IsSome (map.get all name)
 
 -- the names are those that have a definition, in byte order, each once
 pub record AreNamesOf {D : Type 0} (names : List (List ℕ))

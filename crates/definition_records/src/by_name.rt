@@ -7,6 +7,7 @@ ghost use Rattle.std.specs.FinMap as map;
 ghost use Rattle.csv.specs.Records.{fields_of};
 ghost use Rattle.definition_records.specs.ByName.{AreEntriesOf, AreGivenBy, AreNamesOf, Begins, FitsKind, HaveOwnNames};
 ghost use Rattle.definition_records.specs.ByName.{IsAsLong, Joins, overlaid};
+ghost use Rattle.definition_records.specs.ByName.{AllStand, replaced, restored, with_one};
 ghost use Rattle.definition_records.specs.Rising.{AreRising};
 ghost use Rattle.definition_records.specs.Records.{Record, Records};
 
@@ -187,6 +188,54 @@ impl<D: Definition> Clone for ByName<D> {
 }
 
 impl<D: Definition> ByName<D> {
+    /// What stands here under the names of these definitions: a copy, or none where a name has no definition.
+    pub fn replaced_by(&self, more: &ByName<D>) -> Result<ByName<Option<D>>, AllocError>
+        ensures { IfOk result (λ was. was ≡ replaced self.now more.now) }
+    {
+        let mut was = ByName::new(*self.by_name.allocator());
+        for (name, _definition) in more.iter() {
+            was.insert(*name, self.copy_of(name)?)?;
+        }
+        Ok(was)
+    }
+
+    // A copy of the definition of this name, if it has one.
+    fn copy_of(&self, name: &Name) -> Result<Option<D>, AllocError>
+        ensures { IfOk result (λ copy. copy ≡ map.get self.now name.now) }
+    {
+        match self.get(name) {
+            Some(definition) => Ok(Some(definition.copy()?)),
+            None => Ok(None),
+        }
+    }
+
+    /// Puts back what was noted of names that have a definition: that of each, or none. It takes no memory.
+    pub fn put_back(&mut self, was: ByName<Option<D>>)
+        requires { AllStand was self.old }
+        ensures { self.new ≡ restored was self.old }
+    {
+        for (name, definition) in was.by_name {
+            self.put_one(&name, definition);
+        }
+    }
+
+    // Puts this definition, or none, in place of the one that the name has.
+    fn put_one(&mut self, name: &Name, definition: Option<D>)
+        requires { IsSome (map.get self.old name.now) }
+        ensures { self.new ≡ with_one name.now definition self.old }
+    {
+        match definition {
+            Some(definition) => {
+                if let Some(place) = self.by_name.get_mut(name) {
+                    *place = definition;
+                }
+            }
+            None => {
+                self.remove(name);
+            }
+        }
+    }
+
     /// Takes the next record of a block in, which is as long as the first one, or answers that it is faulty.
     pub(crate) fn gather(&mut self, alloc: Global, row: &ByteRecord) -> Result<bool, AllocError>
         ensures { (before : Records) → AreGivenBy D.IsMadeOf self.old before

@@ -1,7 +1,7 @@
 -- A deletion from the long-term plan is what the machine does.
 use Rattle.std.proofs.Common.{◌≡◌, ◌≢◌, ℕ, ◌≤◌, Bool, true, false, refl, arith, sym, ap, subst, ◌∙◌}
 use Rattle.std.proofs.Common.{Some, None, Option}
-use Rattle.std.specs.Prelude.{◌||◌, is_some, nat_eq, not, option_map, unwrap_or, if◌then◌else◌}
+use Rattle.std.specs.Prelude.{nat_eq, not, option_map, unwrap_or, if◌then◌else◌}
 use Rattle.std.proofs.lemmas.Bool.{eqb-true, eqb-false, ne_eqb}
 use Rattle.occurrences.proofs.KeyLemmas.{key_other, key_same}
 use Rattle.occurrences.specs.declared.key.Key.{Key}
@@ -136,7 +136,7 @@ module _ (c : Sets) (sound : RowsSound c) (row : Row) (stands : c.ltp row.serial
     of_row = refl;
     stood = stands_in_ltp c sound row.serial row stands;
     lived = tt;
-    planned = ap (λ o. is_some o || is_some (c.cp row.serial)) stands;
+    planned = λ is. cc;
     gone = λ p at live. goes row.serial p.place p.row at live refl;
     others = λ serial other p. ((λ at. same_seat serial other ∙ at), λ at. sym (same_seat serial other) ∙ at);
   }

@@ -1,5 +1,5 @@
 -- What a window shows holds what a statement on the long-term plan reaches.
-use Rattle.std.proofs.Common.{◌≡◌, ◌↔◌, ◌⊎◌, ◌++◌, ℕ, List, inl, inr}
+use Rattle.std.proofs.Common.{◌≡◌, ◌↔◌, ◌⊎◌, ◌++◌, ℕ, List, None, inl, inr}
 use Rattle.std.specs.List.{Contains}
 use Rattle.occurrences.specs.Place.{IsOpen}
 use Rattle.occurrences.specs.declared.place.CurrentRow.{CurrentRow}
@@ -22,18 +22,18 @@ use Rattle.plan_store.specs.Views.{Hidden, IsAny, ListsSet, Sees, shown, with_hi
 use Rattle.plan_store.specs.declared.views.View.{View}
 use Rattle.plan_pairs.specs.ByApplications.{HasReached, HasWithList}
 use Rattle.plan_pairs.specs.LiveRows.{AreCompleted, HasLists}
-use Rattle.plan_pairs.specs.Planned.{IsPlannedOf}
+use Rattle.plan_pairs.specs.Planned.{IsOpenRow}
 use Rattle.plan_pairs.specs.Turns.{AreKnownLinks, ArePlanned, IsBeside, IsInLists, IsTouchOf}
 use Rattle.plan_pairs.proofs.GatheredLemmas.{gone_app, of_reached}
 use Rattle.plan_pairs.proofs.PartLemmas.{shown_stood}
-use Rattle.plan_pairs.proofs.SeenLemmas.{completed_rows, pair_shown, seen_hold, was_planned}
+use Rattle.plan_pairs.proofs.SeenLemmas.{completed_rows, pair_shown, seen_hold, was_open}
 use Rattle.plan_pairs.proofs.TouchLemmas.{live_once}
 use Rattle.plan_pairs.proofs.TurnLemmas.{IsTurnTo}
 use Rattle.long_term_plan.specs.Modifying.{AreOf, HavePlanned}
 use Rattle.long_term_plan.proofs.TurnedLemmas.{turned}
 
 module _ (h : Hidden) (view : View) (sound : IsSound (with_hidden h view))
-    (sees : Sees (AsksPlan (with_hidden h view)) h view) (links : List Link)
+    (sees : Sees None (AsksPlan (with_hidden h view)) h view) (links : List Link)
     (known : AreKnownLinks (with_hidden h view) links) (rows : List Row)
     (lists : ListsSet of_row (shown view).sets.ltp IsAny rows) (current : List CurrentRow)
     (current_are : ListsSet of_current (shown view).sets.cp IsAny current) (lasts : List Row)
@@ -69,18 +69,19 @@ module _ (h : Hidden) (view : View) (sound : IsSound (with_hidden h view))
       → ((q : PlacedRow) → Contains turn_seen.now q → IsOpen q.place → MayReach touch links q.row
       → OfPairs q.row.key.app) → ((row : Row) → Contains gone row → OfPairs row.key.app)
       → ((pair : Pair) → Contains pairs pair → Contains (shown view).pairs pair)
-      → ((pair : Pair) → Contains (shown view).pairs pair → (app : List ℕ) → OfPairs app
-      → IsPlannedOf (shown view).sets app pair.successor → Contains pairs pair)
+      → ((pair : Pair) → Contains (shown view).pairs pair → (row : Row) → IsOpenRow (shown view).sets row
+      → OfPairs row.key.app → row.serial ≡ pair.successor → Contains pairs pair)
       → HoldsReached touch links turn_seen.now h.pairs live pairs
   held OfRows live are pass OfPairs pairs reached_pass gone_pass part all =
       seen_hold h view sound sees links known s (stay ++ made) current current_are completed lasts lasts_are history.1
       has.sound turn_seen.now turn_seen.turn.after turn_seen.listed touch OfRows live are pass h.pairs pairs
-      (λ pair there. shown_stood (shown view).sets (shown view).pairs h.pairs sees.pairs pair
+      (λ pair there. shown_stood None (shown view).sets (shown view).pairs h.pairs sees.pairs pair
       (part pair there)) (λ pair there reached.
-      let (app, passes, planned) = was_planned c sound rows stay gone made current current_are completed history.1 lists
+      let (row, is_open, passes, same) = was_open c sound rows stay gone made current current_are completed history.1
+      lists
       plan turn_seen.now turn_seen.listed once touch c.in_force links touches OfPairs reached_pass gone_pass pair there
       reached in
-      all pair (pair_shown h view sees pair there app planned) app passes planned)
+      all pair (pair_shown h view sees pair there row is_open same) row is_open passes same)
 
   -- the applications that the change reaches
   module _ (apps : List (List ℕ)) (reached : HasReached touch links apps) where

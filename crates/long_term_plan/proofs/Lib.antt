@@ -3,6 +3,7 @@ mod PairwiseLemmas
 mod DraftingLemmas
 mod NumberLemmas
 mod MakingLemmas
+mod MetLemmas
 mod RefusalLemmas
 mod CreateLemmas
 mod ExtendLemmas

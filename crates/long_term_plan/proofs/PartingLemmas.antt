@@ -4,6 +4,7 @@ use Rattle.std.proofs.Common.{length, refl, sym}
 use Rattle.std.proofs.Common.{ap, subst, ◌∙◌, inl, inr, arith, Option, None, Some}
 use Rattle.std.specs.Prelude.{is_none, if◌then◌else◌}
 use Rattle.std.specs.List.{Contains, cons_option, filter_map}
+use Rattle.std.proofs.lemmas.List.{append-nil}
 use Rattle.std.proofs.lemmas.List.Elements.{All-from_get_or, Contains-append_left, Contains-get_or, Contains-push}
 use Rattle.std.proofs.lemmas.List.Elements.{Contains-push_cases, filter-append, filter_map-append}
 use Rattle.std.proofs.lemmas.List.Kept.{AllPairs-cons}
@@ -86,10 +87,20 @@ module _ (f : Row → Option Row) where
         → filter_map f (front ++ row ∷ []) ≡ filter_map f front ++ cons_option o []
     mapped_more o at = filter_map-append f front (row ∷ []) ∙ ap (λ p. filter_map f front ++ cons_option p []) at
 
-    pub gone_more : (o : Option Row) → f row ≡ o → filter (λ r. is_none (f r)) (front ++ row ∷ [])
+    gone_more : (o : Option Row) → f row ≡ o → filter (λ r. is_none (f r)) (front ++ row ∷ [])
         ≡ filter (λ r. is_none (f r)) front ++ (if is_none o then row ∷ [] else [])
     gone_more o at = filter-append (λ r. is_none (f r)) front (row ∷ [])
         ∙ ap (λ p. filter (λ r. is_none (f r)) front ++ (if is_none p then row ∷ [] else [])) at
+
+    -- a row that goes, and one that stays
+    pub gone_comes : (old : List Row) → old ≡ filter (λ r. is_none (f r)) front → f row ≡ None
+        → old ++ row ∷ [] ≡ filter (λ r. is_none (f r)) (front ++ row ∷ [])
+    gone_comes old is at = ap (λ rs. rs ++ row ∷ []) is ∙ sym (gone_more None at)
+
+    pub gone_stays : (old : List Row) (now : Row) → old ≡ filter (λ r. is_none (f r)) front → f row ≡ Some now
+        → old ≡ filter (λ r. is_none (f r)) (front ++ row ∷ [])
+    gone_stays old now is at =
+        is ∙ sym (append-nil (filter (λ r. is_none (f r)) front)) ∙ sym (gone_more (Some now) at)
 
     module _ (old : List Row) (is : AreChanged f front old) where
       wider : (x : Row) → (r : Row) × Contains front r × (f r ≡ Some x)

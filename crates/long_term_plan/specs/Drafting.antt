@@ -1,5 +1,6 @@
 -- Lists of drafts: those that the calendars name from a moment on, and those of them that are new.
-use Rattle.std.specs.Prelude.{◌≡◌, ◌≢◌, ◌↔◌, ℕ, ◌≤◌, ◌++◌, Bool, List, Contains, Some, filter, map, nat_le}
+use Rattle.std.specs.Prelude.{◌≡◌, ◌≢◌, ◌↔◌, ℕ, ◌<◌, ◌≤◌, ◌++◌, Bool, true, false, List, Contains, Some, filter, map}
+use Rattle.std.specs.Prelude.{length, nat_le, slice_index_or}
 use Rattle.std.specs.List.{AllPairs}
 use Rattle.work_calendars.specs.Moment.{day_of_moment}
 use Rattle.run_cycles.specs.declared.named.Named.{Named}
@@ -67,6 +68,15 @@ pub record IsNewKey (s : Sets) (key : Key) : Type 0 where
   pub not_planned : (serial : ℕ) (row : Row) → s.ltp serial ≡ Some row → row.key ≢ key
   pub not_deleted : (serial : ℕ) (deletion : Deletion) → s.deletions serial ≡ Some deletion
       → deletion.reason ≡ Operator → deletion.row.key ≢ key
+
+-- a row of the long-term plan has the key
+abbrev pub IsPlannedKey : Sets → Key → Type 0
+IsPlannedKey s key = (serial : ℕ) × (row : Row) × (s.ltp serial ≡ Some row) × (row.key ≡ key)
+
+-- of each draft it is said whether a row of the long-term plan has its key
+abbrev pub ArePlannedKeys : Sets → List Draft → List Bool → Type 0
+ArePlannedKeys s named met = (i : ℕ) (draft : Draft) → i < length named → slice_index_or named i draft ≡ draft
+    → (slice_index_or met i false ≡ true) ↔ IsPlannedKey s draft.key
 
 -- of the named drafts those of new keys, in their order
 pub record AreNew (s : Sets) (named new : List Draft) : Type 0 where

@@ -1,9 +1,11 @@
 -- What `ltp-modify-all` and `ltp-modify-one` make of the rows of the long-term plan.
-use Rattle.std.specs.Prelude.{◌≡◌, ◌⊎◌, ◌↔◌, ℕ, ◌+◌, ◌<◌, Bool, List, Contains, Option, None, Some, filter, is_none, length}
+use Rattle.std.specs.Prelude.{◌≡◌, ◌≢◌, ◌⊎◌, ◌↔◌, ℕ, ◌+◌, ◌<◌, Bool, true, false, List, Contains, Option, None, Some}
+use Rattle.std.specs.Prelude.{filter, is_none, length, option_map, slice_index_or, if◌then◌else◌}
 use Rattle.std.specs.List.{AllPairs, filter_map}
 use Rattle.app_occurrences.specs.Active.{IsActive}
 use Rattle.definition_records.specs.declared.applications.Application.{Application}
 use Rattle.app_definitions.specs.declared.definitions.Definitions.{Definitions}
+use Rattle.occurrences.specs.declared.key.Key.{Key}
 use Rattle.occurrences.specs.declared.place.CurrentRow.{CurrentRow}
 use Rattle.occurrences.specs.declared.place.Place.TheVariants.{LongTerm}
 use Rattle.occurrences.specs.declared.refusal.Refusal.TheVariants.{TooManyRows}
@@ -16,7 +18,7 @@ use Rattle.planner_machine.specs.declared.content.Draft.{Draft}
 use Rattle.planner_machine.specs.declared.limits.TheConstants.{MOST_PLANNED_ROWS}
 use Rattle.planner_machine.specs.Content.{Content, Sets}
 use Rattle.planner_machine.specs.Drafts.{AreDrafts, IsMade}
-use Rattle.planner_machine.specs.Modify.{NamesAhead, looks_at, modified, modify_move, taken}
+use Rattle.planner_machine.specs.Modify.{NamesAhead, looks_at, modified, modify_move, stamped, taken}
 use Rattle.planner_machine.specs.ModifyAll.{IsAnyApp, is_any_app}
 use Rattle.planner_machine.specs.ModifyOne.{IsThatApp, is_that_app}
 use Rattle.planner_machine.specs.Moves.{each, size, with_made}
@@ -47,10 +49,24 @@ pub record AreAsked (all : Definitions) (only : Option (List ℕ)) (apps : List 
 abbrev pub outcome : Option (List ℕ) → List Draft → Row → Option Row
 outcome only named = modified (looks_at (looks only)) named
 
--- the row as it is then, where it stays and changes; or that it doesn't stay, or stays as it is
-abbrev pub IsChanged : (Row → Option Row) → Row → Option Row → Type 0
-IsChanged becomes row (Some now) = becomes row ≡ Some now
-IsChanged becomes row None = (x : Row) → becomes row ≡ Some x → x ≡ row
+-- so where that draft is named under its key, or none
+abbrev pub outcome_with : Option (List ℕ) → Option Draft → Row → Option Row
+outcome_with only draft row = if looks_at (looks only) row then option_map (λ d. stamped d row) draft else Some row
+
+-- the draft that stands there has the key, or none has it
+abbrev pub IsDraftAt : Key → List Draft → Option ℕ → Type 0
+IsDraftAt key named (Some i) = i < length named × ((d : Draft) → (slice_index_or named i d).key ≡ key)
+IsDraftAt key named None = (draft : Draft) → Contains named draft → draft.key ≢ key
+
+-- one of the rows has the key
+abbrev pub HasKey : List Row → Key → Type 0
+HasKey rows key = (row : Row) × Contains rows row × (row.key ≡ key)
+
+-- of each draft it is said whether one of the rows has its key
+pub record AreMet (rows : List Row) (named : List Draft) (met : List Bool) : Type 0 where
+  pub count : length met ≡ length named
+  pub says : (i : ℕ) (draft : Draft) → i < length named → slice_index_or named i draft ≡ draft
+      → (slice_index_or met i false ≡ true) ↔ HasKey rows draft.key
 
 -- of the rows that stay those that change, and perhaps others that stay
 pub record AreChanged (becomes : Row → Option Row) (rows changed : List Row) : Type 0 where

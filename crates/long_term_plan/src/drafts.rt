@@ -1,4 +1,5 @@
 ghost use Rattle.std.specs.Prelude.{◌≡◌, ◌≢◌, ◌↔◌, ℕ, ◌+◌, ◌≤◌, ◌++◌, List, Contains, IfOk, OnOk, IsTrue};
+ghost use Rattle.std.specs.Prelude.{length};
 ghost use Rattle.std.specs.List.{AllPairs};
 ghost use Rattle.work_calendars.specs.Day.{last_kept_day};
 ghost use Rattle.app_occurrences.specs.NamedOccurrences.{AreIndexesOf};
@@ -7,8 +8,8 @@ ghost use Rattle.planner_machine.specs.Content.{midnight};
 ghost use Rattle.planner_machine.specs.Drafts.{AreDrafts, draft_of};
 ghost use Rattle.planner_machine.specs.Sound.{AreDefinitions};
 ghost use Rattle.plan_store.specs.Views.{BehindAny, ShowsDeleted};
-ghost use Rattle.long_term_plan.specs.Drafting.{AddsDrafts, DraftsRise, AreNew, HaveOwnKeys, IsNewKey, NamesFor};
-ghost use Rattle.long_term_plan.specs.Drafting.{drafts_from};
+ghost use Rattle.long_term_plan.specs.Drafting.{AddsDrafts, AreNew, ArePlannedKeys, DraftsRise, HaveOwnKeys};
+ghost use Rattle.long_term_plan.specs.Drafting.{IsNewKey, IsPlannedKey, NamesFor, drafts_from};
 
 use app_definitions::Definitions;
 use app_occurrences::{WorkIndexes, active, named_occurrences};
@@ -133,4 +134,34 @@ fn is_new(view: &View<'_>, key: &Key) -> bool
         → IsTrue result ↔ IsNewKey c.sets key.now) }
 {
     view.ltp_row(key).is_none() && !view.is_deleted_by_operator(key)
+}
+
+// Those of the drafts that a planning statement makes, where it is known of each whether a row of the long-term plan
+// has its key.
+pub(crate) fn unmet_drafts(
+    alloc: Global,
+    view: &View<'_>,
+    named: &[Draft],
+    met: &[bool],
+) -> Result<Vec<Draft>, AllocError>
+    requires { length met.now ≡ length named.now }
+    ensures { IfOk result (λ new. BehindAny view.now (λ c.
+        ((draft : DraftValue) → Contains named.now draft → ShowsDeleted c view.now draft.key)
+        → ArePlannedKeys c.sets named.now met.now → AreNew c.sets named.now new.items)) }
+{
+    let mut new = Vec::new(alloc);
+    for (i, draft) in named.iter().enumerate() {
+        if is_unmet(view, &draft.key, met[i]) {
+            new.push(*draft)?;
+        }
+    }
+    Ok(new)
+}
+
+// Whether a planning statement may make the key, where it is known whether a row of the long-term plan has it.
+fn is_unmet(view: &View<'_>, key: &Key, met: bool) -> bool
+    ensures { BehindAny view.now (λ c. ShowsDeleted c view.now key.now
+        → (IsTrue met ↔ IsPlannedKey c.sets key.now) → IsTrue result ↔ IsNewKey c.sets key.now) }
+{
+    !met && !view.is_deleted_by_operator(key)
 }

@@ -22,10 +22,10 @@ ghost use Rattle.long_term_plan.specs.Drafting.{DraftsRise};
 ghost use Rattle.long_term_plan.specs.Modifying.{AreAsked, AreModifying, AreOf, AreTooMany, HavePlanned, Looks};
 ghost use Rattle.long_term_plan.specs.Modifying.{ModifiesPlan, ModifiesRows, modified_sets, outcome};
 
-use crate::drafts::{named_drafts, new_drafts};
+use crate::drafts::{named_drafts, unmet_drafts};
 use crate::lists::{defined_lists, lists_of_one};
 use crate::making::numbered_rows;
-use crate::parting::{changed_rows, staying_rows, withdrawn_rows};
+use crate::parting::{Parted, parted_rows, staying_rows};
 use crate::refusals::{lacking_definition, lacking_own_definition};
 use app_definitions::Definitions;
 use app_occurrences::active;
@@ -105,9 +105,10 @@ fn modify(
     let named = named_drafts(alloc, all, apps.as_slice(), bounds.plan_end, last)?;
     let rows = view.ltp();
     let looked = looked_rows(view, only);
-    let new = new_drafts(alloc, view, &named)?;
-    let gone = withdrawn_rows(alloc, looked, only, &named)?;
-    let changed = changed_rows(alloc, looked, only, &named)?;
+    let parted = parted_rows(alloc, looked, only, &named)?;
+    let Parted { gone, changed, met } = parted;
+    let new = unmet_drafts(alloc, view, &named, &met)?;
+    drop(met);
     if are_too_many(view, &gone, &new) {
         return Ok(Verdict::Refused(Refusal::TooManyRows));
     }

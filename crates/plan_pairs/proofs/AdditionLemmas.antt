@@ -1,13 +1,11 @@
 -- An occurrence that is added by hand is what the machine adds.
-use Rattle.std.proofs.Common.{◌≡◌, ◌≢◌, ◌⊎◌, ℕ, suc, ◌+◌, ◌<◌, ◌≤◌, true, false, List, [], ◌∷◌, ◌++◌, refl, sym, ap}
+use Rattle.std.proofs.Common.{◌≡◌, ◌≢◌, ◌⊎◌, ℕ, suc, ◌+◌, ◌<◌, ◌≤◌, true, false, [], ◌∷◌, refl, sym, ap}
 use Rattle.std.proofs.Common.{subst, ◌∙◌, inl, inr, arith, Option, Some, None}
 use Rattle.std.specs.Prelude.{nat_eq, unwrap_or, Ok, Err, if◌then◌else◌}
-use Rattle.std.specs.List.{Contains}
 use Rattle.std.proofs.lemmas.Bool.{cases_eq, cases_lt, eqb-true, eqb-false}
-use Rattle.std.proofs.lemmas.List.Elements.{Contains-append_left, Contains-push, Contains-push_cases}
 use Rattle.work_calendars.specs.Minute.{minutes_per_day}
 use Rattle.work_calendars.specs.Moment.{day_of_moment, minute_of_moment, moment_of}
-use Rattle.occurrences.specs.Place.{IsLive}
+use Rattle.occurrences.specs.Place.{IsLive, IsOpen}
 use Rattle.occurrences.specs.Refusal.{refusal_number}
 use Rattle.occurrences.specs.declared.key.Key.{Key}
 use Rattle.occurrences.specs.declared.place.Place.{Place}
@@ -36,7 +34,7 @@ use Rattle.planner_machine.specs.Sound.{IsSound}
 use Rattle.planner_machine.proofs.AddLemmas.{add_sound}
 use Rattle.planner_machine.proofs.MadeLemmas.{made_follows}
 use Rattle.planner_machine.specs.RowsSound.{RowsSound}
-use Rattle.planner_machine.proofs.SeatLemmas.{cases_issued, one_place}
+use Rattle.planner_machine.proofs.SeatLemmas.{cases_issued, not_empty}
 use Rattle.planner_machine.proofs.SoundLemmas.{rows_sound}
 use Rattle.keyed_lists.specs.Rows.{of_current, of_deletion, of_row}
 use Rattle.plan_store.specs.Changes.{Fits, FitsSet, after, jobs_after, moved_set, pairs_after, redefined}
@@ -48,9 +46,9 @@ use Rattle.plan_store.specs.declared.changes.Verdict.TheVariants.{Done, Refused}
 use Rattle.plan_store.proofs.ViewLemmas.{size_same}
 use Rattle.plan_pairs.specs.Additions.{AddsRow, HasRoomForOne, IsAddable, IsAdditionOf, IsNewRow}
 use Rattle.plan_pairs.specs.Additions.{place_in}
-use Rattle.plan_pairs.specs.LiveRows.{AreLiveRows}
 use Rattle.plan_pairs.specs.declared.additions.Plan.{Plan}
 use Rattle.plan_pairs.specs.declared.additions.Plan.TheVariants.{LongTerm, Current}
+use Rattle.plan_pairs.proofs.OneMoreLemmas.{HasOneMore}
 use Rattle.plan_pairs.proofs.SetLemmas.{fits_nothing, fits_one, moves_nothing, moves_one}
 
 some_of : {X : Type 0} (o : Option X) → (o ≡ None → ⊥) → (x : X) × (o ≡ Some x)
@@ -101,29 +99,17 @@ module _ (place : Place) (key : Key) (c : Sets) (sound : RowsSound c) (b : Bound
       beyond (inl zero) = inl zero
       beyond (inr past) = inr (omega arith)
 
-  -- the live occurrences with the new one
-  pub live_with : (rows : List PlacedRow) → AreLiveRows c rows → IsLive place → AreLiveRows c' (rows ++ new ∷ [])
-  live_with rows are live = record { all = all; only = only }
-    where
-      all : (serial : ℕ) (p : PlacedRow) → StandsAt c' serial p → IsLive p.place
-          → Contains (rows ++ new ∷ []) p × (p.row.serial ≡ serial)
-      all serial p stands alive = elim (cases_eq serial (c.issued + 1)) [
-        | inl here ↦
-            let at : StandsAt c' serial new = subst (λ n. StandsAt c' n new) (sym here) new_stands in
-            let same : new ≡ p = one_place c' serial new p at stands in (
-              subst (Contains (rows ++ new ∷ [])) same (Contains-push rows new),
-              ap (λ (x : PlacedRow). x.row.serial) (sym same) ∙ sym here,
-            )
-        | inr other ↦
-            let is = are.all serial p (sym (same_seat serial other) ∙ stands) alive in
-            (Contains-append_left rows (new ∷ []) p is.0, is.1)
-      ]
-
-      only : (p : PlacedRow) → Contains (rows ++ new ∷ []) p → StandsAt c' p.row.serial p × IsLive p.place
-      only p there = elim (Contains-push_cases rows new p there) [
-        | inl old ↦ let is = are.only p old in (old_stands p.row.serial p is.0, is.1)
-        | inr same ↦ subst (λ (x : PlacedRow). StandsAt c' x.row.serial x × IsLive x.place) same (new_stands, live)
-      ]
+  -- the sets with the new one have one live occurrence more
+  pub more_with : IsLive place → HasOneMore c c' row place
+  more_with lives = record {
+    stands = new_stands;
+    lives = lives;
+    absent = λ p stands live. not_empty c (c.issued + 1) p stands (sound.unissued (c.issued + 1) (inr (omega arith)));
+    others = λ serial other p. ((λ at. same_seat serial other ∙ at), λ at. sym (same_seat serial other) ∙ at);
+    numbered = sound'.numbered;
+    own_key = λ serial p stands live same.
+        sound'.keys serial (c.issued + 1) p new stands new_stands live lives same;
+  }
 
   -- a set that gets the row
   pub part_after : {X : Type 0} (part : Seat → X) (serial : ℕ)
@@ -164,8 +150,8 @@ module _ (place : Place) (key : Key) (c : Sets) (sound : RowsSound c) (b : Bound
 
 plan_takes_one : (plan : Plan) (row : Row)
     → bit (alone row (place_in plan)).ltp + bit (alone row (place_in plan)).cp ≡ 1
-plan_takes_one LongTerm row = refl
-plan_takes_one Current row = refl
+plan_takes_one LongTerm _ = refl
+plan_takes_one Current _ = refl
 
 pub plan_is_live : (plan : Plan) → IsLive (place_in plan)
 plan_is_live LongTerm = tt
@@ -370,16 +356,18 @@ verdict_is c sound plan row able verdict adds =
     done_is c sound plan row.key able.unrefused verdict
     (subst (λ (r : Row). AddsRow c plan r verdict) able.numbered adds)
 
--- the live occurrences with the new one
-pub addable_live : (c : Content) → IsSound c → (plan : Plan) (row : Row) → IsAddable c plan row
-    → (rows : List PlacedRow) → AreLiveRows c.sets rows
-    → AreLiveRows (with_made (place_in plan) (added row.key ∷ []) c.sets)
-    (rows ++ (record { row = row; place = place_in plan }) ∷ [])
-addable_live c sound plan row able rows are =
+-- the sets with the row have one live occurrence more
+pub addable_more : (c : Content) → IsSound c → (plan : Plan) (row : Row) → IsAddable c plan row
+    → HasOneMore c.sets (with_made (place_in plan) (added row.key ∷ []) c.sets) row (place_in plan)
+addable_more c sound plan row able =
     let (b, bounded) = some_of c.sets.bounds (λ h. able.unrefused NoPlan h) in
     let inside = λ (out : IsOutside b row.key.ia (place_in plan)). able.unrefused DatesOutOfRange (b, bounded, out) in
     let free = λ (live : IsLiveKey c.sets row.key). able.unrefused KeyIsLive live in
-    let is = live_with (place_in plan) row.key c.sets (rows_sound c sound) b bounded inside free rows are
-    (plan_is_live plan) in
-    subst (λ (r : Row). AreLiveRows (with_made (place_in plan) (added row.key ∷ []) c.sets)
-    (rows ++ (record { row = r; place = place_in plan }) ∷ [])) (sym able.numbered) is
+    let is = more_with (place_in plan) row.key c.sets (rows_sound c sound) b bounded inside free (plan_is_live plan) in
+    subst (λ (r : Row). HasOneMore c.sets (with_made (place_in plan) (added row.key ∷ []) c.sets) r (place_in plan))
+    (sym able.numbered) is
+
+-- what is added is open
+pub plan_is_open : (plan : Plan) → IsOpen (place_in plan)
+plan_is_open LongTerm = tt
+plan_is_open Current = refl

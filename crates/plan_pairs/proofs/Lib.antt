@@ -1,13 +1,19 @@
 pub mod AdditionLemmas
 pub mod AskedLemmas
+pub mod AskedPairLemmas
 pub mod ChangeLemmas
+mod EachLemmas
 mod GatherLemmas
+mod NearLemmas
+mod OneMoreLemmas
+mod PairInLemmas
+mod ComesLemmas
+mod GoesLemmas
 pub mod GatheredLemmas
 pub mod ListLemmas
 pub mod PartLemmas
 mod LiveLemmas
 pub mod PlannedLemmas
-mod ReachLemmas
 pub mod RowLemmas
 pub mod RowPairLemmas
 pub mod ScratchLemmas
@@ -16,4 +22,3 @@ pub mod SetLemmas
 pub mod TouchLemmas
 pub mod TouchedLemmas
 pub mod TurnLemmas
-mod WithdrawalLemmas

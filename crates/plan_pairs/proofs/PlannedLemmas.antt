@@ -1,22 +1,19 @@
--- Pairs of what stands in the two plans, one list of rows after another.
-use Rattle.std.proofs.Common.{◌≡◌, ◌↔◌, ◌⊎◌, ◌||◌, ℕ, true, false, List, [], ◌∷◌, ◌++◌, refl, sym, ap, subst, ◌∙◌, inl, inr}
-use Rattle.std.proofs.Common.{Option, Some, None}
-use Rattle.std.specs.Prelude.{is_some}
+-- Pairs of what is open in the two plans, one list of rows after another.
+use Rattle.std.proofs.Common.{◌≡◌, ◌≢◌, ◌↔◌, ◌⊎◌, ℕ, List, [], ◌∷◌, ◌++◌, refl, sym, ap, subst, ◌∙◌, inl, inr, Some}
 use Rattle.std.specs.List.{Contains}
 use Rattle.std.proofs.lemmas.List.Elements.{Contains-append_cases, Contains-append_left, Contains-append_right}
 use Rattle.std.proofs.lemmas.List.Elements.{Contains-push, Contains-push_cases}
 use Rattle.occurrences.specs.declared.place.CurrentRow.{CurrentRow}
 use Rattle.occurrences.specs.declared.row.Row.{Row}
-use Rattle.external_dependencies.specs.Reached.{HasSerialOf}
+use Rattle.occurrences.specs.declared.status.Status.{Status}
+use Rattle.occurrences.specs.declared.status.Status.TheVariants.{W}
 use Rattle.external_dependencies.specs.declared.pairs.Pair.{Pair}
-use Rattle.external_dependencies.specs.declared.rows.PlacedRow.{PlacedRow}
 use Rattle.keyed_lists.specs.Rows.{of_current, of_row}
 use Rattle.planner_machine.specs.Content.{Sets}
-use Rattle.plan_store.specs.Views.{IsAny, ListsSet, current_serial, is_planned, row_serial, shown}
-use Rattle.plan_store.specs.declared.views.View.{View}
-use Rattle.plan_store.proofs.LookLemmas.{look_some}
-use Rattle.plan_pairs.specs.Planned.{AddsPairsOf, HasSerialAmong, IsPlannedOf, IsPlannedOfOne}
-use Rattle.plan_pairs.proofs.ListLemmas.{filter_has, none}
+use Rattle.plan_store.specs.Views.{IsAny, ListsSet}
+use Rattle.plan_pairs.specs.Planned.{AddsPairsOf, HasWaiting, IsOpenAt, IsOpenOf, IsOpenOfOne, IsOpenRow}
+use Rattle.plan_pairs.specs.Turns.{HasSerial}
+use Rattle.plan_pairs.proofs.ListLemmas.{none}
 
 -- ---- what is added
 
@@ -70,13 +67,28 @@ module _ (all : List Pair) where
     ],
   )
 
--- a list with one item more has its serial too
-pub one_serial_more : {X : Type 0} (row_of : X → Row) (xs : List X) (x : X) (n : ℕ)
-    → HasSerialAmong row_of (xs ++ x ∷ []) n ↔ (HasSerialAmong row_of xs n ⊎ (n ≡ (row_of x).serial))
-one_serial_more row_of xs x n = (
+  -- of the same successors
+  pub adds_same : (P Q : ℕ → Type 0) (first new : List Pair) → AddsPairsOf all P first new
+      → ((m : ℕ) → Q m ↔ P m) → AddsPairsOf all Q first new
+  adds_same P Q first new adds same pair = (
+    (λ there. elim ((adds pair).0 there) [
+      | inl before ↦ inl before
+      | inr one ↦ inr (one.0, (same pair.successor).1 one.1)
+    ]),
+    λ is. (adds pair).1 (elim is [
+      | inl before ↦ inl before
+      | inr one ↦ inr (one.0, (same pair.successor).0 one.1)
+    ]),
+  )
+
+-- ---- one row more
+
+pub one_serial_more : (xs : List Row) (x : Row) (n : ℕ)
+    → HasSerial (xs ++ x ∷ []) n ↔ (HasSerial xs n ⊎ (n ≡ x.serial))
+one_serial_more xs x n = (
   (λ (y, there, same). elim (Contains-push_cases xs x y there) [
     | inl old ↦ inl (y, old, same)
-    | inr is ↦ inr (sym same ∙ ap (λ z. (row_of z).serial) (sym is))
+    | inr is ↦ inr (sym same ∙ ap (λ (z : Row). z.serial) (sym is))
   ]),
   λ has. elim has [
     | inl (y, there, same) ↦ (y, Contains-append_left xs (x ∷ []) y there, same)
@@ -84,101 +96,89 @@ one_serial_more row_of xs x n = (
   ],
 )
 
-pub no_serial : {X : Type 0} (row_of : X → Row) (n : ℕ) → HasSerialAmong row_of [] n → ⊥
-no_serial row_of n (x, there, same) = none x there
+pub no_serial : (n : ℕ) → HasSerial [] n → ⊥
+no_serial n (x, there, same) = none x there
 
--- ---- what stands in the plans
+abbrev waiting_at : Row → CurrentRow
+waiting_at row = record { row = row; status = W }
 
-module _ (view : View) where
-  ltp_serial : (n : ℕ) (row : Row) → (shown view).sets.ltp n ≡ Some row → row.serial ≡ n
-  ltp_serial n row is = (look_some row_serial _ n row is).1
-
-  cp_serial : (n : ℕ) (current : CurrentRow) → (shown view).sets.cp n ≡ Some current → current.row.serial ≡ n
-  cp_serial n current is = (look_some current_serial _ n current is).1
-
-  -- the serial of a pair that is shown is that of a row of one of the plans
-  pub planned_row : (ltp : List Row) → ListsSet of_row (shown view).sets.ltp IsAny ltp → (cp : List CurrentRow)
-      → ListsSet of_current (shown view).sets.cp IsAny cp → (pair : Pair) → Contains (shown view).pairs pair
-      → HasSerialAmong of_row ltp pair.successor ⊎ HasSerialAmong of_current cp pair.successor
-  planned_row ltp ltp_is cp cp_is pair there =
-      either ((shown view).sets.ltp pair.successor) refl ((shown view).sets.cp pair.successor) refl
-      (filter_has (λ (p : Pair). is_planned (shown view).sets.ltp (shown view).sets.cp p.successor) _ pair there).1
-    where
-      either : (o : Option Row) → (shown view).sets.ltp pair.successor ≡ o → (o' : Option CurrentRow)
-          → (shown view).sets.cp pair.successor ≡ o' → (is_some ((shown view).sets.ltp pair.successor)
-          || is_some ((shown view).sets.cp pair.successor)) ≡ true
-          → HasSerialAmong of_row ltp pair.successor ⊎ HasSerialAmong of_current cp pair.successor
-      either (Some row) is o' is' planned =
-          let serial = ltp_serial pair.successor row is in
-          inl (row, (ltp_is.exactly row).1 (subst (λ n. (shown view).sets.ltp n ≡ Some row) (sym serial) is, tt), serial)
-      either None is (Some current) is' planned =
-          let serial = cp_serial pair.successor current is' in
-          inr (
-            current,
-            (cp_is.exactly current).1 (subst (λ n. (shown view).sets.cp n ≡ Some current) (sym serial) is', tt),
-            serial,
-          )
-      either None is None is' planned =
-          let no : false ≡ true = sym (ap (λ o. is_some o || is_some ((shown view).sets.cp pair.successor)) is
-          ∙ ap is_some is') ∙ planned in cc
-
--- ---- the rows of one application after another
-
-module _ (s : Sets) where
-  pub one_app : (app : List ℕ) (ltp : List Row) → ListsSet of_row s.ltp (λ row. row.key.app ≡ app) ltp
-      → (cp : List CurrentRow) → ListsSet of_current s.cp (λ x. x.row.key.app ≡ app) cp → (n : ℕ)
-      → IsPlannedOf s app n ↔ (HasSerialAmong of_row ltp n ⊎ HasSerialAmong of_current cp n)
-  one_app app ltp ltp_is cp cp_is n = (
-    (λ is. elim is [
-      | inl (row, stands, of_app, serial) ↦ inl (row, (ltp_is.exactly row).1 (stands, of_app), serial)
-      | inr (x, stands, of_app, serial) ↦ inr (x, (cp_is.exactly x).1 (stands, of_app), serial)
-    ]),
-    λ has. elim has [
-      | inl (row, there, serial) ↦ let both = (ltp_is.exactly row).0 there in inl (row, both.0, both.1, serial)
-      | inr (x, there, serial) ↦ let both = (cp_is.exactly x).0 there in inr (x, both.0, both.1, serial)
-    ],
-  )
-
-  pub one_app_more : (apps : List (List ℕ)) (app : List ℕ) (n : ℕ)
-      → IsPlannedOfOne s (apps ++ app ∷ []) n ↔ (IsPlannedOfOne s apps n ⊎ IsPlannedOf s app n)
-  one_app_more apps app n = (
-    (λ (a, there, is). elim (Contains-push_cases apps app a there) [
-      | inl old ↦ inl (a, old, is)
-      | inr same ↦ inr (subst (λ x. IsPlannedOf s x n) (sym same) is)
-    ]),
-    λ has. elim has [
-      | inl (a, there, is) ↦ (a, Contains-append_left apps (app ∷ []) a there, is)
-      | inr is ↦ (app, Contains-push apps app, is)
-    ],
-  )
-
-  pub no_app : (n : ℕ) → IsPlannedOfOne s [] n → ⊥
-  no_app n (app, there, is) = none app there
-
--- ---- the pairs of few rows
-
-pub with_serial_of : (rows : List PlacedRow) (placed : PlacedRow) (serial m : ℕ)
-    → (HasSerialOf (rows ++ placed ∷ []) m ⊎ (m ≡ serial))
-    ↔ ((HasSerialOf rows m ⊎ (m ≡ serial)) ⊎ (m ≡ placed.row.serial))
-with_serial_of rows placed serial m = (
-  (λ has. elim has [
-    | inl (q, there, same) ↦ elim (Contains-push_cases rows placed q there) [
-      | inl old ↦ inl (inl (q, old, same))
-      | inr is ↦ inr (sym same ∙ ap (λ (p : PlacedRow). p.row.serial) (sym is))
-    ]
-    | inr same ↦ inl (inr same)
+-- of the current plan, where the row waits
+pub waiting_more : (xs : List CurrentRow) (x : CurrentRow) → x.status ≡ W → (n : ℕ)
+    → HasWaiting (xs ++ x ∷ []) n ↔ (HasWaiting xs n ⊎ (n ≡ x.row.serial))
+waiting_more xs x waits n = (
+  (λ (row, there, same). elim (Contains-push_cases xs x (waiting_at row) there) [
+    | inl old ↦ inl (row, old, same)
+    | inr is ↦ inr (sym same ∙ ap (λ (y : CurrentRow). y.row.serial) (sym is))
   ]),
   λ has. elim has [
-    | inl before ↦ elim before [
-      | inl (q, there, same) ↦ inl (q, Contains-append_left rows (placed ∷ []) q there, same)
-      | inr same ↦ inr same
-    ]
-    | inr same ↦ inl (placed, Contains-push rows placed, sym same)
+    | inl (row, there, same) ↦ (row, Contains-append_left xs (x ∷ []) (waiting_at row) there, same)
+    | inr same ↦
+        let one : x ≡ waiting_at x.row = λ i. record { row = x.row; status = waits i } in
+        (x.row, subst (Contains (xs ++ x ∷ [])) one (Contains-push xs x), sym same)
   ],
 )
 
-pub of_serial_alone : (serial m : ℕ) → (HasSerialOf [] m ⊎ (m ≡ serial)) ↔ (m ≡ serial)
-of_serial_alone serial m = (
-  (λ has. elim has [ inl (q, there, same) ↦ absurd (none q there) | inr same ↦ same ]),
-  λ same. inr same,
+-- and where it does not
+pub waiting_skip : (xs : List CurrentRow) (x : CurrentRow) → x.status ≢ W → (n : ℕ)
+    → HasWaiting (xs ++ x ∷ []) n ↔ HasWaiting xs n
+waiting_skip xs x closed n = (
+  (λ (row, there, same). elim (Contains-push_cases xs x (waiting_at row) there) [
+    | inl old ↦ (row, old, same)
+    | inr is ↦ absurd (closed (ap (λ (y : CurrentRow). y.status) is))
+  ]),
+  λ (row, there, same). (row, Contains-append_left xs (x ∷ []) (waiting_at row) there, same),
 )
+
+pub none_waiting : (n : ℕ) → HasWaiting [] n → ⊥
+none_waiting n (row, there, same) = none (waiting_at row) there
+
+-- ---- what is open in the two plans
+
+module _ (s : Sets) where
+  pub open_at : (ltp : List Row) → ListsSet of_row s.ltp IsAny ltp → (cp : List CurrentRow)
+      → ListsSet of_current s.cp IsAny cp → (n : ℕ) → IsOpenAt s n ↔ (HasSerial ltp n ⊎ HasWaiting cp n)
+  open_at ltp ltp_is cp cp_is n = (
+    (λ (row, is_open, same). elim is_open [
+      | inl at ↦ inl (row, (ltp_is.exactly row).1 (at, tt), same)
+      | inr at ↦ inr (row, (cp_is.exactly (waiting_at row)).1 (at, tt), same)
+    ]),
+    λ has. elim has [
+      | inl (row, there, same) ↦ (row, inl ((ltp_is.exactly row).0 there).0, same)
+      | inr (row, there, same) ↦ (row, inr ((cp_is.exactly (waiting_at row)).0 there).0, same)
+    ],
+  )
+
+  -- of one application
+  pub open_of : (app : List ℕ) (ltp : List Row) → ListsSet of_row s.ltp (λ row. row.key.app ≡ app) ltp
+      → (cp : List CurrentRow) → ListsSet of_current s.cp (λ x. x.row.key.app ≡ app) cp → (n : ℕ)
+      → IsOpenOf s app n ↔ (HasSerial ltp n ⊎ HasWaiting cp n)
+  open_of app ltp ltp_is cp cp_is n = (
+    (λ (row, is_open, of_app, same). elim is_open [
+      | inl at ↦ inl (row, (ltp_is.exactly row).1 (at, of_app), same)
+      | inr at ↦ inr (row, (cp_is.exactly (waiting_at row)).1 (at, of_app), same)
+    ]),
+    λ has. elim has [
+      | inl (row, there, same) ↦ let both = (ltp_is.exactly row).0 there in (row, inl both.0, both.1, same)
+      | inr (row, there, same) ↦
+          let both = (cp_is.exactly (waiting_at row)).0 there in (row, inr both.0, both.1, same)
+    ],
+  )
+
+  -- of one application more
+  pub one_app_more : (apps : List (List ℕ)) (app : List ℕ) (n : ℕ)
+      → IsOpenOfOne s (apps ++ app ∷ []) n ↔ (IsOpenOfOne s apps n ⊎ IsOpenOf s app n)
+  one_app_more apps app n = (
+    (λ (row, is_open, among, serial). elim (Contains-push_cases apps app row.key.app among) [
+      | inl old ↦ inl (row, is_open, old, serial)
+      | inr same ↦ inr (row, is_open, sym same, serial)
+    ]),
+    λ has. elim has [
+      | inl (row, is_open, among, serial) ↦
+          (row, is_open, Contains-append_left apps (app ∷ []) row.key.app among, serial)
+      | inr (row, is_open, same, serial) ↦
+          (row, is_open, subst (Contains (apps ++ app ∷ [])) (sym same) (Contains-push apps app), serial)
+    ],
+  )
+
+  pub no_app : (n : ℕ) → IsOpenOfOne s [] n → ⊥
+  no_app n (row, is_open, among, serial) = none row.key.app among

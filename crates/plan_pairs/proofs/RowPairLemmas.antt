@@ -15,7 +15,7 @@ use Rattle.plan_pairs.specs.RowPairs.{IsRowPair}
 use Rattle.plan_pairs.proofs.ListLemmas.{none}
 
 -- there is one nearest
-nearest_once : (Live : Arrival → Type 0) (key : Key) (app : List ℕ) (within : Option ℕ) (a b : Arrival)
+pub nearest_once : (Live : Arrival → Type 0) (key : Key) (app : List ℕ) (within : Option ℕ) (a b : Arrival)
     → IsNearest Live key app within a → IsNearest Live key app within b → a.serial ≡ b.serial
 nearest_once Live key app within a b near near' =
     let below = near'.greatest a near.live near.candidate in

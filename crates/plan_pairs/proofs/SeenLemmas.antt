@@ -1,10 +1,8 @@
 -- The rows and pairs that a window of the long-term plan shows hold what a planning statement reaches.
-use Rattle.std.proofs.Common.{◌≡◌, ◌↔◌, ◌⊎◌, ℕ, zero, suc, ◌+◌, ◌<◌, ◌≤◌, true, false, List, [], ◌∷◌, ◌++◌}
+use Rattle.std.proofs.Common.{◌≡◌, ◌≢◌, ◌↔◌, ◌⊎◌, ℕ, zero, suc, ◌+◌, ◌<◌, ◌≤◌, true, false, List, [], ◌∷◌, ◌++◌}
 use Rattle.std.proofs.Common.{refl, sym, ap, subst, ◌∙◌, inl, inr, arith, Option, None, Some}
-use Rattle.std.specs.Prelude.{nat_eq}
-use Rattle.std.specs.Cmp.Lexicographic.{pointwise, bytes_decides}
 use Rattle.std.specs.List.{Contains}
-use Rattle.std.proofs.lemmas.Bool.{cases_eq, false≢true}
+use Rattle.std.proofs.lemmas.Bool.{cases_eq}
 use Rattle.std.proofs.lemmas.List.Elements.{Contains-append_left}
 use Rattle.occurrences.specs.Place.{IsLive, IsOpen}
 use Rattle.occurrences.specs.declared.key.Key.{Key}
@@ -24,21 +22,22 @@ use Rattle.external_dependencies.specs.declared.pairs.Pair.{Pair}
 use Rattle.external_dependencies.specs.declared.rows.PlacedRow.{PlacedRow}
 use Rattle.external_dependencies.specs.declared.touch.Touch.{Touch}
 use Rattle.planner_machine.specs.Content.{Content, Seat, Sets, StandsAt}
+use Rattle.planner_machine.specs.DailyPlan.{waiting}
 use Rattle.planner_machine.specs.RowsSound.{IsPlacedIn, RowsSound}
 use Rattle.planner_machine.specs.Sound.{AreNumbered, IsSound}
 use Rattle.planner_machine.specs.declared.content.Bounds.{Bounds}
-use Rattle.planner_machine.proofs.SeatLemmas.{cases_issued, not_empty}
+use Rattle.planner_machine.proofs.SeatLemmas.{cases_issued, not_empty, one_place}
 use Rattle.planner_machine.proofs.SoundLemmas.{rows_sound}
 use Rattle.keyed_lists.specs.Rows.{of_current, of_row}
-use Rattle.plan_store.specs.Asked.{AsksPlan, IsLimit, IsNoLater, ListsDefined}
-use Rattle.plan_store.specs.Views.{Hidden, IsAny, ListsSet, Sees, shown, with_hidden}
+use Rattle.plan_store.specs.Asked.{AsksPlan, IsNoLater, ListsEither}
+use Rattle.plan_store.specs.Views.{Hidden, IsAny, ListsSet, Sees, asks_pairs, shown, with_hidden}
 use Rattle.plan_store.specs.declared.views.View.{View}
-use Rattle.plan_store.proofs.PlaceLemmas.{stands_history}
+use Rattle.plan_store.proofs.PlaceLemmas.{stands_cp, stands_history}
 use Rattle.plan_pairs.specs.LiveRows.{AreCompleted, AreLiveRows}
-use Rattle.plan_pairs.specs.Planned.{IsPlannedOf}
+use Rattle.plan_pairs.specs.Planned.{IsOpenRow}
 use Rattle.plan_pairs.specs.Turns.{AreKnownLinks, ArePlanned, IsInLists, IsTouchOf}
 use Rattle.plan_pairs.proofs.ListLemmas.{first_or_later, further, here, none}
-use Rattle.plan_pairs.proofs.PartLemmas.{is_planned_pair, planned_cp, planned_ltp}
+use Rattle.plan_pairs.proofs.PartLemmas.{asked_row, is_asked_pair}
 use Rattle.plan_pairs.proofs.ScratchLemmas.{open_is_live}
 use Rattle.plan_pairs.proofs.TurnLemmas.{AreListed}
 
@@ -190,43 +189,6 @@ shown_hold touch links now rows old pairs part has stood had = record {
 
 -- ---- what a window of the long-term plan shows
 
--- before the minute arrives what may precede the key in the application
-module _ (key : Key) (app : List ℕ) (minute : ℕ) (limit : IsLimit key app minute) where
-  within : (a : Arrival) → a.app ≡ app → a.ia < minute → IsCandidate key app None a
-  within a of_app early = elim limit [
-    | inl own ↦ let at : minute ≡ key.ia = own.1 in record {
-      of_app = of_app;
-      in_time = omega (arith, early, at);
-      before_own = λ _. omega (arith, early, at);
-      close = tt;
-    }
-    | inr other ↦ let at : minute ≡ key.ia + 1 = other.1 in record {
-      of_app = of_app;
-      in_time = omega (arith, early, at);
-      before_own = λ same. absurd (other.0 same);
-      close = tt;
-    }
-  ]
-
-  reaches : (a : Arrival) → IsCandidate key app None a → a.ia < minute
-  reaches a candidate = elim limit [
-    | inl own ↦
-        let at : minute ≡ key.ia = own.1 in
-        let lt : a.ia < key.ia = candidate.before_own own.0 in
-        omega (arith, at, lt)
-    | inr other ↦
-        let at : minute ≡ key.ia + 1 = other.1 in
-        let le : a.ia ≤ key.ia = candidate.in_time in
-        omega (arith, at, le)
-  ]
-
-limit_of : (key : Key) (app : List ℕ) → (minute : ℕ) × IsLimit key app minute
-limit_of key app = elim (pointwise nat_eq app key.app) as (λ b. pointwise nat_eq app key.app ≡ b
-    → (minute : ℕ) × IsLimit key app minute) [
-      | true ↦ λ e. (key.ia, inl ((bytes_decides app key.app).0 e, refl))
-      | false ↦ λ e. (key.ia + 1, inr (λ same. false≢true (sym e ∙ (bytes_decides app key.app).1 same), refl))
-    ] refl
-
 -- a row of history is shown that may precede the key, and arrives no earlier than that one
 pub record HasShown (lasts : List Row) (key : Key) (app : List ℕ) (row : Row) : Type 0 where
   pub r : Row
@@ -251,7 +213,7 @@ before_end (Some b) row placed = (b, refl, placed.1)
 -- from the content that a window of the long-term plan shows with what it hides, to the sets after a statement, which
 -- leaves history and the current plan
 module _ (h : Hidden) (view : View) (sound : IsSound (with_hidden h view))
-    (sees : Sees (AsksPlan (with_hidden h view)) h view) (links : List Link)
+    (sees : Sees None (AsksPlan (with_hidden h view)) h view) (links : List Link)
     (known : AreKnownLinks (with_hidden h view) links) (s : Sets) (planned : List Row) (current : List CurrentRow)
     (current_are : ListsSet of_current (shown view).sets.cp IsAny current) (completed lasts : List Row)
     (lasts_are : ListsSet of_row (shown view).sets.history IsAny lasts)
@@ -275,14 +237,21 @@ module _ (h : Hidden) (view : View) (sound : IsSound (with_hidden h view))
   in_lasts : (row : Row) → (shown view).sets.history row.serial ≡ Some row → Contains lasts row
   in_lasts row at = (lasts_are.exactly row).1 (at, tt)
 
+  known_list : (app name : List ℕ) → Lists links app name → ListsEither c app name
+  known_list app name (hours, there) = elim (known (record { app = app; predecessor = name; within = hours }) there) [
+    | inl stood ↦ inl (hours, stood)
+    | inr defined ↦ inr (hours, defined)
+  ]
+
   -- before a row of the long-term plan
-  near_planned : (late : Row) → Contains planned late → (app : List ℕ) (row : Row) → h.history row.serial ≡ Some row
-      → row.key.app ≡ app → HasShown lasts late.key app row
-  near_planned late there app row at of_app =
+  near_planned : (late : Row) → Contains planned late → (app : List ℕ) → Lists links late.key.app app → (row : Row)
+      → h.history row.serial ≡ Some row → row.key.app ≡ app → HasShown lasts late.key app row
+  near_planned late there app names row at of_app =
       let (b, bounded, early) = before_end c.sets.bounds row ((rows_sound c sound).arrivals row.serial
       (record { row = row; place = History }) (stands_history c.sets sound.serials row.serial row at)) in
-      let (r, is_shown, of_one, early_too, no_later) = sees.lasts.lasts app b.plan_end (inl (b, bounded, refl))
-      row.serial row at of_app early in
+      let (r, is_shown, of_one, early_too, no_later) = sees.lasts.lasts app (b.plan_end + 1)
+      (inr (b, bounded, refl, (late.key.app, known_list late.key.app app names))) row.serial row at of_app
+      (omega (arith, early)) in
       let lt : r.key.ia < late.key.ia = before_planned s.bounds r late (history_placed r (seen_part r is_shown))
       (placed_then (record { row = late; place = LongTerm })
       ((listed (record { row = late; place = LongTerm })).1 (inl (there, refl)))) in
@@ -298,26 +267,44 @@ module _ (h : Hidden) (view : View) (sound : IsSound (with_hidden h view))
         no_later = no_later;
       }
 
-  known_list : (app name : List ℕ) → Lists links app name → Lists c.in_force app name ⊎ ListsDefined c.definitions app name
-  known_list app name (hours, there) = elim (known (record { app = app; predecessor = name; within = hours }) there) [
-    | inl stood ↦ inl (hours, stood)
-    | inr defined ↦ inr (hours, defined)
-  ]
+  -- a row of history has not the key of one that waits
+  other_key : (late : Row) → c.sets.cp late.serial ≡ Some (waiting late) → (r : Row) → h.history r.serial ≡ Some r
+      → r.key ≢ late.key
+  other_key late stands r at same =
+      let first : PlacedRow = record { row = r; place = History } in
+      let second : PlacedRow = record { row = late; place = Current W } in
+      let done = stands_history c.sets sound.serials r.serial r at in
+      let waits = stands_cp c.sets sound.serials late.serial (waiting late) stands in
+      let serial = sound.keys r.serial late.serial first second done waits tt (λ deleted. cc) same in
+      let one = one_place c.sets late.serial first second (subst (λ n. StandsAt c.sets n first) serial done) waits in
+      let no : History ≡ Current W = ap (λ (p : PlacedRow). p.place) one in
+      cc
 
   -- before a row that waits in the current plan
-  near_waiting : (late : Row) → Contains current (record { row = late; status = W }) → (app : List ℕ)
-      → Lists links late.key.app app → (row : Row) → h.history row.serial ≡ Some row
-      → IsCandidate late.key app None (arrival_of row) → HasShown lasts late.key app row
+  near_waiting : (late : Row) → Contains current (waiting late) → (app : List ℕ) → Lists links late.key.app app
+      → (row : Row) → h.history row.serial ≡ Some row → IsCandidate late.key app None (arrival_of row)
+      → HasShown lasts late.key app row
   near_waiting late there app names row at candidate =
-      let (minute, limit) = limit_of late.key app in
-      let stands = ((current_are.exactly (record { row = late; status = W })).0 there).0 in
-      let (r, is_shown, of_one, early, no_later) = sees.lasts.lasts app minute
-      (inr (late, stands, known_list late.key.app app names, limit)) row.serial row at candidate.of_app
-      (reaches late.key app minute limit (arrival_of row) candidate) in
+      let stands = ((current_are.exactly (waiting late)).0 there).0 in
+      let in_time : row.key.ia ≤ late.key.ia = candidate.in_time in
+      let (r, is_shown, of_one, early, no_later) = sees.lasts.lasts app (late.key.ia + 1)
+      (inl (late, stands, refl, known_list late.key.app app names)) row.serial row at candidate.of_app
+      (omega (arith, in_time)) in
       record {
         r = r;
         there = in_lasts r is_shown;
-        candidate = within late.key app minute limit (arrival_of r) of_one early;
+        candidate = record {
+          of_app = of_one;
+          in_time = omega (arith, early);
+          before_own = λ own. elim (cases_eq r.key.ia late.key.ia) [
+            | inl same ↦
+                let app_same : r.key.app ≡ late.key.app = of_one ∙ own in
+                let key : r.key ≡ late.key = λ i. record { app = app_same i; ia = same i } in
+                absurd (other_key late stands r (seen_part r is_shown) key)
+            | inr other ↦ omega (arith, early, other)
+          ];
+          close = tt;
+        };
         no_later = no_later;
       }
 
@@ -326,7 +313,7 @@ module _ (h : Hidden) (view : View) (sound : IsSound (with_hidden h view))
       → (row : Row) → h.history row.serial ≡ Some row → IsCandidate q.row.key app None (arrival_of row)
       → HasShown lasts q.row.key app row
   near_open q there is_open app names row at candidate = elim ((listed q).0 there) [
-    | inl first ↦ near_planned q.row first.0 app row at candidate.of_app
+    | inl first ↦ near_planned q.row first.0 app names row at candidate.of_app
     | inr (inl now) ↦
         let waits : now.status ≡ W = subst IsOpen now.placed is_open in
         near_waiting q.row
@@ -431,7 +418,7 @@ pair_lives c sound pair there = elim ((sound.pairs.settled.exactly pair).0 there
   | inr is ↦ (is.placed, is.stands, is.live)
 ]
 
--- the successor of a pair that is reached, or withdrawn, stood in one of the plans, in an application that passes
+-- the successor of a pair that is reached, or withdrawn, was an open row, in an application that passes
 module _ (c : Content) (sound : IsSound c) (rows stay gone made : List Row) (current : List CurrentRow)
     (current_are : ListsSet of_current c.sets.cp IsAny current) (completed : List Row)
     (completed_are : AreCompleted c.sets completed) (rows_are : ListsSet of_row c.sets.ltp IsAny rows)
@@ -440,41 +427,40 @@ module _ (c : Content) (sound : IsSound c) (rows stay gone made : List Row) (cur
     (was_links links : List Link) (is : IsTouchOf gone made was_links links touch) (Passes : List ℕ → Type 0)
     (reached_pass : (q : PlacedRow) → Contains now q → IsOpen q.place → MayReach touch links q.row
     → Passes q.row.key.app) (gone_pass : (row : Row) → Contains gone row → Passes row.key.app) where
-  -- a row of one of the plans has the serial, of an application that passes
-  abbrev WasPlanned : ℕ → Type 0
-  WasPlanned serial = (app : List ℕ) × Passes app × IsPlannedOf c.sets app serial
+  -- a row that was open has the serial, of an application that passes
+  abbrev WasOpen : ℕ → Type 0
+  WasOpen serial = (row : Row) × IsOpenRow c.sets row × Passes row.key.app × (row.serial ≡ serial)
 
-  was_long_term : (row : Row) → Contains rows row → Passes row.key.app → WasPlanned row.serial
-  was_long_term row there passes =
-      (row.key.app, passes, inl (row, ((rows_are.exactly row).0 there).0, refl, refl))
-
-  of_gone : (serial : ℕ) → Contains touch.withdrawn.items serial → WasPlanned serial
+  of_gone : (serial : ℕ) → Contains touch.withdrawn.items serial → WasOpen serial
   of_gone serial named =
       let (row, there, same) = (is.goes serial).0 named in
-      subst WasPlanned same (was_long_term row (plan.gone_stood row there) (gone_pass row there))
+      (row, inl ((rows_are.exactly row).0 (plan.gone_stood row there)).0, gone_pass row there, same)
 
   module _ (q : PlacedRow) (there : Contains now q) (is_open : IsOpen q.place) (reach : MayReach touch links q.row) where
     passes : Passes q.row.key.app
     passes = reached_pass q there is_open reach
 
     by_place : (place : Place) (row : Row) → StandsAt c.sets q.row.serial (record { row = row; place = place })
-        → IsLive place → WasPlanned q.row.serial
+        → IsLive place → WasOpen q.row.serial
     by_place LongTerm row stands is_live =
         let numbered : row.serial ≡ q.row.serial = sound.serials.numbered q.row.serial
         (record { row = row; place = LongTerm }) stands in
         let at : c.sets.ltp row.serial ≡ Some row = subst (λ n. c.sets.ltp n ≡ Some row) (sym numbered)
-        (ap (λ (x : Seat). x.ltp) stands) in
-        let in_rows : Contains rows row = (rows_are.exactly row).1 (at, tt) in
-        subst WasPlanned numbered (was_long_term row in_rows (elim (plan.on row in_rows) [
-          | inl (x, stays, serial, key) ↦
-              let p : PlacedRow = record { row = x; place = LongTerm } in
-              let one : p ≡ q = once p q ((listed p).1 (inl (Contains-append_left stay made x stays, refl))) there
-              (serial ∙ numbered) in
-              let app : q.row.key.app ≡ row.key.app = ap (λ (y : PlacedRow). y.row.key.app) (sym one)
-              ∙ ap (λ (k : Key). k.app) key in
-              subst Passes app passes
-          | inr goes ↦ gone_pass row goes
-        ]))
+        (ap (λ (x : Seat). x.ltp) stands) in (
+          row,
+          inl at,
+          elim (plan.on row ((rows_are.exactly row).1 (at, tt))) [
+            | inl (x, stays, serial, key) ↦
+                let p : PlacedRow = record { row = x; place = LongTerm } in
+                let one : p ≡ q = once p q ((listed p).1 (inl (Contains-append_left stay made x stays, refl))) there
+                (serial ∙ numbered) in
+                let app : q.row.key.app ≡ row.key.app = ap (λ (y : PlacedRow). y.row.key.app) (sym one)
+                ∙ ap (λ (k : Key). k.app) key in
+                subst Passes app passes
+            | inr goes ↦ gone_pass row goes
+          ],
+          numbered,
+        )
     by_place (Current status) row stands is_live =
         let p : PlacedRow = record { row = row; place = Current status } in
         let x : CurrentRow = record { row = row; status = status } in
@@ -487,10 +473,11 @@ module _ (c : Content) (sound : IsSound c) (rows stay gone made : List Row) (cur
           placed = refl;
           stays = is_live;
         })))) there numbered in
-        subst WasPlanned numbered (
-          row.key.app,
+        let waits : status ≡ W = subst (λ (y : PlacedRow). IsOpen y.place) (sym one) is_open in (
+          row,
+          inr (subst (λ status'. c.sets.cp row.serial ≡ Some (record { row = row; status = status' })) waits at),
           subst Passes (ap (λ (y : PlacedRow). y.row.key.app) (sym one)) passes,
-          inr (x, at, refl, refl),
+          numbered,
         )
     by_place History row stands is_live =
         let p : PlacedRow = record { row = row; place = History } in
@@ -501,22 +488,19 @@ module _ (c : Content) (sound : IsSound c) (rows stay gone made : List Row) (cur
         absurd (subst (λ (y : PlacedRow). IsOpen y.place) (sym one) is_open)
     by_place (Deleted reason) row stands is_live = absurd is_live
 
-  pub was_planned : (pair : Pair) → Contains c.pairs pair → IsReachedIn touch links now pair.successor
-      ⊎ Contains touch.withdrawn.items pair.successor → WasPlanned pair.successor
-  was_planned pair there (inr named) = of_gone pair.successor named
-  was_planned pair there (inl (q, in_now, same, is_open, reach)) =
+  pub was_open : (pair : Pair) → Contains c.pairs pair → IsReachedIn touch links now pair.successor
+      ⊎ Contains touch.withdrawn.items pair.successor → WasOpen pair.successor
+  was_open pair there (inr named) = of_gone pair.successor named
+  was_open pair there (inl (q, in_now, same, is_open, reach)) =
       let (p, stands, is_live) = pair_lives c sound pair there in
-      subst WasPlanned same (by_place q in_now is_open reach p.place p.row
+      subst WasOpen same (by_place q in_now is_open reach p.place p.row
       (subst (λ n. StandsAt c.sets n p) (sym same) stands) is_live)
 
--- so a window that shows the pairs of the plans shows the pair
-pub pair_shown : {Asked : List ℕ → ℕ → Type 0} (h : Hidden) (view : View) → Sees Asked h view → (pair : Pair)
-    → Contains h.pairs pair → (app : List ℕ) → IsPlannedOf (shown view).sets app pair.successor
-    → Contains (shown view).pairs pair
-pair_shown h view sees pair there app planned =
-    is_planned_pair (shown view).sets (shown view).pairs h.pairs sees.pairs pair there (elim planned [
-      | inl (row, at, of_app, same) ↦ planned_ltp (shown view).sets pair.successor row
-          (subst (λ n. (shown view).sets.ltp n ≡ Some row) same at)
-      | inr (x, at, of_app, same) ↦ planned_cp (shown view).sets pair.successor x
-          (subst (λ n. (shown view).sets.cp n ≡ Some x) same at)
-    ])
+-- so a window shows the pair, whatever its key
+pub pair_shown : {key : Option Key} {Asked : List ℕ → ℕ → Type 0} (h : Hidden) (view : View)
+    → Sees key Asked h view → (pair : Pair) → Contains h.pairs pair → (row : Row) → IsOpenRow (shown view).sets row
+    → row.serial ≡ pair.successor → Contains (shown view).pairs pair
+pair_shown {key} h view sees pair there row is_open same =
+    is_asked_pair key (shown view).sets (shown view).pairs h.pairs sees.pairs pair there
+    (subst (λ n. asks_pairs key (shown view).sets.ltp (shown view).sets.cp n ≡ true) same
+    (asked_row key (shown view).sets row is_open))

@@ -1,31 +1,22 @@
 -- Pairs that are found anew only where a change reaches are those after a statement.
-use Rattle.std.proofs.Common.{◌≡◌, ◌⊎◌, ℕ, ◌+◌, List, [], ◌∷◌, ◌++◌, refl, sym, ap, subst, ◌∙◌, inl, inr, arith, Option}
+use Rattle.std.proofs.Common.{◌⊎◌, List, subst, inl, inr}
 use Rattle.std.specs.List.{Contains}
-use Rattle.std.proofs.lemmas.List.Elements.{Contains-append_left, Contains-push, Contains-push_cases}
-use Rattle.occurrences.specs.declared.row.Row.{Row}
 use Rattle.external_dependencies.specs.Pair.{pair_cmp}
 use Rattle.external_dependencies.specs.Rising.{IsRising}
 use Rattle.external_dependencies.specs.declared.change.PairChange.{PairChange}
 use Rattle.external_dependencies.specs.declared.links.Link.{Link}
 use Rattle.external_dependencies.specs.declared.pairs.Pair.{Pair}
 use Rattle.external_dependencies.specs.declared.rows.PlacedRow.{PlacedRow}
-use Rattle.external_dependencies.specs.Nearest.{IsLiveIn, arrival_of}
-use Rattle.planner_machine.specs.Content.{Content, Sets, StandsAt}
+use Rattle.external_dependencies.specs.Nearest.{IsLiveIn}
+use Rattle.planner_machine.specs.Content.{Sets, StandsAt}
 use Rattle.planner_machine.specs.Pairs.{ArePairs, IsKeptPair, IsOpenPair, LiveAt}
-use Rattle.planner_machine.specs.Sound.{IsSound}
-use Rattle.planner_machine.proofs.SeatLemmas.{not_empty, one_place}
-use Rattle.planner_machine.proofs.SoundLemmas.{rows_sound}
+use Rattle.planner_machine.proofs.SeatLemmas.{one_place}
 use Rattle.plan_store.specs.Changes.{LeadsOn, pairs_after}
 use Rattle.plan_store.proofs.PairLemmas.{leads_on, pairs_after_contains, pairs_after_rising}
-use Rattle.plan_pairs.specs.Additions.{IsAddable, IsTouchOfNew, place_in}
 use Rattle.plan_pairs.specs.LiveRows.{AreLiveRows}
-use Rattle.plan_pairs.specs.declared.additions.Plan.{Plan}
 use Rattle.plan_pairs.proofs.ScratchLemmas.{live_from, live_to, open_is_live, same_nearest}
-use Rattle.external_dependencies.specs.declared.touch.Touch.{Touch}
 use Rattle.external_dependencies.specs.Change.{LeadsExactly}
 use Rattle.external_dependencies.specs.Settled.{AreSettled, IsOnce, IsSettledPair}
-use Rattle.external_dependencies.specs.Touch.{IsBorder, Touches}
-use Rattle.external_dependencies.proofs.TouchLemmas.{IsWith, row_comes, stretch_at}
 
 module _ (s : Sets) (rows : List PlacedRow) (are : AreLiveRows s rows) where
   pub live_once : IsOnce rows
@@ -121,35 +112,3 @@ pub led_on : (change : PairChange) (old : List Pair) (IsNew : Pair → Type 0) �
     → LeadsOn old change
 led_on change old IsNew leads =
     leads_on change old (λ p gone. ((leads.removed p).0 gone).0) (λ p new. ((leads.added p).0 new).1)
-
--- the live rows before and after an addition
-module _ (c : Content) (sound : IsSound c) (plan : Plan) (row : Row) (able : IsAddable c plan row)
-    (rows : List PlacedRow) (are : AreLiveRows c.sets rows) where
-  pub row_with : IsWith rows (record { row = row; place = place_in plan })
-      (rows ++ (record { row = row; place = place_in plan }) ∷ [])
-  row_with = record {
-    exactly = λ q. (
-      (λ there. Contains-push_cases rows (record { row = row; place = place_in plan }) q there),
-      λ is. elim is [
-        | inl old ↦ Contains-append_left rows ((record { row = row; place = place_in plan }) ∷ []) q old
-        | inr new ↦ subst (Contains (rows ++ (record { row = row; place = place_in plan }) ∷ [])) new
-            (Contains-push rows (record { row = row; place = place_in plan }))
-      ],
-    );
-    once = live_once c.sets rows are;
-    new = λ p there same.
-        let number : row.serial ≡ c.sets.issued + 1 = ap (λ (r : Row). r.serial) able.numbered in
-        let stands = subst (λ n. StandsAt c.sets n p) (same ∙ number) (are.only p there).0 in
-        not_empty c.sets (c.sets.issued + 1) p stands
-        ((rows_sound c sound).unissued (c.sets.issued + 1) (inr (omega arith)));
-  }
-
-  pub addition_touches : (touch : Touch) (last : Option ℕ) → IsTouchOfNew row last touch
-      → IsBorder rows (rows ++ (record { row = row; place = place_in plan }) ∷ []) (arrival_of row) last
-      → Touches touch rows (rows ++ (record { row = row; place = place_in plan }) ∷ []) c.in_force c.in_force
-  addition_touches touch last is border =
-      row_comes rows (record { row = row; place = place_in plan })
-      (rows ++ (record { row = row; place = place_in plan }) ∷ []) row_with touch c.in_force last
-      (subst (λ xs. Contains xs (stretch_at row last)) (sym is.stretches) (0, omega arith, refl)) border
-      (λ n there. let here = subst (λ xs. Contains xs n) is.withdrawn there in let lt = here.1 in absurd (omega arith))
-      (inl (subst (λ xs. Contains xs row.serial) (sym is.made) (0, omega arith, refl)))

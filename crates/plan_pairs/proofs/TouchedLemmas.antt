@@ -36,7 +36,7 @@ search_tells {X} total ties xs rising x (Err at) range is = (
       absurd (missed_all total ties (λ (y : X). y) xs x at past.1 x there refl),
 )
 
-same_or_not : (a b : List ℕ) → (a ≡ b) ⊎ (a ≢ b)
+pub same_or_not : (a b : List ℕ) → (a ≡ b) ⊎ (a ≢ b)
 same_or_not a b = elim (slice_cmp nat_cmp a b) as (λ o. slice_cmp nat_cmp a b ≡ o → (a ≡ b) ⊎ (a ≢ b)) [
   | Less ↦ λ is. inr (λ same. apart a b is (subst (λ x. slice_cmp nat_cmp a x ≡ Equal) same (tied_itself nat_list_cmp_total a)))
   | Equal ↦ λ is. inl (name_ties a b is)

@@ -1,5 +1,6 @@
 -- An occurrence that is added by hand, to the long-term plan or waiting to the current plan.
-use Rattle.std.specs.Prelude.{◌≡◌, ℕ, ◌+◌, ◌<◌, List, [], ◌∷◌, Option, Some, None, Result, Ok, Err}
+use Rattle.std.specs.Prelude.{◌≡◌, ◌≢◌, ◌⊎◌, ◌↔◌, ℕ, ◌+◌, ◌<◌, ◌≤◌, List, [], ◌∷◌, Contains, Option, Some, None, Result}
+use Rattle.std.specs.Prelude.{Ok, Err}
 use Rattle.occurrences.specs.declared.key.Key.{Key}
 use Rattle.occurrences.specs.declared.place.CurrentRow.{CurrentRow}
 use Rattle.occurrences.specs.declared.place.Place.{Place}
@@ -10,14 +11,17 @@ use Rattle.occurrences.specs.declared.row.Row.{Row}
 use Rattle.occurrences.specs.declared.serial.TheConstants.{GREATEST_SERIAL}
 use Rattle.occurrences.specs.declared.status.Status.TheVariants.{W}
 use Rattle.external_dependencies.specs.declared.pairs.Pair.{Pair}
-use Rattle.external_dependencies.specs.declared.touch.Touch.{Touch}
+use Rattle.external_dependencies.specs.Nearest.{IsCandidate}
+use Rattle.external_dependencies.specs.declared.change.PairChange.{PairChange}
+use Rattle.external_dependencies.specs.declared.live.Arrival.{Arrival}
+use Rattle.external_dependencies.specs.declared.rows.PlacedRow.{PlacedRow}
 use Rattle.planner_machine.specs.Add.{AddRefused}
-use Rattle.planner_machine.specs.Content.{Content, Sets}
+use Rattle.planner_machine.specs.Content.{Content, Sets, StandsAt}
 use Rattle.planner_machine.specs.DailyPlan.{waiting}
 use Rattle.planner_machine.specs.Decision.{IsLeastRefusal}
 use Rattle.planner_machine.specs.Drafts.{added}
 use Rattle.planner_machine.specs.Moves.{numbered_row, with_made}
-use Rattle.planner_machine.specs.Pairs.{ArePairs}
+use Rattle.planner_machine.specs.Pairs.{ArePairs, LiveAt, pair_of}
 use Rattle.planner_machine.specs.Plans.{planned}
 use Rattle.planner_machine.specs.declared.limits.TheConstants.{MOST_PLANNED_ROWS}
 use Rattle.plan_store.specs.Changes.{LeadsOn, MovesNothing, pairs_after}
@@ -25,7 +29,11 @@ use Rattle.plan_store.specs.declared.changes.Change.{Change}
 use Rattle.plan_store.specs.declared.changes.DefinitionChange.TheVariants.{AsBefore}
 use Rattle.plan_store.specs.declared.changes.Verdict.{Verdict}
 use Rattle.plan_store.specs.declared.changes.Verdict.TheVariants.{Done, Refused}
+use Rattle.plan_store.specs.Views.{IsOutsideDeletions}
+use Rattle.plan_pairs.specs.Gathering.{IsReached}
+use Rattle.plan_pairs.specs.RowPairs.{IsRowPair}
 use Rattle.plan_pairs.specs.declared.additions.Plan.{Plan}
+use Rattle.plan_pairs.specs.declared.gathering.Reached.{Reached}
 use Rattle.plan_pairs.specs.declared.additions.Plan.TheVariants.{LongTerm, Current}
 
 -- where an occurrence stands that is added to the plan
@@ -58,13 +66,40 @@ abbrev pub IsPutIn : Plan → Row → List Row → List CurrentRow → Type 0
 IsPutIn LongTerm row planned current = (planned ≡ row ∷ []) × (current ≡ [])
 IsPutIn Current row planned current = (planned ≡ []) × (current ≡ waiting row ∷ [])
 
--- the row was made, and nothing else touched; it may reach what arrives from it on to the last moment
-pub record IsTouchOfNew (row : Row) (last : Option ℕ) (touch : Touch) : Type 0 where
-  pub made : touch.made.items ≡ row.serial ∷ []
-  pub withdrawn : touch.withdrawn.items ≡ []
-  pub opened : touch.opened.items ≡ []
-  pub lists : touch.lists.items ≡ []
-  pub stretches : touch.stretches.items ≡ record { app = row.key.app; first = row.key.ia; last = last } ∷ []
+-- the row comes before the occurrence: nothing that may precede this in the row's application arrives later
+pub record IsOvertaken (c : Content) (row : Row) (x : Reached) : Type 0 where
+  pub reached : IsReached c row x
+  pub latest : (other : Arrival) → LiveAt c.sets other
+      → IsCandidate x.placed.row.key row.key.app x.within other → other.ia ≤ row.key.ia
+
+-- a pair of the serial with a predecessor of the application
+pub record IsPairIn (c : Content) (serial : ℕ) (app : List ℕ) (pair : Pair) : Type 0 where
+  pub stood : Contains c.pairs pair
+  pub successor : pair.successor ≡ serial
+  pub placed : PlacedRow
+  pub stands : StandsAt c.sets pair.predecessor placed
+  pub of_app : placed.row.key.app ≡ app
+
+-- where the row comes before the occurrence, the pair that this had in the row's application
+abbrev pub IsLeftPair : Content → Row → Reached → Pair → Type 0
+IsLeftPair c row x pair = IsOvertaken c row x × IsPairIn c x.placed.row.serial row.key.app pair
+
+-- and the one that it gets
+abbrev pub IsTurnedPair : Content → Row → Reached → Pair → Type 0
+IsTurnedPair c row x pair = IsOvertaken c row x × (pair ≡ pair_of x.placed.row.serial row.serial)
+
+-- the predecessor of the application that one of the pairs of the serial has, or that none has one
+abbrev pub IsPredecessorIn : List Pair → Sets → ℕ → List ℕ → Option PlacedRow → Type 0
+IsPredecessorIn pairs s serial app (Some p) =
+    Contains pairs (pair_of serial p.row.serial) × StandsAt s p.row.serial p × (p.row.key.app ≡ app)
+IsPredecessorIn pairs s serial app None = (pair : Pair) (p : PlacedRow) → Contains pairs pair
+    → pair.successor ≡ serial → StandsAt s pair.predecessor p → IsOutsideDeletions p.place → p.row.key.app ≢ app
+
+-- where the row is added, its own pairs come, and those of what it comes before; and the pairs that this had go
+pub record TurnsTo (c : Content) (row : Row) (change : PairChange) : Type 0 where
+  pub removed : (pair : Pair) → Contains change.removed pair ↔ ((x : Reached) × IsLeftPair c row x pair)
+  pub added : (pair : Pair) → Contains change.added pair
+      ↔ (IsRowPair c.in_force c.sets row pair ⊎ ((x : Reached) × IsTurnedPair c row x pair))
 
 -- the pairs where the row is added
 abbrev pub ArePairsWith : Content → Plan → Row → List Pair → Type 0

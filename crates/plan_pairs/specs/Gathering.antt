@@ -1,19 +1,27 @@
--- Rows that hold what a change of one occurrence reaches.
-use Rattle.std.specs.Prelude.{◌≡◌, ◌⊎◌, ℕ, List, [], ◌∷◌, ◌++◌, Contains, Option, None, filter, nat_eq, not}
+-- Open occurrences that another may precede, and what is added for each of some.
+use Rattle.std.specs.Prelude.{◌≡◌, ◌⊎◌, ◌↔◌, ℕ, ◌<◌, ◌≤◌, List, Contains, Option}
 use Rattle.occurrences.specs.Place.{IsLive, IsOpen}
-use Rattle.occurrences.specs.declared.key.Key.{Key}
 use Rattle.occurrences.specs.declared.row.Row.{Row}
-use Rattle.external_dependencies.specs.Link.{Lists}
-use Rattle.external_dependencies.specs.Nearest.{IsCandidate, IsLiveIn, IsNearest}
+use Rattle.external_dependencies.specs.Link.{AreNamedOnce, Lists, ListsWithin}
+use Rattle.external_dependencies.specs.Nearest.{IsCandidate, arrival_of}
+use Rattle.external_dependencies.specs.Touch.{IsWithin}
+use Rattle.external_dependencies.specs.declared.links.Link.{Link}
 use Rattle.external_dependencies.specs.declared.live.Arrival.{Arrival}
 use Rattle.external_dependencies.specs.declared.rows.PlacedRow.{PlacedRow}
 use Rattle.planner_machine.specs.Content.{Content, Sets, StandsAt}
 use Rattle.planner_machine.specs.Pairs.{LiveAt}
 use Rattle.plan_store.specs.Views.{ShowsNearest}
 use Rattle.plan_store.specs.declared.views.View.{View}
-use Rattle.plan_pairs.specs.Additions.{place_in}
 use Rattle.plan_pairs.specs.Spans.{ArrivesBetween}
-use Rattle.plan_pairs.specs.declared.additions.Plan.{Plan}
+use Rattle.plan_pairs.specs.declared.gathering.Reached.{Reached}
+
+-- what is so is added
+abbrev pub AddsIf : {Y : Type 0} → (Y → Type 0) → List Y → List Y → Type 0
+AddsIf {Y} Is old new = (y : Y) → Contains new y ↔ (Contains old y ⊎ Is y)
+
+-- what is so of one of these is added
+abbrev pub AddsEach : {X Y : Type 0} → (X → Y → Type 0) → List X → List Y → List Y → Type 0
+AddsEach {X} Is xs = AddsIf (λ y. (x : X) × Contains xs x × Is x y)
 
 -- the occurrence stands live under its serial
 abbrev pub StandsLive : Sets → PlacedRow → Type 0
@@ -30,57 +38,48 @@ pub record AddsBetween (s : Sets) (app : List ℕ) (first : ℕ) (last : Option 
     pub adds : AddsLive s old new
     pub only : (p : PlacedRow) → Contains new p → Contains old p ⊎ ArrivesBetween app first last p.row
 
--- where anything may precede the key in the application, were there no limit, the rows have what is nearest to it
-abbrev pub HoldsNearest : Sets → List PlacedRow → Key → List ℕ → Type 0
-HoldsNearest s rows key app = (other : Arrival) → LiveAt s other → IsCandidate key app None other
-    → (near : Arrival) × IsLiveIn rows near × IsNearest (LiveAt s) key app None near
-
--- so in each application of the row's list
-abbrev pub HoldsList : Content → List PlacedRow → Row → Type 0
-HoldsList c rows row =
-    (app : List ℕ) → Lists c.in_force row.key.app app → HoldsNearest c.sets rows row.key app
-
 -- an open occurrence of the application that arrives from the first moment to the last, or without end
 pub record IsOpenBetween (s : Sets) (app : List ℕ) (first : ℕ) (last : Option ℕ) (p : PlacedRow) : Type 0 where
   pub stands : StandsAt s p.row.serial p
   pub waits : IsOpen p.place
   pub arrives : ArrivesBetween app first last p.row
 
--- an open occurrence whose list names the row's application, and that arrives from the row on to the last moment
-pub record IsReached (c : Content) (row : Row) (last : Option ℕ) (p : PlacedRow) : Type 0 where
-  pub listed : Lists c.in_force p.row.key.app row.key.app
-  pub waits : IsOpenBetween c.sets p.row.key.app row.key.ia last p
+-- the row may precede the occurrence within that limit
+abbrev pub MayPrecede : Row → Reached → Type 0
+MayPrecede row x = IsCandidate x.placed.row.key row.key.app x.within (arrival_of row)
+
+-- one of the occurrences, under the limit, where it is open and the row may precede it
+abbrev pub IsReachedAmong : Row → Option ℕ → PlacedRow → Reached → Type 0
+IsReachedAmong row within p x = (x ≡ record { placed = p; within = within }) × IsOpen p.place × MayPrecede row x
+
+-- an open occurrence of the link's application, under the limit of the link, that the row may precede, and that arrives
+-- by the last moment
+pub record IsReachedBy (s : Sets) (row : Row) (last : Option ℕ) (link : Link) (x : Reached) : Type 0 where
+  pub stands : StandsAt s x.placed.row.serial x.placed
+  pub waits : IsOpen x.placed.place
+  pub of_app : x.placed.row.key.app ≡ link.app
+  pub limit : x.within ≡ link.within
+  pub may : MayPrecede row x
+  pub by_last : IsWithin last x.placed.row.key.ia
+
+-- an open occurrence that the row may precede: its list names the row's application under that limit
+pub record IsReached (c : Content) (row : Row) (x : Reached) : Type 0 where
+  pub stands : StandsAt c.sets x.placed.row.serial x.placed
+  pub waits : IsOpen x.placed.place
+  pub listed : ListsWithin c.in_force x.placed.row.key.app row.key.app x.within
+  pub may : MayPrecede row x
+
+-- no live occurrence of the row's application arrives after the row and before the moment
+abbrev pub IsUpToNext : Sets → Row → ℕ → Type 0
+IsUpToNext s row ia = (n : Arrival) → LiveAt s n → n.app ≡ row.key.app → row.key.ia < n.ia → ia ≤ n.ia
+
+-- the row may precede each of these, and of all that it may precede those are here that arrive up to the next live one
+-- of its application; a list names an application once
+pub record AreReached (c : Content) (row : Row) (found : List Reached) : Type 0 where
+  pub once : AreNamedOnce c.in_force
+  pub only : (x : Reached) → Contains found x → IsReached c row x
+  pub all : (x : Reached) → IsReached c row x → IsUpToNext c.sets row x.placed.row.key.ia → Contains found x
 
 -- the window shows of history what may precede the row in each application of its list
 abbrev pub ShowsList : Content → View → Row → Type 0
 ShowsList c view row = (app : List ℕ) → Lists c.in_force row.key.app app → ShowsNearest c view row.key app
-
--- and so for each row that is reached
-abbrev pub ShowsReached : Content → View → Row → Option ℕ → Type 0
-ShowsReached c view row last = (p : PlacedRow) → IsReached c row last p → ShowsList c view p.row
-
--- the rows are live, and all that are reached are among them, and no other open ones
-pub record HoldsReachedRows (c : Content) (row : Row) (last : Option ℕ) (rows : List PlacedRow) : Type 0 where
-  pub live : (p : PlacedRow) → Contains rows p → StandsLive c.sets p
-  pub only : (p : PlacedRow) → Contains rows p → IsOpen p.place → IsReached c row last p
-  pub reached : (p : PlacedRow) → IsReached c row last p → Contains rows p
-
--- the rows are live, and all that are reached are among them, with what is nearest to them
-pub record Gathers (c : Content) (row : Row) (last : Option ℕ) (rows : List PlacedRow) : Type 0 where
-  pub live : (p : PlacedRow) → Contains rows p → StandsLive c.sets p
-  pub reached : (p : PlacedRow) → IsReached c row last p → Contains rows p × HoldsList c rows p.row
-
--- what an addition reaches: what is gathered before it, with what is nearest to the row, and the row itself
-pub record HoldsWith (c : Content) (plan : Plan) (row : Row) (last : Option ℕ) (rows : List PlacedRow) : Type 0 where
-  pub gathered : List PlacedRow
-  pub gathers : Gathers c row last gathered
-  pub own : HoldsList c gathered row
-  pub with_row : rows ≡ gathered ++ (record { row = row; place = place_in plan }) ∷ []
-
--- what a withdrawal reaches: what is gathered before it, with what stands before the row in its own application, and
--- without the row
-pub record HoldsWithout (c : Content) (row : Row) (last : Option ℕ) (rows : List PlacedRow) : Type 0 where
-  pub gathered : List PlacedRow
-  pub gathers : Gathers c row last gathered
-  pub before : HoldsNearest c.sets gathered row.key row.key.app
-  pub without_row : rows ≡ filter (λ (p : PlacedRow). not (nat_eq p.row.serial row.serial)) gathered

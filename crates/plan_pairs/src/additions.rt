@@ -1,24 +1,26 @@
-ghost use Rattle.std.specs.Prelude.{◌≡◌, ◌↔◌, IfOk, IsTrue};
+ghost use Rattle.std.specs.Prelude.{◌≡◌, ◌↔◌, ◌<◌, Contains, IfOk, IsTrue, OnOk};
+ghost use Rattle.external_dependencies.specs.Link.{AreNamedOnce};
 ghost use Rattle.planner_machine.specs.Add.{IsOutside, add as decided};
 ghost use Rattle.planner_machine.specs.Content.{Content};
 ghost use Rattle.planner_machine.specs.Sound.{AreNumbered, IsSound};
 ghost use Rattle.plan_store.specs.Changes.{LeadsOn, pairs_after};
 ghost use Rattle.plan_store.specs.Verdicts.{VerdictIs};
-ghost use Rattle.plan_store.specs.Views.{Behind, BehindAny, BehindPart, Shows};
+ghost use Rattle.plan_store.specs.Views.{Behind, BehindAny, BehindPairs, Shows, shown};
 ghost use Rattle.plan_pairs.specs.Additions.{AddsRow, ArePairsWith, IsAddable, IsNewRow, IsNewSerial, IsPutIn};
-ghost use Rattle.plan_pairs.specs.Additions.{IsTouchOfNew, place_in};
-ghost use Rattle.plan_pairs.specs.Gathering.{HoldsWith, ShowsList, ShowsReached};
+ghost use Rattle.plan_pairs.specs.Additions.{IsLeftPair, IsPredecessorIn, IsTurnedPair, place_in};
+ghost use Rattle.plan_pairs.specs.Gathering.{AddsEach, AddsIf, IsReached};
+ghost use Rattle.plan_pairs.specs.declared.gathering.Reached.{Reached as ReachedValue};
 
-use crate::gathering::{gather, push_list};
-use crate::planned::pairs_of_rows;
-use crate::singles::{push_item, single};
+use crate::gathering::{Reached, reached_by};
+use crate::row_pairs::row_pairs_of;
+use crate::singles::single;
 use app_occurrences::active;
-use external_dependencies::{PairChange, PlacedRow, Rows, Stretch, Touch, resolve_touched};
+use external_dependencies::{Pair, PairChange, Pairs, PlacedRow};
 use occurrences::{CurrentRow, Key, Origin, Place, Refusal, Reply, Row, Serial, Status};
 use plan_store::{Change, Need, Verdict, View};
 use planner_machine::{Bounds, MOST_PLANNED_ROWS};
 use std::alloc::{AllocError, Global};
-use work_calendars::Moment;
+use work_calendars::{App, Moment};
 
 /// A plan that an occurrence can be added to.
 #[derive(Clone, Copy, Debug, PartialEq, Eq)]
@@ -137,7 +139,8 @@ fn put_in(alloc: Global, plan: Plan, row: &Row) -> Result<(Vec<Row>, Vec<Current
     }
 }
 
-// The change of the pairs where the row is added.
+// The change of the pairs where the row is added: its own pairs come, and of each open occurrence that it comes before
+// the pair with its application turns to it.
 fn pairs_with(
     alloc: Global,
     view: &View<'_>,
@@ -148,42 +151,86 @@ fn pairs_with(
         IsAddable c plan row.now → ArePairsWith c plan row.now (pairs_after change c.pairs)
         × LeadsOn c.pairs change)) }
 {
-    let last = view.next_planned(&row.key.app, row.key.ia);
-    let rows = rows_with(alloc, view, plan, row, &last)?;
-    let touch = touch_of(alloc, row, &last)?;
-    let pairs = pairs_of_rows(alloc, view, rows.as_slice(), row.serial)?;
-    resolve_touched(alloc, &rows, view.in_force(), &pairs, &touch)
+    let mut removed = Vec::new(alloc);
+    let own = row_pairs_of(alloc, view, row)?;
+    let mut added = own.into_vec();
+    let found = reached_by(alloc, view, row)?;
+    turn_each(view, row, &found, &mut removed, &mut added)?;
+    Ok(PairChange {
+        removed: Pairs::from_vec(removed),
+        added: Pairs::from_vec(added),
+    })
 }
 
-// The rows that hold what the addition reaches.
-fn rows_with(
-    alloc: Global,
+// Turns each of these to the row that it comes before.
+fn turn_each(
     view: &View<'_>,
-    plan: Plan,
     row: &Row,
-    last: &Option<Moment>,
-) -> Result<Rows, AllocError>
-    ensures { IfOk result (λ rows. BehindPart view.now (λ c.
-        ShowsReached c view.now row.now last.now → ShowsList c view.now row.now
-        → HoldsWith c plan row.now last.now rows)) }
+    found: &[Reached],
+    removed: &mut Vec<Pair>,
+    added: &mut Vec<Pair>,
+) -> Result<(), AllocError>
+    ensures { OnOk result (Behind (Need.Key row.now.key) view.now (λ c. AreNamedOnce c.in_force
+        → ((x : ReachedValue) → Contains found.now x → IsReached c row.now x)
+        → AddsEach (IsLeftPair c row.now) found.now removed.old.items removed.new.items
+        × AddsEach (IsTurnedPair c row.now) found.now added.old.items added.new.items)) }
 {
-    let mut rows = gather(alloc, view, row, last)?;
-    push_list(view, row, &mut rows)?;
-    let place = plan.place();
-    push_item(&mut rows, &PlacedRow { row: *row, place })?;
-    Ok(Rows::from_vec(rows))
+    for x in found {
+        turn(view, row, x, removed, added)?;
+    }
+    Ok(())
 }
 
-// What the row touches that is added: from its arrival on to the next of its application.
-fn touch_of(alloc: Global, row: &Row, last: &Option<Moment>) -> Result<Touch, AllocError>
-    ensures { IfOk result (IsTouchOfNew row.now last.now) }
+// Turns the occurrence to the row, unless what precedes it now in the row's application arrives later.
+fn turn(
+    view: &View<'_>,
+    row: &Row,
+    x: &Reached,
+    removed: &mut Vec<Pair>,
+    added: &mut Vec<Pair>,
+) -> Result<(), AllocError>
+    ensures { OnOk result (Behind (Need.Key row.now.key) view.now (λ c. AreNamedOnce c.in_force
+        → IsReached c row.now x.now
+        → AddsIf (IsLeftPair c row.now x.now) removed.old.items removed.new.items
+        × AddsIf (IsTurnedPair c row.now x.now) added.old.items added.new.items)) }
 {
-    let mut touch = Touch::new(alloc);
-    touch.made.push(row.serial)?;
-    touch.stretches.push(Stretch {
-        app: row.key.app,
-        first: row.key.ia,
-        last: *last,
+    let successor = x.placed.row.serial;
+    if let Some(was) = predecessor_in(view, successor, &row.key.app) {
+        if arrives_later(&was.row, row) {
+            return Ok(());
+        }
+        let predecessor = was.row.serial;
+        removed.push(Pair {
+            successor,
+            predecessor,
+        })?;
+    }
+    let predecessor = row.serial;
+    added.push(Pair {
+        successor,
+        predecessor,
     })?;
-    Ok(touch)
+    Ok(())
+}
+
+// Whether the first row arrives later than the other.
+fn arrives_later(first: &Row, other: &Row) -> bool
+    ensures { IsTrue result ↔ (other.now.key.ia < first.now.key.ia) }
+{
+    other.key.ia < first.key.ia
+}
+
+// The predecessor that the pairs shown of the successor have in the application.
+fn predecessor_in(view: &View<'_>, successor: Serial, app: &App) -> Option<PlacedRow>
+    ensures { BehindPairs view.now (λ c.
+        IsPredecessorIn (shown view.now).pairs c.sets successor app.now result) }
+{
+    for pair in view.pairs_of_successor(successor) {
+        if let Some(placed) = view.predecessor(pair) {
+            if placed.row.key.app == *app {
+                return Some(placed);
+            }
+        }
+    }
+    None
 }

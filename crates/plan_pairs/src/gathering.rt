@@ -1,53 +1,63 @@
-ghost use Rattle.std.specs.Prelude.{Contains, IfOk, OnOk};
+ghost use Rattle.std.specs.Prelude.{◌↔◌, Contains, IfOk, IsTrue, OnOk};
+ghost use Rattle.external_dependencies.specs.Nearest.{IsCandidate, arrival_of};
 ghost use Rattle.external_dependencies.specs.declared.rows.PlacedRow.{PlacedRow as PlacedValue};
-ghost use Rattle.occurrences.specs.Place.{IsOpen};
 ghost use Rattle.planner_machine.specs.Sound.{AreNumbered};
-ghost use Rattle.plan_store.specs.Views.{BehindAny, BehindPart, ShowsNearest};
-ghost use Rattle.plan_pairs.specs.Gathering.{AddsBetween, AddsLive, Gathers, HoldsList, HoldsNearest, HoldsReachedRows, IsOpenBetween};
-ghost use Rattle.plan_pairs.specs.Gathering.{ShowsList, ShowsReached};
+ghost use Rattle.plan_store.specs.Views.{BehindAny};
+ghost use Rattle.plan_pairs.specs.Gathering.{AddsBetween, AddsEach, AddsIf, AreReached, IsOpenBetween};
+ghost use Rattle.plan_pairs.specs.Gathering.{IsReachedAmong, IsReachedBy};
 
-use crate::listing::{copied, push_current, push_rows};
-use crate::singles::push_item;
-use external_dependencies::PlacedRow;
+use crate::listing::{push_current, push_rows};
+use external_dependencies::{Link, PlacedRow, arrives_within};
 use occurrences::{Key, Place, Row};
 use plan_store::{View, between};
 use std::alloc::{AllocError, Global};
-use work_calendars::{App, Moment};
+use work_calendars::{App, Moment, Within};
 
-/// What a change of the row may reach, where the stretch that it touches ends at that moment: the open occurrences whose
-/// lists name its application and that arrive in the stretch, and of each what is nearest to it in each application of
-/// its list. They are found by searches.
-pub(crate) fn gather(
-    alloc: Global,
-    view: &View<'_>,
-    row: &Row,
-    last: &Option<Moment>,
-) -> Result<Vec<PlacedRow>, AllocError>
-    ensures { IfOk result (λ rows. BehindPart view.now (λ c.
-        ShowsReached c view.now row.now last.now → Gathers c row.now last.now rows.items)) }
-{
-    let reached = reached_rows(alloc, view, row, last)?;
-    let mut rows = copied(alloc, &reached)?;
-    push_lists(view, &reached, &mut rows)?;
-    Ok(rows)
+/// An open occurrence that another may precede, and the limit within which its list names that one's application.
+#[derive(Clone, Copy, Debug, PartialEq, Eq)]
+pub(crate) struct Reached {
+    /// The occurrence, and where it stands.
+    pub(crate) placed: PlacedRow,
+    /// The most hours from the arrival of the other to its own; `None` where there is no limit.
+    pub(crate) within: Option<Within>,
 }
 
-// The live occurrences of the long-term plan and the current plan that the row may reach.
-fn reached_rows(
+/// The open occurrences that the row may precede, up to the next live one of its application. Looks at each link in
+/// force once, and finds them by searches.
+pub(crate) fn reached_by(
     alloc: Global,
     view: &View<'_>,
     row: &Row,
+) -> Result<Vec<Reached>, AllocError>
+    ensures { IfOk result (λ found. BehindAny view.now (λ c. AreNumbered c.sets
+        → AreReached c row.now found.items)) }
+{
+    let last = view.next_planned(&row.key.app, row.key.ia);
+    let mut found = Vec::new(alloc);
+    for link in view.in_force().as_slice() {
+        if link.predecessor == row.key.app {
+            push_link(alloc, view, row, link, &last, &mut found)?;
+        }
+    }
+    Ok(found)
+}
+
+// Adds the open occurrences of the link's application that the row may precede, up to the last moment.
+fn push_link(
+    alloc: Global,
+    view: &View<'_>,
+    row: &Row,
+    link: &Link,
     last: &Option<Moment>,
-) -> Result<Vec<PlacedRow>, AllocError>
-    ensures { IfOk result (λ rows. BehindAny view.now (λ c. AreNumbered c.sets
-        → HoldsReachedRows c row.now last.now rows.items)) }
+    found: &mut Vec<Reached>,
+) -> Result<(), AllocError>
+    ensures { OnOk result (BehindAny view.now (λ c. AreNumbered c.sets
+        → AddsIf (IsReachedBy c.sets row.now last.now link.now) found.old.items found.new.items)) }
 {
     let mut rows = Vec::new(alloc);
-    let naming = view.in_force().naming(alloc, &row.key.app)?;
-    for link in naming.as_slice() {
-        push_between(view, &link.app, row.key.ia, last, &mut rows)?;
-    }
-    Ok(rows)
+    push_between(view, &link.app, row.key.ia, last, &mut rows)?;
+    push_reached(row, link, &rows, found)?;
+    Ok(())
 }
 
 // Adds the live occurrences of an application in both plans that arrive from the first moment to the last.
@@ -70,58 +80,35 @@ fn push_between(
     Ok(())
 }
 
-// Adds of each open one of these what is nearest to it in each application of its list.
-fn push_lists(
-    view: &View<'_>,
-    reached: &[PlacedRow],
-    rows: &mut Vec<PlacedRow>,
+// Adds the open ones of these that the row may precede within the limit of the link.
+fn push_reached(
+    row: &Row,
+    link: &Link,
+    rows: &[PlacedRow],
+    found: &mut Vec<Reached>,
 ) -> Result<(), AllocError>
-    ensures { OnOk result (BehindPart view.now (λ c.
-        ((p : PlacedValue) → Contains reached.now p → IsOpen p.place → ShowsList c view.now p.row)
-        → AddsLive c.sets rows.old.items rows.new.items
-        × ((p : PlacedValue) → Contains reached.now p → IsOpen p.place
-        → HoldsList c rows.new.items p.row))) }
+    ensures { OnOk result (AddsEach (IsReachedAmong row.now link.now.within) rows.now
+        found.old.items found.new.items) }
 {
-    for placed in reached {
-        if placed.place.is_open() {
-            push_list(view, &placed.row, rows)?;
+    for placed in rows {
+        if placed.place.is_open() && may_precede(row, &placed.row.key, link.within) {
+            found.push(Reached {
+                placed: *placed,
+                within: link.within,
+            })?;
         }
     }
     Ok(())
 }
 
-/// Adds what is nearest to the row in each application of its list.
-pub(crate) fn push_list(
-    view: &View<'_>,
-    row: &Row,
-    rows: &mut Vec<PlacedRow>,
-) -> Result<(), AllocError>
-    ensures { OnOk result (BehindPart view.now (λ c. ShowsList c view.now row.now
-        → AddsLive c.sets rows.old.items rows.new.items × HoldsList c rows.new.items row.now)) }
+// Whether the row may precede the occurrence with the key, within the limit.
+fn may_precede(row: &Row, key: &Key, within: Option<Within>) -> bool
+    ensures { IsTrue result ↔ IsCandidate key.now row.now.key.app within (arrival_of row.now) }
 {
-    for link in view.in_force().list(&row.key.app) {
-        push_nearest(view, &row.key, &link.predecessor, rows)?;
-    }
-    Ok(())
-}
-
-/// Adds what is nearest to the key in the application, if anything is, were there no limit.
-pub(crate) fn push_nearest(
-    view: &View<'_>,
-    key: &Key,
-    app: &App,
-    rows: &mut Vec<PlacedRow>,
-) -> Result<(), AllocError>
-    ensures { OnOk result (BehindPart view.now (λ c. ShowsNearest c view.now key.now app.now
-        → AddsLive c.sets rows.old.items rows.new.items
-        × HoldsNearest c.sets rows.new.items key.now app.now)) }
-{
-    let Some(serial) = view.nearest(key, app, None) else {
-        return Ok(());
+    let in_time = if row.key.app == key.app {
+        row.key.ia < key.ia
+    } else {
+        row.key.ia <= key.ia
     };
-    let Some(placed) = view.placed(serial) else {
-        return Ok(());
-    };
-    push_item(rows, &placed)?;
-    Ok(())
+    in_time && arrives_within(within, key.ia, row.key.ia)
 }

@@ -45,15 +45,6 @@ pub fn live_rows_with(
     Ok(Rows::from_vec(rows))
 }
 
-// The same rows once more.
-pub(crate) fn copied(alloc: Global, rows: &[PlacedRow]) -> Result<Vec<PlacedRow>, AllocError>
-    ensures { IfOk result (λ copy. copy.items ≡ rows.now) }
-{
-    let mut copy = Vec::with_capacity(alloc, rows.len())?;
-    copy.extend_from_slice(rows)?;
-    Ok(copy)
-}
-
 // Adds rows that stand in one place.
 pub(crate) fn push_rows(
     rows: &mut Vec<PlacedRow>,

@@ -1,73 +1,71 @@
-ghost use Rattle.std.specs.Prelude.{◌≡◌, ◌⊎◌, ◌↔◌, true, Contains, IfOk, OnOk};
-ghost use Rattle.external_dependencies.specs.Reached.{HasSerialOf};
+ghost use Rattle.std.specs.Prelude.{◌≡◌, ◌↔◌, Contains, IfOk, OnOk, Some};
+ghost use Rattle.occurrences.specs.declared.place.CurrentRow.{CurrentRow as CurrentValue};
+ghost use Rattle.occurrences.specs.declared.row.Row.{Row as RowValue};
 ghost use Rattle.external_dependencies.specs.declared.pairs.Pair.{Pair as PairValue};
-ghost use Rattle.plan_store.specs.Views.{is_planned, shown};
-ghost use Rattle.plan_pairs.specs.Planned.{AddsPairsOf, HasSerialAmong, IsPlannedOfOne};
+ghost use Rattle.plan_store.specs.Views.{shown};
+ghost use Rattle.plan_pairs.specs.Planned.{AddsPairsOf, HasWaiting, IsOpenAt, IsOpenOfOne};
+ghost use Rattle.plan_pairs.specs.Turns.{HasSerial};
 
-use external_dependencies::{Pair, Pairs, PlacedRow};
-use keyed_lists::PlanRow;
-use occurrences::Serial;
+use external_dependencies::{Pair, Pairs};
+use occurrences::{CurrentRow, Place, Row};
 use plan_store::View;
 use std::alloc::{AllocError, Global};
 use work_calendars::App;
 
-/// The pairs of the rows of both plans.
+/// The pairs of the open rows of both plans.
 pub fn pairs_of_plans(alloc: Global, view: &View<'_>) -> Result<Pairs, AllocError>
     ensures { IfOk result (λ pairs. (pair : PairValue) → Contains pairs pair
-        ↔ Contains (shown view.now).pairs pair) }
+        ↔ (Contains (shown view.now).pairs pair
+        × IsOpenAt (shown view.now).sets pair.successor)) }
 {
     let mut pairs = Vec::new(alloc);
-    push_pairs(view, view.ltp(), &mut pairs)?;
-    push_pairs(view, view.cp(), &mut pairs)?;
+    push_planned(view, view.ltp(), &mut pairs)?;
+    push_waiting(view, view.cp(), &mut pairs)?;
     Ok(Pairs::from_vec(pairs))
 }
 
-/// The pairs of the rows of these applications in both plans.
+/// The pairs of the open rows of these applications in both plans.
 pub fn pairs_of_apps(alloc: Global, view: &View<'_>, apps: &[App]) -> Result<Pairs, AllocError>
     ensures { IfOk result (λ pairs. (pair : PairValue) → Contains pairs pair
         ↔ (Contains (shown view.now).pairs pair
-        × IsPlannedOfOne (shown view.now).sets apps.now pair.successor)) }
+        × IsOpenOfOne (shown view.now).sets apps.now pair.successor)) }
 {
     let mut pairs = Vec::new(alloc);
     for app in apps {
-        push_pairs(view, view.ltp_of(app), &mut pairs)?;
-        push_pairs(view, view.cp_of(app), &mut pairs)?;
+        push_planned(view, view.ltp_of(app), &mut pairs)?;
+        push_waiting(view, view.cp_of(app), &mut pairs)?;
     }
     Ok(Pairs::from_vec(pairs))
 }
 
-// Adds the pairs of rows of one plan.
-fn push_pairs<T: PlanRow>(
-    view: &View<'_>,
-    rows: &[T],
-    pairs: &mut Vec<Pair>,
-) -> Result<(), AllocError>
-    requires { (x : T) → Contains rows.now x
-        → is_planned (shown view.now).sets.ltp (shown view.now).sets.cp (T.row_of x).serial ≡ true }
-    ensures { OnOk result (AddsPairsOf (shown view.now).pairs (HasSerialAmong T.row_of rows.now)
+// Adds the pairs of rows of the long-term plan.
+fn push_planned(view: &View<'_>, rows: &[Row], pairs: &mut Vec<Pair>) -> Result<(), AllocError>
+    requires { (row : RowValue) → Contains rows.now row
+        → (shown view.now).sets.ltp row.serial ≡ Some row }
+    ensures { OnOk result (AddsPairsOf (shown view.now).pairs (HasSerial rows.now)
         pairs.old.items pairs.new.items) }
 {
-    for x in rows {
-        pairs.extend_from_slice(view.pairs_of_planned(x.row().serial))?;
+    for row in rows {
+        pairs.extend_from_slice(view.pairs_of_open(row.serial))?;
     }
     Ok(())
 }
 
-/// The pairs of these rows and of the serial, of as many of them as stand in one of the plans.
-pub(crate) fn pairs_of_rows(
-    alloc: Global,
+// Adds the pairs of those rows of the current plan that wait. A closed one is passed over.
+fn push_waiting(
     view: &View<'_>,
-    rows: &[PlacedRow],
-    serial: Serial,
-) -> Result<Pairs, AllocError>
-    ensures { IfOk result (λ pairs. (pair : PairValue) → Contains pairs pair
-        ↔ (Contains (shown view.now).pairs pair
-        × (HasSerialOf rows.now pair.successor ⊎ (pair.successor ≡ serial)))) }
+    list: &[CurrentRow],
+    pairs: &mut Vec<Pair>,
+) -> Result<(), AllocError>
+    requires { (current : CurrentValue) → Contains list.now current
+        → (shown view.now).sets.cp current.row.serial ≡ Some current }
+    ensures { OnOk result (AddsPairsOf (shown view.now).pairs (HasWaiting list.now)
+        pairs.old.items pairs.new.items) }
 {
-    let mut pairs = Vec::new(alloc);
-    pairs.extend_from_slice(view.pairs_of_successor(serial))?;
-    for placed in rows {
-        pairs.extend_from_slice(view.pairs_of_successor(placed.row.serial))?;
+    for current in list {
+        if Place::Current(current.status).is_open() {
+            pairs.extend_from_slice(view.pairs_of_open(current.row.serial))?;
+        }
     }
-    Ok(Pairs::from_vec(pairs))
+    Ok(())
 }

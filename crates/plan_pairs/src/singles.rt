@@ -1,4 +1,4 @@
-ghost use Rattle.std.specs.Prelude.{◌≡◌, [], ◌∷◌, ◌++◌, IfOk, OnOk};
+ghost use Rattle.std.specs.Prelude.{◌≡◌, [], ◌∷◌, IfOk};
 
 use std::alloc::{AllocError, Global};
 
@@ -9,12 +9,4 @@ pub fn single<T: Copy>(alloc: Global, item: T) -> Result<Vec<T>, AllocError>
     let mut items = Vec::with_capacity(alloc, 1)?;
     items.push(item)?;
     Ok(items)
-}
-
-// Adds one item at the end of the list.
-pub(crate) fn push_item<T: Copy>(items: &mut Vec<T>, item: &T) -> Result<(), AllocError>
-    ensures { OnOk result (items.new.items ≡ items.old.items ++ item.now ∷ []) }
-{
-    items.push(*item)?;
-    Ok(())
 }

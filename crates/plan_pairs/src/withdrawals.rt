@@ -1,70 +1,105 @@
-ghost use Rattle.std.specs.Prelude.{◌≡◌, IfOk, filter, nat_eq, not};
-ghost use Rattle.external_dependencies.specs.declared.rows.PlacedRow.{PlacedRow as PlacedValue};
+ghost use Rattle.std.specs.Prelude.{◌≡◌, ◌↔◌, Contains, IfOk, IsTrue, OnOk, Some, ℕ};
 ghost use Rattle.planner_machine.specs.Content.{Sets};
 ghost use Rattle.planner_machine.specs.Pairs.{ArePairs};
 ghost use Rattle.plan_store.specs.Changes.{LeadsOn, pairs_after};
-ghost use Rattle.plan_store.specs.Views.{Behind, BehindPart, ShowsNearest};
-ghost use Rattle.plan_pairs.specs.Gathering.{HoldsWithout, ShowsReached};
-ghost use Rattle.plan_pairs.specs.Withdrawals.{IsTouchOfWithdrawn, LosesRow};
+ghost use Rattle.plan_store.specs.Views.{Behind, shown};
+ghost use Rattle.plan_pairs.specs.Gathering.{AddsEach, AddsIf};
+ghost use Rattle.plan_pairs.specs.Withdrawals.{IsBackPair, IsBehind, IsLostPair, LosesRow};
 
-use crate::gathering::{gather, push_nearest};
-use crate::planned::pairs_of_rows;
-use external_dependencies::{PairChange, Rows, Stretch, Touch, resolve_touched};
+use crate::gathering::{Reached, reached_by};
+use external_dependencies::{Arrival, Pair, PairChange, Pairs, arrives_within};
 use occurrences::{Row, Serial};
 use plan_store::{Need, View};
 use std::alloc::{AllocError, Global};
-use work_calendars::Moment;
 
 /// What leads from the pairs before a statement to those after it, and no more, where the row lives no longer and all
-/// others stay as they are.
+/// others stay as they are. Its own pairs go, and each pair with it of an open occurrence turns to what stands before it
+/// in its application, within the limit.
 pub fn pairs_without(alloc: Global, view: &View<'_>, row: &Row) -> Result<PairChange, AllocError>
     ensures { IfOk result (λ change. Behind (Need.Key row.now.key) view.now (λ c. (s : Sets)
         → LosesRow c.sets s row.now → ArePairs c.pairs c.in_force s (pairs_after change c.pairs)
         × LeadsOn c.pairs change)) }
 {
-    let last = view.next_planned(&row.key.app, row.key.ia);
-    let rows = rows_without(alloc, view, row, &last)?;
-    let touch = touch_of(alloc, row, &last)?;
-    let pairs = pairs_of_rows(alloc, view, rows.as_slice(), row.serial)?;
-    resolve_touched(alloc, &rows, view.in_force(), &pairs, &touch)
+    let mut removed = Vec::new(alloc);
+    let mut added = Vec::new(alloc);
+    removed.extend_from_slice(view.pairs_of_successor(row.serial))?;
+    let before = view.previous(&row.key);
+    let found = reached_by(alloc, view, row)?;
+    turn_each(view, row, &before, &found, &mut removed, &mut added)?;
+    Ok(PairChange {
+        removed: Pairs::from_vec(removed),
+        added: Pairs::from_vec(added),
+    })
 }
 
-// The rows that hold what the withdrawal reaches. In place of the row itself they have what stands before it.
-fn rows_without(
-    alloc: Global,
+// Turns each of these that has a pair with the row from it.
+fn turn_each(
     view: &View<'_>,
     row: &Row,
-    last: &Option<Moment>,
-) -> Result<Rows, AllocError>
-    ensures { IfOk result (λ rows. BehindPart view.now (λ c.
-        ShowsReached c view.now row.now last.now
-        → ShowsNearest c view.now row.now.key row.now.key.app
-        → HoldsWithout c row.now last.now rows)) }
+    before: &Option<Arrival>,
+    found: &[Reached],
+    removed: &mut Vec<Pair>,
+    added: &mut Vec<Pair>,
+) -> Result<(), AllocError>
+    ensures removed { OnOk result (AddsEach (IsLostPair (shown view.now).pairs row.now) found.now
+        removed.old.items removed.new.items) }
+    ensures added { OnOk result (AddsEach (IsBackPair (shown view.now).pairs row.now before.now)
+        found.now added.old.items added.new.items) }
 {
-    let mut rows = gather(alloc, view, row, last)?;
-    push_nearest(view, &row.key, &row.key.app, &mut rows)?;
-    Ok(without(Rows::from_vec(rows), row.serial))
+    for x in found {
+        turn(view, row, before, x, removed, added)?;
+    }
+    Ok(())
 }
 
-// These occurrences but the one of the serial.
-fn without(rows: Rows, serial: Serial) -> Rows
-    ensures { result ≡ filter (λ (p : PlacedValue). not (nat_eq p.row.serial serial)) rows }
+// Turns the occurrence, where it has a pair with the row, to what stands before that, if the limit allows it.
+fn turn(
+    view: &View<'_>,
+    row: &Row,
+    before: &Option<Arrival>,
+    x: &Reached,
+    removed: &mut Vec<Pair>,
+    added: &mut Vec<Pair>,
+) -> Result<(), AllocError>
+    ensures removed { OnOk result (AddsIf (IsLostPair (shown view.now).pairs row.now x.now)
+        removed.old.items removed.new.items) }
+    ensures added { OnOk result (AddsIf
+        (IsBackPair (shown view.now).pairs row.now before.now x.now)
+        added.old.items added.new.items) }
 {
-    let mut placed = rows.into_vec();
-    placed.retain(|p| p.row.serial != serial);
-    Rows::from_vec(placed)
+    let pair = Pair {
+        successor: x.placed.row.serial,
+        predecessor: row.serial,
+    };
+    if has_pair(view, &pair) {
+        removed.push(pair)?;
+        if let Some(predecessor) = predecessor_of(before, x) {
+            added.push(Pair {
+                successor: x.placed.row.serial,
+                predecessor,
+            })?;
+        }
+    }
+    Ok(())
 }
 
-// What the row touches that is withdrawn: from its arrival on to the next of its application.
-fn touch_of(alloc: Global, row: &Row, last: &Option<Moment>) -> Result<Touch, AllocError>
-    ensures { IfOk result (IsTouchOfWithdrawn row.now last.now) }
+// Whether the window shows the pair.
+fn has_pair(view: &View<'_>, pair: &Pair) -> bool
+    ensures { IsTrue result ↔ Contains (shown view.now).pairs pair.now }
 {
-    let mut touch = Touch::new(alloc);
-    touch.withdrawn.push(row.serial)?;
-    touch.stretches.push(Stretch {
-        app: row.key.app,
-        first: row.key.ia,
-        last: *last,
-    })?;
-    Ok(touch)
+    view.pairs_of_successor(pair.successor)
+        .binary_search(pair)
+        .is_ok()
+}
+
+// What stands before the row that goes, where it arrives within the limit of the occurrence.
+fn predecessor_of(before: &Option<Arrival>, x: &Reached) -> Option<Serial>
+    ensures { (serial : ℕ) → (result ≡ Some serial) ↔ IsBehind before.now x.now serial }
+{
+    let near = (*before)?;
+    if arrives_within(x.within, x.placed.row.key.ia, near.ia) {
+        Some(near.serial)
+    } else {
+        None
+    }
 }

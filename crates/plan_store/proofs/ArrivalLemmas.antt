@@ -1,7 +1,7 @@
 -- The greatest of some arrivals.
 use Rattle.std.proofs.Common.{true, false, ◌≡◌, ◌≢◌, ◌↔◌, ℕ, ◌+◌, ◌<◌, ◌≤◌, ◌⊎◌, List, length, get_or, refl, sym, ap}
 use Rattle.std.proofs.Common.{subst, ◌∙◌, inl, inr, arith, Some, None, Option, Ordering}
-use Rattle.std.specs.Prelude.{nat_eq, if◌then◌else◌, IfSome}
+use Rattle.std.specs.Prelude.{nat_eq, if◌then◌else◌}
 use Rattle.std.specs.declared.cmp.Ordering.TheVariants.{Less, Equal, Greater}
 use Rattle.std.specs.List.{Contains}
 use Rattle.std.specs.Cmp.Lexicographic.{bytes_decides, pointwise, slice_cmp}
@@ -28,9 +28,8 @@ use Rattle.external_dependencies.proofs.NearestLemmas.{answer_none, arrival_ties
 use Rattle.plan_store.specs.Arrivals.{IsGreatestOf, arrives, arrives_live, later_of}
 use Rattle.plan_store.specs.Asked.{HasLast, IsNoLater}
 use Rattle.plan_store.specs.Slices.{HaveOneApp}
-use Rattle.plan_store.specs.Views.{IsLastBefore, IsUnshown, shown}
-use Rattle.plan_store.specs.declared.views.View.{View}
-use Rattle.plan_store.proofs.LookLemmas.{look_has, look_none, look_some}
+use Rattle.plan_store.specs.Views.{IsLastBefore}
+use Rattle.plan_store.proofs.LookLemmas.{look_has, look_some}
 use Rattle.plan_store.proofs.OrderLemmas.{arrival_total}
 use Rattle.plan_store.proofs.PlaceLemmas.{stands_cp, stands_history, stands_ltp}
 
@@ -321,33 +320,6 @@ module _ (s : Sets) (numbered : AreNumbered s) (app : List ℕ) (minute : ℕ)
             let own = behind.serial (omega (arith, tie, same)) in
             omega (arith, serials, own);
       }
-
--- what one of the parts has is shown
-pub part_shown : (ltp lasts : List Row) (cp : List CurrentRow) (ltp_part history_part : List Row)
-    (cp_part : List CurrentRow) → ((row : Row) → Contains ltp_part row → Contains ltp row)
-    → ((current : CurrentRow) → Contains cp_part current → Contains cp current)
-    → ((row : Row) → Contains history_part row → Contains lasts row) → (answer : Option Arrival)
-    → IsGreatestOf (λ a. arrives ltp_part a ⊎ (arrives_live cp_part a ⊎ arrives history_part a)) answer
-    → IfSome answer (λ near. look_up (λ (row : Row). row.serial) ltp near.serial ≡ None
-    → look_up (λ (current : CurrentRow). current.row.serial) cp near.serial ≡ None
-    → look_up (λ (row : Row). row.serial) lasts near.serial ≡ None → ⊥)
-part_shown ltp lasts cp ltp_part history_part cp_part in_ltp in_cp in_lasts None is = tt
-part_shown ltp lasts cp ltp_part history_part cp_part in_ltp in_cp in_lasts (Some near) is = elim is.0 [
-  | inl (row, there, same) ↦ λ no _ _. look_none (λ (row : Row). row.serial) ltp near.serial no row
-      (in_ltp row there) (ap (λ (b : Arrival). b.serial) same)
-  | inr (inl (current, there, live, same)) ↦ λ _ no _. look_none (λ (current : CurrentRow). current.row.serial) cp
-      near.serial no current (in_cp current there) (ap (λ (b : Arrival). b.serial) same)
-  | inr (inr (row, there, same)) ↦ λ _ _ no. look_none (λ (row : Row). row.serial) lasts near.serial no row
-      (in_lasts row there) (ap (λ (b : Arrival). b.serial) same)
-]
-
-pub unshown_near : (view : View) (answer : Option Arrival)
-    → IfSome answer (λ near. look_up (λ (row : Row). row.serial) view.ltp.now near.serial ≡ None
-    → look_up (λ (current : CurrentRow). current.row.serial) view.cp.now near.serial ≡ None
-    → look_up (λ (row : Row). row.serial) view.lasts.now near.serial ≡ None → ⊥)
-    → IfSome answer (λ near. IsUnshown (shown view).sets near.serial → ⊥)
-unshown_near view None is = tt
-unshown_near view (Some near) is = λ none. is none.ltp none.cp none.history
 
 -- where no row that is shown has the key, none of history has it
 pub unshown_key : (history shown : ℕ → Option Row) (key : Key) → HasLast history shown key.app (key.ia + 1)

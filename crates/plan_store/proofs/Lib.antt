@@ -1,5 +1,6 @@
 mod AlikeLemmas
 mod ArrivalLemmas
+mod AskedLemmas
 pub mod FitLemmas
 mod JobLemmas
 mod ListedLemmas

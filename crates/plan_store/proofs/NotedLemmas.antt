@@ -1,6 +1,5 @@
 -- Places of rows that are noted, and the rows at them.
 use Rattle.std.proofs.Common.{◌≡◌, ◌≢◌, ◌↔◌, ◌⊎◌, ℕ, ◌+◌, ◌-◌, ◌<◌, ◌≤◌, true, false, List, [], ◌∷◌, ◌++◌, length, get_or}
-use Rattle.std.proofs.Common.{drop, min, take}
 use Rattle.std.proofs.Common.{refl, sym, ap, subst, ◌∙◌, inl, inr, arith, Option, Some, None, Ordering}
 use Rattle.std.specs.FinMap as map
 use Rattle.std.specs.List.{AllPairs, Contains}
@@ -11,32 +10,29 @@ use Rattle.std.specs.Ordering.{is_lt, nat_cmp, ordering_then}
 use Rattle.std.specs.declared.cmp.Ordering.TheVariants.{Less, Equal, Greater}
 use Rattle.std.proofs.lemmas.Bool.{cases_lt, cases_order, false≢true}
 use Rattle.std.proofs.lemmas.Cmp.{nat_cmp_total, nat_list_cmp_total, on_total, ranked, then_total, tied_itself}
-use Rattle.std.proofs.Math.Seq.{take-add}
-use Rattle.std.proofs.lemmas.List.{get_or-drop, get_or-take, get_or_append_left, get_or_default, get_or_push}
-use Rattle.std.proofs.lemmas.List.{length-drop, length-take, length_push}
-use Rattle.std.proofs.lemmas.List.Elements.{Contains-append_cases, Contains-append_left, Contains-append_right}
+use Rattle.std.proofs.lemmas.List.{get_or_append_left, get_or_default, get_or_push, length_push}
+use Rattle.std.proofs.lemmas.List.Elements.{Contains-append_left}
 use Rattle.std.proofs.lemmas.List.Elements.{Contains-get_or, Contains-push, Contains-push_cases}
 use Rattle.app_definitions.specs.declared.definitions.Definitions.{Definitions}
+use Rattle.definition_records.specs.ByName.{AreEntriesOf}
 use Rattle.definition_records.specs.declared.predecessors.Predecessor.{Predecessor}
+use Rattle.definition_records.proofs.ByNameLemmas.{entry_is, entry_there}
 use Rattle.occurrences.specs.declared.key.Key.{Key}
 use Rattle.occurrences.specs.declared.place.CurrentRow.{CurrentRow}
 use Rattle.occurrences.specs.declared.row.Row.{Row}
 use Rattle.occurrences.specs.declared.status.Status.TheVariants.{W}
 use Rattle.external_dependencies.specs.Arrival.{arrival_cmp}
+use Rattle.external_dependencies.specs.Link.{Lists}
 use Rattle.external_dependencies.specs.Nearest.{arrival_of}
-use Rattle.external_dependencies.specs.Touch.{IsWithin}
 use Rattle.external_dependencies.specs.declared.links.Link.{Link}
 use Rattle.planner_machine.specs.Content.{Content}
 use Rattle.planner_machine.specs.declared.content.Bounds.{Bounds}
 use Rattle.keyed_lists.specs.Keyed.{IsKeyed}
 use Rattle.keyed_lists.specs.Rows.{AreRows, look_up, of_current, of_row}
 use Rattle.keyed_lists.proofs.SliceLemmas.{Rises, less_not_equal, name_ties, parted_below, then_less}
-use Rattle.plan_store.specs.Asked.{AsksKey, AsksList, AsksPlan, HasLasts, IsLastOf, IsNoLater, IsOpenRow}
-use Rattle.plan_store.specs.Asked.{IsPlannedAt, IsReachedBy}
-use Rattle.plan_store.specs.Noted.{AreAtPlaces, AskedByOne, AsksAll, AsksBoth, AsksDefined, AsksEnd, AsksNaming, AsksOwn}
-use Rattle.plan_store.specs.Noted.{AsksRow, AsksWaiting, AsksWithin, HasNoted, IsAsked, IsEnd, IsLastPlace, IsNear, IsOpenIn, LacksBefore, Notes}
-use Rattle.plan_store.specs.Slices.{IsFront}
-use Rattle.plan_store.specs.Spans.{IsNextPlanned}
+use Rattle.plan_store.specs.Asked.{AsksKey, AsksPlan, HasLasts, IsLastOf, IsNoLater, ListsDefined}
+use Rattle.plan_store.specs.Noted.{AreAtPlaces, AskedByOne, AsksEach, AsksEnd, AsksRow, HasNoted, IsAsked, IsDefined}
+use Rattle.plan_store.specs.Noted.{IsLastPlace, LacksBefore, Notes}
 use Rattle.plan_store.specs.Views.{current_serial, row_serial}
 use Rattle.plan_store.proofs.LookLemmas.{look_has, look_some}
 use Rattle.plan_store.proofs.SliceLemmas.{apps_rise}
@@ -184,6 +180,10 @@ module _ (rows : List Row) (keyed : IsKeyed arrival_cmp arrival_of rows) (app : 
           ]
         ]
 
+-- what an entry of the lists that are defined asks for
+abbrev pub AsksEntry : ℕ → List ℕ × List Predecessor → List ℕ → ℕ → Type 0
+AsksEntry minute entry = AskedByOne (λ (p : Predecessor). IsAsked p.name minute) entry.1
+
 -- what is noted
 module _ (rows : List Row) where
   pub notes_none : (Asked : List ℕ → ℕ → Type 0) (places : List ℕ)
@@ -192,50 +192,17 @@ module _ (rows : List Row) where
   notes_none Asked places held = record { stay = λ i there. there; come = λ i there. inl there; noted = held }
 
   -- in other words
-  pub notes_by : (P Q : List ℕ → ℕ → Type 0) (old new : List ℕ)
+  pub notes_as : (P Q : List ℕ → ℕ → Type 0) (old new : List ℕ)
       → ((app : List ℕ) (minute : ℕ) → P app minute → Q app minute)
-      → ((app : List ℕ) (minute : ℕ) → Q app minute → HasNoted rows app minute new)
-      → Notes P rows old new → Notes Q rows old new
-  notes_by P Q old new to held notes = record {
+      → ((app : List ℕ) (minute : ℕ) → Q app minute → P app minute) → Notes P rows old new → Notes Q rows old new
+  notes_as P Q old new to from notes = record {
     stay = notes.stay;
     come = λ i there. elim (notes.come i there) [
       | inl before ↦ inl before
       | inr one ↦ inr (one.0, one.1, to one.0 one.1 one.2, one.3)
     ];
-    noted = held;
+    noted = λ app minute asked. notes.noted app minute (from app minute asked);
   }
-
-  pub notes_as : (P Q : List ℕ → ℕ → Type 0) (old new : List ℕ)
-      → ((app : List ℕ) (minute : ℕ) → P app minute → Q app minute)
-      → ((app : List ℕ) (minute : ℕ) → Q app minute → P app minute) → Notes P rows old new → Notes Q rows old new
-  notes_as P Q old new to from notes = notes_by P Q old new to
-      (λ app minute asked. notes.noted app minute (from app minute asked)) notes
-
-  -- what may precede a key in the application, by its limit
-  pub notes_near : (key : Key) (app : List ℕ) (limit : ℕ) (a b : List ℕ)
-      → ((app ≡ key.app) × (limit ≡ key.ia)) ⊎ ((app ≢ key.app) × (limit ≡ key.ia + 1))
-      → Notes (IsAsked app limit) rows a b → Notes (IsNear key app) rows a b
-  notes_near key app limit a b is_limit = notes_as (IsAsked app limit) (IsNear key app) a b
-      (λ at m asked. (
-        asked.0,
-        elim is_limit [
-          | inl own ↦ inl (asked.0 ∙ own.0, asked.1 ∙ own.1)
-          | inr other ↦ inr ((λ same. other.0 (sym asked.0 ∙ same)), asked.1 ∙ other.1)
-        ],
-      ))
-      (λ at m near. (
-        near.0,
-        elim near.1 [
-          | inl here ↦ elim is_limit [
-            | inl own ↦ here.1 ∙ sym own.1
-            | inr other ↦ absurd (other.0 (sym near.0 ∙ here.0))
-          ]
-          | inr there ↦ elim is_limit [
-            | inl own ↦ absurd (there.0 (near.0 ∙ own.0))
-            | inr other ↦ there.1 ∙ sym other.1
-          ]
-        ],
-      ))
 
   -- one after the other
   pub notes_then : (P Q : List ℕ → ℕ → Type 0) (a b c : List ℕ) → Notes P rows a b → Notes Q rows b c
@@ -279,166 +246,146 @@ module _ (rows : List Row) where
     notes_skip xs x a b nothing first = notes_more xs x a b b first
         (notes_none (Asks x) b (λ app minute asks. absurd (nothing app minute asks)))
 
-  -- the next rows, all of the application
-  pub notes_front : (minute : ℕ) (before front : List Row) (first : Row) (a b c : List ℕ)
-      → Contains front first → ((row : Row) → Contains front row → row.key.app ≡ first.key.app)
-      → Notes (AskedByOne (λ (row : Row). IsAsked row.key.app minute) before) rows a b
-      → Notes (IsAsked first.key.app minute) rows b c
-      → Notes (AskedByOne (λ (row : Row). IsAsked row.key.app minute) (before ++ front)) rows a c
-  notes_front minute before front first a b c there own so_far step =
-      notes_as (λ app m. AskedByOne (λ (row : Row). IsAsked row.key.app minute) before app m
-      ⊎ IsAsked first.key.app minute app m) (AskedByOne (λ (row : Row). IsAsked row.key.app minute) (before ++ front)) a c
-      (λ app m asked. elim asked [
-        | inl one ↦ (one.0, Contains-append_left before front one.0 one.1, one.2)
-        | inr two ↦ (first, Contains-append_right before front first there, two)
-      ])
-      (λ app m (row, at, asks). elim (Contains-append_cases before front row at) [
-        | inl early ↦ inl (row, early, asks)
-        | inr late ↦ inr (asks.0 ∙ own row late, asks.1)
-      ]) (notes_then (AskedByOne (λ (row : Row). IsAsked row.key.app minute) before) (IsAsked first.key.app minute) a b c
-      so_far step)
-
-  pub notes_ends : (minute : ℕ) (a b : List ℕ)
-      → Notes (AskedByOne (λ (row : Row). IsAsked row.key.app minute) rows) rows a b → Notes (IsEnd minute) rows a b
-  notes_ends minute a b notes = notes_by (AskedByOne (λ (row : Row). IsAsked row.key.app minute) rows) (IsEnd minute) a b
-      (λ app m asked. asked.2.1)
-      (λ app m is row there of_app in_time. notes.noted app m (row, there, (sym of_app, is)) row there of_app in_time)
-      notes
-
-  -- what may precede the key, from the links of its list
-  pub notes_list : (links list : List Link) (key : Key) (a b : List ℕ)
-      → ((link : Link) → Contains list link ↔ (Contains links link × (link.app ≡ key.app)))
-      → Notes (AskedByOne (λ (link : Link). IsNear key link.predecessor) list) rows a b
-      → Notes (AsksList links key) rows a b
-  notes_list links list key a b is = notes_as (AskedByOne (λ (link : Link). IsNear key link.predecessor) list)
-      (AsksList links key) a b
-      (λ app minute (link, there, near).
-      let at = (is link).0 there in
-      let same : link ≡ record { app = key.app; predecessor = app; within = link.within } =
-      λ i. record { app = at.1 i; predecessor = sym near.0 i; within = link.within } in
-      ((link.within, subst (λ (l : Link). Contains links l) same at.0), near.1))
-      (λ app minute (listed, limit).
-      let link : Link = record { app = key.app; predecessor = app; within = listed.0 } in
-      (link, (is link).1 (listed.1, refl), (refl, limit)))
+  -- the applications of a list, from its links
+  pub notes_list : (links list : List Link) (naming : List ℕ) (minute : ℕ) (a b : List ℕ)
+      → ((link : Link) → Contains list link ↔ (Contains links link × (link.app ≡ naming)))
+      → Notes (AskedByOne (λ (link : Link). IsAsked link.predecessor minute) list) rows a b
+      → Notes (AsksEach (Lists links naming) minute) rows a b
+  notes_list links list naming minute a b is = notes_as
+      (AskedByOne (λ (link : Link). IsAsked link.predecessor minute) list) (AsksEach (Lists links naming) minute) a b
+      (λ app m (link, there, asked).
+      let own = (is link).0 there in
+      let same : link ≡ record { app = naming; predecessor = app; within = link.within } =
+      λ i. record { app = own.1 i; predecessor = sym asked.0 i; within = link.within } in
+      (asked.1, (link.within, subst (λ (l : Link). Contains links l) same own.0)))
+      (λ app m (at, listed).
+      let link : Link = record { app = naming; predecessor = app; within = listed.0 } in
+      (link, (is link).1 (listed.1, refl), (refl, at)))
 
   -- from the list that is defined
-  pub notes_defined : (all : Definitions) (key : Key) (listed : List Predecessor) (a b : List ℕ)
-      → map.get all.predecessors key.app ≡ Some listed
-      → Notes (AskedByOne (λ (p : Predecessor). IsNear key p.name) listed) rows a b
-      → Notes (AsksDefined all key) rows a b
-  notes_defined all key listed a b is = notes_as (AskedByOne (λ (p : Predecessor). IsNear key p.name) listed)
-      (AsksDefined all key) a b
-      (λ app minute (p, there, near).
+  pub notes_defined : (all : Definitions) (naming : List ℕ) (listed : List Predecessor) (minute : ℕ) (a b : List ℕ)
+      → map.get all.predecessors naming ≡ Some listed
+      → Notes (AskedByOne (λ (p : Predecessor). IsAsked p.name minute) listed) rows a b
+      → Notes (AsksEach (ListsDefined all naming) minute) rows a b
+  notes_defined all naming listed minute a b is = notes_as
+      (AskedByOne (λ (p : Predecessor). IsAsked p.name minute) listed) (AsksEach (ListsDefined all naming) minute) a b
+      (λ app m (p, there, asked).
       let same : p ≡ record { name = app; within = p.within } =
-      λ i. record { name = sym near.0 i; within = p.within } in
-      ((p.within, (listed, is, subst (λ (q : Predecessor). Contains listed q) same there)), near.1))
-      (λ app minute (defined, limit).
+      λ i. record { name = sym asked.0 i; within = p.within } in
+      (asked.1, (p.within, (listed, is, subst (λ (q : Predecessor). Contains listed q) same there))))
+      (λ app m (at, defined).
       let (within, by_all) = defined in
-      let (others, at, has) = by_all in
-      let both : Some others ≡ Some listed = sym at ∙ is in
+      let (others, there, has) = by_all in
+      let both : Some others ≡ Some listed = sym there ∙ is in
       let one : others ≡ listed = cc in
       let p : Predecessor = record { name = app; within = within } in
-      (p, subst (λ ps. Contains ps p) one has, (refl, limit)))
+      (p, subst (λ ps. Contains ps p) one has, (refl, at)))
 
-  pub notes_undefined : (all : Definitions) (key : Key) (a : List ℕ) → map.get all.predecessors key.app ≡ None
-      → Notes (AsksDefined all key) rows a a
-  notes_undefined all key a none = notes_none (AsksDefined all key) a (λ app minute (defined, limit).
+  pub notes_undefined : (all : Definitions) (naming : List ℕ) (minute : ℕ) (a : List ℕ)
+      → map.get all.predecessors naming ≡ None → Notes (AsksEach (ListsDefined all naming) minute) rows a a
+  notes_undefined all naming minute a none = notes_none (AsksEach (ListsDefined all naming) minute) a
+      (λ app m (at, defined).
       let (within, by_all) = defined in
-      let (others, at, has) = by_all in
-      let both : Some others ≡ None = sym at ∙ none in
+      let (others, there, has) = by_all in
+      let both : Some others ≡ None = sym there ∙ none in
       absurd (some_none others both))
     where
       some_none : (xs : List Predecessor) → Some xs ≡ None → ⊥
       some_none xs is = cc
 
+  -- no entry
+  pub no_entries : (minute : ℕ) (a : List ℕ) → Notes (AskedByOne (AsksEntry minute) []) rows a a
+  no_entries minute a = notes_none (AskedByOne (AsksEntry minute) []) a
+      (λ app m (entry, (k, lt, at), asked). absurd (omega arith))
+
+  -- all entries
+  pub notes_entries : (all : Definitions) (entries : List (List ℕ × List Predecessor)) (minute : ℕ) (a b : List ℕ)
+      → AreEntriesOf entries all.predecessors → Notes (AskedByOne (AsksEntry minute) entries) rows a b
+      → Notes (AsksEach (IsDefined all) minute) rows a b
+  notes_entries all entries minute a b are = notes_as (AskedByOne (AsksEntry minute) entries)
+      (AsksEach (IsDefined all) minute) a b
+      (λ app m (entry, there, by_entry).
+      let (p, has, asked) = by_entry in
+      let same : p ≡ record { name = app; within = p.within } =
+      λ i. record { name = sym asked.0 i; within = p.within } in (
+        asked.1,
+        (
+          entry.0,
+          (
+            p.within,
+            (
+              entry.1,
+              entry_is entries all.predecessors entry.0 entry.1 are there,
+              subst (λ (q : Predecessor). Contains entry.1 q) same has,
+            ),
+          ),
+        ),
+      ))
+      (λ app m (at, defined).
+      let (naming, by_naming) = defined in
+      let (within, by_all) = by_naming in
+      let (listed, there, has) = by_all in (
+        (naming, listed),
+        entry_there entries all.predecessors naming listed are there,
+        (record { name = app; within = within }, has, (refl, at)),
+      ))
+
   -- what a row that waits asks for
-  pub notes_waits : (links : List Link) (current : CurrentRow) (a b : List ℕ) → current.status ≡ W
-      → Notes (AsksList links current.row.key) rows a b → Notes (AsksWaiting links current) rows a b
-  notes_waits links current a b waits = notes_as (AsksList links current.row.key) (AsksWaiting links current) a b
-      (λ app minute asks. (waits, asks)) (λ app minute (is, asks). asks)
-
-  pub notes_both : (links : List Link) (all : Definitions) (current : CurrentRow) (a b c : List ℕ)
-      → current.status ≡ W → Notes (AsksList links current.row.key) rows a b
-      → Notes (AsksDefined all current.row.key) rows b c → Notes (AsksBoth links all current) rows a c
-  notes_both links all current a b c waits one two = notes_as
-      (λ app minute. AsksList links current.row.key app minute ⊎ AsksDefined all current.row.key app minute)
-      (AsksBoth links all current) a c (λ app minute asks. (waits, asks)) (λ app minute (is, asks). asks)
-      (notes_then (AsksList links current.row.key) (AsksDefined all current.row.key) a b c one two)
-
-  -- what the application of a link asks for that names the predecessor
-  pub notes_names : (links : List Link) (ltp : List Row) (cp : List CurrentRow) (key : Key) (next : Option ℕ)
-      (link : Link) (a b : List ℕ) → link.predecessor ≡ key.app
-      → Notes (AsksWithin links ltp cp key.ia next link.app) rows a b
-      → Notes (AsksNaming links ltp cp key next link) rows a b
-  notes_names links ltp cp key next link a b names = notes_as (AsksWithin links ltp cp key.ia next link.app)
-      (AsksNaming links ltp cp key next link) a b (λ app minute asks. (names, asks)) (λ app minute (is, asks). asks)
-
-  -- what may precede the open rows of an application in a stretch of time
-  pub notes_within : (links : List Link) (ltp own_ltp ltp_part : List Row) (cp own_cp cp_part : List CurrentRow)
-      (app : List ℕ) (first : ℕ) (last : Option ℕ) (a b c : List ℕ)
-      → ((row : Row) → Contains own_ltp row ↔ (Contains ltp row × (row.key.app ≡ app)))
-      → ((row : Row) → Contains ltp_part row ↔ (Contains own_ltp row × (first ≤ row.key.ia) × IsWithin last row.key.ia))
-      → ((x : CurrentRow) → Contains own_cp x ↔ (Contains cp x × (x.row.key.app ≡ app)))
-      → ((x : CurrentRow) → Contains cp_part x
-      ↔ (Contains own_cp x × (first ≤ x.row.key.ia) × IsWithin last x.row.key.ia))
-      → Notes (AskedByOne (AsksRow links) ltp_part) rows a b → Notes (AskedByOne (AsksWaiting links) cp_part) rows b c
-      → Notes (AsksWithin links ltp cp first last app) rows a c
-  notes_within links ltp own_ltp ltp_part cp own_cp cp_part app first last a b c in_ltp of_ltp in_cp of_cp one two =
-      notes_as (λ at m. AskedByOne (AsksRow links) ltp_part at m ⊎ AskedByOne (AsksWaiting links) cp_part at m)
-      (AsksWithin links ltp cp first last app) a c to from
-      (notes_then (AskedByOne (AsksRow links) ltp_part) (AskedByOne (AsksWaiting links) cp_part) a b c one two)
+  pub notes_row : (links : List Link) (all : Definitions) (current : CurrentRow) (a b c : List ℕ)
+      → current.status ≡ W → Notes (AsksEach (Lists links current.row.key.app) (current.row.key.ia + 1)) rows a b
+      → Notes (AsksEach (ListsDefined all current.row.key.app) (current.row.key.ia + 1)) rows b c
+      → Notes (AsksRow links all current) rows a c
+  notes_row links all current a b c waits one two = notes_as
+      (λ app m. InForce app m ⊎ Defined app m) (AsksRow links all current) a c
+      (λ app m asked. elim asked [
+        | inl listed ↦ (waits, (listed.0, inl listed.1))
+        | inr defined ↦ (waits, (defined.0, inr defined.1))
+      ])
+      (λ app m (is, asks). elim asks.1 [ inl listed ↦ inl (asks.0, listed) | inr defined ↦ inr (asks.0, defined) ])
+      (notes_then InForce Defined a b c one two)
     where
-      to : (at : List ℕ) (m : ℕ)
-          → AskedByOne (AsksRow links) ltp_part at m ⊎ AskedByOne (AsksWaiting links) cp_part at m
-          → AsksWithin links ltp cp first last app at m
-      to at m (inl (row, there, asks)) =
-          let part = (of_ltp row).0 there in
-          let own = (in_ltp row).0 part.0 in
-          (row, record { opened = inl own.0; of_app = own.1; begun = part.1; within = part.2 }, asks)
-      to at m (inr (x, there, is_asked)) =
-          let (waits, asks) = is_asked in
-          let part = (of_cp x).0 there in
-          let own = (in_cp x).0 part.0 in
-          let same : x ≡ record { row = x.row; status = W } = λ i. record { row = x.row; status = waits i } in (
-            x.row,
-            record {
-              opened = inr (subst (λ (y : CurrentRow). Contains cp y) same own.0);
-              of_app = own.1;
-              begun = part.1;
-              within = part.2;
-            },
-            asks,
-          )
+      InForce : List ℕ → ℕ → Type 0
+      InForce = AsksEach (Lists links current.row.key.app) (current.row.key.ia + 1)
 
-      from : (at : List ℕ) (m : ℕ) → AsksWithin links ltp cp first last app at m
-          → AskedByOne (AsksRow links) ltp_part at m ⊎ AskedByOne (AsksWaiting links) cp_part at m
-      from at m (row, is_open, asks) = elim is_open.opened [
-        | inl there ↦ inl (row, (of_ltp row).1 ((in_ltp row).1 (there, is_open.of_app), is_open.begun, is_open.within), asks)
-        | inr there ↦
-            let x : CurrentRow = record { row = row; status = W } in
-            inr (x, (of_cp x).1 ((in_cp x).1 (there, is_open.of_app), is_open.begun, is_open.within), (refl, asks))
-      ]
+      Defined : List ℕ → ℕ → Type 0
+      Defined = AsksEach (ListsDefined all current.row.key.app) (current.row.key.ia + 1)
 
--- the first items of the rest of a list
-module _ (xs part : List Row) (start : ℕ) (front : IsFront part (drop start xs)) where
-  pub front_first : (first : Row) → start < length xs → 0 < length part → first ≡ get_or xs start first
-      → Contains part first
-  front_first first lt some at =
-      let zero : start + 0 ≡ start = omega arith in (
-        0,
-        some,
-        ap (λ l. get_or l 0 first) front ∙ get_or-take (length part) (drop start xs) 0 first some
-            ∙ get_or-drop start xs 0 first ∙ ap (λ n. get_or xs n first) zero ∙ sym at,
-      )
+  -- what is asked for at the plan end
+  module _ (links : List Link) (all : Definitions) (bounds : Bounds) where
+    abbrev pub AsksNamed : List ℕ → ℕ → Type 0
+    AsksNamed = AskedByOne (λ (link : Link). IsAsked link.predecessor (bounds.plan_end + 1)) links
 
-  pub front_more : start ≤ length xs → (start + length part ≤ length xs)
-      × (take (start + length part) xs ≡ take start xs ++ part)
-  front_more le =
-      let long : length part ≡ min (length part) (length (drop start xs)) = ap length front
-      ∙ length-take (length part) (drop start xs) in (
-        omega (arith, length-drop start xs),
-        take-add start (length part) xs ∙ ap (λ l. take start xs ++ l) (sym front),
-      )
+    end_to : (app : List ℕ) (m : ℕ) → AsksNamed app m ⊎ AsksEach (IsDefined all) (bounds.plan_end + 1) app m
+        → AsksEnd links all (Some bounds) app m
+    end_to app m (inl (link, there, asked)) =
+        let same : link ≡ record { app = link.app; predecessor = app; within = link.within } =
+        λ i. record { app = link.app; predecessor = sym asked.0 i; within = link.within } in
+        (bounds, refl, (asked.1, (link.app, inl (link.within, subst (λ (l : Link). Contains links l) same there))))
+    end_to app m (inr (at, (naming, listed))) = (bounds, refl, (at, (naming, inr listed)))
+
+    end_from : (app : List ℕ) (m : ℕ) → AsksEnd links all (Some bounds) app m
+        → AsksNamed app m ⊎ AsksEach (IsDefined all) (bounds.plan_end + 1) app m
+    end_from app m (known, is, (at, (naming, either))) =
+        let one : bounds ≡ known = cc in
+        let here : m ≡ bounds.plan_end + 1 = at ∙ ap (λ (x : Bounds). x.plan_end + 1) (sym one) in
+        elim either [
+          | inl listed ↦ inl (record { app = naming; predecessor = app; within = listed.0 }, listed.1, (refl, here))
+          | inr defined ↦ inr (here, (naming, defined))
+        ]
+
+    pub notes_end : (a b c : List ℕ) → Notes AsksNamed rows a b
+        → Notes (AsksEach (IsDefined all) (bounds.plan_end + 1)) rows b c
+        → Notes (AsksEnd links all (Some bounds)) rows a c
+    notes_end a b c one two = notes_as
+        (λ app m. AsksNamed app m ⊎ AsksEach (IsDefined all) (bounds.plan_end + 1) app m)
+        (AsksEnd links all (Some bounds)) a c end_to end_from (notes_then AsksNamed (AsksEach (IsDefined all) (bounds.plan_end + 1)) a b c one two)
+
+  -- nothing, where there is no plan
+  pub no_end : (links : List Link) (all : Definitions) (a : List ℕ) → Notes (AsksEnd links all None) rows a a
+  no_end links all a = notes_none (AsksEnd links all None) a (λ app m (known, is, asks). absurd (none_some known is))
+    where
+      none_some : (known : Bounds) → (let none : Option Bounds = None in none) ≡ Some known → ⊥
+      none_some known same = cc
 
 -- the rows at the places are the last of what is asked for
 module _ (Asked : List ℕ → ℕ → Type 0) (history : List Row) (rows : AreRows of_row history) (places : List ℕ)
@@ -562,141 +509,46 @@ module _ (history : List Row) (rows : AreRows of_row history) (places : List ℕ
       in_history x there = let at = (at_places x).0 there in (at.0, at.2.0, at.2.1)
 
 -- what a statement on the key asks
-module _ (c : Content) (key : Key) (ltp : List Row) (cp : List CurrentRow) (ltp_rows : AreRows of_row ltp)
-    (cp_rows : AreRows of_current cp) (ltp_is : c.sets.ltp ≡ look_up row_serial ltp)
-    (cp_is : c.sets.cp ≡ look_up current_serial cp) where
-  open_row : (row : Row) → IsOpenIn ltp cp row → IsOpenRow c.sets row
-  open_row row (inl there) = inl (ap (λ (f : ℕ → Option Row). f row.serial) ltp_is
-      ∙ look_has row_serial ltp ltp_rows.one_each row there)
-  open_row row (inr there) = inr (ap (λ (f : ℕ → Option CurrentRow). f row.serial) cp_is
-      ∙ look_has current_serial cp cp_rows.one_each (record { row = row; status = W }) there)
-
-  open_in : (row : Row) → IsOpenRow c.sets row → IsOpenIn ltp cp row
-  open_in row (inl stands) = inl (look_some row_serial ltp row.serial row
-      (ap (λ (f : ℕ → Option Row). f row.serial) (sym ltp_is) ∙ stands)).0
-  open_in row (inr stands) = inr (look_some current_serial cp row.serial (record { row = row; status = W })
-      (ap (λ (f : ℕ → Option CurrentRow). f row.serial) (sym cp_is) ∙ stands)).0
-
-  module _ (next : Option ℕ) (is_next : IsNextPlanned c.sets key.app key.ia next) where
-    within_next : (row : Row) → IsReachedBy c key row → (n : Option ℕ) → IsNextPlanned c.sets key.app key.ia n
-        → IsWithin n row.key.ia
-    within_next row reached None is = tt
-    within_next row reached (Some n) is = reached.within n is.0 is.1
-
-    before_next : (ia : ℕ) (n : Option ℕ) → IsNextPlanned c.sets key.app key.ia n → IsWithin n ia → (other : ℕ)
-        → IsPlannedAt c.sets key.app other → key.ia < other → ia ≤ other
-    before_next ia None is within other planned after = absurd (is other planned after)
-    before_next ia (Some n) is within other planned after = let le = is.2 other planned after in omega (arith, le, within)
-
-    abbrev AsksReached : List ℕ → ℕ → Type 0
-    AsksReached = AskedByOne (AsksNaming c.in_force ltp cp key next) c.in_force
-
-    reached_to : (app : List ℕ) (minute : ℕ) → AsksReached app minute
-        → (row : Row) × IsReachedBy c key row × AsksList c.in_force row.key app minute
-    reached_to app minute (link, there, is_asked) =
-        let (names, by_row) = is_asked in
-        let (row, is_open, asks) = by_row in
-        let same : link ≡ record { app = row.key.app; predecessor = key.app; within = link.within } =
-        λ i. record { app = sym is_open.of_app i; predecessor = names i; within = link.within } in (
-          row,
-          record {
-            opened = open_row row is_open.opened;
-            names = (link.within, subst (λ (l : Link). Contains c.in_force l) same there);
-            begun = is_open.begun;
-            within = λ ia planned after. before_next row.key.ia next is_next is_open.within ia planned after;
-          },
-          asks,
-        )
-
-    reached_from : (app : List ℕ) (minute : ℕ)
-        → (row : Row) × IsReachedBy c key row × AsksList c.in_force row.key app minute → AsksReached app minute
-    reached_from app minute (row, reached, asks) =
-        let link : Link = record { app = row.key.app; predecessor = key.app; within = reached.names.0 } in (
-          link,
-          reached.names.1,
-          (
-            refl,
-            (
-              row,
-              record {
-                opened = open_in row reached.opened;
-                of_app = refl;
-                begun = reached.begun;
-                within = within_next row reached next is_next;
-              },
-              asks,
-            ),
-          ),
-        )
-
-    to : (app : List ℕ) (minute : ℕ) → AsksAll c.in_force ltp cp key next app minute → AsksKey c key app minute
-    to app minute (inl (inl own)) = inl (own.0, inl own.1)
-    to app minute (inl (inr own)) = inl (own.0, inr own.1)
-    to app minute (inr (inl listed)) = inr (inl listed)
-    to app minute (inr (inr reached)) = inr (inr (reached_to app minute reached))
-
-    from : (app : List ℕ) (minute : ℕ) → AsksKey c key app minute → AsksAll c.in_force ltp cp key next app minute
-    from app minute (inl own) = elim own.1 [ inl at ↦ inl (inl (own.0, at)) | inr at ↦ inl (inr (own.0, at)) ]
-    from app minute (inr (inl listed)) = inr (inl listed)
-    from app minute (inr (inr reached)) = inr (inr (reached_from app minute reached))
-
-    pub notes_key : (rows : List Row) (a b : List ℕ) → Notes (AsksAll c.in_force ltp cp key next) rows a b
-        → Notes (AsksKey c key) rows a b
-    notes_key rows a b = notes_as rows (AsksAll c.in_force ltp cp key next) (AsksKey c key) a b to from
-
-pub notes_all : (rows : List Row) (links : List Link) (ltp : List Row) (cp : List CurrentRow) (key : Key)
-    (next : Option ℕ) (a b c d : List ℕ) → Notes (AsksOwn key) rows a b → Notes (AsksList links key) rows b c
-    → Notes (AskedByOne (AsksNaming links ltp cp key next) links) rows c d
-    → Notes (AsksAll links ltp cp key next) rows a d
-notes_all rows links ltp cp key next a b c d own listed reached = notes_then rows (AsksOwn key)
-    (λ app minute. AsksList links key app minute ⊎ AskedByOne (AsksNaming links ltp cp key next) links app minute)
-    a b d own (notes_then rows (AsksList links key) (AskedByOne (AsksNaming links ltp cp key next) links) b c d listed
-    reached)
+pub notes_key : (c : Content) (key : Key) (rows : List Row) (a b d : List ℕ)
+    → Notes (IsAsked key.app (key.ia + 1)) rows a b → Notes (AsksEach (Lists c.in_force key.app) (key.ia + 1)) rows b d
+    → Notes (AsksKey c key) rows a d
+notes_key c key rows a b d own listed = notes_as rows (λ app m. IsAsked key.app (key.ia + 1) app m ⊎ Listed app m)
+    (AsksKey c key) a d
+    (λ app m asked. elim asked [ inl at ↦ (at.1, inl at.0) | inr lists ↦ (lists.0, inr lists.1) ])
+    (λ app m (at, either). elim either [ inl same ↦ inl (same, at) | inr lists ↦ inr (at, lists) ])
+    (notes_then rows (IsAsked key.app (key.ia + 1)) Listed a b d own listed)
+  where
+    Listed : List ℕ → ℕ → Type 0
+    Listed = AsksEach (Lists c.in_force key.app) (key.ia + 1)
 
 -- what a statement on the long-term plan asks
 module _ (c : Content) (cp : List CurrentRow) (cp_rows : AreRows of_current cp)
     (cp_is : c.sets.cp ≡ look_up current_serial cp) where
   abbrev AsksCurrent : List ℕ → ℕ → Type 0
-  AsksCurrent = AskedByOne (AsksBoth c.in_force c.definitions) cp
+  AsksCurrent = AskedByOne (AsksRow c.in_force c.definitions) cp
 
-  plan_to : (app : List ℕ) (minute : ℕ) → AsksEnd c.sets.bounds app minute ⊎ AsksCurrent app minute → AsksPlan c app minute
-  plan_to app minute (inl end) = inl end
-  plan_to app minute (inr (x, there, is_asked)) =
+  abbrev AtEnd : List ℕ → ℕ → Type 0
+  AtEnd = AsksEnd c.in_force c.definitions c.sets.bounds
+
+  plan_to : (app : List ℕ) (minute : ℕ) → AsksCurrent app minute ⊎ AtEnd app minute → AsksPlan c app minute
+  plan_to app minute (inl (x, there, is_asked)) =
       let waits = is_asked.0 in
       let same : x ≡ record { row = x.row; status = W } = λ i. record { row = x.row; status = waits i } in
       let stands : c.sets.cp x.row.serial ≡ Some (record { row = x.row; status = W }) =
       ap (λ (f : ℕ → Option CurrentRow). f x.row.serial) cp_is ∙ look_has current_serial cp cp_rows.one_each x there
       ∙ ap Some same in
-      elim is_asked.1 [
-        | inl asks ↦ inr (x.row, stands, inl asks.0, asks.1)
-        | inr asks ↦ inr (x.row, stands, inr asks.0, asks.1)
-      ]
+      inl (x.row, stands, is_asked.1.0, is_asked.1.1)
+  plan_to app minute (inr (bounds, is, asks)) = inr (bounds, is, asks.0, asks.1)
 
-  plan_from : (app : List ℕ) (minute : ℕ) → AsksPlan c app minute → AsksEnd c.sets.bounds app minute ⊎ AsksCurrent app minute
-  plan_from app minute (inl end) = inl end
-  plan_from app minute (inr (row, stands, lists, limit)) =
+  plan_from : (app : List ℕ) (minute : ℕ) → AsksPlan c app minute → AsksCurrent app minute ⊎ AtEnd app minute
+  plan_from app minute (inl (row, stands, at, lists)) =
       let x : CurrentRow = record { row = row; status = W } in
       let there = (look_some current_serial cp row.serial x
       (ap (λ (f : ℕ → Option CurrentRow). f row.serial) (sym cp_is) ∙ stands)).0 in
-      inr (x, there, (refl, elim lists [ inl listed ↦ inl (listed, limit) | inr defined ↦ inr (defined, limit) ]))
+      inl (x, there, (refl, (at, lists)))
+  plan_from app minute (inr (bounds, is, at, named)) = inr (bounds, is, (at, named))
 
-  pub notes_plan : (rows : List Row) (a b d : List ℕ) → Notes (AsksEnd c.sets.bounds) rows a b → Notes AsksCurrent rows b d
+  pub notes_plan : (rows : List Row) (a b d : List ℕ) → Notes AsksCurrent rows a b → Notes AtEnd rows b d
       → Notes (AsksPlan c) rows a d
-  notes_plan rows a b d ends current = notes_as rows (λ app minute. AsksEnd c.sets.bounds app minute ⊎ AsksCurrent app minute)
-      (AsksPlan c) a d plan_to plan_from (notes_then rows (AsksEnd c.sets.bounds) AsksCurrent a b d ends current)
-
--- before the plan end
-pub notes_end : (rows : List Row) (bounds : Bounds) (a b : List ℕ) → Notes (IsEnd bounds.plan_end) rows a b
-    → Notes (AsksEnd (Some bounds)) rows a b
-notes_end rows bounds a b = notes_as rows (IsEnd bounds.plan_end) (AsksEnd (Some bounds)) a b
-    (λ app minute at. (bounds, refl, at))
-    (λ app minute (known, is, at). at ∙ ap (λ (x : Bounds). x.plan_end) (sym (one known is)))
-  where
-    one : (known : Bounds) → Some bounds ≡ Some known → bounds ≡ known
-    one known same = cc
-
-pub no_end : (rows : List Row) (a : List ℕ) → Notes (AsksEnd None) rows a a
-no_end rows a = notes_none rows (AsksEnd None) a (λ app minute (known, is, at). absurd (none_some known is))
-  where
-    none_some : (known : Bounds) → (let none : Option Bounds = None in none) ≡ Some known → ⊥
-    none_some known same = cc
+  notes_plan rows a b d current ends = notes_as rows (λ app minute. AsksCurrent app minute ⊎ AtEnd app minute)
+      (AsksPlan c) a d plan_to plan_from (notes_then rows AsksCurrent AtEnd a b d current ends)

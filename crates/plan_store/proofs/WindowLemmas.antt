@@ -8,21 +8,21 @@ use Rattle.occurrences.specs.declared.key.Key.{Key as KeyValue}
 use Rattle.occurrences.specs.declared.place.Deletion.{Deletion}
 use Rattle.occurrences.specs.declared.place.Reason.TheVariants.{Operator}
 use Rattle.occurrences.specs.declared.row.Row.{Row}
+use Rattle.external_dependencies.specs.declared.pairs.Pair.{Pair}
 use Rattle.planner_machine.specs.Content.{Content, Seat as Places}
 use Rattle.planner_machine.specs.DailyPlan.{arrives_before, moved}
 use Rattle.planner_machine.specs.Moves.{keep}
 use Rattle.planner_machine.specs.Sound.{IsUnplanned}
 use Rattle.planner_machine.specs.declared.content.Bounds.{Bounds}
-use Rattle.keyed_lists.specs.Rows.{AreRows, look_up, of_current, of_deletion, of_row}
+use Rattle.keyed_lists.specs.Rows.{AreRows, look_up, of_deletion, of_row}
 use Rattle.keyed_lists.specs.Seats.{HasSeats}
 use Rattle.keyed_lists.specs.declared.seats.Seat.{Seat}
-use Rattle.keyed_lists.proofs.KeyLemmas.{contains_filter, filter_contains}
-use Rattle.occurrences.specs.declared.place.CurrentRow.{CurrentRow}
+use Rattle.keyed_lists.proofs.KeyLemmas.{contains_filter, filter_contains, nothing}
 use Rattle.plan_store.specs.Contents.{content_of}
 use Rattle.plan_store.specs.Asked.{AsksKey, AsksPlan, HasLasts}
-use Rattle.plan_store.specs.Views.{Asks, HasAsked, Hidden, IsAny, IsDeletedKey, ListsSet, Sees, Shows, ShowsAtLeast}
-use Rattle.plan_store.specs.Views.{ShowsDeleted, ShowsPart, bars, bars_from, deletion_serial, hidden_of}
-use Rattle.plan_store.specs.Views.{is_by_operator, named, planned_pairs, row_serial, shown}
+use Rattle.plan_store.specs.Views.{Asks, HasAsked, HasPredecessors, Hidden, IsDeletedKey, ListsSet, Sees, Shows}
+use Rattle.plan_store.specs.Views.{ShowsDeleted, ShowsPart, asked_pairs, bars, bars_from, deletion_serial}
+use Rattle.plan_store.specs.Views.{hidden_of, is_by_operator, key_of, named, row_serial, shown}
 use Rattle.plan_store.specs.Views.{with_hidden, with_part, with_plans_alone, with_these}
 use Rattle.plan_store.specs.declared.contents.Content.{Content as Kept}
 use Rattle.plan_store.specs.declared.stores.Need.{Need}
@@ -53,16 +53,17 @@ no_rows row_of = record {
 pub no_seats : {X : Type 0} (row_of : X → Row) (seats : List Seat) → HasSeats row_of [] seats
 no_seats row_of seats x (k, lt, at) = absurd (omega arith)
 
--- a window that shows no row of history where none is asked for shows what the need names
+-- a window that shows no row of history where none is asked for, and no pair, shows what the need names
 pub shows_none : (need : Need) (view : View) (c : Content) → ((app : List ℕ) (minute : ℕ) → Asks need c app minute → ⊥)
-    → (shown view).sets.history ≡ (λ _. None) → shown view ≡ named need (shown view).sets.history c
-    → Shows need view c
-shows_none need view c asks none is = record {
+    → (shown view).sets.history ≡ (λ _. None) → (shown view).pairs ≡ []
+    → shown view ≡ named need (shown view).sets.history c → Shows need view c
+shows_none need view c asks none no_pairs is = record {
   is = is;
   lasts = record {
     only = λ serial row there. absurd (no (subst (λ (h : ℕ → Option Row). h serial ≡ Some row) none there));
     lasts = λ app minute asked. absurd (asks app minute asked);
   };
+  predecessors = λ pair there. absurd (nothing pair (subst (λ (ps : List Pair). Contains ps pair) no_pairs there));
 }
   where
     no : {row : Row} → None ≡ Some row → ⊥
@@ -70,8 +71,8 @@ shows_none need view c asks none is = record {
 
 pub shows_definitions : (view : View) (c : Content)
     → shown view ≡ with_plans_alone (λ _. None) (λ _. None) c → Shows Definitions view c
-shows_definitions view c is = shows_none Definitions view c (λ _ _ asked. asked) (ap (λ (x : Content). x.sets.history) is)
-    is
+shows_definitions view c is = shows_none Definitions view c (λ _ _ asked. asked)
+    (ap (λ (x : Content). x.sets.history) is) (ap (λ (x : Content). x.pairs) is) is
 
 -- the rows that arrive before a moment, as the buffer has them
 module _ (t : ℕ) (kept : Kept) (early : List Row) (is : early ≡ filter (arrives_before t) kept.ltp.items) where
@@ -97,29 +98,40 @@ module _ (t : ℕ) (kept : Kept) (early : List Row) (is : early ≡ filter (arri
       → shown view ≡ with_plans_alone (look_up row_serial early) (content_of kept).sets.cp (content_of kept)
       → Shows (Daily t) view (content_of kept)
   shows_early view is' = shows_none (Daily t) view (content_of kept) (λ _ _ asked. asked)
-      (ap (λ (x : Content). x.sets.history) is') (is' ∙ early_named (shown view).sets.history)
+      (ap (λ (x : Content). x.sets.history) is') (ap (λ (x : Content). x.pairs) is')
+      (is' ∙ early_named (shown view).sets.history)
 
 pub on_ok : {T E : Type 0} (r : Result T E) {A B : Type 0} → (A → B) → OnOk r A → OnOk r B
 on_ok (Ok t) f a = f a
 on_ok (Err e) f a = tt
 
 -- what was filled in where memory was not refused
-pub has_asked : {T E : Type 0} (need : Need) (kept : Kept) (r : Result T E)
+pub has_asked : {T E : Type 0} (need : Need) (kept : Kept) (r : Result T E) → kept.buffer.key ≡ key_of need
     → OnOk r (AreRows of_row kept.buffer.lasts.items)
     → OnOk r ((row : Row) → Contains kept.buffer.lasts.items row → Contains kept.history.items row)
     → OnOk r (HasLasts (Asks need (content_of kept)) (content_of kept).sets.history
     (look_up row_serial kept.buffer.lasts.items)) → OnOk r (HasAsked need kept)
-has_asked need kept (Ok t) rows part lasts = record { rows = rows; part = part; lasts = lasts }
-has_asked need kept (Err e) rows part lasts = tt
+has_asked need kept (Ok t) key rows part lasts = record { key = key; rows = rows; part = part; lasts = lasts }
+has_asked need kept (Err e) key rows part lasts = tt
 
--- a window that has the rows of history that were asked for shows what the need names
-shows_lasts : (need : Need) (view : View) (kept : Kept) → HasAsked need kept
-    → shown view ≡ named need (look_up row_serial kept.buffer.lasts.items) (content_of kept)
-    → (shown view).sets.history ≡ look_up row_serial kept.buffer.lasts.items → Shows need view (content_of kept)
-shows_lasts need view kept asked is history = record {
-  is = subst (λ h. shown view ≡ named need h (content_of kept)) (sym history) is;
-  lasts = subst (HasLasts (Asks need (content_of kept)) (content_of kept).sets.history) (sym history) asked.lasts;
-}
+-- a window that has the rows of history that were asked for, and all of history, shows what the need names
+module _ (need : Need) (view : View) (kept : Kept) (asked : HasAsked need kept)
+    (history : view.history.now ≡ kept.history.items) where
+  shows_lasts : shown view ≡ named need (look_up row_serial kept.buffer.lasts.items) (content_of kept)
+      → (shown view).sets.history ≡ look_up row_serial kept.buffer.lasts.items → Shows need view (content_of kept)
+  shows_lasts is lasts_are = record {
+    is = subst (λ h. shown view ≡ named need h (content_of kept)) (sym lasts_are) is;
+    lasts = subst (HasLasts (Asks need (content_of kept)) (content_of kept).sets.history) (sym lasts_are) asked.lasts;
+    predecessors = λ pair there. ap (λ (rows : List Row). look_up row_serial rows pair.predecessor) history;
+  }
+
+pub shows_key : (key : KeyValue) (view : View) (kept : Kept) → HasAsked (Key key) kept
+    → view.history.now ≡ kept.history.items
+    → shown view ≡ with_part kept.buffer.key (look_up row_serial kept.buffer.lasts.items) (λ _. None) (content_of kept)
+    → Shows (Key key) view (content_of kept)
+shows_key key view kept asked history is = shows_lasts (Key key) view kept asked history
+    (is ∙ ap (λ (k : Option KeyValue). with_part k (look_up row_serial kept.buffer.lasts.items) (λ _. None)
+    (content_of kept)) asked.key) (ap (λ (x : Content). x.sets.history) is)
 
 -- what keeps keys from being made, as the buffer has it
 module _ (kept : Kept) (barring : List Deletion) (is : barring ≡ filter (bars kept.bounds) kept.deletions.items) where
@@ -138,15 +150,18 @@ module _ (kept : Kept) (barring : List Deletion) (is : barring ≡ filter (bars 
       ∙ look_filter of_deletion (bars kept.bounds) kept.deletions.items kept.deletion_rows serial
 
   -- so it stands in a window of the long-term plan
-  barring_named : (history : ℕ → Option Row) → with_part history (look_up deletion_serial barring) (content_of kept)
+  barring_named : (history : ℕ → Option Row)
+      → with_part None history (look_up deletion_serial barring) (content_of kept)
       ≡ named LongTerm history (content_of kept)
-  barring_named history i = with_part history (λ serial. barring_look serial i) (content_of kept)
+  barring_named history i = with_part None history (λ serial. barring_look serial i) (content_of kept)
 
-  pub shows_plan : (view : View) → HasAsked LongTerm kept → shown view ≡ with_part
-      (look_up row_serial kept.buffer.lasts.items) (look_up deletion_serial barring) (content_of kept)
-      → Shows LongTerm view (content_of kept)
-  shows_plan view asked is' = shows_lasts LongTerm view kept asked
-      (is' ∙ barring_named (look_up row_serial kept.buffer.lasts.items)) (ap (λ (x : Content). x.sets.history) is')
+  pub shows_plan : (view : View) → HasAsked LongTerm kept → view.history.now ≡ kept.history.items
+      → shown view ≡ with_part kept.buffer.key (look_up row_serial kept.buffer.lasts.items)
+      (look_up deletion_serial barring) (content_of kept) → Shows LongTerm view (content_of kept)
+  shows_plan view asked history is' = shows_lasts LongTerm view kept asked history
+      (is' ∙ ap (λ (k : Option KeyValue). with_part k (look_up row_serial kept.buffer.lasts.items)
+      (look_up deletion_serial barring) (content_of kept)) asked.key
+      ∙ barring_named (look_up row_serial kept.buffer.lasts.items)) (ap (λ (x : Content). x.sets.history) is')
 
 -- the rows of a list that arrive before a moment
 pub lists_early : (t : ℕ) (xs : List Row) → AreRows of_row xs → (found : List Row)
@@ -172,63 +187,37 @@ bars_late moment deletion reason late =
     let by : is_by_operator deletion.reason ≡ true = subst (λ r. is_by_operator r ≡ true) (sym reason) refl in
     rw (after, by) refl
 
-kept_twice : {X : Type 0} (p : X → Bool) (o : Option X) → keep p (keep p o) ≡ keep p o
-kept_twice p None = refl
-kept_twice p (Some x) = elim (p x) as
-    (λ b. p x ≡ b → keep p (if b then Some x else None) ≡ (if b then Some x else None)) [
-      | true ↦ λ e. rw e refl
-      | false ↦ λ e. refl
-    ] refl
-
--- two sets that have the same rows before a moment
-module _ (t : ℕ) (s s' : ℕ → Option Row) (same : (serial : ℕ) → moved t (s serial) ≡ moved t (s' serial)) where
-  in_both : (row : Row) → s row.serial ≡ Some row → row.key.ia < t → s' row.serial ≡ Some row
-  in_both row is lt =
-      (kept_is (arrives_before t) (s' row.serial) row
-      (sym (same row.serial) ∙ is_kept (arrives_before t) (s row.serial) row is (lt-ltb row.key.ia t lt))).0
-
-  in_first : (row : Row) → s' row.serial ≡ Some row → row.key.ia < t → s row.serial ≡ Some row
-  in_first row is lt =
-      (kept_is (arrives_before t) (s row.serial) row
-      (same row.serial ∙ is_kept (arrives_before t) (s' row.serial) row is (lt-ltb row.key.ia t lt))).0
-
-  pub early_lists : (rows : List Row) → ListsSet of_row s (λ row. row.key.ia < t) rows
-      → ListsSet of_row s' (λ row. row.key.ia < t) rows
-  early_lists rows lists = record {
-    rows = lists.rows;
-    exactly = λ row. (
-      (λ there. let both = (lists.exactly row).0 there in (in_both row both.0 both.1, both.1)),
-      λ both. (lists.exactly row).1 (in_first row both.0 both.1, both.1),
-    );
-  }
-
 -- what a window shows that hides history, deletions and pairs, with them, is the content
-pub seen_is : {history : ℕ → Option Row} {deletions : ℕ → Option Deletion} (view : View) (c : Content)
-    → shown view ≡ with_part history deletions c → with_hidden (hidden_of c) view ≡ c
+pub seen_is : {history : ℕ → Option Row} {deletions : ℕ → Option Deletion} {pairs : List Pair} (view : View)
+    (c : Content) → shown view ≡ with_these (record { history = history; deletions = deletions; pairs = pairs }) c
+    → with_hidden (hidden_of c) view ≡ c
 seen_is view c is = ap (with_these (hidden_of c)) is
 
 module _ {history : ℕ → Option Row} {deletions : ℕ → Option Deletion} (need : Need) (view : View) (c : Content)
-    (is : shown view ≡ with_part history deletions c)
-    (lasts : HasLasts (Asks need c) c.sets.history (shown view).sets.history) where
+    (is : shown view ≡ with_part (key_of need) history deletions c)
+    (lasts : HasLasts (Asks need c) c.sets.history (shown view).sets.history)
+    (predecessors : HasPredecessors c.sets.history view) where
   -- and of what it hides it shows what the need asks
-  sees : Sees (Asks need (with_hidden (hidden_of c) view)) (hidden_of c) view
+  sees : Sees (key_of need) (Asks need (with_hidden (hidden_of c) view)) (hidden_of c) view
   sees = record {
-    pairs = ap (λ (x : Content). x.pairs) is ∙ sym (ap (λ (x : Content). planned_pairs x.sets.ltp x.sets.cp c.pairs) is);
+    pairs = ap (λ (x : Content). x.pairs) is
+        ∙ sym (ap (λ (x : Content). asked_pairs (key_of need) x.sets.ltp x.sets.cp c.pairs) is);
     lasts = subst (λ (x : Content). HasLasts (Asks need x) c.sets.history (shown view).sets.history)
         (sym (seen_is view c is)) lasts;
+    predecessors = predecessors;
   }
 
 pub sees_key : (key : KeyValue) (view : View) (c : Content) → Shows (Key key) view c
-    → Sees (AsksKey (with_hidden (hidden_of c) view) key) (hidden_of c) view
-sees_key key view c shows = sees (Key key) view c shows.is shows.lasts
+    → Sees (Some key) (AsksKey (with_hidden (hidden_of c) view) key) (hidden_of c) view
+sees_key key view c shows = sees (Key key) view c shows.is shows.lasts shows.predecessors
 
 pub sees_plan : (view : View) (c : Content) → Shows LongTerm view c
-    → Sees (AsksPlan (with_hidden (hidden_of c) view)) (hidden_of c) view
-sees_plan view c shows = sees LongTerm view c shows.is shows.lasts
+    → Sees None (AsksPlan (with_hidden (hidden_of c) view)) (hidden_of c) view
+sees_plan view c shows = sees LongTerm view c shows.is shows.lasts shows.predecessors
 
 -- what a window shows of history stands there
-pub shows_part : (Asked : List ℕ → ℕ → Type 0) (hidden : Hidden) (view : View) → Sees Asked hidden view
-    → ShowsPart (with_hidden hidden view) view
+pub shows_part : {key : Option KeyValue} (Asked : List ℕ → ℕ → Type 0) (hidden : Hidden) (view : View)
+    → Sees key Asked hidden view → ShowsPart (with_hidden hidden view) view
 shows_part Asked hidden view sees serial row there = (sees.lasts.only serial row there).0
 
 -- a window of the long-term plan shows whether an operator deleted an occurrence of a key that arrives from the plan
@@ -257,30 +246,9 @@ module _ (view : View) (c : Content) (shows : Shows LongTerm view c) (key : KeyV
 
   -- and so it does where nothing is planned
   pub shows_none_deleted : IsUnplanned c → ShowsDeleted c view key
-  shows_none_deleted none = ((λ there. absurd (nothing there)), λ there. absurd (nothing (shown_was there)))
+  shows_none_deleted none = ((λ there. absurd (none_there there)), λ there. absurd (none_there (shown_was there)))
     where
-      nothing : IsDeletedKey c.sets key → ⊥
-      nothing (serial, deletion, at, reason, keyed) =
+      none_there : IsDeletedKey c.sets key → ⊥
+      none_there (serial, deletion, at, reason, keyed) =
           let empty : c.sets.deletions serial ≡ None = ap (λ (s : Places). s.deletions) (none.rows serial) in
           cc
-
--- a window for a daily plan shows at least what that asks
-pub shows_at_least : (t : ℕ) (view : View) (c : Content) → Shows (Daily t) view c → ShowsAtLeast t view c
-shows_at_least t view c shows =
-    ap (named (Daily t) (λ _. None)) shows.is
-    ∙ (λ i. with_plans_alone (λ serial. kept_twice (arrives_before t) (c.sets.ltp serial) i) c.sets.cp c)
-
--- and so does one of the long-term plan
-pub long_at_least : (t : ℕ) (view : View) (c : Content) → Shows LongTerm view c → ShowsAtLeast t view c
-long_at_least t view c shows = ap (named (Daily t) (λ _. None)) shows.is
-
--- a window that shows at least what a daily plan to t asks
-module _ (t : ℕ) (view : View) (c : Content) (shows : ShowsAtLeast t view c) where
-  -- has the rows of the long-term plan that arrive before t
-  pub daily_same : (serial : ℕ) → moved t ((shown view).sets.ltp serial) ≡ moved t (c.sets.ltp serial)
-  daily_same serial = ap (λ (x : Content). x.sets.ltp serial) shows
-
-  -- and all rows of the current plan
-  pub daily_cp : (rows : List CurrentRow) → ListsSet of_current (shown view).sets.cp IsAny rows
-      → ListsSet of_current c.sets.cp IsAny rows
-  daily_cp rows lists = subst (λ (x : Content). ListsSet of_current x.sets.cp IsAny rows) shows lists

@@ -1,4 +1,5 @@
--- What a statement asks of history: of an application the row that arrives last before a minute.
+-- What a statement asks of history: of an application the row that arrives last at a moment or before it, which is
+-- before the next minute.
 use Rattle.std.specs.Prelude.{◌≡◌, ◌≢◌, ◌⊎◌, ℕ, ◌+◌, ◌<◌, ◌≤◌, List, Option, Some}
 use Rattle.app_definitions.specs.declared.definitions.Definitions.{Definitions}
 use Rattle.occurrences.specs.declared.key.Key.{Key}
@@ -6,7 +7,6 @@ use Rattle.occurrences.specs.declared.place.CurrentRow.{CurrentRow}
 use Rattle.occurrences.specs.declared.row.Row.{Row}
 use Rattle.occurrences.specs.declared.status.Status.TheVariants.{D, W}
 use Rattle.external_dependencies.specs.Link.{Lists}
-use Rattle.external_dependencies.specs.declared.links.Link.{Link}
 use Rattle.planner_machine.specs.Content.{Content, Sets}
 use Rattle.planner_machine.specs.InForce.{IsDefinedLink}
 use Rattle.planner_machine.specs.declared.content.Bounds.{Bounds}
@@ -34,42 +34,34 @@ IsPlannedAt s app ia =
     ⊎ ((serial : ℕ) × (current : CurrentRow) × (s.cp serial ≡ Some current) × (current.status ≢ D)
     × (current.row.key.app ≡ app) × (current.row.key.ia ≡ ia))
 
--- the row is open: it stands in the long-term plan, or waits in the current plan
-abbrev pub IsOpenRow : Sets → Row → Type 0
-IsOpenRow s row = (s.ltp row.serial ≡ Some row) ⊎ (s.cp row.serial ≡ Some (record { row = row; status = W }))
-
--- a change under the key may reach the open row: its list names the application of the key, and it arrives from the key
--- on, and no later than the next live occurrence of that application in the plans
-pub record IsReachedBy (c : Content) (key : Key) (row : Row) : Type 0 where
-  pub opened : IsOpenRow c.sets row
-  pub names : Lists c.in_force row.key.app key.app
-  pub begun : key.ia ≤ row.key.ia
-  pub within : (ia : ℕ) → IsPlannedAt c.sets key.app ia → key.ia < ia → row.key.ia ≤ ia
-
--- what may precede the key in an application of its list
-abbrev pub AsksList : List Link → Key → List ℕ → ℕ → Type 0
-AsksList links key app minute = Lists links key.app app × IsLimit key app minute
-
 -- the predecessor stands in the list that is defined for the application
 abbrev pub ListsDefined : Definitions → List ℕ → List ℕ → Type 0
 ListsDefined all app predecessor = (within : Option ℕ)
     × IsDefinedLink all (record { app = app; predecessor = predecessor; within = within })
 
--- what a statement on one key asks: the last of its application up to the key and before it, and what may precede the
--- key, and each row that the statement may reach, in the applications of their lists
-abbrev pub AsksKey : Content → Key → List ℕ → ℕ → Type 0
-AsksKey c key app minute =
-    ((app ≡ key.app) × ((minute ≡ key.ia) ⊎ (minute ≡ key.ia + 1)))
-    ⊎ (AsksList c.in_force key app minute
-    ⊎ ((row : Row) × IsReachedBy c key row × AsksList c.in_force row.key app minute))
+-- the predecessor stands in the list of the application that is in force, or in the one that is defined
+abbrev pub ListsEither : Content → List ℕ → List ℕ → Type 0
+ListsEither c app predecessor = Lists c.in_force app predecessor ⊎ ListsDefined c.definitions app predecessor
 
--- what a statement on the long-term plan asks: the last of each application before the plan end, and what may precede
--- each row that waits in the current plan, in the applications of its lists, in force or defined
+-- what a statement on one key asks: the last at its arrival or before it, of its application and of each application of
+-- its list
+abbrev pub AsksKey : Content → Key → List ℕ → ℕ → Type 0
+AsksKey c key app minute = (minute ≡ key.ia + 1) × ((app ≡ key.app) ⊎ Lists c.in_force key.app app)
+
+-- what a row that waits in the current plan asks: the last at its arrival or before it, of each application of its list,
+-- in force or defined
+abbrev pub AsksWaiting : Content → List ℕ → ℕ → Type 0
+AsksWaiting c app minute = (row : Row) × (c.sets.cp row.serial ≡ Some (record { row = row; status = W }))
+    × (minute ≡ row.key.ia + 1) × ListsEither c row.key.app app
+
+-- what all others ask: the last at the plan end or before it, of each application that a list names, in force or defined
+abbrev pub AsksPlanEnd : Content → List ℕ → ℕ → Type 0
+AsksPlanEnd c app minute = (bounds : Bounds) × (c.sets.bounds ≡ Some bounds) × (minute ≡ bounds.plan_end + 1)
+    × ((naming : List ℕ) × ListsEither c naming app)
+
+-- what a statement on the long-term plan asks
 abbrev pub AsksPlan : Content → List ℕ → ℕ → Type 0
-AsksPlan c app minute =
-    ((bounds : Bounds) × (c.sets.bounds ≡ Some bounds) × (minute ≡ bounds.plan_end))
-    ⊎ ((row : Row) × (c.sets.cp row.serial ≡ Some (record { row = row; status = W }))
-    × (Lists c.in_force row.key.app app ⊎ ListsDefined c.definitions row.key.app app) × IsLimit row.key app minute)
+AsksPlan c app minute = AsksWaiting c app minute ⊎ AsksPlanEnd c app minute
 
 -- each row of the application that arrives before the minute has one that is shown, and that arrives no earlier
 abbrev pub HasLast : (history shown : ℕ → Option Row) → List ℕ → ℕ → Type 0

@@ -8,6 +8,7 @@ pub mod Listed
 pub mod Listings
 pub mod Lists
 pub mod Noted
+pub mod Redefining
 pub mod Room
 pub mod Slices
 pub mod Spans

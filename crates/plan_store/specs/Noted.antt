@@ -1,14 +1,13 @@
 -- Places of a list of rows that are noted, each that of the last row of an application before a minute.
-use Rattle.std.specs.Prelude.{◌≡◌, ◌⊎◌, ℕ, ◌+◌, ◌<◌, ◌≤◌, List, Contains, Option, Some, length, get_or}
+use Rattle.std.specs.Prelude.{◌≡◌, ◌⊎◌, ℕ, ◌+◌, ◌<◌, List, Contains, Option, Some, length, get_or}
 use Rattle.app_definitions.specs.declared.definitions.Definitions.{Definitions}
-use Rattle.occurrences.specs.declared.key.Key.{Key}
 use Rattle.occurrences.specs.declared.place.CurrentRow.{CurrentRow}
 use Rattle.occurrences.specs.declared.row.Row.{Row}
 use Rattle.occurrences.specs.declared.status.Status.TheVariants.{W}
-use Rattle.external_dependencies.specs.Touch.{IsWithin}
+use Rattle.external_dependencies.specs.Link.{Lists}
 use Rattle.external_dependencies.specs.declared.links.Link.{Link}
 use Rattle.planner_machine.specs.declared.content.Bounds.{Bounds}
-use Rattle.plan_store.specs.Asked.{AsksList, IsLimit, IsNoLater, ListsDefined}
+use Rattle.plan_store.specs.Asked.{IsNoLater, ListsDefined}
 
 -- the row stands at the place
 abbrev pub StandsAtPlace : List Row → ℕ → Row → Type 0
@@ -46,65 +45,27 @@ AskedByOne {X} Asks xs app minute = (x : X) × Contains xs x × Asks x app minut
 abbrev pub IsAsked : List ℕ → ℕ → List ℕ → ℕ → Type 0
 IsAsked of_app before app minute = (app ≡ of_app) × (minute ≡ before)
 
--- the last of the key's application up to the key, and before it
-abbrev pub AsksOwn : Key → List ℕ → ℕ → Type 0
-AsksOwn key app minute = IsAsked key.app key.ia app minute ⊎ IsAsked key.app (key.ia + 1) app minute
+-- the last before that minute of each application that is listed
+abbrev pub AsksEach : (List ℕ → Type 0) → ℕ → List ℕ → ℕ → Type 0
+AsksEach IsListed before app minute = (minute ≡ before) × IsListed app
 
--- the last of each application before that minute
-abbrev pub IsEnd : ℕ → List ℕ → ℕ → Type 0
-IsEnd before app minute = minute ≡ before
+-- the application stands in a list that is defined
+abbrev pub IsDefined : Definitions → List ℕ → Type 0
+IsDefined all app = (naming : List ℕ) × ListsDefined all naming app
 
--- the last of each application before the plan end, if there is one
-abbrev pub AsksEnd : Option Bounds → List ℕ → ℕ → Type 0
-AsksEnd bounds app minute = (known : Bounds) × (bounds ≡ Some known) × (minute ≡ known.plan_end)
+-- the application stands in the other's list that is in force, or in the one that is defined
+abbrev pub IsInEither : List Link → Definitions → List ℕ → List ℕ → Type 0
+IsInEither links all naming app = Lists links naming app ⊎ ListsDefined all naming app
 
--- what may precede the key in that application
-abbrev pub IsNear : Key → List ℕ → List ℕ → ℕ → Type 0
-IsNear key of_app app minute = (app ≡ of_app) × IsLimit key app minute
+-- of a row of the current plan, where it waits, the last at its arrival or before it of each application in its lists
+abbrev pub AsksRow : List Link → Definitions → CurrentRow → List ℕ → ℕ → Type 0
+AsksRow links all current app minute = (current.status ≡ W)
+    × AsksEach (IsInEither links all current.row.key.app) (current.row.key.ia + 1) app minute
 
--- what may precede the key in an application of the list that is defined for it
-abbrev pub AsksDefined : Definitions → Key → List ℕ → ℕ → Type 0
-AsksDefined all key app minute = ListsDefined all key.app app × IsLimit key app minute
-
--- what may precede a row in the applications of its list
-abbrev pub AsksRow : List Link → Row → List ℕ → ℕ → Type 0
-AsksRow links row app minute = AsksList links row.key app minute
-
--- that of a row of the current plan, where it waits
-abbrev pub AsksWaiting : List Link → CurrentRow → List ℕ → ℕ → Type 0
-AsksWaiting links current app minute = (current.status ≡ W) × AsksList links current.row.key app minute
-
--- that of a waiting row, and what may precede it in the applications of the list that is defined
-abbrev pub AsksBoth : List Link → Definitions → CurrentRow → List ℕ → ℕ → Type 0
-AsksBoth links all current app minute = (current.status ≡ W)
-    × (AsksList links current.row.key app minute ⊎ AsksDefined all current.row.key app minute)
-
--- the row stands in the long-term plan, or waits in the current plan
-abbrev pub IsOpenIn : List Row → List CurrentRow → Row → Type 0
-IsOpenIn ltp cp row = Contains ltp row ⊎ Contains cp (record { row = row; status = W })
-
--- the open row is of the application, and arrives from the first moment to the last, or without end
-pub record IsOpenWithin (ltp : List Row) (cp : List CurrentRow) (app : List ℕ) (first : ℕ) (last : Option ℕ) (row : Row)
-    : Type 0 where
-  pub opened : IsOpenIn ltp cp row
-  pub of_app : row.key.app ≡ app
-  pub begun : first ≤ row.key.ia
-  pub within : IsWithin last row.key.ia
-
--- what may precede those rows in the applications of their lists
-abbrev pub AsksWithin : List Link → List Row → List CurrentRow → ℕ → Option ℕ → List ℕ → List ℕ → ℕ → Type 0
-AsksWithin links ltp cp first last of_app app minute =
-    (row : Row) × IsOpenWithin ltp cp of_app first last row × AsksList links row.key app minute
-
--- that of the application of a link, where it names that predecessor
-abbrev pub AsksNaming : List Link → List Row → List CurrentRow → Key → Option ℕ → Link → List ℕ → ℕ → Type 0
-AsksNaming links ltp cp key last link app minute = (link.predecessor ≡ key.app)
-    × AsksWithin links ltp cp key.ia last link.app app minute
-
--- what a statement on the key asks, where that is the next live occurrence of its application in the plans
-abbrev pub AsksAll : List Link → List Row → List CurrentRow → Key → Option ℕ → List ℕ → ℕ → Type 0
-AsksAll links ltp cp key next app minute = AsksOwn key app minute
-    ⊎ (AsksList links key app minute ⊎ AskedByOne (AsksNaming links ltp cp key next) links app minute)
+-- the last at the plan end or before it, if there is a plan, of each application in a list
+abbrev pub AsksEnd : List Link → Definitions → Option Bounds → List ℕ → ℕ → Type 0
+AsksEnd links all bounds app minute = (known : Bounds) × (bounds ≡ Some known)
+    × AsksEach (λ named. (naming : List ℕ) × IsInEither links all naming named) (known.plan_end + 1) app minute
 
 -- the rows are those at the places
 abbrev pub AreAtPlaces : List Row → List ℕ → List Row → Type 0

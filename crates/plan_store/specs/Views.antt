@@ -9,15 +9,16 @@ use Rattle.occurrences.specs.declared.place.Place.TheVariants.{LongTerm, Current
 use Rattle.occurrences.specs.declared.place.Reason.{Reason}
 use Rattle.occurrences.specs.declared.place.Reason.TheVariants.{Operator, Plan, Withdrawn}
 use Rattle.occurrences.specs.declared.row.Row.{Row}
-use Rattle.occurrences.specs.declared.status.Status.TheVariants.{D}
+use Rattle.occurrences.specs.declared.status.Status.{Status}
+use Rattle.occurrences.specs.declared.status.Status.TheVariants.{C, D, E, S, W}
 use Rattle.external_dependencies.specs.declared.live.Arrival.{Arrival}
 use Rattle.external_dependencies.specs.declared.pairs.Pair.{Pair}
 use Rattle.external_dependencies.specs.declared.rows.PlacedRow.{PlacedRow}
 use Rattle.planner_machine.specs.Content.{Content, Sets, StandsAt}
 use Rattle.planner_machine.specs.Pairs.{LiveAt}
 use Rattle.occurrences.specs.declared.place.CurrentRow.{CurrentRow}
-use Rattle.planner_machine.specs.DailyPlan.{arrives_before, moved}
-use Rattle.planner_machine.specs.Moves.{keep}
+use Rattle.planner_machine.specs.DailyPlan.{arrives_before, is_deleted, moved}
+use Rattle.planner_machine.specs.Moves.{has_key, keep}
 use Rattle.planner_machine.specs.Sound.{AreNumbered, IsSound}
 use Rattle.planner_machine.specs.declared.content.Bounds.{Bounds}
 use Rattle.planner_machine.specs.declared.job.Job.{Job}
@@ -38,13 +39,25 @@ current_serial current = current.row.serial
 abbrev pub deletion_serial : Deletion → ℕ
 deletion_serial deletion = deletion.row.serial
 
--- the serial stands in one of the plans
-abbrev pub is_planned : (ℕ → Option Row) → (ℕ → Option CurrentRow) → ℕ → Bool
-is_planned ltp cp serial = is_some (ltp serial) || is_some (cp serial)
+abbrev pub is_waiting : Status → Bool
+is_waiting W = true
+is_waiting S = false
+is_waiting E = false
+is_waiting C = false
+is_waiting D = false
 
--- those of the pairs whose successor stands in one of the plans
-abbrev pub planned_pairs : (ℕ → Option Row) → (ℕ → Option CurrentRow) → List Pair → List Pair
-planned_pairs ltp cp pairs = filter (λ (pair : Pair). is_planned ltp cp pair.successor) pairs
+-- the row waits, or is the live row of the key, where there is one
+abbrev pub is_asked : Option Key → CurrentRow → Bool
+is_asked None current = is_waiting current.status
+is_asked (Some key) current = is_waiting current.status || (has_key key current.row && not (is_deleted current.status))
+
+-- pairs of the serial are asked for: it is open, or the live row of the key stands there
+abbrev pub asks_pairs : Option Key → (ℕ → Option Row) → (ℕ → Option CurrentRow) → ℕ → Bool
+asks_pairs key ltp cp serial = is_some (ltp serial) || is_some (keep (is_asked key) (cp serial))
+
+-- those of the pairs that are asked for
+abbrev pub asked_pairs : Option Key → (ℕ → Option Row) → (ℕ → Option CurrentRow) → List Pair → List Pair
+asked_pairs key ltp cp pairs = filter (λ (pair : Pair). asks_pairs key ltp cp pair.successor) pairs
 
 -- what the window shows, as a content; of the jobs none of its calls tells anything
 abbrev pub shown : View → Content
@@ -59,7 +72,8 @@ shown view = record {
     deletions = look_up deletion_serial view.deletions.now;
   };
   in_force = view.content.now.in_force;
-  pairs = planned_pairs (look_up row_serial view.ltp.now) (look_up current_serial view.cp.now) view.pairs.now;
+  pairs = asked_pairs view.key.now (look_up row_serial view.ltp.now) (look_up current_serial view.cp.now)
+      view.pairs.now;
   jobs = look_up (λ (job : Job). job.number) view.content.now.jobs.items;
 }
 
@@ -107,12 +121,12 @@ with_these these c = record {
 abbrev pub hidden_of : Content → Hidden
 hidden_of c = record { history = c.sets.history; deletions = c.sets.deletions; pairs = c.pairs }
 
--- the content with these rows in history, these deletions, and of the pairs those of the plans
-abbrev pub with_part : (ℕ → Option Row) → (ℕ → Option Deletion) → Content → Content
-with_part history deletions c = with_these (record {
+-- the content with these rows in history, these deletions, and of the pairs those that are asked for
+abbrev pub with_part : Option Key → (ℕ → Option Row) → (ℕ → Option Deletion) → Content → Content
+with_part key history deletions c = with_these (record {
   history = history;
   deletions = deletions;
-  pairs = planned_pairs c.sets.ltp c.sets.cp c.pairs;
+  pairs = asked_pairs key c.sets.ltp c.sets.cp c.pairs;
 }) c
 
 abbrev pub is_by_operator : Reason → Bool
@@ -130,12 +144,13 @@ bars None deletion = false
 bars (Some b) deletion = bars_from b.plan_end deletion
 
 -- what a need names of a content, where these rows of history are shown: of a daily plan the rows of the current plan,
--- and those of the long-term plan that arrive before its moment; of one key both plans and their pairs; of the
--- long-term plan also such deletions as keep a key from being made
+-- and those of the long-term plan that arrive before its moment; of one key both plans, and the pairs of what is open or
+-- is the live row of the key; of the long-term plan both plans, the pairs of what is open, and such deletions as keep a
+-- key from being made
 abbrev pub named : Need → (ℕ → Option Row) → Content → Content
 named need.Definitions history c = with_plans_alone (λ _. None) (λ _. None) c
-named (need.Key key) history c = with_part history (λ _. None) c
-named need.LongTerm history c = with_part history (λ serial. keep (bars c.sets.bounds) (c.sets.deletions serial)) c
+named (need.Key key) history c = with_part (Some key) history (λ _. None) c
+named need.LongTerm history c = with_part None history (λ serial. keep (bars c.sets.bounds) (c.sets.deletions serial)) c
 named (need.Daily t) history c = with_plans_alone (λ serial. moved t (c.sets.ltp serial)) c.sets.cp c
 
 -- what it asks of history
@@ -145,19 +160,34 @@ Asks (need.Key key) c = AsksKey c key
 Asks need.LongTerm c = AsksPlan c
 Asks (need.Daily t) c = λ app minute. ⊥
 
+-- the key that a need is of
+abbrev pub key_of : Need → Option Key
+key_of need.Definitions = None
+key_of (need.Key key) = Some key
+key_of need.LongTerm = None
+key_of (need.Daily t) = None
+
+-- a pair comes with both its rows: where its predecessor stands in history, the window has it
+abbrev pub HasPredecessors : (ℕ → Option Row) → View → Type 0
+HasPredecessors history view = (pair : Pair) → Contains (shown view).pairs pair
+    → look_up row_serial view.history.now pair.predecessor ≡ history pair.predecessor
+
 -- the window shows what the need names of the content, and no more
 pub record Shows (need : Need) (view : View) (c : Content) : Type 0 where
   pub is : shown view ≡ named need (shown view).sets.history c
   pub lasts : HasLasts (Asks need c) c.sets.history (shown view).sets.history
+  pub predecessors : HasPredecessors c.sets.history view
 
 -- what the window shows, with what it hides
 abbrev pub with_hidden : Hidden → View → Content
 with_hidden hidden view = with_these hidden (shown view)
 
--- of what it hides the window shows the pairs of the plans, and of history what is asked for, and no more
-pub record Sees (Asked : List ℕ → ℕ → Type 0) (hidden : Hidden) (view : View) : Type 0 where
-  pub pairs : (shown view).pairs ≡ planned_pairs (shown view).sets.ltp (shown view).sets.cp hidden.pairs
+-- of what it hides the window shows the pairs that are asked for, with their predecessors, and of history what is asked
+-- for, and no more
+pub record Sees (key : Option Key) (Asked : List ℕ → ℕ → Type 0) (hidden : Hidden) (view : View) : Type 0 where
+  pub pairs : (shown view).pairs ≡ asked_pairs key (shown view).sets.ltp (shown view).sets.cp hidden.pairs
   pub lasts : HasLasts Asked hidden.history (shown view).sets.history
+  pub predecessors : HasPredecessors hidden.history view
 
 -- what the window shows of history stands there
 abbrev pub ShowsPart : Content → View → Type 0
@@ -178,20 +208,22 @@ BehindAny view Is = (h : Hidden) → Is (with_hidden h view)
 
 -- it holds of each sound one of them of which the window shows what the need names
 abbrev pub Behind : Need → View → (Content → Type 0) → Type 0
-Behind need view Is = (h : Hidden) → IsSound (with_hidden h view) → Sees (Asks need (with_hidden h view)) h view
-    → Is (with_hidden h view)
+Behind need view Is = (h : Hidden) → IsSound (with_hidden h view)
+    → Sees (key_of need) (Asks need (with_hidden h view)) h view → Is (with_hidden h view)
 
 -- it holds of each of them whose serials are numbered and of whose history the window shows a part
 abbrev pub BehindPart : View → (Content → Type 0) → Type 0
 BehindPart view Is = (h : Hidden) → AreNumbered (with_hidden h view).sets → ShowsPart (with_hidden h view) view
     → Is (with_hidden h view)
 
--- the window shows at least what a daily plan to the moment asks
-abbrev pub ShowsAtLeast : ℕ → View → Content → Type 0
-ShowsAtLeast t view c = named (need.Daily t) (λ _. None) (shown view) ≡ named (need.Daily t) (λ _. None) c
+-- it holds of each of them whose serials are numbered and that has the predecessors that the window has
+abbrev pub BehindPairs : View → (Content → Type 0) → Type 0
+BehindPairs view Is = (h : Hidden) → AreNumbered (with_hidden h view).sets → HasPredecessors h.history view
+    → Is (with_hidden h view)
 
 -- what a window for the need shows that is no part of a list was made ready
 pub record HasAsked (need : Need) (kept : Kept) : Type 0 where
+  pub key : kept.buffer.key ≡ key_of need
   pub rows : AreRows of_row kept.buffer.lasts.items
   pub part : (row : Row) → Contains kept.buffer.lasts.items row → Contains kept.history.items row
   pub lasts : HasLasts (Asks need (content_of kept)) (content_of kept).sets.history
@@ -244,15 +276,15 @@ IsOutsideDeletions History = Unit {0}
 IsOutsideDeletions (Deleted reason) = ⊥
 
 -- the serial stands in no plan, and not in history
-pub record IsUnshown (s : Sets) (serial : ℕ) : Type 0 where
+pub record IsOutside (s : Sets) (serial : ℕ) : Type 0 where
   pub ltp : s.ltp serial ≡ None
   pub cp : s.cp serial ≡ None
   pub history : s.history serial ≡ None
 
--- the occurrence of the serial in a plan or in what is shown of history, and where it stands, or that there is none
-abbrev pub IsFoundAt : Content → View → ℕ → Option PlacedRow → Type 0
-IsFoundAt c view serial (Some p) = StandsAt c.sets serial p × IsOutsideDeletions p.place
-IsFoundAt c view serial None = IsUnshown (shown view).sets serial
+-- the occurrence of the serial in a plan or in history, and where it stands, or that there is none
+abbrev pub IsFoundAt : Sets → ℕ → Option PlacedRow → Type 0
+IsFoundAt s serial (Some p) = StandsAt s serial p × IsOutsideDeletions p.place
+IsFoundAt s serial None = IsOutside s serial
 
 -- an operator deleted an occurrence of the key
 abbrev pub IsDeletedKey : Sets → Key → Type 0

@@ -1,7 +1,7 @@
 ghost use Rattle.std.specs.Prelude.{◌≡◌, []};
 
 use external_dependencies::Pairs;
-use occurrences::{Deletion, Row};
+use occurrences::{Deletion, Key, Row};
 use std::alloc::Global;
 
 // What windows show that is no part of a list of the content. It is filled before a window is lent.
@@ -12,6 +12,8 @@ pub(crate) struct Buffer {
     // the rows of history that the latest window on a key or of the long-term plan shows, and their places
     pub(crate) lasts: Vec<Row>,
     pub(crate) places: Vec<usize>,
+    // its key, if it is on one
+    pub(crate) key: Option<Key>,
     // the deletions that the latest window of the long-term plan shows
     pub(crate) barring: Vec<Deletion>,
     // the pairs of a window that shows none
@@ -26,6 +28,7 @@ impl Buffer {
             early: Vec::new(alloc),
             lasts: Vec::new(alloc),
             places: Vec::new(alloc),
+            key: None,
             barring: Vec::new(alloc),
             no_pairs: Pairs::new(alloc),
         }

@@ -121,12 +121,11 @@ impl Content {
         ensures same { content_of self.new ≡ content_of self.old }
         ensures filled { OnOk result (HasAsked (Need.Key key.now) self.new) }
     {
+        self.buffer.key = Some(*key);
         key_lasts(
             &mut self.buffer.lasts,
             &mut self.buffer.places,
             &self.history,
-            &self.ltp,
-            &self.cp,
             &self.in_force,
             key,
         )
@@ -139,6 +138,7 @@ impl Content {
         ensures barring { self.new.buffer.barring ≡ self.old.buffer.barring }
         ensures kept { self.new.deletions ≡ self.old.deletions }
     {
+        self.buffer.key = None;
         plan_lasts(
             &mut self.buffer.lasts,
             &mut self.buffer.places,
@@ -194,18 +194,23 @@ impl Content {
             lasts: &[],
             deletions: &[],
             pairs: &self.buffer.no_pairs,
+            key: &self.buffer.key,
+            history: &[],
         }
     }
 
-    // A window of both plans and their pairs, the rows of history that were asked for, and these deletions.
+    // A window of both plans and the pairs that are asked for, with both their rows, of the rows of history that were
+    // asked for, and of these deletions. On which key it is was noted where it was filled.
     fn window_of_lasts<'a>(&'a self, deletions: &'a [Deletion]) -> View<'a>
         requires lasts { AreRows of_row self.now.buffer.lasts.items }
         requires part { (row : RowValue) → Contains self.now.buffer.lasts.items row
             → Contains self.now.history.items row }
         requires rows { AreRows of_deletion deletions.now }
         requires seats { HasSeats of_deletion deletions.now self.now.seats.items }
-        ensures { shown result ≡ with_part (look_up row_serial self.now.buffer.lasts.items)
+        ensures shown { shown result ≡ with_part self.now.buffer.key
+            (look_up row_serial self.now.buffer.lasts.items)
             (look_up deletion_serial deletions.now) (content_of self.now) }
+        ensures history { result.history.now ≡ self.now.history.items }
     {
         View {
             content: self,
@@ -214,6 +219,8 @@ impl Content {
             lasts: &self.buffer.lasts,
             deletions,
             pairs: &self.pairs,
+            key: &self.buffer.key,
+            history: &self.history,
         }
     }
 

@@ -28,7 +28,8 @@ fn insert_job(jobs: &mut Vec<Job>, job: Job)
     requires room { vec_len jobs.old + 1 ≤ vec_capacity jobs.old }
     ensures numbered { AreJobs jobs.new.items }
     ensures kept { (number : ℕ) → look_up (λ (kept : JobValue). kept.number) jobs.new.items number
-        ≡ jobs_after (Some job) (look_up (λ (kept : JobValue). kept.number) jobs.old.items) number }
+        ≡ jobs_after (Some job) (look_up (λ (kept : JobValue). kept.number)
+        jobs.old.items) number }
 {
     match find_job(jobs, job.number) {
         Ok(_at) => {}

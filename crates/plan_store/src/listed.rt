@@ -149,7 +149,8 @@ fn hand_rows<T: Lettered, K: RowSink>(
         → IfOk result (HandsAll K.takes (ShowsSet T.row_of T.letter_of is_plain rows.now
         (option_copied app.entry)) sink.old sink.new) }
     ensures part { AreRows T.row_of rows.now
-        → IfErr result (HandsPart K.takes K.refuses (ShowsSet T.row_of T.letter_of is_plain rows.now
+        → IfErr result (HandsPart K.takes K.refuses (ShowsSet T.row_of T.letter_of is_plain
+        rows.now
         (option_copied app.entry)) sink.old sink.new) }
     ensures blames { IfErr result (λ fault. fault ≢ ListFault.Device) }
 {
@@ -208,7 +209,8 @@ fn hand_links<K: RowSink>(
 ) -> Result<usize, ListFault>
     ensures all { (s : Sets) → AreNumbered s → AreBySerial (λ row. row.now) s all.now
         → IfOk result (λ count. (count ≡ length (links_at s (option_copied app.entry) pairs.now))
-        × TakesAll K.takes sink.old (map link_shown (links_at s (option_copied app.entry) pairs.now)) sink.new) }
+        × TakesAll K.takes sink.old (map link_shown
+        (links_at s (option_copied app.entry) pairs.now)) sink.new) }
     ensures part { (s : Sets) → AreNumbered s → AreBySerial (λ row. row.now) s all.now
         → IfErr result (λ fault. EndsWithin K.takes K.refuses sink.old
         (map link_shown (links_at s (option_copied app.entry) pairs.now)) sink.new fault) }
@@ -289,10 +291,12 @@ impl Content {
             (count ≡ length (links_at (content_of self.now).sets (option_copied app.entry)
             (content_of self.now).pairs))
             × TakesAll K.takes sink.old (map link_shown
-            (links_at (content_of self.now).sets (option_copied app.entry) (content_of self.now).pairs)) sink.new) }
+            (links_at (content_of self.now).sets (option_copied app.entry)
+            (content_of self.now).pairs)) sink.new) }
         ensures part { AreNumbered (content_of self.now).sets
             → IfErr result (λ fault. EndsWithin K.takes K.refuses sink.old (map link_shown
-            (links_at (content_of self.now).sets (option_copied app.entry) (content_of self.now).pairs))
+            (links_at (content_of self.now).sets (option_copied app.entry)
+            (content_of self.now).pairs))
             sink.new fault) }
         ensures blames { IfErr result (λ fault. fault ≢ ListFault.Device) }
     {
@@ -332,7 +336,8 @@ impl Content {
 
     /// What a listing shows there is, also where it is not handed to a sink.
     pub fn has_listings(&self)
-        ensures { AreNumbered (content_of self.now).sets → (what : Showable) (app : Option (List ℕ))
+        ensures { AreNumbered (content_of self.now).sets
+            → (what : Showable) (app : Option (List ℕ))
             → (items : List Shown) × IsListing what app (content_of self.now) items }
     {
         let _rising = self.pairs.as_slice();

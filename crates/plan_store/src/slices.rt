@@ -9,7 +9,7 @@ ghost use Rattle.keyed_lists.specs.Seats.{AreSeats, HasSeats};
 ghost use Rattle.external_dependencies.specs.Arrival.{arrival_cmp};
 ghost use Rattle.external_dependencies.specs.Nearest.{arrival_of};
 ghost use Rattle.plan_store.specs.Slices.{HaveOneApp, IsFront};
-ghost use Rattle.plan_store.specs.Views.{bars_from, is_by_operator};
+ghost use Rattle.plan_store.specs.Views.{bars_from, is_asked, is_by_operator};
 
 use keyed_lists::{PlanRow, Seat, seats_of};
 use occurrences::{CurrentRow, Deletion, Key, Reason, Row, Serial, Status};
@@ -51,7 +51,8 @@ pub(crate) fn before<'a, T: PlanRow>(rows: &'a [T], minute: u32) -> &'a [T]
         → IsKeyed arrival_cmp (λ x. arrival_of (T.row_of x)) result.now }
     ensures all { IsKeyed arrival_cmp (λ x. arrival_of (T.row_of x)) rows.now
         → HaveOneApp T.row_of rows.now
-        → (x : T) → Contains result.now x ↔ (Contains rows.now x × ((T.row_of x).key.ia < minute)) }
+        → (x : T) → Contains result.now x
+        ↔ (Contains rows.now x × ((T.row_of x).key.ia < minute)) }
     ensures value { IsKeyed arrival_cmp (λ x. arrival_of (T.row_of x)) rows.now
         → HaveOneApp T.row_of rows.now
         → result.now ≡ filter (λ x. arrives_before minute (T.row_of x)) rows.now }
@@ -195,4 +196,17 @@ pub(crate) fn barring(
         at += of_one.len();
     }
     Ok(())
+}
+
+// Whether the row waits, or is the live row of the key, where there is one.
+pub(crate) fn is_asked(key: &Option<Key>, current: &CurrentRow) -> bool
+    ensures { result ≡ is_asked key.now current.now }
+{
+    if current.status == Status::W {
+        return true;
+    }
+    match key {
+        Some(key) => current.row.key == *key && current.status != Status::D,
+        None => false,
+    }
 }

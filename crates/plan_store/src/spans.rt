@@ -38,7 +38,8 @@ pub fn between<'a, T: PlanRow>(rows: &'a [T], first: Moment, last: &Option<Momen
     ensures { IsKeyed arrival_cmp (λ x. arrival_of (T.row_of x)) rows.now
         → HaveOneApp T.row_of rows.now
         → (x : T) → Contains result.now x
-        ↔ (Contains rows.now x × (first ≤ (T.row_of x).key.ia) × IsWithin last.now (T.row_of x).key.ia) }
+        ↔ (Contains rows.now x × (first ≤ (T.row_of x).key.ia)
+        × IsWithin last.now (T.row_of x).key.ia) }
 {
     up_to(from_on(rows, first.number()), *last)
 }
@@ -52,7 +53,8 @@ pub(crate) fn next_planned(
 ) -> Option<Moment>
     requires ltp { AreRows of_row ltp.now }
     requires cp { AreRows of_current cp.now }
-    ensures { (s : Sets) → s.ltp ≡ look_up row_serial ltp.now → s.cp ≡ look_up current_serial cp.now
+    ensures { (s : Sets) → s.ltp ≡ look_up row_serial ltp.now
+        → s.cp ≡ look_up current_serial cp.now
         → IsNextPlanned s app.now moment result }
 {
     let minute = moment.number() + 1;

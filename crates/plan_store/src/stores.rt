@@ -20,17 +20,23 @@ use thiserror::Error;
 use work_calendars::{App, Moment};
 
 /// What a decision has to see. Each window shows the definitions, the bounds, how many serials are issued, and the
-/// lists in force.
+/// lists in force. A row is open where it stands in the long-term plan or waits in the current plan. A pair that is
+/// shown comes with both its rows, wherever they stand.
 #[derive(Clone, Copy, Debug, PartialEq, Eq)]
 pub enum Need {
-    /// What a statement asks that looks at definitions alone: no row and no pair.
+    /// What a statement asks that looks at definitions alone: no row and no pair, and nothing of history.
     Definitions,
-    /// What a statement on one key asks.
+    /// What a statement on one key asks. Rows: those of both plans. Pairs: those whose successor is open, or is the live
+    /// row of the key in the current plan. Of history: at the key's arrival or before it, the last row of its application
+    /// and of each application of its list in force.
     Key(Key),
-    /// What a statement on the long-term plan asks.
+    /// What a statement on the long-term plan asks. Rows: those of both plans, and what an operator deleted from the plan
+    /// end on. Pairs: those whose successor is open. Of history: for each row that waits in the current plan, at its
+    /// arrival or before it, the last row of each application of its list, in force or defined; and at the plan end or
+    /// before it, the last row of each application that any list names, in force or defined.
     LongTerm,
-    /// What a daily plan to that moment asks: the rows of the current plan, those of the long-term plan that arrive
-    /// before the moment, and no pair.
+    /// What a daily plan to that moment asks. Rows: those of the current plan, and those of the long-term plan that arrive
+    /// before the moment. No pair, and nothing of history.
     Daily(Moment),
 }
 

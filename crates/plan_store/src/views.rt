@@ -1,4 +1,4 @@
-ghost use Rattle.std.specs.Prelude.{◌≡◌, ◌↔◌, ◌+◌, ◌<◌, length, true, Contains, IsTrue, IfOk, IfSome};
+ghost use Rattle.std.specs.Prelude.{◌≡◌, ◌↔◌, ◌+◌, ◌<◌, length, true, Contains, IsTrue, IfOk};
 ghost use Rattle.external_dependencies.specs.Pair.{pair_cmp};
 ghost use Rattle.external_dependencies.specs.Rising.{IsRising};
 ghost use Rattle.external_dependencies.specs.declared.pairs.Pair.{Pair as PairValue};
@@ -10,7 +10,8 @@ ghost use Rattle.planner_machine.specs.Sound.{AreNumbered};
 use crate::arrivals::{last_live, last_of, later};
 use crate::contents::Content;
 use crate::slices::{
-    arriving_before, before, first_live, first_of, has_operator, of_app, of_key, of_serial,
+    arriving_before, before, first_live, first_of, has_operator, is_asked, of_app, of_key,
+    of_serial,
 };
 use crate::spans::next_planned;
 use app_definitions::Definitions;
@@ -25,19 +26,25 @@ use work_calendars::{App, Moment, Within};
 pub struct View<'a> {
     // of this the definitions, the bounds, the number of serials issued and the lists in force are seen, by any need
     pub(crate) content: &'a Content,
-    // and these rows, and of these pairs those whose successor is a row of the plans that is seen
+    // and these rows
     pub(crate) ltp: &'a [Row],
     pub(crate) cp: &'a [CurrentRow],
     pub(crate) lasts: &'a [Row],
     pub(crate) deletions: &'a [Deletion],
+    // and of these pairs those whose successor is open, or is the live row of the key
     pub(crate) pairs: &'a Pairs,
+    pub(crate) key: &'a Option<Key>,
+    // and of these rows of history the predecessors of those pairs
+    pub(crate) history: &'a [Row],
     ghost ltp_rows: { AreRows of_row ltp.now },
     ghost cp_rows: { AreRows of_current cp.now },
     ghost last_rows: { AreRows of_row lasts.now },
+    ghost history_rows: { AreRows of_row history.now },
     ghost deletion_rows: { AreRows of_deletion deletions.now },
     ghost ltp_seats: { HasSeats of_row ltp.now content.now.seats.items },
     ghost cp_seats: { HasSeats of_current cp.now content.now.seats.items },
     ghost last_seats: { HasSeats of_row lasts.now content.now.seats.items },
+    ghost history_seats: { HasSeats of_row history.now content.now.seats.items },
     ghost deletion_seats: { HasSeats of_deletion deletions.now content.now.seats.items },
 }
 
@@ -45,9 +52,9 @@ ghost use Rattle.keyed_lists.specs.Rows.{AreRows, of_current, of_deletion, of_ro
 ghost use Rattle.keyed_lists.specs.Seats.{HasSeats};
 
 impl<'a> View<'a> {
-    ghost use Rattle.plan_store.specs.Views.{BehindAny, BehindPart, IsAny, IsCurrentRow, IsDeletedKey, IsFoundAt};
-    ghost use Rattle.plan_store.specs.Views.{IsLastBefore, IsLiveRow, IsPlannedRow, IsUnshown, ListsSet, ShowsLast};
-    ghost use Rattle.plan_store.specs.Views.{ShowsNearest, is_planned, shown};
+    ghost use Rattle.plan_store.specs.Views.{BehindAny, BehindPairs, BehindPart, IsAny, IsCurrentRow, IsDeletedKey};
+    ghost use Rattle.plan_store.specs.Views.{IsFoundAt, IsLastBefore, IsLiveRow, IsPlannedRow, ListsSet, ShowsLast};
+    ghost use Rattle.plan_store.specs.Views.{ShowsNearest, asks_pairs, shown};
     ghost use Rattle.plan_store.specs.Spans.{IsNextPlanned};
 
     /// The definitions.
@@ -78,34 +85,66 @@ impl<'a> View<'a> {
         &self.content.in_force
     }
 
-    // Whether the serial stands in one of the plans.
-    fn is_planned(&self, serial: Serial) -> bool
-        ensures { result ≡ is_planned (shown self.now).sets.ltp (shown self.now).sets.cp serial }
+    // Whether the window shows pairs of the serial: it is open, or the live row of the key stands there.
+    fn asks_pairs(&self, serial: Serial) -> bool
+        ensures { result ≡ asks_pairs self.now.key.now (shown self.now).sets.ltp
+            (shown self.now).sets.cp serial }
     {
-        of_serial(self.ltp, &self.content.seats, serial).is_some()
-            || of_serial(self.cp, &self.content.seats, serial).is_some()
+        if of_serial(self.ltp, &self.content.seats, serial).is_some() {
+            return true;
+        }
+        match of_serial(self.cp, &self.content.seats, serial) {
+            Some(current) => is_asked(self.key, &current),
+            None => false,
+        }
     }
 
-    /// The pairs of one successor, which stands in one of the plans; none of any other.
+    /// The pairs of one successor, which is open or, in a window on a key, is its live row; none of any other.
     pub fn pairs_of_successor(&self, successor: Serial) -> &'a [Pair]
         ensures rising { IsRising pair_cmp result.now }
         ensures all { (pair : PairValue) → Contains result.now pair
             ↔ (Contains (shown self.now).pairs pair × (pair.successor ≡ successor)) }
     {
-        if !self.is_planned(successor) {
+        if !self.asks_pairs(successor) {
             return &[];
         }
-        self.pairs_of_planned(successor)
+        self.pairs_of_open(successor)
     }
 
-    /// The pairs of one successor that is known to stand in one of the plans.
-    pub fn pairs_of_planned(&self, successor: Serial) -> &'a [Pair]
-        requires { is_planned (shown self.now).sets.ltp (shown self.now).sets.cp successor ≡ true }
+    /// The pairs of one successor that is known to be open.
+    pub fn pairs_of_open(&self, successor: Serial) -> &'a [Pair]
+        requires { asks_pairs self.now.key.now (shown self.now).sets.ltp (shown self.now).sets.cp
+            successor ≡ true }
         ensures rising { IsRising pair_cmp result.now }
         ensures all { (pair : PairValue) → Contains result.now pair
             ↔ (Contains (shown self.now).pairs pair × (pair.successor ≡ successor)) }
     {
         self.pairs.of_successor(successor)
+    }
+
+    /// The predecessor of a pair that is shown, and where it stands: in a plan or in history.
+    pub fn predecessor(&self, pair: &Pair) -> Option<PlacedRow>
+        requires { Contains (shown self.now).pairs pair.now }
+        ensures { BehindPairs self.now (λ c. IsFoundAt c.sets pair.now.predecessor result) }
+    {
+        let serial = pair.predecessor;
+        if let Some(row) = of_serial(self.ltp, &self.content.seats, serial) {
+            return Some(PlacedRow {
+                row,
+                place: Place::LongTerm,
+            });
+        }
+        if let Some(current) = of_serial(self.cp, &self.content.seats, serial) {
+            return Some(PlacedRow {
+                row: current.row,
+                place: Place::Current(current.status),
+            });
+        }
+        let row = of_serial(self.history, &self.content.seats, serial)?;
+        Some(PlacedRow {
+            row,
+            place: Place::History,
+        })
     }
 
     /// The rows of the long-term plan.
@@ -221,34 +260,10 @@ impl<'a> View<'a> {
         has_operator(of_key(self.deletions, key))
     }
 
-    /// The occurrence of the serial in a plan, or among the rows of history that are shown, and where it stands.
-    pub fn placed(&self, serial: Serial) -> Option<PlacedRow>
-        ensures { BehindPart self.now (λ c. IsFoundAt c self.now serial result) }
-    {
-        if let Some(row) = of_serial(self.ltp, &self.content.seats, serial) {
-            return Some(PlacedRow {
-                row,
-                place: Place::LongTerm,
-            });
-        }
-        if let Some(current) = of_serial(self.cp, &self.content.seats, serial) {
-            return Some(PlacedRow {
-                row: current.row,
-                place: Place::Current(current.status),
-            });
-        }
-        let row = of_serial(self.lasts, &self.content.seats, serial)?;
-        Some(PlacedRow {
-            row,
-            place: Place::History,
-        })
-    }
-
     // The live occurrence of the application that arrives last before the minute.
     fn last_before(&self, app: &App, minute: u32) -> Option<Arrival>
-        ensures last { BehindPart self.now (λ c. ShowsLast c self.now app.now minute
+        ensures { BehindPart self.now (λ c. ShowsLast c self.now app.now minute
             → IsLastBefore c.sets app.now minute result) }
-        ensures shown { IfSome result (λ near. IsUnshown (shown self.now).sets near.serial → ⊥) }
     {
         let ltp = last_of(before(of_app(self.ltp, app), minute));
         let cp = last_live(before(of_app(self.cp, app), minute));
@@ -256,13 +271,13 @@ impl<'a> View<'a> {
         later(ltp, later(cp, history))
     }
 
-    /// Of the live occurrences of the application that arrive at or before the moment, the one that arrives last, where
-    /// the window shows that of history.
-    pub fn last_arrival(&self, app: &App, moment: Moment) -> Option<Arrival>
-        ensures { BehindPart self.now (λ c. ShowsLast c self.now app.now (moment + 1)
-            → IsLastBefore c.sets app.now (moment + 1) result) }
+    /// Of the live occurrences of the key's application the one that arrives last before it, where the window shows
+    /// that of history.
+    pub fn previous(&self, key: &Key) -> Option<Arrival>
+        ensures { BehindPart self.now (λ c. ShowsLast c self.now key.now.app key.now.ia
+            → IsLastBefore c.sets key.now.app key.now.ia result) }
     {
-        self.last_before(app, moment.number() + 1)
+        self.last_before(&key.app, key.ia.number())
     }
 
     /// The nearest predecessor, in an application, of the occurrence with that key: of the live occurrences of the
@@ -270,9 +285,8 @@ impl<'a> View<'a> {
     /// arrive before it count, and where there is a limit none that arrives more than so many hours before it. Of
     /// history those count that the window shows.
     pub fn nearest(&self, key: &Key, app: &App, within: Option<Within>) -> Option<Serial>
-        ensures nearest { BehindPart self.now (λ c. ShowsNearest c self.now key.now app.now
+        ensures { BehindPart self.now (λ c. ShowsNearest c self.now key.now app.now
             → IsNearestAnswer (LiveAt c.sets) key.now app.now within result) }
-        ensures shown { IfSome result (λ serial. IsUnshown (shown self.now).sets serial → ⊥) }
     {
         let arrival = key.ia.number();
         let limit = if *app == key.app {

@@ -22,7 +22,10 @@ use Rattle.table_writing.specs.declared.redefining.DefinitionMoves.{DefinitionMo
 use Rattle.external_dependencies.specs.Pair.{pair_cmp}
 use Rattle.external_dependencies.specs.Rising.{IsRising}
 use Rattle.planner_machine.specs.Sound.{IsSound}
+use Rattle.app_definitions.specs.declared.definitions.Definitions.{Definitions}
+use Rattle.app_definitions.specs.declared.options.Options.{Options}
 use Rattle.plan_store.specs.Changes.{Fits, after, redefined}
+use Rattle.plan_store.specs.Redefining.{half_redefined}
 use Rattle.plan_store.specs.Room.{with_definitions, with_pairs_of}
 use Rattle.plan_store.specs.declared.changes.Change.{Change}
 use Rattle.plan_store.specs.declared.changes.DefinitionChange.TheVariants.{AsBefore}
@@ -30,6 +33,7 @@ use Rattle.plan_tables.specs.Causes.{AreTaken, CanTake, fault_in, HasFailed}
 use Rattle.plan_tables.specs.Stored.{LeavesSound, MayLeave}
 use Rattle.plan_tables.specs.Taken.{FindsRoom, FittingIsTaken, HasRoomFor, KeepsSchema}
 use Rattle.table_writing.specs.Writing.{IsTellableChange}
+use Rattle.plan_tables.proofs.BegunLemmas.{same_options}
 use Rattle.plan_tables.proofs.StoredLemmas.{stored_still}
 
 -- ---- it is asked whether a connection is open
@@ -133,17 +137,26 @@ failed_so old mid new e P Q opens calm one two (inl (cause, is, has)) why = go c
     go Broken is has = absurd (true≢false (sym opens ∙ has))
     go Unstorable is has = absurd has
 
+-- of the definitions the tables look at the options alone
+takes_alike : (c : Content) (a b : Definitions) (moves : DefinitionMoves) (change : Change) (all : Tables)
+    → a.options ≡ b.options
+    → TakesChange (with_definitions a c) moves change all → TakesChange (with_definitions b c) moves change all
+takes_alike c a b moves change all same =
+    subst (λ (o : Options). TakesChange (with_definitions (record a { options = o }) c) moves change all) same
+
 -- so it is of what is left of the change, once the definitions are changed and the pairs are out of the lists
 pub taken_rest : (c : Content) (change : Change) (moves : DefinitionMoves) (left : Change)
     → left ≡ record change { definitions = AsBefore } → (d : Content) (pairs : List Pair)
-    → d ≡ with_definitions (redefined change.definitions c.definitions) (with_pairs_of [] c) → pairs ≡ c.pairs
+    → d ≡ with_definitions (half_redefined change.definitions c.definitions) (with_pairs_of [] c) → pairs ≡ c.pairs
     → (all : Tables)
     → TakesChange (with_definitions (redefined change.definitions c.definitions) c) moves change all
     → TakesChange (with_pairs_of pairs d) moves left all
 taken_rest c change moves left is_rest d pairs is out all takes =
     subst (λ (k : Change). TakesChange (with_pairs_of pairs d) moves k all) (sym is_rest)
     (subst (λ (k : Content). TakesChange k moves (record change { definitions = AsBefore }) all)
-    (sym (λ i. with_pairs_of (out i) (is i))) takes)
+    (sym (λ i. with_pairs_of (out i) (is i)))
+    (takes_alike c (redefined change.definitions c.definitions) (half_redefined change.definitions c.definitions)
+    moves (record change { definitions = AsBefore }) all (sym (same_options change.definitions c.definitions)) takes))
 
 -- ---- a store that asks before it changes
 

@@ -5,6 +5,7 @@ pub mod SetMoves
 pub mod MovedSets
 pub mod ChangeLemmas
 pub mod ContentAfter
+mod BegunLemmas
 pub mod StoredLemmas
 pub mod SetLemmas
 pub mod NameTables

@@ -12,7 +12,9 @@ use Rattle.external_dependencies.specs.declared.pairs.Pair.{Pair}
 use Rattle.planner_machine.specs.Content.{Content}
 use Rattle.planner_machine.specs.Sound.{IsSound}
 use Rattle.table_schema.specs.Rows.{tables_of}
+use Rattle.app_definitions.specs.declared.definitions.Definitions.{Definitions}
 use Rattle.plan_store.specs.Changes.{after, Fits, redefined}
+use Rattle.plan_store.specs.Redefining.{half_redefined}
 use Rattle.plan_store.specs.Room.{with_definitions, with_pairs_of}
 use Rattle.plan_store.specs.declared.changes.Change.{Change}
 use Rattle.plan_store.specs.declared.changes.DefinitionChange.TheVariants.{AsBefore}
@@ -24,6 +26,7 @@ use Rattle.plan_tables.specs.Stored.{LeavesSound, MayLeave}
 use Rattle.table_writing.specs.Redefining.{AreMovesOf, definitions_moved, written}
 use Rattle.table_writing.specs.Writing.{HoldsWritten, IsTellableChange}
 use Rattle.table_writing.specs.declared.redefining.DefinitionMoves.{DefinitionMoves}
+use Rattle.plan_tables.proofs.BegunLemmas.{same_options}
 use Rattle.plan_tables.proofs.ContentAfter.{plans_after}
 use Rattle.plan_tables.proofs.DefinitionFacts.{redefined_content}
 use Rattle.plan_tables.proofs.SetLemmas.{content_set}
@@ -41,6 +44,13 @@ stored_still old new c is opens now committed = record {
 
 pub stored_unchanged : (old new : State) (c : Content) → IsStored old c → IsUnchanged old new → IsStored new c
 stored_unchanged old new c is same = stored_still old new c is same.0.is_open same.0.now_is same.0.committed_is
+
+-- of the definitions the tables are written from the options alone
+written_alike : (c : Content) (a b : Definitions) (moves : DefinitionMoves) (change : Change) (all : Tables)
+    → a.options ≡ b.options
+    → written (with_definitions a c) moves change all ≡ written (with_definitions b c) moves change all
+written_alike c a b moves change all same =
+    λ i. written (with_definitions (record a { options = same i }) c) moves change all
 
 module _ (c : Content) (change : Change) (moves : DefinitionMoves) (fits : Fits change c)
     (are : AreMovesOf change.definitions moves) (told : IsTellableChange change) where
@@ -60,24 +70,28 @@ module _ (c : Content) (change : Change) (moves : DefinitionMoves) (fits : Fits 
 
   -- what is left fits the lists once the definitions are changed and the pairs are out
   pub left_fits : (left : Change) → left ≡ rest → (d : Content)
-      → d ≡ with_definitions (redefined change.definitions c.definitions) (with_pairs_of [] c) → Fits left d
+      → d ≡ with_definitions (half_redefined change.definitions c.definitions) (with_pairs_of [] c) → Fits left d
   left_fits left is_rest d is = subst (λ (k : Change). Fits k d) (sym is_rest)
       (subst (λ (k : Content). Fits rest k) (sym is)
       (record { ltp = fits.ltp; cp = fits.cp; history = fits.history; deletions = fits.deletions; job = fits.job }))
 
   -- the pairs are out of the lists while the tables are written, and stand beside them
   pub tables_after : (left : Change) → left ≡ rest → (old : State) (db : Trees) (d : Content) (pairs : List Pair)
-      → d ≡ with_definitions (redefined change.definitions c.definitions) (with_pairs_of [] c) → pairs ≡ c.pairs
+      → d ≡ with_definitions (half_redefined change.definitions c.definitions) (with_pairs_of [] c) → pairs ≡ c.pairs
       → IsStored old c
       → tables_of db ≡ written (with_pairs_of pairs d) moves left (tables_of old.now.trees)
       → IsContentOf (tables_of db) (after change c)
   tables_after left is_rest old db d pairs is out stored e =
       subst (λ all. IsContentOf all (after change c)) (sym (e ∙ (λ i. written (with_pairs_of (out i) (is i)) moves
-      (is_rest i) (tables_of old.now.trees)))) (content_after (tables_of old.now.trees) stored.content)
+      (is_rest i) (tables_of old.now.trees))
+      ∙ written_alike c (half_redefined change.definitions c.definitions)
+      (redefined change.definitions c.definitions) moves rest (tables_of old.now.trees)
+      (same_options change.definitions c.definitions)))
+      (content_after (tables_of old.now.trees) stored.content)
 
   -- what a crash leaves of the commit has the tables of the plan, and tells the content after the change
   pub tells_after : (left : Change) → left ≡ rest → (old : State) (db : Trees) (d : Content) (pairs : List Pair)
-      → d ≡ with_definitions (redefined change.definitions c.definitions) (with_pairs_of [] c) → pairs ≡ c.pairs
+      → d ≡ with_definitions (half_redefined change.definitions c.definitions) (with_pairs_of [] c) → pairs ≡ c.pairs
       → IsStored old c
       → HoldsWritten old (written (with_pairs_of pairs d) moves left (tables_of old.now.trees)) db
       → Tells db (after change c) × AllHaveRowids (tables_of db)

@@ -1,6 +1,6 @@
 // The lists and the tables of a content change together.
 
-ghost use Rattle.std.specs.Prelude.{◌≡◌, ◌⊎◌, ◌<◌, ◌^◌, false, [], Some, OnOk, OnErr, IfOk, IfErr, IsTrue, IfSome, unwrap_or};
+ghost use Rattle.std.specs.Prelude.{◌≡◌, ◌⊎◌, ◌<◌, ◌^◌, false, [], Some, OnOk, OnErr, IfOk, IfErr, IsTrue, IfSome};
 ghost use Rattle.sqlite.specs.State.{HasCleanDisk, IsRolledBack, IsUnchanged, Survives};
 ghost use Rattle.sqlite.specs.Held.{state};
 ghost use Rattle.sqlite_disk.specs.Disk.{MoreFaults};
@@ -8,10 +8,9 @@ ghost use Rattle.table_schema.specs.Rows.{tables_of};
 ghost use Rattle.planner_machine.specs.declared.job.Job.{Job as JobValue};
 ghost use Rattle.plan_store.specs.Changes.{Fits, after, redefined};
 ghost use Rattle.plan_store.specs.Contents.{content_of};
+ghost use Rattle.plan_store.specs.Redefining.{CanUndo, ended, half_redefined, undone};
 ghost use Rattle.plan_store.specs.Room.{HasRoom, with_definitions, with_pairs_of};
-ghost use Rattle.plan_store.specs.declared.changes.Change.{Change as ChangeValue};
 ghost use Rattle.plan_store.specs.declared.changes.DefinitionChange.TheVariants.{AsBefore};
-ghost use Rattle.plan_store.specs.declared.room.Room.{Room as RoomValue};
 ghost use Rattle.plan_store.specs.declared.stores.StoreFault.TheVariants.{Device, Memory};
 ghost use Rattle.table_facts.specs.Content.{answer_text};
 ghost use Rattle.table_opening.specs.Opened.{IsStored};
@@ -21,8 +20,7 @@ ghost use Rattle.table_writing.specs.Writing.{IsTellableChange};
 ghost use Rattle.plan_tables.specs.Causes.{CanTake, HasFailed, fault_in};
 ghost use Rattle.plan_tables.specs.Found.{Tells};
 
-use app_definitions::Definitions;
-use plan_store::{Change, Content, DefinitionChange, Room, StoreFault};
+use plan_store::{Change, Content, DefinitionChange, Redefining, Room, StoreFault};
 use sqlite::{Alter, Connection, Error, ErrorCode};
 use std::alloc::{AllocError, Global};
 use std::mem::replace;
@@ -101,11 +99,11 @@ fn cause_of<S: Alter>(conn: &mut Connection<S>, error: &Error) -> Unmade
     }
 }
 
-// What a change has begun in the lists: room for it, and the definitions as they were, where they change.
+// What a change has begun in the lists: room for it, and the change of their definitions.
 #[derive(Drop)]
 struct Begun {
     room: Room,
-    was: Option<Definitions>,
+    redefining: Redefining,
 }
 
 // A change under way: what it has begun in the lists, and what is left of it.
@@ -115,45 +113,8 @@ struct Underway {
     rest: Change,
 }
 
-// Changes the definitions of the lists, and gives them as they were, where they change; or where memory is refused,
-// changes nothing.
-fn redefine(
-    lists: &mut Content,
-    change: DefinitionChange,
-) -> Result<Option<Definitions>, AllocError>
-    ensures ok { OnOk result (content_of lists.new
-        ≡ with_definitions (redefined change (content_of lists.old).definitions)
-        (content_of lists.old)) }
-    ensures was { IfOk result (λ was. unwrap_or was (content_of lists.new).definitions
-        ≡ (content_of lists.old).definitions) }
-    ensures err { OnErr result (content_of lists.new ≡ content_of lists.old) }
-    ensures room { (next : ChangeValue) (room : RoomValue)
-        → HasRoom next lists.old room → HasRoom next lists.new room }
-{
-    match change {
-        DefinitionChange::AsBefore => Ok(None),
-        change => {
-            let was = lists.definitions.clone()?;
-            match lists.redefine(change) {
-                Ok(()) => Ok(Some(was)),
-                Err(error) => Err(error),
-            }
-        }
-    }
-}
-
-// Puts definitions back into the lists, if there are any.
-fn restore(lists: &mut Content, was: Option<Definitions>)
-    ensures { content_of lists.new
-        ≡ with_definitions (unwrap_or was (content_of lists.old).definitions)
-        (content_of lists.old) }
-{
-    if let Some(was) = was {
-        lists.definitions = was;
-    }
-}
-
-// Makes room in the lists for a change, and changes their definitions; or where memory is refused, changes nothing.
+// Makes room in the lists for a change, and begins that of their definitions; or where memory is refused, changes
+// nothing.
 fn begin(
     lists: &mut Content,
     alloc: Global,
@@ -163,16 +124,21 @@ fn begin(
     requires { Fits change.now (content_of lists.old) }
     ensures pairs { IfOk result (λ begun. begun.room.pairs.items ≡ (content_of lists.old).pairs) }
     ensures room { IfOk result (λ begun. HasRoom change.now lists.new begun.room) }
-    ensures was { IfOk result (λ begun. unwrap_or begun.was (content_of lists.new).definitions
+    ensures ends { IfOk result (λ begun. ended begun.redefining (content_of lists.new).definitions
+        ≡ redefined definitions (content_of lists.old).definitions) }
+    ensures can_undo { IfOk result (λ begun.
+        CanUndo begun.redefining (content_of lists.new).definitions) }
+    ensures undoes { IfOk result (λ begun.
+        undone begun.redefining (content_of lists.new).definitions
         ≡ (content_of lists.old).definitions) }
     ensures ok { OnOk result (content_of lists.new
-        ≡ with_definitions (redefined definitions (content_of lists.old).definitions)
+        ≡ with_definitions (half_redefined definitions (content_of lists.old).definitions)
         (with_pairs_of [] (content_of lists.old))) }
     ensures err { OnErr result (content_of lists.new ≡ content_of lists.old) }
 {
     let room = lists.make_room(alloc, change)?;
-    match redefine(lists, definitions) {
-        Ok(was) => Ok(Begun { room, was }),
+    match lists.begin_redefining(definitions) {
+        Ok(redefining) => Ok(Begun { room, redefining }),
         Err(error) => {
             lists.put_back(room);
             Err(error)
@@ -188,11 +154,16 @@ fn start(lists: &mut Content, alloc: Global, change: Change) -> Result<Underway,
     ensures pairs { IfOk result (λ underway. underway.begun.room.pairs.items ≡
         (content_of lists.old).pairs) }
     ensures room { IfOk result (λ underway. HasRoom underway.rest lists.new underway.begun.room) }
-    ensures was { IfOk result (λ underway. unwrap_or underway.begun.was
-        (content_of lists.new).definitions
+    ensures ends { IfOk result (λ underway.
+        ended underway.begun.redefining (content_of lists.new).definitions
+        ≡ redefined change.definitions (content_of lists.old).definitions) }
+    ensures can_undo { IfOk result (λ underway.
+        CanUndo underway.begun.redefining (content_of lists.new).definitions) }
+    ensures undoes { IfOk result (λ underway.
+        undone underway.begun.redefining (content_of lists.new).definitions
         ≡ (content_of lists.old).definitions) }
     ensures ok { OnOk result (content_of lists.new
-        ≡ with_definitions (redefined change.definitions (content_of lists.old).definitions)
+        ≡ with_definitions (half_redefined change.definitions (content_of lists.old).definitions)
         (with_pairs_of [] (content_of lists.old))) }
     ensures err { OnErr result (content_of lists.new ≡ content_of lists.old) }
 {
@@ -204,12 +175,13 @@ fn start(lists: &mut Content, alloc: Global, change: Change) -> Result<Underway,
 
 // Takes back what was begun.
 fn undo(lists: &mut Content, underway: Underway)
+    requires { CanUndo underway.begun.redefining (content_of lists.old).definitions }
     ensures { content_of lists.new ≡ with_pairs_of underway.begun.room.pairs.items
-        (with_definitions (unwrap_or underway.begun.was (content_of lists.old).definitions)
+        (with_definitions (undone underway.begun.redefining (content_of lists.old).definitions)
         (content_of lists.old)) }
 {
-    let Begun { room, was } = underway.begun;
-    restore(lists, was);
+    let Begun { room, redefining } = underway.begun;
+    lists.undo_redefining(redefining);
     lists.put_back(room);
 }
 
@@ -219,12 +191,14 @@ fn complete(lists: &mut Content, underway: Underway)
     requires room { HasRoom underway.rest lists.old underway.begun.room }
     requires defined { underway.rest.definitions ≡ AsBefore }
     ensures { content_of lists.new
-        ≡ after underway.rest (with_pairs_of underway.begun.room.pairs.items
-        (content_of lists.old)) }
+        ≡ with_definitions (ended underway.begun.redefining (content_of lists.old).definitions)
+        (after underway.rest (with_pairs_of underway.begun.room.pairs.items
+        (content_of lists.old))) }
 {
     let Underway { begun, rest } = underway;
-    let Begun { room, was: _ } = begun;
+    let Begun { room, redefining } = begun;
     lists.finish(room, rest);
+    lists.end_redefining(redefining);
 }
 
 /// Makes a change in the lists and in the tables, all of it or nothing, also over a crash. The line is that of the

@@ -210,6 +210,41 @@ module _ {S : Type 0} (g : Ghosts S) where
     read_answered (Ok printed) Does told memory = read_printed printed Does told
     read_answered (Err fault) Does told memory = read_refused (Err fault) Does memory
 
+  module _ {T U : Type 0} (before now : S) (read : Result T StoreFault) (IsRight : T → Type 0)
+      (reads : ReadsBy g before now read IsRight) (value : T) (was : read ≡ Ok value) (Tells : U → Type 0) where
+    own : ReadsBy g before now (Ok value) IsRight
+    own = subst (λ r. ReadsBy g before now r IsRight) was reads
+
+    -- what was read tells this
+    pub read_tells : (told : U) → (IsRight value → Tells told) → ReadsBy g before now (Ok told) Tells
+    read_tells told tells = record {
+      right = λ honest. tells (own.right honest);
+      same = own.same;
+      crash = own.crash;
+      blames = tt;
+      broken = λ failed. absurd (let no : Ok value ≡ Err Device = own.broken failed in let h : ⊥ = cc no in h);
+      counts = own.counts;
+      honest = own.honest;
+      clean = own.clean;
+      whole = own.whole;
+    }
+
+    -- it was read, and memory was refused
+    pub read_stops : (result : Result U StoreFault) → IsErrAnd result (λ fault. fault ≡ Memory)
+        → ReadsBy g before now result Tells
+    read_stops (Ok told) memory = absurd memory
+    read_stops (Err fault) memory = record {
+      right = λ honest. tt;
+      same = own.same;
+      crash = own.crash;
+      blames = λ is. absurd (let no : Memory ≡ Device = sym memory ∙ is in let h : ⊥ = cc no in h);
+      broken = λ failed. absurd (let no : Ok value ≡ Err Device = own.broken failed in let h : ⊥ = cc no in h);
+      counts = own.counts;
+      honest = own.honest;
+      clean = own.clean;
+      whole = tt;
+    }
+
 -- ---- a change that is made
 
 module _ {S : Type 0} (g : Ghosts S) (before now : S) where

@@ -1,38 +1,37 @@
 -- The rows of the current plan in the window of a daily plan.
-use Rattle.std.proofs.Common.{◌≡◌, ℕ, List, Option, None, Some, ap, sym, subst, refl}
+use Rattle.std.proofs.Common.{◌≡◌, ◌∙◌, ℕ, List, Option, None, Some, ap}
 use Rattle.occurrences.specs.declared.place.CurrentRow.{CurrentRow}
 use Rattle.keyed_lists.specs.Rows.{of_current}
-use Rattle.planner_machine.specs.Content.{Content, Seat}
-use Rattle.planner_machine.specs.Sound.{IsSound}
-use Rattle.planner_machine.specs.declared.content.Bounds.{Bounds}
+use Rattle.planner_machine.specs.Content.{Content}
+use Rattle.planner_machine.specs.Statement.{decision_of}
+use Rattle.plan_store.specs.Verdicts.{VerdictIs}
 use Rattle.plan_store.specs.Views.{IsAny, ListsSet, Shows, shown}
-use Rattle.plan_store.specs.declared.stores.Need.TheVariants.{Definitions}
+use Rattle.plan_store.specs.declared.changes.Verdict.{Verdict}
+use Rattle.plan_store.specs.declared.changes.Verdict.TheVariants.{Done, Refused}
 use Rattle.plan_store.specs.declared.views.View.{View}
-use Rattle.plan_store.proofs.WindowLemmas.{daily_cp, shows_at_least}
-use Rattle.daily_planning.specs.DailyPlans.{replan_need}
+use Rattle.daily_planning.specs.DailyPlans.{daily_need, plan_end_of}
+use Rattle.daily_planning.proofs.DailyWindowLemmas.{daily_cp}
 use Rattle.statements.specs.declared.statements.DailyFunction.{DailyFunction}
 use Rattle.statements.specs.declared.statements.DailyFunction.TheVariants.{Extend, ExtendBy, Replan}
-use Rattle.planner_cli.specs.Verdicts.{need_of_daily}
+use Rattle.planner_cli.specs.Changes.{daily_change}
+use Rattle.planner_cli.specs.Verdicts.{IsDone, IsEnd}
 
-module _ (view : View) (c : Content) (sound : IsSound c) (rows : List CurrentRow)
-    (lists : ListsSet of_current (shown view).sets.cp IsAny rows) where
-  -- where nothing is planned there are none
-  none_current : c.sets.bounds ≡ None → Shows Definitions view c → ListsSet of_current c.sets.cp IsAny rows
-  none_current none shows =
-      let empty : c.sets.cp ≡ (λ (_ : ℕ). None) =
-      λ i serial. (ap (λ (s : Seat). s.cp) ((sound.bounds.before none).rows serial)) i in
-      subst (λ (cp : ℕ → Option CurrentRow). ListsSet of_current cp IsAny rows) (sym empty)
-      (subst (λ (x : Content). ListsSet of_current x.sets.cp IsAny rows) shows.is lists)
+-- a daily plan that is made has an end
+has_end : (c : Content) (function : DailyFunction) → IsEnd c function None → (verdict : Verdict) → IsDone verdict
+    → VerdictIs (decision_of (daily_change function)) c verdict → ⊥
+has_end c (Extend to) end (Done change reply) done is = let no : None ≡ Some to = end in cc
+has_end c (ExtendBy days count) end (Done change reply) done is =
+    let (b, at, (t, new, plans)) = is.1.1.rows in end b at t new
+has_end c Replan end (Done change reply) done is =
+    let (b, at, plans) = is.1.1.rows in
+    let no : None ≡ Some b.plan_end = end ∙ ap plan_end_of at in cc
+has_end c function end (Refused refusal) done is = done
 
-  replanned : (bounds : Option Bounds) → c.sets.bounds ≡ bounds → Shows (replan_need bounds) view c
-      → ListsSet of_current c.sets.cp IsAny rows
-  replanned (Some b) is shows =
-      daily_cp b.plan_end view c (shows_at_least b.plan_end view c shows) rows lists
-  replanned None is shows = none_current is shows
-
-  pub lists_current : (function : DailyFunction) → Shows (need_of_daily c.sets.bounds function) view c
-      → ListsSet of_current c.sets.cp IsAny rows
-  lists_current (Extend to) shows = daily_cp to view c (shows_at_least to view c shows) rows lists
-  lists_current (ExtendBy days count) shows =
-      subst (λ (x : Content). ListsSet of_current x.sets.cp IsAny rows) shows.is lists
-  lists_current Replan shows = replanned c.sets.bounds refl shows
+-- and its window shows them all
+pub lists_current : (view : View) (c : Content) (rows : List CurrentRow)
+    → ListsSet of_current (shown view).sets.cp IsAny rows → (function : DailyFunction) (end : Option ℕ)
+    → IsEnd c function end → Shows (daily_need end) view c → (verdict : Verdict) → IsDone verdict
+    → VerdictIs (decision_of (daily_change function)) c verdict → ListsSet of_current c.sets.cp IsAny rows
+lists_current view c rows lists function (Some t) end shows verdict done is = daily_cp t view c shows rows lists
+lists_current view c rows lists function None end shows verdict done is =
+    absurd (has_end c function end verdict done is)

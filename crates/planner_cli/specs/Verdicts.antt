@@ -1,7 +1,6 @@
 -- What comes of a verdict.
 use Rattle.std.specs.Prelude.{◌≡◌, ◌≢◌, ◌⊎◌, ℕ, List, None, Option, Some, Ok, Err}
 use Rattle.occurrences.specs.declared.refusal.Refusal.TheVariants.{JobWithAnotherText}
-use Rattle.planner_machine.specs.declared.content.Bounds.{Bounds}
 use Rattle.planner_machine.specs.declared.job.Job.{Job}
 use Rattle.planner_machine.specs.Content.{Content}
 use Rattle.planner_machine.specs.Jobs.{kept, with_job}
@@ -15,8 +14,9 @@ use Rattle.statements.specs.declared.statements.ChangeStatement.{ChangeStatement
 use Rattle.statements.specs.declared.statements.ChangeStatement.TheVariants as statement
 use Rattle.statements.specs.declared.statements.DailyFunction.{DailyFunction}
 use Rattle.statements.specs.declared.statements.DailyFunction.TheVariants as daily
-use Rattle.daily_planning.specs.DailyPlans.{replan_need}
+use Rattle.daily_planning.specs.DailyPlans.{IsEndBy, daily_need, plan_end_of}
 use Rattle.planner_cli.specs.Changes.{change_of}
+use Rattle.planner_cli.specs.Kinds.{count_of}
 use Rattle.planner_cli.specs.declared.decisions.JobChange.{JobChange}
 use Rattle.planner_cli.specs.declared.decisions.JobChange.TheVariants as by_job
 
@@ -33,6 +33,11 @@ left_by (Refused refusal) c = c
 -- and with the job
 abbrev pub job_left : ℕ → List ℕ → Verdict → Content → Content
 job_left number text verdict c = with_job (kept number text (answer_in verdict)) (left_by verdict c)
+
+-- it is no refusal
+abbrev pub IsDone : Verdict → Type 0
+IsDone (Done change reply) = Unit {0}
+IsDone (Refused refusal) = ⊥
 
 -- its change, if it has one, fits the content and keeps no job
 abbrev pub FitsVerdict : Verdict → Content → Type 0
@@ -51,22 +56,43 @@ abbrev pub job_change : JobChange → Change
 job_change (by_job.Define block) = Define block
 job_change (by_job.Statement change) = change_of change
 
--- what the decision on a daily plan has to see, where the plans reach so far
-abbrev pub need_of_daily : Option Bounds → DailyFunction → Need
-need_of_daily bounds (daily.Extend to) = need.Daily to
-need_of_daily bounds (daily.ExtendBy days count) = need.LongTerm
-need_of_daily bounds daily.Replan = replan_need bounds
+-- the daily plan that a change without data asks for, if it asks for one
+abbrev pub daily_in : ChangeStatement → Option DailyFunction
+daily_in (statement.Daily function) = Some function
+daily_in (statement.Undefine kind name) = None
+daily_in (statement.Plan function) = None
+daily_in (statement.Add key) = None
+daily_in (statement.Delete key) = None
+daily_in (statement.AddCurrent key) = None
+daily_in (statement.Act action key) = None
 
--- what the decision on a change has to see
-abbrev pub need_of_change : Option Bounds → ChangeStatement → Need
-need_of_change bounds (statement.Undefine kind name) = need.Definitions
-need_of_change bounds (statement.Plan function) = need.LongTerm
-need_of_change bounds (statement.Add key) = need.Key key
-need_of_change bounds (statement.Delete key) = need.Key key
-need_of_change bounds (statement.Daily function) = need_of_daily bounds function
-need_of_change bounds (statement.AddCurrent key) = need.Key key
-need_of_change bounds (statement.Act action key) = need.Key key
+-- and that a job asks for
+abbrev pub daily_of : JobChange → Option DailyFunction
+daily_of (by_job.Define block) = None
+daily_of (by_job.Statement change) = daily_in change
 
-abbrev pub need_of : Option Bounds → JobChange → Need
-need_of bounds (by_job.Define block) = need.Definitions
-need_of bounds (by_job.Statement change) = need_of_change bounds change
+-- the end of a daily plan: its moment, the new plan end that its days give, or the plan end as it is; or that there is
+-- none
+abbrev pub IsEnd : Content → DailyFunction → Option ℕ → Type 0
+IsEnd c (daily.Extend to) end = end ≡ Some to
+IsEnd c (daily.ExtendBy days count) end = IsEndBy c days (count_of count) end
+IsEnd c daily.Replan end = end ≡ plan_end_of c.sets.bounds
+
+-- the end of the daily plan, if there is one
+abbrev pub IsEndOf : Content → Option DailyFunction → Option ℕ → Type 0
+IsEndOf c (Some function) end = IsEnd c function end
+IsEndOf c None end = Unit {0}
+
+-- what the decision on a change has to see, where a daily plan has that end
+abbrev pub need_of_change : Option ℕ → ChangeStatement → Need
+need_of_change end (statement.Undefine kind name) = need.Definitions
+need_of_change end (statement.Plan function) = need.LongTerm
+need_of_change end (statement.Add key) = need.Key key
+need_of_change end (statement.Delete key) = need.Key key
+need_of_change end (statement.Daily function) = daily_need end
+need_of_change end (statement.AddCurrent key) = need.Key key
+need_of_change end (statement.Act action key) = need.Key key
+
+abbrev pub need_of : Option ℕ → JobChange → Need
+need_of end (by_job.Define block) = need.Definitions
+need_of end (by_job.Statement change) = need_of_change end change

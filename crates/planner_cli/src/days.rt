@@ -15,7 +15,7 @@ use crate::answers::{Printed, print_answer};
 use crate::rows::days_rows;
 use app_definitions::{Application, Definitions};
 use app_occurrences::{
-    CalendarIndex, active, calendar_name, lacks_calendar, lacks_period, named_by_index,
+    CalendarIndexes, active, calendar_name, lacks_calendar, lacks_period, named_by_index,
 };
 use occurrences::{Refusal, Reply};
 use plan_store::{Need, PlanStore, StoreFault, View};
@@ -24,11 +24,11 @@ use run_cycles::Named;
 use std::alloc::{AllocError, Global};
 use work_calendars::{App, Day};
 
-/// Lists the days that an application's run cycles name. The index of the calendar asked last is kept for the next.
+/// Lists the days that an application's run cycles name. Indexes of calendars that were asked for lately are kept.
 pub(crate) fn answer_days<S: PlanStore>(
     alloc: Global,
     store: &mut S,
-    kept: &mut Option<CalendarIndex>,
+    kept: &mut CalendarIndexes,
     app: &App,
     from: Day,
     to: Day,
@@ -44,7 +44,7 @@ pub(crate) fn answer_days<S: PlanStore>(
 fn days(
     alloc: Global,
     all: &Definitions,
-    kept: &mut Option<CalendarIndex>,
+    kept: &mut CalendarIndexes,
     app: &App,
     from: Day,
     to: Day,
@@ -66,7 +66,7 @@ fn days(
 fn named_days(
     alloc: Global,
     all: &Definitions,
-    kept: &mut Option<CalendarIndex>,
+    kept: &mut CalendarIndexes,
     app: &App,
     from: Day,
     to: Day,
@@ -85,9 +85,9 @@ fn named_days(
         Err(refusal) => return Ok(Err(refusal)),
     };
     let calendar = calendar_name(all, &application);
-    let index = CalendarIndex::of(alloc, kept.take(), all, &calendar)?;
+    let index = kept.of(alloc, all, &calendar)?;
     let list = named_by_index(alloc, all, index.index(), app, &application, from, to)?;
-    *kept = Some(index);
+    kept.keep(index)?;
     Ok(Ok(list))
 }
 

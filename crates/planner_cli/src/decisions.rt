@@ -6,16 +6,17 @@ ghost use Rattle.planner_machine.specs.Statement.{decision_of};
 ghost use Rattle.plan_store.specs.Verdicts.{VerdictIs};
 ghost use Rattle.plan_store.specs.Views.{Shows};
 ghost use Rattle.plan_store.specs.declared.stores.Need.TheVariants.{LongTerm};
+ghost use Rattle.daily_planning.specs.DailyPlans.{daily_need};
 ghost use Rattle.planner_cli.specs.Changes.{change_of, daily_change, plan_change};
-ghost use Rattle.planner_cli.specs.Verdicts.{job_change, need_of, need_of_change, need_of_daily};
+ghost use Rattle.planner_cli.specs.Verdicts.{IsEnd, IsEndOf, daily_in, daily_of, job_change, need_of, need_of_change};
 
 use crate::define::{define, undefine};
-use crate::kinds::{count_of, definitions_kind};
+use crate::kinds::definitions_kind;
 use app_definitions::Block;
 use plan_store::{Need, Verdict, View};
-use planner_machine::Bounds;
 use statements::{ChangeStatement, DailyFunction, PlanFunction};
 use std::alloc::{AllocError, Global};
+use work_calendars::Moment;
 
 /// A change that a job asks for.
 #[derive(Drop)]
@@ -26,19 +27,44 @@ pub enum JobChange {
     Statement(ChangeStatement),
 }
 
-/// What the decision on a change has to see, where the plans reach so far.
-pub(crate) fn need_of(bounds: Option<Bounds>, job: &JobChange) -> Need
-    ensures { result ≡ need_of bounds job.now }
+/// The daily plan that a job asks for, if it asks for one.
+pub(crate) fn daily_of(job: &JobChange) -> Option<DailyFunction>
+    ensures { result ≡ daily_of job.now }
 {
     match job {
-        JobChange::Define(_) => Need::Definitions,
-        JobChange::Statement(change) => need_of_change(bounds, change),
+        JobChange::Define(_) => None,
+        JobChange::Statement(change) => daily_in(change),
     }
 }
 
 // The same of a change without data.
-fn need_of_change(bounds: Option<Bounds>, change: &ChangeStatement) -> Need
-    ensures { result ≡ need_of_change bounds change.now }
+fn daily_in(change: &ChangeStatement) -> Option<DailyFunction>
+    ensures { result ≡ daily_in change.now }
+{
+    match change {
+        ChangeStatement::Daily(function) => Some(*function),
+        ChangeStatement::Undefine { .. }
+        | ChangeStatement::Plan(_)
+        | ChangeStatement::Add { .. }
+        | ChangeStatement::Delete { .. }
+        | ChangeStatement::AddCurrent { .. }
+        | ChangeStatement::Act { .. } => None,
+    }
+}
+
+/// What the decision on a change has to see, where a daily plan has that end.
+pub(crate) fn need_of(end: Option<Moment>, job: &JobChange) -> Need
+    ensures { result ≡ need_of end job.now }
+{
+    match job {
+        JobChange::Define(_) => Need::Definitions,
+        JobChange::Statement(change) => need_of_change(end, change),
+    }
+}
+
+// The same of a change without data.
+fn need_of_change(end: Option<Moment>, change: &ChangeStatement) -> Need
+    ensures { result ≡ need_of_change end change.now }
 {
     match change {
         ChangeStatement::Undefine { .. } => Need::Definitions,
@@ -47,30 +73,24 @@ fn need_of_change(bounds: Option<Bounds>, change: &ChangeStatement) -> Need
         | ChangeStatement::Delete { key }
         | ChangeStatement::AddCurrent { key }
         | ChangeStatement::Act { key, .. } => Need::Key(*key),
-        ChangeStatement::Daily(function) => need_of_daily(bounds, function),
+        ChangeStatement::Daily(_) => daily_planning::daily_need(end),
     }
 }
 
-/// The same of a daily plan.
-pub(crate) fn need_of_daily(bounds: Option<Bounds>, function: &DailyFunction) -> Need
-    ensures { result ≡ need_of_daily bounds function.now }
-{
-    match function {
-        DailyFunction::Extend { to } => Need::Daily(*to),
-        DailyFunction::ExtendBy { .. } => Need::LongTerm,
-        DailyFunction::Replan => daily_planning::replan_need(bounds),
-    }
-}
-
-/// The verdict on a change.
-pub(crate) fn decide(alloc: Global, view: &View<'_>, job: JobChange) -> Result<Verdict, AllocError>
-    ensures { IfOk result (λ verdict. (c : Content) → Shows (need_of c.sets.bounds job) view.now c
-        → IsSound c
-        → VerdictIs (decision_of (job_change job)) c verdict) }
+/// The verdict on a change, where a daily plan has that end.
+pub(crate) fn decide(
+    alloc: Global,
+    view: &View<'_>,
+    end: &Option<Moment>,
+    job: JobChange,
+) -> Result<Verdict, AllocError>
+    ensures { IfOk result (λ verdict. (c : Content) → IsEndOf c (daily_of job) end.now
+        → Shows (need_of end.now job) view.now c
+        → IsSound c → VerdictIs (decision_of (job_change job)) c verdict) }
 {
     match job {
         JobChange::Define(block) => Ok(define(alloc, block)),
-        JobChange::Statement(change) => decide_change(alloc, view, &change),
+        JobChange::Statement(change) => decide_change(alloc, view, *end, &change),
     }
 }
 
@@ -78,10 +98,11 @@ pub(crate) fn decide(alloc: Global, view: &View<'_>, job: JobChange) -> Result<V
 fn decide_change(
     alloc: Global,
     view: &View<'_>,
+    end: Option<Moment>,
     change: &ChangeStatement,
 ) -> Result<Verdict, AllocError>
-    ensures { IfOk result (λ verdict. (c : Content)
-        → Shows (need_of_change c.sets.bounds change.now) view.now c
+    ensures { IfOk result (λ verdict. (c : Content) → IsEndOf c (daily_in change.now) end
+        → Shows (need_of_change end change.now) view.now c
         → IsSound c → VerdictIs (decision_of (change_of change.now)) c verdict) }
 {
     match change {
@@ -91,7 +112,7 @@ fn decide_change(
         ChangeStatement::Plan(function) => decide_plan(alloc, view, function),
         ChangeStatement::Add { key } => long_term_plan::add(alloc, view, key),
         ChangeStatement::Delete { key } => long_term_plan::delete(alloc, view, key),
-        ChangeStatement::Daily(function) => decide_daily(alloc, view, function),
+        ChangeStatement::Daily(function) => decide_daily(alloc, view, end, function),
         ChangeStatement::AddCurrent { key } => daily_planning::cp_add(alloc, view, key),
         ChangeStatement::Act { action, key } => {
             daily_planning::cp_action(alloc, view, key, *action)
@@ -116,21 +137,20 @@ pub(crate) fn decide_plan(
     }
 }
 
-/// The verdict on a daily plan.
+/// The verdict on a daily plan that has that end.
 pub(crate) fn decide_daily(
     alloc: Global,
     view: &View<'_>,
+    end: Option<Moment>,
     function: &DailyFunction,
 ) -> Result<Verdict, AllocError>
-    ensures { IfOk result (λ verdict. (c : Content)
-        → Shows (need_of_daily c.sets.bounds function.now) view.now c
+    ensures { IfOk result (λ verdict. (c : Content) → IsEnd c function.now end
+        → Shows (daily_need end) view.now c
         → IsSound c → VerdictIs (decision_of (daily_change function.now)) c verdict) }
 {
     match function {
         DailyFunction::Extend { to } => daily_planning::extend(alloc, view, *to),
-        DailyFunction::ExtendBy { days, count } => {
-            daily_planning::extend_by(alloc, view, *days, count_of(*count))
-        }
+        DailyFunction::ExtendBy { .. } => daily_planning::extend_by(alloc, view, end),
         DailyFunction::Replan => daily_planning::replan(alloc, view),
     }
 }

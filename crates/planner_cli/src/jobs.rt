@@ -10,14 +10,17 @@ ghost use Rattle.plan_store.specs.Changes.{Fits, after};
 ghost use Rattle.statements.specs.JobNumber.{IsJobNumber};
 ghost use Rattle.planner_cli.specs.Outcomes.{answering};
 ghost use Rattle.planner_cli.specs.Stores.{AnswersBy, ReadsBy};
-ghost use Rattle.planner_cli.specs.Verdicts.{FitsVerdict, IsKeptAnswer, answer_in, job_change, job_left, left_by};
+ghost use Rattle.planner_cli.specs.Verdicts.{FitsVerdict, IsEndOf, IsKeptAnswer, answer_in, daily_of, job_change};
+ghost use Rattle.planner_cli.specs.Verdicts.{job_left, left_by};
 
 use crate::answers::{Printed, print_alone};
-use crate::decisions::{JobChange, decide, need_of};
+use crate::decisions::{JobChange, daily_of, decide, need_of};
+use crate::ends::find_end;
 use occurrences::{Refusal, Reply};
 use plan_store::{Change, PlanStore, StoreFault, Verdict};
-use planner_machine::{Answer, Bounds, Job, JobText, streams};
+use planner_machine::{Answer, Job, JobText, streams};
 use std::alloc::Global;
+use work_calendars::Moment;
 
 /// Answers a change that carries a job number. A job that is kept under the number is answered as then, or refused
 /// where its text is another (12), and nothing changes.
@@ -85,15 +88,20 @@ fn perform<S: PlanStore>(
         × AnswersJob number text (decision_of (job_change change)) (S.content store.old) answer c
         × (reply ≡ answering answer)) }
 {
-    let bounds = store.bounds()?;
-    perform_within(alloc, store, bounds, number, text, change)
+    match daily_of(&change) {
+        Some(function) => {
+            let end = find_end(alloc, store, &function)?;
+            perform_within(alloc, store, end, number, text, change)
+        }
+        None => perform_within(alloc, store, None, number, text, change),
+    }
 }
 
-// The same where it is known how far the plans reach.
+// The same where the end of a daily plan is known.
 fn perform_within<S: PlanStore>(
     alloc: Global,
     store: &mut S,
-    bounds: Option<Bounds>,
+    end: Option<Moment>,
     number: u64,
     text: JobText,
     change: JobChange,
@@ -102,16 +110,16 @@ fn perform_within<S: PlanStore>(
     requires well_formed { IsWellFormed (job_change change) }
     requires sound { S.is_honest store.old → IsSound (S.content store.old) }
     requires new { S.is_honest store.old → (S.content store.old).jobs number ≡ None }
-    requires reach { S.is_honest store.old → bounds ≡ (S.content store.old).sets.bounds }
+    requires ends { S.is_honest store.old → IsEndOf (S.content store.old) (daily_of change) end }
     ensures { AnswersBy S.PlanStore store.old store.new result (λ reply c.
         (answer : AnswerValue)
         × AnswersJob number text (decision_of (job_change change)) (S.content store.old) answer c
         × (reply ≡ answering answer)) }
 {
     streams();
-    let need = need_of(bounds, &change);
+    let need = need_of(end, &change);
     let view = store.read_window(need)?;
-    let Ok(verdict) = decide(alloc, &view, change) else {
+    let Ok(verdict) = decide(alloc, &view, &end, change) else {
         return Err(StoreFault::Memory);
     };
     settle(alloc, store, number, text, verdict)

@@ -24,7 +24,7 @@ use crate::steps::{answer_change, answer_define, answer_with_data};
 use crate::tally::Tally;
 use crate::trials::{answer_daily_trial, answer_plan_trial};
 use crate::writing::{write_answer, write_out};
-use app_occurrences::CalendarIndex;
+use app_occurrences::CalendarIndexes;
 use plan_store::PlanStore;
 use planner_machine::streams;
 use statements::{Statement, read_statement};
@@ -93,7 +93,7 @@ fn answer_all<S: PlanStore, R: BufRead, W: Write>(
 {
     streams();
     let mut page = Page::new(alloc);
-    let mut kept = None;
+    let mut kept = CalendarIndexes::new(alloc);
     let mut tally = Tally::new();
     for _ in 0..u64::MAX {
         if let Err(fault) = page.read_item(reader) {
@@ -115,7 +115,7 @@ fn answer_all<S: PlanStore, R: BufRead, W: Write>(
 fn answer_one<S: PlanStore, W: Write>(
     alloc: Global,
     store: &mut S,
-    kept: &mut Option<CalendarIndex>,
+    kept: &mut CalendarIndexes,
     item: Item<'_>,
     writer: &mut W,
 ) -> Result<bool, Cause>
@@ -141,7 +141,7 @@ fn answer_one<S: PlanStore, W: Write>(
 fn answer_alone<S: PlanStore, W: Write>(
     alloc: Global,
     store: &mut S,
-    kept: &mut Option<CalendarIndex>,
+    kept: &mut CalendarIndexes,
     line: &[u8],
     writer: &mut W,
 ) -> Result<bool, Cause>
@@ -163,7 +163,7 @@ fn answer_alone<S: PlanStore, W: Write>(
 fn answer_statement<S: PlanStore, W: Write>(
     alloc: Global,
     store: &mut S,
-    kept: &mut Option<CalendarIndex>,
+    kept: &mut CalendarIndexes,
     line: &[u8],
     statement: &Statement,
     writer: &mut W,

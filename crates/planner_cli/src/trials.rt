@@ -12,23 +12,27 @@ ghost use Rattle.plan_store.specs.Views.{IsAny, ListsSet, Shows};
 ghost use Rattle.plan_store.specs.declared.stores.Need.TheVariants.{LongTerm};
 ghost use Rattle.statements.specs.declared.statements.DailyFunction.{DailyFunction as DailyValue};
 ghost use Rattle.statements.specs.declared.statements.PlanFunction.{PlanFunction as PlanValue};
+ghost use Rattle.daily_planning.specs.DailyPlans.{daily_need};
 ghost use Rattle.planner_cli.specs.Changes.{daily_change, plan_change};
 ghost use Rattle.planner_cli.specs.Steps.{Serves, PrintsTrial};
 ghost use Rattle.planner_cli.specs.Stores.{AnswersBy};
 ghost use Rattle.occurrences.specs.declared.place.CurrentRow.{CurrentRow as CurrentRowValue};
 ghost use Rattle.planner_cli.specs.Rows.{daily_signed};
 ghost use Rattle.planner_cli.specs.Trials.{daily_changes};
-ghost use Rattle.planner_cli.specs.Verdicts.{need_of_daily};
+ghost use Rattle.planner_cli.specs.Verdicts.{IsDone, IsEnd};
 
 use crate::answers::{Printed, accepted, refused};
-use crate::decisions::{decide_daily, decide_plan, need_of_daily};
+use crate::decisions::{decide_daily, decide_plan};
+use crate::ends::find_end;
 use crate::well_formed::plan_is_well_formed;
+use daily_planning::daily_need;
 use occurrences::{CurrentRow, Row, Status};
 use plan_listings::{dp_report, ltp_report};
 use plan_store::{Need, PlanStore, StoreFault, Verdict, View};
-use planner_machine::{Bounds, fate_is_followed, sound_content_stays_sound};
+use planner_machine::{fate_is_followed, sound_content_stays_sound};
 use statements::{DailyFunction, PlanFunction};
 use std::alloc::{AllocError, Global};
+use work_calendars::Moment;
 
 /// Shows what a change of the long-term plan would do.
 pub(crate) fn answer_plan_trial<S: PlanStore>(
@@ -86,48 +90,49 @@ pub(crate) fn answer_daily_trial<S: PlanStore>(
     ensures { AnswersBy S.PlanStore store.old store.new result
         (Serves (Trial (daily_change function.now)) (S.content store.old)) }
 {
-    let bounds = store.bounds()?;
-    answer_within(alloc, store, bounds, function)
+    let end = find_end(alloc, store, function)?;
+    answer_within(alloc, store, end, function)
 }
 
-// The same where it is known how far the plans reach.
+// The same where the end is known.
 fn answer_within<S: PlanStore>(
     alloc: Global,
     store: &mut S,
-    bounds: Option<Bounds>,
+    end: Option<Moment>,
     function: &DailyFunction,
 ) -> Result<Printed, StoreFault>
     requires sound { S.is_honest store.old → IsSound (S.content store.old) }
-    requires reach { S.is_honest store.old → bounds ≡ (S.content store.old).sets.bounds }
+    requires ends { S.is_honest store.old → IsEnd (S.content store.old) function.now end }
     ensures { AnswersBy S.PlanStore store.old store.new result
         (Serves (Trial (daily_change function.now)) (S.content store.old)) }
 {
-    let view = store.read_window(need_of_daily(bounds, function))?;
-    Ok(daily_trial(alloc, &view, function)?)
+    let view = store.read_window(daily_need(end))?;
+    Ok(daily_trial(alloc, &view, end, function)?)
 }
 
-// What a trial of a daily plan prints.
+// What a trial of a daily plan that has that end prints.
 fn daily_trial(
     alloc: Global,
     view: &View<'_>,
+    end: Option<Moment>,
     function: &DailyFunction,
 ) -> Result<Printed, AllocError>
-    ensures { IfOk result (λ printed. (c : Content)
-        → Shows (need_of_daily c.sets.bounds function.now) view.now c
+    ensures { IfOk result (λ printed. (c : Content) → IsEnd c function.now end
+        → Shows (daily_need end) view.now c
         → IsSound c → PrintsTrial (daily_change function.now) c printed) }
 {
-    let verdict = decide_daily(alloc, view, function)?;
+    let verdict = decide_daily(alloc, view, end, function)?;
     print_daily(alloc, view.cp(), &verdict)
 }
 
-// What a trial prints of the verdict on a daily plan, over these rows of the current plan.
+// What a trial prints of the verdict on a daily plan, which changes these rows of the current plan.
 fn print_daily(
     alloc: Global,
     current: &[CurrentRow],
     verdict: &Verdict,
 ) -> Result<Printed, AllocError>
     ensures { IfOk result (λ printed. (function : DailyValue) (c : Content) → IsSound c
-        → ListsSet of_current c.sets.cp IsAny current.now
+        → (IsDone verdict.now → ListsSet of_current c.sets.cp IsAny current.now)
         → VerdictIs (decision_of (daily_change function)) c verdict.now
         → PrintsTrial (daily_change function) c printed) }
 {

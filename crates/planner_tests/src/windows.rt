@@ -1,4 +1,5 @@
 //! Windows over a plan: they show what their need names, and no more.
+use external_dependencies::Pair;
 use occurrences::{CurrentRow, Key, Row, Serial};
 use plan_store::{ListStore, Need, PlanStore, View};
 use planner_cli::run;
@@ -6,45 +7,71 @@ use std::alloc::Global;
 use std::process::Abort;
 use work_calendars::{App, Moment};
 
-/// A and B follow A, on four days, of which two are planned: A has 1, 3, 5 and 7, and B has 2, 4, 6 and 8. Those of A on
-/// the first two days are history, B waits on the first day, and an operator deleted it on the second and the third.
+/// A and B follow A, and nothing follows C, on three days, of which two are planned: A has 1, 4 and 7, B has 2, 5 and 8,
+/// and C has 3, 6 and 9. Those of A on the first two days and that of C on the first are history; B waits on the first
+/// day and has started on the second; an operator deleted C on the second and the third.
 const PLAN: &[u8] = b"define calendars --job 1\nDEFAULT,SAT,FREE\nDEFAULT,SUN,FREE\n/*\n\
     define periods --job 2\nDAY,A,2024-01-01,1\n/*\n\
-    define applications --job 3\nA,A,\nB,A,\n/*\n\
-    define run-cycles --job 4\nA,RC,N,DAY,4,1,2024-01-01,,08.00,0,18.00\nB,RC,N,DAY,4,1,2024-01-01,,08.00,0,18.00\n/*\n\
+    define applications --job 3\nA,A,\nB,A,\nC,A,\n/*\n\
+    define run-cycles --job 4\nA,RC,N,DAY,4,1,2024-01-01,,08.00,0,18.00\nB,RC,N,DAY,4,1,2024-01-01,,08.00,0,18.00\n\
+    C,RC,N,DAY,4,1,2024-01-01,,08.00,0,18.00\n/*\n\
     define predecessors --job 5\nA,A\nB,A\n/*\n\
-    ltp-create --from 2024-01-01 --to 2024-01-04 --job 6\n\
-    ltp-delete --app B --ia 2024-01-02/08.00 --job 7\n\
+    ltp-create --from 2024-01-01 --to 2024-01-03 --job 6\n\
+    ltp-delete --app C --ia 2024-01-02/08.00 --job 7\n\
     dp-extend --to 2024-01-03/00.00 --job 8\n\
     cp-start --app A --ia 2024-01-01/08.00 --job 9\n\
     cp-complete --app A --ia 2024-01-01/08.00 --job 10\n\
     cp-start --app A --ia 2024-01-02/08.00 --job 11\n\
     cp-complete --app A --ia 2024-01-02/08.00 --job 12\n\
-    dp-replan --job 13\n\
-    ltp-delete --app B --ia 2024-01-03/08.00 --job 14\n";
+    cp-start --app C --ia 2024-01-01/08.00 --job 13\n\
+    cp-complete --app C --ia 2024-01-01/08.00 --job 14\n\
+    dp-replan --job 15\n\
+    cp-start --app B --ia 2024-01-02/08.00 --job 16\n\
+    ltp-delete --app C --ia 2024-01-03/08.00 --job 17\n";
 
 /// What a window shows, each as the digits of serials: the rows of the long-term plan, those of the current plan, those
-/// of history, the successors of pairs, and the deletions.
-type Shown = [u64; 5];
+/// of history, the successors of pairs, their predecessors, and the deletions.
+type Shown = [u64; 6];
 
 /// A need as words, and what a window for it shows.
 type Case = (&'static str, &'static str, &'static str, Shown);
 
-/// One after another on one store, so that each shows its own.
-const CASES: [Case; 8] = [
-    ("definitions", "", "", [0, 0, 0, 0, 0]),
+/// One after another on one store, so that each shows its own. The pairs are 2 after 1, 7 after 4 and 8 after 7 of what
+/// is open, and 5 after 4 and 4 after 1 of what is not.
+const CASES: [Case; 10] = [
+    ("definitions", "", "", [0, 0, 0, 0, 0, 0]),
     // It ends before its moment.
-    ("daily", "", "2024-01-03/08.00", [0, 2, 0, 0, 0]),
-    ("key", "A", "2024-01-03/08.00", [578, 2, 3, 2578, 0]),
-    ("daily", "", "2024-01-03/08.01", [5, 2, 0, 0, 0]),
-    // Before the key stands 1, and before what it may reach, which is 5, stands 3.
-    ("key", "A", "2024-01-02/07.59", [578, 2, 13, 2578, 0]),
-    // What is complete may precede it, and nothing follows it.
-    ("key", "B", "2024-01-01/08.00", [578, 2, 1, 2578, 0]),
-    // 1 may precede what waits, and 3 is the last; of the deletions only 6 arrives from the plan end on.
-    ("long-term", "", "", [578, 2, 13, 2578, 6]),
-    ("definitions", "", "", [0, 0, 0, 0, 0]),
+    ("daily", "", "2024-01-03/08.00", [0, 25, 0, 0, 0, 0]),
+    ("daily", "", "2024-01-03/08.01", [78, 25, 0, 0, 0, 0]),
+    ("key", "A", "2024-01-03/08.00", [78, 25, 4, 278, 147, 0]),
+    // Of A the last then, and nothing for what follows it.
+    ("key", "A", "2024-01-02/07.59", [78, 25, 1, 278, 147, 0]),
+    // What arrives with it may precede it, where another application lists it.
+    ("key", "B", "2024-01-01/08.00", [78, 25, 1, 278, 147, 0]),
+    // It has started, and its pair is shown for its own key alone.
+    ("key", "B", "2024-01-02/08.00", [78, 25, 4, 2578, 1447, 0]),
+    // The last of its own application, which no list names.
+    ("key", "C", "2024-01-02/08.00", [78, 25, 3, 278, 147, 0]),
+    // 1 for what waits, and 4 at the plan end; 3 is of no list; of the deletions 9 alone arrives from the plan end on.
+    ("long-term", "", "", [78, 25, 14, 278, 147, 9]),
+    ("definitions", "", "", [0, 0, 0, 0, 0, 0]),
 ];
+
+/// A and B follow A on two days, of which the first is planned: 1, of A, is complete and in history.
+const TWO_DAYS: &[u8] = b"define calendars --job 1\nDEFAULT,SAT,FREE\nDEFAULT,SUN,FREE\n/*\n\
+    define periods --job 2\nDAY,A,2024-01-01,1\n/*\n\
+    define applications --job 3\nA,A,\nB,A,\n/*\n\
+    define run-cycles --job 4\nA,RC,N,DAY,4,1,2024-01-01,,08.00,0,18.00\nB,RC,N,DAY,4,1,2024-01-01,,08.00,0,18.00\n/*\n\
+    define predecessors --job 11\nA,A\nB,A\n/*\n\
+    ltp-create --from 2024-01-01 --to 2024-01-02 --job 5\n\
+    dp-extend --to 2024-01-02/08.00 --job 6\n\
+    cp-start --app B --ia 2024-01-01/08.00 --job 12\n\
+    cp-start --app A --ia 2024-01-01/08.00 --job 13\n\
+    cp-complete --app A --ia 2024-01-01/08.00 --job 14\n\
+    dp-replan --job 15\n";
+
+/// A daily plan to the end of the last day sees 2, 3 and 4 alone.
+const TO_THE_END: [Case; 1] = [("daily", "", "2024-01-03/00.00", [34, 2, 0, 0, 0, 0])];
 
 /// The need of a case.
 fn need_of(what: &str, app: &str, moment: &str) -> Option<Need> {
@@ -82,28 +109,44 @@ fn current_serials_of(rows: &[CurrentRow]) -> u64 {
     number
 }
 
-/// How many pairs the window shows of the successor.
-fn pairs_of(view: &View<'_>, number: u32) -> usize {
+/// The pairs that the window shows of the successor.
+fn pairs_of<'a>(view: &View<'a>, number: u32) -> &'a [Pair] {
     match Serial::new(number) {
-        Some(successor) => view.pairs_of_successor(successor).len(),
-        None => 0,
+        Some(successor) => view.pairs_of_successor(successor),
+        None => &[],
     }
 }
 
 /// The successors of pairs that the window shows.
 fn successors_in(view: &View<'_>) -> u64 {
     let mut number: u64 = 0;
-    for serial in 1..9u32 {
-        if pairs_of(view, serial) > 0 {
+    for serial in 1..10u32 {
+        if !pairs_of(view, serial).is_empty() {
             number = with_digit(number, serial);
         }
     }
     number
 }
 
-/// Whether the window shows that an operator deleted B then.
+/// The predecessors of those pairs, each by the row that comes with the pair.
+fn predecessors_in(view: &View<'_>) -> u64 {
+    let mut number: u64 = 0;
+    for serial in 1..10u32 {
+        let Some(successor) = Serial::new(serial) else {
+            continue;
+        };
+        for pair in view.pairs_of_successor(successor) {
+            if let Some(placed) = view.predecessor(pair) {
+                number = with_digit(number, placed.row.serial.get());
+            }
+        }
+    }
+    number
+}
+
+/// Whether the window shows that an operator deleted C then.
 fn shows_deleted(view: &View<'_>, moment: &str) -> bool {
-    match (Moment::from_text(moment), App::from_text("B")) {
+    match (Moment::from_text(moment), App::from_text("C")) {
         (Some(ia), Some(app)) => view.is_deleted_by_operator(&Key { ia, app }),
         _ => false,
     }
@@ -113,17 +156,17 @@ fn shows_deleted(view: &View<'_>, moment: &str) -> bool {
 fn deleted_in(view: &View<'_>) -> u64 {
     let mut number: u64 = 0;
     if shows_deleted(view, "2024-01-02/08.00") {
-        number = with_digit(number, 4);
+        number = with_digit(number, 6);
     }
     if shows_deleted(view, "2024-01-03/08.00") {
-        number = with_digit(number, 6);
+        number = with_digit(number, 9);
     }
     number
 }
 
-/// What the window shows; nothing where it lacks the calendar, or the number of serials issued.
+/// What the window shows; nothing where it lacks the calendar, or how many serials are issued.
 fn shown_in(view: &View<'_>) -> Option<Shown> {
-    if view.definitions().calendars.len() != 1 || view.issued() != 8 {
+    if view.definitions().calendars.len() != 1 || view.issued() == 0 {
         return None;
     }
     Some([
@@ -131,6 +174,7 @@ fn shown_in(view: &View<'_>) -> Option<Shown> {
         current_serials_of(view.cp()),
         serials_of(view.lasts()),
         successors_in(view),
+        predecessors_in(view),
         deleted_in(view),
     ])
 }
@@ -144,17 +188,20 @@ fn shown(store: &mut ListStore, need: Need) -> Option<Shown> {
 }
 
 /// Tries each case on the store.
-fn try_cases(rt: &impl Abort, store: &mut ListStore) {
-    for (what, app, moment, wanted) in CASES {
+fn try_cases(rt: &impl Abort, store: &mut ListStore, cases: &[Case]) {
+    for (what, app, moment, wanted) in cases {
         let need = need_of(what, app, moment).expect(rt, "a need");
-        assert!(rt; shown(store, need) == Some(wanted), "{what} {app} {moment}");
+        assert!(rt;
+            shown(store, need) == Some(*wanted),
+            "{what} {app} {moment}"
+        );
     }
 }
 
 /// A new store after the stream.
-fn planned(rt: &impl Abort, alloc: Global) -> ListStore {
+fn planned(rt: &impl Abort, alloc: Global, stream: &[u8]) -> ListStore {
     let mut store = ListStore::new(alloc);
-    let mut reader = PLAN;
+    let mut reader = stream;
     let is_run = run(alloc, &mut store, &mut reader, &mut Vec::new(alloc)).is_ok();
     assert!(rt; is_run, "a run");
     store
@@ -162,6 +209,12 @@ fn planned(rt: &impl Abort, alloc: Global) -> ListStore {
 
 #[test]
 fn windows_show_what_their_needs_name(rt: HostRuntime) {
-    let mut store = planned(&rt, rt.alloc());
-    try_cases(&rt, &mut store);
+    let mut store = planned(&rt, rt.alloc(), PLAN);
+    try_cases(&rt, &mut store, &CASES);
+}
+
+#[test]
+fn daily_window_shows_three_rows(rt: HostRuntime) {
+    let mut store = planned(&rt, rt.alloc(), TWO_DAYS);
+    try_cases(&rt, &mut store, &TO_THE_END);
 }

@@ -1,5 +1,5 @@
 -- Pairs are told apart by their serials.
-use Rattle.std.proofs.Common.{◌≡◌, Bool, true, false, Decides, List, refl}
+use Rattle.std.proofs.Common.{◌≡◌, true, false, Decides, List, refl}
 use Rattle.std.specs.List.{Contains}
 use Rattle.external_dependencies.proofs.PairLemmas.{pair_ties}
 use Rattle.external_dependencies.specs.declared.pairs.Pair.{Pair}

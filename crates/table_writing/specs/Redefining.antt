@@ -66,7 +66,7 @@ moved_by (Some k) bounds issued options moves all = kind_moved k bounds issued o
 abbrev pub definitions_moved : Option Bounds → ℕ → Options → DefinitionMoves → Tables → Tables
 definitions_moved bounds issued options moves all = moved_by moves.kind bounds issued options moves all
 
--- a whole change; the content has the new definitions
+-- a whole change; the content has the new options
 abbrev pub written : Content → DefinitionMoves → Change → Tables → Tables
 written c moves change all = plans_written c change
     (definitions_moved c.sets.bounds c.sets.issued c.definitions.options moves all)

@@ -111,7 +111,7 @@ TakesKind (Some kind.Predecessors) bounds issued options moves all =
 TakesKind (Some kind.RunCycles) bounds issued options moves all = TakesCycles moves all
 TakesKind (Some kind.Options) bounds issued options moves all = TakesMeta bounds issued options all
 
--- a whole change; the content has the new definitions
+-- a whole change; the content has the new options
 abbrev pub TakesChange : Content → DefinitionMoves → Change → Tables → Type 0
 TakesChange c moves change all =
     TakesKind moves.kind c.sets.bounds c.sets.issued c.definitions.options moves all

@@ -82,7 +82,8 @@ fn write_plans<S: Alter>(
     requires rising { IsRising pair_cmp pairs.now }
     requires number { IfSome change.now.job (λ (job : JobValue). job.number < 2 ^ 63) }
     requires line { IfSome change.now.job (λ (job : JobValue). line.now ≡ answer_text job.reply) }
-    ensures { WritesTaking (λ _. ⊤) (TakesPlans (with_pairs_of pairs.now (content_of old.now)) change.now)
+    ensures { WritesTaking (λ _. ⊤)
+        (TakesPlans (with_pairs_of pairs.now (content_of old.now)) change.now)
         S.Store tx.old tx.new result
         (plans_written (with_pairs_of pairs.now (content_of old.now)) change.now) }
 {
@@ -93,7 +94,7 @@ fn write_plans<S: Alter>(
     write_job(tx, &change.job, line)
 }
 
-/// Makes a change in the tables of a content, which has its definitions already, in a transaction that is open. Its
+/// Makes a change in the tables of a content, which has its options already, in a transaction that is open. Its
 /// pairs are given beside it. The line is that of the answer of its job.
 pub(crate) fn write_change<S: Alter>(
     tx: &mut Transaction<'_, S>,
@@ -117,7 +118,7 @@ pub(crate) fn write_change<S: Alter>(
     write_plans(tx, alloc, content, pairs, change, line)
 }
 
-/// Makes a change in the tables of a content, which has its definitions already, in one transaction: all of it or
+/// Makes a change in the tables of a content, which has its options already, in one transaction: all of it or
 /// nothing, also over a crash, which leaves a database with the tables of a plan. The content's pairs are given beside
 /// it, in rising order: they may be out of it meanwhile. The line is that of the answer of its job.
 pub fn commit_change<S: Alter>(
@@ -138,8 +139,9 @@ pub fn commit_change<S: Alter>(
         (HasRows (written (with_pairs_of pairs.now (content_of content.now)) moves.now change.now))
         (MayFailWhere (TakesChange (with_pairs_of pairs.now (content_of content.now)) moves.now
         change.now))
-        (λ old. HoldsWritten old (written (with_pairs_of pairs.now (content_of content.now)) moves.now
-        change.now (tables_of old.now.trees))) }
+        (λ old. HoldsWritten old
+        (written (with_pairs_of pairs.now (content_of content.now)) moves.now change.now
+        (tables_of old.now.trees))) }
 {
     let settled = conn.is_autocommit();
     prove!(settled);

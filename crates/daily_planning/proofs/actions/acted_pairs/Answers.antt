@@ -1,4 +1,4 @@
-use Rattle.std.proofs.Common.{◌≡◌, true, inl, inr, sym, subst}
+use Rattle.std.proofs.Common.{Some, inl, inr, sym, subst}
 use Rattle.std.specs.Prelude.{IfOk, Result, Ok, Err}
 use Rattle.occurrences.specs.declared.status.Action.{Action}
 use Rattle.external_dependencies.specs.declared.change.PairChange.{PairChange}
@@ -9,10 +9,9 @@ use Rattle.planner_machine.specs.Sound.{IsSound}
 use Rattle.planner_machine.proofs.SoundLemmas.{rows_sound}
 use Rattle.plan_store.specs.Changes.{pairs_after}
 use Rattle.plan_store.specs.Asked.{AsksKey}
-use Rattle.plan_store.specs.Views.{Hidden, Sees, is_planned, shown, with_hidden}
-use Rattle.plan_pairs.proofs.PartLemmas.{planned_cp}
+use Rattle.plan_store.specs.Views.{Hidden, Sees, with_hidden}
 use Rattle.plan_store.proofs.PairLemmas.{leads_nowhere}
-use Rattle.daily_planning.specs.Actions.{ArePairsActed, IsActedOn, LeadsToRowPairs}
+use Rattle.daily_planning.specs.Actions.{ArePairsActed, IsActedOn, IsLiveCurrent, LeadsToRowPairs}
 use Rattle.daily_planning.specs.Statuses.{LeavesPairs}
 use Rattle.daily_planning.proofs.ActLemmas.{deletion_loses}
 use Rattle.daily_planning.proofs.ChangeLemmas.{no_pairs_move}
@@ -50,24 +49,25 @@ returns-in-Start-clause-leads c h sound sees acted =
 pub returns-in-Reset-clause-pairs : goal.returns-in-Reset-clause-pairs
 returns-in-Reset-clause-pairs c = weaker c.reset_pairs.result
     (λ (change : PairChange). (h : Hidden) → IsSound (with_hidden h c.args.view.now)
-    → Sees (AsksKey (with_hidden h c.args.view.now) c.args.changed.now.row.key) h c.args.view.now
-    → is_planned (shown c.args.view.now).sets.ltp (shown c.args.view.now).sets.cp c.args.changed.now.row.serial ≡ true
+    → Sees (Some c.args.changed.now.row.key) (AsksKey (with_hidden h c.args.view.now) c.args.changed.now.row.key) h
+    c.args.view.now
+    → IsLiveCurrent (with_hidden h c.args.view.now).sets c.args.changed.now.row
     → LeadsToRowPairs (with_hidden h c.args.view.now) c.args.changed.now.row change) _ (λ change leads h sound sees acted.
     let content = with_hidden h c.args.view.now in
     let changed = c.args.changed.now in
     let reset = subst (λ (a : Action). IsActedOn content a changed) c.in-Reset.is acted in
     subst (λ (a : Action). ArePairsActed content a changed (pairs_after change content.pairs)) (sym c.in-Reset.is)
-    (reset_are content sound changed reset change (leads h sound sees
-    (planned_cp (with_hidden h c.args.view.now).sets c.args.changed.now.row.serial _ acted.stands)))) c.reset_pairs.ensures
+    (reset_are content sound changed reset change (leads h sound sees (acted.was, acted.stands, acted.live)))) c.reset_pairs.ensures
 
 pub returns-in-Reset-clause-leads : goal.returns-in-Reset-clause-leads
 returns-in-Reset-clause-leads c = weaker c.reset_pairs.result
     (λ (change : PairChange). (h : Hidden) → IsSound (with_hidden h c.args.view.now)
-    → Sees (AsksKey (with_hidden h c.args.view.now) c.args.changed.now.row.key) h c.args.view.now
-    → is_planned (shown c.args.view.now).sets.ltp (shown c.args.view.now).sets.cp c.args.changed.now.row.serial ≡ true
+    → Sees (Some c.args.changed.now.row.key) (AsksKey (with_hidden h c.args.view.now) c.args.changed.now.row.key) h
+    c.args.view.now
+    → IsLiveCurrent (with_hidden h c.args.view.now).sets c.args.changed.now.row
     → LeadsToRowPairs (with_hidden h c.args.view.now) c.args.changed.now.row change) _ (λ change leads h sound sees acted.
     reset_leads (with_hidden h c.args.view.now) c.args.changed.now.row change (leads h sound sees
-    (planned_cp (with_hidden h c.args.view.now).sets c.args.changed.now.row.serial _ acted.stands))) c.reset_pairs.ensures
+    (acted.was, acted.stands, acted.live))) c.reset_pairs.ensures
 
 pub returns-in-Delete-clause-pairs : goal.returns-in-Delete-clause-pairs
 returns-in-Delete-clause-pairs c = weaker c.pairs_without.result _ _ (λ (change : PairChange) without h sound sees acted.

@@ -1,9 +1,8 @@
-use Rattle.std.proofs.Common.{◌≡◌, ◌∙◌, rules, arith, length, refl, sym, ap, Some}
+use Rattle.std.proofs.Common.{◌≡◌, ◌∙◌, arith, length, refl, ap, Some}
 use Rattle.planner_machine.specs.DailyPlan.{waiting}
-use Rattle.plan_store.specs.Views.{shown}
-use Rattle.plan_store.proofs.WindowLemmas.{daily_cp, daily_same, early_lists}
 use Rattle.plan_store.specs.declared.changes.Change.{Change}
 use Rattle.daily_planning.proofs.DailyLemmas.{daily_replied}
+use Rattle.daily_planning.proofs.DailyWindowLemmas.{daily_cp, daily_ltp}
 use Rattle.daily_planning.proofs.daily_plans.daily_plan.Goals as goal
 
 pub returns : goal.returns
@@ -22,8 +21,7 @@ returns c c' shows sound is =
     let rows = c.cp-rows.result.now in
     let moved = c.in_ok-moved.moved.items in
     let view = c.args.view.now in
-    let moved_list = early_lists t (shown view).sets.ltp c'.sets.ltp (daily_same t view c' shows) moved
-    c.in_ok-moved.ensures in
+    let moved_list = daily_ltp t view c' shows moved c.in_ok-moved.ensures in
     daily_replied t b c' sound is moved rows moved_list (daily_cp t view c' shows rows c.cp-rows.ensures.rows) change
     (record {
       definitions = nothing.definitions;

@@ -1,10 +1,8 @@
-use Rattle.std.proofs.Common.{◌∙◌, ap}
-use Rattle.work_calendars.specs.WorkIndex.{is_work_in}
 use Rattle.daily_planning.proofs.NewEndLemmas.{no_day_after, none_of}
 use Rattle.daily_planning.proofs.new_ends.day_after_work.Goals as goal
 
 pub returns-in-Some-clause-none : goal.returns-in-Some-clause-none
 returns-in-Some-clause-none c =
     none_of c.next.result c.next.ensures.valid (λ past.
-    no_day_after c.args.all.now c.args.from c.args.n c.in-Some.day c.index-2.result.now
-    (λ x. ap (λ s. is_work_in s x) c.index-2.ensures ∙ c.in_ok-index.ensures x) c.in-Some.ensures.some past)
+    no_day_after c.args.all.now c.args.from c.args.n c.in-Some.day c.in_ok-index.index
+    c.in_ok-index.ensures c.in-Some.ensures.some past)

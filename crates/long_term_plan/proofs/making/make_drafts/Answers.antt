@@ -48,8 +48,8 @@ returns c h sound sees known keeps =
     c.lasts.result.now c.lasts.ensures s rows [] made have plan touch touches (λ app. Unit {0}) c.in_ok-live.live
     (λ p. ((λ there. ((listed p).0 there, tt)), λ both. (listed p).1 both.0))
     (λ q there is_open reach. (tt, λ app names. tt)) (λ app. Unit {0}) c.in_ok-before.before
-    (λ q there is_open reach. tt) (λ row there. tt) (λ pair there. (c.in_ok-before.ensures pair).0 there)
-    (λ pair there app among planned. (c.in_ok-before.ensures pair).1 there) in
+    (λ q there is_open reach. tt) (λ row there. tt) (λ pair there. ((c.in_ok-before.ensures pair).0 there).0)
+    (λ pair there row is_open among same. (c.in_ok-before.ensures pair).1 (there, (row, is_open, same))) in
     let pairs = c.in_ok-pairs.ensures content.sets s content.in_force to.now h.pairs sound.pairs.settled to.turn holds in (
       making_is content sound b links new _ (record {
         gone = c.new.ensures.items;

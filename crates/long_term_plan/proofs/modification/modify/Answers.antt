@@ -1,5 +1,5 @@
 use Rattle.std.proofs.Common.{◌≡◌, ◌≢◌, ◌+◌, ◌++◌, ◌∙◌, ℕ, List, ap, arith, filter, length, refl, sym, subst}
-use Rattle.std.proofs.Common.{Option, Result, Ok, Err}
+use Rattle.std.proofs.Common.{Bool, Option, Result, Ok, Err}
 use Rattle.std.specs.Prelude.{IfOk, is_none}
 use Rattle.std.specs.List.{AllPairs, filter_map}
 use Rattle.std.proofs.lemmas.Bool.{false≢true}
@@ -16,12 +16,14 @@ use Rattle.plan_store.specs.declared.changes.Verdict.{Verdict}
 use Rattle.plan_store.specs.declared.changes.Verdict.TheVariants.{Done, Refused}
 use Rattle.plan_pairs.specs.LiveRows.{HasLists}
 use Rattle.plan_pairs.specs.Turns.{ArePlanned}
-use Rattle.long_term_plan.specs.Drafting.{DraftsRise, AreNew}
+use Rattle.long_term_plan.specs.Drafting.{AreNew, ArePlannedKeys, DraftsRise}
 use Rattle.long_term_plan.specs.Making.{numbered}
-use Rattle.long_term_plan.specs.Modifying.{AreChanged, IsModifiedOrTooMany, ModifiesRows, NamesThen, PartsPlan}
+use Rattle.long_term_plan.specs.Modifying.{AreChanged, AreMet, IsModifiedOrTooMany, ModifiesRows, NamesThen}
+use Rattle.long_term_plan.specs.Modifying.{PartsPlan}
 use Rattle.long_term_plan.specs.Modifying.{modified_sets, outcome}
 use Rattle.long_term_plan.proofs.ChangedLemmas.{lists_then}
 use Rattle.long_term_plan.proofs.DraftingLemmas.{named_late, new_are}
+use Rattle.long_term_plan.proofs.MetLemmas.{keys_planned}
 use Rattle.long_term_plan.proofs.ModifyPlanLemmas.{named_then, stays_sound, too_many}
 use Rattle.long_term_plan.proofs.NumberLemmas.{numbered_length}
 use Rattle.long_term_plan.proofs.PartingLemmas.{counts}
@@ -37,6 +39,11 @@ pub named_drafts-requires-clause-apart : goal.named_drafts-requires-clause-apart
 named_drafts-requires-clause-apart c =
     subst (λ (apps : List (List ℕ)). AllPairs (λ (a b : List ℕ). a ≢ b) apps) (sym c.as_slice.ensures.value)
     c.in_ok-apps.ensures.apart
+
+pub unmet_drafts-requires : goal.unmet_drafts-requires
+unmet_drafts-requires c =
+    ap length c.deref-3.ensures.value ∙ c.in_ok-parted.ensures.count
+    ∙ ap length (c.deref.ensures.value ∙ sym c.deref-2.ensures.value)
 
 pub change_rows-requires : goal.change_rows-requires
 change_rows-requires c =
@@ -54,22 +61,31 @@ returns-then-are_too_many c h sound sees known planned deleted =
     let looked = c.looked_rows-looked.result.now in
     let named = c.in_ok-named.named.items in
     let new = c.in_ok-new.new.items in
-    let gone = c.in_ok-gone.gone.items in
-    let changed = c.in_ok-changed.changed.items in
+    let gone = c.in_ok-parted.parted.gone.items in
+    let changed = c.in_ok-parted.parted.changed.items in
+    let met = c.in_ok-parted.parted.met.items in
     let kept = filter_map (outcome only named) rows in
     let are_named = named_then content sound c.args.bounds.now planned only c.definitions-all.result.now
     c.definitions-all.ensures c.in_ok-apps.apps.items c.as_slice.result.now c.in_ok-apps.ensures
     c.as_slice.ensures.value
     c.last_planned-last.result c.last_planned-last.ensures.same named named c.in_ok-named.ensures refl in
+    let are_met : AreMet looked named met =
+    subst (λ (ds : List Draft). DraftsRise ds → AreMet looked ds met) c.deref.ensures.value
+    c.in_ok-parted.ensures.met are_named.rising in
+    let keys : ArePlannedKeys content.sets c.deref-2.result.now c.deref-3.result.now =
+    subst (λ (ds : List Draft). ArePlannedKeys content.sets ds c.deref-3.result.now) (sym c.deref-2.ensures.value)
+    (subst (λ (bs : List Bool). ArePlannedKeys content.sets named bs) (sym c.deref-3.ensures.value)
+    (keys_planned content sound only c.args.bounds.now planned looked c.looked_rows-looked.ensures named are_named met
+    are_met)) in
     let are_new : AreDrafts (IsMade (NamesThen content only) content.sets) new =
     new_are (NamesThen content only) content.sets named new are_named
-    (subst (λ (ds : List Draft). AreNew content.sets ds new) c.deref.ensures.value
+    (subst (λ (ds : List Draft). AreNew content.sets ds new) c.deref-2.ensures.value
     (c.in_ok-new.ensures h (λ draft there. deleted draft.key (named_late content sound c.definitions-all.result.now
-    c.definitions-all.ensures c.as_slice.result.now c.args.bounds.now.plan_end _ named c.deref.result.now
-    c.in_ok-named.ensures c.deref.ensures.value draft there)))) in
+    c.definitions-all.ensures c.as_slice.result.now c.args.bounds.now.plan_end _ named c.deref-2.result.now
+    c.in_ok-named.ensures c.deref-2.ensures.value draft there)) keys)) in
     let go : gone ≡ filter (λ (r : Row). is_none (outcome only named r)) rows =
     subst (λ (ds : List Draft). DraftsRise ds → gone ≡ filter (λ (r : Row). is_none (outcome only ds r)) looked)
-    c.deref-2.ensures.value c.in_ok-gone.ensures are_named.rising
+    c.deref.ensures.value c.in_ok-parted.ensures.gone are_named.rising
     ∙ gone_same content.sets only named rows c.ltp-rows.ensures.rows looked c.looked_rows-looked.ensures in
     let counted : length kept + length c.deref-4.result.now ≡ size content.sets.ltp content.sets.issued =
     ap (λ (l : List Row). length kept + length l) (c.deref-4.ensures.value ∙ go) ∙ counts (outcome only named) rows
@@ -99,22 +115,31 @@ returns c = weaker c.change_rows.result _ _ (λ verdict made h sound sees known 
     let looked = c.looked_rows-looked.result.now in
     let named = c.in_ok-named.named.items in
     let new = c.in_ok-new.new.items in
-    let gone = c.in_ok-gone.gone.items in
-    let changed = c.in_ok-changed.changed.items in
+    let gone = c.in_ok-parted.parted.gone.items in
+    let changed = c.in_ok-parted.parted.changed.items in
+    let met = c.in_ok-parted.parted.met.items in
     let kept = filter_map (outcome only named) rows in
     let are_named = named_then content sound c.args.bounds.now planned only c.definitions-all.result.now
     c.definitions-all.ensures c.in_ok-apps.apps.items c.as_slice.result.now c.in_ok-apps.ensures
     c.as_slice.ensures.value
     c.last_planned-last.result c.last_planned-last.ensures.same named named c.in_ok-named.ensures refl in
+    let are_met : AreMet looked named met =
+    subst (λ (ds : List Draft). DraftsRise ds → AreMet looked ds met) c.deref.ensures.value
+    c.in_ok-parted.ensures.met are_named.rising in
+    let keys : ArePlannedKeys content.sets c.deref-2.result.now c.deref-3.result.now =
+    subst (λ (ds : List Draft). ArePlannedKeys content.sets ds c.deref-3.result.now) (sym c.deref-2.ensures.value)
+    (subst (λ (bs : List Bool). ArePlannedKeys content.sets named bs) (sym c.deref-3.ensures.value)
+    (keys_planned content sound only c.args.bounds.now planned looked c.looked_rows-looked.ensures named are_named met
+    are_met)) in
     let are_new : AreDrafts (IsMade (NamesThen content only) content.sets) new =
     new_are (NamesThen content only) content.sets named new are_named
-    (subst (λ (ds : List Draft). AreNew content.sets ds new) c.deref.ensures.value
+    (subst (λ (ds : List Draft). AreNew content.sets ds new) c.deref-2.ensures.value
     (c.in_ok-new.ensures h (λ draft there. deleted draft.key (named_late content sound c.definitions-all.result.now
-    c.definitions-all.ensures c.as_slice.result.now c.args.bounds.now.plan_end _ named c.deref.result.now
-    c.in_ok-named.ensures c.deref.ensures.value draft there)))) in
+    c.definitions-all.ensures c.as_slice.result.now c.args.bounds.now.plan_end _ named c.deref-2.result.now
+    c.in_ok-named.ensures c.deref-2.ensures.value draft there)) keys)) in
     let go : gone ≡ filter (λ (r : Row). is_none (outcome only named r)) rows =
     subst (λ (ds : List Draft). DraftsRise ds → gone ≡ filter (λ (r : Row). is_none (outcome only ds r)) looked)
-    c.deref-2.ensures.value c.in_ok-gone.ensures are_named.rising
+    c.deref.ensures.value c.in_ok-parted.ensures.gone are_named.rising
     ∙ gone_same content.sets only named rows c.ltp-rows.ensures.rows looked c.looked_rows-looked.ensures in
     let counted : length kept + length c.deref-4.result.now ≡ size content.sets.ltp content.sets.issued =
     ap (λ (l : List Row). length kept + length l) (c.deref-4.ensures.value ∙ go) ∙ counts (outcome only named) rows
@@ -124,8 +149,8 @@ returns c = weaker c.change_rows.result _ _ (λ verdict made h sound sees known 
     (length c.deref-5.result.now) refl (ap length c.deref-5.ensures.value) in
     let change : AreChanged (outcome only named) rows changed =
     changed_same content.sets only named rows c.ltp-rows.ensures.rows looked c.looked_rows-looked.ensures changed
-    (subst (λ (ds : List Draft). DraftsRise ds → AreChanged (outcome only ds) looked changed) c.deref-3.ensures.value
-    c.in_ok-changed.ensures are_named.rising) in
+    (subst (λ (ds : List Draft). DraftsRise ds → AreChanged (outcome only ds) looked changed) c.deref.ensures.value
+    c.in_ok-parted.ensures.changed are_named.rising) in
     let parts : PartsPlan content.sets only named kept gone changed =
     record {
       rows = rows;

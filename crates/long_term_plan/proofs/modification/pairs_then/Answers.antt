@@ -12,7 +12,7 @@ use Rattle.planner_machine.specs.declared.content.Draft.{Draft}
 use Rattle.keyed_lists.specs.Rows.{of_row}
 use Rattle.plan_store.specs.Views.{IsAny, ListsSet, shown, with_hidden}
 use Rattle.plan_pairs.specs.ByApplications.{AreGathered}
-use Rattle.plan_pairs.specs.Planned.{IsPlannedOfOne}
+use Rattle.plan_pairs.specs.Planned.{IsOpenOfOne}
 use Rattle.plan_pairs.specs.Turns.{IsInLists, IsTouchOf}
 use Rattle.long_term_plan.specs.Drafting.{DraftsRise}
 use Rattle.long_term_plan.specs.Modifying.{AreOf, outcome}
@@ -63,17 +63,17 @@ returns c order lists = weaker c.pair_change.result _ _ (λ change led h sound s
     (λ q there is_open reach. (app_pass q there is_open reach).0) gone_pass
     (elim c.if-few-2.branch [
       | then-few-2+in_ok-before w ↦ rw w.before-is (λ pair there. ((w.in_ok-before.ensures pair).0 there).0)
-      | else-few-2+in_ok-before-2 w ↦ rw w.before-is (λ pair there. (w.in_ok-before-2.ensures pair).0 there)
+      | else-few-2+in_ok-before-2 w ↦ rw w.before-is (λ pair there. ((w.in_ok-before-2.ensures pair).0 there).0)
     ])
     (elim c.if-few-2.branch [
-      | then-few-2+in_ok-before w ↦ rw w.before-is (λ pair there app among planned.
+      | then-few-2+in_ok-before w ↦ rw w.before-is (λ pair there row is_open among same.
           (w.in_ok-before.ensures pair).1 (
             there,
-            subst (λ (xs : List (List ℕ)). IsPlannedOfOne (shown view).sets xs pair.successor)
-                (sym w.deref-then-few-2-2.ensures.value) (app, among, planned),
+            subst (λ (xs : List (List ℕ)). IsOpenOfOne (shown view).sets xs pair.successor)
+                (sym w.deref-then-few-2-2.ensures.value) (row, is_open, among, same),
           ))
-      | else-few-2+in_ok-before-2 w ↦ rw w.before-is (λ pair there app among planned.
-          (w.in_ok-before-2.ensures pair).1 there)
+      | else-few-2+in_ok-before-2 w ↦ rw w.before-is (λ pair there row is_open among same.
+          (w.in_ok-before-2.ensures pair).1 (there, (row, is_open, same)))
     ]) in
     let holds : HoldsReached touch links to.now h.pairs c.if-few.live c.if-few-2.before =
     elim c.if-few.branch [

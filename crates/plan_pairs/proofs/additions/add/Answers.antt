@@ -1,4 +1,4 @@
-use Rattle.std.proofs.Common.{refl, subst, sym}
+use Rattle.std.proofs.Common.{Some, refl, subst, sym}
 use Rattle.std.specs.Prelude.{IfOk, Result, Ok, Err}
 use Rattle.occurrences.specs.declared.key.Key.{Key}
 use Rattle.planner_machine.specs.Add.{add as decided}
@@ -25,7 +25,7 @@ returns-in-Ok c = weaker c.add_row.result _ _ (λ verdict done content shows sou
     let sees = sees_key c.args.key.now view content shows in
     subst P (seen_is view content shows.is) (λ is.
     let new = c.in-Ok.ensures h is sees in
-    let own = subst (λ (k : Key). Sees (AsksKey seen k) h view) (sym new.1) sees in
+    let own = subst (λ (k : Key). Sees (Some k) (AsksKey seen k) h view) (sym new.1) sees in
     subst (λ (k : Key). VerdictIs (decided (place_in c.args.plan) k) seen verdict) new.1
     (verdict_is seen is c.args.plan c.in-Ok.row new.0 verdict (done h is own new.0))) sound)
     c.add_row.ensures

@@ -27,7 +27,7 @@ loop-link-preserved c h sound part seen =
     let there : Contains list link = (index, c.loop-link-test.true, sym c.link-item.is) in
     let listed = subst (λ (links : List Link). (l : Link) → Contains list l
     ↔ (Contains links l × (l.app ≡ row.key.app))) c.in_force.ensures c.list-link-items.ensures.all in
-    let answer = c.nearest.ensures.nearest h sound part
+    let answer = c.nearest.ensures h sound part
     (seen link.predecessor (lists_link (with_hidden h c.args.view.now) row.key.app list listed link there)) in
     let front : take (index + 1) list ≡ take index list ++ link ∷ [] = take_more list index link c.loop-link-test.true
     ∙ ap (λ x. take index list ++ x ∷ []) (sym c.link-item.is) in

@@ -1,9 +1,9 @@
 use Rattle.std.proofs.Common.{take}
 use Rattle.definition_records.specs.declared.predecessors.Predecessor.{Predecessor}
-use Rattle.plan_store.specs.Noted.{AskedByOne, IsNear, Notes}
+use Rattle.plan_store.specs.Noted.{AskedByOne, IsAsked, Notes}
 use Rattle.plan_store.proofs.lasts.note_named.Given as goal
 
 -- those of the predecessors so far
 abbrev pub invariant-loop-predecessor : goal.invariant-loop-predecessor
-invariant-loop-predecessor l = Notes (AskedByOne (λ (p : Predecessor). IsNear l.key p.name)
+invariant-loop-predecessor l = Notes (AskedByOne (λ (p : Predecessor). IsAsked p.name l.minute)
     (take l.predecessor-index l.listed)) l.history l.initial.places.items l.places.items

@@ -5,5 +5,5 @@ use Rattle.planner_cli.specs.Verdicts.{job_change}
 use Rattle.planner_cli.proofs.decisions.decide.Goals as goal
 
 pub returns-in-Define : goal.returns-in-Define
-returns-in-Define c c' shows sound =
+returns-in-Define c c' ends shows sound =
     subst (λ a. VerdictIs (decision_of (job_change a)) c' c.define.result) (sym c.in-Define.is) (c.define.ensures c')

@@ -7,7 +7,7 @@ use Rattle.planner_cli.specs.Verdicts.{need_of_change}
 use Rattle.planner_cli.proofs.decisions.decide_change.Goals as goal
 
 pub returns-in-Undefine : goal.returns-in-Undefine
-returns-in-Undefine c c' shows sound =
+returns-in-Undefine c c' ends shows sound =
     subst (λ r. VerdictIs (decision_of (change_of r)) c' c.undefine.result) (sym c.in-Undefine.is)
     (rw c.definitions_kind.ensures at c.undefine.ensures c'
-    (subst (λ r. Shows (need_of_change c'.sets.bounds r) c.args.view.now c') c.in-Undefine.is shows))
+    (subst (λ r. Shows (need_of_change c.args.end r) c.args.view.now c') c.in-Undefine.is shows))

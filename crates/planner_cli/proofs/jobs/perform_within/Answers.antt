@@ -3,7 +3,7 @@ use Rattle.planner_machine.specs.Statement.{decision_of}
 use Rattle.plan_store.specs.Verdicts.{VerdictIs}
 use Rattle.planner_machine.specs.Sound.{IsSound}
 use Rattle.plan_store.specs.Views.{Shows}
-use Rattle.planner_cli.specs.Verdicts.{job_change, job_left, need_of}
+use Rattle.planner_cli.specs.Verdicts.{job_change, job_left}
 use Rattle.planner_cli.proofs.ServeLemmas.{AnswersBoth, left_sound, verdict_answers, verdict_fits}
 use Rattle.planner_cli.proofs.StoreLemmas.{after_read, answers_so}
 use Rattle.planner_cli.proofs.jobs.perform_within.Goals as goal
@@ -11,11 +11,10 @@ use Rattle.planner_cli.proofs.jobs.perform_within.Goals as goal
 pub settle-requires-clause-fits : goal.settle-requires-clause-fits
 settle-requires-clause-fits g c honest =
     let reads = c.read_window.follows.holds-at-none in
-    let is = c.need_of-need.ensures ∙ ap (λ b. need_of b c.args.change) (c.requires.reach (reads.honest honest)) in
-    let shows = subst (λ n. Shows n c.in_ok-view.view (g.S.PlanStore.content c.args.store.now)) is
+    let shows = subst (λ n. Shows n c.in_ok-view.view (g.S.PlanStore.content c.args.store.now)) c.need_of-need.ensures
     (rw c.in_ok-view.was at reads.right honest) in
     let change = job_change c.args.change in
-    let decided = c.in-Ok.ensures (g.S.PlanStore.content c.args.store.now) shows
+    let decided = c.in-Ok.ensures (g.S.PlanStore.content c.args.store.now) (c.requires.ends (reads.honest honest)) shows
     (c.requires.sound (reads.honest honest)) in
     subst (λ x. Rattle.planner_cli.specs.Verdicts.FitsVerdict c.in-Ok.verdict x) (sym (reads.same honest))
     (verdict_fits change c.in-Ok.verdict _ decided)
@@ -23,12 +22,12 @@ settle-requires-clause-fits g c honest =
 pub settle-requires-clause-sound : goal.settle-requires-clause-sound
 settle-requires-clause-sound g c honest =
     let reads = c.read_window.follows.holds-at-none in
-    let is = c.need_of-need.ensures ∙ ap (λ b. need_of b c.args.change) (c.requires.reach (reads.honest honest)) in
-    let shows = subst (λ n. Shows n c.in_ok-view.view (g.S.PlanStore.content c.args.store.now)) is
+    let shows = subst (λ n. Shows n c.in_ok-view.view (g.S.PlanStore.content c.args.store.now)) c.need_of-need.ensures
     (rw c.in_ok-view.was at reads.right honest) in
     let change = job_change c.args.change in
     let first = c.requires.sound (reads.honest honest) in
-    let decided = c.in-Ok.ensures (g.S.PlanStore.content c.args.store.now) shows first in
+    let decided = c.in-Ok.ensures (g.S.PlanStore.content c.args.store.now) (c.requires.ends (reads.honest honest)) shows
+    first in
     subst (λ x. IsSound (job_left c.args.number c.args.text c.in-Ok.verdict x)) (sym (reads.same honest))
     (left_sound c.streams.ensures.sound c.args.number c.args.text change c.in-Ok.verdict _ c.requires.numbered
     c.requires.well_formed decided
@@ -41,10 +40,9 @@ returns g c =
     after_read g.S.PlanStore _ _ _ _ reads (rw c.in_ok-view.was at reads.whole) c.settle.new.store c.settle.result (AnswersBoth c.args.number c.args.text change)
     (answers_so g.S.PlanStore _ _ _ _ _ (λ honest reply c'.
     let honest' = c.settle.ensures.honest honest in
-    let is = c.need_of-need.ensures ∙ ap (λ b. need_of b c.args.change) (c.requires.reach (reads.honest honest')) in
-    let shows = subst (λ n. Shows n c.in_ok-view.view (g.S.PlanStore.content c.args.store.now)) is
+    let shows = subst (λ n. Shows n c.in_ok-view.view (g.S.PlanStore.content c.args.store.now)) c.need_of-need.ensures
     (rw c.in_ok-view.was at reads.right honest') in
-    let decided = c.in-Ok.ensures (g.S.PlanStore.content c.args.store.now) shows
+    let decided = c.in-Ok.ensures (g.S.PlanStore.content c.args.store.now) (c.requires.ends (reads.honest honest')) shows
     (c.requires.sound (reads.honest honest')) in
     let same = reads.same honest' in
     verdict_answers c.args.number c.args.text change c.in-Ok.verdict _

@@ -1,6 +1,5 @@
-use Rattle.std.proofs.Common.{◌∙◌, ap, subst}
+use Rattle.std.proofs.Common.{subst}
 use Rattle.plan_store.specs.Views.{Shows}
-use Rattle.planner_cli.specs.Verdicts.{need_of_daily}
 use Rattle.planner_cli.proofs.StoreLemmas.{read_printed, read_refused}
 use Rattle.planner_cli.proofs.trials.answer_within.Goals as goal
 
@@ -8,11 +7,10 @@ pub returns : goal.returns
 returns g c =
     let reads = c.read_window.follows.holds-at-none in
     read_printed g.S.PlanStore _ _ _ _ reads (rw c.in_ok-view.was at reads.whole) c.in_ok-daily_trial.field-0 _ (λ honest.
-    let is = c.need_of_daily.ensures ∙ ap (λ b. need_of_daily b c.args.function.now)
-    (c.requires.reach (reads.honest honest)) in
-    let shows = subst (λ n. Shows n c.in_ok-view.view (g.S.PlanStore.content c.args.store.now)) is
+    let shows = subst (λ n. Shows n c.in_ok-view.view (g.S.PlanStore.content c.args.store.now)) c.daily_need.ensures
     (rw c.in_ok-view.was at reads.right honest) in
-    c.in_ok-daily_trial.ensures (g.S.PlanStore.content c.args.store.now) shows (c.requires.sound (reads.honest honest)))
+    c.in_ok-daily_trial.ensures (g.S.PlanStore.content c.args.store.now) (c.requires.ends (reads.honest honest)) shows
+    (c.requires.sound (reads.honest honest)))
 
 pub returns-in_err-daily_trial : goal.returns-in_err-daily_trial
 returns-in_err-daily_trial g c =

@@ -1,7 +1,8 @@
-use Rattle.std.proofs.Common.{[], Err}
+use Rattle.std.proofs.Common.{[], Err, subst, sym}
 use Rattle.definition_records.proofs.ByNameLemmas.{IfOk-map}
 use Rattle.planner_cli.specs.Outcomes.{answering}
 use Rattle.planner_cli.specs.Changes.{daily_change}
+use Rattle.planner_cli.specs.Verdicts.{IsDone}
 use Rattle.planner_cli.proofs.TrialServes.{daily_shown, trial_refused, trial_printed, well_formed}
 use Rattle.planner_cli.proofs.trials.print_daily.Goals as goal
 
@@ -11,7 +12,8 @@ returns-in_ok-rows-in-Done c =
     let asked = daily_change daily in
     trial_printed asked c' c.in-Done.reply _ printed (daily_shown daily (c.fate_is_followed.ensures asked)
     (c.sound_content_stays_sound.ensures asked (well_formed daily))
-    c.in-Done.change c.in-Done.reply c' sound (rw c.in-Done.is at verdict) c.args.current.now lists _
+    c.in-Done.change c.in-Done.reply c' sound (rw c.in-Done.is at verdict) c.args.current.now
+    (lists (subst IsDone (sym c.in-Done.is) tt)) _
     (rw c.deref.ensures.value at c.in_ok-rows-in-Done.ensures)) h)
     c.accepted.ensures
 

@@ -7,7 +7,6 @@ use Rattle.plan_store.proofs.contents.Content.fill_for_key.Goals as goal
 pub returns-clause-filled : goal.returns-clause-filled
 returns-clause-filled c =
     let part = rw c.deref.ensures.value at c.key_lasts.ensures.part in
-    let lasts = rw (c.deref.ensures.value, c.deref-2.ensures.value, c.deref-3.ensures.value)
-    at c.key_lasts.ensures.lasts in
-    has_asked (Key c.args.key.now) _ c.key_lasts.result c.key_lasts.ensures.rows part
-    (on_ok c.key_lasts.result (λ is. is (content_of c.args.self.now) refl refl refl) lasts)
+    let lasts = rw c.deref.ensures.value at c.key_lasts.ensures.lasts in
+    has_asked (Key c.args.key.now) _ c.key_lasts.result refl c.key_lasts.ensures.rows part
+    (on_ok c.key_lasts.result (λ is. is (content_of c.args.self.now) refl) lasts)

@@ -8,5 +8,5 @@ pub returns-clause-filled : goal.returns-clause-filled
 returns-clause-filled c =
     let part = rw c.deref.ensures.value at c.plan_lasts.ensures.part in
     let lasts = rw (c.deref.ensures.value, c.deref-2.ensures.value) at c.plan_lasts.ensures.lasts in
-    has_asked LongTerm _ c.plan_lasts.result c.plan_lasts.ensures.rows part
+    has_asked LongTerm _ c.plan_lasts.result refl c.plan_lasts.ensures.rows part
     (on_ok c.plan_lasts.result (λ is. is (content_of c.args.self.now) refl refl refl refl) lasts)

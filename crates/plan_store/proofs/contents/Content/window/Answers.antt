@@ -1,9 +1,8 @@
-use Rattle.std.proofs.Common.{◌∙◌, refl, subst, sym}
+use Rattle.std.proofs.Common.{◌∙◌, subst, sym}
 use Rattle.plan_store.specs.Contents.{content_of}
 use Rattle.plan_store.specs.Views.{Shows}
-use Rattle.plan_store.specs.declared.stores.Need.TheVariants.{Definitions}
 use Rattle.plan_store.proofs.WindowLemmas.{barring_rows, barring_seats, early_rows, early_seats}
-use Rattle.plan_store.proofs.WindowLemmas.{shows_definitions, shows_early, shows_plan}
+use Rattle.plan_store.proofs.WindowLemmas.{shows_definitions, shows_early, shows_key, shows_plan}
 use Rattle.plan_store.proofs.contents.Content.window.Goals as goal
 
 pub window_of_plans-requires-in-Daily-clause-ltp_rows : goal.window_of_plans-requires-in-Daily-clause-ltp_rows
@@ -32,13 +31,22 @@ returns-in-Definitions c =
     subst (λ n. Shows n c.window_of_plans.result (content_of kept)) (sym c.in-Definitions.is)
     (shows_definitions c.window_of_plans.result (content_of kept) c.window_of_plans.ensures)
 
+pub returns-in-Key : goal.returns-in-Key
+returns-in-Key c =
+    let kept = c.args.self.now in
+    let filled = rw c.in-Key.is at c.requires in
+    subst (λ n. Shows n c.window_of_lasts.result (content_of kept)) (sym c.in-Key.is)
+    (shows_key c.in-Key.field-0 c.window_of_lasts.result kept filled c.window_of_lasts.ensures.history
+    c.window_of_lasts.ensures.shown)
+
 pub returns-in-LongTerm : goal.returns-in-LongTerm
 returns-in-LongTerm c =
     let kept = c.args.self.now in
     let filled = rw c.in-LongTerm.is at c.requires in
     subst (λ n. Shows n c.window_of_lasts-in-LongTerm.result (content_of kept)) (sym c.in-LongTerm.is)
     (shows_plan kept c.deref-in-LongTerm.result.now (c.deref-in-LongTerm.ensures.value ∙ filled.1)
-    c.window_of_lasts-in-LongTerm.result filled.0 c.window_of_lasts-in-LongTerm.ensures)
+    c.window_of_lasts-in-LongTerm.result filled.0 c.window_of_lasts-in-LongTerm.ensures.history
+    c.window_of_lasts-in-LongTerm.ensures.shown)
 
 pub returns-in-Daily : goal.returns-in-Daily
 returns-in-Daily c =

@@ -7,9 +7,11 @@ invariant_of-result c = record {
   ltp_rows = c.requires.ltp_rows;
   cp_rows = c.requires.cp_rows;
   last_rows = no_rows of_row;
+  history_rows = no_rows of_row;
   deletion_rows = no_rows of_deletion;
   ltp_seats = c.requires.ltp_seats;
   cp_seats = c.requires.cp_seats;
   last_seats = no_seats of_row c.args.self.now.seats.items;
+  history_seats = no_seats of_row c.args.self.now.seats.items;
   deletion_seats = no_seats of_deletion c.args.self.now.seats.items;
 }

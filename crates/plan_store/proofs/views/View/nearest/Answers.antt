@@ -8,8 +8,8 @@ use Rattle.plan_store.proofs.views.View.nearest.Goals as goal
 use Rattle.plan_store.proofs.views.View.nearest.Goals.{then-eq, else-eq}
 
 -- nothing arrives before it
-pub returns-in_default-clause-nearest : goal.returns-in_default-clause-nearest
-returns-in_default-clause-nearest c hidden numbered part seen =
+pub returns-in_default : goal.returns-in_default
+returns-in_default c hidden numbered part seen =
     let s = (with_hidden hidden c.args.self.now).sets in
     let key = c.args.key.now in
     let app = c.args.app.now in
@@ -27,11 +27,12 @@ returns-in_default-clause-nearest c hidden numbered part seen =
             ∙ ap (λ n. n + 1) c.number-arrival.ensures.value,
       )
     ] in
-    nearest_none s key app limit is_limit c.args.within (c.in_default.ensures.last hidden numbered part (seen limit is_limit))
+    nearest_none s key app limit is_limit c.args.within
+    (c.in_default.ensures hidden numbered part (seen limit is_limit))
 
 -- the last that does is close enough
-pub returns-then-arrives_within-clause-nearest : goal.returns-then-arrives_within-clause-nearest
-returns-then-arrives_within-clause-nearest c hidden numbered part seen =
+pub returns-then-arrives_within : goal.returns-then-arrives_within
+returns-then-arrives_within c hidden numbered part seen =
     let s = (with_hidden hidden c.args.self.now).sets in
     let key = c.args.key.now in
     let app = c.args.app.now in
@@ -50,12 +51,13 @@ returns-then-arrives_within-clause-nearest c hidden numbered part seen =
       )
     ] in
     answer_close (LiveAt s) key app c.args.within c.in-Some.near
-    (nearest_some s key app limit is_limit c.in-Some.near (c.in-Some.ensures.last hidden numbered part (seen limit is_limit)))
+    (nearest_some s key app limit is_limit c.in-Some.near
+    (c.in-Some.ensures hidden numbered part (seen limit is_limit)))
     (c.arrives_within.ensures.0 c.if-arrives_within.true)
 
 -- or too far
-pub returns-else-arrives_within-clause-nearest : goal.returns-else-arrives_within-clause-nearest
-returns-else-arrives_within-clause-nearest c hidden numbered part seen =
+pub returns-else-arrives_within : goal.returns-else-arrives_within
+returns-else-arrives_within c hidden numbered part seen =
     let s = (with_hidden hidden c.args.self.now).sets in
     let key = c.args.key.now in
     let app = c.args.app.now in
@@ -74,5 +76,6 @@ returns-else-arrives_within-clause-nearest c hidden numbered part seen =
       )
     ] in
     answer_far (LiveAt s) key app c.args.within c.in-Some.near
-    (nearest_some s key app limit is_limit c.in-Some.near (c.in-Some.ensures.last hidden numbered part (seen limit is_limit)))
+    (nearest_some s key app limit is_limit c.in-Some.near
+    (c.in-Some.ensures hidden numbered part (seen limit is_limit)))
     (λ close. false≢true (sym c.if-arrives_within.false ∙ c.arrives_within.ensures.1 close))
