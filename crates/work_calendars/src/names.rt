@@ -120,7 +120,7 @@ impl<const LONGEST: usize> PartialEq for NameWithin<LONGEST> {
     ghost laws = { partial_equiv_from_equiv nat_list_eq_equiv };
 
     fn eq(&self, other: &NameWithin<LONGEST>) -> bool {
-        self.as_bytes() == other.as_bytes()
+        self.bytes == other.bytes
     }
 }
 
@@ -148,7 +148,7 @@ impl<const LONGEST: usize> Ord for NameWithin<LONGEST> {
     ghost matches_eq = { texts_ties };
 
     fn cmp(&self, other: &NameWithin<LONGEST>) -> Ordering {
-        self.as_bytes().cmp(other.as_bytes())
+        self.bytes.cmp(&other.bytes)
     }
 }
 
