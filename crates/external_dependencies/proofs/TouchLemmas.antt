@@ -1,6 +1,6 @@
 -- What touches all that a change does, by rows alone; and the changes of one row, which comes, or goes, or changes its
 -- place and lives on.
-use Rattle.std.proofs.Common.{◌≡◌, ◌≢◌, ◌↔◌, ◌⊎◌, ℕ, ◌≤◌, List, Option, None, refl, sym, ap, subst, ◌∙◌, inl, inr, arith}
+use Rattle.std.proofs.Common.{◌≡◌, ◌≢◌, ◌↔◌, ◌⊎◌, ℕ, List, subst, inl, inr}
 use Rattle.std.specs.List.{Contains}
 use Rattle.occurrences.specs.Place.{IsLive, IsOpen}
 use Rattle.occurrences.specs.declared.row.Row.{Row}
@@ -8,10 +8,9 @@ use Rattle.external_dependencies.specs.declared.links.Link.{Link}
 use Rattle.external_dependencies.specs.declared.live.Arrival.{Arrival}
 use Rattle.external_dependencies.specs.declared.rows.PlacedRow.{PlacedRow}
 use Rattle.external_dependencies.specs.Nearest.{IsLiveIn, arrival_of}
-use Rattle.external_dependencies.specs.declared.touch.Stretch.{Stretch}
 use Rattle.external_dependencies.specs.declared.touch.Touch.{Touch}
 use Rattle.external_dependencies.specs.Settled.{IsOnce}
-use Rattle.external_dependencies.specs.Touch.{HasSameList, IsAnew, IsBorder, IsMarked, IsOpenIn, LivesIn, Touches}
+use Rattle.external_dependencies.specs.Touch.{HasSameList, IsAnew, IsMarked, IsOpenIn, LivesIn, Touches}
 
 -- a row that lives under the serial and key of another arrives as that one
 lives_so : (rows : List PlacedRow) (row : Row) → LivesIn rows row → IsLiveIn rows (arrival_of row)

@@ -1,10 +1,8 @@
-use Rattle.std.proofs.Common.{◌≡◌, ◌↔◌, ◌⊎◌, ℕ, List, subst, sym}
+use Rattle.std.proofs.Common.{◌↔◌, ◌⊎◌, ℕ, subst}
 use Rattle.std.specs.List.{Contains}
 use Rattle.std.proofs.lemmas.Result.{IfOk-weaker}
-use Rattle.external_dependencies.specs.Pair.{IsPairAmong}
 use Rattle.external_dependencies.specs.Reached.{AreAsked, HasSerialOf}
 use Rattle.external_dependencies.specs.declared.pairs.Pair.{Pair}
-use Rattle.external_dependencies.specs.declared.rows.PlacedRow.{PlacedRow}
 use Rattle.external_dependencies.proofs.ExactLemmas.{AreFound, AreHad, had_from, leads_exactly}
 use Rattle.external_dependencies.proofs.repair.resolve_touched.Goals as goal
 
