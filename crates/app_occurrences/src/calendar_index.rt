@@ -1,6 +1,6 @@
 // The index of work days of one calendar, beside what that calendar lists.
 
-ghost use Rattle.std.specs.Prelude.{◌≡◌, ◌↔◌, ℕ, IfOk, IfSome, IsTrue, length};
+ghost use Rattle.std.specs.Prelude.{◌≡◌, ℕ, IfOk, IfSome, IsTrue, length};
 ghost use Rattle.std.specs.FinMap as map;
 ghost use Rattle.work_calendars.specs.Calendar.{is_work_day};
 ghost use Rattle.work_calendars.specs.WorkIndex.{is_work_in};

@@ -3,7 +3,7 @@ use Rattle.std.proofs.lemmas.List.{append-nil}
 use Rattle.definition_records.specs.declared.predecessors.Predecessor.{Predecessor}
 use Rattle.definition_records.specs.ByName.{AreEntriesOf}
 use Rattle.definition_records.specs.Rising.{AreRising}
-use Rattle.app_occurrences.proofs.LinkLemmas.{link_of, links_are, links_of-push, own_links, rise_more, rise_none}
+use Rattle.app_occurrences.proofs.LinkLemmas.{link_of, links_are, links_of-push, own_links, rise_more}
 use Rattle.app_occurrences.proofs.links.defined_links.Goals as goal
 
 pub loop-app-preserved : goal.loop-app-preserved

@@ -1,4 +1,4 @@
-use Rattle.std.proofs.Common.{◌≡◌, ◌++◌, take, map, ℕ, List}
+use Rattle.std.proofs.Common.{◌≡◌, ◌++◌, take, map}
 use Rattle.definition_records.specs.declared.predecessors.Predecessor.{Predecessor}
 use Rattle.app_occurrences.proofs.links.push_links.Given as goal
 
