@@ -112,35 +112,11 @@ none_at (Some n) h = absurd cc
 -- a row of `plan_meta` has the first version
 abbrev IsTold : Table → Values → Type 0
 IsTold Meta v = column v 1 ≡ natural FIRST_VERSION
-IsTold CalendarEntry v = ⊤
-IsTold Period v = ⊤
-IsTold Application v = ⊤
-IsTold RunCycle v = ⊤
-IsTold Offset v = ⊤
-IsTold table.Predecessor v = ⊤
-IsTold LinkInForce v = ⊤
-IsTold LongTerm v = ⊤
-IsTold Current v = ⊤
-IsTold History v = ⊤
-IsTold Deletion v = ⊤
-IsTold Dependency v = ⊤
-IsTold Job v = ⊤
+IsTold t v = ⊤
 
 told : (old : Tables) → AreOfFirst old → (t : Table) (v : Values) → Contains (map (first_shown t) (old t)) v → IsTold t v
 told old first Meta v has = first v has
-told old first CalendarEntry v has = tt
-told old first Period v has = tt
-told old first Application v has = tt
-told old first RunCycle v has = tt
-told old first Offset v has = tt
-told old first table.Predecessor v has = tt
-told old first LinkInForce v has = tt
-told old first LongTerm v has = tt
-told old first Current v has = tt
-told old first History v has = tt
-told old first Deletion v has = tt
-told old first Dependency v has = tt
-told old first Job v has = tt
+told old first t v has = tt
 
 meta_back : (v : Values) (id : Value) (rest : Values) → column v 1 ≡ natural FIRST_VERSION
     → with_version v ≡ id ∷ natural SCHEMA_VERSION ∷ rest → v ≡ id ∷ natural FIRST_VERSION ∷ rest
@@ -155,17 +131,7 @@ back Meta c row one fact = meta_back (first_shown Meta row) (natural 1) _ one fa
 back table.Predecessor c row one (app, all, got, (p, has, fact)) =
     (app, all, got, (p, has, λ i. column (fact i) 0 ∷ column (fact i) 1 ∷ []))
 back LinkInForce c row one (link, has, fact) = (link, has, λ i. column (fact i) 0 ∷ column (fact i) 1 ∷ [])
-back CalendarEntry c row one fact = fact
-back Period c row one fact = fact
-back Application c row one fact = fact
-back RunCycle c row one fact = fact
-back Offset c row one fact = fact
-back LongTerm c row one fact = fact
-back Current c row one fact = fact
-back History c row one fact = fact
-back Deletion c row one fact = fact
-back Dependency c row one fact = fact
-back Job c row one fact = fact
+back t c row one fact = fact
 
 -- and it is the one that stands for that fact
 alike : (t : Table) (c : Content) (v row : Values) → IsFirstFact t c v → IsTold t (first_shown t row)
@@ -176,17 +142,7 @@ alike table.Predecessor c v row (app, all, got, (p, has, fact)) one is =
     let both = is ∙ ap (remade_row table.Predecessor) fact in (λ i. column (both i) 0 ∷ column (both i) 1 ∷ []) ∙ sym fact
 alike LinkInForce c v row (link, has, fact) one is =
     let both = is ∙ ap (remade_row LinkInForce) fact in (λ i. column (both i) 0 ∷ column (both i) 1 ∷ []) ∙ sym fact
-alike CalendarEntry c v row fact one is = is
-alike Period c v row fact one is = is
-alike Application c v row fact one is = is
-alike RunCycle c v row fact one is = is
-alike Offset c v row fact one is = is
-alike LongTerm c v row fact one is = is
-alike Current c v row fact one is = is
-alike History c v row fact one is = is
-alike Deletion c v row fact one is = is
-alike Dependency c v row fact one is = is
-alike Job c v row fact one is = is
+alike t c v row fact one is = is
 
 module _ (old new : Tables) (rows : AreRenewed old new) where
   abbrev was : Table → List Values

@@ -336,16 +336,6 @@ module _ (c : Content) (change : Change) (all : Tables) where
 
     all_facts : (t : Table) (v : Values) → ShowsAs t (plans_written c change all t) v
     all_facts table.Meta v = meta_facts v
-    all_facts table.CalendarEntry v = kept table.CalendarEntry v
-        (whole table.CalendarEntry refl refl refl refl refl refl refl refl) refl
-    all_facts table.Period v = kept table.Period v (whole table.Period refl refl refl refl refl refl refl refl) refl
-    all_facts table.Application v = kept table.Application v (whole table.Application refl refl refl refl refl refl
-        refl refl) refl
-    all_facts table.RunCycle v = kept table.RunCycle v (whole table.RunCycle refl refl refl refl refl refl refl
-        refl) refl
-    all_facts table.Offset v = kept table.Offset v (whole table.Offset refl refl refl refl refl refl refl refl) refl
-    all_facts table.Predecessor v = kept table.Predecessor v (whole table.Predecessor refl refl refl refl refl refl
-        refl refl) refl
     all_facts table.LinkInForce v = link_facts v
     all_facts table.LongTerm v = ltp_facts v
     all_facts table.Current v = cp_facts v
@@ -353,6 +343,8 @@ module _ (c : Content) (change : Change) (all : Tables) where
     all_facts table.Deletion v = deletion_facts v
     all_facts table.Dependency v = pair_facts v
     all_facts table.Job v = job_facts v
+    all_facts t v = kept t v (whole t refl refl refl refl refl refl
+        refl refl) refl
 
     links_rise : (new : Option (List Link)) → IfSome new (IsRising link_cmp)
         → IsRising link_cmp (unwrap_or new c.in_force)

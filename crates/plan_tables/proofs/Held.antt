@@ -120,19 +120,7 @@ matched _ key v = list_all (λ (i : ℕ). same_cell (column v i) (column key i))
 pub matches_shown : (t : Table) (key r : Values) → matches t key r ≡ matched t key (shown t r)
 unfolding same_cell
 matches_shown table.Meta key r = refl
-matches_shown table.CalendarEntry key r = refl
-matches_shown table.Period key r = refl
-matches_shown table.Application key r = refl
-matches_shown table.RunCycle key r = refl
-matches_shown table.Offset key r = refl
-matches_shown table.Predecessor key r = refl
-matches_shown table.LinkInForce key r = refl
-matches_shown table.LongTerm key r = refl
-matches_shown table.Current key r = refl
-matches_shown table.History key r = refl
-matches_shown table.Deletion key r = refl
-matches_shown table.Dependency key r = refl
-matches_shown table.Job key r = refl
+matches_shown t key r = refl
 
 told : (b : Bool) → is_true (from_truth (Some b)) ≡ b
 told true = refl

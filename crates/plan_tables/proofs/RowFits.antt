@@ -61,19 +61,7 @@ plain_text t short = record { number = tt; short = short }
 -- no column is of the type REAL
 no_reals : (t : Table) → table_reals (table t) ≡ 0
 no_reals table_of.Meta = refl
-no_reals table_of.CalendarEntry = refl
-no_reals table_of.Period = refl
-no_reals table_of.Application = refl
-no_reals table_of.RunCycle = refl
-no_reals table_of.Offset = refl
-no_reals table_of.Predecessor = refl
-no_reals table_of.LinkInForce = refl
-no_reals table_of.LongTerm = refl
-no_reals table_of.Current = refl
-no_reals table_of.History = refl
-no_reals table_of.Deletion = refl
-no_reals table_of.Dependency = refl
-no_reals table_of.Job = refl
+no_reals t = refl
 
 no_index_reals : (places : List ℕ) → index_reals 0 places ≡ 0
 no_index_reals [] = refl
@@ -119,19 +107,10 @@ entry_length (p ∷ ps) row = omega (arith, entry_length ps row)
 -- the places of a key are few
 few_places : (t : Table) → AllByRecursion (λ (places : List ℕ). length places ≤ 3) (uniques t)
 few_places table_of.Meta = tt
-few_places table_of.CalendarEntry = (omega arith, tt)
-few_places table_of.Period = (omega arith, tt)
-few_places table_of.Application = (omega arith, tt)
-few_places table_of.RunCycle = (omega arith, tt)
-few_places table_of.Offset = (omega arith, tt)
-few_places table_of.Predecessor = (omega arith, tt)
-few_places table_of.LinkInForce = (omega arith, tt)
-few_places table_of.LongTerm = (omega arith, tt)
 few_places table_of.Current = tt
-few_places table_of.History = (omega arith, tt)
 few_places table_of.Deletion = tt
-few_places table_of.Dependency = (omega arith, tt)
 few_places table_of.Job = tt
+few_places t = (omega arith, tt)
 
 pub entry_storable : (t : Table) (row : Row) → AllByRecursion IsPlain row
     → AllByRecursion (λ places. IsStorable (index_reals (table_reals (table t)) places) (entry_of places row)) (uniques t)

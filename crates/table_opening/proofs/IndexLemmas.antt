@@ -11,9 +11,9 @@ use Rattle.sqlite_value.specs.declared.keys.Order.{Order}
 use Rattle.table_schema.specs.Schema.{HasOwnIndexes, HasTables, IsOwnIndex, orders, plan_schema, table, table_at, uniques}
 use Rattle.table_schema.proofs.FoundLemmas.{named_there}
 use Rattle.table_schema.specs.declared.tables.Table.{Table}
-use Rattle.table_schema.specs.declared.tables.Table.TheVariants.{Meta, CalendarEntry, Period, Application, RunCycle}
-use Rattle.table_schema.specs.declared.tables.Table.TheVariants.{Offset, Predecessor, LinkInForce, LongTerm, Current}
-use Rattle.table_schema.specs.declared.tables.Table.TheVariants.{History, Deletion, Dependency, Job}
+use Rattle.table_schema.specs.declared.tables.Table.TheVariants.{Meta}
+use Rattle.table_schema.specs.declared.tables.Table.TheVariants.{Current}
+use Rattle.table_schema.specs.declared.tables.Table.TheVariants.{Deletion, Job}
 use Rattle.table_opening.specs.Indexes.{AreOwn, IsOfKey, IsOwn, IsOwnOf}
 use Rattle.table_opening.proofs.AmongLemmas.{all_each, each}
 use Rattle.table_opening.proofs.StandingLemmas.{forms}
@@ -21,35 +21,17 @@ use Rattle.table_opening.proofs.StandingLemmas.{forms}
 -- a key of the plan is in rising order
 is_plain : (t : Table) (o : Order) → orders t ≡ o ∷ [] → o ≡ plain
 is_plain Meta o is = absurd (cc)
-is_plain CalendarEntry o is = cc
-is_plain Period o is = cc
-is_plain Application o is = cc
-is_plain RunCycle o is = cc
-is_plain Offset o is = cc
-is_plain Predecessor o is = cc
-is_plain LinkInForce o is = cc
-is_plain LongTerm o is = cc
 is_plain Current o is = absurd (cc)
-is_plain History o is = cc
 is_plain Deletion o is = absurd (cc)
-is_plain Dependency o is = cc
 is_plain Job o is = absurd (cc)
+is_plain t o is = cc
 
 one_order : (t : Table) (places : List ℕ) (o : Order) → uniques t ≡ places ∷ [] → o ≡ plain → orders t ≡ o ∷ []
 one_order Meta places o is plain = absurd (cc)
-one_order CalendarEntry places o is plain = ap (λ (x : Order). x ∷ []) (sym plain)
-one_order Period places o is plain = ap (λ (x : Order). x ∷ []) (sym plain)
-one_order Application places o is plain = ap (λ (x : Order). x ∷ []) (sym plain)
-one_order RunCycle places o is plain = ap (λ (x : Order). x ∷ []) (sym plain)
-one_order Offset places o is plain = ap (λ (x : Order). x ∷ []) (sym plain)
-one_order Predecessor places o is plain = ap (λ (x : Order). x ∷ []) (sym plain)
-one_order LinkInForce places o is plain = ap (λ (x : Order). x ∷ []) (sym plain)
-one_order LongTerm places o is plain = ap (λ (x : Order). x ∷ []) (sym plain)
 one_order Current places o is plain = absurd (cc)
-one_order History places o is plain = ap (λ (x : Order). x ∷ []) (sym plain)
 one_order Deletion places o is plain = absurd (cc)
-one_order Dependency places o is plain = ap (λ (x : Order). x ∷ []) (sym plain)
 one_order Job places o is plain = absurd (cc)
+one_order t places o is plain = ap (λ (x : Order). x ∷ []) (sym plain)
 
 module _ (schema : Schema) (has : HasTables schema) where
   own_of : (t : Table) (i : Index) → IsOwnOf schema.tables i (table t)

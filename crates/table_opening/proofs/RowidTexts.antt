@@ -9,11 +9,10 @@ use Rattle.sqlite_typing.specs.Types.{are_typed, row_classes}
 use Rattle.sqlite_tied.specs.Compute.{everything}
 use Rattle.table_schema.specs.Places.{TableStandsAt}
 use Rattle.table_schema.specs.Schema.{name, table_at}
+use Rattle.table_schema.specs.Form.{has_rowid, names, rowids_name}
+use Rattle.table_schema.specs.Forms.{form}
 use Rattle.table_schema.specs.declared.tables.Table.{Table}
-use Rattle.table_schema.specs.declared.tables.Table.TheVariants.{Meta, CalendarEntry, Period, Application}
-use Rattle.table_schema.specs.declared.tables.Table.TheVariants.{RunCycle, Offset, Predecessor, LinkInForce}
-use Rattle.table_schema.specs.declared.tables.Table.TheVariants.{LongTerm, Current, History, Deletion}
-use Rattle.table_schema.specs.declared.tables.Table.TheVariants.{Dependency, Job}
+use Rattle.table_schema.specs.declared.tables.Table.TheVariants.{Meta}
 use Rattle.table_schema.proofs.QueryMeanings.{ShowsRows}
 use Rattle.table_schema.proofs.RowidQueries.{rowid_shows}
 use Rattle.table_schema.proofs.Written.{IfRead}
@@ -25,48 +24,18 @@ rowid_word = codes "rowid"
 
 -- the name of the column that is shown: that of the INTEGER PRIMARY KEY, where there is one
 abbrev pub rowid_name : Table → List ℕ
-rowid_name Meta = codes "id"
-rowid_name LongTerm = codes "serial"
-rowid_name Current = codes "serial"
-rowid_name History = codes "serial"
-rowid_name Deletion = codes "serial"
-rowid_name Job = codes "number"
-rowid_name _ = codes "rowid"
+rowid_name t = rowids_name (has_rowid (form t).key) (names (form t))
 
 rowid_text : (t : Table) → IfRead (first (rowid_sql t)) (IsBareText (length (rowid_sql t)) (name t) (shown_column rowid_word ∷ []))
 unfolding everything
 rowid_text Meta = (refl, refl, refl, refl, refl, refl)
-rowid_text CalendarEntry = (refl, refl, refl, refl, refl, refl)
-rowid_text Period = (refl, refl, refl, refl, refl, refl)
-rowid_text Application = (refl, refl, refl, refl, refl, refl)
-rowid_text RunCycle = (refl, refl, refl, refl, refl, refl)
-rowid_text Offset = (refl, refl, refl, refl, refl, refl)
-rowid_text Predecessor = (refl, refl, refl, refl, refl, refl)
-rowid_text LinkInForce = (refl, refl, refl, refl, refl, refl)
-rowid_text LongTerm = (refl, refl, refl, refl, refl, refl)
-rowid_text Current = (refl, refl, refl, refl, refl, refl)
-rowid_text History = (refl, refl, refl, refl, refl, refl)
-rowid_text Deletion = (refl, refl, refl, refl, refl, refl)
-rowid_text Dependency = (refl, refl, refl, refl, refl, refl)
-rowid_text Job = (refl, refl, refl, refl, refl, refl)
+rowid_text t = (refl, refl, refl, refl, refl, refl)
 
 rowid_fits : (tree : ℕ) (t : Table) → (column_named (table_at tree t) rowid_word ≡ None) × (rowid_head (table_at tree t) ≡ rowid_name t)
     × (are_typed [] (row_classes (table_at tree t) ∷ []) rowid_terms ≡ true)
 unfolding everything
 rowid_fits tree Meta = (refl, refl, refl)
-rowid_fits tree CalendarEntry = (refl, refl, refl)
-rowid_fits tree Period = (refl, refl, refl)
-rowid_fits tree Application = (refl, refl, refl)
-rowid_fits tree RunCycle = (refl, refl, refl)
-rowid_fits tree Offset = (refl, refl, refl)
-rowid_fits tree Predecessor = (refl, refl, refl)
-rowid_fits tree LinkInForce = (refl, refl, refl)
-rowid_fits tree LongTerm = (refl, refl, refl)
-rowid_fits tree Current = (refl, refl, refl)
-rowid_fits tree History = (refl, refl, refl)
-rowid_fits tree Deletion = (refl, refl, refl)
-rowid_fits tree Dependency = (refl, refl, refl)
-rowid_fits tree Job = (refl, refl, refl)
+rowid_fits tree t = (refl, refl, refl)
 
 is_word : is_rowid rowid_word ≡ true
 unfolding everything

@@ -1,31 +1,19 @@
 -- Rowids as they are shown.
-use Rattle.std.specs.Prelude.{ℕ, ◌<◌, List, [], ◌∷◌, codes, IsTrue}
+use Rattle.std.specs.Prelude.{ℕ, ◌<◌, List, [], ◌∷◌, IsTrue}
 use Rattle.std.specs.List.{All, AllPairs}
 use Rattle.sqlite.specs.Order.{Row as Values, column}
 use Rattle.sqlite.specs.Term.{Term, col, eval_all}
 use Rattle.sqlite.specs.View.{is_int}
+use Rattle.table_schema.specs.Form.{rowids_text}
+use Rattle.table_schema.specs.Forms.{form}
 use Rattle.table_schema.specs.declared.tables.Table.{Table}
-use Rattle.table_schema.specs.declared.tables.Table.TheVariants.{Meta, CalendarEntry, Period, Application, RunCycle}
-use Rattle.table_schema.specs.declared.tables.Table.TheVariants.{Offset, Predecessor, LinkInForce, LongTerm, Current}
-use Rattle.table_schema.specs.declared.tables.Table.TheVariants.{History, Deletion, Dependency, Job}
+use Rattle.table_schema.specs.declared.tables.Table.TheVariants.{Meta}
 use Rattle.table_reading.specs.Rowids.{place_of}
 
 -- shows the rowids of the table
 abbrev pub rowid_sql : Table → List ℕ
-rowid_sql Meta = codes "SELECT rowid FROM plan_meta"
-rowid_sql CalendarEntry = codes "SELECT rowid FROM calendar_entry"
-rowid_sql Period = codes "SELECT rowid FROM plan_period"
-rowid_sql Application = codes "SELECT rowid FROM application"
-rowid_sql RunCycle = codes "SELECT rowid FROM run_cycle"
-rowid_sql Offset = codes "SELECT rowid FROM run_cycle_offset"
-rowid_sql Predecessor = codes "SELECT rowid FROM predecessor"
-rowid_sql LinkInForce = codes "SELECT rowid FROM link_in_force"
-rowid_sql LongTerm = codes "SELECT rowid FROM ltp_row"
-rowid_sql Current = codes "SELECT rowid FROM cp_row"
-rowid_sql History = codes "SELECT rowid FROM history_row"
-rowid_sql Deletion = codes "SELECT rowid FROM deletion_row"
-rowid_sql Dependency = codes "SELECT rowid FROM dependency"
-rowid_sql Job = codes "SELECT rowid FROM job"
+rowid_sql Meta = rowids_text (form Meta)
+rowid_sql t = rowids_text (form t)
 
 abbrev pub rowid_terms : List Term
 rowid_terms = col 1 0 ∷ []

@@ -7,3 +7,4 @@ pub mod Parts
 pub mod Readable
 pub mod Lines
 pub mod Rowids
+pub mod Places

@@ -6,21 +6,21 @@ use Rattle.table_facts.specs.Facts.{current_values, deletion_values, link_values
 use Rattle.table_reading.specs.Order.{NumbersRise, current_number, deletion_number, job_number, row_number}
 use Rattle.table_reading.specs.Tables.{IsOneOf, ShowsOnce, ShowsOnly, TellsMetaOnce}
 use Rattle.table_reading.specs.declared.meta.Meta.{Meta}
-use Rattle.table_reading.specs.declared.parts.CurrentRows.{CurrentRows}
-use Rattle.table_reading.specs.declared.parts.DeletionRows.{DeletionRows}
-use Rattle.table_reading.specs.declared.parts.HistoryRows.{HistoryRows}
-use Rattle.table_reading.specs.declared.parts.JobRows.{JobRows}
+use Rattle.table_reading.specs.declared.parts.InOrder.{InOrder}
+use Rattle.occurrences.specs.declared.place.CurrentRow.{CurrentRow}
+use Rattle.occurrences.specs.declared.place.Deletion.{Deletion}
+use Rattle.occurrences.specs.declared.row.Row.{Row}
+use Rattle.planner_machine.specs.declared.job.Job.{Job}
 use Rattle.table_reading.specs.declared.parts.LinkRows.{LinkRows}
-use Rattle.table_reading.specs.declared.parts.LongTermRows.{LongTermRows}
 use Rattle.table_reading.specs.declared.parts.PairRows.{PairRows}
 
 -- the rows of the four sets
 abbrev pub RowParts : Type 0
-RowParts = (LongTermRows × CurrentRows) × (HistoryRows × DeletionRows)
+RowParts = (InOrder Row 8 × InOrder CurrentRow 9) × (InOrder Row 10 × InOrder Deletion 11)
 
 -- the lists in force, the pairs, how far the plans reach, and the jobs
 abbrev pub Rest : Type 0
-Rest = (LinkRows × PairRows) × (Meta × JobRows)
+Rest = (LinkRows × PairRows) × (Meta × InOrder Job 13)
 
 abbrev pub AreRowsInOrder : RowParts → Type 0
 AreRowsInOrder p =
@@ -28,7 +28,7 @@ AreRowsInOrder p =
     × (NumbersRise row_number p.1.0.rows.items × NumbersRise deletion_number p.1.1.rows.items)
 
 abbrev pub AreRestInOrder : Rest → Type 0
-AreRestInOrder p = (Unit {0} × Unit {0}) × (Unit {0} × NumbersRise job_number p.1.1.jobs.items)
+AreRestInOrder p = (Unit {0} × Unit {0}) × (Unit {0} × NumbersRise job_number p.1.1.rows.items)
 
 abbrev pub TellRowParts : Tables → RowParts → Type 0
 TellRowParts all p =
@@ -41,4 +41,4 @@ abbrev pub TellRest : Tables → Rest → Type 0
 TellRest all p =
     (ShowsOnly all table.LinkInForce (IsOneOf link_values p.0.0.links)
     × ShowsOnce all table.Dependency (IsOneOf pair_values p.0.1.pairs.items))
-    × (TellsMetaOnce all p.1.0 × ShowsOnce all table.Job (IsOneOf job_values p.1.1.jobs.items))
+    × (TellsMetaOnce all p.1.0 × ShowsOnce all table.Job (IsOneOf job_values p.1.1.rows.items))

@@ -1,6 +1,6 @@
 // Parts of a content, each read from its table, one after another.
 
-ghost use Rattle.std.specs.Prelude.{◌≡◌, ◌∷◌, [], false, is_ok, length, map, None, IfErr, IfOk, IfSome};
+ghost use Rattle.std.specs.Prelude.{◌≡◌, ◌∷◌, refl, [], false, is_ok, length, map, None, IfErr, IfOk, IfSome};
 ghost use Rattle.sqlite.specs.State.{HasCleanDisk};
 ghost use Rattle.sqlite.specs.Held.{state};
 ghost use Rattle.table_schema.specs.Rows.{MayFail, Tables, tables_of};
@@ -12,16 +12,18 @@ ghost use Rattle.table_facts.specs.Content.{job_values};
 ghost use Rattle.table_facts.specs.Facts.{row_values, current_values, deletion_values, pair_values, link_values};
 ghost use Rattle.table_reading.specs.Order.{NumbersRise, row_number, current_number, deletion_number, job_number};
 ghost use Rattle.table_reading.specs.Cells.{IsNumberedRow, IsPair, IsReadJob};
-ghost use Rattle.table_reading.specs.Readable.{ShowsEachOnce, ShowsLinks, ShowsMeta};
+ghost use Rattle.table_reading.specs.Places.{table_of};
+ghost use Rattle.table_reading.specs.Readable.{ShowsEachOnce, ShowsLinks, ShowsMeta, ShowsNumbers};
 ghost use Rattle.table_reading.specs.Reading.{HasPlan, Looks};
 ghost use Rattle.table_reading.specs.Rowids.{AreApart, pair_of};
 ghost use Rattle.table_reading.specs.Tables.{IsOneOf, ShowsOnce, ShowsOnly, TellsMetaOnce};
 
 use crate::links::lists_of_links;
 use crate::meta::Meta;
-use crate::order::in_order;
+use crate::order::{Numbered, in_order};
 use crate::pairs::{PairRow, pairs_of, read_pairs};
 use crate::tables::{read_in_order, read_table};
+use crate::told::Told;
 use external_dependencies::{Link, Links, Pair};
 use occurrences::{CurrentRow, Deletion, Row};
 use planner_machine::Job;
@@ -75,111 +77,96 @@ impl<A: Part, B: Part> Part for (A, B) {
     }
 }
 
-/// The long-term plan.
-#[derive(Drop)]
-pub(crate) struct LongTermRows {
-    /// Its rows.
-    pub rows: Vec<Row>,
+/// What stands in the rows of the table at the place, each under its own number.
+pub(crate) trait StandsIn<const PLACE: usize>: Told + Numbered {
+    /// The table.
+    fn table() -> Table
+        ensures { result ≡ table_of PLACE };
+
+    // the number stands first, and is the rowid
+    ghost leads: { ShowsNumbers (table_of PLACE) Self.values Self.number_of };
 }
 
-impl Part for LongTermRows {
-    ghost tells = { λ all part. ShowsOnce all LongTerm (IsOneOf row_values part.rows.items) };
+impl StandsIn<8> for Row {
+    fn table() -> Table {
+        Table::LongTerm
+    }
 
-    ghost in_order = { λ part. NumbersRise row_number part.rows.items };
+    ghost leads = { record { of_item = λ x. refl; of_row = λ row. refl } };
+}
 
-    ghost readable = { λ all. ShowsEachOnce all LongTerm row_values IsNumberedRow };
+impl StandsIn<9> for CurrentRow {
+    fn table() -> Table {
+        Table::Current
+    }
+
+    ghost leads = { record { of_item = λ x. refl; of_row = λ row. refl } };
+}
+
+impl StandsIn<10> for Row {
+    fn table() -> Table {
+        Table::History
+    }
+
+    ghost leads = { record { of_item = λ x. refl; of_row = λ row. refl } };
+}
+
+impl StandsIn<11> for Deletion {
+    fn table() -> Table {
+        Table::Deletion
+    }
+
+    ghost leads = { record { of_item = λ x. refl; of_row = λ row. refl } };
+}
+
+impl StandsIn<13> for Job {
+    fn table() -> Table {
+        Table::Job
+    }
+
+    ghost leads = { record { of_item = λ x. refl; of_row = λ row. refl } };
+}
+
+/// The rows of the table at the place, in the order of their numbers.
+#[derive(Drop)]
+pub(crate) struct InOrder<X, const PLACE: usize> {
+    /// What stands in them.
+    pub rows: Vec<X>,
+}
+
+impl<X: StandsIn<PLACE> + Drop, const PLACE: usize> Part for InOrder<X, PLACE> {
+    ghost tells = { λ all part. ShowsOnce all (table_of PLACE) (IsOneOf X.values part.rows.items) };
+
+    ghost in_order = { λ part. NumbersRise X.number_of part.rows.items };
+
+    ghost readable = { λ all. ShowsEachOnce all (table_of PLACE) X.values X.has_form };
 
     fn read<S: Alter>(
         alloc: Global,
         conn: &mut Connection<S>,
-    ) -> Result<Option<LongTermRows>, Error> {
-        match read_in_order(alloc, conn, Table::LongTerm) {
-            Ok(Some(rows)) => Ok(Some(LongTermRows { rows })),
+    ) -> Result<Option<InOrder<X, PLACE>>, Error> {
+        match read_in_order(alloc, conn, X::table()) {
+            Ok(Some(rows)) => Ok(Some(InOrder { rows })),
             Ok(None) => Ok(None),
             Err(error) => Err(error),
         }
     }
 }
+
+/// The long-term plan.
+pub(crate) type LongTermRows = InOrder<Row, 8>;
 
 /// The current plan.
-#[derive(Drop)]
-pub(crate) struct CurrentRows {
-    /// Its rows.
-    pub rows: Vec<CurrentRow>,
-}
-
-impl Part for CurrentRows {
-    ghost tells = { λ all part. ShowsOnce all Current (IsOneOf current_values part.rows.items) };
-
-    ghost in_order = { λ part. NumbersRise current_number part.rows.items };
-
-    ghost readable = { λ all. ShowsEachOnce all Current current_values (λ current.
-        IsNumberedRow current.row) };
-
-    fn read<S: Alter>(
-        alloc: Global,
-        conn: &mut Connection<S>,
-    ) -> Result<Option<CurrentRows>, Error> {
-        match read_in_order(alloc, conn, Table::Current) {
-            Ok(Some(rows)) => Ok(Some(CurrentRows { rows })),
-            Ok(None) => Ok(None),
-            Err(error) => Err(error),
-        }
-    }
-}
+pub(crate) type CurrentRows = InOrder<CurrentRow, 9>;
 
 /// History.
-#[derive(Drop)]
-pub(crate) struct HistoryRows {
-    /// Its rows.
-    pub rows: Vec<Row>,
-}
-
-impl Part for HistoryRows {
-    ghost tells = { λ all part. ShowsOnce all History (IsOneOf row_values part.rows.items) };
-
-    ghost in_order = { λ part. NumbersRise row_number part.rows.items };
-
-    ghost readable = { λ all. ShowsEachOnce all History row_values IsNumberedRow };
-
-    fn read<S: Alter>(
-        alloc: Global,
-        conn: &mut Connection<S>,
-    ) -> Result<Option<HistoryRows>, Error> {
-        match read_in_order(alloc, conn, Table::History) {
-            Ok(Some(rows)) => Ok(Some(HistoryRows { rows })),
-            Ok(None) => Ok(None),
-            Err(error) => Err(error),
-        }
-    }
-}
+pub(crate) type HistoryRows = InOrder<Row, 10>;
 
 /// The deletions.
-#[derive(Drop)]
-pub(crate) struct DeletionRows {
-    /// Their rows.
-    pub rows: Vec<Deletion>,
-}
+pub(crate) type DeletionRows = InOrder<Deletion, 11>;
 
-impl Part for DeletionRows {
-    ghost tells = { λ all part. ShowsOnce all Gone (IsOneOf deletion_values part.rows.items) };
-
-    ghost in_order = { λ part. NumbersRise deletion_number part.rows.items };
-
-    ghost readable = { λ all. ShowsEachOnce all Gone deletion_values (λ gone.
-        IsNumberedRow gone.row) };
-
-    fn read<S: Alter>(
-        alloc: Global,
-        conn: &mut Connection<S>,
-    ) -> Result<Option<DeletionRows>, Error> {
-        match read_in_order(alloc, conn, Table::Deletion) {
-            Ok(Some(rows)) => Ok(Some(DeletionRows { rows })),
-            Ok(None) => Ok(None),
-            Err(error) => Err(error),
-        }
-    }
-}
+/// The kept jobs.
+pub(crate) type JobRows = InOrder<Job, 13>;
 
 /// The lists in force.
 #[derive(Drop)]
@@ -249,29 +236,6 @@ fn pair_rows(alloc: Global, told: Vec<PairRow>) -> Result<Option<PairRows>, Allo
     match in_order(told) {
         Some(_) => Ok(Some(PairRows { pairs })),
         None => Ok(None),
-    }
-}
-
-/// The kept jobs.
-#[derive(Drop)]
-pub(crate) struct JobRows {
-    /// The jobs.
-    pub jobs: Vec<Job>,
-}
-
-impl Part for JobRows {
-    ghost tells = { λ all part. ShowsOnce all Kept (IsOneOf job_values part.jobs.items) };
-
-    ghost in_order = { λ part. NumbersRise job_number part.jobs.items };
-
-    ghost readable = { λ all. ShowsEachOnce all Kept job_values IsReadJob };
-
-    fn read<S: Alter>(alloc: Global, conn: &mut Connection<S>) -> Result<Option<JobRows>, Error> {
-        match read_in_order(alloc, conn, Table::Job) {
-            Ok(Some(jobs)) => Ok(Some(JobRows { jobs })),
-            Ok(None) => Ok(None),
-            Err(error) => Err(error),
-        }
     }
 }
 

@@ -46,7 +46,7 @@ fn lists_of(rows: PlanRows, rest: Rest) -> PlanLists
         rows,
         links: links.links,
         pairs: pairs.pairs,
-        jobs: jobs.jobs,
+        jobs: jobs.rows,
     }
 }
 

@@ -12,7 +12,7 @@ use Rattle.table_schema.specs.Cells.{column_names}
 use Rattle.table_schema.specs.Rows.{AreOfKinds, shown, stored}
 use Rattle.table_schema.specs.Schema.{columns, key}
 use Rattle.table_schema.specs.declared.tables.Table.{Table}
-use Rattle.table_schema.specs.declared.tables.Table.TheVariants.{Meta, CalendarEntry, Period, Application}
+use Rattle.table_schema.specs.declared.tables.Table.TheVariants.{Meta, CalendarEntry, Period}
 use Rattle.table_schema.specs.declared.tables.Table.TheVariants.{RunCycle, Offset, Predecessor, LinkInForce}
 use Rattle.table_schema.specs.declared.tables.Table.TheVariants.{LongTerm, Current, History, Deletion}
 use Rattle.table_schema.specs.declared.tables.Table.TheVariants.{Dependency, Job}
@@ -23,52 +23,15 @@ use Rattle.table_remaking.proofs.TypeLemmas.{typed_from}
 
 -- how many columns it has
 abbrev size : Table → ℕ
-size Meta = 9
-size CalendarEntry = 4
-size Period = 5
-size Application = 3
-size RunCycle = 10
-size Offset = 4
-size Predecessor = 3
-size LinkInForce = 3
-size LongTerm = 5
-size Current = 6
-size History = 5
-size Deletion = 6
-size Dependency = 2
-size Job = 3
+size t = length (column_names t)
 
 no_reals : (t : Table) → NoReals (types t)
-no_reals Meta = (refl, (refl, (refl, (refl, (refl, (refl, (refl, (refl, (refl, tt)))))))))
-no_reals CalendarEntry = (refl, (refl, (refl, (refl, tt))))
-no_reals Period = (refl, (refl, (refl, (refl, (refl, tt)))))
-no_reals Application = (refl, (refl, (refl, tt)))
-no_reals RunCycle = (refl, (refl, (refl, (refl, (refl, (refl, (refl, (refl, (refl, (refl, tt))))))))))
-no_reals Offset = (refl, (refl, (refl, (refl, tt))))
-no_reals Predecessor = (refl, (refl, (refl, tt)))
-no_reals LinkInForce = (refl, (refl, (refl, tt)))
-no_reals LongTerm = (refl, (refl, (refl, (refl, (refl, tt)))))
-no_reals Current = (refl, (refl, (refl, (refl, (refl, (refl, tt))))))
-no_reals History = (refl, (refl, (refl, (refl, (refl, tt)))))
-no_reals Deletion = (refl, (refl, (refl, (refl, (refl, (refl, tt))))))
-no_reals Dependency = (refl, (refl, tt))
-no_reals Job = (refl, (refl, (refl, tt)))
+no_reals Meta = search []
+no_reals t = search []
 
 sized : (t : Table) (cells : Row) → HasTypes (types t) cells → length cells ≡ size t
 sized Meta cells h = h.0
-sized CalendarEntry cells h = h.0
-sized Period cells h = h.0
-sized Application cells h = h.0
-sized RunCycle cells h = h.0
-sized Offset cells h = h.0
-sized Predecessor cells h = h.0
-sized LinkInForce cells h = h.0
-sized LongTerm cells h = h.0
-sized Current cells h = h.0
-sized History cells h = h.0
-sized Deletion cells h = h.0
-sized Dependency cells h = h.0
-sized Job cells h = h.0
+sized t cells h = h.0
 
 as_they_are : (t : Table) (cells : Row) → HasTypes (types t) cells
     → cast_all (columns t) (taken (size t) 0 cells) ≡ taken (size t) 0 cells
@@ -78,19 +41,12 @@ as_they_are t cells h = subst (λ l. cast_all (columns t) l ≡ l) (sym (taken_a
 of_kinds : (t : Table) (cells : Row) → cast_all (columns t) (taken (size t) 0 cells) ≡ taken (size t) 0 cells
     → AreOfKinds t cells
 of_kinds Meta cells e = λ i. column (e i) 0 ∷ cast-Null i ∷ drop 1 (e i)
-of_kinds CalendarEntry cells e = λ i. cast-Null i ∷ e i
-of_kinds Period cells e = λ i. cast-Null i ∷ e i
-of_kinds Application cells e = λ i. cast-Null i ∷ e i
-of_kinds RunCycle cells e = λ i. cast-Null i ∷ e i
-of_kinds Offset cells e = λ i. cast-Null i ∷ e i
-of_kinds Predecessor cells e = λ i. cast-Null i ∷ e i
-of_kinds LinkInForce cells e = λ i. cast-Null i ∷ e i
 of_kinds LongTerm cells e = λ i. column (e i) 0 ∷ cast-Null i ∷ drop 1 (e i)
 of_kinds Current cells e = λ i. column (e i) 0 ∷ cast-Null i ∷ drop 1 (e i)
 of_kinds History cells e = λ i. column (e i) 0 ∷ cast-Null i ∷ drop 1 (e i)
 of_kinds Deletion cells e = λ i. column (e i) 0 ∷ cast-Null i ∷ drop 1 (e i)
-of_kinds Dependency cells e = λ i. cast-Null i ∷ e i
 of_kinds Job cells e = λ i. column (e i) 0 ∷ cast-Null i ∷ drop 1 (e i)
+of_kinds t cells e = λ i. cast-Null i ∷ e i
 
 -- a row that has a rowid keeps it
 kept_id : (rows : List Row) (id : Value) (rest : Row) (n : ℤ) → id ≡ Int n → with_rowid Chosen rows (id ∷ rest) ≡ id ∷ rest
@@ -101,13 +57,6 @@ shown_taken : (t : Table) (cells : Row) (rows : List Row) → HasTypes (types t)
 shown_taken Meta cells rows h =
     let id = integer_is (column cells 0) (h.1 0 (omega arith)) in
     ap (shown Meta) (kept_id rows (column cells 0) (drop 1 (stored Meta cells)) id.0 id.1)
-shown_taken CalendarEntry cells rows h = refl
-shown_taken Period cells rows h = refl
-shown_taken Application cells rows h = refl
-shown_taken RunCycle cells rows h = refl
-shown_taken Offset cells rows h = refl
-shown_taken Predecessor cells rows h = refl
-shown_taken LinkInForce cells rows h = refl
 shown_taken LongTerm cells rows h =
     let id = integer_is (column cells 0) (h.1 0 (omega arith)) in
     ap (shown LongTerm) (kept_id rows (column cells 0) (drop 1 (stored LongTerm cells)) id.0 id.1)
@@ -120,10 +69,10 @@ shown_taken History cells rows h =
 shown_taken Deletion cells rows h =
     let id = integer_is (column cells 0) (h.1 0 (omega arith)) in
     ap (shown Deletion) (kept_id rows (column cells 0) (drop 1 (stored Deletion cells)) id.0 id.1)
-shown_taken Dependency cells rows h = refl
 shown_taken Job cells rows h =
     let id = integer_is (column cells 0) (h.1 0 (omega arith)) in
     ap (shown Job) (kept_id rows (column cells 0) (drop 1 (stored Job cells)) id.0 id.1)
+shown_taken t cells rows h = refl
 
 -- ---- the row that stands for one of schema 1
 
@@ -151,19 +100,9 @@ meta_typed (a ∷ b ∷ rest) h = (h.0, go)
 
 pub remade_typed : (t : Table) (cells : Row) → HasTypes (first_types t) cells → HasTypes (types t) (remade_row t cells)
 remade_typed Meta cells h = meta_typed cells h
-remade_typed CalendarEntry cells h = h
-remade_typed Period cells h = h
-remade_typed Application cells h = h
-remade_typed RunCycle cells h = h
-remade_typed Offset cells h = h
 remade_typed Predecessor cells h = two_typed cells h
 remade_typed LinkInForce cells h = two_typed cells h
-remade_typed LongTerm cells h = h
-remade_typed Current cells h = h
-remade_typed History cells h = h
-remade_typed Deletion cells h = h
-remade_typed Dependency cells h = h
-remade_typed Job cells h = h
+remade_typed t cells h = h
 
 pub remade_of_kinds : (t : Table) (cells : Row) → HasTypes (first_types t) cells → AreOfKinds t (remade_row t cells)
 remade_of_kinds t cells h =
@@ -180,23 +119,7 @@ remade_shown t cells rows h =
     let typed = remade_typed t cells h in
     shown_taken t (remade_row t cells) rows typed ∙ taken_all (size t) (remade_row t cells) (sized t (remade_row t cells) typed)
 
-names : (t : Table) → size t ≡ length (column_names t)
-names Meta = refl
-names CalendarEntry = refl
-names Period = refl
-names Application = refl
-names RunCycle = refl
-names Offset = refl
-names Predecessor = refl
-names LinkInForce = refl
-names LongTerm = refl
-names Current = refl
-names History = refl
-names Deletion = refl
-names Dependency = refl
-names Job = refl
-
 -- it has a value for each column
 pub remade_whole : (t : Table) (cells : Row) → HasTypes (first_types t) cells
     → length (remade_row t cells) ≡ length (column_names t)
-remade_whole t cells h = sized t (remade_row t cells) (remade_typed t cells h) ∙ names t
+remade_whole t cells h = sized t (remade_row t cells) (remade_typed t cells h)

@@ -25,10 +25,7 @@ use Rattle.table_schema.proofs.WrittenQueries.{IsBareText, has_all, shown_as, sh
 use Rattle.table_schema.specs.Places.{TableStandsAt}
 use Rattle.table_schema.specs.Schema.{name}
 use Rattle.table_schema.specs.declared.tables.Table.{Table}
-use Rattle.table_schema.specs.declared.tables.Table.TheVariants.{Meta, CalendarEntry, Period, Application}
-use Rattle.table_schema.specs.declared.tables.Table.TheVariants.{RunCycle, Offset, Predecessor, LinkInForce}
-use Rattle.table_schema.specs.declared.tables.Table.TheVariants.{LongTerm, Current, History, Deletion}
-use Rattle.table_schema.specs.declared.tables.Table.TheVariants.{Dependency, Job}
+use Rattle.table_schema.specs.declared.tables.Table.TheVariants.{Meta}
 use Rattle.table_remaking.specs.FirstSchema.{first_after, first_before, first_names, first_table_at, first_terms}
 use Rattle.table_remaking.specs.FirstTexts.{drop_sql, first_create_sql, first_select_sql}
 
@@ -37,19 +34,7 @@ use Rattle.table_remaking.specs.FirstTexts.{drop_sql, first_create_sql, first_se
 create_says : (t : Table) → IfRead (first (first_create_sql t)) (Creates (name t) (first_create_sql t) (first_table_at 0 t))
 unfolding everything
 create_says Meta = record { def = _; whole = refl; parameters = refl; text = refl; is = refl; named = refl; free = refl; defined = refl; fit = refl }
-create_says CalendarEntry = record { def = _; whole = refl; parameters = refl; text = refl; is = refl; named = refl; free = refl; defined = refl; fit = refl }
-create_says Period = record { def = _; whole = refl; parameters = refl; text = refl; is = refl; named = refl; free = refl; defined = refl; fit = refl }
-create_says Application = record { def = _; whole = refl; parameters = refl; text = refl; is = refl; named = refl; free = refl; defined = refl; fit = refl }
-create_says RunCycle = record { def = _; whole = refl; parameters = refl; text = refl; is = refl; named = refl; free = refl; defined = refl; fit = refl }
-create_says Offset = record { def = _; whole = refl; parameters = refl; text = refl; is = refl; named = refl; free = refl; defined = refl; fit = refl }
-create_says Predecessor = record { def = _; whole = refl; parameters = refl; text = refl; is = refl; named = refl; free = refl; defined = refl; fit = refl }
-create_says LinkInForce = record { def = _; whole = refl; parameters = refl; text = refl; is = refl; named = refl; free = refl; defined = refl; fit = refl }
-create_says LongTerm = record { def = _; whole = refl; parameters = refl; text = refl; is = refl; named = refl; free = refl; defined = refl; fit = refl }
-create_says Current = record { def = _; whole = refl; parameters = refl; text = refl; is = refl; named = refl; free = refl; defined = refl; fit = refl }
-create_says History = record { def = _; whole = refl; parameters = refl; text = refl; is = refl; named = refl; free = refl; defined = refl; fit = refl }
-create_says Deletion = record { def = _; whole = refl; parameters = refl; text = refl; is = refl; named = refl; free = refl; defined = refl; fit = refl }
-create_says Dependency = record { def = _; whole = refl; parameters = refl; text = refl; is = refl; named = refl; free = refl; defined = refl; fit = refl }
-create_says Job = record { def = _; whole = refl; parameters = refl; text = refl; is = refl; named = refl; free = refl; defined = refl; fit = refl }
+create_says t = record { def = _; whole = refl; parameters = refl; text = refl; is = refl; named = refl; free = refl; defined = refl; fit = refl }
 
 pub create_means : (schema : Schema) (t : Table) → is_used schema (name t) ≡ false
     → Means schema (first_create_sql t) CreateTable 0
@@ -69,51 +54,15 @@ create_defines t = table_defined (name t) (first_create_sql t) (first_table_at 0
 pub unused : (t : Table) → is_used (first_before t) (name t) ≡ false
 unfolding everything
 unused Meta = refl
-unused CalendarEntry = refl
-unused Period = refl
-unused Application = refl
-unused RunCycle = refl
-unused Offset = refl
-unused Predecessor = refl
-unused LinkInForce = refl
-unused LongTerm = refl
-unused Current = refl
-unused History = refl
-unused Deletion = refl
-unused Dependency = refl
-unused Job = refl
+unused t = refl
 
 pub uncounted : (t : Table) → lacks_sequence (created (first_before t) (first_table_at 0 t)) ≡ false
 uncounted Meta = refl
-uncounted CalendarEntry = refl
-uncounted Period = refl
-uncounted Application = refl
-uncounted RunCycle = refl
-uncounted Offset = refl
-uncounted Predecessor = refl
-uncounted LinkInForce = refl
-uncounted LongTerm = refl
-uncounted Current = refl
-uncounted History = refl
-uncounted Deletion = refl
-uncounted Dependency = refl
-uncounted Job = refl
+uncounted t = refl
 
 pub made : (t : Table) → created (first_before t) (first_table_at 0 t) ≡ first_after t
 made Meta = refl
-made CalendarEntry = refl
-made Period = refl
-made Application = refl
-made RunCycle = refl
-made Offset = refl
-made Predecessor = refl
-made LinkInForce = refl
-made LongTerm = refl
-made Current = refl
-made History = refl
-made Deletion = refl
-made Dependency = refl
-made Job = refl
+made t = refl
 
 -- ---- a table is taken away
 
@@ -124,19 +73,7 @@ IsDropText name size p = (p.statement ≡ written.DropTable false name) × (p.fo
 drop_says : (t : Table) → IfRead (first (drop_sql t)) (IsDropText (name t) (length (drop_sql t)))
 unfolding everything
 drop_says Meta = (refl, refl, refl, refl, refl)
-drop_says CalendarEntry = (refl, refl, refl, refl, refl)
-drop_says Period = (refl, refl, refl, refl, refl)
-drop_says Application = (refl, refl, refl, refl, refl)
-drop_says RunCycle = (refl, refl, refl, refl, refl)
-drop_says Offset = (refl, refl, refl, refl, refl)
-drop_says Predecessor = (refl, refl, refl, refl, refl)
-drop_says LinkInForce = (refl, refl, refl, refl, refl)
-drop_says LongTerm = (refl, refl, refl, refl, refl)
-drop_says Current = (refl, refl, refl, refl, refl)
-drop_says History = (refl, refl, refl, refl, refl)
-drop_says Deletion = (refl, refl, refl, refl, refl)
-drop_says Dependency = (refl, refl, refl, refl, refl)
-drop_says Job = (refl, refl, refl, refl, refl)
+drop_says t = (refl, refl, refl, refl, refl)
 
 drop_planned : (schema : Schema) (p : Parsed) (name : List ℕ) (at : ℕ) → p.statement ≡ written.DropTable false name
     → p.formats ≡ [] → compile.is_reserved name ≡ false → view_named schema name ≡ None → table_named schema name ≡ Some at
@@ -162,19 +99,7 @@ select_says : (t : Table) → IfRead (first (first_select_sql t)) (IsBareText (l
     (map shown_column (first_names t)))
 unfolding everything
 select_says Meta = (refl, refl, refl, refl, refl, refl)
-select_says CalendarEntry = (refl, refl, refl, refl, refl, refl)
-select_says Period = (refl, refl, refl, refl, refl, refl)
-select_says Application = (refl, refl, refl, refl, refl, refl)
-select_says RunCycle = (refl, refl, refl, refl, refl, refl)
-select_says Offset = (refl, refl, refl, refl, refl, refl)
-select_says Predecessor = (refl, refl, refl, refl, refl, refl)
-select_says LinkInForce = (refl, refl, refl, refl, refl, refl)
-select_says LongTerm = (refl, refl, refl, refl, refl, refl)
-select_says Current = (refl, refl, refl, refl, refl, refl)
-select_says History = (refl, refl, refl, refl, refl, refl)
-select_says Deletion = (refl, refl, refl, refl, refl, refl)
-select_says Dependency = (refl, refl, refl, refl, refl, refl)
-select_says Job = (refl, refl, refl, refl, refl, refl)
+select_says t = (refl, refl, refl, refl, refl, refl)
 
 select_fits : (tree : ℕ) (t : Table) → (has_all (first_table_at tree t) (first_names t) ≡ true)
     × (nat_lt (length (first_names t)) max_budget ≡ true)
@@ -183,19 +108,7 @@ select_fits : (tree : ℕ) (t : Table) → (has_all (first_table_at tree t) (fir
     × (are_typed [] (row_classes (first_table_at tree t) ∷ []) (first_terms t) ≡ true)
 unfolding everything
 select_fits tree Meta = (refl, refl, refl, refl, refl)
-select_fits tree CalendarEntry = (refl, refl, refl, refl, refl)
-select_fits tree Period = (refl, refl, refl, refl, refl)
-select_fits tree Application = (refl, refl, refl, refl, refl)
-select_fits tree RunCycle = (refl, refl, refl, refl, refl)
-select_fits tree Offset = (refl, refl, refl, refl, refl)
-select_fits tree Predecessor = (refl, refl, refl, refl, refl)
-select_fits tree LinkInForce = (refl, refl, refl, refl, refl)
-select_fits tree LongTerm = (refl, refl, refl, refl, refl)
-select_fits tree Current = (refl, refl, refl, refl, refl)
-select_fits tree History = (refl, refl, refl, refl, refl)
-select_fits tree Deletion = (refl, refl, refl, refl, refl)
-select_fits tree Dependency = (refl, refl, refl, refl, refl)
-select_fits tree Job = (refl, refl, refl, refl, refl)
+select_fits tree t = (refl, refl, refl, refl, refl)
 
 pub selects : (schema : Schema) (tree at : ℕ) (t : Table) → TableStandsAt schema (first_table_at tree t) at
     → ShowsRows schema (first_select_sql t) tree (first_terms t) (first_names t)

@@ -149,20 +149,8 @@ names_after Job = tt
 -- the run cycles alone are referred to
 refers_to : (t : Table) → (same_name (name t) (name RunCycle) ≡ false) ⊎ (t ≡ RunCycle)
 unfolding same_name
-refers_to Meta = inl refl
-refers_to CalendarEntry = inl refl
-refers_to Period = inl refl
-refers_to Application = inl refl
 refers_to RunCycle = inr refl
-refers_to Offset = inl refl
-refers_to Predecessor = inl refl
-refers_to LinkInForce = inl refl
-refers_to LongTerm = inl refl
-refers_to Current = inl refl
-refers_to History = inl refl
-refers_to Deletion = inl refl
-refers_to Dependency = inl refl
-refers_to Job = inl refl
+refers_to t = inl refl
 
 -- the name of each is free once all are taken away
 free_name : (schema : Schema) (t : Table) → AllByRecursion (λ n. is_used schema n ≡ false) plan_names

@@ -1,39 +1,42 @@
 -- The tables of schema 1, whose lists of predecessors have no limits.
-use Rattle.std.specs.Prelude.{ℕ, ◌==◌, Bool, not, List, [], ◌∷◌, filter, codes}
+use Rattle.std.specs.Prelude.{ℕ, ◌==◌, Bool, not, List, [], ◌∷◌, filter, take}
 use Rattle.std.specs.List.{list_any}
 use Rattle.sqlite.specs.Change.{created}
 use Rattle.sqlite.specs.Order.{Row}
-use Rattle.sqlite.specs.Kind.TheVariants.{Text}
 use Rattle.sqlite.specs.Schema.{Schema}
 use Rattle.sqlite.specs.Table.{Table as Described}
-use Rattle.sqlite.specs.Term.{Term, col, eval_all}
+use Rattle.sqlite.specs.Term.{Term, eval_all}
 use Rattle.sqlite_schema.specs.declared.schema.Column.{Column}
-use Rattle.table_schema.specs.Cells.{column_names, select_terms}
 use Rattle.sqlite_trees.specs.Tree.{IsAscending}
+use Rattle.table_schema.specs.Form.{Form, columns_of, names, select_terms_of}
+use Rattle.table_schema.specs.Forms.{form}
 use Rattle.table_schema.specs.Free.{IsFree}
 use Rattle.table_schema.specs.Made.{earlier, up_to}
 use Rattle.table_schema.specs.Places.{TableStandsAt, TreesDiffer}
-use Rattle.table_schema.specs.Schema.{RefersAside, all_tables, checks, columns, key, name, needed, no_schema, orders}
+use Rattle.table_schema.specs.Schema.{RefersAside, all_tables, checks, key, name, no_schema, orders}
 use Rattle.table_schema.specs.Schema.{plain_table, primary, references, uniques}
 use Rattle.table_schema.specs.declared.tables.Table.{Table}
 use Rattle.table_schema.specs.declared.tables.Table.TheVariants.{LinkInForce, Offset, Predecessor}
 
--- the columns: those of the current schema but for the limits of predecessors
+-- without its limit, which stands last
+abbrev pub without_limit : Form → Form
+without_limit f = record f { columns = take 2 f.columns }
+
+-- as the table is described in schema 1
+abbrev pub first_form : Table → Form
+first_form Predecessor = without_limit (form Predecessor)
+first_form LinkInForce = without_limit (form LinkInForce)
+first_form t = form t
+
 abbrev pub first_columns : Table → List Column
-first_columns Predecessor = needed (codes "app") Text ∷ needed (codes "pred") Text ∷ []
-first_columns LinkInForce = needed (codes "app") Text ∷ needed (codes "pred") Text ∷ []
-first_columns t = columns t
+first_columns t = columns_of (first_form t)
 
 abbrev pub first_names : Table → List (List ℕ)
-first_names Predecessor = codes "app" ∷ codes "pred" ∷ []
-first_names LinkInForce = codes "app" ∷ codes "pred" ∷ []
-first_names t = column_names t
+first_names t = names (first_form t)
 
 -- a row as it is shown: its columns
 abbrev pub first_terms : Table → List Term
-first_terms Predecessor = col 1 1 ∷ col 1 2 ∷ []
-first_terms LinkInForce = col 1 1 ∷ col 1 2 ∷ []
-first_terms t = select_terms t
+first_terms t = select_terms_of (first_form t)
 
 abbrev pub first_shown : Table → Row → Row
 first_shown t row = eval_all (first_terms t) ([] ∷ row ∷ [])

@@ -40,9 +40,7 @@ use Rattle.table_schema.specs.Rows.{AreOfKinds, HaveRowids, matches, placed, sto
 use Rattle.table_schema.specs.Schema.{checks, columns, key, name, orders, primary, references, table_at, uniques}
 use Rattle.table_schema.specs.Texts.{delete_sql, insert_sql}
 use Rattle.table_schema.specs.declared.tables.Table.{Table}
-use Rattle.table_schema.specs.declared.tables.Table.TheVariants.{Meta, CalendarEntry, Period, Application, RunCycle}
-use Rattle.table_schema.specs.declared.tables.Table.TheVariants.{Offset, Predecessor, LinkInForce, LongTerm, Current}
-use Rattle.table_schema.specs.declared.tables.Table.TheVariants.{History, Deletion, Dependency, Job}
+use Rattle.table_schema.specs.declared.tables.Table.TheVariants.{Meta}
 use Rattle.table_schema.specs.Places.{TableStandsAt, TreesDiffer}
 use Rattle.table_schema.proofs.TextMeanings.{delete_means, insert_means}
 
@@ -119,19 +117,7 @@ KeepsOthers schema tree old new = AllByRecursion (λ d. d.tree ≢ tree → new 
 pub given_rows : (t : Table) (cells : Row) → value_rows cells (width t) (length (insert_terms t) / width t)
     (insert_terms t) ≡ stored t cells ∷ []
 given_rows Meta cells = refl
-given_rows CalendarEntry cells = refl
-given_rows Period cells = refl
-given_rows Application cells = refl
-given_rows RunCycle cells = refl
-given_rows Offset cells = refl
-given_rows Predecessor cells = refl
-given_rows LinkInForce cells = refl
-given_rows LongTerm cells = refl
-given_rows Current cells = refl
-given_rows History cells = refl
-given_rows Deletion cells = refl
-given_rows Dependency cells = refl
-given_rows Job cells = refl
+given_rows t cells = refl
 
 module _ (schema : Schema) (at tree : ℕ) (t : Table) (it : TableStandsAt schema (table_at tree t) at) where
   pub own : (db : Trees) → overlay db [] tree ≡ db tree

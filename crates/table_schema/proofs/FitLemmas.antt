@@ -14,10 +14,7 @@ use Rattle.sqlite_typing.specs.Types as types
 use Rattle.sqlite_value.specs.Order.{column, number}
 use Rattle.table_schema.specs.Cells.{insert_terms}
 use Rattle.table_schema.specs.declared.tables.Table.{Table}
-use Rattle.table_schema.specs.declared.tables.Table.TheVariants.{Meta, CalendarEntry, Period, Application}
-use Rattle.table_schema.specs.declared.tables.Table.TheVariants.{RunCycle, Offset, Predecessor, LinkInForce}
-use Rattle.table_schema.specs.declared.tables.Table.TheVariants.{LongTerm, Current, History, Deletion}
-use Rattle.table_schema.specs.declared.tables.Table.TheVariants.{Dependency, Job}
+use Rattle.table_schema.specs.declared.tables.Table.TheVariants.{Meta}
 
 -- no value of a row is a NaN, so each can be bound
 
@@ -28,19 +25,7 @@ is_given _ = false
 
 terms_given : (t : Table) → list_all is_given (insert_terms t) ≡ true
 terms_given Meta = refl
-terms_given CalendarEntry = refl
-terms_given Period = refl
-terms_given Application = refl
-terms_given RunCycle = refl
-terms_given Offset = refl
-terms_given Predecessor = refl
-terms_given LinkInForce = refl
-terms_given LongTerm = refl
-terms_given Current = refl
-terms_given History = refl
-terms_given Deletion = refl
-terms_given Dependency = refl
-terms_given Job = refl
+terms_given t = refl
 
 abbrev IsBindable : Value → Type 0
 IsBindable v = is_some (class_of v) ≡ true

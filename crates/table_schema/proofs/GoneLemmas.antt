@@ -53,9 +53,9 @@ use Rattle.std.proofs.Common.{length}
 use Rattle.sqlite_schema.specs.Rules.{is_key_if_to, is_key_of}
 use Rattle.sqlite_rules.specs.Edit.{row_at}
 use Rattle.table_schema.specs.Schema.{HasTables, name, table_at, to_run_cycle}
-use Rattle.table_schema.specs.declared.tables.Table.TheVariants.{Meta, CalendarEntry, Period, Application, RunCycle}
-use Rattle.table_schema.specs.declared.tables.Table.TheVariants.{Offset, Predecessor, LinkInForce, LongTerm, Current}
-use Rattle.table_schema.specs.declared.tables.Table.TheVariants.{History, Deletion, Dependency, Job}
+use Rattle.table_schema.specs.declared.tables.Table.TheVariants.{RunCycle}
+use Rattle.table_schema.specs.declared.tables.Table.TheVariants.{Offset, LinkInForce}
+use Rattle.table_schema.specs.declared.tables.Table.TheVariants.{Dependency}
 use Rattle.table_schema.proofs.CycleLemmas.{child_matches}
 use Rattle.table_schema.proofs.MeaningLemmas.{IsWhole}
 use Rattle.table_schema.proofs.StopLemmas.{IsOrdinary, in_vain, same_error, some_same, stopped}
@@ -104,24 +104,12 @@ module _ (schema : Schema) (it : HasTables schema) where
       → Applies schema Enforced db (edit_of db (table_at (it.trees t) t) (ids_of rows) Given 0 []) mid
       → AllByRecursion (IsChildless mid) (works schema Enforced 0 (it.trees t) (taken_by db (edit_of db (table_at (it.trees t) t) (ids_of rows) Given 0 [])) [])
   unfolding same_name
-  finds_none Meta key db mid rows rowids alone same applies = unreferred_childless Meta refl mid _
-  finds_none CalendarEntry key db mid rows rowids alone same applies = unreferred_childless CalendarEntry refl mid _
-  finds_none Period key db mid rows rowids alone same applies = unreferred_childless Period refl mid _
-  finds_none Application key db mid rows rowids alone same applies = unreferred_childless Application refl mid _
   finds_none RunCycle key db mid rows rowids alone same applies =
       childless schema (it.at RunCycle) (it.trees RunCycle) (it.trees Offset) (it.stands RunCycle) (is_listed schema it RunCycle) it.apart (offsets_refer schema it) key (map (row_at (db (it.trees RunCycle))) (ids_of rows)) mid
       (found_pass (matches RunCycle key) (db (it.trees RunCycle)) rows rowids same)
       (λ r there. all_has _ (db (it.trees Offset)) r alone (subst (λ rows. Has rows r) (all_has (λ (d : Described). d.tree ≢ it.trees RunCycle → mid d.tree ≡ db d.tree) schema.tables (table_at (it.trees Offset) Offset) applies.tables
       (is_listed schema it Offset) (offsets_apart schema it)) there))
-  finds_none Offset key db mid rows rowids alone same applies = unreferred_childless Offset refl mid _
-  finds_none Predecessor key db mid rows rowids alone same applies = unreferred_childless Predecessor refl mid _
-  finds_none LinkInForce key db mid rows rowids alone same applies = unreferred_childless LinkInForce refl mid _
-  finds_none LongTerm key db mid rows rowids alone same applies = unreferred_childless LongTerm refl mid _
-  finds_none Current key db mid rows rowids alone same applies = unreferred_childless Current refl mid _
-  finds_none History key db mid rows rowids alone same applies = unreferred_childless History refl mid _
-  finds_none Deletion key db mid rows rowids alone same applies = unreferred_childless Deletion refl mid _
-  finds_none Dependency key db mid rows rowids alone same applies = unreferred_childless Dependency refl mid _
-  finds_none Job key db mid rows rowids alone same applies = unreferred_childless Job refl mid _
+  finds_none t key db mid rows rowids alone same applies = unreferred_childless t refl mid _
 
   settles : (t : Table) (key : Row) (db next : Trees) (rows : List Row) → HaveRowids (db (it.trees t)) → IsAlone t key (λ u. db (it.trees u))
       → IsPermutation (map (λ r. rowid r ∷ []) (filter (matches t key) (db (it.trees t)))) rows
@@ -320,20 +308,9 @@ ordinary place p = record { quiet = refl; plain = refl; begins = λ e. cc; commi
 
 -- a key has so many values
 key_length : (t : Table) (key : Row) → IsKeyOf t key → key_width t ≡ length key
-key_length Meta key fit = sym (ap length fit.1)
-key_length CalendarEntry key fit = sym (ap length fit.1)
-key_length Period key fit = sym (ap length fit.1)
-key_length Application key fit = sym (ap length fit.1)
-key_length RunCycle key fit = sym (ap length fit.1)
-key_length Offset key fit = sym (ap length fit.1)
-key_length Predecessor key fit = sym (ap length fit.1)
 key_length LinkInForce key fit = sym (ap length fit.2)
-key_length LongTerm key fit = sym (ap length fit.1)
-key_length Current key fit = sym (ap length fit.1)
-key_length History key fit = sym (ap length fit.1)
-key_length Deletion key fit = sym (ap length fit.1)
 key_length Dependency key fit = sym (ap length fit.2)
-key_length Job key fit = sym (ap length fit.1)
+key_length t key fit = sym (ap length fit.1)
 
 pub lose_fails : (t : Table) (key : Row) (old new : State) (e : Error) → IsSoundPlan old
     → LosesKey t key (tables_of old.now.trees) → ExecutesInside 0 (delete_sql t) key old new (Err e) → MayFail old new e

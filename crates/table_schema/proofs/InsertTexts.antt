@@ -8,9 +8,7 @@ use Rattle.table_schema.specs.Schema.{table_at}
 use Rattle.table_schema.specs.Texts.{insert_sql}
 use Rattle.table_schema.specs.Cells.{insert_terms, width, column_names}
 use Rattle.table_schema.specs.declared.tables.Table.{Table}
-use Rattle.table_schema.specs.declared.tables.Table.TheVariants.{Meta, CalendarEntry, Period, Application, RunCycle}
-use Rattle.table_schema.specs.declared.tables.Table.TheVariants.{Offset, Predecessor, LinkInForce, LongTerm, Current}
-use Rattle.table_schema.specs.declared.tables.Table.TheVariants.{History, Deletion, Dependency, Job}
+use Rattle.table_schema.specs.declared.tables.Table.TheVariants.{Meta}
 use Rattle.table_schema.proofs.Written.{IfRead, Inserts}
 
 abbrev pub SaysInsert : Schema → ℕ → Table → Type 0
@@ -19,16 +17,4 @@ SaysInsert schema tree t = IfRead (first (insert_sql t)) (Inserts schema (table_
 pub insert_says : (schema : Schema) (tree : ℕ) (t : Table) → SaysInsert schema tree t
 unfolding everything
 insert_says schema tree Meta = record { whole = refl; parameters = refl; is = refl; target = refl; timeless = refl; rows = refl }
-insert_says schema tree CalendarEntry = record { whole = refl; parameters = refl; is = refl; target = refl; timeless = refl; rows = refl }
-insert_says schema tree Period = record { whole = refl; parameters = refl; is = refl; target = refl; timeless = refl; rows = refl }
-insert_says schema tree Application = record { whole = refl; parameters = refl; is = refl; target = refl; timeless = refl; rows = refl }
-insert_says schema tree RunCycle = record { whole = refl; parameters = refl; is = refl; target = refl; timeless = refl; rows = refl }
-insert_says schema tree Offset = record { whole = refl; parameters = refl; is = refl; target = refl; timeless = refl; rows = refl }
-insert_says schema tree Predecessor = record { whole = refl; parameters = refl; is = refl; target = refl; timeless = refl; rows = refl }
-insert_says schema tree LinkInForce = record { whole = refl; parameters = refl; is = refl; target = refl; timeless = refl; rows = refl }
-insert_says schema tree LongTerm = record { whole = refl; parameters = refl; is = refl; target = refl; timeless = refl; rows = refl }
-insert_says schema tree Current = record { whole = refl; parameters = refl; is = refl; target = refl; timeless = refl; rows = refl }
-insert_says schema tree History = record { whole = refl; parameters = refl; is = refl; target = refl; timeless = refl; rows = refl }
-insert_says schema tree Deletion = record { whole = refl; parameters = refl; is = refl; target = refl; timeless = refl; rows = refl }
-insert_says schema tree Dependency = record { whole = refl; parameters = refl; is = refl; target = refl; timeless = refl; rows = refl }
-insert_says schema tree Job = record { whole = refl; parameters = refl; is = refl; target = refl; timeless = refl; rows = refl }
+insert_says schema tree t = record { whole = refl; parameters = refl; is = refl; target = refl; timeless = refl; rows = refl }

@@ -28,19 +28,7 @@ use Rattle.table_schema.proofs.CreatedLemmas.{stands_last, stands_still, stay_fr
 
 in_order : (t : Table) → earlier t ++ t ∷ later t ≡ all_tables
 in_order Meta = refl
-in_order CalendarEntry = refl
-in_order Period = refl
-in_order Application = refl
-in_order RunCycle = refl
-in_order Offset = refl
-in_order Predecessor = refl
-in_order LinkInForce = refl
-in_order LongTerm = refl
-in_order Current = refl
-in_order History = refl
-in_order Deletion = refl
-in_order Dependency = refl
-in_order Job = refl
+in_order t = refl
 
 pub made_then : (us vs : List Table) (schema : Schema) (t : Table)
     → with_tables schema (us ++ t ∷ vs) ≡ with_tables (created (with_tables schema us) (table_at 0 t)) vs
@@ -185,19 +173,10 @@ AreOwn trees d = AllByRecursion (IsOwnIndex trees) (automatics d 0 (d.tree + 1) 
 new_own : (trees : Table → ℕ) (n : ℕ) (u : Table) → ((t : Table) → n ≡ trees t → uniques t ≡ uniques u)
     → AreOwn trees (table_at n u)
 new_own trees n Meta same = tt
-new_own trees n CalendarEntry same = ((λ t it. (same t it, refl)), tt)
-new_own trees n Period same = ((λ t it. (same t it, refl)), tt)
-new_own trees n Application same = ((λ t it. (same t it, refl)), tt)
-new_own trees n RunCycle same = ((λ t it. (same t it, refl)), tt)
-new_own trees n Offset same = ((λ t it. (same t it, refl)), tt)
-new_own trees n Predecessor same = ((λ t it. (same t it, refl)), tt)
-new_own trees n LinkInForce same = ((λ t it. (same t it, refl)), tt)
-new_own trees n LongTerm same = ((λ t it. (same t it, refl)), tt)
 new_own trees n Current same = tt
-new_own trees n History same = ((λ t it. (same t it, refl)), tt)
 new_own trees n Deletion same = tt
-new_own trees n Dependency same = ((λ t it. (same t it, refl)), tt)
 new_own trees n Job same = tt
+new_own trees n u same = ((λ t it. (same t it, refl)), tt)
 
 indexes_made : (trees : Table → ℕ) (us : List Table) (schema : Schema)
     → AllByRecursion (IsOwnIndex trees) schema.indexes → AllMade (AreOwn trees) schema us

@@ -9,42 +9,15 @@ use Rattle.table_schema.specs.Made.{earlier, later, up_to}
 use Rattle.table_schema.specs.Writes.{Turns}
 use Rattle.table_schema.specs.Schema.{all_tables, place}
 use Rattle.table_schema.specs.declared.tables.Table.{Table}
-use Rattle.table_schema.specs.declared.tables.Table.TheVariants.{Meta, CalendarEntry, Period, Application}
-use Rattle.table_schema.specs.declared.tables.Table.TheVariants.{RunCycle, Offset, Predecessor, LinkInForce}
-use Rattle.table_schema.specs.declared.tables.Table.TheVariants.{LongTerm, Current, History, Deletion}
-use Rattle.table_schema.specs.declared.tables.Table.TheVariants.{Dependency, Job}
+use Rattle.table_schema.specs.declared.tables.Table.TheVariants.{Meta}
 
 pub up_to_is : (t : Table) → up_to t ≡ take (place t + 1) all_tables
 up_to_is Meta = refl
-up_to_is CalendarEntry = refl
-up_to_is Period = refl
-up_to_is Application = refl
-up_to_is RunCycle = refl
-up_to_is Offset = refl
-up_to_is Predecessor = refl
-up_to_is LinkInForce = refl
-up_to_is LongTerm = refl
-up_to_is Current = refl
-up_to_is History = refl
-up_to_is Deletion = refl
-up_to_is Dependency = refl
-up_to_is Job = refl
+up_to_is t = refl
 
 pub from_it_is : (t : Table) → t ∷ later t ≡ drop (place t) all_tables
 from_it_is Meta = refl
-from_it_is CalendarEntry = refl
-from_it_is Period = refl
-from_it_is Application = refl
-from_it_is RunCycle = refl
-from_it_is Offset = refl
-from_it_is Predecessor = refl
-from_it_is LinkInForce = refl
-from_it_is LongTerm = refl
-from_it_is Current = refl
-from_it_is History = refl
-from_it_is Deletion = refl
-from_it_is Dependency = refl
-from_it_is Job = refl
+from_it_is t = refl
 
 pub place_at : (i : ℕ) (t : Table) → i < 14 → place (get_or all_tables i t) ≡ i
 place_at zero t low = refl

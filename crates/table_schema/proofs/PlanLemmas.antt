@@ -15,9 +15,8 @@ use Rattle.table_schema.specs.Rows.{HaveRowids, IsAlone, matches}
 use Rattle.table_schema.specs.Schema.{HasTables, IsAside, name, table_at, to_run_cycle}
 use Rattle.table_schema.specs.Texts.{delete_sql}
 use Rattle.table_schema.specs.declared.tables.Table.{Table}
-use Rattle.table_schema.specs.declared.tables.Table.TheVariants.{Meta, CalendarEntry, Period, Application, RunCycle}
-use Rattle.table_schema.specs.declared.tables.Table.TheVariants.{Offset, Predecessor, LinkInForce, LongTerm, Current}
-use Rattle.table_schema.specs.declared.tables.Table.TheVariants.{History, Deletion, Dependency, Job}
+use Rattle.table_schema.specs.declared.tables.Table.TheVariants.{RunCycle}
+use Rattle.table_schema.specs.declared.tables.Table.TheVariants.{Offset}
 use Rattle.table_schema.proofs.EffectLemmas.{IsUnreferred, KeepsOthers, none_referred, takes_rows, takes_rows_by}
 use Rattle.table_schema.proofs.RunCycleLemmas.{OffsetsRefer, cycles_alone}
 
@@ -69,17 +68,5 @@ module _ (schema : Schema) (plan : HasTables schema) where
       → (new.now.schema ≡ schema) × (new.now.trees (plan.trees t) ≡ filter (λ r. not (matches t values r)) (old.now.trees (plan.trees t)))
       × KeepsOthers schema (plan.trees t) old.now.trees new.now.trees
   unfolding same_name
-  takes Meta values old new count has rowids free h = from_unreferred Meta refl values old new count has rowids h
-  takes CalendarEntry values old new count has rowids free h = from_unreferred CalendarEntry refl values old new count has rowids h
-  takes Period values old new count has rowids free h = from_unreferred Period refl values old new count has rowids h
-  takes Application values old new count has rowids free h = from_unreferred Application refl values old new count has rowids h
   takes RunCycle values old new count has rowids free h = from_run_cycles values old new count has rowids free h
-  takes Offset values old new count has rowids free h = from_unreferred Offset refl values old new count has rowids h
-  takes Predecessor values old new count has rowids free h = from_unreferred Predecessor refl values old new count has rowids h
-  takes LinkInForce values old new count has rowids free h = from_unreferred LinkInForce refl values old new count has rowids h
-  takes LongTerm values old new count has rowids free h = from_unreferred LongTerm refl values old new count has rowids h
-  takes Current values old new count has rowids free h = from_unreferred Current refl values old new count has rowids h
-  takes History values old new count has rowids free h = from_unreferred History refl values old new count has rowids h
-  takes Deletion values old new count has rowids free h = from_unreferred Deletion refl values old new count has rowids h
-  takes Dependency values old new count has rowids free h = from_unreferred Dependency refl values old new count has rowids h
-  takes Job values old new count has rowids free h = from_unreferred Job refl values old new count has rowids h
+  takes t values old new count has rowids free h = from_unreferred t refl values old new count has rowids h

@@ -34,10 +34,9 @@ use Rattle.table_schema.specs.Rows.{MayFail}
 use Rattle.table_schema.specs.Schema.{name, table_at, uniques}
 use Rattle.table_schema.specs.Texts.{create_sql}
 use Rattle.table_schema.specs.declared.tables.Table.{Table}
-use Rattle.table_schema.specs.declared.tables.Table.TheVariants.{Meta, CalendarEntry, Period, Application}
-use Rattle.table_schema.specs.declared.tables.Table.TheVariants.{RunCycle, Offset, Predecessor, LinkInForce}
-use Rattle.table_schema.specs.declared.tables.Table.TheVariants.{LongTerm, Current, History, Deletion}
-use Rattle.table_schema.specs.declared.tables.Table.TheVariants.{Dependency, Job}
+use Rattle.table_schema.specs.declared.tables.Table.TheVariants.{Meta}
+use Rattle.table_schema.specs.declared.tables.Table.TheVariants.{Current, Deletion}
+use Rattle.table_schema.specs.declared.tables.Table.TheVariants.{Job}
 use Rattle.table_schema.proofs.CreatedLemmas.{front_all, stays_uncounted}
 use Rattle.table_schema.proofs.CreateTexts.{create_defines, create_means}
 use Rattle.table_schema.proofs.MadeLemmas.{CanMake, all_names}
@@ -61,19 +60,10 @@ unfolding
     Rattle.sqlite_trees.specs.Sound.same_name Rattle.sqlite_trees.specs.Sound.begins
     Rattle.sqlite_value.specs.Order.value_cmp lib.Ieee.is_nan lib.Ieee.lt
 fits Meta = (refl, refl, refl, tt, refl, refl, refl, refl)
-fits CalendarEntry = (refl, refl, refl, (refl, tt), refl, refl, refl, refl)
-fits Period = (refl, refl, refl, (refl, tt), refl, refl, refl, refl)
-fits Application = (refl, refl, refl, (refl, tt), refl, refl, refl, refl)
-fits RunCycle = (refl, refl, refl, (refl, tt), refl, refl, refl, refl)
-fits Offset = (refl, refl, refl, (refl, tt), refl, refl, refl, refl)
-fits Predecessor = (refl, refl, refl, (refl, tt), refl, refl, refl, refl)
-fits LinkInForce = (refl, refl, refl, (refl, tt), refl, refl, refl, refl)
-fits LongTerm = (refl, refl, refl, (refl, tt), refl, refl, refl, refl)
 fits Current = (refl, refl, refl, tt, refl, refl, refl, refl)
-fits History = (refl, refl, refl, (refl, tt), refl, refl, refl, refl)
 fits Deletion = (refl, refl, refl, tt, refl, refl, refl, refl)
-fits Dependency = (refl, refl, refl, (refl, tt), refl, refl, refl, refl)
 fits Job = (refl, refl, refl, tt, refl, refl, refl, refl)
+fits t = (refl, refl, refl, (refl, tt), refl, refl, refl, refl)
 
 pub has_passes : {X : Type 0} (P : X → Type 0) (xs : List X) (x : X) → AllByRecursion P xs → Has xs x → P x
 has_passes P [] x all here = absurd here

@@ -9,10 +9,7 @@ use Rattle.table_schema.specs.Schema.{table_at, name}
 use Rattle.table_schema.specs.Texts.{select_sql}
 use Rattle.table_schema.specs.Cells.{column_names, select_terms}
 use Rattle.table_schema.specs.declared.tables.Table.{Table}
-use Rattle.table_schema.specs.declared.tables.Table.TheVariants.{Meta, CalendarEntry, Period, Application}
-use Rattle.table_schema.specs.declared.tables.Table.TheVariants.{RunCycle, Offset, Predecessor, LinkInForce}
-use Rattle.table_schema.specs.declared.tables.Table.TheVariants.{LongTerm, Current, History, Deletion}
-use Rattle.table_schema.specs.declared.tables.Table.TheVariants.{Dependency, Job}
+use Rattle.table_schema.specs.declared.tables.Table.TheVariants.{Meta}
 use Rattle.table_schema.proofs.ColumnQueries.{columns_show}
 use Rattle.table_schema.proofs.QueryMeanings.{ShowsRows}
 use Rattle.table_schema.specs.Places.{TableStandsAt}
@@ -22,19 +19,7 @@ use Rattle.table_schema.proofs.WrittenQueries.{shown_column, shown_as, IsBareTex
 select_text : (t : Table) → IfRead (first (select_sql t)) (IsBareText (length (select_sql t)) (name t) (map shown_column (column_names t)))
 unfolding everything
 select_text Meta = (refl, refl, refl, refl, refl, refl)
-select_text CalendarEntry = (refl, refl, refl, refl, refl, refl)
-select_text Period = (refl, refl, refl, refl, refl, refl)
-select_text Application = (refl, refl, refl, refl, refl, refl)
-select_text RunCycle = (refl, refl, refl, refl, refl, refl)
-select_text Offset = (refl, refl, refl, refl, refl, refl)
-select_text Predecessor = (refl, refl, refl, refl, refl, refl)
-select_text LinkInForce = (refl, refl, refl, refl, refl, refl)
-select_text LongTerm = (refl, refl, refl, refl, refl, refl)
-select_text Current = (refl, refl, refl, refl, refl, refl)
-select_text History = (refl, refl, refl, refl, refl, refl)
-select_text Deletion = (refl, refl, refl, refl, refl, refl)
-select_text Dependency = (refl, refl, refl, refl, refl, refl)
-select_text Job = (refl, refl, refl, refl, refl, refl)
+select_text t = (refl, refl, refl, refl, refl, refl)
 
 select_fits : (tree : ℕ) (t : Table) → (has_all (table_at tree t) (column_names t) ≡ true) × (nat_lt (length (column_names t)) max_budget ≡ true)
     × (map (λ o. o.term) (map (shown_as (table_at tree t)) (column_names t)) ≡ select_terms t)
@@ -42,19 +27,7 @@ select_fits : (tree : ℕ) (t : Table) → (has_all (table_at tree t) (column_na
     × (are_typed [] (row_classes (table_at tree t) ∷ []) (select_terms t) ≡ true)
 unfolding everything
 select_fits tree Meta = (refl, refl, refl, refl, refl)
-select_fits tree CalendarEntry = (refl, refl, refl, refl, refl)
-select_fits tree Period = (refl, refl, refl, refl, refl)
-select_fits tree Application = (refl, refl, refl, refl, refl)
-select_fits tree RunCycle = (refl, refl, refl, refl, refl)
-select_fits tree Offset = (refl, refl, refl, refl, refl)
-select_fits tree Predecessor = (refl, refl, refl, refl, refl)
-select_fits tree LinkInForce = (refl, refl, refl, refl, refl)
-select_fits tree LongTerm = (refl, refl, refl, refl, refl)
-select_fits tree Current = (refl, refl, refl, refl, refl)
-select_fits tree History = (refl, refl, refl, refl, refl)
-select_fits tree Deletion = (refl, refl, refl, refl, refl)
-select_fits tree Dependency = (refl, refl, refl, refl, refl)
-select_fits tree Job = (refl, refl, refl, refl, refl)
+select_fits tree t = (refl, refl, refl, refl, refl)
 
 pub selects : (schema : Schema) (tree at : ℕ) (t : Table) → TableStandsAt schema (table_at tree t) at → ShowsRows schema (select_sql t) tree (select_terms t) (column_names t)
 selects schema tree at t it =

@@ -33,9 +33,8 @@ use Rattle.table_schema.specs.Rows.{shown, stored, tables_of, with_cells, with_r
 use Rattle.table_schema.specs.Schema.{HasTables, RefersAside, all_tables, name, place, table_at}
 use Rattle.table_schema.specs.Texts.{delete_sql, insert_sql, select_sql}
 use Rattle.table_schema.specs.declared.tables.Table.{Table}
-use Rattle.table_schema.specs.declared.tables.Table.TheVariants.{Meta, CalendarEntry, Period, Application, RunCycle}
-use Rattle.table_schema.specs.declared.tables.Table.TheVariants.{Offset, Predecessor, LinkInForce, LongTerm, Current}
-use Rattle.table_schema.specs.declared.tables.Table.TheVariants.{History, Deletion, Dependency, Job}
+use Rattle.table_schema.specs.declared.tables.Table.TheVariants.{Meta}
+use Rattle.table_schema.specs.declared.tables.Table.TheVariants.{Offset}
 use Rattle.table_schema.proofs.EffectLemmas.{KeepsOthers, puts_row}
 use Rattle.table_schema.proofs.NamedLemmas.{rows_are, tells}
 use Rattle.table_schema.proofs.PlanLemmas.{takes}
@@ -54,19 +53,7 @@ by_name it = unwrap_or (find (λ t. same_name (name t) it) all_tables) Meta
 own_name : (t : Table) → by_name (name t) ≡ t
 unfolding same_name by_name
 own_name Meta = refl
-own_name CalendarEntry = refl
-own_name Period = refl
-own_name Application = refl
-own_name RunCycle = refl
-own_name Offset = refl
-own_name Predecessor = refl
-own_name LinkInForce = refl
-own_name LongTerm = refl
-own_name Current = refl
-own_name History = refl
-own_name Deletion = refl
-own_name Dependency = refl
-own_name Job = refl
+own_name t = refl
 
 by_place : ℕ → Table
 by_place n = unwrap_or (find (λ t. place t == n) all_tables) Meta
@@ -74,19 +61,7 @@ by_place n = unwrap_or (find (λ t. place t == n) all_tables) Meta
 own_place : (t : Table) → by_place (place t) ≡ t
 unfolding by_place
 own_place Meta = refl
-own_place CalendarEntry = refl
-own_place Period = refl
-own_place Application = refl
-own_place RunCycle = refl
-own_place Offset = refl
-own_place Predecessor = refl
-own_place LinkInForce = refl
-own_place LongTerm = refl
-own_place Current = refl
-own_place History = refl
-own_place Deletion = refl
-own_place Dependency = refl
-own_place Job = refl
+own_place t = refl
 
 -- the tables stand in a schema that is the same
 abbrev pub moved : (a b : Schema) → a ≡ b → HasTables a → HasTables b

@@ -20,9 +20,8 @@ use Rattle.sqlite_schema.specs.declared.schema.Table.{Table as Described}
 use Rattle.sqlite_trees.specs.Tree.{IsAscending}
 use Rattle.table_schema.specs.Schema.{HasTables, IsAside, name, references, table_at, to_run_cycle}
 use Rattle.table_schema.specs.declared.tables.Table.{Table}
-use Rattle.table_schema.specs.declared.tables.Table.TheVariants.{Meta, CalendarEntry, Period, Application, RunCycle}
-use Rattle.table_schema.specs.declared.tables.Table.TheVariants.{Offset, Predecessor, LinkInForce, LongTerm, Current}
-use Rattle.table_schema.specs.declared.tables.Table.TheVariants.{History, Deletion, Dependency, Job}
+use Rattle.table_schema.specs.declared.tables.Table.TheVariants.{RunCycle}
+use Rattle.table_schema.specs.declared.tables.Table.TheVariants.{Offset}
 use Rattle.table_schema.specs.Places.{TreesDiffer}
 
 -- ---- another table has the rows that it had, and this one no rows but its own and the new ones
@@ -79,21 +78,9 @@ module _ (schema : Schema) (it : HasTables schema) (t : Table) where
 
   -- a reference of the plan is that of the offsets
   only : (u : Table) (ref : Reference) → Has (references u) ref → ref ≡ to_run_cycle
-  only Meta ref has = absurd has
-  only CalendarEntry ref has = absurd has
-  only Period ref has = absurd has
-  only Application ref has = absurd has
-  only RunCycle ref has = absurd has
   only Offset ref (inl same) = same
   only Offset ref (inr none) = absurd none
-  only Predecessor ref has = absurd has
-  only LinkInForce ref has = absurd has
-  only LongTerm ref has = absurd has
-  only Current ref has = absurd has
-  only History ref has = absurd has
-  only Deletion ref has = absurd has
-  only Dependency ref has = absurd has
-  only Job ref has = absurd has
+  only t ref has = absurd has
 
   own_name : same_name (name RunCycle) to_run_cycle.parent ≡ true
   unfolding same_name

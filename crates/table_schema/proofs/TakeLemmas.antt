@@ -56,9 +56,8 @@ use Rattle.table_schema.specs.Rows.{MayFail, Stands, Tables, stored, tables_of, 
 use Rattle.table_schema.specs.Takes.{HasNone, IsSoundPlan, TakesRow, new_row}
 use Rattle.table_schema.specs.Texts.{insert_sql}
 use Rattle.table_schema.specs.declared.tables.Table.{Table}
-use Rattle.table_schema.specs.declared.tables.Table.TheVariants.{Meta, CalendarEntry, Period, Application, RunCycle}
-use Rattle.table_schema.specs.declared.tables.Table.TheVariants.{Offset, Predecessor, LinkInForce, LongTerm, Current}
-use Rattle.table_schema.specs.declared.tables.Table.TheVariants.{History, Deletion, Dependency, Job}
+use Rattle.table_schema.specs.declared.tables.Table.TheVariants.{RunCycle}
+use Rattle.table_schema.specs.declared.tables.Table.TheVariants.{Offset}
 use Rattle.table_schema.proofs.CycleLemmas.{compared_parts}
 use Rattle.table_schema.proofs.StopLemmas.{IsOrdinary, in_vain, same_error, some_same, stopped}
 use Rattle.table_schema.proofs.Steps.{same_value}
@@ -118,20 +117,8 @@ module _ (schema : Schema) (it : HasTables schema) (own : AllByRecursion (IsOwnI
   news_are = ap (λ r. with_rowid Chosen was r ∷ []) takes.kinds
 
   adds_fit : is_key_of schema to_run_cycle ≡ true → (u : Table) → list_all (is_key_of schema) (references u) ≡ true
-  adds_fit keyed Meta = refl
-  adds_fit keyed CalendarEntry = refl
-  adds_fit keyed Period = refl
-  adds_fit keyed Application = refl
-  adds_fit keyed RunCycle = refl
   adds_fit keyed Offset = and_from _ _ keyed refl
-  adds_fit keyed Predecessor = refl
-  adds_fit keyed LinkInForce = refl
-  adds_fit keyed LongTerm = refl
-  adds_fit keyed Current = refl
-  adds_fit keyed History = refl
-  adds_fit keyed Deletion = refl
-  adds_fit keyed Dependency = refl
-  adds_fit keyed Job = refl
+  adds_fit keyed t = refl
 
   all_pass : (p : Row → Bool) → p row ≡ true → list_all p edit.news ≡ true
   all_pass p h = subst (λ news. list_all p news ≡ true) (sym news_are) (and_from _ _ h refl)

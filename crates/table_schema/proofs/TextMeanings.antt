@@ -14,14 +14,15 @@ use Rattle.sqlite_resolve.specs.Compile.{first}
 use Rattle.sqlite_resolve.specs.Program.{program}
 use Rattle.sqlite_typing.specs.Types.{accepts_program}
 use Rattle.sqlite_syntax.specs.declared.statement.Parsed.{Parsed}
+use Rattle.table_schema.specs.Form.{first_place}
+use Rattle.table_schema.specs.Forms.{form}
 use Rattle.table_schema.specs.Schema.{table_at}
 use Rattle.table_schema.specs.Texts.{insert_sql, delete_sql}
 use Rattle.table_schema.specs.Cells.{insert_terms, width, column_names, delete_tests}
 use Rattle.table_schema.proofs.Steps.{plain_query}
 use Rattle.table_schema.specs.declared.tables.Table.{Table}
-use Rattle.table_schema.specs.declared.tables.Table.TheVariants.{Meta, CalendarEntry, Period, Application, RunCycle}
-use Rattle.table_schema.specs.declared.tables.Table.TheVariants.{Offset, Predecessor, LinkInForce, LongTerm, Current}
-use Rattle.table_schema.specs.declared.tables.Table.TheVariants.{History, Deletion, Dependency, Job}
+use Rattle.table_schema.specs.declared.tables.Table.TheVariants.{LinkInForce}
+use Rattle.table_schema.specs.declared.tables.Table.TheVariants.{Dependency}
 use Rattle.table_schema.proofs.WrittenTests.{IsCompared, equals}
 use Rattle.table_schema.specs.Places.{TableStandsAt}
 use Rattle.table_schema.proofs.Written.{IfRead, Deletes, SaysEqual, SaysPair}
@@ -77,20 +78,9 @@ module _ (schema : Schema) (at tree : ℕ) where
 
   deletes : (t : Table) → TableStandsAt schema (table_at tree t) at
       → IfRead (first (delete_sql t)) (Deletes schema (table_at tree t) at (key_draft tree (delete_tests t)) (length (delete_sql t)) (key_width t))
-  deletes Meta it = equal_deletes schema (table_at tree Meta) at it _ 0 1 _ (key_is_compared tree Meta) (delete_accepted schema tree Meta it.stored it.found) (first (delete_sql Meta)) (delete_says Meta)
-  deletes CalendarEntry it = equal_deletes schema (table_at tree CalendarEntry) at it _ 1 1 _ (key_is_compared tree CalendarEntry) (delete_accepted schema tree CalendarEntry it.stored it.found) (first (delete_sql CalendarEntry)) (delete_says CalendarEntry)
-  deletes Period it = equal_deletes schema (table_at tree Period) at it _ 1 1 _ (key_is_compared tree Period) (delete_accepted schema tree Period it.stored it.found) (first (delete_sql Period)) (delete_says Period)
-  deletes Application it = equal_deletes schema (table_at tree Application) at it _ 1 1 _ (key_is_compared tree Application) (delete_accepted schema tree Application it.stored it.found) (first (delete_sql Application)) (delete_says Application)
-  deletes RunCycle it = equal_deletes schema (table_at tree RunCycle) at it _ 1 1 _ (key_is_compared tree RunCycle) (delete_accepted schema tree RunCycle it.stored it.found) (first (delete_sql RunCycle)) (delete_says RunCycle)
-  deletes Offset it = equal_deletes schema (table_at tree Offset) at it _ 1 1 _ (key_is_compared tree Offset) (delete_accepted schema tree Offset it.stored it.found) (first (delete_sql Offset)) (delete_says Offset)
-  deletes Predecessor it = equal_deletes schema (table_at tree Predecessor) at it _ 1 1 _ (key_is_compared tree Predecessor) (delete_accepted schema tree Predecessor it.stored it.found) (first (delete_sql Predecessor)) (delete_says Predecessor)
   deletes LinkInForce it = pair_deletes schema (table_at tree LinkInForce) at it _ _ 1 2 1 2 _ (key_is_compared tree LinkInForce).0 (key_is_compared tree LinkInForce).1 (delete_accepted schema tree LinkInForce it.stored it.found) (first (delete_sql LinkInForce)) (delete_says LinkInForce)
-  deletes LongTerm it = equal_deletes schema (table_at tree LongTerm) at it _ 0 1 _ (key_is_compared tree LongTerm) (delete_accepted schema tree LongTerm it.stored it.found) (first (delete_sql LongTerm)) (delete_says LongTerm)
-  deletes Current it = equal_deletes schema (table_at tree Current) at it _ 0 1 _ (key_is_compared tree Current) (delete_accepted schema tree Current it.stored it.found) (first (delete_sql Current)) (delete_says Current)
-  deletes History it = equal_deletes schema (table_at tree History) at it _ 0 1 _ (key_is_compared tree History) (delete_accepted schema tree History it.stored it.found) (first (delete_sql History)) (delete_says History)
-  deletes Deletion it = equal_deletes schema (table_at tree Deletion) at it _ 0 1 _ (key_is_compared tree Deletion) (delete_accepted schema tree Deletion it.stored it.found) (first (delete_sql Deletion)) (delete_says Deletion)
   deletes Dependency it = pair_deletes schema (table_at tree Dependency) at it _ _ 1 2 1 2 _ (key_is_compared tree Dependency).0 (key_is_compared tree Dependency).1 (delete_accepted schema tree Dependency it.stored it.found) (first (delete_sql Dependency)) (delete_says Dependency)
-  deletes Job it = equal_deletes schema (table_at tree Job) at it _ 0 1 _ (key_is_compared tree Job) (delete_accepted schema tree Job it.stored it.found) (first (delete_sql Job)) (delete_says Job)
+  deletes t it = equal_deletes schema (table_at tree t) at it _ (first_place (form t).key) 1 _ (key_is_compared tree t) (delete_accepted schema tree t it.stored it.found) (first (delete_sql t)) (delete_says t)
 
   pub delete_means : (t : Table) → TableStandsAt schema (table_at tree t) at
       → Means schema (delete_sql t) (Delete at (record { lets = []; body = plain_query tree (delete_tests t) (col 1 0 ∷ []) })) (key_width t)

@@ -7,16 +7,17 @@ use Rattle.sqlite.specs.Schema.{Schema}
 use Rattle.sqlite_catalog.specs.Change.{is_used}
 use Rattle.sqlite_trees.specs.Tree.{IsAscending}
 use Rattle.table_schema.specs.Places.{TreesDiffer}
-use Rattle.table_schema.specs.Schema.{IsAside, all_tables, name, table_at}
+use Rattle.table_schema.specs.Schema.{IsAside, all_tables, name, table_at, uniques}
 use Rattle.table_schema.specs.declared.tables.Table.{Table}
 
--- the names of the tables, and those of the indexes that their keys make
+-- the names of the indexes that their keys make
+abbrev pub index_names : List Table → List (List ℕ)
+index_names [] = []
+index_names (t ∷ ts) = map (λ _. codes "sqlite_autoindex_" ++ (name t ++ codes "_1")) (uniques t) ++ index_names ts
+
+-- the names of the tables, and of these
 abbrev pub plan_names : List (List ℕ)
-plan_names = map name all_tables ++ (codes "sqlite_autoindex_calendar_entry_1" ∷ codes "sqlite_autoindex_plan_period_1"
-    ∷ codes "sqlite_autoindex_application_1" ∷ codes "sqlite_autoindex_run_cycle_1"
-    ∷ codes "sqlite_autoindex_run_cycle_offset_1" ∷ codes "sqlite_autoindex_predecessor_1"
-    ∷ codes "sqlite_autoindex_link_in_force_1" ∷ codes "sqlite_autoindex_ltp_row_1"
-    ∷ codes "sqlite_autoindex_history_row_1" ∷ codes "sqlite_autoindex_dependency_1" ∷ [])
+plan_names = map name all_tables ++ index_names all_tables
 
 -- nothing stands in the way of the tables of a plan: their names are free, and there is room for their 24 trees; no
 -- table refers to one of them; no two tables have one tree, and no index is of a tree that is still to come; and

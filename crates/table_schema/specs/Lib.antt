@@ -1,3 +1,5 @@
+pub mod Form
+pub mod Forms
 pub mod Texts
 pub mod Named
 pub mod Places

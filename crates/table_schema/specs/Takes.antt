@@ -2,6 +2,8 @@
 use Rattle.std.specs.Prelude.{◌≡◌, ℕ, ℤ, true, false, List, [], ◌∷◌, drop, length, IsTrue}
 use Rattle.std.specs.List.{AllByRecursion, list_any}
 use Rattle.sqlite.specs.Effect.{IsDatabase}
+use Rattle.sqlite.specs.Kind.{Kind}
+use Rattle.sqlite.specs.Kind.TheVariants as kind
 use Rattle.sqlite.specs.Order.{Row}
 use Rattle.sqlite.specs.Rowids.TheVariants.{Chosen}
 use Rattle.sqlite.specs.State.{State}
@@ -15,13 +17,12 @@ use Rattle.sqlite_sql.specs.Ops.{fits_i64}
 use Rattle.sqlite_trees.specs.View.{IsStorable, IsStorableRow}
 use Rattle.sqlite_value.specs.Keys.{plain}
 use Rattle.table_schema.specs.Cells.{column_names}
+use Rattle.table_schema.specs.Form.{key_kinds}
+use Rattle.table_schema.specs.Forms.{form}
 use Rattle.table_schema.specs.Rows.{AreOfKinds, IsAlone, IsPlan, Tables, stored}
 use Rattle.table_schema.specs.Schema.{HasOwnIndexes, columns, key, primary, references, table, uniques}
 use Rattle.table_schema.specs.declared.tables.Table.{Table}
-use Rattle.table_schema.specs.declared.tables.Table.TheVariants.{Meta, CalendarEntry, Period, Application}
-use Rattle.table_schema.specs.declared.tables.Table.TheVariants.{RunCycle, Offset, Predecessor, LinkInForce}
-use Rattle.table_schema.specs.declared.tables.Table.TheVariants.{LongTerm, Current, History, Deletion}
-use Rattle.table_schema.specs.declared.tables.Table.TheVariants.{Dependency, Job}
+use Rattle.table_schema.specs.declared.tables.Table.TheVariants.{RunCycle}
 
 -- ---- a row that is put in
 
@@ -64,22 +65,23 @@ IsNumber values = (n : ℤ) × (values ≡ Int n ∷ [])
 abbrev pub IsName : Row → Type 0
 IsName values = (name : List ℕ) × (values ≡ Text name ∷ [])
 
+abbrev pub IsNamePair : Row → Type 0
+IsNamePair values = (app : List ℕ) × (name : List ℕ) × (values ≡ Text app ∷ Text name ∷ [])
+
+abbrev pub IsNumberPair : Row → Type 0
+IsNumberPair values = (m : ℤ) × (n : ℤ) × (values ≡ Int m ∷ Int n ∷ [])
+
+-- values of columns of these kinds, which a key has
+abbrev pub HasKinds : List Kind → Row → Type 0
+HasKinds (kind.Integer ∷ []) values = IsNumber values
+HasKinds (kind.Text ∷ []) values = IsName values
+HasKinds (kind.Text ∷ kind.Text ∷ []) values = IsNamePair values
+HasKinds (kind.Integer ∷ kind.Integer ∷ []) values = IsNumberPair values
+HasKinds _ values = ⊥
+
 -- the values are a key of the table
 abbrev pub IsKeyOf : Table → Row → Type 0
-IsKeyOf Meta values = IsNumber values
-IsKeyOf CalendarEntry values = IsName values
-IsKeyOf Period values = IsName values
-IsKeyOf Application values = IsName values
-IsKeyOf RunCycle values = IsName values
-IsKeyOf Offset values = IsName values
-IsKeyOf Predecessor values = IsName values
-IsKeyOf LinkInForce values = (app : List ℕ) × (name : List ℕ) × (values ≡ Text app ∷ Text name ∷ [])
-IsKeyOf LongTerm values = IsNumber values
-IsKeyOf Current values = IsNumber values
-IsKeyOf History values = IsNumber values
-IsKeyOf Deletion values = IsNumber values
-IsKeyOf Dependency values = (m : ℤ) × (n : ℤ) × (values ≡ Int m ∷ Int n ∷ [])
-IsKeyOf Job values = IsNumber values
+IsKeyOf t values = HasKinds (key_kinds (form t)) values
 
 -- the rows of the key can go, and none of another table with them
 abbrev pub LosesKey : Table → Row → Tables → Type 0

@@ -49,6 +49,18 @@ module _ {S : Type 0} (g : Ghosts S) where
     sound = λ clean sound takes. it.sound clean sound (from _ takes);
   }
 
+  -- what is written so is written where more is asked
+  pub writes_weaker : {T : Type 0} (A B C D : Tables → Type 0) (f : Tables → Tables) (old new : Transaction S)
+      (r : Result T Error) → ((all : Tables) → B all → A all) → ((all : Tables) → D all → C all)
+      → WritesTaking A C g old new r f → WritesTaking B D g old new r f
+  writes_weaker A B C D f old new r fits takes it = record {
+    same_reference = it.same_reference;
+    ok = λ clean plan mode b. it.ok clean plan mode (fits _ b);
+    kept = it.kept;
+    survives = it.survives;
+    takes = takes_weaker C D f old new r takes it.takes;
+  }
+
   -- after one that was made comes another
   pub takes_then : {T U : Type 0} (A B : Tables → Type 0) (f h : Tables → Tables) (old mid new : Transaction S) (v : T)
       (r : Result U Error) → Survives (seen g old) (seen g mid) (λ _. ⊥)

@@ -7,6 +7,7 @@ mod lone_rows;
 mod loops;
 mod moves;
 mod redefining;
+mod steps;
 mod writing;
 
 pub use redefining::DefinitionMoves;

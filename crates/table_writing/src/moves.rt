@@ -11,6 +11,7 @@ ghost use Rattle.table_writing.specs.Writing.{beside, holds_link, links_moved, l
 
 use crate::facts::Fact;
 use crate::loops::{put_each, take_each};
+use crate::steps::{PutEach, Step, TakeEach};
 use external_dependencies::{Link, Links, Pair, PairChange};
 use keyed_lists::has_key;
 use plan_store::{Change, Moves};
@@ -30,10 +31,11 @@ fn write_moves<R: Fact, S: Alter>(
         S.Store tx.old tx.new result
         (moved_in table R.values R.key moves.now) }
 {
-    take_each(tx, table, &moves.gone)?;
-    take_each(tx, table, &moves.changed)?;
-    put_each(tx, table, &moves.changed)?;
-    put_each(tx, table, &moves.put)
+    let gone = TakeEach { table, facts: &moves.gone };
+    let old = TakeEach { table, facts: &moves.changed };
+    let new = PutEach { table, facts: &moves.changed };
+    let put = PutEach { table, facts: &moves.put };
+    (((gone, old), new), put).run(tx)
 }
 
 /// Makes the moves of a change in the four tables of occurrences.

@@ -1,5 +1,6 @@
 use Rattle.std.proofs.Common.{arith, subst}
 use Rattle.std.proofs.lemmas.List.{get_or_default}
+use Rattle.std.proofs.lemmas.List.Elements.{AllWithin-upto, All-from_all_within}
 use Rattle.sqlite.specs.Held.{state}
 use Rattle.sqlite.proofs.StateLemmas.{survives_then}
 use Rattle.table_schema.specs.declared.tables.Table.TheVariants.{Meta}
@@ -32,3 +33,14 @@ loop-table-preserved g c =
           (λ d. subst (IsOfSchema mid new) (get_or_default c.args.tables.now c.loop-table.table-index Meta d
           c.loop-table-test.true) one) (same_if_of_schema mid new _ one);
     }
+
+-- all tables
+pub returns-clause-checked : goal.returns-clause-checked
+returns-clause-checked g c clean =
+    let old = state g.S.Store c.args.conn.now in
+    let mid = state g.S.Store c.loop-table.conn in
+    let had = c.loop-table.invariant.checked clean in (
+      had.0,
+      All-from_all_within (IsOfSchema old mid) c.args.tables.now
+          (AllWithin-upto (IsOfSchema old mid) c.args.tables.now 0 c.loop-table.table-index _ (omega arith) had.1),
+    )
