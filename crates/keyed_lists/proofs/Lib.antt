@@ -6,3 +6,4 @@ mod RangeLemmas
 pub mod SeatLemmas
 pub mod SliceLemmas
 mod ThinLemmas
+pub mod LookLemmas

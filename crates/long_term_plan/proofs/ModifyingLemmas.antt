@@ -17,7 +17,7 @@ use Rattle.keyed_lists.specs.Rows.{HasEachOnce, look_up, of_deletion, of_row}
 use Rattle.plan_store.specs.Changes.{FitsSet}
 use Rattle.plan_store.specs.Views.{IsAny, ListsSet}
 use Rattle.plan_store.specs.declared.changes.Moves.{Moves}
-use Rattle.plan_store.proofs.LookLemmas.{look_none, look_some}
+use Rattle.keyed_lists.proofs.LookLemmas.{look_none, look_some}
 use Rattle.plan_store.proofs.ViewLemmas.{once_from_rows, size_listed, size_same}
 use Rattle.plan_pairs.proofs.ListLemmas.{filter_has, filter_keeps}
 use Rattle.long_term_plan.specs.Making.{numbered}

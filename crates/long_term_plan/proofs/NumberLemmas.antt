@@ -14,7 +14,7 @@ use Rattle.planner_machine.specs.Moves.{bit, made, numbered_row, seat_made, size
 use Rattle.planner_machine.specs.Plans.{planned}
 use Rattle.keyed_lists.specs.Rows.{HasEachOnce, look_up, of_row}
 use Rattle.plan_pairs.proofs.ListLemmas.{first_or_later, none}
-use Rattle.plan_store.proofs.LookLemmas.{look_some}
+use Rattle.keyed_lists.proofs.LookLemmas.{look_some}
 use Rattle.long_term_plan.specs.Making.{numbered}
 
 abbrev serial_of : Row → ℕ

@@ -9,7 +9,7 @@ use Rattle.planner_machine.specs.declared.job.Job.{Job}
 use Rattle.keyed_lists.proofs.KeyLemmas.{one_item}
 use Rattle.keyed_lists.specs.Rows.{OneEach}
 use Rattle.plan_store.specs.Jobs.{AreJobs}
-use Rattle.plan_store.proofs.LookLemmas.{look_has, look_some}
+use Rattle.keyed_lists.proofs.LookLemmas.{look_has, look_some}
 use Rattle.plan_store.specs.Contents.{content_of}
 use Rattle.plan_store.specs.declared.contents.Content.{Content as Kept}
 

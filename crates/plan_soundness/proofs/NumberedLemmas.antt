@@ -16,7 +16,7 @@ use Rattle.planner_machine.proofs.SeatLemmas.{not_empty, one_place}
 use Rattle.keyed_lists.specs.Rows.{AreRows, of_current, of_deletion, of_row}
 use Rattle.plan_store.specs.Contents.{content_of}
 use Rattle.plan_store.specs.declared.contents.Content.{Content as Kept}
-use Rattle.plan_store.proofs.LookLemmas.{look_at, look_some}
+use Rattle.keyed_lists.proofs.LookLemmas.{look_at, look_some}
 use Rattle.plan_store.proofs.PlaceLemmas.{stands_cp, stands_deleted, stands_history, stands_ltp}
 use Rattle.plan_store.proofs.ViewLemmas.{issued_from, once_from_rows}
 use Rattle.plan_soundness.specs.Listing.{IsHeld, IsHeldIn, current_place, deleted_place, in_place, placed_list}

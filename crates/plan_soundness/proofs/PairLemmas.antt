@@ -16,7 +16,7 @@ use Rattle.planner_machine.specs.Sound.{AreNumbered}
 use Rattle.planner_machine.proofs.SeatLemmas.{not_empty, one_place}
 use Rattle.planner_machine.specs.RowsSound.{RowsSound}
 use Rattle.plan_pairs.specs.LiveRows.{HasLists, HasPairsAfter}
-use Rattle.plan_store.proofs.LookLemmas.{look_has, look_some}
+use Rattle.keyed_lists.proofs.LookLemmas.{look_has, look_some}
 use Rattle.occurrences.specs.declared.place.CurrentRow.{CurrentRow}
 use Rattle.occurrences.specs.declared.row.Row.{Row}
 use Rattle.plan_store.specs.Contents.{content_of}

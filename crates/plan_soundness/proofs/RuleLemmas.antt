@@ -25,7 +25,7 @@ use Rattle.planner_machine.specs.Pairs.{ArePairs}
 use Rattle.planner_machine.specs.Sound.{AreNumbered, ArrivesIn, HasBounds, HasPairs, HaveArrivals, HaveOwnKeys, IsSound}
 use Rattle.planner_machine.specs.declared.content.Bounds.{Bounds}
 use Rattle.keyed_lists.proofs.KeyLemmas.{contains_filter, filter_contains}
-use Rattle.plan_store.proofs.LookLemmas.{look_has, look_some}
+use Rattle.keyed_lists.proofs.LookLemmas.{look_has, look_some}
 use Rattle.plan_store.specs.Contents.{content_of}
 use Rattle.plan_store.specs.declared.contents.Content.{Content as Kept}
 use Rattle.plan_soundness.specs.Arrivals.{AllInBounds, IsFreeOf, IsOperatorKey, by_operator, is_operator}

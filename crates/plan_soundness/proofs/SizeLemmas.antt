@@ -14,7 +14,7 @@ use Rattle.planner_machine.specs.Sound.{AreNumbered, IsUnplanned}
 use Rattle.keyed_lists.specs.Rows.{look_up, of_current, of_deletion, of_row}
 use Rattle.plan_store.specs.Contents.{content_of}
 use Rattle.plan_store.specs.declared.contents.Content.{Content as Kept}
-use Rattle.plan_store.proofs.LookLemmas.{look_has, look_none}
+use Rattle.keyed_lists.proofs.LookLemmas.{look_has, look_none}
 use Rattle.plan_store.proofs.ViewLemmas.{once_from_rows, size_listed, within_cp, within_ltp}
 use Rattle.plan_soundness.specs.Listing.{IsBare, deleted_place, in_place, placed_list}
 use Rattle.plan_soundness.proofs.NumberedLemmas.{HasRows, has_rows, listed, seated_from_numbered}

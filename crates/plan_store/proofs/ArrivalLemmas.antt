@@ -29,7 +29,7 @@ use Rattle.plan_store.specs.Arrivals.{IsGreatestOf, arrives, arrives_live, later
 use Rattle.plan_store.specs.Asked.{HasLast, IsNoLater}
 use Rattle.plan_store.specs.Slices.{HaveOneApp}
 use Rattle.plan_store.specs.Views.{IsLastBefore}
-use Rattle.plan_store.proofs.LookLemmas.{look_has, look_some}
+use Rattle.keyed_lists.proofs.LookLemmas.{look_has, look_some}
 use Rattle.plan_store.proofs.OrderLemmas.{arrival_total}
 use Rattle.plan_store.proofs.PlaceLemmas.{stands_cp, stands_history, stands_ltp}
 

@@ -9,7 +9,7 @@ use Rattle.planner_machine.specs.declared.job.Job.{Job}
 use Rattle.keyed_lists.specs.Rows.{OneEach, look_up}
 use Rattle.keyed_lists.proofs.KeyLemmas.{one_item}
 use Rattle.plan_store.specs.Jobs.{AreJobs}
-use Rattle.plan_store.proofs.LookLemmas.{look_at, look_lacks, look_none, look_some}
+use Rattle.keyed_lists.proofs.LookLemmas.{look_at, look_lacks, look_none, look_some}
 
 abbrev pub number_of : Job → ℕ
 number_of job = job.number

@@ -5,7 +5,6 @@ pub mod FitLemmas
 mod JobLemmas
 mod ListedLemmas
 mod ListingLemmas
-pub mod LookLemmas
 mod MoveLemmas
 mod NotedLemmas
 mod OrderLemmas

@@ -12,7 +12,7 @@ use Rattle.keyed_lists.specs.Keyed.{AreApart, HasKey, LacksKey}
 use Rattle.keyed_lists.specs.Rows.{HasEachOnce, OneEach, look_up}
 use Rattle.plan_store.specs.Changes.{FitsSet, moved_set}
 use Rattle.plan_store.specs.declared.changes.Moves.{Moves}
-use Rattle.plan_store.proofs.LookLemmas.{look_some, look_none, look_lacks, look_at}
+use Rattle.keyed_lists.proofs.LookLemmas.{look_some, look_none, look_lacks, look_at}
 
 module _ {X : Type 0} (row_of : X → Row) where
   abbrev serial_of : X → ℕ

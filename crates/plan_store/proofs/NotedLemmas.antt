@@ -34,7 +34,7 @@ use Rattle.plan_store.specs.Asked.{AsksKey, AsksPlan, HasLasts, IsLastOf, IsNoLa
 use Rattle.plan_store.specs.Noted.{AreAtPlaces, AskedByOne, AsksEach, AsksEnd, AsksRow, HasNoted, IsAsked, IsDefined}
 use Rattle.plan_store.specs.Noted.{IsLastPlace, LacksBefore, Notes}
 use Rattle.plan_store.specs.Views.{current_serial, row_serial}
-use Rattle.plan_store.proofs.LookLemmas.{look_has, look_some}
+use Rattle.keyed_lists.proofs.LookLemmas.{look_has, look_some}
 use Rattle.plan_store.proofs.SliceLemmas.{apps_rise}
 
 less_from_lt : (x y : ℕ) → x < y → nat_cmp x y ≡ Less

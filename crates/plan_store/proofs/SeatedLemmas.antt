@@ -10,7 +10,7 @@ use Rattle.keyed_lists.specs.Seats.{HasSeats, seat_cmp, seat_of}
 use Rattle.keyed_lists.specs.declared.seats.Seat.{Seat}
 use Rattle.plan_store.specs.Changes.{FitsSet, moved_set}
 use Rattle.plan_store.specs.declared.changes.Moves.{Moves}
-use Rattle.plan_store.proofs.LookLemmas.{look_some, look_has}
+use Rattle.keyed_lists.proofs.LookLemmas.{look_some, look_has}
 
 module _ {X : Type 0} (row_of : X → Row) (moves : Moves X) (old new : List X) (seats : List Seat) where
   abbrev serial_of : X → ℕ

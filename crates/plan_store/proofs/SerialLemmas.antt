@@ -23,7 +23,7 @@ use Rattle.plan_store.specs.Contents.{content_of}
 use Rattle.plan_store.specs.Listed.{AreBySerial, row_at}
 use Rattle.plan_store.specs.declared.contents.Content.{Content as Kept}
 use Rattle.plan_store.proofs.ListedLemmas.{from_map, to_map}
-use Rattle.plan_store.proofs.LookLemmas.{look_has, look_some}
+use Rattle.keyed_lists.proofs.LookLemmas.{look_has, look_some}
 use Rattle.plan_store.proofs.PlaceLemmas.{stands_cp, stands_deleted, stands_history, stands_ltp}
 use Rattle.plan_store.proofs.ShownLemmas.{row_at_some, row_at_stands, row_serial}
 

@@ -40,7 +40,7 @@ use Rattle.plan_store.specs.declared.listings.ListFault.{ListFault}
 use Rattle.plan_store.specs.declared.listings.ListFault.TheVariants.{Sink}
 use Rattle.plan_store.specs.declared.listings.SinkFault.{SinkFault}
 use Rattle.plan_store.proofs.ListedLemmas.{from_map, pairs_map, takes_more, to_map}
-use Rattle.plan_store.proofs.LookLemmas.{look_has, look_some}
+use Rattle.keyed_lists.proofs.LookLemmas.{look_has, look_some}
 use Rattle.plan_store.proofs.PlaceLemmas.{stands_cp, stands_deleted, stands_history, stands_ltp}
 
 -- a row in its place

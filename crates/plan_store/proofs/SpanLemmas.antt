@@ -21,7 +21,7 @@ use Rattle.plan_store.specs.Asked.{IsPlannedAt}
 use Rattle.plan_store.specs.Slices.{HaveOneApp}
 use Rattle.plan_store.specs.Spans.{IsLeastOf, IsNextPlanned, earlier_of}
 use Rattle.plan_store.specs.Views.{current_serial, row_serial}
-use Rattle.plan_store.proofs.LookLemmas.{look_has, look_some}
+use Rattle.keyed_lists.proofs.LookLemmas.{look_has, look_some}
 use Rattle.plan_store.proofs.SliceLemmas.{arrivals_rise}
 
 -- of rows of one application, by input arrival and serial, what stands no earlier does not arrive earlier

@@ -23,7 +23,7 @@ use Rattle.planner_machine.specs.Sound.{AreNumbered}
 use Rattle.keyed_lists.specs.Keyed.{IsKeyed}
 use Rattle.keyed_lists.specs.Rows.{AreRows, HasEachOnce, OneEach, look_up, of_current, of_deletion, of_row}
 use Rattle.plan_store.specs.Views.{IsAny, IsCurrentRow, IsDeletedKey, IsPlannedRow, ListsSet}
-use Rattle.plan_store.proofs.LookLemmas.{look_some, look_none, look_lacks, look_has, look_at}
+use Rattle.keyed_lists.proofs.LookLemmas.{look_some, look_none, look_lacks, look_has, look_at}
 use Rattle.plan_store.proofs.OrderLemmas.{arrival_total}
 
 -- how many serials a set has

@@ -16,7 +16,7 @@ use Rattle.table_schema.specs.Schema.{place}
 use Rattle.table_schema.specs.declared.tables.Table.{Table}
 use Rattle.plan_store.specs.Changes.{FitsSet, moved_set}
 use Rattle.plan_store.specs.declared.changes.Moves.{Moves}
-use Rattle.plan_store.proofs.LookLemmas.{look_at, look_lacks, look_none, look_some}
+use Rattle.keyed_lists.proofs.LookLemmas.{look_at, look_lacks, look_none, look_some}
 use Rattle.table_facts.specs.Content.{IsOfSet, IsUnderOwn}
 use Rattle.table_writing.specs.Writing.{moved_in, with_each, without_each}
 use Rattle.plan_tables.proofs.Held.{Shows, matched}

@@ -21,7 +21,7 @@ use Rattle.table_schema.specs.declared.tables.Table.{Table}
 use Rattle.table_schema.specs.declared.tables.Table.TheVariants as table
 use Rattle.plan_store.specs.Changes.{FitsSet, moved_set}
 use Rattle.plan_store.specs.declared.changes.Moves.{Moves}
-use Rattle.plan_store.proofs.LookLemmas.{look_at}
+use Rattle.keyed_lists.proofs.LookLemmas.{look_at}
 use Rattle.plan_store.proofs.PlaceLemmas.{stands_cp, stands_deleted, stands_history, stands_ltp}
 use Rattle.plan_store.proofs.ViewLemmas.{issued_from}
 use Rattle.table_facts.specs.Content.{IsOfSet, IsUnderOwn}

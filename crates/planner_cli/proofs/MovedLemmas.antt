@@ -7,7 +7,7 @@ use Rattle.planner_machine.specs.Moves.{or_else}
 use Rattle.keyed_lists.specs.Rows.{HasEachOnce, OneEach, look_up}
 use Rattle.plan_store.specs.Changes.{FitsSet, moved_set}
 use Rattle.plan_store.specs.declared.changes.Moves.{Moves}
-use Rattle.plan_store.proofs.LookLemmas.{look_has, look_lacks, look_none, look_some}
+use Rattle.keyed_lists.proofs.LookLemmas.{look_has, look_lacks, look_none, look_some}
 use Rattle.planner_cli.proofs.ShownLists.{one_each}
 
 some_none : {X : Type 0} (o : Option X) (x : X) → o ≡ Some x → o ≡ None → ⊥

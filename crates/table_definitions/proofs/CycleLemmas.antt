@@ -5,7 +5,7 @@ use Rattle.std.proofs.lemmas.List.Elements.{All-contains}
 use Rattle.std.proofs.lemmas.Option.{get_or_from_slice_get, slice_get_within}
 use Rattle.run_cycles.specs.Offset.{IsOffset}
 use Rattle.sqlite.specs.Order.{Row as Values, column}
-use Rattle.table_facts.proofs.Decoded.{int_in, nat_in}
+use Rattle.table_facts.specs.Decoded.{int_in, nat_in}
 use Rattle.table_definitions.specs.CycleParts.{IsPartRow, IsReadPart, IsSoundPart, offset_tail}
 use Rattle.table_definitions.specs.DraftedCycles.{told_values}
 use Rattle.table_definitions.specs.Gathering.{Alike, Joins}

@@ -6,7 +6,8 @@ use Rattle.std.specs.FinMap as map
 use Rattle.sqlite.specs.Order.{Row as Values, column}
 use Rattle.definition_records.specs.declared.applications.Application.{Application}
 use Rattle.table_facts.specs.Facts.{application_values}
-use Rattle.table_facts.proofs.Decoded.{nat_in, one_application}
+use Rattle.table_facts.specs.Decoded.{nat_in}
+use Rattle.table_facts.proofs.Decoded.{one_application}
 use Rattle.table_facts.specs.Facts.{IsCalendarRow, is_work}
 use Rattle.table_facts.specs.Facts.IsCalendarRow.{Weekday, Date}
 use Rattle.std.specs.Cmp.{nat_cmp_total, unsigned_ties}

@@ -17,7 +17,7 @@ use Rattle.definition_records.specs.ByName.{AreEntriesOf, HaveOwnNames}
 use Rattle.definition_records.proofs.ByNameLemmas.{get-inserted, get-removed, get-view_of, name_itself, name_sym}
 use Rattle.definition_records.proofs.ByNameLemmas.{same_name}
 use Rattle.table_facts.specs.Content.{AreEach, ByName, IsOfSome}
-use Rattle.table_facts.proofs.Decoded.{text_in}
+use Rattle.table_facts.specs.Decoded.{text_in}
 use Rattle.table_definitions.specs.Adding.{IsOfName}
 use Rattle.table_definitions.specs.Gathering.{Alike, AreRead, AreSound, CanFinish, IsGathered, Joins, Paired, Within}
 use Rattle.table_definitions.specs.Storing.{AreRowsOf}

@@ -10,7 +10,8 @@ use Rattle.plan_periods.specs.Period.{Entry, HasRisingOrigins}
 use Rattle.plan_periods.specs.declared.periods.Period.{Period}
 use Rattle.plan_periods.specs.declared.periods.Period.TheVariants as period
 use Rattle.table_facts.specs.Facts.{IsPeriodRow}
-use Rattle.table_facts.proofs.Decoded.{nat_back, nat_in, or_nat, text_in}
+use Rattle.table_facts.specs.Decoded.{nat_in, or_nat, text_in}
+use Rattle.table_facts.proofs.Decoded.{nat_back}
 use Rattle.table_definitions.specs.DraftedPeriods.{AreOfDays, IsReadable, IsSoundPeriodOfDays, LetteredEntry}
 use Rattle.table_definitions.specs.DraftedPeriods.{entries_of, lettered_values, listed_entry}
 use Rattle.table_definitions.specs.Gathering.{Alike}

@@ -18,7 +18,7 @@ use Rattle.definition_records.proofs.ByNameLemmas.{get-view_of, name_itself, sam
 use Rattle.definition_records.proofs.RisingLemmas.{Contains-map, Contains-map_back, behind, not_itself}
 use Rattle.table_facts.specs.Content.{ByName}
 use Rattle.table_facts.specs.Facts.{IsCycleRow, IsOffsetRow}
-use Rattle.table_facts.proofs.Decoded.{text_in}
+use Rattle.table_facts.specs.Decoded.{text_in}
 use Rattle.table_definitions.specs.CycleParts.{IsPartRow, IsSoundPart, offset_tail}
 use Rattle.table_definitions.specs.DraftedCycles.{told_values}
 use Rattle.table_definitions.specs.Gathering.{Alike, AreSound}

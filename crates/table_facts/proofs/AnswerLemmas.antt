@@ -13,22 +13,13 @@ use Rattle.occurrences.specs.declared.refusal.Refusal.{Refusal}
 use Rattle.occurrences.specs.declared.refusal.Refusal.TheVariants as refusal
 use Rattle.occurrences.specs.declared.reply.Reply.{Reply}
 use Rattle.occurrences.specs.declared.reply.Reply.TheVariants as reply
-use Rattle.occurrences.specs.declared.status.Status.{Status}
-use Rattle.occurrences.specs.declared.status.Status.TheVariants.{W, S, E, C, D}
 use Rattle.plan_listings.specs.Reply.{counted, refusal_text, reply_text}
+use Rattle.table_facts.specs.Decoded.{answer_in, before, behind, moved_in, number_in, occurrence_in, refusal_in, refusal_of, reply_in}
 use Rattle.table_facts.specs.Content.{answer_text, IsSmall}
+use Rattle.table_facts.proofs.Decoded.{status_back}
 
 abbrev IsSolid : List ℕ → Type 0
 IsSolid ds = AllByRecursion (λ b. nat_eq b 32 ≡ false) ds
-
--- a line up to its first blank, and behind it
-before : List ℕ → List ℕ
-before [] = []
-before (b ∷ bs) = cond (nat_eq b 32) [] (b ∷ before bs)
-
-behind : List ℕ → List ℕ
-behind [] = []
-behind (b ∷ bs) = cond (nat_eq b 32) bs (behind bs)
 
 before_blank : (ds rest : List ℕ) → IsSolid ds → before (ds ++ 32 ∷ rest) ≡ ds
 unfolding before
@@ -64,10 +55,6 @@ solid n small = decimal_by_steps (λ m ds. IsSolid ds) (λ m low. (not_blank m, 
 value_back : (n : ℕ) → n < 2 ^ 64 → digits_value 10 (decimal n) ≡ n
 value_back n small = (decimal_is_IsNumeral n small).1
 
--- the number up to the first blank of a line
-abbrev number_in : List ℕ → ℕ
-number_in text = digits_value 10 (before text)
-
 number_blank : (n : ℕ) (rest : List ℕ) → n < 2 ^ 64 → number_in (decimal n ++ 32 ∷ rest) ≡ n
 number_blank n rest small = ap (digits_value 10) (before_blank (decimal n) rest (solid n small)) ∙ value_back n small
 
@@ -78,38 +65,6 @@ rest_blank : (n : ℕ) (rest : List ℕ) → n < 2 ^ 64 → behind (decimal n ++
 rest_blank n rest small = behind_blank (decimal n) rest (solid n small)
 
 -- ---- replies
-
-status_in : ℕ → Status
-status_in n = cond (nat_eq n 87) W (cond (nat_eq n 83) S (cond (nat_eq n 69) E (cond (nat_eq n 67) C D)))
-
-status_back : (s : Status) → status_in (status_letter s) ≡ s
-unfolding status_in
-status_back W = refl
-status_back S = refl
-status_back E = refl
-status_back C = refl
-status_back D = refl
-
--- an occurrence, and the status that may stand behind it
-occurrence_in : ℕ → List ℕ → Reply
-occurrence_in serial [] = reply.Numbered serial
-occurrence_in serial (b ∷ bs) = reply.Changed serial (status_in (get_or (b ∷ bs) 7 0))
-
-moved_in : List ℕ → Reply
-moved_in text =
-    let carried = drop 8 (behind text) in
-    let completed = drop 10 (behind carried) in
-    let deleted = drop 8 (behind completed) in
-    reply.Moved (number_in text) (number_in carried) (number_in completed) (number_in deleted)
-
-abbrev reply_in : List ℕ → Reply
-reply_in text = cond (nat_eq (get_or text 3 0) 100) (reply.Defined (number_in (drop 11 text)))
-    (cond (nat_eq (get_or text 3 0) 117) reply.Undefined
-    (cond (nat_eq (get_or text 3 0) 114) (reply.Rows (number_in (drop 8 text)))
-    (cond (nat_eq (get_or text 3 0) 115) (occurrence_in (number_in (drop 10 text)) (behind (drop 10 text)))
-    (cond (nat_eq (get_or text 4 0) 97)
-    (reply.Made (number_in (drop 8 text)) (number_in (drop 10 (behind (drop 8 text)))))
-    (moved_in (drop 9 text))))))
 
 joined : (a b c d : List ℕ) → a ++ b ++ c ++ d ≡ a ++ (b ++ (c ++ d))
 joined a b c d = append_assoc (a ++ b) c d ∙ append_assoc a b (c ++ d)
@@ -156,21 +111,6 @@ reply_back (reply.Moved moved carried completed deleted) small =
 
 -- ---- refusals
 
-refusal_of : ℕ → List ℕ → Refusal
-refusal_of n rest =
-    cond (nat_eq n 10) refusal.NotAStatement (cond (nat_eq n 11) (refusal.FaultyData (digits_value 10 rest))
-    (cond (nat_eq n 12) refusal.JobWithAnotherText (cond (nat_eq n 13) refusal.NotDefined
-    (cond (nat_eq n 20) refusal.NoPlan (cond (nat_eq n 21) refusal.PlanExists
-    (cond (nat_eq n 22) (refusal.CalendarUndefined rest) (cond (nat_eq n 23) (refusal.PeriodUndefined rest)
-    (cond (nat_eq n 24) refusal.DatesOutOfRange (cond (nat_eq n 25) (refusal.Loop rest)
-    (cond (nat_eq n 26) refusal.NoActiveApplication (cond (nat_eq n 27) refusal.KeyIsLive
-    (cond (nat_eq n 28) refusal.NoSuchOccurrence (cond (nat_eq n 29) refusal.StatusForbids
-    (cond (nat_eq n 30) (refusal.PredecessorUncompleted (digits_value 10 rest))
-    (cond (nat_eq n 31) refusal.TooManyRows refusal.PlanEndOutOfRange)))))))))))))))
-
-abbrev refusal_in : List ℕ → Refusal
-refusal_in text = refusal_of (number_in (drop 8 text)) (behind (drop 8 text))
-
 bare : (n : ℕ) → n < 2 ^ 64 → refusal_of (number_in (decimal n ++ [])) (behind (decimal n ++ [])) ≡ refusal_of n []
 bare n small = ap (λ t. refusal_of (number_in t) (behind t)) (append-nil (decimal n))
     ∙ ap₂ refusal_of (number_end n small) (behind_end (decimal n) (solid n small))
@@ -203,9 +143,6 @@ refusal_back refusal.PlanEndOutOfRange small = bare 32 (omega arith)
 
 -- ---- answers
 
-abbrev answer_in : List ℕ → Result Reply Refusal
-answer_in text = cond (nat_eq (get_or text 0 0) 111) (Ok (reply_in text)) (Err (refusal_in text))
-
 begins_ok : (r : Reply) → get_or (reply_text r) 0 0 ≡ 111
 begins_ok (reply.Defined names) = refl
 begins_ok reply.Undefined = refl
@@ -215,7 +152,7 @@ begins_ok (reply.Changed serial status) = refl
 begins_ok (reply.Made made withdrawn) = refl
 begins_ok (reply.Moved moved carried completed deleted) = refl
 
-answer_back : (a : Result Reply Refusal) → IsSmall a → answer_in (answer_text a) ≡ a
+pub answer_back : (a : Result Reply Refusal) → IsSmall a → answer_in (answer_text a) ≡ a
 answer_back (Ok r) small = ap (λ n. cond (nat_eq n 111) (Ok (reply_in (reply_text r))) (Err (refusal_in
     (reply_text r)))) (begins_ok r)
     ∙ ap Ok (reply_back r small)

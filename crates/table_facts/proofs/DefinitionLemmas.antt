@@ -30,7 +30,8 @@ use Rattle.table_facts.specs.Facts.{IsCalendarRow, IsCycleRow, IsOffsetRow, IsPe
 use Rattle.table_facts.specs.Facts.IsCalendarRow.{Weekday, Date}
 use Rattle.table_facts.specs.Facts.{cycle_values, entry_values, is_work, natural, offset_values, predecessor_values}
 use Rattle.table_facts.specs.Content.{HasEntry, IsNamed, IsTold}
-use Rattle.table_facts.proofs.Decoded.{int_in, letter_in, nat_back, nat_in, or_nat, text_in}
+use Rattle.table_facts.specs.Decoded.{int_in, letter_in, nat_in, or_nat, text_in}
+use Rattle.table_facts.proofs.Decoded.{nat_back}
 use Rattle.table_facts.proofs.Told.{is_some, none_some, same_options}
 
 -- lists of which each element stands at one place in both

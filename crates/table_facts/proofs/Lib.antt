@@ -3,3 +3,4 @@ pub mod Told
 pub mod DefinitionLemmas
 pub mod AnswerLemmas
 pub mod OneContent
+mod SetLemmas

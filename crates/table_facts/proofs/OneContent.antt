@@ -24,7 +24,8 @@ use Rattle.table_facts.specs.Facts.{current_values, deletion_values, link_values
 use Rattle.table_facts.specs.Facts.{IsCalendarRow, IsPeriodRow, IsPredecessorRow}
 use Rattle.table_facts.specs.Content.{job_values, meta_values, HaveOneContent, HasEntry, IsApplicationRow}
 use Rattle.table_facts.specs.Content.{IsContentOf, IsFact, IsNamed, IsSmall, IsTold}
-use Rattle.table_facts.proofs.Decoded.{nat_in, text_in, one_application, one_current, one_deletion, one_link}
+use Rattle.table_facts.specs.Decoded.{nat_in, text_in}
+use Rattle.table_facts.proofs.Decoded.{one_application, one_current, one_deletion, one_link}
 use Rattle.table_facts.proofs.Decoded.{one_pair, one_row}
 use Rattle.table_facts.proofs.DefinitionLemmas.{calendar_named, calendar_some, cycle_named, cycle_some, either_name}
 use Rattle.table_facts.proofs.DefinitionLemmas.{IsEitherRow}

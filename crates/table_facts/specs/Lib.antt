@@ -1,2 +1,4 @@
 pub mod Facts
 pub mod Content
+pub mod Decoded
+pub mod ToldSets

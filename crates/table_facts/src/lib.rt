@@ -4,6 +4,7 @@
 mod answers;
 
 ghost use Rattle.table_facts.specs.Content.{HaveOneContent};
+ghost use Rattle.table_facts.specs.ToldSets.{AllTellSets};
 
 pub use answers::{answer_is_small, answer_line};
 use external_dependencies::rising_is_unique;
@@ -14,3 +15,8 @@ pub fn tables_have_one_content()
 {
     rising_is_unique();
 }
+
+/// The sets that are read back from the rows of tables are those of their content.
+pub fn tables_tell_sets()
+    ensures { AllTellSets }
+{}

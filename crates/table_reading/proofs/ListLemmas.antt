@@ -12,7 +12,7 @@ use Rattle.plan_store.specs.Changes.{after, Fits, FitsSet, moved_set}
 use Rattle.plan_store.specs.declared.changes.Change.{Change}
 use Rattle.plan_store.specs.declared.changes.Moves.{Moves}
 use Rattle.plan_store.proofs.FitLemmas.{fits_put}
-use Rattle.plan_store.proofs.LookLemmas.{look_some, look_at}
+use Rattle.keyed_lists.proofs.LookLemmas.{look_some, look_at}
 use Rattle.table_reading.specs.Lists.{HasRows, HoldsEach, Puts, PutsRows}
 use Rattle.table_reading.specs.Order.{NumbersRise}
 use Rattle.table_reading.specs.declared.lists.PlanRows.{PlanRows}

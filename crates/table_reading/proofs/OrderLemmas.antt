@@ -21,7 +21,7 @@ use Rattle.sqlite.specs.declared.types.Value.TheVariants.{Int}
 use Rattle.sqlite_value.proofs.OrderLemmas.{value_cmp-Int, value_cmp_total}
 use Rattle.definition_records.proofs.RisingLemmas.{Contains-map, Contains-map_back}
 use Rattle.keyed_lists.proofs.KeyLemmas.{contains_first, contains_later}
-use Rattle.table_facts.proofs.Decoded.{nat_in}
+use Rattle.table_facts.specs.Decoded.{nat_in}
 use Rattle.table_facts.specs.Facts.{natural}
 use Rattle.table_schema.specs.Rows.{Differ, HaveRowids, shown}
 use Rattle.table_schema.specs.declared.tables.Table.{Table}

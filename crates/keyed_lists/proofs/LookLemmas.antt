@@ -1,22 +1,13 @@
 -- Look-ups by number.
-use Rattle.std.proofs.Common.{◌≡◌, ◌≢◌, ℕ, zero, suc, ◌⊎◌, true, false, List, [], ◌∷◌, refl, sym, ap, subst, inl, inr}
+use Rattle.std.proofs.Common.{◌≡◌, ◌≢◌, ℕ, true, false, List, [], ◌∷◌, refl, sym, ap, subst, inl, inr}
 use Rattle.std.proofs.Common.{arith, Some, None}
 use Rattle.std.specs.List.{Contains}
 use Rattle.std.proofs.lemmas.Bool.{eqb-true, eqb-false, ne_eqb}
 use Rattle.std.specs.Prelude.{nat_eq, cond}
 use Rattle.keyed_lists.specs.Rows.{OneEach, look_up}
+use Rattle.keyed_lists.proofs.KeyLemmas.{contains_cases, contains_first, contains_later}
 
 module _ {X : Type 0} (number_of : X → ℕ) where
-  contains_first : (x : X) (xs : List X) → Contains (x ∷ xs) x
-  contains_first x xs = (zero, omega arith, refl)
-
-  contains_later : (x y : X) (xs : List X) → Contains xs y → Contains (x ∷ xs) y
-  contains_later x y xs (k, lt, at) = (suc k, omega arith, at)
-
-  contains_cases : (x z : X) (xs : List X) → Contains (x ∷ xs) z → (x ≡ z) ⊎ Contains xs z
-  contains_cases x z xs (zero, lt, at) = inl at
-  contains_cases x z xs (suc k, lt, at) = inr (k, omega arith, at)
-
   -- what is found is in the list, and has the number
   pub look_some : (xs : List X) (n : ℕ) (x : X) → look_up number_of xs n ≡ Some x → Contains xs x × (number_of x ≡ n)
   look_some [] n x is = cc
