@@ -12,10 +12,10 @@ use Rattle.table_schema.specs.Cells.{column_names}
 use Rattle.table_schema.specs.Rows.{AreOfKinds, shown, stored}
 use Rattle.table_schema.specs.Schema.{columns, key}
 use Rattle.table_schema.specs.declared.tables.Table.{Table}
-use Rattle.table_schema.specs.declared.tables.Table.TheVariants.{Meta, CalendarEntry, Period}
-use Rattle.table_schema.specs.declared.tables.Table.TheVariants.{RunCycle, Offset, Predecessor, LinkInForce}
+use Rattle.table_schema.specs.declared.tables.Table.TheVariants.{Meta}
+use Rattle.table_schema.specs.declared.tables.Table.TheVariants.{Predecessor, LinkInForce}
 use Rattle.table_schema.specs.declared.tables.Table.TheVariants.{LongTerm, Current, History, Deletion}
-use Rattle.table_schema.specs.declared.tables.Table.TheVariants.{Dependency, Job}
+use Rattle.table_schema.specs.declared.tables.Table.TheVariants.{Job}
 use Rattle.table_remaking.specs.Remaking.{remade_row}
 use Rattle.table_remaking.specs.Types.{HasTypes, first_types, has_type, types}
 use Rattle.table_remaking.proofs.TypeLemmas.{NoReals, bound_kept, cast-Null, cast_kept, integer_is, taken, taken_all}
@@ -52,26 +52,18 @@ of_kinds t cells e = λ i. cast-Null i ∷ e i
 kept_id : (rows : List Row) (id : Value) (rest : Row) (n : ℤ) → id ≡ Int n → with_rowid Chosen rows (id ∷ rest) ≡ id ∷ rest
 kept_id rows id rest n is = subst (λ v. with_rowid Chosen rows (v ∷ rest) ≡ v ∷ rest) (sym is) refl
 
+shown_kept : (t : Table) (rows : List Row) (id : Value) (rest : Row) → IsTrue (has_type 73 id)
+    → shown t (with_rowid Chosen rows (id ∷ rest)) ≡ shown t (id ∷ rest)
+shown_kept t rows id rest typed = let it = integer_is id typed in ap (shown t) (kept_id rows id rest it.0 it.1)
+
 shown_taken : (t : Table) (cells : Row) (rows : List Row) → HasTypes (types t) cells
     → shown t (with_rowid Chosen rows (stored t cells)) ≡ taken (size t) 0 cells
-shown_taken Meta cells rows h =
-    let id = integer_is (column cells 0) (h.1 0 (omega arith)) in
-    ap (shown Meta) (kept_id rows (column cells 0) (drop 1 (stored Meta cells)) id.0 id.1)
-shown_taken LongTerm cells rows h =
-    let id = integer_is (column cells 0) (h.1 0 (omega arith)) in
-    ap (shown LongTerm) (kept_id rows (column cells 0) (drop 1 (stored LongTerm cells)) id.0 id.1)
-shown_taken Current cells rows h =
-    let id = integer_is (column cells 0) (h.1 0 (omega arith)) in
-    ap (shown Current) (kept_id rows (column cells 0) (drop 1 (stored Current cells)) id.0 id.1)
-shown_taken History cells rows h =
-    let id = integer_is (column cells 0) (h.1 0 (omega arith)) in
-    ap (shown History) (kept_id rows (column cells 0) (drop 1 (stored History cells)) id.0 id.1)
-shown_taken Deletion cells rows h =
-    let id = integer_is (column cells 0) (h.1 0 (omega arith)) in
-    ap (shown Deletion) (kept_id rows (column cells 0) (drop 1 (stored Deletion cells)) id.0 id.1)
-shown_taken Job cells rows h =
-    let id = integer_is (column cells 0) (h.1 0 (omega arith)) in
-    ap (shown Job) (kept_id rows (column cells 0) (drop 1 (stored Job cells)) id.0 id.1)
+shown_taken Meta cells rows h = shown_kept Meta rows (column cells 0) (drop 1 (stored Meta cells)) (h.1 0 (omega arith))
+shown_taken LongTerm cells rows h = shown_kept LongTerm rows (column cells 0) (drop 1 (stored LongTerm cells)) (h.1 0 (omega arith))
+shown_taken Current cells rows h = shown_kept Current rows (column cells 0) (drop 1 (stored Current cells)) (h.1 0 (omega arith))
+shown_taken History cells rows h = shown_kept History rows (column cells 0) (drop 1 (stored History cells)) (h.1 0 (omega arith))
+shown_taken Deletion cells rows h = shown_kept Deletion rows (column cells 0) (drop 1 (stored Deletion cells)) (h.1 0 (omega arith))
+shown_taken Job cells rows h = shown_kept Job rows (column cells 0) (drop 1 (stored Job cells)) (h.1 0 (omega arith))
 shown_taken t cells rows h = refl
 
 -- ---- the row that stands for one of schema 1

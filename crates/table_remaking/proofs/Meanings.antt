@@ -1,5 +1,5 @@
 -- What the texts mean where the tables of schema 1 stand, or are made.
-use Rattle.std.proofs.Common.{◌≡◌, ℕ, [], ◌∷◌, List, length, map, false, true, nat_lt, None, Some, Ok, Err, refl}
+use Rattle.std.proofs.Common.{◌≡◌, ℕ, [], List, length, false, None, Some, Ok, Err, refl}
 use Rattle.sqlite.specs.Command.TheVariants.{CreateTable, DropTable}
 use Rattle.sqlite.specs.Compile.{table_defined_by}
 use Rattle.sqlite.specs.Change.{created}
@@ -11,17 +11,15 @@ use Rattle.sqlite_ast.specs.declared.Statement.TheVariants as written
 use Rattle.sqlite_catalog.specs.Change.{is_used}
 use Rattle.sqlite_resolve.specs.Compile as compile
 use Rattle.sqlite_resolve.specs.Compile.{first}
-use Rattle.sqlite_resolve.specs.Lowering.{Checked, max_budget}
+use Rattle.sqlite_resolve.specs.Lowering.{Checked}
 use Rattle.sqlite_schema.specs.Names.{table_named, view_named}
 use Rattle.sqlite_syntax.specs.declared.statement.Parsed.{Parsed}
 use Rattle.sqlite_tied.specs.Compute.{everything}
-use Rattle.sqlite_typing.specs.Types.{are_typed, row_classes}
-use Rattle.table_schema.proofs.ColumnQueries.{columns_show}
-use Rattle.table_schema.proofs.CreateLemmas.{Creates, create_plans, states, table_defined}
+use Rattle.table_schema.proofs.ColumnQueries.{IsBareSelect, ShowsColumns, columns_show}
+use Rattle.table_schema.proofs.CreateLemmas.{Creates, creates, defined_so}
 use Rattle.table_schema.proofs.MeaningLemmas.{Means, Plans, means}
 use Rattle.table_schema.proofs.QueryMeanings.{ShowsRows}
 use Rattle.table_schema.proofs.Written.{IfRead}
-use Rattle.table_schema.proofs.WrittenQueries.{IsBareText, has_all, shown_as, shown_column}
 use Rattle.table_schema.specs.Places.{TableStandsAt}
 use Rattle.table_schema.specs.Schema.{name}
 use Rattle.table_schema.specs.declared.tables.Table.{Table}
@@ -39,16 +37,10 @@ create_says t = record { def = _; whole = refl; parameters = refl; text = refl; 
 pub create_means : (schema : Schema) (t : Table) → is_used schema (name t) ≡ false
     → Means schema (first_create_sql t) CreateTable 0
     × (statement_of (first_create_sql t) (understood schema (first_create_sql t)) ≡ first_create_sql t)
-create_means schema t free =
-    let r = first (first_create_sql t) in (
-      means schema (first_create_sql t) _ _ r refl (create_plans schema (name t) (first_create_sql t) (first_table_at 0 t)
-          free r (create_says t)),
-      states schema (name t) (first_create_sql t) (first_table_at 0 t) free r refl (create_says t),
-    )
+create_means schema t free = creates (name t) (first_create_sql t) (first_table_at 0 t) (create_says t) schema free
 
 pub create_defines : (t : Table) → table_defined_by (first_create_sql t) ≡ Ok (first_table_at 0 t)
-create_defines t = table_defined (name t) (first_create_sql t) (first_table_at 0 t) (first (first_create_sql t)) refl
-    (create_says t)
+create_defines t = defined_so (name t) (first_create_sql t) (first_table_at 0 t) (create_says t)
 
 -- in an empty database one after the other can be made
 pub unused : (t : Table) → is_used (first_before t) (name t) ≡ false
@@ -95,24 +87,17 @@ drop_means schema t at unviewed named = means schema (drop_sql t) _ _ (first (dr
 
 -- ---- its rows are read
 
-select_says : (t : Table) → IfRead (first (first_select_sql t)) (IsBareText (length (first_select_sql t)) (name t)
-    (map shown_column (first_names t)))
+select_says : (t : Table) → IsBareSelect (name t) (first_select_sql t) (first_names t)
 unfolding everything
 select_says Meta = (refl, refl, refl, refl, refl, refl)
 select_says t = (refl, refl, refl, refl, refl, refl)
 
-select_fits : (tree : ℕ) (t : Table) → (has_all (first_table_at tree t) (first_names t) ≡ true)
-    × (nat_lt (length (first_names t)) max_budget ≡ true)
-    × (map (λ o. o.term) (map (shown_as (first_table_at tree t)) (first_names t)) ≡ first_terms t)
-    × (map (λ o. o.name) (map (shown_as (first_table_at tree t)) (first_names t)) ≡ first_names t)
-    × (are_typed [] (row_classes (first_table_at tree t) ∷ []) (first_terms t) ≡ true)
+select_fits : (tree : ℕ) (t : Table) → ShowsColumns (first_table_at tree t) (first_names t) (first_terms t)
 unfolding everything
 select_fits tree Meta = (refl, refl, refl, refl, refl)
 select_fits tree t = (refl, refl, refl, refl, refl)
 
 pub selects : (schema : Schema) (tree at : ℕ) (t : Table) → TableStandsAt schema (first_table_at tree t) at
     → ShowsRows schema (first_select_sql t) tree (first_terms t) (first_names t)
-selects schema tree at t it =
-    let fits = select_fits tree t in
-    columns_show schema (first_table_at tree t) at it (first_select_sql t) (first_names t) (first_terms t) (first_names t)
-    (select_says t) fits.0 fits.1 fits.2 fits.3 fits.4
+selects schema tree at t it = columns_show schema (first_table_at tree t) at it (first_select_sql t) (first_names t)
+    (first_terms t) (select_says t) (select_fits tree t)

@@ -2,7 +2,7 @@
 use Rattle.std.proofs.Common.{◌≡◌, ◌≢◌, ◌⊎◌, ◌||◌, ◌==◌, ◌∙◌, ◌+◌, ℕ, zero, suc, Bool, true, false, not, inl, inr}
 use Rattle.std.proofs.Common.{List, [], ◌∷◌, filter, find, Option, Some, None, slice_get, refl, sym, ap, subst, arith, true≢false}
 use Rattle.std.specs.List.{AllByRecursion, list_any, position_from}
-use Rattle.std.proofs.lemmas.Bool.{and_left, cases_Bool, eq-eqb, ne_eqb}
+use Rattle.std.proofs.lemmas.Bool.{and_left, cases_Bool, eq-eqb, ne_eqb, or_parts}
 use Rattle.sqlite.specs.Does.{is_acted_on}
 use Rattle.sqlite.specs.Schema.{Schema}
 use Rattle.sqlite.specs.Table.{Table as Described}
@@ -14,15 +14,14 @@ use Rattle.sqlite_rules.specs.Lists.{Has}
 use Rattle.sqlite_schema.specs.Names.{same_name, view_named}
 use Rattle.sqlite_schema.specs.declared.schema.Keys.TheVariants.{Enforced}
 use Rattle.sqlite_schema.specs.declared.schema.Reference.{Reference}
-use Rattle.table_schema.specs.Free.{plan_names}
 use Rattle.table_schema.specs.Made.{later}
 use Rattle.table_schema.specs.Places.{TableStandsAt}
-use Rattle.table_schema.specs.Schema.{IsAside, all_tables, name, table_at, to_run_cycle}
+use Rattle.table_schema.specs.Schema.{IsAside, all_tables, name, table, table_at, to_run_cycle}
 use Rattle.table_schema.specs.declared.tables.Table.{Table}
-use Rattle.table_schema.specs.declared.tables.Table.TheVariants.{Meta, CalendarEntry, Period, Application}
-use Rattle.table_schema.specs.declared.tables.Table.TheVariants.{RunCycle, Offset, Predecessor, LinkInForce}
-use Rattle.table_schema.specs.declared.tables.Table.TheVariants.{LongTerm, Current, History, Deletion}
-use Rattle.table_schema.specs.declared.tables.Table.TheVariants.{Dependency, Job}
+use Rattle.table_schema.specs.declared.tables.Table.TheVariants.{Meta}
+use Rattle.table_schema.specs.declared.tables.Table.TheVariants.{RunCycle, Offset}
+use Rattle.table_schema.proofs.EachLemmas.{each}
+use Rattle.table_schema.proofs.StopLemmas.{some_same}
 use Rattle.table_remaking.specs.FirstSchema.{CanRemake, HasFirstTables, first_table_at, is_among, without}
 
 -- ---- of a list
@@ -129,49 +128,16 @@ stands_left schema trees gone table at it other =
 
 -- ---- of schema 1
 
-names_after : (t : Table) → AllByRecursion (λ u. same_name (name u) (name t) ≡ false) (later t)
+names_after : (t : Table) → list_any (λ u. same_name (name u) (name t)) (later t) ≡ false
 unfolding same_name
-names_after Meta = (refl, (refl, (refl, (refl, (refl, (refl, (refl, (refl, (refl, (refl, (refl, (refl, (refl, tt)))))))))))))
-names_after CalendarEntry = (refl, (refl, (refl, (refl, (refl, (refl, (refl, (refl, (refl, (refl, (refl, (refl, tt))))))))))))
-names_after Period = (refl, (refl, (refl, (refl, (refl, (refl, (refl, (refl, (refl, (refl, (refl, tt)))))))))))
-names_after Application = (refl, (refl, (refl, (refl, (refl, (refl, (refl, (refl, (refl, (refl, tt))))))))))
-names_after RunCycle = (refl, (refl, (refl, (refl, (refl, (refl, (refl, (refl, (refl, tt)))))))))
-names_after Offset = (refl, (refl, (refl, (refl, (refl, (refl, (refl, (refl, tt))))))))
-names_after Predecessor = (refl, (refl, (refl, (refl, (refl, (refl, (refl, tt)))))))
-names_after LinkInForce = (refl, (refl, (refl, (refl, (refl, (refl, tt))))))
-names_after LongTerm = (refl, (refl, (refl, (refl, (refl, tt)))))
-names_after Current = (refl, (refl, (refl, (refl, tt))))
-names_after History = (refl, (refl, (refl, tt)))
-names_after Deletion = (refl, (refl, tt))
-names_after Dependency = (refl, tt)
-names_after Job = tt
+names_after Meta = refl
+names_after t = refl
 
 -- the run cycles alone are referred to
 refers_to : (t : Table) → (same_name (name t) (name RunCycle) ≡ false) ⊎ (t ≡ RunCycle)
 unfolding same_name
 refers_to RunCycle = inr refl
 refers_to t = inl refl
-
--- the name of each is free once all are taken away
-free_name : (schema : Schema) (t : Table) → AllByRecursion (λ n. is_used schema n ≡ false) plan_names
-    → is_used schema (name t) ≡ false
-free_name schema Meta h = h.0
-free_name schema CalendarEntry h = h.1.0
-free_name schema Period h = h.1.1.0
-free_name schema Application h = h.1.1.1.0
-free_name schema RunCycle h = h.1.1.1.1.0
-free_name schema Offset h = h.1.1.1.1.1.0
-free_name schema Predecessor h = h.1.1.1.1.1.1.0
-free_name schema LinkInForce h = h.1.1.1.1.1.1.1.0
-free_name schema LongTerm h = h.1.1.1.1.1.1.1.1.0
-free_name schema Current h = h.1.1.1.1.1.1.1.1.1.0
-free_name schema History h = h.1.1.1.1.1.1.1.1.1.1.0
-free_name schema Deletion h = h.1.1.1.1.1.1.1.1.1.1.1.0
-free_name schema Dependency h = h.1.1.1.1.1.1.1.1.1.1.1.1.0
-free_name schema Job h = h.1.1.1.1.1.1.1.1.1.1.1.1.1.0
-
-some_same : {X : Type 0} {a b : X} → ◌≡◌ {A = Option X} (Some a) (Some b) → a ≡ b
-some_same e = cc
 
 module _ (schema : Schema) (has : HasFirstTables schema) where
   -- two tables have two trees
@@ -181,10 +147,12 @@ module _ (schema : Schema) (has : HasFirstTables schema) where
       ∙ ap (λ n. find (λ (d : Described). d.tree == n) schema.tables) same ∙ (has.stands u).found) in
       true≢false (sym (same_itself (name t)) ∙ ap (λ (d : Described). same_name d.name (name t)) one ∙ other)
 
-  not_among : (t : Table) (us : List Table) → AllByRecursion (λ u. same_name (name u) (name t) ≡ false) us
+  not_among : (t : Table) (us : List Table) → list_any (λ u. same_name (name u) (name t)) us ≡ false
       → is_among has.trees us (has.trees t) ≡ false
-  not_among t us all = none_of (λ u. has.trees t == has.trees u) us (all_from _ us (λ u there.
-      ne_eqb (has.trees t) (has.trees u) (trees_differ t u (all_has _ us u all there))))
+  not_among t [] none = refl
+  not_among t (u ∷ us) none =
+      let both = or_parts (same_name (name u) (name t)) (list_any (λ u. same_name (name u) (name t)) us) none in
+      rw (ne_eqb (has.trees t) (has.trees u) (trees_differ t u both.0)) (not_among t us both.1)
 
   -- it still stands where those after it are taken away
   pub still_there : (t : Table)
@@ -218,4 +186,5 @@ module _ (schema : Schema) (has : HasFirstTables schema) where
 pub unviewed : (schema : Schema) (can : CanRemake schema) (gone : List Table) (t : Table)
     → view_named (without can.has.trees gone schema) (name t) ≡ None
 unviewed schema can gone t =
-    no_view (without can.has.trees all_tables schema) (name t) (free_name _ t can.free.names)
+    let left = without can.has.trees all_tables schema in
+    no_view left (name t) (each table (λ (d : Described). is_used left d.name ≡ false) can.free.unused.tables t)

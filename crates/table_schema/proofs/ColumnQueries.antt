@@ -32,13 +32,24 @@ all_there table (n ∷ ns) h =
     let both = and_parts (is_there table (column_named table n)) (has_all table ns) h in
     (there table (column_named table n) both.0, all_there table ns both.1)
 
-module _ (schema : Schema) (table : Table) (at : ℕ) (it : TableStandsAt schema table at) (sql : List ℕ) (columns : List (List ℕ)) (terms : List Term) (names : List (List ℕ))
-    (text : IfRead (first sql) (IsBareText (length sql) table.name (map shown_column columns)))
-    (has : has_all table columns ≡ true) (few : nat_lt (length columns) max_budget ≡ true)
-    (terms_are : map (λ o. o.term) (map (shown_as table) columns) ≡ terms) (names_are : map (λ o. o.name) (map (shown_as table) columns) ≡ names)
-    (typed : are_typed [] (row_classes table ∷ []) terms ≡ true) where
-  pub columns_show : ShowsRows schema sql table.tree terms names
+-- the text shows these columns of the table of the name
+abbrev pub IsBareSelect : List ℕ → List ℕ → List (List ℕ) → Type 0
+IsBareSelect name sql columns = IfRead (first sql) (IsBareText (length sql) name (map shown_column columns))
+
+-- these columns of the table, under their names, are these terms
+abbrev pub ShowsColumns : Table → List (List ℕ) → List Term → Type 0
+ShowsColumns table columns terms = (has_all table columns ≡ true) × (nat_lt (length columns) max_budget ≡ true)
+    × (map (λ o. o.term) (map (shown_as table) columns) ≡ terms)
+    × (map (λ o. o.name) (map (shown_as table) columns) ≡ columns)
+    × (are_typed [] (row_classes table ∷ []) terms ≡ true)
+
+module _ (schema : Schema) (table : Table) (at : ℕ) (it : TableStandsAt schema table at) (sql : List ℕ)
+    (columns : List (List ℕ)) (terms : List Term) (text : IsBareSelect table.name sql columns)
+    (fits : ShowsColumns table columns terms) where
+  pub columns_show : ShowsRows schema sql table.tree terms columns
   columns_show =
-      let all = lemmas.shows_all schema table at it.got 699 columns (all_there table columns has) max_budget nothing [] (ltb-true (length columns) max_budget few) in
-      subst₂ (λ t n. ShowsRows schema sql table.tree t n) terms_are names_are
-      (text_shows schema table at it sql (map shown_column columns) (map (shown_as table) columns) (max_budget - length columns) all.0 all.1 (ap (are_typed [] (row_classes table ∷ [])) terms_are ∙ typed) text)
+      let all = lemmas.shows_all schema table at it.got 699 columns (all_there table columns fits.0) max_budget nothing []
+      (ltb-true (length columns) max_budget fits.1) in
+      subst₂ (λ t n. ShowsRows schema sql table.tree t n) fits.2 fits.3
+      (text_shows schema table at it sql (map shown_column columns) (map (shown_as table) columns)
+      (max_budget - length columns) all.0 all.1 (ap (are_typed [] (row_classes table ∷ [])) fits.2 ∙ fits.4) text)

@@ -16,7 +16,7 @@ use Rattle.sqlite_resolve.specs.Define as define
 use Rattle.sqlite.specs.Listing.{understood}
 use Rattle.sqlite.proofs.Callers.{statement_of}
 use Rattle.table_schema.proofs.Written.{IfRead}
-use Rattle.table_schema.proofs.MeaningLemmas.{Plans, compiles, understands}
+use Rattle.table_schema.proofs.MeaningLemmas.{Means, Plans, compiles, means, understands}
 
 -- the text makes this table
 pub record Creates (name sql : List ℕ) (table : Table) (p : Parsed) : Type 0 where
@@ -50,12 +50,12 @@ module _ (schema : Schema) (name sql : List ℕ) (table : Table) (free : is_used
       (ap (table_named schema) h.named ∙ no_table schema name free) (ap (view_named schema) h.named ∙ no_view schema name free)
       (ap (index_named schema) h.named ∙ no_index schema name free) h.free h.defined h.fit)
 
-  pub create_plans : (r : Checked Parsed) → IfRead r (Creates name sql table) → IfRead r (Plans schema command.CreateTable (length sql) 0)
+  create_plans : (r : Checked Parsed) → IfRead r (Creates name sql table) → IfRead r (Plans schema command.CreateTable (length sql) 0)
   create_plans (Err e) h = absurd h
   create_plans (Ok p) h = (plans p h, h.whole, ap length h.parameters)
 
   -- the statement is the text
-  pub states : (r : Checked Parsed) → compile.first sql ≡ r → IfRead r (Creates name sql table) → statement_of sql (understood schema sql) ≡ sql
+  states : (r : Checked Parsed) → compile.first sql ≡ r → IfRead r (Creates name sql table) → statement_of sql (understood schema sql) ≡ sql
   states (Err e) read h = absurd h
   states (Ok p) read h =
       let it = understands schema sql p _ (compiles schema sql p _ read (plans p h)) in
@@ -67,7 +67,20 @@ defines : (p : Parsed) (def : CreateTable) (table : Table) → p.statement ≡ w
 unfolding compile.table_in
 defines p def table is defined = rw (is, defined) refl
 
-pub table_defined : (name sql : List ℕ) (table : Table) (r : Checked Parsed) → compile.first sql ≡ r → IfRead r (Creates name sql table) → compile.table_defined_by sql ≡ Ok table
+table_defined : (name sql : List ℕ) (table : Table) (r : Checked Parsed) → compile.first sql ≡ r → IfRead r (Creates name sql table) → compile.table_defined_by sql ≡ Ok table
 unfolding compile.table_defined_by
 table_defined name sql table (Err e) read h = absurd h
 table_defined name sql table (Ok p) read h = rw (read, defines p h.def table h.is h.defined) refl
+
+module _ (name sql : List ℕ) (table : Table) (says : IfRead (compile.first sql) (Creates name sql table)) where
+  -- where the name is free, the table is made, by the whole text
+  pub creates : (schema : Schema) → is_used schema name ≡ false
+      → Means schema sql command.CreateTable 0 × (statement_of sql (understood schema sql) ≡ sql)
+  creates schema free =
+      let r = compile.first sql in (
+        means schema sql _ _ r refl (create_plans schema name sql table free r says),
+        states schema name sql table free r refl says,
+      )
+
+  pub defined_so : compile.table_defined_by sql ≡ Ok table
+  defined_so = table_defined name sql table (compile.first sql) refl says

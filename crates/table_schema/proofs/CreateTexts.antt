@@ -12,8 +12,8 @@ use Rattle.table_schema.specs.Texts.{create_sql}
 use Rattle.table_schema.specs.declared.tables.Table.{Table}
 use Rattle.table_schema.specs.declared.tables.Table.TheVariants.{Meta}
 use Rattle.table_schema.proofs.Written.{IfRead}
-use Rattle.table_schema.proofs.MeaningLemmas.{Means, means}
-use Rattle.table_schema.proofs.CreateLemmas.{Creates, create_plans, states, table_defined}
+use Rattle.table_schema.proofs.MeaningLemmas.{Means}
+use Rattle.table_schema.proofs.CreateLemmas.{Creates, creates, defined_so}
 
 create_says : (t : Table) → IfRead (first (create_sql t)) (Creates (name t) (create_sql t) (table_at 0 t))
 unfolding everything
@@ -23,11 +23,7 @@ create_says t = record { def = _; whole = refl; parameters = refl; text = refl; 
 -- where the name is free, the table is made, by the whole text
 pub create_means : (schema : Schema) (t : Table) → is_used schema (name t) ≡ false
     → Means schema (create_sql t) CreateTable 0 × (statement_of (create_sql t) (understood schema (create_sql t)) ≡ create_sql t)
-create_means schema t free =
-    let r = first (create_sql t) in (
-      means schema (create_sql t) _ _ r refl (create_plans schema (name t) (create_sql t) (table_at 0 t) free r (create_says t)),
-      states schema (name t) (create_sql t) (table_at 0 t) free r refl (create_says t),
-    )
+create_means schema t free = creates (name t) (create_sql t) (table_at 0 t) (create_says t) schema free
 
 pub create_defines : (t : Table) → table_defined_by (create_sql t) ≡ Ok (table_at 0 t)
-create_defines t = table_defined (name t) (create_sql t) (table_at 0 t) (first (create_sql t)) refl (create_says t)
+create_defines t = defined_so (name t) (create_sql t) (table_at 0 t) (create_says t)

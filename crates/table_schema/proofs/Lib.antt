@@ -7,6 +7,7 @@ pub mod CreateTexts
 pub mod CreatedLemmas
 pub mod CycleLemmas
 pub mod DeleteTexts
+pub mod EachLemmas
 pub mod EffectLemmas
 pub mod FitLemmas
 pub mod FoundLemmas

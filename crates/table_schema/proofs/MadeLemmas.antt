@@ -1,34 +1,36 @@
 -- The tables of a plan, made one after the other behind other tables.
-use Rattle.std.proofs.Common.{◌≡◌, ◌≤◌, ◌+◌, ◌++◌, ◌∙◌, ◌⊎◌, inl, inr, ℕ, true, false, List, [], ◌∷◌, length, map, find}
-use Rattle.std.proofs.Common.{Option, Some, slice_get, ◌==◌, refl, sym, ap, subst, arith}
+use Rattle.std.proofs.Common.{◌≡◌, ◌≤◌, ◌<◌, ◌+◌, ◌++◌, ◌∙◌, ◌⊎◌, inl, inr, ℕ, true, false, List, [], ◌∷◌, length, map, find}
+use Rattle.std.proofs.Common.{slice_get, ◌==◌, refl, sym, ap, subst, arith}
 use Rattle.std.specs.List.{AllByRecursion, list_all}
+use Rattle.std.proofs.lemmas.List.Elements.{All-from_recursion, recursion_from_All}
 use Rattle.sqlite.specs.Change.{created, next_tree}
 use Rattle.sqlite.specs.Does.{lacks_sequence}
 use Rattle.sqlite.specs.Schema.{Schema}
 use Rattle.sqlite.specs.Table.{Table as Described}
-use Rattle.sqlite_catalog.specs.Change.{automatics}
+use Rattle.sqlite_catalog.specs.Change.{automatics, is_used}
+use Rattle.sqlite_catalog.specs.Listing.{automatic}
 use Rattle.sqlite_catalog.proofs.ListFacts.{ascending_push}
 use Rattle.sqlite_catalog.proofs.StepLemmas.{table_below}
 use Rattle.sqlite_keyed.proofs.ListLemmas.{all-append}
 use Rattle.sqlite_rules.proofs.ListLemmas.{all_from, all_has, has_got}
 use Rattle.sqlite_tied.specs.Compute.{everything}
+use Rattle.sqlite_schema.specs.declared.schema.Index.{Index}
 use Rattle.sqlite_trees.specs.Tree.{IsAscending}
-use Rattle.table_schema.specs.Free.{IsFree, with_plan, with_tables}
+use Rattle.table_schema.specs.Free.{AreAside, IsFree, with_plan, with_tables}
 use Rattle.table_schema.specs.Made.{AllMade, earlier, later}
 use Rattle.table_schema.specs.Places.{TableStandsAt, TreesDiffer}
 use Rattle.table_schema.specs.Schema.{HasOwnIndexes, HasTables, IsAside, IsOwnIndex, all_tables, name}
-use Rattle.table_schema.specs.Schema.{no_schema, plan_schema, table_at, to_run_cycle, uniques}
+use Rattle.table_schema.specs.Schema.{indexes, indexes_of, no_schema, plan_schema, table, table_at, to_run_cycle}
+use Rattle.table_schema.specs.Schema.{tree, uniques}
 use Rattle.table_schema.specs.declared.tables.Table.{Table}
 use Rattle.table_schema.specs.declared.tables.Table.TheVariants.{Meta, CalendarEntry, Period, Application}
 use Rattle.table_schema.specs.declared.tables.Table.TheVariants.{RunCycle, Offset, Predecessor, LinkInForce}
 use Rattle.table_schema.specs.declared.tables.Table.TheVariants.{LongTerm, Current, History, Deletion}
 use Rattle.table_schema.specs.declared.tables.Table.TheVariants.{Dependency, Job}
+use Rattle.table_schema.proofs.StopLemmas.{some_same}
+use Rattle.table_schema.proofs.EachLemmas.{all_each, asides_each, in_order}
 use Rattle.table_schema.proofs.CreatedLemmas.{AreFree, front_all, got_last, is_clear, next_below, rest_all}
 use Rattle.table_schema.proofs.CreatedLemmas.{stands_last, stands_still, stay_free, stays_uncounted}
-
-in_order : (t : Table) → earlier t ++ t ∷ later t ≡ all_tables
-in_order Meta = refl
-in_order t = refl
 
 pub made_then : (us vs : List Table) (schema : Schema) (t : Table)
     → with_tables schema (us ++ t ∷ vs) ≡ with_tables (created (with_tables schema us) (table_at 0 t)) vs
@@ -51,7 +53,7 @@ trees_of [] = 0
 trees_of (t ∷ ts) = 1 + length (uniques t) + trees_of ts
 
 -- these tables can be made, one after the other
-pub record CanMake (schema : Schema) (left : List Table) : Type 0 where
+pub record CanMakeEach (schema : Schema) (left : List Table) : Type 0 where
   pub free : AreFree schema (all_names left)
   pub room : next_tree schema + trees_of left ≤ 65536
   pub uncounted : lacks_sequence schema ≡ false
@@ -66,8 +68,8 @@ all_clear : AreClear all_tables
 unfolding everything
 all_clear = ((λ tree next. refl), ((λ tree next. refl), ((λ tree next. refl), ((λ tree next. refl), ((λ tree next. refl), ((λ tree next. refl), ((λ tree next. refl), ((λ tree next. refl), ((λ tree next. refl), ((λ tree next. refl), ((λ tree next. refl), ((λ tree next. refl), ((λ tree next. refl), ((λ tree next. refl), tt))))))))))))))
 
-goes_on : (schema : Schema) (t : Table) (left : List Table) → AreClear (t ∷ left) → CanMake schema (t ∷ left)
-    → CanMake (created schema (table_at 0 t)) left
+goes_on : (schema : Schema) (t : Table) (left : List Table) → AreClear (t ∷ left) → CanMakeEach schema (t ∷ left)
+    → CanMakeEach (created schema (table_at 0 t)) left
 goes_on schema t left clear can = record {
   free = stay_free schema (table_at 0 t) (all_names left) (rest_all _ (names_of t) (all_names left) can.free)
       (clear.0 (next_tree schema) (next_tree schema + 1));
@@ -75,25 +77,48 @@ goes_on schema t left clear can = record {
   uncounted = stays_uncounted schema (table_at 0 t) refl can.uncounted;
 }
 
-after : (us left : List Table) (schema : Schema) → AreClear (us ++ left) → CanMake schema (us ++ left)
-    → CanMake (with_tables schema us) left
+after : (us left : List Table) (schema : Schema) → AreClear (us ++ left) → CanMakeEach schema (us ++ left)
+    → CanMakeEach (with_tables schema us) left
 after [] left schema clear can = can
 after (u ∷ us) left schema clear can =
     after us left (created schema (table_at 0 u)) clear.1 (goes_on schema u (us ++ left) clear can)
 
-begins : (schema : Schema) → IsFree schema → CanMake schema all_tables
-unfolding everything
-begins schema is =
-    let n = is.names in
-    let room = is.room in record {
-      free = (n.0, (n.1.0, (n.1.1.1.1.1.1.1.1.1.1.1.1.1.1.0, (n.1.1.0, (n.1.1.1.1.1.1.1.1.1.1.1.1.1.1.1.0, (n.1.1.1.0, (n.1.1.1.1.1.1.1.1.1.1.1.1.1.1.1.1.0, (n.1.1.1.1.0, (n.1.1.1.1.1.1.1.1.1.1.1.1.1.1.1.1.1.0, (n.1.1.1.1.1.0, (n.1.1.1.1.1.1.1.1.1.1.1.1.1.1.1.1.1.1.0, (n.1.1.1.1.1.1.0, (n.1.1.1.1.1.1.1.1.1.1.1.1.1.1.1.1.1.1.1.0, (n.1.1.1.1.1.1.1.0, (n.1.1.1.1.1.1.1.1.1.1.1.1.1.1.1.1.1.1.1.1.0, (n.1.1.1.1.1.1.1.1.0, (n.1.1.1.1.1.1.1.1.1.1.1.1.1.1.1.1.1.1.1.1.1.0, (n.1.1.1.1.1.1.1.1.1.0, (n.1.1.1.1.1.1.1.1.1.1.0, (n.1.1.1.1.1.1.1.1.1.1.1.1.1.1.1.1.1.1.1.1.1.1.0, (n.1.1.1.1.1.1.1.1.1.1.1.0, (n.1.1.1.1.1.1.1.1.1.1.1.1.0, (n.1.1.1.1.1.1.1.1.1.1.1.1.1.1.1.1.1.1.1.1.1.1.1.0, (n.1.1.1.1.1.1.1.1.1.1.1.1.1.0, tt))))))))))))))))))))))));
-      room = omega (arith, room);
-      uncounted = is.uncounted;
-    }
+module _ (schema : Schema) where
+  abbrev Unused : List ℕ → Type 0
+  Unused n = is_used schema n ≡ false
 
-pub can_make : (schema : Schema) → IsFree schema → (t : Table) → CanMake (with_tables schema (earlier t)) (t ∷ later t)
+  abbrev IsUnused : Index → Type 0
+  IsUnused i = Unused i.name
+
+  -- the index of a key has the same name in whatever tree it is
+  keys_free : (t : Table) → AllByRecursion IsUnused (map (λ places. automatic (table t) 0 places (tree t + 1)) (uniques t))
+      → AllByRecursion Unused (map (λ i. i.name) (automatics (table_at 0 t) 0 0 (uniques t)))
+  unfolding everything
+  keys_free Meta h = h
+  keys_free t h = h
+
+  names_free : (ts : List Table) → AllByRecursion (λ d. Unused d.name) (map table ts)
+      → AllByRecursion IsUnused (indexes_of ts) → AreFree schema (all_names ts)
+  names_free [] tables keys = tt
+  names_free (t ∷ ts) tables keys = (
+    tables.0,
+    all-append Unused _ (all_names ts)
+        (keys_free t (front_all IsUnused _ (indexes_of ts) keys))
+        (names_free ts tables.1 (rest_all IsUnused _ (indexes_of ts) keys)),
+  )
+
+begins : (schema : Schema) → IsFree schema → CanMakeEach schema all_tables
+begins schema is = record {
+  free = names_free schema all_tables
+      (recursion_from_All (λ (d : Described). is_used schema d.name ≡ false) plan_schema.tables is.unused.tables)
+      (recursion_from_All (λ (i : Index). is_used schema i.name ≡ false) indexes is.unused.indexes);
+  room = let room : next_tree schema + 14 + 10 ≤ 65536 = is.room in omega (arith, room);
+  uncounted = is.uncounted;
+}
+
+pub can_make : (schema : Schema) → IsFree schema → (t : Table) → CanMakeEach (with_tables schema (earlier t)) (t ∷ later t)
 can_make schema is t = after (earlier t) (t ∷ later t) schema (subst AreClear (sym (in_order t)) all_clear)
-    (subst (CanMake schema) (sym (in_order t)) (begins schema is))
+    (subst (CanMakeEach schema) (sym (in_order t)) (begins schema is))
 
 -- ---- what is so of each
 
@@ -159,9 +184,6 @@ rises (u ∷ us) schema =
     let below = table_below next new (has_got _ _ new (got_last schema.tables new)) in
     omega (arith, below, rises us next)
 
-some_same : {X : Type 0} {a b : X} → ◌≡◌ {A = Option X} (Some a) (Some b) → a ≡ b
-some_same e = cc
-
 -- the references of a table are to none of the plan, but for those of the offsets in this tree
 abbrev IsAsideFor : ℕ → Described → Type 0
 IsAsideFor n d = AllByRecursion (λ ref. IsAside ref ⊎ ((d ≡ table_at n Offset) × (ref ≡ to_run_cycle))) d.references
@@ -199,7 +221,8 @@ module _ (schema : Schema) (is : IsFree schema) where
 
   aside : (n : ℕ) → AllByRecursion (IsAsideFor n) schema.tables
   aside n = all_from (IsAsideFor n) schema.tables (λ d has. all_from _ d.references (λ ref here.
-      inl (all_has IsAside d.references ref (all_has _ schema.tables d is.aside has) here)))
+      inl (all_has IsAside d.references ref (asides_each table (λ t. refl) d (all_has (AreAside plan_schema.tables)
+      schema.tables d (recursion_from_All (AreAside plan_schema.tables) schema.tables is.aside) has)) here)))
 
   offsets_alone : AllMade (IsAsideFor (tree_for schema Offset)) schema all_tables
   offsets_alone = (tt, (tt, (tt, (tt, (tt, ((inr (refl, refl), tt), (tt, (tt, (tt, (tt, (tt, (tt, (tt, (tt, tt))))))))))))))
@@ -241,7 +264,8 @@ module _ (schema : Schema) (is : IsFree schema) where
 
   olds_own : AllByRecursion (IsOwnIndex (tree_for schema)) schema.indexes
   olds_own = all_from _ schema.indexes (λ i has t same.
-      let low = all_has _ schema.indexes i is.indexed has in absurd (omega (arith, low, same, rises (earlier t) schema)))
+      let low = all_has _ schema.indexes i (recursion_from_All (λ (i : Index). i.table < next_tree schema) schema.indexes
+      is.indexed) has in absurd (omega (arith, low, same, rises (earlier t) schema)))
 
   pub own_indexes : HasOwnIndexes (with_plan schema)
   own_indexes has = subst (λ (trees : Table → ℕ). AllByRecursion (IsOwnIndex trees) (with_plan schema).indexes)
@@ -249,14 +273,22 @@ module _ (schema : Schema) (is : IsFree schema) where
 
 -- ---- an empty database
 
+unused_in_nothing : (n : List ℕ) → is_used no_schema n ≡ false
+unfolding everything
+unused_in_nothing n = refl
+
 pub nothing_is_free : IsFree no_schema
 unfolding everything
 nothing_is_free = record {
-  names = (refl, (refl, (refl, (refl, (refl, (refl, (refl, (refl, (refl, (refl, (refl, (refl, (refl, (refl, (refl, (refl, (refl, (refl, (refl, (refl, (refl, (refl, (refl, (refl, tt))))))))))))))))))))))));
+  unused = record {
+    tables = all_each table (λ (d : Described). is_used no_schema d.name ≡ false) (λ t. unused_in_nothing (name t));
+    indexes = All-from_recursion (λ (i : Index). is_used no_schema i.name ≡ false) indexes
+        (all_from _ indexes (λ i has. unused_in_nothing i.name));
+  };
   room = omega arith;
-  aside = tt;
+  aside = All-from_recursion (AreAside plan_schema.tables) [] tt;
   apart = tt;
-  indexed = tt;
+  indexed = All-from_recursion (λ (i : Index). i.table < next_tree no_schema) [] tt;
   uncounted = refl;
 }
 

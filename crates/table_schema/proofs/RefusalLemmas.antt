@@ -39,7 +39,7 @@ use Rattle.table_schema.specs.declared.tables.Table.TheVariants.{Current, Deleti
 use Rattle.table_schema.specs.declared.tables.Table.TheVariants.{Job}
 use Rattle.table_schema.proofs.CreatedLemmas.{front_all, stays_uncounted}
 use Rattle.table_schema.proofs.CreateTexts.{create_defines, create_means}
-use Rattle.table_schema.proofs.MadeLemmas.{CanMake, all_names}
+use Rattle.table_schema.proofs.MadeLemmas.{CanMakeEach, all_names}
 use Rattle.table_schema.proofs.MeaningLemmas.{Means}
 use Rattle.table_schema.proofs.Steps as steps
 use Rattle.table_schema.proofs.StopLemmas.{IsOrdinary, IsStopped, in_vain, stopped}
@@ -80,7 +80,7 @@ all_mapped P f (x ∷ xs) h = (h.0, all_mapped P f xs h.1)
 ordinary_create : IsOrdinary CreateTable
 ordinary_create = record { quiet = refl; plain = refl; begins = λ e. cc; commits = λ e. cc; undoes = λ e. cc; releases = λ name e. cc; goes_back = λ name e. cc }
 
-module _ (schema : Schema) (left : List Table) (t : Table) (can : CanMake schema (t ∷ left)) where
+module _ (schema : Schema) (left : List Table) (t : Table) (can : CanMakeEach schema (t ∷ left)) where
   means : Means schema (create_sql t) CreateTable 0
   means = (create_means schema t can.free.0).0
 

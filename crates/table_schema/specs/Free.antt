@@ -1,34 +1,49 @@
--- Where the tables of a plan can be made beside other tables, and what stands then.
-use Rattle.std.specs.Prelude.{◌≡◌, ℕ, ◌<◌, ◌≤◌, false, List, [], ◌∷◌, ◌++◌, map, codes}
-use Rattle.std.specs.List.{AllByRecursion}
+-- Where tables can be made beside other tables, and what stands then.
+use Rattle.std.specs.Prelude.{◌≡◌, ◌+◌, ◌<◌, ◌≤◌, false, List, [], ◌∷◌, length}
+use Rattle.std.specs.List.{All}
 use Rattle.sqlite.specs.Change.{created, next_tree}
 use Rattle.sqlite.specs.Does.{lacks_sequence}
-use Rattle.sqlite.specs.Schema.{Schema}
 use Rattle.sqlite_catalog.specs.Change.{is_used}
+use Rattle.sqlite_schema.specs.Names.{same_name}
+use Rattle.sqlite_schema.specs.declared.schema.Reference.{Reference}
+use Rattle.sqlite_schema.specs.declared.schema.Schema.{Schema}
+use Rattle.sqlite_schema.specs.declared.schema.Table.{Table as Described}
 use Rattle.sqlite_trees.specs.Tree.{IsAscending}
 use Rattle.table_schema.specs.Places.{TreesDiffer}
-use Rattle.table_schema.specs.Schema.{IsAside, all_tables, name, table_at, uniques}
+use Rattle.table_schema.specs.Schema.{all_tables, plan_schema, table_at}
 use Rattle.table_schema.specs.declared.tables.Table.{Table}
 
--- the names of the indexes that their keys make
-abbrev pub index_names : List Table → List (List ℕ)
-index_names [] = []
-index_names (t ∷ ts) = map (λ _. codes "sqlite_autoindex_" ++ (name t ++ codes "_1")) (uniques t) ++ index_names ts
+-- the reference is to none of these tables
+abbrev pub IsAsideOf : List Described → Reference → Type 0
+IsAsideOf tables ref = All (λ t. same_name t.name ref.parent ≡ false) tables
 
--- the names of the tables, and of these
-abbrev pub plan_names : List (List ℕ)
-plan_names = map name all_tables ++ index_names all_tables
+-- the table refers to none of these
+abbrev pub AreAside : List Described → Described → Type 0
+AreAside tables child = All (IsAsideOf tables) child.references
 
--- nothing stands in the way of the tables of a plan: their names are free, and there is room for their 24 trees; no
--- table refers to one of them; no two tables have one tree, and no index is of a tree that is still to come; and
--- AUTOINCREMENT has its table where it needs one
-pub record IsFree (schema : Schema) : Type 0 where
-  pub names : AllByRecursion (λ n. is_used schema n ≡ false) plan_names
-  pub room : next_tree schema ≤ 65512
-  pub aside : AllByRecursion (λ t. AllByRecursion IsAside t.references) schema.tables
+-- the names of the other's tables and indexes are not used
+pub record AreUnused (schema made : Schema) : Type 0 where
+  pub tables : All (λ t. is_used schema t.name ≡ false) made.tables
+  pub indexes : All (λ i. is_used schema i.name ≡ false) made.indexes
+
+-- there is room for the trees of the other
+abbrev pub FitsIn : Schema → Schema → Type 0
+FitsIn schema made = next_tree schema + length made.tables + length made.indexes ≤ 65536
+
+-- the tables of the other can be made in it: nothing has their names, and there is room for their trees; no table refers
+-- to one of them; no two tables have one tree, and no index is of a tree that is still to come; and AUTOINCREMENT has its
+-- table where it needs one
+pub record CanMake (schema made : Schema) : Type 0 where
+  pub unused : AreUnused schema made
+  pub room : FitsIn schema made
+  pub aside : All (AreAside made.tables) schema.tables
   pub apart : IsAscending TreesDiffer schema.tables
-  pub indexed : AllByRecursion (λ i. i.table < next_tree schema) schema.indexes
+  pub indexed : All (λ i. i.table < next_tree schema) schema.indexes
   pub uncounted : lacks_sequence schema ≡ false
+
+-- nothing stands in the way of the tables of a plan
+abbrev pub IsFree : Schema → Type 0
+IsFree schema = CanMake schema plan_schema
 
 -- these tables are made, one after the other, behind those that are there
 abbrev pub with_tables : Schema → List Table → Schema

@@ -1,5 +1,5 @@
 -- The tables of the plan and their indexes.
-use Rattle.std.specs.Prelude.{◌≡◌, ◌⊎◌, ◌+◌, ℕ, false, List, [], ◌∷◌, ◌++◌, map, Option, codes}
+use Rattle.std.specs.Prelude.{◌≡◌, ◌⊎◌, ◌+◌, ◌==◌, if◌then◌else◌, ℕ, false, List, [], ◌∷◌, ◌++◌, map, Option, codes}
 use Rattle.std.specs.List.{AllByRecursion}
 use Rattle.sqlite.specs.Schema.{Schema}
 use Rattle.sqlite.specs.Table.{Table as Described}
@@ -59,6 +59,24 @@ place History = 10
 place Deletion = 11
 place Dependency = 12
 place Job = 13
+
+-- the table at the place
+abbrev pub table_of : ℕ → Table
+table_of n =
+    if n == 0 then Meta else (
+    if n == 1 then CalendarEntry else (
+    if n == 2 then Period else (
+    if n == 3 then Application else (
+    if n == 4 then RunCycle else (
+    if n == 5 then Offset else (
+    if n == 6 then Predecessor else (
+    if n == 7 then LinkInForce else (
+    if n == 8 then LongTerm else (
+    if n == 9 then Current else (
+    if n == 10 then History else (
+    if n == 11 then Deletion else (
+    if n == 12 then Dependency else (
+    Job)))))))))))))
 
 -- which tree has its rows
 abbrev pub tree : Table → ℕ
