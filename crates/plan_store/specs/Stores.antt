@@ -1,5 +1,5 @@
 -- What the calls of a store do.
-use Rattle.std.specs.Prelude.{◌≡◌, ◌⊎◌, ℕ, ◌<◌, ◌≤◌, IfOk, IfErr, OnOk, OnErr, Result, Err}
+use Rattle.std.specs.Prelude.{◌≡◌, ◌≢◌, ◌⊎◌, ℕ, ◌<◌, ◌≤◌, IfOk, IfErr, OnOk, OnErr, Result, Err}
 use Rattle.std.specs.Borrow.{Fml, MutBor, RattleType}
 use Rattle.std.specs.Io.BufRead.{Rests}
 use Rattle.planner_machine.specs.Content.{Content}
@@ -16,8 +16,8 @@ pub record ReadsStore {S T : Type 0} (is_honest : S → Type 0) (content : S →
   -- the answer of an honest store is right, and its content stays
   pub right : is_honest now → IfOk result IsRight
   pub same : is_honest now → content now ≡ content before
-  -- a crash leaves no other content than before
-  pub crash : is_honest now → (c : Content) → may_leave now c → may_leave before c
+  -- a crash leaves no other content than before, whatever became of the store
+  pub crash : (c : Content) → may_leave now c → may_leave before c
   -- the device is blamed only where it failed, then or before
   pub blames : IfErr result (λ fault. fault ≡ Device → MoreFailures (failures before) (failures now)
       ⊎ (0 < failures before))
@@ -26,6 +26,8 @@ pub record ReadsStore {S T : Type 0} (is_honest : S → Type 0) (content : S →
   pub counts : failures before ≤ failures now
   pub honest : is_honest now → is_honest before
   pub clean : is_clean now → is_clean before
+  -- an honest store stays honest where its device told no wrong answer, unless the device is blamed
+  pub stays_honest : is_honest before → is_clean now → IfErr result (λ fault. fault ≢ Device) → is_honest now
   -- a store that answers is as whole as it was
   pub whole : OnOk result (is_whole before → is_whole now)
 
@@ -45,10 +47,10 @@ pub record Applies {S : Type 0} (is_honest : S → Type 0) (content : S → Cont
   pub unchanged : is_honest now → IfErr result (λ fault. fault ≡ Memory → content now ≡ content before)
   pub whole : is_honest now → OnErr result ((content now ≡ content before)
       ⊎ (content now ≡ after change (content before)))
-  -- what a crash may leave: after `Ok` the content alone, and else at most the new content beside what it might have
-  -- left before
+  -- what a crash may leave: after `Ok` the content alone, and else, whatever became of the store, at most the new
+  -- content beside what it might have left before
   pub settled : is_honest now → OnOk result ((c : Content) → may_leave now c → c ≡ content now)
-  pub crash : is_honest now → (c : Content) → may_leave now c → may_leave before c ⊎ (c ≡ content before)
+  pub crash : is_honest before → (c : Content) → may_leave now c → may_leave before c ⊎ (c ≡ content before)
       ⊎ (c ≡ after change (content before))
   -- the device is blamed only where it failed, then or before
   pub blames : IfErr result (λ fault. fault ≡ Device → MoreFailures (failures before) (failures now)
@@ -58,5 +60,7 @@ pub record Applies {S : Type 0} (is_honest : S → Type 0) (content : S → Cont
   pub counts : failures before ≤ failures now
   pub honest : is_honest now → is_honest before
   pub clean : is_clean now → is_clean before
+  -- an honest store stays honest where its device told no wrong answer, unless the device is blamed
+  pub stays_honest : is_honest before → is_clean now → IfErr result (λ fault. fault ≢ Device) → is_honest now
   -- a store that answers is as whole as it was
   pub stays_whole : OnOk result (is_whole before → is_whole now)

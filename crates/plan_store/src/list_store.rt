@@ -73,6 +73,10 @@ impl PlanStore for ListStore {
 
     ghost is_whole = { λ _. ⊤ };
 
+    ghost honest_is_clean = { λ _ _. tt };
+
+    ghost left_is_clean = { λ _ _ _. tt };
+
     fn definitions(&mut self) -> Result<Definitions, StoreFault> {
         Ok(self.content.definitions.clone()?)
     }

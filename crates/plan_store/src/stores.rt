@@ -1,4 +1,4 @@
-ghost use Rattle.std.specs.Prelude.{◌≡◌, ◌⊎◌, ℕ, ◌<◌, ◌≤◌, Err, OnOk, IfOk, IfErr, option_copied};
+ghost use Rattle.std.specs.Prelude.{◌≡◌, ◌≢◌, ◌⊎◌, ℕ, ◌<◌, ◌≤◌, Err, OnOk, IfOk, IfErr, option_copied};
 ghost use Rattle.std.specs.Borrow.{sem};
 ghost use Rattle.planner_machine.specs.Content.{Content as ContentValue};
 ghost use Rattle.plan_store.specs.Changes.{Fits, after};
@@ -66,7 +66,7 @@ pub trait PlanStore {
     // the content
     ghost content: { Self → ContentValue };
 
-    // what the store reads is what it wrote
+    // what the store reads is what it wrote, and it can be read still
     ghost is_honest: { Self → Type 0 };
 
     // how often its device failed, up to the greatest number that is counted
@@ -120,18 +120,19 @@ pub trait PlanStore {
         ensures all { is_honest self.new → AreNumbered (content self.old).sets
             → IfOk result (HandsAll K.takes (IsListing what (option_copied app.entry)
             (content self.old)) sink.old sink.new) }
-        ensures part { is_honest self.new → AreNumbered (content self.old).sets
+        ensures part { is_honest self.old → is_clean self.new → AreNumbered (content self.old).sets
             → IfErr result (HandsPart K.takes K.refuses (IsListing what (option_copied app.entry)
             (content self.old)) sink.old sink.new) }
         ensures same { is_honest self.new → content self.new ≡ content self.old }
-        ensures crash { is_honest self.new → (c : ContentValue) → may_leave self.new c
-            → may_leave self.old c }
+        ensures crash { (c : ContentValue) → may_leave self.new c → may_leave self.old c }
         ensures blames { IfErr result (λ fault. fault ≡ ListFault.Device
             → MoreFailures (failures self.old) (failures self.new) ⊎ (0 < failures self.old)) }
         ensures broken { 0 < failures self.old → result ≡ Err ListFault.Device }
         ensures counts { failures self.old ≤ failures self.new }
         ensures honest { is_honest self.new → is_honest self.old }
         ensures clean { is_clean self.new → is_clean self.old }
+        ensures stays_honest { is_honest self.old → is_clean self.new
+            → IfErr result (λ fault. fault ≢ ListFault.Device) → is_honest self.new }
         ensures stays_whole { OnOk result (is_whole self.old → is_whole self.new) };
 
     /// Makes the change, whole or not at all.
@@ -140,4 +141,10 @@ pub trait PlanStore {
         requires sound { is_honest self.old → IsSound (after change (content self.old)) }
         ensures { Applies is_honest content failures may_leave is_clean is_whole
             self.old self.new change result };
+
+    // what an honest store reads is what was written, so its device told no wrong answer
+    ghost honest_is_clean: { (store : Self) → is_honest store → is_clean store };
+
+    // nothing is said of what a crash may leave once the device told a wrong one
+    ghost left_is_clean: { (store : Self) (c : ContentValue) → may_leave store c → is_clean store };
 }
