@@ -1,39 +1,23 @@
 -- What the window on a key shows of its live row in the current plan.
-use Rattle.std.proofs.Common.{◌≡◌, ◌≢◌, ◌∙◌, true, Some, refl, ap}
-use Rattle.std.specs.Prelude.{not, ◌||◌, ◌&&◌}
-use Rattle.occurrences.proofs.KeyLemmas.{key_same}
+use Rattle.std.proofs.Common.{◌≡◌, true, Some}
 use Rattle.occurrences.specs.declared.place.CurrentRow.{CurrentRow}
 use Rattle.occurrences.specs.declared.place.Place.TheVariants.{Current}
 use Rattle.occurrences.specs.declared.row.Row.{Row}
-use Rattle.occurrences.specs.declared.status.Status.{Status}
-use Rattle.occurrences.specs.declared.status.Status.TheVariants.{W, S, E, C, D}
 use Rattle.planner_machine.specs.Content.{Sets}
-use Rattle.planner_machine.specs.DailyPlan.{is_deleted}
 use Rattle.planner_machine.specs.Sound.{IsSound}
 use Rattle.plan_store.specs.Asked.{AsksKey}
-use Rattle.plan_store.specs.Views.{Hidden, Sees, asks_pairs, is_asked, is_waiting, with_hidden}
+use Rattle.plan_store.specs.Views.{Hidden, Sees, asks_pairs, with_hidden}
 use Rattle.plan_store.specs.declared.views.View.{View}
 use Rattle.plan_store.proofs.PlaceLemmas.{stands_cp}
 use Rattle.plan_pairs.specs.Gathering.{ShowsList}
 use Rattle.plan_pairs.proofs.AskedLemmas.{live_not_past, shows_list}
-use Rattle.plan_pairs.proofs.PartLemmas.{asked_cp}
+use Rattle.plan_pairs.proofs.PartLemmas.{asked_current}
 use Rattle.daily_planning.specs.Actions.{IsLiveCurrent}
 
-live_status : (status : Status) → status ≢ D → is_waiting status || not (is_deleted status) ≡ true
-live_status W live = refl
-live_status S live = refl
-live_status E live = refl
-live_status C live = refl
-live_status D live = absurd (live refl)
-
 -- its pairs are asked for
-pub live_asked : (s : Sets) (row : Row) → IsLiveCurrent s row → asks_pairs (Some row.key) s.ltp s.cp row.serial ≡ true
-live_asked s row (status, stands, live) =
-    asked_cp (Some row.key) s row.serial (record { row = row; status = status }) stands asked
-  where
-    asked : is_asked (Some row.key) (record { row = row; status = status }) ≡ true
-    asked = ap (λ b. is_waiting status || (b && not (is_deleted status))) (key_same row.key row.key refl)
-        ∙ live_status status live
+pub live_asked : (s : Sets) (row : Row) → IsLiveCurrent s row
+    → asks_pairs (Some row.key) s.ltp s.cp s.history row.serial ≡ true
+live_asked s row (status, stands, live) = asked_current s row status stands live
 
 -- of history what may precede it in each application of its list
 pub live_shows : (h : Hidden) (view : View) (row : Row) → IsSound (with_hidden h view)

@@ -75,7 +75,7 @@ module _ (h : Hidden) (view : View) (sound : IsSound (with_hidden h view))
   held OfRows live are pass OfPairs pairs reached_pass gone_pass part all =
       seen_hold h view sound sees links known s (stay ++ made) current current_are completed lasts lasts_are history.1
       has.sound turn_seen.now turn_seen.turn.after turn_seen.listed touch OfRows live are pass h.pairs pairs
-      (λ pair there. shown_stood None (shown view).sets (shown view).pairs h.pairs sees.pairs pair
+      (λ pair there. shown_stood None (with_hidden h view).sets (shown view).pairs h.pairs sees.pairs pair
       (part pair there)) (λ pair there reached.
       let (row, is_open, passes, same) = was_open c sound rows stay gone made current current_are completed history.1
       lists

@@ -6,7 +6,6 @@ use Rattle.std.specs.List.{Contains}
 use Rattle.std.proofs.lemmas.Bool.{cases_eq, cases_lt}
 use Rattle.occurrences.specs.Place.{IsOpen}
 use Rattle.occurrences.specs.declared.place.Place.{Place}
-use Rattle.occurrences.specs.declared.place.Place.TheVariants.{History}
 use Rattle.occurrences.specs.declared.row.Row.{Row}
 use Rattle.external_dependencies.specs.Link.{AreNamedOnce, ListsWithin}
 use Rattle.external_dependencies.specs.Nearest.{ArrivesWithin, IsCandidate, IsNearest, arrival_of}
@@ -24,13 +23,13 @@ use Rattle.plan_pairs.specs.Additions.{IsPairIn}
 use Rattle.plan_pairs.specs.Gathering.{AddsEach, AreReached, IsReached}
 use Rattle.plan_pairs.specs.Withdrawals.{IsBackPair, IsBehind, IsLostPair, LosesRow, TurnsFrom}
 use Rattle.plan_pairs.specs.declared.gathering.Reached.{Reached}
-use Rattle.plan_pairs.proofs.AskedPairLemmas.{asked_shown, asked_stood, asks_live, open_shown}
 use Rattle.plan_pairs.proofs.EachLemmas.{adds_all}
 use Rattle.plan_pairs.proofs.NearLemmas.{cases_candidate, closer, up_to_next}
 use Rattle.plan_pairs.proofs.OneMoreLemmas.{HasOneMore, exactly_leads, live_down, live_row, live_stands, live_up}
 use Rattle.plan_pairs.proofs.OneMoreLemmas.{nearest_down, nearest_row, nearest_up, not_itself, not_row, one_arrival}
 use Rattle.plan_pairs.proofs.OneMoreLemmas.{other_moment, other_serial, pairs_exact}
 use Rattle.plan_pairs.proofs.PairInLemmas.{near_pair, pair_near}
+use Rattle.plan_pairs.proofs.PartLemmas.{asked_live, asked_shown, open_shown, shown_stood}
 use Rattle.plan_pairs.proofs.RowPairLemmas.{nearest_once}
 use Rattle.plan_pairs.proofs.ScratchLemmas.{open_is_live}
 use Rattle.plan_pairs.proofs.TouchedLemmas.{same_or_not}
@@ -341,11 +340,11 @@ module _ (c : Content) (sound : IsSound c) (once : AreNamedOnce c.in_force) (s' 
 
 -- what a withdrawal does with all that is found makes these turns
 module _ (c : Content) (sound : IsSound c) (row : Row) (place : Place) (s' : Sets)
-    (more : HasOneMore s' c.sets row place) (planned : place ≢ History) (before : Option Arrival) (shown : List Pair)
-    (is : shown ≡ asked_pairs (Some row.key) c.sets.ltp c.sets.cp c.pairs)
+    (more : HasOneMore s' c.sets row place) (before : Option Arrival) (shown : List Pair)
+    (is : shown ≡ asked_pairs (Some row.key) c.sets.ltp c.sets.cp c.sets.history c.pairs)
     (found : List Reached) (are : AreReached c row found) where
   was_shown : (pair : Pair) → Contains shown pair → Contains c.pairs pair
-  was_shown = asked_stood (Some row.key) c.sets shown c.pairs is
+  was_shown = shown_stood (Some row.key) c.sets shown c.pairs is
 
   of_reached : (x : Reached) → IsReached c row x → (pair : Pair) → Contains c.pairs pair
       → pair.successor ≡ x.placed.row.serial → Contains shown pair
@@ -354,8 +353,8 @@ module _ (c : Content) (sound : IsSound c) (row : Row) (place : Place) (s' : Set
 
   of_row : (pair : Pair) → Contains c.pairs pair → pair.successor ≡ row.serial → Contains shown pair
   of_row pair there same = asked_shown (Some row.key) c.sets shown c.pairs is pair there
-      (subst (λ n. asks_pairs (Some row.key) c.sets.ltp c.sets.cp n ≡ true) (sym same)
-      (asks_live c.sets row place more.stands more.lives planned))
+      (subst (λ n. asks_pairs (Some row.key) c.sets.ltp c.sets.cp c.sets.history n ≡ true) (sym same)
+      (asked_live c.sets row place more.stands more.lives))
 
   -- what has a pair with the row is found
   is_found : (x : Reached) → IsReached c row x → Contains c.pairs (pair_of x.placed.row.serial row.serial)

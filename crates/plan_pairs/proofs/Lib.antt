@@ -1,6 +1,5 @@
 pub mod AdditionLemmas
 pub mod AskedLemmas
-pub mod AskedPairLemmas
 pub mod ChangeLemmas
 mod EachLemmas
 mod GatherLemmas

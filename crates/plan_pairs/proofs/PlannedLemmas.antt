@@ -1,17 +1,16 @@
 -- Pairs of what is open in the two plans, one list of rows after another.
-use Rattle.std.proofs.Common.{◌≡◌, ◌≢◌, ◌↔◌, ◌⊎◌, ℕ, List, [], ◌∷◌, ◌++◌, refl, sym, ap, subst, ◌∙◌, inl, inr, Some}
+use Rattle.std.proofs.Common.{◌≡◌, ◌≢◌, ◌↔◌, ◌⊎◌, ℕ, List, [], ◌∷◌, ◌++◌, sym, ap, subst, ◌∙◌, inl, inr}
 use Rattle.std.specs.List.{Contains}
 use Rattle.std.proofs.lemmas.List.Elements.{Contains-append_cases, Contains-append_left, Contains-append_right}
 use Rattle.std.proofs.lemmas.List.Elements.{Contains-push, Contains-push_cases}
 use Rattle.occurrences.specs.declared.place.CurrentRow.{CurrentRow}
 use Rattle.occurrences.specs.declared.row.Row.{Row}
-use Rattle.occurrences.specs.declared.status.Status.{Status}
 use Rattle.occurrences.specs.declared.status.Status.TheVariants.{W}
 use Rattle.external_dependencies.specs.declared.pairs.Pair.{Pair}
 use Rattle.keyed_lists.specs.Rows.{of_current, of_row}
 use Rattle.planner_machine.specs.Content.{Sets}
 use Rattle.plan_store.specs.Views.{IsAny, ListsSet}
-use Rattle.plan_pairs.specs.Planned.{AddsPairsOf, HasWaiting, IsOpenAt, IsOpenOf, IsOpenOfOne, IsOpenRow}
+use Rattle.plan_pairs.specs.Planned.{AddsPairsOf, HasWaiting, IsOpenAt, IsOpenOf, IsOpenOfOne}
 use Rattle.plan_pairs.specs.Turns.{HasSerial}
 use Rattle.plan_pairs.proofs.ListLemmas.{none}
 

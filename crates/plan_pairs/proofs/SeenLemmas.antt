@@ -1,5 +1,5 @@
 -- The rows and pairs that a window of the long-term plan shows hold what a planning statement reaches.
-use Rattle.std.proofs.Common.{◌≡◌, ◌≢◌, ◌↔◌, ◌⊎◌, ℕ, zero, suc, ◌+◌, ◌<◌, ◌≤◌, true, false, List, [], ◌∷◌, ◌++◌}
+use Rattle.std.proofs.Common.{◌≡◌, ◌≢◌, ◌↔◌, ◌⊎◌, ℕ, zero, suc, ◌+◌, ◌<◌, ◌≤◌, true, List, [], ◌∷◌, ◌++◌}
 use Rattle.std.proofs.Common.{refl, sym, ap, subst, ◌∙◌, inl, inr, arith, Option, None, Some}
 use Rattle.std.specs.List.{Contains}
 use Rattle.std.proofs.lemmas.Bool.{cases_eq}
@@ -37,7 +37,7 @@ use Rattle.plan_pairs.specs.LiveRows.{AreCompleted, AreLiveRows}
 use Rattle.plan_pairs.specs.Planned.{IsOpenRow}
 use Rattle.plan_pairs.specs.Turns.{AreKnownLinks, ArePlanned, IsInLists, IsTouchOf}
 use Rattle.plan_pairs.proofs.ListLemmas.{first_or_later, further, here, none}
-use Rattle.plan_pairs.proofs.PartLemmas.{asked_row, is_asked_pair}
+use Rattle.plan_pairs.proofs.PartLemmas.{asked_row, asked_shown}
 use Rattle.plan_pairs.proofs.ScratchLemmas.{open_is_live}
 use Rattle.plan_pairs.proofs.TurnLemmas.{AreListed}
 
@@ -501,6 +501,6 @@ pub pair_shown : {key : Option Key} {Asked : List ℕ → ℕ → Type 0} (h : H
     → Sees key Asked h view → (pair : Pair) → Contains h.pairs pair → (row : Row) → IsOpenRow (shown view).sets row
     → row.serial ≡ pair.successor → Contains (shown view).pairs pair
 pair_shown {key} h view sees pair there row is_open same =
-    is_asked_pair key (shown view).sets (shown view).pairs h.pairs sees.pairs pair there
-    (subst (λ n. asks_pairs key (shown view).sets.ltp (shown view).sets.cp n ≡ true) same
-    (asked_row key (shown view).sets row is_open))
+    let s = (with_hidden h view).sets in
+    asked_shown key s (shown view).pairs h.pairs sees.pairs pair there
+    (subst (λ n. asks_pairs key s.ltp s.cp s.history n ≡ true) same (asked_row key s row is_open))

@@ -1,4 +1,4 @@
-ghost use Rattle.std.specs.Prelude.{◌≡◌, ◌++◌, ◌↔◌, Contains, IfOk, OnOk};
+ghost use Rattle.std.specs.Prelude.{◌++◌, ◌↔◌, Contains, IfOk, OnOk};
 ghost use Rattle.external_dependencies.specs.declared.rows.PlacedRow.{PlacedRow as PlacedValue};
 ghost use Rattle.planner_machine.specs.Content.{Sets};
 ghost use Rattle.plan_pairs.specs.LiveRows.{AddsCurrent, AddsRows, AreLiveRows, HasLists};

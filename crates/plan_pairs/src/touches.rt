@@ -1,4 +1,4 @@
-ghost use Rattle.std.specs.Prelude.{◌≡◌, ◌↔◌, ◌⊎◌, ℕ, List, Contains, IfOk, IsTrue, map};
+ghost use Rattle.std.specs.Prelude.{◌≡◌, ◌⊎◌, ℕ, List, Contains, IfOk, IsTrue, map};
 ghost use Rattle.occurrences.specs.declared.row.Row.{Row as RowValue};
 ghost use Rattle.external_dependencies.specs.Nearest.{arrival_of};
 ghost use Rattle.external_dependencies.specs.Touch.{HasSameList};

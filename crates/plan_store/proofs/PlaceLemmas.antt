@@ -13,7 +13,7 @@ use Rattle.planner_machine.specs.Sound.{AreNumbered}
 use Rattle.plan_store.specs.Views.{IsCurrentRow, IsLiveRow, IsPlannedRow}
 use Rattle.plan_store.proofs.ViewLemmas.{issued_from}
 
-some_is : {X : Type 0} (o : Option X) (x y : X) → o ≡ Some x → o ≡ Some y → x ≡ y
+pub some_is : {X : Type 0} (o : Option X) (x y : X) → o ≡ Some x → o ≡ Some y → x ≡ y
 some_is o x y a b = cc
 
 none_some : {X : Type 0} (o : Option X) (x : X) → o ≡ None → o ≡ Some x → ⊥

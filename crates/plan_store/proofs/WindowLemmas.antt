@@ -1,34 +1,37 @@
 -- What a window shows of a content.
 use Rattle.std.proofs.Common.{◌≡◌, ◌<◌, ◌≤◌, ℕ, ltb, Bool, true, false, List, [], ◌∷◌, Contains, Option, None, Some}
 use Rattle.std.proofs.Common.{ap, sym, subst}
-use Rattle.std.proofs.Common.{◌∙◌, arith, refl}
+use Rattle.std.proofs.Common.{◌∙◌, ◌+◌, arith, inl, inr, length, refl}
 use Rattle.std.specs.Prelude.{filter, if◌then◌else◌, OnOk, Result, Ok, Err}
 use Rattle.std.proofs.lemmas.Bool.{le-ltb, lt-ltb, ltb-true}
 use Rattle.occurrences.specs.declared.key.Key.{Key as KeyValue}
 use Rattle.occurrences.specs.declared.place.Deletion.{Deletion}
+use Rattle.occurrences.specs.declared.place.Place.TheVariants.{History}
 use Rattle.occurrences.specs.declared.place.Reason.TheVariants.{Operator}
 use Rattle.occurrences.specs.declared.row.Row.{Row}
 use Rattle.external_dependencies.specs.declared.pairs.Pair.{Pair}
 use Rattle.planner_machine.specs.Content.{Content, Seat as Places}
 use Rattle.planner_machine.specs.DailyPlan.{arrives_before, moved}
 use Rattle.planner_machine.specs.Moves.{keep}
-use Rattle.planner_machine.specs.Sound.{IsUnplanned}
+use Rattle.planner_machine.specs.Sound.{AreNumbered, HaveOwnKeys, IsUnplanned}
 use Rattle.planner_machine.specs.declared.content.Bounds.{Bounds}
-use Rattle.keyed_lists.specs.Rows.{AreRows, look_up, of_deletion, of_row}
+use Rattle.keyed_lists.specs.Rows.{AreRows, look_up, of_current, of_deletion, of_row}
 use Rattle.keyed_lists.specs.Seats.{HasSeats}
 use Rattle.keyed_lists.specs.declared.seats.Seat.{Seat}
 use Rattle.keyed_lists.proofs.KeyLemmas.{contains_filter, filter_contains, nothing}
 use Rattle.plan_store.specs.Contents.{content_of}
 use Rattle.plan_store.specs.Asked.{AsksKey, AsksPlan, HasLasts}
 use Rattle.plan_store.specs.Views.{Asks, HasAsked, HasPredecessors, Hidden, IsDeletedKey, ListsSet, Sees, Shows}
-use Rattle.plan_store.specs.Views.{ShowsDeleted, ShowsPart, asked_pairs, bars, bars_from, deletion_serial}
+use Rattle.plan_store.specs.Views.{ShowsDeleted, ShowsLive, ShowsPart, TellsSizes, asked_pairs, bars, bars_from, deletion_serial}
 use Rattle.plan_store.specs.Views.{hidden_of, is_by_operator, key_of, named, row_serial, shown}
 use Rattle.plan_store.specs.Views.{with_hidden, with_part, with_plans_alone, with_these}
 use Rattle.plan_store.specs.declared.contents.Content.{Content as Kept}
 use Rattle.plan_store.specs.declared.stores.Need.{Need}
 use Rattle.plan_store.specs.declared.stores.Need.TheVariants.{Daily, Definitions, Key, LongTerm}
 use Rattle.plan_store.specs.declared.views.View.{View}
-use Rattle.plan_store.proofs.ViewLemmas.{filter_rows, lists_part, look_filter}
+use Rattle.plan_store.proofs.PlaceLemmas.{some_is, stands_history}
+use Rattle.plan_store.proofs.ViewLemmas.{filter_rows, lists_part, look_filter, once_from_rows, size_listed}
+use Rattle.plan_store.proofs.ViewLemmas.{within_cp, within_ltp}
 
 -- what is kept was there, and passes
 kept_one : {X : Type 0} (p : X → Bool) (x y : X) (b : Bool) → p y ≡ b → (if b then Some y else None) ≡ Some x
@@ -53,25 +56,44 @@ no_rows row_of = record {
 pub no_seats : {X : Type 0} (row_of : X → Row) (seats : List Seat) → HasSeats row_of [] seats
 no_seats row_of seats x (k, lt, at) = absurd (omega arith)
 
--- a window that shows no row of history where none is asked for, and no pair, shows what the need names
-pub shows_none : (need : Need) (view : View) (c : Content) → ((app : List ℕ) (minute : ℕ) → Asks need c app minute → ⊥)
+-- a window of the lists tells how many rows the plans have
+tells_sizes : (view : View) (kept : Kept) → view.content.now ≡ kept → AreNumbered (content_of kept).sets
+    → TellsSizes (content_of kept).sets view
+tells_sizes view kept whole numbered =
+    let s = (content_of kept).sets in
+    record {
+      ltp = ap (λ (k : Kept). length k.ltp.items) whole
+          ∙ size_listed of_row kept.issued kept.ltp.items (once_from_rows of_row kept.ltp.items kept.ltp_rows)
+          (within_ltp s numbered kept.ltp.items kept.ltp_rows (λ serial. refl));
+      cp = ap (λ (k : Kept). length k.cp.items) whole
+          ∙ size_listed of_current kept.issued kept.cp.items (once_from_rows of_current kept.cp.items kept.cp_rows)
+          (within_cp s numbered kept.cp.items kept.cp_rows (λ serial. refl));
+    }
+
+-- a window that shows no row of history where none is asked for, and no pair, and that is on no key, shows what the need
+-- names
+shows_none : (need : Need) (view : View) (kept : Kept) → view.content.now ≡ kept → key_of need ≡ None
+    → ((app : List ℕ) (minute : ℕ) → Asks need (content_of kept) app minute → ⊥)
     → (shown view).sets.history ≡ (λ _. None) → (shown view).pairs ≡ []
-    → shown view ≡ named need (shown view).sets.history c → Shows need view c
-shows_none need view c asks none no_pairs is = record {
+    → shown view ≡ named need (shown view).sets.history (content_of kept) → Shows need view (content_of kept)
+shows_none need view kept whole no_key asks none no_pairs is = record {
   is = is;
   lasts = record {
     only = λ serial row there. absurd (no (subst (λ (h : ℕ → Option Row). h serial ≡ Some row) none there));
     lasts = λ app minute asked. absurd (asks app minute asked);
   };
   predecessors = λ pair there. absurd (nothing pair (subst (λ (ps : List Pair). Contains ps pair) no_pairs there));
+  live = λ _ _ serial row _ same. absurd (no (sym no_key ∙ same));
+  sizes = tells_sizes view kept whole;
 }
   where
-    no : {row : Row} → None ≡ Some row → ⊥
+    no : {X : Type 0} {x : X} → None ≡ Some x → ⊥
     no is = cc
 
-pub shows_definitions : (view : View) (c : Content)
-    → shown view ≡ with_plans_alone (λ _. None) (λ _. None) c → Shows Definitions view c
-shows_definitions view c is = shows_none Definitions view c (λ _ _ asked. asked)
+pub shows_definitions : (view : View) (kept : Kept) → view.content.now ≡ kept
+    → shown view ≡ with_plans_alone (λ _. None) (λ _. None) (content_of kept)
+    → Shows Definitions view (content_of kept)
+shows_definitions view kept whole is = shows_none Definitions view kept whole refl (λ _ _ asked. asked)
     (ap (λ (x : Content). x.sets.history) is) (ap (λ (x : Content). x.pairs) is) is
 
 -- the rows that arrive before a moment, as the buffer has them
@@ -94,10 +116,10 @@ module _ (t : ℕ) (kept : Kept) (early : List Row) (is : early ≡ filter (arri
       ≡ named (Daily t) history (content_of kept)
   early_named history i = with_plans_alone (λ serial. early_look serial i) (content_of kept).sets.cp (content_of kept)
 
-  pub shows_early : (view : View)
+  pub shows_early : (view : View) → view.content.now ≡ kept
       → shown view ≡ with_plans_alone (look_up row_serial early) (content_of kept).sets.cp (content_of kept)
       → Shows (Daily t) view (content_of kept)
-  shows_early view is' = shows_none (Daily t) view (content_of kept) (λ _ _ asked. asked)
+  shows_early view whole is' = shows_none (Daily t) view kept whole refl (λ _ _ asked. asked)
       (ap (λ (x : Content). x.sets.history) is') (ap (λ (x : Content). x.pairs) is')
       (is' ∙ early_named (shown view).sets.history)
 
@@ -114,24 +136,56 @@ pub has_asked : {T E : Type 0} (need : Need) (kept : Kept) (r : Result T E) → 
 has_asked need kept (Ok t) key rows part lasts = record { key = key; rows = rows; part = part; lasts = lasts }
 has_asked need kept (Err e) key rows part lasts = tt
 
+-- where the live row of a key stands in history, it is the last of its application then
+module _ (c : Content) (numbered : AreNumbered c.sets) (own : HaveOwnKeys c.sets) (key : KeyValue)
+    (shown : ℕ → Option Row) (lasts : HasLasts (AsksKey c key) c.sets.history shown) where
+  live_is_last : (serial : ℕ) (row : Row) → c.sets.history serial ≡ Some row → key ≡ row.key → shown serial ≡ Some row
+  live_is_last serial row stands same =
+      let app : row.key.app ≡ key.app = ap (λ (k : KeyValue). k.app) (sym same) in
+      let ia : row.key.ia ≡ key.ia = ap (λ (k : KeyValue). k.ia) (sym same) in
+      let (r, is_shown, of_app, early, no_later) =
+      lasts.lasts key.app (key.ia + 1) (refl, inl refl) serial row stands app (omega arith) in
+      let arrives : r.key.ia ≡ row.key.ia = elim no_later [
+        | inl earlier ↦ absurd (omega (arith, early, earlier, ia))
+        | inr tie ↦ sym tie.0
+      ] in
+      let there : c.sets.history r.serial ≡ Some r = (lasts.only r.serial r is_shown).0 in
+      let of_one : r.key.app ≡ row.key.app = of_app ∙ sym app in
+      let one : r.serial ≡ serial = own r.serial serial (record { row = r; place = History })
+      (record { row = row; place = History }) (stands_history c.sets numbered r.serial r there)
+      (stands_history c.sets numbered serial row stands) tt tt (λ i. record { ia = arrives i; app = of_one i }) in
+      let at : c.sets.history serial ≡ Some r = subst (λ n. c.sets.history n ≡ Some r) one there in
+      let is : r ≡ row = some_is (c.sets.history serial) r row at stands in
+      subst (λ n. shown n ≡ Some row) one (subst (λ x. shown r.serial ≡ Some x) is is_shown)
+
 -- a window that has the rows of history that were asked for, and all of history, shows what the need names
-module _ (need : Need) (view : View) (kept : Kept) (asked : HasAsked need kept)
+module _ (need : Need) (view : View) (kept : Kept) (whole : view.content.now ≡ kept) (asked : HasAsked need kept)
     (history : view.history.now ≡ kept.history.items) where
   shows_lasts : shown view ≡ named need (look_up row_serial kept.buffer.lasts.items) (content_of kept)
-      → (shown view).sets.history ≡ look_up row_serial kept.buffer.lasts.items → Shows need view (content_of kept)
-  shows_lasts is lasts_are = record {
+      → (shown view).sets.history ≡ look_up row_serial kept.buffer.lasts.items
+      → (AreNumbered (content_of kept).sets → HaveOwnKeys (content_of kept).sets
+      → ShowsLive (key_of need) (content_of kept).sets.history view) → Shows need view (content_of kept)
+  shows_lasts is lasts_are live = record {
     is = subst (λ h. shown view ≡ named need h (content_of kept)) (sym lasts_are) is;
     lasts = subst (HasLasts (Asks need (content_of kept)) (content_of kept).sets.history) (sym lasts_are) asked.lasts;
     predecessors = λ pair there. ap (λ (rows : List Row). look_up row_serial rows pair.predecessor) history;
+    live = live;
+    sizes = tells_sizes view kept whole;
   }
 
-pub shows_key : (key : KeyValue) (view : View) (kept : Kept) → HasAsked (Key key) kept
+pub shows_key : (key : KeyValue) (view : View) (kept : Kept) → view.content.now ≡ kept → HasAsked (Key key) kept
     → view.history.now ≡ kept.history.items
     → shown view ≡ with_part kept.buffer.key (look_up row_serial kept.buffer.lasts.items) (λ _. None) (content_of kept)
     → Shows (Key key) view (content_of kept)
-shows_key key view kept asked history is = shows_lasts (Key key) view kept asked history
-    (is ∙ ap (λ (k : Option KeyValue). with_part k (look_up row_serial kept.buffer.lasts.items) (λ _. None)
-    (content_of kept)) asked.key) (ap (λ (x : Content). x.sets.history) is)
+shows_key key view kept whole asked history is =
+    let c = content_of kept in
+    let lasts_are : (shown view).sets.history ≡ look_up row_serial kept.buffer.lasts.items =
+    ap (λ (x : Content). x.sets.history) is in
+    let lasts = subst (HasLasts (AsksKey c key) c.sets.history) (sym lasts_are) asked.lasts in
+    shows_lasts (Key key) view kept whole asked history
+    (is ∙ ap (λ (k : Option KeyValue). with_part k (look_up row_serial kept.buffer.lasts.items) (λ _. None) c) asked.key)
+    lasts_are (λ numbered own serial row stands same.
+    live_is_last c numbered own key (shown view).sets.history lasts serial row stands (let is : key ≡ row.key = cc in is))
 
 -- what keeps keys from being made, as the buffer has it
 module _ (kept : Kept) (barring : List Deletion) (is : barring ≡ filter (bars kept.bounds) kept.deletions.items) where
@@ -155,13 +209,15 @@ module _ (kept : Kept) (barring : List Deletion) (is : barring ≡ filter (bars 
       ≡ named LongTerm history (content_of kept)
   barring_named history i = with_part None history (λ serial. barring_look serial i) (content_of kept)
 
-  pub shows_plan : (view : View) → HasAsked LongTerm kept → view.history.now ≡ kept.history.items
+  pub shows_plan : (view : View) → view.content.now ≡ kept → HasAsked LongTerm kept
+      → view.history.now ≡ kept.history.items
       → shown view ≡ with_part kept.buffer.key (look_up row_serial kept.buffer.lasts.items)
       (look_up deletion_serial barring) (content_of kept) → Shows LongTerm view (content_of kept)
-  shows_plan view asked history is' = shows_lasts LongTerm view kept asked history
+  shows_plan view whole asked history is' = shows_lasts LongTerm view kept whole asked history
       (is' ∙ ap (λ (k : Option KeyValue). with_part k (look_up row_serial kept.buffer.lasts.items)
       (look_up deletion_serial barring) (content_of kept)) asked.key
       ∙ barring_named (look_up row_serial kept.buffer.lasts.items)) (ap (λ (x : Content). x.sets.history) is')
+      (λ _ _ serial row _ same. absurd (let no : None ≡ Some row.key = same in cc))
 
 -- the rows of a list that arrive before a moment
 pub lists_early : (t : ℕ) (xs : List Row) → AreRows of_row xs → (found : List Row)
@@ -201,7 +257,7 @@ module _ {history : ℕ → Option Row} {deletions : ℕ → Option Deletion} (n
   sees : Sees (key_of need) (Asks need (with_hidden (hidden_of c) view)) (hidden_of c) view
   sees = record {
     pairs = ap (λ (x : Content). x.pairs) is
-        ∙ sym (ap (λ (x : Content). asked_pairs (key_of need) x.sets.ltp x.sets.cp c.pairs) is);
+        ∙ sym (ap (λ (x : Content). asked_pairs (key_of need) x.sets.ltp x.sets.cp c.sets.history c.pairs) is);
     lasts = subst (λ (x : Content). HasLasts (Asks need x) c.sets.history (shown view).sets.history)
         (sym (seen_is view c is)) lasts;
     predecessors = predecessors;

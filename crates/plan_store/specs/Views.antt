@@ -1,6 +1,6 @@
 -- What a window shows, and what its calls answer.
 use Rattle.std.specs.Prelude.{◌≡◌, ◌≢◌, ◌↔◌, ℕ, ◌≤◌, ◌<◌, List, [], Contains, Option, Some, None, filter, Bool}
-use Rattle.std.specs.Prelude.{◌&&◌, ◌||◌, is_some, not, true, false}
+use Rattle.std.specs.Prelude.{◌&&◌, ◌||◌, is_some, length, not, true, false}
 use Rattle.occurrences.specs.Place.{IsLive}
 use Rattle.occurrences.specs.declared.key.Key.{Key}
 use Rattle.occurrences.specs.declared.place.Deletion.{Deletion}
@@ -18,8 +18,8 @@ use Rattle.planner_machine.specs.Content.{Content, Sets, StandsAt}
 use Rattle.planner_machine.specs.Pairs.{LiveAt}
 use Rattle.occurrences.specs.declared.place.CurrentRow.{CurrentRow}
 use Rattle.planner_machine.specs.DailyPlan.{arrives_before, is_deleted, moved}
-use Rattle.planner_machine.specs.Moves.{has_key, keep}
-use Rattle.planner_machine.specs.Sound.{AreNumbered, IsSound}
+use Rattle.planner_machine.specs.Moves.{has_key, keep, size}
+use Rattle.planner_machine.specs.Sound.{AreNumbered, HaveOwnKeys, IsSound}
 use Rattle.planner_machine.specs.declared.content.Bounds.{Bounds}
 use Rattle.planner_machine.specs.declared.job.Job.{Job}
 use Rattle.keyed_lists.specs.Rows.{AreRows, look_up, of_row}
@@ -46,18 +46,32 @@ is_waiting E = false
 is_waiting C = false
 is_waiting D = false
 
+-- the row has the key, where there is one
+abbrev pub is_of_key : Option Key → Row → Bool
+is_of_key None row = false
+is_of_key (Some key) row = has_key key row
+
 -- the row waits, or is the live row of the key, where there is one
 abbrev pub is_asked : Option Key → CurrentRow → Bool
-is_asked None current = is_waiting current.status
-is_asked (Some key) current = is_waiting current.status || (has_key key current.row && not (is_deleted current.status))
+is_asked key current = is_waiting current.status || (is_of_key key current.row && not (is_deleted current.status))
 
--- pairs of the serial are asked for: it is open, or the live row of the key stands there
-abbrev pub asks_pairs : Option Key → (ℕ → Option Row) → (ℕ → Option CurrentRow) → ℕ → Bool
-asks_pairs key ltp cp serial = is_some (ltp serial) || is_some (keep (is_asked key) (cp serial))
+-- pairs of the serial are asked for as of one in a plan: it is open, or the live row of the key stands there
+abbrev pub asks_planned : Option Key → (ltp : ℕ → Option Row) → (cp : ℕ → Option CurrentRow) → ℕ → Bool
+asks_planned key ltp cp serial = is_some (ltp serial) || is_some (keep (is_asked key) (cp serial))
+
+-- or as of one in history: the live row of the key stands there
+abbrev pub asks_completed : Option Key → (history : ℕ → Option Row) → ℕ → Bool
+asks_completed key history serial = is_some (keep (is_of_key key) (history serial))
+
+-- pairs of the serial are asked for: it is open, or the live row of the key
+abbrev pub asks_pairs : Option Key → (ltp : ℕ → Option Row) → (cp : ℕ → Option CurrentRow) → (history : ℕ → Option Row)
+    → ℕ → Bool
+asks_pairs key ltp cp history serial = asks_planned key ltp cp serial || asks_completed key history serial
 
 -- those of the pairs that are asked for
-abbrev pub asked_pairs : Option Key → (ℕ → Option Row) → (ℕ → Option CurrentRow) → List Pair → List Pair
-asked_pairs key ltp cp pairs = filter (λ (pair : Pair). asks_pairs key ltp cp pair.successor) pairs
+abbrev pub asked_pairs : Option Key → (ltp : ℕ → Option Row) → (cp : ℕ → Option CurrentRow) → (history : ℕ → Option Row)
+    → List Pair → List Pair
+asked_pairs key ltp cp history pairs = filter (λ (pair : Pair). asks_pairs key ltp cp history pair.successor) pairs
 
 -- what the window shows, as a content; of the jobs none of its calls tells anything
 abbrev pub shown : View → Content
@@ -73,7 +87,7 @@ shown view = record {
   };
   in_force = view.content.now.in_force;
   pairs = asked_pairs view.key.now (look_up row_serial view.ltp.now) (look_up current_serial view.cp.now)
-      view.pairs.now;
+      (look_up row_serial view.history.now) view.pairs.now;
   jobs = look_up (λ (job : Job). job.number) view.content.now.jobs.items;
 }
 
@@ -126,7 +140,7 @@ abbrev pub with_part : Option Key → (ℕ → Option Row) → (ℕ → Option D
 with_part key history deletions c = with_these (record {
   history = history;
   deletions = deletions;
-  pairs = asked_pairs key c.sets.ltp c.sets.cp c.pairs;
+  pairs = asked_pairs key c.sets.ltp c.sets.cp c.sets.history c.pairs;
 }) c
 
 abbrev pub is_by_operator : Reason → Bool
@@ -145,8 +159,8 @@ bars (Some b) deletion = bars_from b.plan_end deletion
 
 -- what a need names of a content, where these rows of history are shown: of a daily plan the rows of the current plan,
 -- and those of the long-term plan that arrive before its moment; of one key both plans, and the pairs of what is open or
--- is the live row of the key; of the long-term plan both plans, the pairs of what is open, and such deletions as keep a
--- key from being made
+-- is the live row of the key, wherever that stands; of the long-term plan both plans, the pairs of what is open, and such
+-- deletions as keep a key from being made
 abbrev pub named : Need → (ℕ → Option Row) → Content → Content
 named need.Definitions history c = with_plans_alone (λ _. None) (λ _. None) c
 named (need.Key key) history c = with_part (Some key) history (λ _. None) c
@@ -172,11 +186,30 @@ abbrev pub HasPredecessors : (ℕ → Option Row) → View → Type 0
 HasPredecessors history view = (pair : Pair) → Contains (shown view).pairs pair
     → look_up row_serial view.history.now pair.predecessor ≡ history pair.predecessor
 
+-- where the live row of the key stands in history, the window shows it
+abbrev pub ShowsLive : Option Key → (ℕ → Option Row) → View → Type 0
+ShowsLive key history view = (serial : ℕ) (row : Row) → history serial ≡ Some row → key ≡ Some row.key
+    → (shown view).sets.history serial ≡ Some row
+
+-- how many rows the window says that the plans have, whether it shows them or not
+abbrev pub ltp_size : View → ℕ
+ltp_size view = length view.content.now.ltp.items
+
+abbrev pub cp_size : View → ℕ
+cp_size view = length view.content.now.cp.items
+
+-- so many they have
+pub record TellsSizes (s : Sets) (view : View) : Type 0 where
+  pub ltp : ltp_size view ≡ size s.ltp s.issued
+  pub cp : cp_size view ≡ size s.cp s.issued
+
 -- the window shows what the need names of the content, and no more
 pub record Shows (need : Need) (view : View) (c : Content) : Type 0 where
   pub is : shown view ≡ named need (shown view).sets.history c
   pub lasts : HasLasts (Asks need c) c.sets.history (shown view).sets.history
   pub predecessors : HasPredecessors c.sets.history view
+  pub live : AreNumbered c.sets → HaveOwnKeys c.sets → ShowsLive (key_of need) c.sets.history view
+  pub sizes : AreNumbered c.sets → TellsSizes c.sets view
 
 -- what the window shows, with what it hides
 abbrev pub with_hidden : Hidden → View → Content
@@ -185,7 +218,8 @@ with_hidden hidden view = with_these hidden (shown view)
 -- of what it hides the window shows the pairs that are asked for, with their predecessors, and of history what is asked
 -- for, and no more
 pub record Sees (key : Option Key) (Asked : List ℕ → ℕ → Type 0) (hidden : Hidden) (view : View) : Type 0 where
-  pub pairs : (shown view).pairs ≡ asked_pairs key (shown view).sets.ltp (shown view).sets.cp hidden.pairs
+  pub pairs : (shown view).pairs
+      ≡ asked_pairs key (shown view).sets.ltp (shown view).sets.cp hidden.history hidden.pairs
   pub lasts : HasLasts Asked hidden.history (shown view).sets.history
   pub predecessors : HasPredecessors hidden.history view
 

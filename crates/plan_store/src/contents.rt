@@ -184,8 +184,9 @@ impl Content {
         requires ltp_seats { HasSeats of_row ltp.now self.now.seats.items }
         requires cp_rows { AreRows of_current cp.now }
         requires cp_seats { HasSeats of_current cp.now self.now.seats.items }
-        ensures { shown result ≡ with_plans_alone (look_up row_serial ltp.now)
+        ensures shown { shown result ≡ with_plans_alone (look_up row_serial ltp.now)
             (look_up current_serial cp.now) (content_of self.now) }
+        ensures whole { result.content.now ≡ self.now }
     {
         View {
             content: self,
@@ -211,6 +212,7 @@ impl Content {
             (look_up row_serial self.now.buffer.lasts.items)
             (look_up deletion_serial deletions.now) (content_of self.now) }
         ensures history { result.history.now ≡ self.now.history.items }
+        ensures whole { result.content.now ≡ self.now }
     {
         View {
             content: self,

@@ -4,12 +4,11 @@ ghost use Rattle.occurrences.specs.declared.place.CurrentRow.{CurrentRow as Curr
 ghost use Rattle.occurrences.specs.declared.place.Deletion.{Deletion as DeletionValue};
 ghost use Rattle.planner_machine.specs.DailyPlan.{arrives_before};
 ghost use Rattle.keyed_lists.specs.Keyed.{IsKeyed};
-ghost use Rattle.keyed_lists.specs.Rows.{of_row};
 ghost use Rattle.keyed_lists.specs.Seats.{AreSeats, HasSeats};
 ghost use Rattle.external_dependencies.specs.Arrival.{arrival_cmp};
 ghost use Rattle.external_dependencies.specs.Nearest.{arrival_of};
 ghost use Rattle.plan_store.specs.Slices.{HaveOneApp, IsFront};
-ghost use Rattle.plan_store.specs.Views.{bars_from, is_asked, is_by_operator};
+ghost use Rattle.plan_store.specs.Views.{bars_from, is_asked, is_by_operator, is_of_key};
 
 use keyed_lists::{PlanRow, Seat, seats_of};
 use occurrences::{CurrentRow, Deletion, Key, Reason, Row, Serial, Status};
@@ -198,6 +197,16 @@ pub(crate) fn barring(
     Ok(())
 }
 
+// Whether the row has the key, where there is one.
+pub(crate) fn is_of_key(key: &Option<Key>, row: &Row) -> bool
+    ensures { result ≡ is_of_key key.now row.now }
+{
+    match key {
+        Some(key) => row.key == *key,
+        None => false,
+    }
+}
+
 // Whether the row waits, or is the live row of the key, where there is one.
 pub(crate) fn is_asked(key: &Option<Key>, current: &CurrentRow) -> bool
     ensures { result ≡ is_asked key.now current.now }
@@ -205,8 +214,5 @@ pub(crate) fn is_asked(key: &Option<Key>, current: &CurrentRow) -> bool
     if current.status == Status::W {
         return true;
     }
-    match key {
-        Some(key) => current.row.key == *key && current.status != Status::D,
-        None => false,
-    }
+    is_of_key(key, &current.row) && current.status != Status::D
 }

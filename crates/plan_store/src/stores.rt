@@ -19,16 +19,16 @@ use std::alloc::{AllocError, Global};
 use thiserror::Error;
 use work_calendars::{App, Moment};
 
-/// What a decision has to see. Each window shows the definitions, the bounds, how many serials are issued, and the
-/// lists in force. A row is open where it stands in the long-term plan or waits in the current plan. A pair that is
-/// shown comes with both its rows, wherever they stand.
+/// What a decision has to see. Each window shows the definitions, the bounds, how many serials are issued, the lists in
+/// force, and how many rows each of the two plans has. A row is open where it stands in the long-term plan or waits in
+/// the current plan. A pair that is shown comes with both its rows, wherever they stand.
 #[derive(Clone, Copy, Debug, PartialEq, Eq)]
 pub enum Need {
     /// What a statement asks that looks at definitions alone: no row and no pair, and nothing of history.
     Definitions,
     /// What a statement on one key asks. Rows: those of both plans. Pairs: those whose successor is open, or is the live
-    /// row of the key in the current plan. Of history: at the key's arrival or before it, the last row of its application
-    /// and of each application of its list in force.
+    /// row of the key, in a plan or in history. Of history: at the key's arrival or before it, the last row of its
+    /// application, which is the key's live row where that stands there, and of each application of its list in force.
     Key(Key),
     /// What a statement on the long-term plan asks. Rows: those of both plans, and what an operator deleted from the plan
     /// end on. Pairs: those whose successor is open. Of history: for each row that waits in the current plan, at its

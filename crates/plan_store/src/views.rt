@@ -10,8 +10,8 @@ ghost use Rattle.planner_machine.specs.Sound.{AreNumbered};
 use crate::arrivals::{last_live, last_of, later};
 use crate::contents::Content;
 use crate::slices::{
-    arriving_before, before, first_live, first_of, has_operator, is_asked, of_app, of_key,
-    of_serial,
+    arriving_before, before, first_live, first_of, has_operator, is_asked, is_of_key, of_app,
+    of_key, of_serial,
 };
 use crate::spans::next_planned;
 use app_definitions::Definitions;
@@ -34,7 +34,7 @@ pub struct View<'a> {
     // and of these pairs those whose successor is open, or is the live row of the key
     pub(crate) pairs: &'a Pairs,
     pub(crate) key: &'a Option<Key>,
-    // and of these rows of history the predecessors of those pairs
+    // and of these rows of history the predecessors of those pairs; among them the live row of the key may stand
     pub(crate) history: &'a [Row],
     ghost ltp_rows: { AreRows of_row ltp.now },
     ghost cp_rows: { AreRows of_current cp.now },
@@ -48,13 +48,14 @@ pub struct View<'a> {
     ghost deletion_seats: { HasSeats of_deletion deletions.now content.now.seats.items },
 }
 
-ghost use Rattle.keyed_lists.specs.Rows.{AreRows, of_current, of_deletion, of_row};
+ghost use Rattle.keyed_lists.specs.Rows.{AreRows, look_up, of_current, of_deletion, of_row};
 ghost use Rattle.keyed_lists.specs.Seats.{HasSeats};
 
 impl<'a> View<'a> {
     ghost use Rattle.plan_store.specs.Views.{BehindAny, BehindPairs, BehindPart, IsAny, IsCurrentRow, IsDeletedKey};
     ghost use Rattle.plan_store.specs.Views.{IsFoundAt, IsLastBefore, IsLiveRow, IsPlannedRow, ListsSet, ShowsLast};
-    ghost use Rattle.plan_store.specs.Views.{ShowsNearest, asks_pairs, shown};
+    ghost use Rattle.plan_store.specs.Views.{ShowsNearest, asks_completed, asks_pairs, asks_planned, cp_size, ltp_size};
+    ghost use Rattle.plan_store.specs.Views.{row_serial, shown};
     ghost use Rattle.plan_store.specs.Spans.{IsNextPlanned};
 
     /// The definitions.
@@ -85,9 +86,9 @@ impl<'a> View<'a> {
         &self.content.in_force
     }
 
-    // Whether the window shows pairs of the serial: it is open, or the live row of the key stands there.
-    fn asks_pairs(&self, serial: Serial) -> bool
-        ensures { result ≡ asks_pairs self.now.key.now (shown self.now).sets.ltp
+    // Whether the serial is open, or is that of the live row of the key in the current plan.
+    fn asks_planned(&self, serial: Serial) -> bool
+        ensures { result ≡ asks_planned self.now.key.now (shown self.now).sets.ltp
             (shown self.now).sets.cp serial }
     {
         if of_serial(self.ltp, &self.content.seats, serial).is_some() {
@@ -99,7 +100,27 @@ impl<'a> View<'a> {
         }
     }
 
-    /// The pairs of one successor, which is open or, in a window on a key, is its live row; none of any other.
+    // Whether it is that of the live row of the key in history.
+    fn asks_completed(&self, serial: Serial) -> bool
+        ensures { result ≡ asks_completed self.now.key.now
+            (look_up row_serial self.now.history.now) serial }
+    {
+        match of_serial(self.history, &self.content.seats, serial) {
+            Some(row) => is_of_key(self.key, &row),
+            None => false,
+        }
+    }
+
+    // Whether the window shows pairs of the serial: it is open, or is that of the live row of the key.
+    fn asks_pairs(&self, serial: Serial) -> bool
+        ensures { result ≡ asks_pairs self.now.key.now (shown self.now).sets.ltp
+            (shown self.now).sets.cp (look_up row_serial self.now.history.now) serial }
+    {
+        self.asks_planned(serial) || self.asks_completed(serial)
+    }
+
+    /// The pairs of one successor, which is open or, in a window on a key, is its live row, wherever that stands; none of
+    /// any other.
     pub fn pairs_of_successor(&self, successor: Serial) -> &'a [Pair]
         ensures rising { IsRising pair_cmp result.now }
         ensures all { (pair : PairValue) → Contains result.now pair
@@ -108,13 +129,24 @@ impl<'a> View<'a> {
         if !self.asks_pairs(successor) {
             return &[];
         }
-        self.pairs_of_open(successor)
+        self.asked_of(successor)
     }
 
     /// The pairs of one successor that is known to be open.
     pub fn pairs_of_open(&self, successor: Serial) -> &'a [Pair]
-        requires { asks_pairs self.now.key.now (shown self.now).sets.ltp (shown self.now).sets.cp
+        requires { asks_planned self.now.key.now (shown self.now).sets.ltp (shown self.now).sets.cp
             successor ≡ true }
+        ensures rising { IsRising pair_cmp result.now }
+        ensures all { (pair : PairValue) → Contains result.now pair
+            ↔ (Contains (shown self.now).pairs pair × (pair.successor ≡ successor)) }
+    {
+        self.asked_of(successor)
+    }
+
+    // The pairs of one successor, which are asked for.
+    fn asked_of(&self, successor: Serial) -> &'a [Pair]
+        requires { asks_pairs self.now.key.now (shown self.now).sets.ltp (shown self.now).sets.cp
+            (look_up row_serial self.now.history.now) successor ≡ true }
         ensures rising { IsRising pair_cmp result.now }
         ensures all { (pair : PairValue) → Contains result.now pair
             ↔ (Contains (shown self.now).pairs pair × (pair.successor ≡ successor)) }
@@ -163,6 +195,20 @@ impl<'a> View<'a> {
             → length result.now ≡ size (shown self.now).sets.cp (shown self.now).sets.issued) }
     {
         self.cp
+    }
+
+    /// How many rows the long-term plan has, whichever of them the window shows.
+    pub fn ltp_size(&self) -> usize
+        ensures { result ≡ ltp_size self.now }
+    {
+        self.content.ltp.len()
+    }
+
+    /// How many rows the current plan has, whichever of them the window shows.
+    pub fn cp_size(&self) -> usize
+        ensures { result ≡ cp_size self.now }
+    {
+        self.content.cp.len()
     }
 
     /// Of history the rows that the need asks for: of applications the last before some moments.

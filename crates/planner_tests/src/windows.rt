@@ -30,31 +30,44 @@ const PLAN: &[u8] = b"define calendars --job 1\nDEFAULT,SAT,FREE\nDEFAULT,SUN,FR
     ltp-delete --app C --ia 2024-01-03/08.00 --job 17\n";
 
 /// What a window shows, each as the digits of serials: the rows of the long-term plan, those of the current plan, those
-/// of history, the successors of pairs, their predecessors, and the deletions.
-type Shown = [u64; 6];
+/// of history, the successors of pairs, their predecessors, and the deletions; and as two digits how many rows the
+/// long-term plan has, and how many the current plan.
+type Shown = [u64; 7];
 
 /// A need as words, and what a window for it shows.
 type Case = (&'static str, &'static str, &'static str, Shown);
 
 /// One after another on one store, so that each shows its own. The pairs are 2 after 1, 7 after 4 and 8 after 7 of what
 /// is open, and 5 after 4 and 4 after 1 of what is not.
-const CASES: [Case; 10] = [
-    ("definitions", "", "", [0, 0, 0, 0, 0, 0]),
+const CASES: [Case; 11] = [
+    ("definitions", "", "", [0, 0, 0, 0, 0, 0, 22]),
     // It ends before its moment.
-    ("daily", "", "2024-01-03/08.00", [0, 25, 0, 0, 0, 0]),
-    ("daily", "", "2024-01-03/08.01", [78, 25, 0, 0, 0, 0]),
-    ("key", "A", "2024-01-03/08.00", [78, 25, 4, 278, 147, 0]),
+    ("daily", "", "2024-01-03/08.00", [0, 25, 0, 0, 0, 0, 22]),
+    ("daily", "", "2024-01-03/08.01", [78, 25, 0, 0, 0, 0, 22]),
+    ("key", "A", "2024-01-03/08.00", [78, 25, 4, 278, 147, 0, 22]),
     // Of A the last then, and nothing for what follows it.
-    ("key", "A", "2024-01-02/07.59", [78, 25, 1, 278, 147, 0]),
+    ("key", "A", "2024-01-02/07.59", [78, 25, 1, 278, 147, 0, 22]),
     // What arrives with it may precede it, where another application lists it.
-    ("key", "B", "2024-01-01/08.00", [78, 25, 1, 278, 147, 0]),
+    ("key", "B", "2024-01-01/08.00", [78, 25, 1, 278, 147, 0, 22]),
     // It has started, and its pair is shown for its own key alone.
-    ("key", "B", "2024-01-02/08.00", [78, 25, 4, 2578, 1447, 0]),
+    (
+        "key",
+        "B",
+        "2024-01-02/08.00",
+        [78, 25, 4, 2578, 1447, 0, 22],
+    ),
+    // It is complete and in history, and its pair, 4 after 1, is shown for its own key alone.
+    (
+        "key",
+        "A",
+        "2024-01-02/08.00",
+        [78, 25, 4, 2478, 1147, 0, 22],
+    ),
     // The last of its own application, which no list names.
-    ("key", "C", "2024-01-02/08.00", [78, 25, 3, 278, 147, 0]),
+    ("key", "C", "2024-01-02/08.00", [78, 25, 3, 278, 147, 0, 22]),
     // 1 for what waits, and 4 at the plan end; 3 is of no list; of the deletions 9 alone arrives from the plan end on.
-    ("long-term", "", "", [78, 25, 14, 278, 147, 9]),
-    ("definitions", "", "", [0, 0, 0, 0, 0, 0]),
+    ("long-term", "", "", [78, 25, 14, 278, 147, 9, 22]),
+    ("definitions", "", "", [0, 0, 0, 0, 0, 0, 22]),
 ];
 
 /// A and B follow A on two days, of which the first is planned: 1, of A, is complete and in history.
@@ -71,7 +84,7 @@ const TWO_DAYS: &[u8] = b"define calendars --job 1\nDEFAULT,SAT,FREE\nDEFAULT,SU
     dp-replan --job 15\n";
 
 /// A daily plan to the end of the last day sees 2, 3 and 4 alone.
-const TO_THE_END: [Case; 1] = [("daily", "", "2024-01-03/00.00", [34, 2, 0, 0, 0, 0])];
+const TO_THE_END: [Case; 1] = [("daily", "", "2024-01-03/00.00", [34, 2, 0, 0, 0, 0, 21])];
 
 /// The need of a case.
 fn need_of(what: &str, app: &str, moment: &str) -> Option<Need> {
@@ -164,6 +177,12 @@ fn deleted_in(view: &View<'_>) -> u64 {
     number
 }
 
+/// How many rows the two plans have, as two digits.
+fn sizes_in(view: &View<'_>) -> u64 {
+    let ltp = view.ltp_size() as u64;
+    ltp.saturating_mul(10).saturating_add(view.cp_size() as u64)
+}
+
 /// What the window shows; nothing where it lacks the calendar, or how many serials are issued.
 fn shown_in(view: &View<'_>) -> Option<Shown> {
     if view.definitions().calendars.len() != 1 || view.issued() == 0 {
@@ -176,6 +195,7 @@ fn shown_in(view: &View<'_>) -> Option<Shown> {
         successors_in(view),
         predecessors_in(view),
         deleted_in(view),
+        sizes_in(view),
     ])
 }
 

@@ -4,9 +4,9 @@ use Rattle.planner_machine.specs.Pairs.{pair_of}
 use Rattle.plan_store.specs.Views.{shown, with_hidden}
 use Rattle.plan_pairs.specs.Additions.{IsLeftPair, IsOvertaken, IsPredecessorIn, IsTurnedPair}
 use Rattle.plan_pairs.specs.Gathering.{AddsIf}
-use Rattle.plan_pairs.proofs.AskedPairLemmas.{asked_stood, open_shown}
 use Rattle.plan_pairs.proofs.EachLemmas.{adds_nothing, adds_one}
 use Rattle.plan_pairs.proofs.PairInLemmas.{found_none, found_pair, none_overtaken, not_overtaken, one_pair, some_overtaken}
+use Rattle.plan_pairs.proofs.PartLemmas.{open_shown, shown_stood}
 use Rattle.plan_pairs.proofs.additions.turn.Goals as goal
 use Rattle.plan_pairs.proofs.additions.turn.Goals.{in-Some+else-arrives_later+in_ok-push, in_default}
 
@@ -18,7 +18,7 @@ returns-then-arrives_later c h sound sees once is =
     let x = c.args.x.now in
     let was = c.in-Some.was in
     let pairs = (shown c.args.view.now).pairs in
-    let stood = asked_stood (Some row.key) content.sets pairs h.pairs sees.pairs in
+    let stood = shown_stood (Some row.key) content.sets pairs h.pairs sees.pairs in
     let has = open_shown (Some row.key) content.sets pairs h.pairs sees.pairs x.placed is.stands is.waits in
     let found = subst (IsPredecessorIn pairs content.sets x.placed.row.serial row.key.app) c.in-Some.is
     (c.predecessor_in.ensures h sound.serials sees.predecessors) in
@@ -36,7 +36,7 @@ returns c h sound sees once is =
     let row = c.args.row.now in
     let x = c.args.x.now in
     let pairs = (shown c.args.view.now).pairs in
-    let stood = asked_stood (Some row.key) content.sets pairs h.pairs sees.pairs in
+    let stood = shown_stood (Some row.key) content.sets pairs h.pairs sees.pairs in
     let has = open_shown (Some row.key) content.sets pairs h.pairs sees.pairs x.placed is.stands is.waits in
     let Left = IsLeftPair content row x in
     let Turned = IsTurnedPair content row x in

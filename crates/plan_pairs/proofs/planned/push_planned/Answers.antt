@@ -1,9 +1,9 @@
-use Rattle.std.proofs.Common.{◌≡◌, ◌↔◌, ◌+◌, ◌++◌, ◌∷◌, ◌∙◌, [], take, sym, ap, subst, arith}
+use Rattle.std.proofs.Common.{◌≡◌, ◌+◌, ◌++◌, ◌∷◌, ◌∙◌, [], take, sym, ap, subst, arith}
 use Rattle.std.proofs.lemmas.List.{take_all, take_more}
 use Rattle.plan_store.specs.Views.{shown}
 use Rattle.plan_pairs.specs.Planned.{AddsPairsOf}
 use Rattle.plan_pairs.specs.Turns.{HasSerial}
-use Rattle.plan_pairs.proofs.PartLemmas.{asked_ltp}
+use Rattle.plan_pairs.proofs.PartLemmas.{planned_ltp}
 use Rattle.plan_pairs.proofs.PlannedLemmas.{adds_more, adds_none, no_serial, one_serial_more}
 use Rattle.plan_pairs.proofs.planned.push_planned.Goals as goal
 
@@ -14,7 +14,7 @@ pub pairs_of_open-requires : goal.pairs_of_open-requires
 pairs_of_open-requires c =
     let view = c.args.view.now in
     let row = c.row-item.result in
-    asked_ltp view.key.now (shown view).sets row.serial row
+    planned_ltp view.key.now (shown view).sets row.serial row
     (c.requires row (c.loop-row.row-index, c.loop-row-test.true, sym c.row-item.is))
 
 -- one more row

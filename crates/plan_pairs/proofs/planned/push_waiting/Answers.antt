@@ -1,9 +1,9 @@
-use Rattle.std.proofs.Common.{◌≡◌, ◌↔◌, ◌+◌, ◌++◌, ◌∷◌, ◌∙◌, [], take, sym, ap, subst, arith}
+use Rattle.std.proofs.Common.{◌≡◌, ◌+◌, ◌++◌, ◌∷◌, ◌∙◌, [], take, sym, ap, subst, arith}
 use Rattle.std.proofs.lemmas.Bool.{false≢true}
 use Rattle.std.proofs.lemmas.List.{take_all, take_more}
 use Rattle.plan_store.specs.Views.{shown}
 use Rattle.plan_pairs.specs.Planned.{AddsPairsOf, HasWaiting}
-use Rattle.plan_pairs.proofs.PartLemmas.{asked_waiting}
+use Rattle.plan_pairs.proofs.PartLemmas.{planned_waiting}
 use Rattle.plan_pairs.proofs.PlannedLemmas.{adds_more, adds_none, adds_same, none_waiting, waiting_more, waiting_skip}
 use Rattle.plan_pairs.proofs.planned.push_waiting.Goals as goal
 use Rattle.plan_pairs.proofs.planned.push_waiting.Goals.{then-is_open+in_ok-extend_from_slice, else-is_open}
@@ -15,7 +15,7 @@ pub pairs_of_open-requires : goal.pairs_of_open-requires
 pairs_of_open-requires c =
     let view = c.args.view.now in
     let current = c.current-item.result in
-    asked_waiting view.key.now (shown view).sets current.row.serial current
+    planned_waiting view.key.now (shown view).sets current.row.serial current
     (c.requires current (c.loop-current.current-index, c.loop-current-test.true, sym c.current-item.is))
     (c.is_open.ensures.0 c.if-is_open.true)
 

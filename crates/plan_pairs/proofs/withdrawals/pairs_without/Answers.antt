@@ -40,6 +40,6 @@ returns c h sound sees s loses =
     subst (λ (ps : List Pair). AddsEach (IsBackPair pairs row before) found ps added) c.new-added.ensures.items
     c.in_ok-turn_each.ensures.added in
     let change : PairChange = record { removed = c.from_vec.result; added = c.from_vec-2.result } in
-    let turns = turns_from content sound row place s more loses.planned before pairs sees.pairs found are own removed
+    let turns = turns_from content sound row place s more before pairs sees.pairs found are own removed
     added c.pairs_of_successor.ensures.all lost back change c.from_vec.ensures c.from_vec-2.ensures last in
     pairs_go content sound are.once s row place more before change turns

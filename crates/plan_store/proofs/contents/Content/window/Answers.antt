@@ -29,15 +29,15 @@ pub returns-in-Definitions : goal.returns-in-Definitions
 returns-in-Definitions c =
     let kept = c.args.self.now in
     subst (λ n. Shows n c.window_of_plans.result (content_of kept)) (sym c.in-Definitions.is)
-    (shows_definitions c.window_of_plans.result (content_of kept) c.window_of_plans.ensures)
+    (shows_definitions c.window_of_plans.result kept c.window_of_plans.ensures.whole c.window_of_plans.ensures.shown)
 
 pub returns-in-Key : goal.returns-in-Key
 returns-in-Key c =
     let kept = c.args.self.now in
     let filled = rw c.in-Key.is at c.requires in
     subst (λ n. Shows n c.window_of_lasts.result (content_of kept)) (sym c.in-Key.is)
-    (shows_key c.in-Key.field-0 c.window_of_lasts.result kept filled c.window_of_lasts.ensures.history
-    c.window_of_lasts.ensures.shown)
+    (shows_key c.in-Key.field-0 c.window_of_lasts.result kept c.window_of_lasts.ensures.whole filled
+    c.window_of_lasts.ensures.history c.window_of_lasts.ensures.shown)
 
 pub returns-in-LongTerm : goal.returns-in-LongTerm
 returns-in-LongTerm c =
@@ -45,13 +45,13 @@ returns-in-LongTerm c =
     let filled = rw c.in-LongTerm.is at c.requires in
     subst (λ n. Shows n c.window_of_lasts-in-LongTerm.result (content_of kept)) (sym c.in-LongTerm.is)
     (shows_plan kept c.deref-in-LongTerm.result.now (c.deref-in-LongTerm.ensures.value ∙ filled.1)
-    c.window_of_lasts-in-LongTerm.result filled.0 c.window_of_lasts-in-LongTerm.ensures.history
-    c.window_of_lasts-in-LongTerm.ensures.shown)
+    c.window_of_lasts-in-LongTerm.result c.window_of_lasts-in-LongTerm.ensures.whole filled.0
+    c.window_of_lasts-in-LongTerm.ensures.history c.window_of_lasts-in-LongTerm.ensures.shown)
 
 pub returns-in-Daily : goal.returns-in-Daily
 returns-in-Daily c =
     let kept = c.args.self.now in
-    let shows = rw c.deref-in-Daily.ensures.value at c.window_of_plans-in-Daily.ensures in
+    let shows = rw c.deref-in-Daily.ensures.value at c.window_of_plans-in-Daily.ensures.shown in
     subst (λ n. Shows n c.window_of_plans-in-Daily.result (content_of kept)) (sym c.in-Daily.is)
     (shows_early _ kept c.deref.result.now (c.deref.ensures.value ∙ (rw c.in-Daily.is at c.requires))
-    c.window_of_plans-in-Daily.result shows)
+    c.window_of_plans-in-Daily.result c.window_of_plans-in-Daily.ensures.whole shows)

@@ -1,22 +1,5 @@
-use Rattle.std.proofs.Common.{◌≡◌, true, sym, subst}
-use Rattle.external_dependencies.specs.declared.pairs.Pair.{Pair}
-use Rattle.keyed_lists.proofs.KeyLemmas.{contains_filter, filter_contains}
-use Rattle.plan_store.specs.Views.{asks_pairs, shown}
+use Rattle.std.proofs.Common.{refl}
 use Rattle.plan_store.proofs.views.View.pairs_of_open.Goals as goal
 
-pub returns-clause-all : goal.returns-clause-all
-returns-clause-all c pair =
-    let view = c.args.self.now in
-    let key = view.key.now in
-    let s = (shown view).sets in
-    let is = c.of_successor.ensures.all pair in (
-      (λ there.
-          let both = is.0 there in
-          let asked : asks_pairs key s.ltp s.cp pair.successor ≡ true =
-          subst (λ n. asks_pairs key s.ltp s.cp n ≡ true) (sym both.1) c.requires in
-          (filter_contains (λ (p : Pair). asks_pairs key s.ltp s.cp p.successor) view.pairs.now pair both.0 asked, both.1)),
-      λ both. is.1 (
-        (contains_filter (λ (p : Pair). asks_pairs key s.ltp s.cp p.successor) view.pairs.now pair both.0).0,
-        both.1,
-      ),
-    )
+pub asked_of-requires : goal.asked_of-requires
+asked_of-requires c = rw c.requires refl

@@ -2,21 +2,23 @@ use Rattle.std.proofs.Common.{◌≡◌, ◌∙◌, true, sym, subst}
 use Rattle.std.proofs.lemmas.Bool.{false≢true}
 use Rattle.external_dependencies.specs.declared.pairs.Pair.{Pair}
 use Rattle.keyed_lists.proofs.KeyLemmas.{contains_filter, nothing}
-use Rattle.plan_store.specs.Views.{asks_pairs, shown}
+use Rattle.keyed_lists.specs.Rows.{look_up}
+use Rattle.plan_store.specs.Views.{asks_pairs, row_serial, shown}
 use Rattle.plan_store.proofs.views.View.pairs_of_successor.Goals as goal
 
 pub returns-then-not-asks_pairs-clause-all : goal.returns-then-not-asks_pairs-clause-all
 returns-then-not-asks_pairs-clause-all c pair =
     let view = c.args.self.now in
     let key = view.key.now in
-    let s = (shown view).sets in (
+    let s = (shown view).sets in
+    let history = look_up row_serial view.history.now in (
       (λ there. absurd (nothing pair there)),
       λ both.
-          let asked : asks_pairs key s.ltp s.cp pair.successor ≡ true =
-          (contains_filter (λ (p : Pair). asks_pairs key s.ltp s.cp p.successor) view.pairs.now pair both.0).1 in
+          let asked : asks_pairs key s.ltp s.cp history pair.successor ≡ true =
+          (contains_filter (λ (p : Pair). asks_pairs key s.ltp s.cp history p.successor) view.pairs.now pair both.0).1 in
           absurd (false≢true (sym c.if-not-asks_pairs.true ∙ c.asks_pairs.ensures
-          ∙ subst (λ n. asks_pairs key s.ltp s.cp n ≡ true) both.1 asked)),
+          ∙ subst (λ n. asks_pairs key s.ltp s.cp history n ≡ true) both.1 asked)),
     )
 
-pub pairs_of_open-requires : goal.pairs_of_open-requires
-pairs_of_open-requires c = sym c.asks_pairs.ensures ∙ c.if-not-asks_pairs.false
+pub asked_of-requires : goal.asked_of-requires
+asked_of-requires c = sym c.asks_pairs.ensures ∙ c.if-not-asks_pairs.false

@@ -5,7 +5,7 @@ use Rattle.plan_store.specs.Views.{current_serial, is_asked, row_serial}
 use Rattle.plan_store.proofs.AskedLemmas.{some_kept}
 use Rattle.keyed_lists.proofs.LookLemmas.{look_at, look_lacks}
 use Rattle.plan_store.proofs.ViewLemmas.{found_is}
-use Rattle.plan_store.proofs.views.View.asks_pairs.Goals as goal
+use Rattle.plan_store.proofs.views.View.asks_planned.Goals as goal
 
 -- it stands in the long-term plan
 pub returns-then-is_some : goal.returns-then-is_some
