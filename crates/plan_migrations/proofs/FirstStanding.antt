@@ -2,11 +2,10 @@
 use Rattle.std.proofs.Common.{◌≡◌, ◌↔◌, List, refl, sym, ap, subst}
 use Rattle.sqlite_schema.specs.declared.schema.Schema.{Schema}
 use Rattle.sqlite_schema.specs.declared.schema.Table.{Table as Described}
-use Rattle.table_schema.specs.Free.{IsFree}
+use Rattle.table_schema.specs.Free.{CanMake, IsFree}
 use Rattle.table_schema.specs.Schema.{plan_schema, tree}
-use Rattle.table_opening.specs.Standing.{CanMake, StandAmong}
+use Rattle.table_opening.specs.Standing.{StandAmong}
 use Rattle.table_opening.proofs.AmongLemmas.{Forms, are_there, they_stand}
-use Rattle.table_opening.proofs.StandingLemmas.{free_iff}
 use Rattle.table_remaking.specs.FirstSchema.{CanRemake, HasFirstTables, first_schema, first_table_at}
 use Rattle.table_remaking.specs.Leaving.{left_by}
 use Rattle.table_remaking.proofs.LeavingLemmas.{left_is}
@@ -34,10 +33,10 @@ remake_iff schema first plan is whole = (
       let has = (stand_iff schema first.tables (ap (λ (s : Schema). s.tables) is)).0 h.0 in
       let left : CanMake (left_by schema first_schema.tables) plan =
       subst (λ (s : Schema). CanMake (left_by schema s.tables) plan) is h.1 in
-      record { has = has; free = subst IsFree (left_is schema has) ((free_iff _ plan whole).0 left) },
+      record { has = has; free = subst IsFree (left_is schema has) (subst (CanMake _) whole left) },
   λ can. (
     (stand_iff schema first.tables (ap (λ (s : Schema). s.tables) is)).1 can.has,
     subst (λ (s : Schema). CanMake (left_by schema s.tables) plan) (sym is)
-        ((free_iff _ plan whole).1 (subst IsFree (sym (left_is schema can.has)) can.free)),
+        (subst (CanMake _) (sym whole) (subst IsFree (sym (left_is schema can.has)) can.free)),
   ),
 )

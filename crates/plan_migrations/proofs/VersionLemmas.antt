@@ -20,7 +20,7 @@ use Rattle.table_schema.specs.Rows.{shown, tables_of}
 use Rattle.table_schema.specs.Schema.{HasTables, name, table_at}
 use Rattle.table_schema.specs.declared.tables.Table.TheVariants as table
 use Rattle.table_schema.specs.declared.tables.TheConstants.{SCHEMA_VERSION}
-use Rattle.table_schema.proofs.ColumnQueries.{columns_show}
+use Rattle.table_schema.proofs.ColumnQueries.{IsBareSelect, ShowsColumns, columns_show}
 use Rattle.table_schema.proofs.NamedLemmas.{tree_is}
 use Rattle.table_schema.proofs.QueryMeanings.{ShowsRows}
 use Rattle.table_schema.proofs.ShownLemmas.{shows_all, stays}
@@ -52,24 +52,18 @@ version_columns = codes "version" ∷ codes "version" ∷ []
 abbrev version_terms : List Term
 version_terms = col 1 2 ∷ col 1 2 ∷ []
 
-version_says : IfRead (first version_sql) (IsBareText (length version_sql) (name table.Meta) (map shown_column version_columns))
+version_says : IsBareSelect (name table.Meta) version_sql version_columns
 unfolding everything
 version_says = (refl, refl, refl, refl, refl, refl)
 
-version_fits : (tree : ℕ) → (has_all (table_at tree table.Meta) version_columns ≡ true)
-    × (nat_lt (length version_columns) max_budget ≡ true)
-    × (map (λ o. o.term) (map (shown_as (table_at tree table.Meta)) version_columns) ≡ version_terms)
-    × (map (λ o. o.name) (map (shown_as (table_at tree table.Meta)) version_columns) ≡ version_columns)
-    × (are_typed [] (row_classes (table_at tree table.Meta) ∷ []) version_terms ≡ true)
+version_fits : (tree : ℕ) → ShowsColumns (table_at tree table.Meta) version_columns version_terms
 unfolding everything
 version_fits tree = (refl, refl, refl, refl, refl)
 
 versions : (schema : Schema) (tree at : ℕ) → TableStandsAt schema (table_at tree table.Meta) at
     → ShowsRows schema version_sql tree version_terms version_columns
-versions schema tree at it =
-    let fits = version_fits tree in
-    columns_show schema (table_at tree table.Meta) at it version_sql version_columns version_terms version_columns
-    version_says fits.0 fits.1 fits.2 fits.3 fits.4
+versions schema tree at it = columns_show schema (table_at tree table.Meta) at it version_sql version_columns
+    version_terms version_says (version_fits tree)
 
 abbrev version_shown : Values → Values
 version_shown row = eval_all version_terms ([] ∷ row ∷ [])

@@ -1,5 +1,5 @@
 -- The fourteen tables that stand in a schema, whatever schema they are made by.
-use Rattle.std.proofs.Common.{◌≡◌, ◌⊎◌, ◌∙◌, ◌==◌, ◌<◌, ◌^◌, ℕ, Bool, true, false, inl, inr, List, [], ◌∷◌}
+use Rattle.std.proofs.Common.{◌≡◌, ◌⊎◌, ◌∙◌, ◌==◌, ◌<◌, ◌^◌, ℕ, Bool, true, false, inl, inr, List}
 use Rattle.std.proofs.Common.{Option, Some, None, map, slice_get, refl, sym, ap, subst, arith}
 use Rattle.std.specs.List.{All, AllByRecursion}
 use Rattle.std.specs.Option.{option_and_then}
@@ -10,7 +10,7 @@ use Rattle.std.proofs.lemmas.List.Elements.{All-from_recursion, recursion_from_A
 use Rattle.sqlite_rules.proofs.ListLemmas.{all_from, all_has, has_got}
 use Rattle.sqlite_rules.proofs.RuleLemmas.{same_table}
 use Rattle.sqlite_rules.specs.Lists.{Has}
-use Rattle.sqlite_schema.specs.Names.{same_name, table_named}
+use Rattle.sqlite_schema.specs.Names.{table_named}
 use Rattle.sqlite_schema.specs.declared.schema.Reference.{Reference}
 use Rattle.sqlite_schema.specs.declared.schema.Schema.{Schema}
 use Rattle.sqlite_schema.specs.declared.schema.Table.{Table as Described}
@@ -18,14 +18,13 @@ use Rattle.sqlite_trees.specs.Tree.{IsAscending}
 use Rattle.table_schema.specs.Named.{first_named}
 use Rattle.table_schema.specs.Places.{TableStandsAt, TreesDiffer}
 use Rattle.table_schema.specs.Schema.{IsAside, RefersAside, all_tables, name, table, table_at, to_run_cycle}
+use Rattle.table_schema.specs.Free.{AreAside}
+use Rattle.table_schema.proofs.EachLemmas.{all_each, asides_each, each, each_asides}
 use Rattle.table_schema.proofs.FoundLemmas.{named_is, named_there, own_found}
 use Rattle.table_schema.specs.declared.tables.Table.{Table}
-use Rattle.table_schema.specs.declared.tables.Table.TheVariants.{Meta, CalendarEntry, Period, Application, RunCycle}
-use Rattle.table_schema.specs.declared.tables.Table.TheVariants.{Offset, Predecessor, LinkInForce, LongTerm, Current}
-use Rattle.table_schema.specs.declared.tables.Table.TheVariants.{History, Deletion, Dependency, Job}
+use Rattle.table_schema.specs.declared.tables.Table.TheVariants.{Offset}
 use Rattle.table_opening.specs.Alike.{IsAlike}
-use Rattle.table_opening.specs.Standing as standing
-use Rattle.table_opening.specs.Standing.{AreAside, IsThere, OffsetsRefer, StandAmong}
+use Rattle.table_opening.specs.Standing.{IsThere, OffsetsRefer, StandAmong}
 
 -- what each table is where they stand alone: it has its name, and the offsets are those of a plan
 pub record Forms : Type 0 where
@@ -49,52 +48,6 @@ pub record AreThere (forms : Forms) (schema : Schema) : Type 0 where
   pub refer : RefersAside schema (trees Offset)
 
 module _ (forms : Forms) where
-  -- ---- what is so of each
-
-  module _ (P : Described → Type 0) where
-    each_of : AllByRecursion P (formed forms) → (t : Table) → P (forms.form t)
-    each_of h Meta = h.0
-    each_of h CalendarEntry = h.1.0
-    each_of h Period = h.1.1.0
-    each_of h Application = h.1.1.1.0
-    each_of h RunCycle = h.1.1.1.1.0
-    each_of h Offset = h.1.1.1.1.1.0
-    each_of h Predecessor = h.1.1.1.1.1.1.0
-    each_of h LinkInForce = h.1.1.1.1.1.1.1.0
-    each_of h LongTerm = h.1.1.1.1.1.1.1.1.0
-    each_of h Current = h.1.1.1.1.1.1.1.1.1.0
-    each_of h History = h.1.1.1.1.1.1.1.1.1.1.0
-    each_of h Deletion = h.1.1.1.1.1.1.1.1.1.1.1.0
-    each_of h Dependency = h.1.1.1.1.1.1.1.1.1.1.1.1.0
-    each_of h Job = h.1.1.1.1.1.1.1.1.1.1.1.1.1.0
-
-    pub each : All P (formed forms) → (t : Table) → P (forms.form t)
-    each all = each_of (recursion_from_All P (formed forms) all)
-
-    each_formed : ((t : Table) → P (forms.form t)) → (ts : List Table) → AllByRecursion P (map forms.form ts)
-    each_formed h [] = tt
-    each_formed h (t ∷ ts) = (h t, each_formed h ts)
-
-    pub all_each : ((t : Table) → P (forms.form t)) → All P (formed forms)
-    all_each h = All-from_recursion P (formed forms) (each_formed h all_tables)
-
-  -- the reference is to none of them
-  aside_each : (ref : Reference) → standing.IsAside (formed forms) ref → IsAside ref
-  aside_each ref aside t = subst (λ n. same_name n ref.parent ≡ false) (forms.named t)
-      (each (λ t. same_name t.name ref.parent ≡ false) aside t)
-
-  each_aside : (ref : Reference) → IsAside ref → standing.IsAside (formed forms) ref
-  each_aside ref aside = all_each (λ t. same_name t.name ref.parent ≡ false)
-      (λ t. subst (λ n. same_name n ref.parent ≡ false) (sym (forms.named t)) (aside t))
-
-  pub asides_each : (child : Described) → AreAside (formed forms) child → AllByRecursion IsAside child.references
-  asides_each child aside = all_from IsAside child.references (λ ref has. aside_each ref (all_has (standing.IsAside
-      (formed forms)) child.references ref (recursion_from_All _ child.references aside) has))
-
-  pub each_asides : (child : Described) → AllByRecursion IsAside child.references → AreAside (formed forms) child
-  each_asides child aside = All-from_recursion (standing.IsAside (formed forms)) child.references
-      (all_from _ child.references (λ ref has. each_aside ref (all_has IsAside child.references ref aside has)))
-
   -- ---- they stand in a schema
 
   module _ (schema : Schema) where
@@ -164,7 +117,7 @@ module _ (forms : Forms) where
                   (has_got schema.tables at _ stands.got) in_tree in
                   subst (λ (c : Described). AllByRecursion (Refers c) c.references) (sym it) own
               one child has (inr aside) = all_from _ child.references
-                  (λ ref there. inl (all_has IsAside child.references ref (asides_each child aside) there))
+                  (λ ref there. inl (all_has IsAside child.references ref (asides_each forms.form forms.named child aside) there))
 
       offsets_alone : RefersAside schema n → OffsetsRefer schema.tables (formed forms)
       unfolding OffsetsRefer
@@ -177,7 +130,7 @@ module _ (forms : Forms) where
               child.references
               → (b : Bool) → (child.tree == n) ≡ b → (child.tree ≡ n) ⊎ AreAside (formed forms) child
           go child all true is = inl (grind (arith, nat_tests, is))
-          go child all false is = inr (each_asides child (all_from IsAside child.references
+          go child all false is = inr (each_asides forms.form forms.named child (all_from IsAside child.references
               (λ ref has. aside ref (all_has _ child.references ref all has))))
             where
               aside : (ref : Reference) → IsAside ref ⊎ ((child ≡ table_at n Offset) × (ref ≡ to_run_cycle))
@@ -194,7 +147,7 @@ module _ (forms : Forms) where
     pub are_there : StandAmong schema.tables (formed forms) → AreThere forms schema
     are_there h =
         let one : (t : Table) → (n : ℕ) × (at : ℕ) × TableStandsAt schema (form_at forms n t) at =
-        λ t. one_stands t h.apart (each (IsThere schema.tables) h.stand t) in
+        λ t. one_stands t h.apart (each forms.form (IsThere schema.tables) h.stand t) in
         record {
           at = λ t. (one t).1;
           trees = λ t. (one t).0;
@@ -206,7 +159,7 @@ module _ (forms : Forms) where
 
     pub they_stand : AreThere forms schema → StandAmong schema.tables (formed forms)
     they_stand are = record {
-      stand = all_each (IsThere schema.tables) (λ t. one_there t (are.at t) (are.trees t) (are.stands t));
+      stand = all_each forms.form (IsThere schema.tables) (λ t. one_there t (are.at t) (are.trees t) (are.stands t));
       apart = are.apart;
       refer = offsets_alone (are.at Offset) (are.trees Offset)
           (offsets_there (are.at Offset) (are.trees Offset) (are.stands Offset)) are.refer;

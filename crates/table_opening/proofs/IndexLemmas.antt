@@ -9,14 +9,13 @@ use Rattle.sqlite_schema.specs.declared.schema.Table.{Table as Described}
 use Rattle.sqlite_value.specs.Keys.{plain}
 use Rattle.sqlite_value.specs.declared.keys.Order.{Order}
 use Rattle.table_schema.specs.Schema.{HasOwnIndexes, HasTables, IsOwnIndex, orders, plan_schema, table, table_at, uniques}
+use Rattle.table_schema.proofs.EachLemmas.{all_each, each}
 use Rattle.table_schema.proofs.FoundLemmas.{named_there}
 use Rattle.table_schema.specs.declared.tables.Table.{Table}
 use Rattle.table_schema.specs.declared.tables.Table.TheVariants.{Meta}
 use Rattle.table_schema.specs.declared.tables.Table.TheVariants.{Current}
 use Rattle.table_schema.specs.declared.tables.Table.TheVariants.{Deletion, Job}
 use Rattle.table_opening.specs.Indexes.{AreOwn, IsOfKey, IsOwn, IsOwnOf}
-use Rattle.table_opening.proofs.AmongLemmas.{all_each, each}
-use Rattle.table_opening.proofs.StandingLemmas.{forms}
 
 -- a key of the plan is in rising order
 is_plain : (t : Table) (o : Order) → orders t ≡ o ∷ [] → o ≡ plain
@@ -65,12 +64,12 @@ pub own_iff : (schema : Schema) (made : List Described) → made ≡ plan_schema
 own_iff schema made is has = (
   λ own it.
       let all = subst (λ (ds : List Described). AreOwn schema.tables ds schema.indexes) is own in
-      all_from (IsOwnIndex it.trees) schema.indexes (λ i there. to_index schema it i (each forms (IsOwnOf schema.tables i)
+      all_from (IsOwnIndex it.trees) schema.indexes (λ i there. to_index schema it i (each table (IsOwnOf schema.tables i)
       (all_has (IsOwn schema.tables plan_schema.tables) schema.indexes i
       (recursion_from_All (IsOwn schema.tables plan_schema.tables) schema.indexes all) there))),
   λ own. subst (λ (ds : List Described). AreOwn schema.tables ds schema.indexes) (sym is)
       (All-from_recursion (IsOwn schema.tables plan_schema.tables) schema.indexes
-      (all_from (IsOwn schema.tables plan_schema.tables) schema.indexes (λ i there. all_each forms
+      (all_from (IsOwn schema.tables plan_schema.tables) schema.indexes (λ i there. all_each table
       (IsOwnOf schema.tables i) (from_index schema has i (all_has (IsOwnIndex has.trees) schema.indexes i (own has)
       there))))),
 )

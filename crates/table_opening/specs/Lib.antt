@@ -1,6 +1,5 @@
 pub mod Rowids
 pub mod First
-pub mod Places
 pub mod Stored
 pub mod Faults
 pub mod Opened

@@ -10,7 +10,7 @@ ghost use Rattle.table_schema.specs.Rows.{HaveRowids, MayFail, tables_of};
 ghost use Rattle.table_reading.specs.Reading.{HasPlan, Looks};
 ghost use Rattle.table_reading.specs.Rowids.{place_of};
 ghost use Rattle.table_opening.specs.Rowids.{AreIntegers, AreRising, PlacesRise, rowid_shown};
-ghost use Rattle.table_opening.specs.Places.{table_of};
+ghost use Rattle.table_schema.specs.Schema.{table_of};
 
 use crate::rowid_texts::rowid_text;
 use crate::table_places::table_at;

@@ -7,8 +7,8 @@ ghost use Rattle.sqlite.specs.Rows.{sequence};
 ghost use Rattle.sqlite_catalog.specs.Change.{is_used};
 ghost use Rattle.sqlite_trees.specs.Tree.{IsAscending};
 ghost use Rattle.table_schema.specs.Places.{TreesDiffer};
-ghost use Rattle.table_opening.specs.Standing.{AreAside, AreUnused, CanMake, FitsIn, IsAside, IsThere, OffsetsRefer};
-ghost use Rattle.table_opening.specs.Standing.{StandAmong};
+ghost use Rattle.table_schema.specs.Free.{AreAside, AreUnused, CanMake, FitsIn, IsAsideOf};
+ghost use Rattle.table_opening.specs.Standing.{IsThere, OffsetsRefer, StandAmong};
 
 use crate::same_schema::tables::is_alike;
 use sqlite_catalog::layout::{is_used, next_tree};
@@ -63,7 +63,7 @@ fn are_apart(tables: &[Table]) -> bool
 
 // Whether the reference is to none of the tables.
 fn is_aside(reference: &Reference, tables: &[Table]) -> bool
-    ensures { IsTrue result ↔ IsAside tables.now reference.now }
+    ensures { IsTrue result ↔ IsAsideOf tables.now reference.now }
 {
     for table in tables {
         if same_name(table.name.as_slice(), reference.parent.as_slice()) {

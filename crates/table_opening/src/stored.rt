@@ -6,7 +6,7 @@ ghost use Rattle.sqlite.specs.Held.{state};
 ghost use Rattle.table_schema.specs.Rows.{Tables, tables_of};
 ghost use Rattle.table_reading.specs.Reading.{HasPlan, Looks};
 ghost use Rattle.table_reading.specs.Tables.{ShowsOnly};
-ghost use Rattle.table_opening.specs.Places.{table_of};
+ghost use Rattle.table_schema.specs.Schema.{table_of};
 
 use crate::table_places::table_at;
 use sqlite::{Alter, Connection, Error, Row as Cells};

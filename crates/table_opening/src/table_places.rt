@@ -1,7 +1,7 @@
 // Tables by their places.
 
 ghost use Rattle.std.specs.Prelude.{◌≡◌};
-ghost use Rattle.table_opening.specs.Places.{table_of};
+ghost use Rattle.table_schema.specs.Schema.{table_of};
 
 use table_schema::Table;
 

@@ -7,4 +7,3 @@ pub mod Parts
 pub mod Readable
 pub mod Lines
 pub mod Rowids
-pub mod Places

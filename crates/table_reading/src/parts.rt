@@ -12,7 +12,7 @@ ghost use Rattle.table_facts.specs.Content.{job_values};
 ghost use Rattle.table_facts.specs.Facts.{row_values, current_values, deletion_values, pair_values, link_values};
 ghost use Rattle.table_reading.specs.Order.{NumbersRise, row_number, current_number, deletion_number, job_number};
 ghost use Rattle.table_reading.specs.Cells.{IsNumberedRow, IsPair, IsReadJob};
-ghost use Rattle.table_reading.specs.Places.{table_of};
+ghost use Rattle.table_schema.specs.Schema.{table_of};
 ghost use Rattle.table_reading.specs.Readable.{ShowsEachOnce, ShowsLinks, ShowsMeta, ShowsNumbers};
 ghost use Rattle.table_reading.specs.Reading.{HasPlan, Looks};
 ghost use Rattle.table_reading.specs.Rowids.{AreApart, pair_of};

@@ -3,3 +3,4 @@ pub mod AloneLemmas
 pub mod TakingLemmas
 pub mod LinkLemmas
 pub mod PairLemmas
+pub mod TurnLemmas

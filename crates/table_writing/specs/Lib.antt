@@ -1,3 +1,4 @@
+pub mod InTurn
 pub mod Writing
 pub mod Redefining
 pub mod Taking

@@ -31,10 +31,22 @@ fn write_moves<R: Fact, S: Alter>(
         S.Store tx.old tx.new result
         (moved_in table R.values R.key moves.now) }
 {
-    let gone = TakeEach { table, facts: &moves.gone };
-    let old = TakeEach { table, facts: &moves.changed };
-    let new = PutEach { table, facts: &moves.changed };
-    let put = PutEach { table, facts: &moves.put };
+    let gone = TakeEach {
+        table,
+        facts: &moves.gone,
+    };
+    let old = TakeEach {
+        table,
+        facts: &moves.changed,
+    };
+    let new = PutEach {
+        table,
+        facts: &moves.changed,
+    };
+    let put = PutEach {
+        table,
+        facts: &moves.put,
+    };
     (((gone, old), new), put).run(tx)
 }
 

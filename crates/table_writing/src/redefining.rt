@@ -13,6 +13,7 @@ ghost use Rattle.table_writing.specs.Taking.{TakesNamed, WritesTaking};
 ghost use Rattle.table_writing.specs.Writing.{StandAlone, with_each, without_each};
 
 use crate::lone_rows::write_meta;
+use crate::loops::{ForEach, write_each};
 use app_definitions::Kind;
 use plan_store::Content;
 use sqlite::types::ValueRef;
@@ -51,6 +52,25 @@ fn put_row<S: Alter>(
     insert(tx, table, &values)
 }
 
+// A row, in the table.
+#[derive(Drop)]
+struct PutRow {
+    alloc: Global,
+    table: Table,
+}
+
+impl ForEach<Row> for PutRow {
+    ghost fits = { λ it row _. IsStorable it.table row };
+
+    ghost takes = { λ it row all. IsStorable it.table row × TakesRow it.table row all };
+
+    ghost makes = { λ it row. with_cells it.table row };
+
+    fn write<S: Alter>(&self, tx: &mut Transaction<'_, S>, item: &Row) -> Result<(), Error> {
+        put_row(tx, self.alloc, self.table, item)
+    }
+}
+
 // Puts rows into the table.
 fn put_rows<S: Alter>(
     tx: &mut Transaction<'_, S>,
@@ -63,10 +83,7 @@ fn put_rows<S: Alter>(
         S.Store tx.old tx.new result
         (with_each table rows_of rows.now) }
 {
-    for row in rows {
-        put_row(tx, alloc, table, row)?;
-    }
-    Ok(())
+    write_each(tx, &PutRow { alloc, table }, rows)
 }
 
 // Takes the rows of a name out of the table.
@@ -76,6 +93,24 @@ fn take_name<S: Alter>(tx: &mut Transaction<'_, S>, table: Table, name: &Name) -
         (without_key table (name_key name.now)) }
 {
     delete(tx, table, &[ValueRef::Text(name.as_bytes())])
+}
+
+// The rows of a name, out of the table.
+#[derive(Drop)]
+struct TakeName {
+    table: Table,
+}
+
+impl ForEach<Name> for TakeName {
+    ghost fits = { λ it name. IsAlone it.table (name_key name) };
+
+    ghost takes = { λ it name. LosesKey it.table (name_key name) };
+
+    ghost makes = { λ it name. without_key it.table (name_key name) };
+
+    fn write<S: Alter>(&self, tx: &mut Transaction<'_, S>, item: &Name) -> Result<(), Error> {
+        take_name(tx, self.table, item)
+    }
 }
 
 // Takes the rows of these names out of the table.
@@ -89,10 +124,7 @@ fn take_names<S: Alter>(
         S.Store tx.old tx.new result
         (without_each table name_key names.now) }
 {
-    for name in names {
-        take_name(tx, table, name)?;
-    }
-    Ok(())
+    write_each(tx, &TakeName { table }, names)
 }
 
 // Takes the rows of these names out of the table, and puts rows in.

@@ -1,12 +1,12 @@
 use Rattle.std.proofs.Common.{◌∙◌, ap, subst, sym, true≢false}
 use Rattle.sqlite.proofs.Callers.{memory_is_clean}
 use Rattle.sqlite.specs.Schema.{Schema}
-use Rattle.table_schema.specs.Free.{IsFree}
+use Rattle.table_schema.specs.Free.{CanMake, IsFree}
 use Rattle.table_schema.specs.Schema.{HasTables}
 use Rattle.table_schema.proofs.MadeLemmas.{nothing_is_free}
 use Rattle.table_reading.specs.Reading.{HasPlan}
 use Rattle.table_opening.specs.Standing.{StandAmong}
-use Rattle.table_opening.proofs.StandingLemmas.{free_iff, made_alone, stand_iff}
+use Rattle.table_opening.proofs.StandingLemmas.{made_alone, stand_iff}
 use Rattle.table_opening.proofs.schemas.find_tables.Goals as goal
 
 pub returns-then-stand_among : goal.returns-then-stand_among
@@ -24,8 +24,8 @@ returns-then-can_make g c =
     let empty = c.in_ok-made.ensures.empty.2 in
     let beside = c.in_ok-make_tables.ensures.done (memory_is_clean c.make_tables.new.conn) (subst IsFree (sym empty) nothing_is_free) in
     let alone = c.schema-plan.ensures.value ∙ made_alone _ _ empty beside.schema in
-    let both = free_iff c.schema-schema.result.now c.schema-plan.result.now alone in
-    subst IsFree c.schema-schema.ensures.value (both.0 (c.can_make.ensures.0 c.if-can_make.true))
+    subst IsFree c.schema-schema.ensures.value (subst (CanMake c.schema-schema.result.now) alone
+    (c.can_make.ensures.0 c.if-can_make.true))
 
 pub returns : goal.returns
 unfolding HasPlan
@@ -34,9 +34,9 @@ returns g c =
     let beside = c.in_ok-make_tables.ensures.done (memory_is_clean c.make_tables.new.conn) (subst IsFree (sym empty) nothing_is_free) in
     let alone = c.schema-plan.ensures.value ∙ made_alone _ _ empty beside.schema in
     let own = sym c.schema-schema.ensures.value in
-    let plan_is = stand_iff c.schema-schema.result.now c.as_slice-2.result.now (c.as_slice-2.ensures ∙ ap (λ (s : Schema). s.tables) alone) in
-    let free_is = free_iff c.schema-schema.result.now c.schema-plan.result.now alone in (
+    let plan_is = stand_iff c.schema-schema.result.now c.as_slice-2.result.now (c.as_slice-2.ensures ∙ ap (λ (s : Schema). s.tables) alone) in (
       λ plan. true≢false (sym (c.stand_among.ensures.1 (subst (λ tables. StandAmong tables c.as_slice-2.result.now)
           (sym c.as_slice.ensures) (plan_is.1 (subst HasTables own plan)))) ∙ c.if-stand_among.false),
-      λ room. true≢false (sym (c.can_make.ensures.1 (free_is.1 (subst IsFree own room))) ∙ c.if-can_make.false),
+      λ room. true≢false (sym (c.can_make.ensures.1 (subst (CanMake c.schema-schema.result.now) (sym alone)
+          (subst IsFree own room))) ∙ c.if-can_make.false),
     )

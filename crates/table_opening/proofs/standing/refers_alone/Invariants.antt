@@ -1,5 +1,5 @@
 use Rattle.std.proofs.Common.{◌≡◌, ◌⊎◌}
-use Rattle.table_opening.specs.Standing.{AreAside}
+use Rattle.table_schema.specs.Free.{AreAside}
 use Rattle.sqlite_schema.specs.declared.schema.Table.{Table}
 use Rattle.std.specs.List.{AllWithin}
 use Rattle.table_opening.proofs.standing.refers_alone.Given as goal

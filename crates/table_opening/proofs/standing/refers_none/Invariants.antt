@@ -1,4 +1,4 @@
-use Rattle.table_opening.specs.Standing.{AreAside}
+use Rattle.table_schema.specs.Free.{AreAside}
 use Rattle.std.specs.List.{AllWithin}
 use Rattle.table_opening.proofs.standing.refers_none.Given as goal
 

@@ -1,4 +1,4 @@
-use Rattle.table_opening.specs.Places.{table_of}
+use Rattle.table_schema.specs.Schema.{table_of}
 use Rattle.table_opening.proofs.whole.RowidPartPart.read.Goals as goal
 
 pub returns-in-Ok-None-clause-refused : goal.returns-in-Ok-None-clause-refused
