@@ -10,6 +10,7 @@ use Rattle.occurrences.specs.declared.place.Place.TheVariants.{History}
 use Rattle.occurrences.specs.declared.place.Reason.TheVariants.{Operator}
 use Rattle.occurrences.specs.declared.row.Row.{Row}
 use Rattle.external_dependencies.specs.declared.pairs.Pair.{Pair}
+use Rattle.planner_machine.specs.declared.job.Job.{Job}
 use Rattle.planner_machine.specs.Content.{Content, Seat as Places}
 use Rattle.planner_machine.specs.DailyPlan.{arrives_before, moved}
 use Rattle.planner_machine.specs.Moves.{keep}
@@ -243,9 +244,10 @@ bars_late moment deletion reason late =
     let by : is_by_operator deletion.reason ≡ true = subst (λ r. is_by_operator r ≡ true) (sym reason) refl in
     rw (after, by) refl
 
--- what a window shows that hides history, deletions and pairs, with them, is the content
-pub seen_is : {history : ℕ → Option Row} {deletions : ℕ → Option Deletion} {pairs : List Pair} (view : View)
-    (c : Content) → shown view ≡ with_these (record { history = history; deletions = deletions; pairs = pairs }) c
+-- what a window shows that hides history, deletions, pairs and jobs, with them, is the content
+pub seen_is : {history : ℕ → Option Row} {deletions : ℕ → Option Deletion} {pairs : List Pair} {jobs : ℕ → Option Job}
+    (view : View) (c : Content)
+    → shown view ≡ with_these (record { history = history; deletions = deletions; pairs = pairs; jobs = jobs }) c
     → with_hidden (hidden_of c) view ≡ c
 seen_is view c is = ap (with_these (hidden_of c)) is
 

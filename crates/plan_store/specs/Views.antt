@@ -73,7 +73,7 @@ abbrev pub asked_pairs : Option Key → (ltp : ℕ → Option Row) → (cp : ℕ
     → List Pair → List Pair
 asked_pairs key ltp cp history pairs = filter (λ (pair : Pair). asks_pairs key ltp cp history pair.successor) pairs
 
--- what the window shows, as a content; of the jobs none of its calls tells anything
+-- what the window shows, as a content; no job
 abbrev pub shown : View → Content
 shown view = record {
   definitions = view.content.now.definitions;
@@ -88,10 +88,10 @@ shown view = record {
   in_force = view.content.now.in_force;
   pairs = asked_pairs view.key.now (look_up row_serial view.ltp.now) (look_up current_serial view.cp.now)
       (look_up row_serial view.history.now) view.pairs.now;
-  jobs = look_up (λ (job : Job). job.number) view.content.now.jobs.items;
+  jobs = λ _. None;
 }
 
--- the content with these rows in the two plans, nothing in history or in the deletions, and no pair
+-- the content with these rows in the two plans, nothing in history or in the deletions, no pair and no job
 abbrev pub with_plans_alone : (ℕ → Option Row) → (ℕ → Option CurrentRow) → Content → Content
 with_plans_alone ltp cp c = record {
   definitions = c.definitions;
@@ -105,14 +105,15 @@ with_plans_alone ltp cp c = record {
   };
   in_force = c.in_force;
   pairs = [];
-  jobs = c.jobs;
+  jobs = λ _. None;
 }
 
--- what a window hides that shows the plans: it shows of history, of the deletions and of the pairs a part
+-- what a window hides that shows the plans: it shows of history, of the deletions and of the pairs a part, and no job
 pub record Hidden : Type 0 where
   pub history : ℕ → Option Row
   pub deletions : ℕ → Option Deletion
   pub pairs : List Pair
+  pub jobs : ℕ → Option Job
 
 -- the content with these in place of its own
 abbrev pub with_these : Hidden → Content → Content
@@ -128,19 +129,21 @@ with_these these c = record {
   };
   in_force = c.in_force;
   pairs = these.pairs;
-  jobs = c.jobs;
+  jobs = these.jobs;
 }
 
 -- those of the content
 abbrev pub hidden_of : Content → Hidden
-hidden_of c = record { history = c.sets.history; deletions = c.sets.deletions; pairs = c.pairs }
+hidden_of c =
+    record { history = c.sets.history; deletions = c.sets.deletions; pairs = c.pairs; jobs = c.jobs }
 
--- the content with these rows in history, these deletions, and of the pairs those that are asked for
+-- the content with these rows in history, these deletions, of the pairs those that are asked for, and no job
 abbrev pub with_part : Option Key → (ℕ → Option Row) → (ℕ → Option Deletion) → Content → Content
 with_part key history deletions c = with_these (record {
   history = history;
   deletions = deletions;
   pairs = asked_pairs key c.sets.ltp c.sets.cp c.sets.history c.pairs;
+  jobs = λ _. None;
 }) c
 
 abbrev pub is_by_operator : Reason → Bool
