@@ -1,0 +1,104 @@
+-- When a content admits a change.
+use Rattle.std.proofs.Common.{◌≡◌, ◌≢◌, ◌↔◌, ℕ, ◌+◌, ◌-◌, ◌<◌, Bool, true, false, List, [], ◌∷◌, ◌++◌, length, get_or, take}
+use Rattle.std.proofs.Common.{map, refl, sym, ap, subst, ◌∙◌, arith, Option, Some, None, append_assoc, IsTrue, nat_eq, not}
+use Rattle.std.proofs.Common.{Result, Ok, Err, IfOk, MatchOption}
+use Rattle.std.specs.Iterator.{DrainsIf, Yields}
+use Rattle.std.specs.Iterator.Runs.{SomeRun, YieldsRun}
+use Rattle.std.specs.List.{AllPairs, Contains, list_any}
+use Rattle.std.proofs.lemmas.Bool.{and_from, and_parts, eq-eqb, ne_eqb, not_from_false, not_from_true}
+use Rattle.std.proofs.lemmas.Iterator.{YieldsList}
+use Rattle.std.proofs.lemmas.Iterator.Consumers.{YieldsList-end, YieldsList-so_far}
+use Rattle.std.proofs.lemmas.List.{append-nil, get_or-map, get_or-take, get_or_append_left, get_or_at, length-append, length-map}
+use Rattle.std.proofs.lemmas.List.{length-take, map-id}
+use Rattle.std.proofs.lemmas.List.Folds.{list_any_at, list_any_none}
+use Rattle.std.proofs.lemmas.List.Quantifiers.{all_pairs_push}
+use Rattle.itertools.specs.Consumer.{all_distinct_from}
+use Rattle.occurrences.specs.declared.row.Row.{Row}
+use Rattle.keyed_lists.specs.Rows.{AreRows, HasEachOnce, look_up}
+use Rattle.keyed_lists.proofs.LookLemmas.{look_at, look_lacks}
+
+-- no number stands at two places
+abbrev Distinct : List ℕ → Type 0
+Distinct ns = AllPairs (λ m n. m ≢ n) ns
+
+no_pairs : Distinct []
+no_pairs i j d below lt = absurd (omega arith)
+
+distinct_from : (before ns : List ℕ) → Distinct before → all_distinct_from nat_eq before ns ≡ true
+    → Distinct (before ++ ns)
+distinct_from before [] apart is = subst Distinct (sym (append-nil before)) apart
+distinct_from before (n ∷ ns) apart is =
+    let parts = and_parts (not (list_any (λ m. nat_eq m n) before)) (all_distinct_from nat_eq (before ++ n ∷ []) ns) is
+    in
+    let pushed : Distinct (before ++ n ∷ []) = all_pairs_push (λ a b. a ≢ b) before n apart (λ k d lt same.
+        let among = list_any_at (λ m. nat_eq m n) before k d lt (eq-eqb (get_or before k d) n same) in
+        let shut = not_from_true (list_any (λ m. nat_eq m n) before) among in
+        cc) in
+    subst Distinct (append_assoc before (n ∷ []) ns) (distinct_from (before ++ n ∷ []) ns pushed parts.1)
+
+from_distinct : (before ns : List ℕ) → Distinct (before ++ ns) → all_distinct_from nat_eq before ns ≡ true
+from_distinct before [] apart = refl
+from_distinct before (n ∷ ns) apart =
+    let none : list_any (λ m. nat_eq m n) before ≡ false = list_any_none (λ m. nat_eq m n) before (λ k d lt.
+        ne_eqb (get_or before k d) n (λ same. apart k (length before) d lt (omega (arith, length-append before (n ∷ ns)))
+        (get_or_append_left before (n ∷ ns) d k lt ∙ same ∙ sym (get_or_at before n ns d (length before) refl)))) in
+    and_from (not (list_any (λ m. nat_eq m n) before)) (all_distinct_from nat_eq (before ++ n ∷ []) ns)
+    (not_from_false (list_any (λ m. nat_eq m n) before) none)
+    (from_distinct (before ++ n ∷ []) ns (subst Distinct (sym (append_assoc before (n ∷ []) ns)) apart))
+
+front_distinct : (n : ℕ) (ns : List ℕ) → Distinct ns → Distinct (take n ns)
+front_distinct n ns apart i j d below lt same =
+    apart i j d below (omega (arith, length-take n ns))
+    (sym (get_or-take n ns i d (omega (arith, length-take n ns))) ∙ same ∙ get_or-take n ns j d (omega (arith, length-take n ns)))
+
+-- what the run of an iterator tells of all that it gives
+distinct_run : {S : Type 0} {steps : S → Option ℕ → S → Type 0} {s : S} {all : List ℕ} (once : Bool)
+    → YieldsList steps (λ n. n) s all
+    → SomeRun steps s (λ p. (once ≡ all_distinct_from nat_eq [] p.items) × (IsTrue once → IsTrue p.whole))
+    → IsTrue once ↔ Distinct all
+unfolding YieldsRun
+distinct_run {S} {steps} {s} {all} once road (p, starts, (is, whole)) =
+    let (t, gave, ends) : DrainsIf steps (p.whole ≡ true) s p.items = subst (λ z. DrainsIf steps (p.whole ≡ true) z p.items)
+        starts p.gave.0 in
+    (
+        λ yes.
+            let (u, step) = ends (whole yes) in
+            let items : p.items ≡ all = sym (map-id p.items) ∙ (YieldsList-end road p.items t gave None u refl step).0 in
+            subst Distinct items (distinct_from [] p.items no_pairs (sym is ∙ yes)),
+        λ apart.
+            let items : p.items ≡ take (length p.items) all = sym (map-id p.items) ∙ YieldsList-so_far road p.items t gave in
+            is ∙ from_distinct [] p.items (subst Distinct (sym items) (front_distinct (length p.items) all apart)),
+    )
+
+module _ {X : Type 0} (row_of : X → Row) where
+  abbrev pub serial_of : X → ℕ
+  serial_of x = (row_of x).serial
+
+  each_once : (xs : List X) → Distinct (map serial_of xs) → HasEachOnce row_of xs
+  each_once xs apart i j d below lt same =
+      apart i j (serial_of d) below (omega (arith, length-map xs serial_of))
+      (get_or-map serial_of xs i d (serial_of d) (omega arith) ∙ same ∙ sym
+      (get_or-map serial_of xs j d (serial_of d) lt))
+
+  apart_each : (xs : List X) → HasEachOnce row_of xs → Distinct (map serial_of xs)
+  apart_each [] once i j d below lt same = absurd (omega arith)
+  apart_each (x ∷ xs) once i j d below lt same =
+      let inside : j < length (x ∷ xs) = omega (arith, length-map (x ∷ xs) serial_of) in
+      once i j x below inside
+      (sym (get_or-map serial_of (x ∷ xs) i x d (omega arith)) ∙ same ∙ get_or-map serial_of (x ∷ xs) j x d inside)
+
+  -- what is answered of all serials
+  pub all_once : {S E : Type 0} {steps : S → Option ℕ → S → Type 0} {s : S} (r : Result Bool E) (xs : List X)
+      → IfOk r (λ once. SomeRun steps s (λ p. (once ≡ all_distinct_from nat_eq [] p.items)
+      × (IsTrue once → IsTrue p.whole))) → YieldsList steps (λ n. n) s (map serial_of xs)
+      → IfOk r (λ once. IsTrue once ↔ HasEachOnce row_of xs)
+  all_once (Ok once) xs run road =
+      let is = distinct_run once road run in (λ yes. each_once xs (is.0 yes), λ all. is.1 (apart_each xs all))
+  all_once (Err _) xs run road = tt
+
+  -- the row of a serial
+  pub found_is : (xs : List X) (serial : ℕ) (o : Option X) → AreRows row_of xs
+      → MatchOption o ((x : X) → Contains xs x → serial_of x ≢ serial)
+      (λ x. Contains xs x × (serial_of x ≡ serial)) → o ≡ look_up serial_of xs serial
+  found_is xs serial None rows lacks = sym (look_lacks serial_of xs serial lacks)
+  found_is xs serial (Some x) rows (there, same) = sym (look_at serial_of xs rows.one_each x serial there same)
