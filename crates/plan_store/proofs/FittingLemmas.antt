@@ -1,21 +1,24 @@
 -- When a content admits a change.
 use Rattle.std.proofs.Common.{◌≡◌, ◌≢◌, ◌↔◌, ℕ, ◌+◌, ◌-◌, ◌<◌, Bool, true, false, List, [], ◌∷◌, ◌++◌, length, get_or, take}
 use Rattle.std.proofs.Common.{map, refl, sym, ap, subst, ◌∙◌, arith, Option, Some, None, append_assoc, IsTrue, nat_eq, not}
-use Rattle.std.proofs.Common.{Result, Ok, Err, IfOk, MatchOption}
+use Rattle.std.proofs.Common.{Result, Ok, Err, IfOk, MatchOption, is_some}
 use Rattle.std.specs.Iterator.{DrainsIf, Yields}
 use Rattle.std.specs.Iterator.Runs.{SomeRun, YieldsRun}
-use Rattle.std.specs.List.{AllPairs, Contains, list_any}
+use Rattle.std.specs.Bool.{MatchBool}
+use Rattle.std.specs.List.{AllPairs, AllWithin, Contains, HoldsAt, list_any}
 use Rattle.std.proofs.lemmas.Bool.{and_from, and_parts, eq-eqb, ne_eqb, not_from_false, not_from_true}
 use Rattle.std.proofs.lemmas.Iterator.{YieldsList}
 use Rattle.std.proofs.lemmas.Iterator.Consumers.{YieldsList-end, YieldsList-so_far}
 use Rattle.std.proofs.lemmas.List.{append-nil, get_or-map, get_or-take, get_or_append_left, get_or_at, length-append, length-map}
 use Rattle.std.proofs.lemmas.List.{length-take, map-id}
+use Rattle.std.proofs.lemmas.List.Elements.{Contains-get_or}
 use Rattle.std.proofs.lemmas.List.Folds.{list_any_at, list_any_none}
 use Rattle.std.proofs.lemmas.List.Quantifiers.{all_pairs_push}
 use Rattle.itertools.specs.Consumer.{all_distinct_from}
 use Rattle.occurrences.specs.declared.row.Row.{Row}
+use Rattle.external_dependencies.specs.Nearest.{arrival_of}
 use Rattle.keyed_lists.specs.Rows.{AreRows, HasEachOnce, look_up}
-use Rattle.keyed_lists.proofs.LookLemmas.{look_at, look_lacks}
+use Rattle.keyed_lists.proofs.LookLemmas.{look_at, look_lacks, look_some}
 
 -- no number stands at two places
 abbrev Distinct : List ℕ → Type 0
@@ -70,6 +73,38 @@ distinct_run {S} {steps} {s} {all} once road (p, starts, (is, whole)) =
             is ∙ from_distinct [] p.items (subst Distinct (sym items) (front_distinct (length p.items) all apart)),
     )
 
+module _ {X : Type 0} where
+  some_one : (x y : X) → Some x ≡ Some y → x ≡ y
+  some_one x y is = cc
+
+  -- the row stands in the list
+  pub stands_is : (l : Option X) (was x : X) (r : Bool) → Some was ≡ l → (IsTrue r ↔ (was ≡ x))
+      → IsTrue r ↔ (l ≡ Some x)
+  stands_is l was x r at is = (λ yes. sym at ∙ ap Some (is.0 yes), λ there. is.1 (some_one was x (at ∙ there)))
+
+  pub stands_not : (l : Option X) (x : X) → None ≡ l → IsTrue false ↔ (l ≡ Some x)
+  stands_not l x at = (λ no. cc, λ there. cc)
+
+  pub stands_as_not : {P : X → Type 0} (l : Option X) → None ≡ l → IsTrue false ↔ ((y : X) × (l ≡ Some y) × P y)
+  stands_as_not l at = (λ no. cc, λ (y, there, _). cc)
+
+  pub new_is : (o l : Option X) (r : Bool) → o ≡ l → is_some o ≡ not r → IsTrue r ↔ (l ≡ None)
+  new_is None l true at is = (λ _. sym at, λ _. refl)
+  new_is None l false at is = cc
+  new_is (Some x) l true at is = cc
+  new_is (Some x) l false at is = (λ no. cc, λ none. cc)
+
+module _ {X : Type 0} (P : X → Type 0) where
+  -- a test of each in turn
+  pub each_is : (xs : List X) (r : Bool) → MatchBool r (AllWithin P xs 0 (length xs))
+      ((k : ℕ) × (k < length xs) × HoldsAt (λ x. P x → ⊥) xs k) → IsTrue r ↔ ((x : X) → Contains xs x → P x)
+  each_is xs true each = (λ _ x (k, lt, at). subst P at (each k x (omega arith) lt), λ _. refl)
+  each_is [] false (k, lt, fails) = absurd (omega arith)
+  each_is (y ∷ ys) false (k, lt, fails) = (
+    λ no. cc,
+    λ each. absurd (fails y (each (get_or (y ∷ ys) k y) (Contains-get_or (y ∷ ys) k y lt))),
+  )
+
 module _ {X : Type 0} (row_of : X → Row) where
   abbrev pub serial_of : X → ℕ
   serial_of x = (row_of x).serial
@@ -102,3 +137,17 @@ module _ {X : Type 0} (row_of : X → Row) where
       (λ x. Contains xs x × (serial_of x ≡ serial)) → o ≡ look_up serial_of xs serial
   found_is xs serial None rows lacks = sym (look_lacks serial_of xs serial lacks)
   found_is xs serial (Some x) rows (there, same) = sym (look_at serial_of xs rows.one_each x serial there same)
+
+  -- a row of its serial stands in the list under its key
+  pub stands_as_is : (xs : List X) (was x : X) (r : Bool) → Some was ≡ look_up serial_of xs (serial_of x)
+      → (IsTrue r ↔ ((row_of was).key ≡ (row_of x).key)) → IsTrue r ↔ ((y : X)
+      × (look_up serial_of xs (serial_of x) ≡ Some y) × (arrival_of (row_of y) ≡ arrival_of (row_of x)))
+  stands_as_is xs was x r at is = (
+    λ yes.
+        let key : (row_of was).key ≡ (row_of x).key = is.0 yes in
+        let serial : serial_of was ≡ serial_of x = (look_some serial_of xs (serial_of x) was (sym at)).1 in
+        (was, sym at, λ i. record { app = (key i).app; ia = (key i).ia; serial = serial i }),
+    λ (y, there, same).
+        let one : y ≡ was = some_one y was (sym there ∙ sym at) in
+        is.1 (subst (λ z. (row_of z).key ≡ (row_of x).key) one (λ i. record { ia = (same i).ia; app = (same i).app })),
+  )

@@ -1,6 +1,6 @@
 // Whether a content admits a change.
 
-ghost use Rattle.std.specs.Prelude.{◌≡◌, ◌↔◌, Some, None, IfOk, IsTrue, ◌++◌};
+ghost use Rattle.std.specs.Prelude.{◌≡◌, ◌↔◌, ◌++◌, Contains, Some, None, IfOk, IsTrue};
 ghost use Rattle.keyed_lists.specs.Rows.{AreRows, HasEachOnce, look_up};
 ghost use Rattle.keyed_lists.specs.Seats.{AreSeats, HasSeats};
 ghost use Rattle.external_dependencies.specs.Nearest.{arrival_of};
@@ -13,7 +13,7 @@ use crate::jobs::find_job;
 use crate::slices::of_serial;
 use itertools::Itertools;
 use keyed_lists::{PlanRow, Seat};
-use occurrences::{CurrentRow, Deletion, Row, Serial};
+use occurrences::{CurrentRow, Deletion, Row};
 use std::alloc::{AllocError, Global};
 
 // A row that is compared whole.
@@ -41,14 +41,14 @@ impl Whole for Deletion {
     }
 }
 
-// The row of a serial, as a look-up.
-fn look_up<T: PlanRow>(list: &[T], seats: &[Seat], serial: Serial) -> Option<T>
+// The row of its serial in the list.
+fn of_same_serial<T: PlanRow>(list: &[T], seats: &[Seat], x: &T) -> Option<T>
     requires rows { AreRows T.row_of list.now }
     requires order { AreSeats seats.now }
     requires seated { HasSeats T.row_of list.now seats.now }
-    ensures { result ≡ look_up (λ x. (T.row_of x).serial) list.now serial }
+    ensures { result ≡ look_up (λ y. (T.row_of y).serial) list.now (T.row_of x.now).serial }
 {
-    of_serial(list, seats, serial)
+    of_serial(list, seats, x.row().serial)
 }
 
 // Whether the row stands in the list.
@@ -59,10 +59,17 @@ fn stands<T: Whole>(list: &[T], seats: &[Seat], x: &T) -> bool
     ensures { IsTrue result
         ↔ (look_up (λ y. (T.row_of y).serial) list.now (T.row_of x.now).serial ≡ Some x.now) }
 {
-    match look_up(list, seats, x.row().serial) {
+    match of_same_serial(list, seats, x) {
         Some(was) => was.is(x),
         None => false,
     }
+}
+
+// Whether two occurrences have one key.
+fn same_key(row: &Row, other: &Row) -> bool
+    ensures { IsTrue result ↔ (row.now.key ≡ other.now.key) }
+{
+    row.key == other.key
 }
 
 // Whether a row of its serial stands in the list under its key.
@@ -74,8 +81,8 @@ fn stands_as<T: PlanRow>(list: &[T], seats: &[Seat], x: &T) -> bool
         × (look_up (λ y. (T.row_of y).serial) list.now (T.row_of x.now).serial ≡ Some was)
         × (arrival_of (T.row_of was) ≡ arrival_of (T.row_of x.now))) }
 {
-    match look_up(list, seats, x.row().serial) {
-        Some(was) => was.row().key == x.row().key,
+    match of_same_serial(list, seats, x) {
+        Some(was) => same_key(&was.row(), &x.row()),
         None => false,
     }
 }
@@ -88,7 +95,7 @@ fn is_new<T: PlanRow>(list: &[T], seats: &[Seat], x: &T) -> bool
     ensures { IsTrue result
         ↔ (look_up (λ y. (T.row_of y).serial) list.now (T.row_of x.now).serial ≡ None) }
 {
-    look_up(list, seats, x.row().serial).is_none()
+    of_same_serial(list, seats, x).is_none()
 }
 
 // Whether no serial stands at two places of these.
@@ -111,6 +118,40 @@ fn names_each_once<T: PlanRow>(alloc: Global, moves: &Moves<T>) -> Result<bool, 
         && have_each_once(alloc, &moves.put, &[])?)
 }
 
+// Whether each of these stands in the list.
+fn all_stand<T: Whole>(list: &[T], seats: &[Seat], rows: &[T]) -> bool
+    requires rows { AreRows T.row_of list.now }
+    requires order { AreSeats seats.now }
+    requires seated { HasSeats T.row_of list.now seats.now }
+    ensures { IsTrue result ↔ ((x : T) → Contains rows.now x
+        → look_up (λ y. (T.row_of y).serial) list.now (T.row_of x).serial ≡ Some x) }
+{
+    rows.iter().all(|x| stands(list, seats, x))
+}
+
+// Whether a row of its serial stands in the list under its key, for each of these.
+fn all_stand_as<T: PlanRow>(list: &[T], seats: &[Seat], rows: &[T]) -> bool
+    requires rows { AreRows T.row_of list.now }
+    requires order { AreSeats seats.now }
+    requires seated { HasSeats T.row_of list.now seats.now }
+    ensures { IsTrue result ↔ ((x : T) → Contains rows.now x → (was : T)
+        × (look_up (λ y. (T.row_of y).serial) list.now (T.row_of x).serial ≡ Some was)
+        × (arrival_of (T.row_of was) ≡ arrival_of (T.row_of x))) }
+{
+    rows.iter().all(|x| stands_as(list, seats, x))
+}
+
+// Whether no row of its serial stands in the list, for each of these.
+fn all_new<T: PlanRow>(list: &[T], seats: &[Seat], rows: &[T]) -> bool
+    requires rows { AreRows T.row_of list.now }
+    requires order { AreSeats seats.now }
+    requires seated { HasSeats T.row_of list.now seats.now }
+    ensures { IsTrue result ↔ ((x : T) → Contains rows.now x
+        → look_up (λ y. (T.row_of y).serial) list.now (T.row_of x).serial ≡ None) }
+{
+    rows.iter().all(|x| is_new(list, seats, x))
+}
+
 // Whether what moves fits the set.
 fn fits_set<T: Whole>(
     alloc: Global,
@@ -124,10 +165,16 @@ fn fits_set<T: Whole>(
     ensures { IfOk result (λ fits. IsTrue fits
         ↔ FitsSet T.row_of moves.now (look_up (λ x. (T.row_of x).serial) list.now)) }
 {
-    let stand = moves.gone.iter().all(|x| stands(list, seats, x))
-        && moves.changed.iter().all(|x| stands_as(list, seats, x))
-        && moves.put.iter().all(|x| is_new(list, seats, x));
-    Ok(stand && names_each_once(alloc, moves)?)
+    if !all_stand(list, seats, &moves.gone) {
+        return Ok(false);
+    }
+    if !all_stand_as(list, seats, &moves.changed) {
+        return Ok(false);
+    }
+    if !all_new(list, seats, &moves.put) {
+        return Ok(false);
+    }
+    names_each_once(alloc, moves)
 }
 
 impl Content {
