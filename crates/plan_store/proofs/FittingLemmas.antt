@@ -1,16 +1,16 @@
 -- When a content admits a change.
 use Rattle.std.proofs.Common.{◌≡◌, ◌≢◌, ◌↔◌, ℕ, ◌+◌, ◌-◌, ◌<◌, Bool, true, false, List, [], ◌∷◌, ◌++◌, length, get_or, take}
-use Rattle.std.proofs.Common.{map, refl, sym, ap, subst, ◌∙◌, arith, Option, Some, None, append_assoc, IsTrue, nat_eq, not}
+use Rattle.std.proofs.Common.{map, inl, inr, refl, sym, ap, subst, ◌∙◌, arith, Option, Some, None, append_assoc, IsTrue, nat_eq, not}
 use Rattle.std.proofs.Common.{Result, Ok, Err, IfOk, MatchOption, is_some}
 use Rattle.std.specs.Iterator.{DrainsIf, Yields}
 use Rattle.std.specs.Iterator.Runs.{SomeRun, YieldsRun}
 use Rattle.std.specs.Bool.{MatchBool}
 use Rattle.std.specs.List.{AllPairs, AllWithin, Contains, HoldsAt, list_any}
-use Rattle.std.proofs.lemmas.Bool.{and_from, and_parts, eq-eqb, ne_eqb, not_from_false, not_from_true}
+use Rattle.std.proofs.lemmas.Bool.{and_from, and_parts, cases_lt, eq-eqb, ne_eqb, not_from_false, not_from_true}
 use Rattle.std.proofs.lemmas.Iterator.{YieldsList}
 use Rattle.std.proofs.lemmas.Iterator.Consumers.{YieldsList-end, YieldsList-so_far}
-use Rattle.std.proofs.lemmas.List.{append-nil, get_or-map, get_or-take, get_or_append_left, get_or_at, length-append, length-map}
-use Rattle.std.proofs.lemmas.List.{length-take, map-id}
+use Rattle.std.proofs.lemmas.List.{append-nil, get_or-map, get_or-append-add, get_or-append_right, get_or-take, get_or_append_left, get_or_at, length-append, length-map}
+use Rattle.std.proofs.lemmas.List.{get_or_default, length-take, map-id}
 use Rattle.std.proofs.lemmas.List.Elements.{Contains-get_or}
 use Rattle.std.proofs.lemmas.List.Folds.{list_any_at, list_any_none}
 use Rattle.std.proofs.lemmas.List.Quantifiers.{all_pairs_push}
@@ -18,7 +18,9 @@ use Rattle.itertools.specs.Consumer.{all_distinct_from}
 use Rattle.occurrences.specs.declared.row.Row.{Row}
 use Rattle.external_dependencies.specs.Nearest.{arrival_of}
 use Rattle.keyed_lists.specs.Rows.{AreRows, HasEachOnce, look_up}
-use Rattle.keyed_lists.proofs.LookLemmas.{look_at, look_lacks, look_some}
+use Rattle.plan_store.specs.Changes.{FitsSet}
+use Rattle.plan_store.specs.declared.changes.Moves.{Moves}
+use Rattle.keyed_lists.proofs.LookLemmas.{look_at, look_lacks, look_none, look_some}
 
 -- no number stands at two places
 abbrev Distinct : List ℕ → Type 0
@@ -94,6 +96,10 @@ module _ {X : Type 0} where
   new_is (Some x) l true at is = cc
   new_is (Some x) l false at is = (λ no. cc, λ none. cc)
 
+-- a test that fails
+pub refused : {P Q : Type 0} (r : Bool) → (IsTrue r ↔ P) → r ≡ false → (Q → P) → IsTrue false ↔ Q
+refused r is fails from = (λ no. cc, λ q. let yes = is.1 (from q) in cc)
+
 module _ {X : Type 0} (P : X → Type 0) where
   -- a test of each in turn
   pub each_is : (xs : List X) (r : Bool) → MatchBool r (AllWithin P xs 0 (length xs))
@@ -151,3 +157,68 @@ module _ {X : Type 0} (row_of : X → Row) where
         let one : y ≡ was = some_one y was (sym there ∙ sym at) in
         is.1 (subst (λ z. (row_of z).key ≡ (row_of x).key) one (λ i. record { ia = (same i).ia; app = (same i).app })),
   )
+
+  -- no serial stands twice in two lists, one behind the other
+  split_once : (xs ys : List X) → HasEachOnce row_of (xs ++ ys) → HasEachOnce row_of xs × HasEachOnce row_of ys
+      × ((y : X) → Contains ys y → (x : X) → Contains xs x → serial_of x ≢ serial_of y)
+  split_once xs ys once = (
+    λ i j d below lt same. once i j d below (omega (arith, length-append xs ys))
+        (ap serial_of (get_or_append_left xs ys d i (omega arith)) ∙ same
+        ∙ ap serial_of (sym (get_or_append_left xs ys d j lt))),
+    λ i j d below lt same. once (length xs + i) (length xs + j) d (omega arith) (omega (arith, length-append xs ys))
+        (ap serial_of (get_or-append-add xs ys i d) ∙ same ∙ ap serial_of (sym (get_or-append-add xs ys j d))),
+    λ y (j, lt_j, at_j) x (i, lt_i, at_i) same.
+        once i (length xs + j) y (omega arith) (omega (arith, length-append xs ys))
+        (ap serial_of (get_or_append_left xs ys y i lt_i ∙ get_or_default xs i y x lt_i ∙ at_i) ∙ same
+        ∙ ap serial_of (sym (get_or-append-add xs ys j y ∙ at_j))),
+  )
+
+  join_once : (xs ys : List X) → HasEachOnce row_of xs → HasEachOnce row_of ys
+      → ((y : X) → Contains ys y → (x : X) → Contains xs x → serial_of x ≢ serial_of y)
+      → HasEachOnce row_of (xs ++ ys)
+  join_once xs ys first second apart i j d below lt same = elim (cases_lt j (length xs)) as (λ _. ⊥) [
+    | inl front ↦ first i j d below front
+        (ap serial_of (sym (get_or_append_left xs ys d i (omega arith))) ∙ same
+        ∙ ap serial_of (get_or_append_left xs ys d j front))
+    | inr behind ↦
+        let at_j : get_or (xs ++ ys) j d ≡ get_or ys (j - length xs) d = get_or-append_right xs ys (length xs) j d refl
+        behind in
+        let lt_j : j - length xs < length ys = omega (arith, length-append xs ys) in
+        elim (cases_lt i (length xs)) as (λ _. ⊥) [
+          | inl front ↦ apart (get_or ys (j - length xs) d) (Contains-get_or ys (j - length xs) d lt_j) (get_or xs i d)
+              (Contains-get_or xs i d front)
+              (ap serial_of (sym (get_or_append_left xs ys d i front)) ∙ same ∙ ap serial_of at_j)
+          | inr later ↦ second (i - length xs) (j - length xs) d (omega arith) lt_j
+              (ap serial_of (sym (get_or-append_right xs ys (length xs) i d refl later)) ∙ same ∙ ap serial_of at_j)
+        ]
+  ]
+
+  -- what is tested is what fits
+  module _ (moves : Moves X) (set : ℕ → Option X) where
+    pub fits_tested : (goes : (x : X) → Contains moves.gone.items x → set (serial_of x) ≡ Some x)
+        → (changes : (x : X) → Contains moves.changed.items x → (was : X) × (set (serial_of x) ≡ Some was)
+        × (arrival_of (row_of was) ≡ arrival_of (row_of x)))
+        → (new : (x : X) → Contains moves.put.items x → set (serial_of x) ≡ None) → {E : Type 0}
+        → (r : Result Bool E) → IfOk r (λ once. IsTrue once
+        ↔ (HasEachOnce row_of (moves.gone.items ++ moves.changed.items) × HasEachOnce row_of moves.put.items))
+        → IfOk r (λ fits. IsTrue fits ↔ FitsSet row_of moves set)
+    fits_tested goes changes new (Err _) is = tt
+    fits_tested goes changes new (Ok once) is = (
+      λ yes.
+          let (named, put) = is.0 yes in
+          let (gone, changed, apart) = split_once moves.gone.items moves.changed.items named in
+          record {
+            gone_once = gone;
+            changed_once = changed;
+            put_once = put;
+            goes = goes;
+            changes = changes;
+            stays = λ x there. look_lacks serial_of moves.gone.items (serial_of x) (apart x there);
+            new = new;
+          },
+      λ fits. is.1 (
+        join_once moves.gone.items moves.changed.items fits.gone_once fits.changed_once
+            (λ y there. look_none serial_of moves.gone.items (serial_of y) (fits.stays y there)),
+        fits.put_once,
+      ),
+    )

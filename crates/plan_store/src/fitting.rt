@@ -118,38 +118,38 @@ fn names_each_once<T: PlanRow>(alloc: Global, moves: &Moves<T>) -> Result<bool, 
         && have_each_once(alloc, &moves.put, &[])?)
 }
 
-// Whether each of these stands in the list.
-fn all_stand<T: Whole>(list: &[T], seats: &[Seat], rows: &[T]) -> bool
+// Whether what goes stands in the list.
+fn gone_stand<T: Whole>(list: &[T], seats: &[Seat], moves: &Moves<T>) -> bool
     requires rows { AreRows T.row_of list.now }
     requires order { AreSeats seats.now }
     requires seated { HasSeats T.row_of list.now seats.now }
-    ensures { IsTrue result ↔ ((x : T) → Contains rows.now x
+    ensures { IsTrue result ↔ ((x : T) → Contains moves.now.gone.items x
         → look_up (λ y. (T.row_of y).serial) list.now (T.row_of x).serial ≡ Some x) }
 {
-    rows.iter().all(|x| stands(list, seats, x))
+    moves.gone.iter().all(|x| stands(list, seats, x))
 }
 
-// Whether a row of its serial stands in the list under its key, for each of these.
-fn all_stand_as<T: PlanRow>(list: &[T], seats: &[Seat], rows: &[T]) -> bool
+// Whether what changes stands in the list under its key.
+fn changed_stand<T: PlanRow>(list: &[T], seats: &[Seat], moves: &Moves<T>) -> bool
     requires rows { AreRows T.row_of list.now }
     requires order { AreSeats seats.now }
     requires seated { HasSeats T.row_of list.now seats.now }
-    ensures { IsTrue result ↔ ((x : T) → Contains rows.now x → (was : T)
+    ensures { IsTrue result ↔ ((x : T) → Contains moves.now.changed.items x → (was : T)
         × (look_up (λ y. (T.row_of y).serial) list.now (T.row_of x).serial ≡ Some was)
         × (arrival_of (T.row_of was) ≡ arrival_of (T.row_of x))) }
 {
-    rows.iter().all(|x| stands_as(list, seats, x))
+    moves.changed.iter().all(|x| stands_as(list, seats, x))
 }
 
-// Whether no row of its serial stands in the list, for each of these.
-fn all_new<T: PlanRow>(list: &[T], seats: &[Seat], rows: &[T]) -> bool
+// Whether nothing in the list has a serial of what is put.
+fn put_are_new<T: PlanRow>(list: &[T], seats: &[Seat], moves: &Moves<T>) -> bool
     requires rows { AreRows T.row_of list.now }
     requires order { AreSeats seats.now }
     requires seated { HasSeats T.row_of list.now seats.now }
-    ensures { IsTrue result ↔ ((x : T) → Contains rows.now x
+    ensures { IsTrue result ↔ ((x : T) → Contains moves.now.put.items x
         → look_up (λ y. (T.row_of y).serial) list.now (T.row_of x).serial ≡ None) }
 {
-    rows.iter().all(|x| is_new(list, seats, x))
+    moves.put.iter().all(|x| is_new(list, seats, x))
 }
 
 // Whether what moves fits the set.
@@ -165,13 +165,13 @@ fn fits_set<T: Whole>(
     ensures { IfOk result (λ fits. IsTrue fits
         ↔ FitsSet T.row_of moves.now (look_up (λ x. (T.row_of x).serial) list.now)) }
 {
-    if !all_stand(list, seats, &moves.gone) {
+    if !gone_stand(list, seats, moves) {
         return Ok(false);
     }
-    if !all_stand_as(list, seats, &moves.changed) {
+    if !changed_stand(list, seats, moves) {
         return Ok(false);
     }
-    if !all_new(list, seats, &moves.put) {
+    if !put_are_new(list, seats, moves) {
         return Ok(false);
     }
     names_each_once(alloc, moves)
@@ -187,9 +187,15 @@ impl Content {
                 return Ok(false);
             }
         }
-        Ok(fits_set(alloc, &self.ltp, &self.seats, &change.ltp)?
-            && fits_set(alloc, &self.cp, &self.seats, &change.cp)?
-            && fits_set(alloc, &self.history, &self.seats, &change.history)?
-            && fits_set(alloc, &self.deletions, &self.seats, &change.deletions)?)
+        if !fits_set(alloc, &self.ltp, &self.seats, &change.ltp)? {
+            return Ok(false);
+        }
+        if !fits_set(alloc, &self.cp, &self.seats, &change.cp)? {
+            return Ok(false);
+        }
+        if !fits_set(alloc, &self.history, &self.seats, &change.history)? {
+            return Ok(false);
+        }
+        fits_set(alloc, &self.deletions, &self.seats, &change.deletions)
     }
 }
