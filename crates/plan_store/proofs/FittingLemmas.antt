@@ -2,7 +2,7 @@
 use Rattle.std.proofs.Common.{◌≡◌, ◌≢◌, ◌↔◌, ℕ, ◌+◌, ◌-◌, ◌<◌, Bool, true, false, List, [], ◌∷◌, ◌++◌, length, get_or, take}
 use Rattle.std.proofs.Common.{map, inl, inr, refl, sym, ap, subst, ◌∙◌, arith, Option, Some, None, append_assoc, IsTrue, nat_eq, not}
 use Rattle.std.proofs.Common.{Result, Ok, Err, IfOk, MatchOption, is_some}
-use Rattle.std.specs.Iterator.{DrainsIf, Yields}
+use Rattle.std.specs.Iterator.{DrainsIf}
 use Rattle.std.specs.Iterator.Runs.{SomeRun, YieldsRun}
 use Rattle.std.specs.Bool.{MatchBool}
 use Rattle.std.specs.List.{AllPairs, AllWithin, Contains, HoldsAt, list_any}
@@ -36,17 +36,17 @@ distinct_from before (n ∷ ns) apart is =
     let parts = and_parts (not (list_any (λ m. nat_eq m n) before)) (all_distinct_from nat_eq (before ++ n ∷ []) ns) is
     in
     let pushed : Distinct (before ++ n ∷ []) = all_pairs_push (λ a b. a ≢ b) before n apart (λ k d lt same.
-        let among = list_any_at (λ m. nat_eq m n) before k d lt (eq-eqb (get_or before k d) n same) in
-        let shut = not_from_true (list_any (λ m. nat_eq m n) before) among in
-        cc) in
+    let among = list_any_at (λ m. nat_eq m n) before k d lt (eq-eqb (get_or before k d) n same) in
+    let shut = not_from_true (list_any (λ m. nat_eq m n) before) among in
+    cc) in
     subst Distinct (append_assoc before (n ∷ []) ns) (distinct_from (before ++ n ∷ []) ns pushed parts.1)
 
 from_distinct : (before ns : List ℕ) → Distinct (before ++ ns) → all_distinct_from nat_eq before ns ≡ true
 from_distinct before [] apart = refl
 from_distinct before (n ∷ ns) apart =
     let none : list_any (λ m. nat_eq m n) before ≡ false = list_any_none (λ m. nat_eq m n) before (λ k d lt.
-        ne_eqb (get_or before k d) n (λ same. apart k (length before) d lt (omega (arith, length-append before (n ∷ ns)))
-        (get_or_append_left before (n ∷ ns) d k lt ∙ same ∙ sym (get_or_at before n ns d (length before) refl)))) in
+    ne_eqb (get_or before k d) n (λ same. apart k (length before) d lt (omega (arith, length-append before (n ∷ ns)))
+    (get_or_append_left before (n ∷ ns) d k lt ∙ same ∙ sym (get_or_at before n ns d (length before) refl)))) in
     and_from (not (list_any (λ m. nat_eq m n) before)) (all_distinct_from nat_eq (before ++ n ∷ []) ns)
     (not_from_false (list_any (λ m. nat_eq m n) before) none)
     (from_distinct (before ++ n ∷ []) ns (subst Distinct (sym (append_assoc before (n ∷ []) ns)) apart))
@@ -64,15 +64,14 @@ distinct_run : {S : Type 0} {steps : S → Option ℕ → S → Type 0} {s : S} 
 unfolding YieldsRun
 distinct_run {S} {steps} {s} {all} once road (p, starts, (is, whole)) =
     let (t, gave, ends) : DrainsIf steps (p.whole ≡ true) s p.items = subst (λ z. DrainsIf steps (p.whole ≡ true) z p.items)
-        starts p.gave.0 in
-    (
-        λ yes.
-            let (u, step) = ends (whole yes) in
-            let items : p.items ≡ all = sym (map-id p.items) ∙ (YieldsList-end road p.items t gave None u refl step).0 in
-            subst Distinct items (distinct_from [] p.items no_pairs (sym is ∙ yes)),
-        λ apart.
-            let items : p.items ≡ take (length p.items) all = sym (map-id p.items) ∙ YieldsList-so_far road p.items t gave in
-            is ∙ from_distinct [] p.items (subst Distinct (sym items) (front_distinct (length p.items) all apart)),
+    starts p.gave.0 in (
+      λ yes.
+          let (u, step) = ends (whole yes) in
+          let items : p.items ≡ all = sym (map-id p.items) ∙ (YieldsList-end road p.items t gave None u refl step).0 in
+          subst Distinct items (distinct_from [] p.items no_pairs (sym is ∙ yes)),
+      λ apart.
+          let items : p.items ≡ take (length p.items) all = sym (map-id p.items) ∙ YieldsList-so_far road p.items t gave in
+          is ∙ from_distinct [] p.items (subst Distinct (sym items) (front_distinct (length p.items) all apart)),
     )
 
 module _ {X : Type 0} where
@@ -99,6 +98,12 @@ module _ {X : Type 0} where
 -- a test that fails
 pub refused : {P Q : Type 0} (r : Bool) → (IsTrue r ↔ P) → r ≡ false → (Q → P) → IsTrue false ↔ Q
 refused r is fails from = (λ no. cc, λ q. let yes = is.1 (from q) in cc)
+
+-- the last of several tests
+pub last_test : {P Q E : Type 0} (r : Result Bool E) → (P → Q) → (Q → P) → IfOk r (λ once. IsTrue once ↔ P)
+    → IfOk r (λ fits. IsTrue fits ↔ Q)
+last_test (Ok once) to from is = (λ yes. to (is.0 yes), λ q. is.1 (from q))
+last_test (Err _) to from is = tt
 
 module _ {X : Type 0} (P : X → Type 0) where
   -- a test of each in turn
@@ -193,17 +198,17 @@ module _ {X : Type 0} (row_of : X → Row) where
         ]
   ]
 
-  -- what is tested is what fits
-  module _ (moves : Moves X) (set : ℕ → Option X) where
-    pub fits_tested : (goes : (x : X) → Contains moves.gone.items x → set (serial_of x) ≡ Some x)
+  module _ (moves : Moves X) where
+    -- what is tested is what fits
+    pub fits_tested : (set : ℕ → Option X) (goes : (x : X) → Contains moves.gone.items x → set (serial_of x) ≡ Some x)
         → (changes : (x : X) → Contains moves.changed.items x → (was : X) × (set (serial_of x) ≡ Some was)
         × (arrival_of (row_of was) ≡ arrival_of (row_of x)))
         → (new : (x : X) → Contains moves.put.items x → set (serial_of x) ≡ None) → {E : Type 0}
         → (r : Result Bool E) → IfOk r (λ once. IsTrue once
         ↔ (HasEachOnce row_of (moves.gone.items ++ moves.changed.items) × HasEachOnce row_of moves.put.items))
         → IfOk r (λ fits. IsTrue fits ↔ FitsSet row_of moves set)
-    fits_tested goes changes new (Err _) is = tt
-    fits_tested goes changes new (Ok once) is = (
+    fits_tested set goes changes new (Err _) is = tt
+    fits_tested set goes changes new (Ok once) is = (
       λ yes.
           let (named, put) = is.0 yes in
           let (gone, changed, apart) = split_once moves.gone.items moves.changed.items named in
@@ -222,3 +227,8 @@ module _ {X : Type 0} (row_of : X → Row) where
         fits.put_once,
       ),
     )
+
+    -- the same, as a list and as its items
+    pub of_items : (xs ys : List X) → xs ≡ ys → FitsSet row_of moves (look_up serial_of xs) → FitsSet row_of moves
+        (look_up serial_of ys)
+    of_items xs ys same fits = subst (λ l. FitsSet row_of moves (look_up serial_of l)) same fits

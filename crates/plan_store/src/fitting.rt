@@ -4,16 +4,17 @@ ghost use Rattle.std.specs.Prelude.{◌≡◌, ◌↔◌, ◌++◌, Contains, So
 ghost use Rattle.keyed_lists.specs.Rows.{AreRows, HasEachOnce, look_up};
 ghost use Rattle.keyed_lists.specs.Seats.{AreSeats, HasSeats};
 ghost use Rattle.external_dependencies.specs.Nearest.{arrival_of};
+ghost use Rattle.planner_machine.specs.declared.job.Job.{Job as JobValue};
 ghost use Rattle.plan_store.specs.Changes.{Fits, FitsSet};
 ghost use Rattle.plan_store.specs.Contents.{content_of};
 
 use crate::changes::{Change, Moves};
 use crate::contents::Content;
-use crate::jobs::find_job;
 use crate::slices::of_serial;
 use itertools::Itertools;
 use keyed_lists::{PlanRow, Seat};
 use occurrences::{CurrentRow, Deletion, Row};
+use planner_machine::Job;
 use std::alloc::{AllocError, Global};
 
 // A row that is compared whole.
@@ -114,8 +115,10 @@ fn names_each_once<T: PlanRow>(alloc: Global, moves: &Moves<T>) -> Result<bool, 
         ↔ (HasEachOnce T.row_of (moves.now.gone.items ++ moves.now.changed.items)
         × HasEachOnce T.row_of moves.now.put.items)) }
 {
-    Ok(have_each_once(alloc, &moves.gone, &moves.changed)?
-        && have_each_once(alloc, &moves.put, &[])?)
+    Ok(
+        have_each_once(alloc, &moves.gone, &moves.changed)?
+            && have_each_once(alloc, &moves.put, &[])?,
+    )
 }
 
 // Whether what goes stands in the list.
@@ -178,14 +181,23 @@ fn fits_set<T: Whole>(
 }
 
 impl Content {
+    // Whether no job is kept under the number of the job, if there is one.
+    fn takes_job(&self, job: &Option<Job>) -> bool
+        ensures { IsTrue result ↔ ((new : JobValue) → job.now ≡ Some new
+            → (content_of self.now).jobs new.number ≡ None) }
+    {
+        match job {
+            Some(job) => self.job(job.number).is_none(),
+            None => true,
+        }
+    }
+
     /// Whether it admits the change.
     pub fn admits(&self, alloc: Global, change: &Change) -> Result<bool, AllocError>
         ensures { IfOk result (λ fits. IsTrue fits ↔ Fits change.now (content_of self.now)) }
     {
-        if let Some(job) = &change.job {
-            if find_job(&self.jobs, job.number).is_ok() {
-                return Ok(false);
-            }
+        if !self.takes_job(&change.job) {
+            return Ok(false);
         }
         if !fits_set(alloc, &self.ltp, &self.seats, &change.ltp)? {
             return Ok(false);

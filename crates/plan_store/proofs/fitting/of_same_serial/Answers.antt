@@ -1,4 +1,4 @@
-use Rattle.std.proofs.Common.{◌≡◌, ◌∙◌, ap}
+use Rattle.std.proofs.Common.{◌∙◌, ap}
 use Rattle.occurrences.specs.declared.row.Row.{Row}
 use Rattle.keyed_lists.specs.Rows.{look_up}
 use Rattle.plan_store.proofs.FittingLemmas.{found_is, serial_of}
