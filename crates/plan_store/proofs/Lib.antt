@@ -2,6 +2,7 @@ mod AlikeLemmas
 mod ArrivalLemmas
 mod AskedLemmas
 pub mod FitLemmas
+mod FittingLemmas
 mod JobLemmas
 mod ListedLemmas
 mod ListingLemmas

@@ -13,6 +13,7 @@ mod arrivals;
 mod buffers;
 mod changes;
 mod contents;
+mod fitting;
 mod jobs;
 mod lasts;
 mod list_store;
