@@ -73,8 +73,6 @@ impl PlanStore for ListStore {
 
     ghost is_whole = { λ _. ⊤ };
 
-    ghost honest_is_clean = { λ _ _. tt };
-
     ghost left_is_clean = { λ _ _ _. tt };
 
     fn definitions(&mut self) -> Result<Definitions, StoreFault> {

@@ -120,7 +120,8 @@ pub trait PlanStore {
         ensures all { is_honest self.new → AreNumbered (content self.old).sets
             → IfOk result (HandsAll K.takes (IsListing what (option_copied app.entry)
             (content self.old)) sink.old sink.new) }
-        ensures part { is_honest self.old → is_clean self.new → AreNumbered (content self.old).sets
+        ensures part { is_honest self.old → is_honest self.new ⊎ is_clean self.new
+            → AreNumbered (content self.old).sets
             → IfErr result (HandsPart K.takes K.refuses (IsListing what (option_copied app.entry)
             (content self.old)) sink.old sink.new) }
         ensures same { is_honest self.new → content self.new ≡ content self.old }
@@ -141,9 +142,6 @@ pub trait PlanStore {
         requires sound { is_honest self.old → IsSound (after change (content self.old)) }
         ensures { Applies is_honest content failures may_leave is_clean is_whole
             self.old self.new change result };
-
-    // what an honest store reads is what was written, so its device told no wrong answer
-    ghost honest_is_clean: { (store : Self) → is_honest store → is_clean store };
 
     // nothing is said of what a crash may leave once the device told a wrong one
     ghost left_is_clean: { (store : Self) (c : ContentValue) → may_leave store c → is_clean store };

@@ -242,6 +242,8 @@ impl<S: Alter + Drop> PlanStore for TableStore<S> {
 
     ghost is_whole = { λ store. (store.failures ≡ 0) × (store.in_doubt ≡ false) };
 
+    ghost left_is_clean = { λ _ _ left. left.0 };
+
     // A store that is read stays as it was. It answers that the device failed where a failure was counted before, and
     // only there.
     fn definitions(&mut self) -> Result<Definitions, StoreFault>

@@ -1,5 +1,5 @@
 -- Lemmas on listings that are written while they are read.
-use Rattle.std.proofs.Common.{◌≡◌, ℕ, ◌+◌, ◌≤◌, ◌∙◌, List, [], ◌∷◌, ◌++◌, length, take, refl, sym, ap, subst}
+use Rattle.std.proofs.Common.{◌≡◌, ◌⊎◌, ℕ, ◌+◌, ◌≤◌, ◌∙◌, List, [], ◌∷◌, ◌++◌, length, take, refl, sym, ap, subst}
 use Rattle.std.proofs.Common.{inl, inr, arith, append_assoc, append-nil}
 use Rattle.std.specs.Prelude.{Bool, Err, IfErr, IfOk, Ok, Option, Result, Some, flat_map}
 use Rattle.std.specs.Io.KnownBytes.{Appends}
@@ -27,10 +27,10 @@ use Rattle.planner_cli.specs.Lists.{BeginsInHand, BeginsList}
 use Rattle.planner_cli.specs.Outcomes.{answer_text, answering}
 use Rattle.planner_cli.specs.Replies.{Prints, AnswerLines, ended, is_accepted, is_refused, printed}
 use Rattle.planner_cli.specs.Rows.{IsShownText}
-use Rattle.planner_cli.specs.Runs.{IsFrontOf}
+use Rattle.planner_cli.specs.Runs.{IsFrontOf, ItemBreaks}
 use Rattle.planner_cli.specs.Sinks.{TakesFront, TakesLine, TakesLines, WritesAll, WritesPart}
 use Rattle.planner_cli.specs.Steps.{Serves, Step}
-use Rattle.planner_cli.specs.Stores.{LeavesOwn}
+use Rattle.planner_cli.specs.Stores.{IsBlamed, LeavesOwn}
 use Rattle.planner_cli.specs.Writes.{AnswersItem, IsUnwritten, IsWritten}
 use Rattle.planner_cli.specs.declared.answers.Printed.{Printed}
 use Rattle.planner_cli.specs.declared.faults.Cause.{Cause}
@@ -210,17 +210,27 @@ prints_behind rows line text accepted h = record {
   refused_is = h.refused_is;
 }
 
+-- the cause of a run's end, by the fault of the listing
+abbrev pub list_cause : ListFault → Cause
+list_cause Faults.Memory = Memory
+list_cause Faults.Device = Device Store
+list_cause (Faults.Sink f) = Device Writer
+
+store_list : (fault : ListFault) → list_cause fault ≡ Device Store → fault ≡ Faults.Device
+store_list Faults.Memory store = absurd (let h : ⊥ = cc store in h)
+store_list Faults.Device store = refl
+store_list (Faults.Sink f) store = absurd (let h : ⊥ = cc store in h)
+
 module _ {S : Type 0} (g : Ghosts S) (before now : S) (old mid new : Option (List ℕ)) (item : Item)
     (what : What) (app : Option (List ℕ))
     (asks : Asks item (Some (list_asked what app)))
     (same : g.is_honest now → g.content now ≡ g.content before)
-    (left : g.is_honest now → (c : Content) → g.may_leave now c → g.may_leave before c)
+    (left : (c : Content) → g.may_leave now c → g.may_leave before c)
     (counts : g.failures before ≤ g.failures now) (honest' : g.is_honest now → g.is_honest before)
     (clean' : g.is_clean now → g.is_clean before) where
   -- nothing changes, so neither does what a crash leaves
-  still_own : g.is_honest now → LeavesOwn g before → (c : Content) → g.may_leave now c
-      → c ≡ g.content before
-  still_own honest own c leaves = own c (left honest c leaves)
+  still_own : LeavesOwn g before → (c : Content) → g.may_leave now c → c ≡ g.content before
+  still_own own c leaves = own c (left c leaves)
 
   begins : (c : Content) (first rest : List Shown) (lines : List (List ℕ)) → IsListing what app c (first ++ rest)
       → AreLinesOf IsShownText first lines
@@ -243,6 +253,7 @@ module _ {S : Type 0} (g : Ghosts S) (before now : S) (old mid new : Option (Lis
       (flat_map ended lines, inr (lines, (item, refl, begins c first rest lines whole are), refl), appended)
 
   module _ (count : ℕ) (all : g.is_honest now → WritesAll (IsListing what app (g.content before)) old mid count)
+      (stays_honest' : g.is_honest before → g.is_clean now → g.is_honest now)
       (stays : g.is_whole before → g.is_whole now) where
     -- the reply of the listing, where its last line is printed so
     abbrev IsAnswered : Printed → Type 0
@@ -281,12 +292,14 @@ module _ {S : Type 0} (g : Ghosts S) (before now : S) (old mid new : Option (Lis
             Appends-trans old mid new _ _ rows appended,
           );
       err = λ honest. tt;
-      settled = λ honest own c leaves. still_own honest own c leaves ∙ sym (same honest);
-      crash = λ honest own. tt;
+      replied = λ honest clean. tt;
+      settled = λ honest own c leaves. still_own own c leaves ∙ sym (same honest);
+      crash = λ honest clean own. tt;
       blames = tt;
       counts = counts;
       honest = honest';
       clean = clean';
+      stays_honest = λ honest clean fine. stays_honest' honest clean;
       stays_whole = stays;
     }
 
@@ -294,21 +307,26 @@ module _ {S : Type 0} (g : Ghosts S) (before now : S) (old mid new : Option (Lis
         → AnswersItem g before now old new item (Err cause)
     list_part printed cause tells (is, (front, fronts, appended)) = record {
       ok = λ honest. tt;
-      err = λ honest.
-          let (reply, lines, step, prints, rows) = whole_reply printed tells honest in
-          writer_breaks Step cause (g.content before) (g.content now) old new item reply (flat_map ended lines ++ front) is
-          step
-          (subst (IsFrontOf (flat_map ended lines ++ front)) prints.text_is
-          (front_behind (flat_map ended lines) printed.text.items front fronts))
-          (Appends-trans old mid new _ _ rows appended);
+      err = breaks;
+      replied = λ honest clean. (g.content now, breaks (stays_honest' honest clean));
       settled = λ honest own. tt;
-      crash = λ honest own c leaves. inl (still_own honest own c leaves);
+      crash = λ honest clean own c leaves. inl (still_own own c leaves);
       blames = λ store. absurd (let no : Device Writer ≡ Device Store = sym is ∙ store in let h : ⊥ = cc no in h);
       counts = counts;
       honest = honest';
       clean = clean';
+      stays_honest = λ honest clean fine. stays_honest' honest clean;
       stays_whole = tt;
     }
+      where
+        breaks : g.is_honest now → ItemBreaks Step cause (g.content before) (g.content now) old new item
+        breaks honest =
+            let (reply, lines, step, prints, rows) = whole_reply printed tells honest in
+            writer_breaks Step cause (g.content before) (g.content now) old new item reply
+            (flat_map ended lines ++ front) is step
+            (subst (IsFrontOf (flat_map ended lines ++ front)) prints.text_is
+            (front_behind (flat_map ended lines) printed.text.items front fronts))
+            (Appends-trans old mid new _ _ rows appended)
 
     list_unwritten : (fault : StoreFault) (cause : Cause) → fault ≡ Stores.Memory → IsUnwritten (Err fault) mid new cause
         → AnswersItem g before now old new item (Err cause)
@@ -316,22 +334,27 @@ module _ {S : Type 0} (g : Ghosts S) (before now : S) (old mid new : Option (Lis
         subst (λ x. AnswersItem g before now old new item (Err x))
         (sym (is ∙ ap store_cause memory)) (record {
           ok = λ honest. tt;
-          err = λ honest.
-              let a = all honest in
-              let (lines, are, appended) = a.taken in (
-                same honest,
-                lines_begun (g.content before) new a.items []
-                    (subst (IsListing what app (g.content before)) (sym (append-nil a.items)) a.whole)
-                    (lines, are, Appends-kept old mid new (flat_map ended lines) appended kept),
-              );
+          err = breaks;
+          replied = λ honest clean. (g.content now, breaks (stays_honest' honest clean));
           settled = λ honest own. tt;
-          crash = λ honest own c leaves. inl (still_own honest own c leaves);
+          crash = λ honest clean own c leaves. inl (still_own own c leaves);
           blames = λ store. absurd (let h : ⊥ = cc store in h);
           counts = counts;
           honest = honest';
           clean = clean';
+          stays_honest = λ honest clean fine. stays_honest' honest clean;
           stays_whole = tt;
         })
+      where
+        breaks : g.is_honest now → ItemBreaks Step Memory (g.content before) (g.content now) old new item
+        breaks honest =
+            let a = all honest in
+            let (lines, are, appended) = a.taken in (
+              same honest,
+              lines_begun (g.content before) new a.items []
+                  (subst (IsListing what app (g.content before)) (sym (append-nil a.items)) a.whole)
+                  (lines, are, Appends-kept old mid new (flat_map ended lines) appended kept),
+            )
 
     -- all rows are written, and the last line is on its way
     pub list_written : (answered : Result Printed StoreFault) (result : Result Bool Cause)
@@ -343,3 +366,40 @@ module _ {S : Type 0} (g : Ghosts S) (before now : S) (old mid new : Option (Lis
     list_written (Ok printed) (Err cause) tells memory ok err = list_part printed cause tells err
     list_written (Err fault) (Ok accepted) tells memory ok err = absurd ok
     list_written (Err fault) (Err cause) tells memory ok err = list_unwritten fault cause memory err
+
+  list_breaks : (fault : ListFault) (c : Content) → c ≡ g.content before
+      → WritesPart (IsListing what app (g.content before)) old new fault
+      → ItemBreaks Step (list_cause fault) (g.content before) c old new item
+  list_breaks Faults.Memory c stays part = (stays, lines_begun (g.content before) new part.first part.rest part.whole part.ends)
+  list_breaks Faults.Device c stays part =
+      (inl stays, lines_begun (g.content before) new part.first part.rest part.whole part.ends)
+  list_breaks (Faults.Sink f) c stays part =
+      let (lines, are, (front, fronts, appended)) = part.ends in (
+        front,
+        inr (
+          stays,
+          (lines, (item, refl, begins (g.content before) part.first part.rest lines part.whole are), fronts),
+        ),
+        appended,
+      )
+
+  -- the rows are written in part
+  pub list_stopped : (fault : ListFault) (cause : Cause) → list_cause fault ≡ cause
+      → (g.is_honest before → g.is_honest now ⊎ g.is_clean now
+      → WritesPart (IsListing what app (g.content before)) old new fault)
+      → (fault ≡ Faults.Device → IsBlamed (g.failures before) (g.failures now))
+      → (g.is_honest before → g.is_clean now → (fault ≡ Faults.Device → ⊥) → g.is_honest now)
+      → AnswersItem g before now old new item (Err cause)
+  list_stopped fault cause is part blames stays = subst (λ x. AnswersItem g before now old new item (Err x)) is (record {
+    ok = λ honest. tt;
+    err = λ honest. list_breaks fault (g.content now) (same honest) (part (honest' honest) (inl honest));
+    replied = λ honest clean. (g.content before, list_breaks fault (g.content before) refl (part honest (inr clean)));
+    settled = λ honest own. tt;
+    crash = λ honest clean own c leaves. inl (still_own own c leaves);
+    blames = λ store. blames (store_list fault store);
+    counts = counts;
+    honest = honest';
+    clean = clean';
+    stays_honest = λ honest clean fine. stays honest clean (λ device. fine (ap list_cause device));
+    stays_whole = tt;
+  })

@@ -13,7 +13,7 @@ use Rattle.planner_cli.specs.Asked.{AreAsked, Asks}
 use Rattle.planner_cli.specs.Faults.{cause_of, fault_line}
 use Rattle.planner_cli.specs.Meaning.{Answers}
 use Rattle.planner_cli.specs.Outcomes.{answering}
-use Rattle.planner_cli.specs.Plans.{AreAnswered, CrashedPlan, LeadsTo, RanPlan, StoppedPlan}
+use Rattle.planner_cli.specs.Plans.{AreAnswered, CrashedPlan, LeadsTo, RanPlan, RepliedPlan, StoppedPlan}
 use Rattle.planner_cli.specs.Replies.{AnswerLines}
 use Rattle.planner_cli.specs.Runs.{Crashed, EndsBy, LeavesInHand, Ran, Stopped, ends_of}
 use Rattle.planner_cli.specs.Steps.{AnswersAsked, Serves, Step}
@@ -198,6 +198,12 @@ crashed_leads law fates c c' w w' read fault left sound h =
       are_answered = at.are_answered;
       leads = leads law fates at.items at.told c left sound at.answers;
     }
+
+pub replied_leads : RunsSound → RunsByFate → (c c' last : Content) (w w' read : Option (List ℕ)) (fault : RunFault)
+    → IsSound c
+    → Stopped Step fault_line (ends_of c last w w' read) fault → RepliedPlan (ends_of c c' w w' read) fault
+replied_leads law fates c c' last w w' read fault sound h =
+    record { last = last; stopped = h; leads = leads law fates h.done h.replies c h.between sound h.answers }
 
 pub stopped_leads : RunsSound → RunsByFate → (c c' : Content) (w w' read : Option (List ℕ)) (fault : RunFault)
     → IsSound c

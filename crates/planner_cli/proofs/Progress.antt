@@ -252,7 +252,7 @@ pub crashes_between : (Step : StepOf Content) (s0 s : Content) (w0 w remaining b
     → Crashed Step (λ _. []) (ends_of s0 s w0 w remaining) fault c
 unfolding halts_between
 crashes_between Step s0 s w0 w remaining b tally f fault p e tallied c same =
-    record { stopped = halts_between Step s0 s w0 w remaining b tally f fault p e tallied; leaves = inl same }
+    record { last = s; stopped = halts_between Step s0 s w0 w remaining b tally f fault p e tallied; leaves = inl same }
 
 -- what stays, or that after the item in hand
 in_hand : (Step : StepOf Content) (s t : Content) (item : Item) → (t ≡ s) ⊎ ((reply : AnswerLines) × Step s item reply t)
@@ -264,11 +264,13 @@ pub crashes_within : (Step : StepOf Content) (s0 s s' : Content) (w0 w w' remain
     (one : Option Item) (item : Item) (cause : Cause) (fault : RunFault)
     → Progress Step s0 s w0 w remaining b tally → IfSome b (λ zs. ItemRead zs one c) → one ≡ Some item
     → cause_of fault ≡ cause → tally_in fault ≡ tally
-    → ItemBreaks Step cause s s' w w' item → (left : Content) → (left ≡ s) ⊎ ((reply : AnswerLines) × Step s item reply left)
-    → Crashed Step (λ _. []) (ends_of s0 s' w0 w' remaining) fault left
+    → ItemBreaks Step cause s s' w w' item → (t left : Content)
+    → (left ≡ s) ⊎ ((reply : AnswerLines) × Step s item reply left)
+    → Crashed Step (λ _. []) (ends_of s0 t w0 w' remaining) fault left
 unfolding halts_within
-crashes_within Step s0 s s' w0 w w' remaining b c tally one item cause fault p read met_it e tallied breaks left leaves =
+crashes_within Step s0 s s' w0 w w' remaining b c tally one item cause fault p read met_it e tallied breaks t left leaves =
     record {
+      last = s';
       stopped =
           halts_within Step s0 s s' w0 w w' remaining b c tally one item cause fault p read met_it e tallied breaks;
       leaves = in_hand Step s left item leaves;
@@ -335,7 +337,11 @@ pub crash_written : (Step : StepOf Content) (s t : Content) (w0 w w' read : Opti
     → Crashed Step fault_line (ends_of s t w0 w' read) fault c
 unfolding fault_written
 crash_written Step s t w0 w w' read fault cause c h e appended =
-    record { stopped = fault_written Step s t w0 w w' read fault cause h.stopped e appended; leaves = h.leaves }
+    record {
+      last = h.last;
+      stopped = fault_written Step s h.last w0 w w' read fault cause h.stopped e appended;
+      leaves = h.leaves;
+    }
 
 -- nothing is written of the item in hand
 nothing_begun : (s : Content) (w w' : Option (List ℕ)) (item : Item) → Keeps w w'

@@ -41,30 +41,39 @@ pub always_on_err : {T E : Type 0} (r : Result T E) (P : Type 0) → P → OnErr
 always_on_err (Ok x) P h = tt
 always_on_err (Err e) P h = h
 
+-- an answer is no fault
+pub no_fault : {T E : Type 0} (r : Result T E) (x : T) (P : E → Type 0) → r ≡ Ok x → IfErr r P
+no_fault r x P was = subst (λ r'. IfErr r' P) (sym was) tt
+
 -- ---- calls
 
 module _ {S : Type 0} (g : Ghosts S) where
   -- a reply that one may give is one that the other may give
   pub answers_so : (before now : S) (result : Result Printed StoreFault) (Does More : AnswerLines → Content → Type 0)
-      → (g.is_honest now → (reply : AnswerLines) (c : Content) → Does reply c → More reply c)
+      → (g.is_honest before → (reply : AnswerLines) (c : Content) → Does reply c → More reply c)
       → AnswersBy g before now result Does
       → AnswersBy g before now result More
   answers_so before now result Does More more a = record {
     answers = λ honest. if_ok result _ _
-        (λ printed h. record { reply = h.reply; gives = more honest h.reply (g.content now) h.gives; prints = h.prints })
+        (λ printed h. record {
+          reply = h.reply;
+          gives = more (a.honest honest) h.reply (g.content now) h.gives;
+          prints = h.prints;
+        })
         (a.answers honest);
     unchanged = a.unchanged;
-    whole = λ honest. on_err result _ _ (λ h. left honest (g.content now) h) (a.whole honest);
+    whole = λ honest. on_err result _ _ (λ h. left (a.honest honest) (g.content now) h) (a.whole honest);
     settled = a.settled;
-    crash = λ honest own. on_err result _ _ (λ h c leaves. left honest c (h c leaves)) (a.crash honest own);
+    crash = λ honest clean own. on_err result _ _ (λ h c leaves. left honest c (h c leaves)) (a.crash honest clean own);
     blames = a.blames;
     counts = a.counts;
     honest = a.honest;
     clean = a.clean;
+    stays_honest = a.stays_honest;
     stays_whole = a.stays_whole;
   }
     where
-      left : g.is_honest now → (c : Content) → (c ≡ g.content before) ⊎ ((reply : AnswerLines) × Does reply c)
+      left : g.is_honest before → (c : Content) → (c ≡ g.content before) ⊎ ((reply : AnswerLines) × Does reply c)
           → (c ≡ g.content before) ⊎ ((reply : AnswerLines) × More reply c)
       left honest c (inl same) = inl same
       left honest c (inr (reply, does)) = inr (reply, more honest reply c does)
@@ -80,11 +89,12 @@ module _ {S : Type 0} (g : Ghosts S) where
     unchanged = λ honest. tt;
     whole = λ honest. tt;
     settled = λ honest own. own;
-    crash = λ honest own. tt;
+    crash = λ honest clean own. tt;
     blames = tt;
     counts = omega arith;
     honest = λ honest. honest;
     clean = λ clean. clean;
+    stays_honest = λ honest clean fine. honest;
     stays_whole = λ whole. whole;
   }
   untouched store (Err fault) reply Does does prints memory = record {
@@ -92,11 +102,12 @@ module _ {S : Type 0} (g : Ghosts S) where
     unchanged = λ honest is. refl;
     whole = λ honest. inl refl;
     settled = λ honest own. tt;
-    crash = λ honest own c leaves. inl (own c leaves);
+    crash = λ honest clean own c leaves. inl (own c leaves);
     blames = λ is. absurd (let no : Memory ≡ Device = sym memory ∙ is in let h : ⊥ = cc no in h);
     counts = omega arith;
     honest = λ honest. honest;
     clean = λ clean. clean;
+    stays_honest = λ honest clean fine. honest;
     stays_whole = tt;
   }
 
@@ -108,11 +119,12 @@ module _ {S : Type 0} (g : Ghosts S) where
     unchanged = λ honest is. refl;
     whole = λ honest. inl refl;
     settled = λ honest own. tt;
-    crash = λ honest own c leaves. inl (own c leaves);
+    crash = λ honest clean own c leaves. inl (own c leaves);
     blames = λ is. absurd (let h : ⊥ = cc is in h);
     counts = omega arith;
     honest = λ honest. honest;
     clean = λ clean. clean;
+    stays_honest = λ honest clean fine. honest;
     stays_whole = tt;
   }
 
@@ -125,7 +137,14 @@ module _ {S : Type 0} (g : Ghosts S) where
       subst (λ f. AnswersBy g store store (Err f) Does) (sym is) (refused_memory store Does)
 
   module _ {T : Type 0} (before mid : S) (read : Result T StoreFault) (IsRight : T → Type 0)
-      (reads : ReadsBy g before mid read IsRight) (stays : g.is_whole before → g.is_whole mid) where
+      (reads : ReadsBy g before mid read IsRight) (value : T) (was : read ≡ Ok value) where
+    -- what was read of an honest store that is clean still leaves it honest
+    read_honest : g.is_honest before → g.is_clean mid → g.is_honest mid
+    read_honest honest clean = reads.stays_honest honest clean (no_fault read value _ was)
+
+    read_whole : g.is_whole before → g.is_whole mid
+    read_whole = subst (λ r. OnOk r (g.is_whole before → g.is_whole mid)) was reads.whole
+
     -- the store was read before
     pub after_read : (now : S) (result : Result Printed StoreFault) (Does : Content → AnswerLines → Content → Type 0)
         → AnswersBy g mid now result (Does (g.content mid))
@@ -139,76 +158,102 @@ module _ {S : Type 0} (g : Ghosts S) where
           })
           (a.answers honest);
       unchanged = λ honest. if_err result _ _ (λ fault h is. h is ∙ same honest) (a.unchanged honest);
-      whole = λ honest. on_err result _ _ (λ h. left honest (g.content now) h) (a.whole honest);
-      settled = λ honest own. a.settled honest (read_own honest own);
-      crash = λ honest own. on_err result _ _ (λ h c leaves. left honest c (h c leaves))
-          (a.crash honest (read_own honest own));
+      whole = λ honest. on_err result _ _ (λ h. left (same honest) (g.content now) h) (a.whole honest);
+      settled = λ honest own. a.settled honest (read_own (same honest) own);
+      crash = λ honest clean own.
+          let between = read_honest honest (a.clean clean) in
+          let same' = reads.same between in
+          on_err result _ _ (λ h c leaves. left same' c (h c leaves)) (a.crash between clean (read_own same' own));
       blames = if_err result _ _ (λ fault h is. blamed_since (g.failures before) (g.failures mid) (g.failures now)
           reads.counts a.counts (h is)) a.blames;
       counts = let x = reads.counts in let y = a.counts in omega arith;
       honest = λ honest. reads.honest (a.honest honest);
       clean = λ clean. reads.clean (a.clean clean);
-      stays_whole = on_ok result _ _ (λ h whole. h (stays whole)) a.stays_whole;
+      stays_honest = λ honest clean fine. a.stays_honest (read_honest honest (a.clean clean)) clean fine;
+      stays_whole = on_ok result _ _ (λ h whole. h (read_whole whole)) a.stays_whole;
     }
       where
         same : g.is_honest now → g.content mid ≡ g.content before
         same honest = reads.same (a.honest honest)
 
-        read_own : g.is_honest now → LeavesOwn g before → LeavesOwn g mid
-        read_own honest own c leaves = own c (reads.crash (a.honest honest) c leaves) ∙ sym (same honest)
+        read_own : g.content mid ≡ g.content before → LeavesOwn g before → LeavesOwn g mid
+        read_own is own c leaves = own c (reads.crash c leaves) ∙ sym is
 
-        left : g.is_honest now → (c : Content) → (c ≡ g.content mid) ⊎ ((reply : AnswerLines) × Does (g.content mid) reply c)
+        left : g.content mid ≡ g.content before → (c : Content)
+            → (c ≡ g.content mid) ⊎ ((reply : AnswerLines) × Does (g.content mid) reply c)
             → (c ≡ g.content before) ⊎ ((reply : AnswerLines) × Does (g.content before) reply c)
-        left honest c (inl is) = inl (is ∙ same honest)
-        left honest c (inr (reply, does)) = inr (reply, subst (λ b. Does b reply c) (same honest) does)
+        left is c (inl stays) = inl (stays ∙ is)
+        left is c (inr (reply, does)) = inr (reply, subst (λ b. Does b reply c) is does)
 
-  module _ {T : Type 0} (before now : S) (read : Result T StoreFault) (IsRight : T → Type 0)
-      (reads : ReadsBy g before now read IsRight) (stays : g.is_whole before → g.is_whole now) where
     -- the store was read, and that is all
     pub read_printed : (printed : Printed) (Does : AnswerLines → Content → Type 0)
-        → (g.is_honest now → (reply : AnswerLines) × Does reply (g.content before)
+        → (g.is_honest mid → (reply : AnswerLines) × Does reply (g.content before)
         × Prints reply printed.text.items printed.is_accepted)
-        → AnswersBy g before now (Ok printed) Does
+        → AnswersBy g before mid (Ok printed) Does
     read_printed printed Does told = record {
       answers = λ honest. let (reply, does, prints) = told honest in
           record { reply = reply; gives = subst (Does reply) (sym (reads.same honest)) does; prints = prints };
       unchanged = λ honest. tt;
       whole = λ honest. tt;
-      settled = λ honest own c leaves. own c (reads.crash honest c leaves) ∙ sym (reads.same honest);
-      crash = λ honest own. tt;
+      settled = λ honest own c leaves. own c (reads.crash c leaves) ∙ sym (reads.same honest);
+      crash = λ honest clean own. tt;
       blames = tt;
       counts = reads.counts;
       honest = reads.honest;
       clean = reads.clean;
-      stays_whole = stays;
+      stays_honest = λ honest clean fine. read_honest honest clean;
+      stays_whole = read_whole;
     }
 
     -- it was read, and memory was refused
     pub read_refused : (result : Result Printed StoreFault) (Does : AnswerLines → Content → Type 0)
         → IsErrAnd result (λ fault. fault ≡ Memory)
-        → AnswersBy g before now result Does
+        → AnswersBy g before mid result Does
     read_refused (Ok printed) Does memory = absurd memory
     read_refused (Err fault) Does memory = record {
       answers = λ honest. tt;
       unchanged = λ honest is. reads.same honest;
       whole = λ honest. inl (reads.same honest);
       settled = λ honest own. tt;
-      crash = λ honest own c leaves. inl (own c (reads.crash honest c leaves));
+      crash = λ honest clean own c leaves. inl (own c (reads.crash c leaves));
       blames = λ is. absurd (let no : Memory ≡ Device = sym memory ∙ is in let h : ⊥ = cc no in h);
       counts = reads.counts;
       honest = reads.honest;
       clean = reads.clean;
+      stays_honest = λ honest clean fine. read_honest honest clean;
       stays_whole = tt;
     }
 
     -- it was read, and the answer is printed, or memory was refused
     pub read_answered : (result : Result Printed StoreFault) (Does : AnswerLines → Content → Type 0)
-        → (g.is_honest now → (reply : AnswerLines) × Does reply (g.content before)
+        → (g.is_honest mid → (reply : AnswerLines) × Does reply (g.content before)
         × IfOk result (λ printed. Prints reply printed.text.items printed.is_accepted))
         → IfErr result (λ fault. fault ≡ Memory)
-        → AnswersBy g before now result Does
+        → AnswersBy g before mid result Does
     read_answered (Ok printed) Does told memory = read_printed printed Does told
     read_answered (Err fault) Does told memory = read_refused (Err fault) Does memory
+
+  -- the store failed when it was read, and nothing is answered
+  pub read_failed : {T : Type 0} (before now : S) (read : Result T StoreFault) (IsRight : T → Type 0)
+      → ReadsBy g before now read IsRight → (fault : StoreFault) → read ≡ Err fault
+      → (result : Result Printed StoreFault) (Does : AnswerLines → Content → Type 0)
+      → IsErrAnd result (λ told. told ≡ fault) → AnswersBy g before now result Does
+  read_failed before now read IsRight reads fault was (Ok printed) Does is = absurd is
+  read_failed before now read IsRight reads fault was (Err told) Does is = record {
+    answers = λ honest. tt;
+    unchanged = λ honest memory. reads.same honest;
+    whole = λ honest. inl (reads.same honest);
+    settled = λ honest own. tt;
+    crash = λ honest clean own c leaves. inl (own c (reads.crash c leaves));
+    blames = λ device. subst (λ r. IfErr r (λ f. f ≡ Device → IsBlamed (g.failures before) (g.failures now))) was
+        reads.blames (sym is ∙ device);
+    counts = reads.counts;
+    honest = reads.honest;
+    clean = reads.clean;
+    stays_honest = λ honest clean fine. reads.stays_honest honest clean
+        (subst (λ r. IfErr r (λ f. f ≡ Device → ⊥)) (sym was) (λ device. fine (is ∙ device)));
+    stays_whole = tt;
+  }
 
   module _ {T U : Type 0} (before now : S) (read : Result T StoreFault) (IsRight : T → Type 0)
       (reads : ReadsBy g before now read IsRight) (value : T) (was : read ≡ Ok value) (Tells : U → Type 0) where
@@ -226,6 +271,7 @@ module _ {S : Type 0} (g : Ghosts S) where
       counts = own.counts;
       honest = own.honest;
       clean = own.clean;
+      stays_honest = λ honest clean fine. own.stays_honest honest clean tt;
       whole = own.whole;
     }
 
@@ -242,6 +288,7 @@ module _ {S : Type 0} (g : Ghosts S) where
       counts = own.counts;
       honest = own.honest;
       clean = own.clean;
+      stays_honest = λ honest clean fine. own.stays_honest honest clean tt;
       whole = tt;
     }
 
@@ -254,17 +301,19 @@ module _ {S : Type 0} (g : Ghosts S) (before now : S) where
       → Prints reply printed.text.items printed.is_accepted
       → (g.is_honest now → LeavesOwn g now) → g.failures before ≤ g.failures now
       → (g.is_honest now → g.is_honest before) → (g.is_clean now → g.is_clean before)
+      → (g.is_honest before → g.is_clean now → g.is_honest now)
       → (g.is_whole before → g.is_whole now) → AnswersBy g before now (Ok printed) Does
-  made printed reply Does does prints settled counts honest' clean' stays = record {
+  made printed reply Does does prints settled counts honest' clean' stays_honest' stays = record {
     answers = λ honest. record { reply = reply; gives = does honest; prints = prints };
     unchanged = λ honest. tt;
     whole = λ honest. tt;
     settled = λ honest own. settled honest;
-    crash = λ honest own. tt;
+    crash = λ honest clean own. tt;
     blames = tt;
     counts = counts;
     honest = honest';
     clean = clean';
+    stays_honest = λ honest clean fine. stays_honest' honest clean;
     stays_whole = stays;
   }
 
@@ -272,20 +321,22 @@ module _ {S : Type 0} (g : Ghosts S) (before now : S) where
   pub not_made : (fault : StoreFault) (Does : AnswerLines → Content → Type 0)
       → (g.is_honest now → fault ≡ Memory → g.content now ≡ g.content before)
       → (g.is_honest now → (g.content now ≡ g.content before) ⊎ ((reply : AnswerLines) × Does reply (g.content now)))
-      → (g.is_honest now → LeavesOwn g before → (c : Content) → g.may_leave now c
+      → (g.is_honest before → LeavesOwn g before → (c : Content) → g.may_leave now c
       → (c ≡ g.content before) ⊎ ((reply : AnswerLines) × Does reply c))
       → (fault ≡ Device → IsBlamed (g.failures before) (g.failures now)) → g.failures before ≤ g.failures now
       → (g.is_honest now → g.is_honest before) → (g.is_clean now → g.is_clean before)
+      → (g.is_honest before → g.is_clean now → (fault ≡ Device → ⊥) → g.is_honest now)
       → AnswersBy g before now (Err fault) Does
-  not_made fault Does unchanged whole crash blames counts honest' clean' = record {
+  not_made fault Does unchanged whole crash blames counts honest' clean' stays_honest' = record {
     answers = λ honest. tt;
     unchanged = unchanged;
     whole = whole;
     settled = λ honest own. tt;
-    crash = crash;
+    crash = λ honest clean. crash honest;
     blames = blames;
     counts = counts;
     honest = honest';
     clean = clean';
+    stays_honest = stays_honest';
     stays_whole = tt;
   }

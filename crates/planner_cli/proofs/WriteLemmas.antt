@@ -1,5 +1,5 @@
 -- Lemmas on answers that are written.
-use Rattle.std.proofs.Common.{◌≡◌, ℕ, ◌∙◌, List, refl, sym, subst, inl, inr, arith}
+use Rattle.std.proofs.Common.{◌≡◌, ℕ, ◌∙◌, List, refl, sym, ap, subst, inl, inr, arith}
 use Rattle.std.specs.Prelude.{Bool, Err, IfErr, IfOk, Ok, Option, Result}
 use Rattle.std.specs.Io.KnownBytes.{Appends}
 use Rattle.planner_machine.specs.Content.{Content}
@@ -9,7 +9,7 @@ use Rattle.plan_store.specs.declared.stores.StoreFault.TheVariants as Stores
 use Rattle.stream_items.specs.Items.{Item}
 use Rattle.planner_cli.specs.Faults.{store_cause}
 use Rattle.planner_cli.specs.Replies.{Answered, printed}
-use Rattle.planner_cli.specs.Runs.{IsFrontOf}
+use Rattle.planner_cli.specs.Runs.{IsFrontOf, ItemBreaks}
 use Rattle.planner_cli.specs.Steps.{Step}
 use Rattle.planner_cli.specs.Stores.{AnswersBy}
 use Rattle.planner_cli.specs.Writes.{AnswersItem, IsUnwritten, IsWritten}
@@ -32,12 +32,14 @@ module _ {S : Type 0} (g : Ghosts S) (before now : S) (old new : Option (List �
       appended,
     );
     err = λ honest. tt;
+    replied = λ honest clean. tt;
     settled = a.settled;
-    crash = λ honest own. tt;
+    crash = λ honest clean own. tt;
     blames = tt;
     counts = a.counts;
     honest = a.honest;
     clean = a.clean;
+    stays_honest = λ honest clean fine. a.stays_honest honest clean tt;
     stays_whole = a.stays_whole;
   }
 
@@ -48,29 +50,39 @@ module _ {S : Type 0} (g : Ghosts S) (before now : S) (old new : Option (List �
       → AnswersItem g before now old new item (Err cause)
   wrote_part printed cause a (is, (front, begins, appended)) = record {
     ok = λ honest. tt;
-    err = λ honest.
-        let made = a.answers honest in
-        writer_breaks Step cause (g.content before) (g.content now) old new item made.reply front is made.gives
-        (subst (IsFrontOf front) made.prints.text_is begins) appended;
+    err = breaks;
+    replied = λ honest clean. (g.content now, breaks (a.stays_honest honest clean tt));
     settled = λ honest own. tt;
-    crash = λ honest own c leaves.
-        let made = a.answers honest in
+    crash = λ honest clean own c leaves.
+        let still = a.stays_honest honest clean tt in
+        let made = a.answers still in
         inr (
           made.reply,
-          subst (Step (g.content before) item made.reply) (sym (a.settled honest own c leaves)) made.gives,
+          subst (Step (g.content before) item made.reply) (sym (a.settled still own c leaves)) made.gives,
         );
     blames = λ store. absurd (let no : Device Writer ≡ Device Store = sym is ∙ store in let h : ⊥ = cc no in h);
     counts = a.counts;
     honest = a.honest;
     clean = a.clean;
+    stays_honest = λ honest clean fine. a.stays_honest honest clean tt;
     stays_whole = tt;
   }
+    where
+      breaks : g.is_honest now → ItemBreaks Step cause (g.content before) (g.content now) old new item
+      breaks honest =
+          let made = a.answers honest in
+          writer_breaks Step cause (g.content before) (g.content now) old new item made.reply front is made.gives
+          (subst (IsFrontOf front) made.prints.text_is begins) appended
 
   device_store : (fault : StoreFault) (cause : Cause) → cause ≡ store_cause fault → cause ≡ Device Store
       → fault ≡ Stores.Device
   device_store Stores.Memory cause is store = absurd
       (let no : Memory ≡ Device Store = sym is ∙ store in let h : ⊥ = cc no in h)
   device_store Stores.Device cause is store = refl
+
+  store_device : (fault : StoreFault) (cause : Cause) → cause ≡ store_cause fault → fault ≡ Stores.Device
+      → cause ≡ Device Store
+  store_device fault cause is device = is ∙ ap store_cause device
 
   -- none was made
   wrote_none : (fault : StoreFault) (cause : Cause)
@@ -82,12 +94,17 @@ module _ {S : Type 0} (g : Ghosts S) (before now : S) (old new : Option (List �
     err = λ honest.
         store_breaks Step fault cause (g.content before) (g.content now) old new item is kept (a.unchanged honest)
         (a.whole honest);
+    replied = λ honest clean. (
+      g.content before,
+      store_breaks Step fault cause (g.content before) (g.content before) old new item is kept (λ memory. refl) (inl refl),
+    );
     settled = λ honest own. tt;
     crash = a.crash;
     blames = λ store. a.blames (device_store fault cause is store);
     counts = a.counts;
     honest = a.honest;
     clean = a.clean;
+    stays_honest = λ honest clean fine. a.stays_honest honest clean (λ device. fine (store_device fault cause is device));
     stays_whole = tt;
   }
 
@@ -107,11 +124,13 @@ pub wrote_nothing : {S : Type 0} (g : Ghosts S) (store : S) (w : Option (List �
 wrote_nothing g store w item = record {
   ok = λ honest. tt;
   err = λ honest. memory_breaks Step (g.content store) w item;
+  replied = λ honest clean. (g.content store, memory_breaks Step (g.content store) w item);
   settled = λ honest own. tt;
-  crash = λ honest own c leaves. inl (own c leaves);
+  crash = λ honest clean own c leaves. inl (own c leaves);
   blames = λ store. absurd (let h : ⊥ = cc store in h);
   counts = omega arith;
   honest = λ honest. honest;
   clean = λ clean. clean;
+  stays_honest = λ honest clean fine. honest;
   stays_whole = tt;
 }

@@ -1,5 +1,5 @@
 -- What a stream makes of the plans.
-use Rattle.std.specs.Prelude.{◌≡◌, ◌⊎◌, ℕ, ◌≤◌, All, List, [], ◌∷◌, ◌++◌, IfErr, IfOk, OnOk, Option, Result, Some}
+use Rattle.std.specs.Prelude.{◌≡◌, ◌≢◌, ◌⊎◌, ℕ, ◌≤◌, All, List, [], ◌∷◌, ◌++◌, IfErr, IfOk, OnOk, Option, Result, Some}
 use Rattle.external_dependencies.specs.declared.rows.PlacedRow.{PlacedRow}
 use Rattle.planner_machine.specs.Content.{Content, StandsAt}
 use Rattle.planner_machine.specs.Sound.{IsSound}
@@ -8,7 +8,7 @@ use Rattle.planner_machine.specs.Stream.{Goes, IsStatement, Lives, Runs}
 use Rattle.stream_items.specs.Items.{Item}
 use Rattle.planner_cli.specs.Asked.{AreAsked}
 use Rattle.planner_cli.specs.Faults.{cause_of, fault_line}
-use Rattle.planner_cli.specs.Runs.{Crashed, Ends, Ran, Stopped}
+use Rattle.planner_cli.specs.Runs.{Crashed, Ends, Ran, Stopped, with_last}
 use Rattle.planner_cli.specs.Steps.{Step}
 use Rattle.planner_cli.specs.Stores.{IsBlamed, LeavesOnly}
 use Rattle.planner_cli.specs.declared.faults.Cause.TheVariants.{Device}
@@ -48,8 +48,15 @@ pub record StoppedPlan (ends : Ends) (fault : RunFault) : Type 0 where
   pub are_answered : AreAnswered stopped.done stopped.hand items
   pub leads : LeadsTo items ends.before ends.after
 
+-- the same where nothing is said of what the store has then: the items before the fault are answered, what was written
+-- begins with their replies, and their statements lead to a content between
+pub record RepliedPlan (ends : Ends) (fault : RunFault) : Type 0 where
+  pub last : Content
+  pub stopped : Stopped Step fault_line (with_last ends last) fault
+  pub leads : LeadsTo stopped.done ends.before stopped.between
+
 -- a run of the planner that a fault ended, and what a crash may leave then: the statements of items no fewer than those
--- that were answered lead to it
+-- that were answered lead to it. Of what the store has then nothing is said
 pub record CrashedPlan (ends : Ends) (fault : RunFault) (left : Content) : Type 0 where
   pub crashed : Crashed Step fault_line ends fault left
   pub items : List Item
@@ -62,19 +69,24 @@ pub record RunsPlan {S : Type 0} (is_honest : S → Type 0) (failures : S → �
   -- what the replies print is what was written, and nothing else; and the statements of the items lead to what the
   -- store keeps, which is sound, with each occurrence where its fates put it
   pub ran : is_honest now → IfOk result (RanPlan ends)
-  -- after a fault the replies to the items before it stand in the writer, and the same holds of those answered
+  -- after a fault the replies to the items before it stand in the writer, whatever became of the store
+  pub replied : is_honest before → is_clean now → IfErr result (RepliedPlan ends)
+  -- and of a store that is honest still the same holds as after an answer, of the items that were answered
   pub fault : is_honest now → IfErr result (StoppedPlan ends)
   -- where a crash before the run would have left the content alone, it leaves the new content alone after `Ok`
   pub settled : is_honest now → LeavesOnly (may_leave before) ends.before
       → OnOk result (LeavesOnly (may_leave now) ends.after)
-  -- and after a fault that after the statements answered, or after the one in hand too
-  pub crash : is_honest now → LeavesOnly (may_leave before) ends.before
+  -- and after a fault that after the statements answered, or after the one in hand too, whatever became of the store
+  pub crash : is_honest before → LeavesOnly (may_leave before) ends.before
       → IfErr result (λ fault. (left : Content) → may_leave now left → CrashedPlan ends fault left)
   -- the store is blamed only where its device failed, in this run or before
   pub blames : IfErr result (λ fault. cause_of fault ≡ Device Store → IsBlamed (failures before) (failures now))
   pub counts : failures before ≤ failures now
   pub honest : is_honest now → is_honest before
-  -- the same of what its device told, whatever the store made of it; and a run that came to its end leaves the store
-  -- as whole as it was
+  -- the same of what its device told, whatever the store made of it
   pub clean : is_clean now → is_clean before
+  -- an honest store stays honest where its device told no wrong answer, unless the run blames it
+  pub stays_honest : is_honest before → is_clean now → IfErr result (λ fault. cause_of fault ≢ Device Store)
+      → is_honest now
+  -- and a run that came to its end leaves the store as whole as it was
   pub whole : OnOk result (is_whole before → is_whole now)

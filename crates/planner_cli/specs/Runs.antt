@@ -96,11 +96,20 @@ pub record Stopped (Step : StepOf Content) (line : Cause → List ℕ) (ends : E
   pub ending : EndsBy Step (cause_of fault) (line (cause_of fault)) between ends.after hand tail
   pub tally_is : tally_in fault ≡ tally_of replies
 
+-- the same ends with another content for the last
+abbrev pub with_last : Ends → Content → Ends
+with_last ends last = record ends { after = last }
+
+-- a run that a fault ended, and of what the store has then nothing is said: some content would be what such a run leaves
+abbrev pub StoppedSomehow : (Step : StepOf Content) (line : Cause → List ℕ) → Ends → RunFault → Type 0
+StoppedSomehow Step line ends fault = (last : Content) × Stopped Step line (with_last ends last) fault
+
 -- a run that a fault ended, and what a crash may leave then: what the items in `done` left, or that after the item in
--- hand
+-- hand. Of what the store has then nothing is said
 pub record Crashed (Step : StepOf Content) (line : Cause → List ℕ) (ends : Ends) (fault : RunFault) (c : Content)
     : Type 0 where
-  pub stopped : Stopped Step line ends fault
+  pub last : Content
+  pub stopped : Stopped Step line (with_last ends last) fault
   pub leaves : (c ≡ stopped.between) ⊎ LeavesInHand Step stopped.between stopped.hand c
 
 -- one item was not answered: want of memory changes nothing; a store that fails may have made its change; a writer that

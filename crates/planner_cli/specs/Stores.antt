@@ -1,5 +1,5 @@
 -- What a call that answers does to a store.
-use Rattle.std.specs.Prelude.{◌≡◌, ◌⊎◌, ℕ, ◌<◌, ◌≤◌, IfErr, IfOk, OnErr, OnOk, Result}
+use Rattle.std.specs.Prelude.{◌≡◌, ◌≢◌, ◌⊎◌, ℕ, ◌<◌, ◌≤◌, IfErr, IfOk, OnErr, OnOk, Result}
 use Rattle.planner_machine.specs.Content.{Content}
 use Rattle.planner_cli.specs.Replies.{Answered, AnswerLines}
 use Rattle.planner_cli.specs.declared.answers.Printed.{Printed}
@@ -35,14 +35,15 @@ pub record Answering {S T : Type 0} (g : Ghosts S) (before now : S) (result : Re
   -- where the device fails, its content stays, or is that after the change
   pub whole : g.is_honest now → OnErr result ((g.content now ≡ g.content before) ⊎ IsMade (g.content now))
   -- where a crash before the call would have left the content alone: after an answer a crash leaves the new content
-  -- alone, and after a fault the old one, or that after the change
+  -- alone, and after a fault the old one, or that after the change, whatever became of the store
   pub settled : g.is_honest now → LeavesOwn g before → OnOk result (LeavesOwn g now)
-  pub crash : g.is_honest now → LeavesOwn g before
+  pub crash : g.is_honest before → g.is_clean now → LeavesOwn g before
       → OnErr result ((c : Content) → g.may_leave now c → (c ≡ g.content before) ⊎ IsMade c)
   pub blames : IfErr result (λ fault. fault ≡ Device → IsBlamed (g.failures before) (g.failures now))
   pub counts : g.failures before ≤ g.failures now
   pub honest : g.is_honest now → g.is_honest before
   pub clean : g.is_clean now → g.is_clean before
+  pub stays_honest : g.is_honest before → g.is_clean now → IfErr result (λ fault. fault ≢ Device) → g.is_honest now
   pub stays_whole : OnOk result (g.is_whole before → g.is_whole now)
 
 -- a call that answers by printing: the reply is one that this may give

@@ -1,5 +1,5 @@
 -- What a call that answers an item does to a store and a writer.
-use Rattle.std.specs.Prelude.{◌≡◌, ◌⊎◌, ℕ, ◌≤◌, Bool, Err, IfErr, IfOk, List, Ok, OnErr, OnOk, Option, Result}
+use Rattle.std.specs.Prelude.{◌≡◌, ◌≢◌, ◌⊎◌, ℕ, ◌≤◌, Bool, Err, IfErr, IfOk, List, Ok, OnErr, OnOk, Option, Result}
 use Rattle.std.specs.Io.KnownBytes.{Appends, Keeps}
 use Rattle.plan_store.specs.declared.stores.PlanStore.{Ghosts}
 use Rattle.plan_store.specs.declared.stores.StoreFault.{StoreFault}
@@ -22,15 +22,21 @@ pub record AnswersItem {S : Type 0} (g : Ghosts S) (before now : S) (old new : O
       × Answered (Step (g.content before) item) (g.content now) text accepted × Appends old new text)
   pub err : g.is_honest now
       → IfErr result (λ cause. ItemBreaks Step cause (g.content before) (g.content now) old new item)
+  -- whatever became of the store, the writer has what it may have
+  pub replied : g.is_honest before → g.is_clean now
+      → IfErr result (λ cause. (last : Content) × ItemBreaks Step cause (g.content before) last old new item)
   -- where a crash before would have left the content alone: after an answer a crash leaves the new content alone, and
   -- after a fault the old one, or that after the item
   pub settled : g.is_honest now → LeavesOwn g before → OnOk result (LeavesOwn g now)
-  pub crash : g.is_honest now → LeavesOwn g before → OnErr result ((c : Content) → g.may_leave now c
+  pub crash : g.is_honest before → g.is_clean now → LeavesOwn g before
+      → OnErr result ((c : Content) → g.may_leave now c
       → (c ≡ g.content before) ⊎ ((reply : AnswerLines) × Step (g.content before) item reply c))
   pub blames : IfErr result (λ cause. cause ≡ Device Store → IsBlamed (g.failures before) (g.failures now))
   pub counts : g.failures before ≤ g.failures now
   pub honest : g.is_honest now → g.is_honest before
   pub clean : g.is_clean now → g.is_clean before
+  pub stays_honest : g.is_honest before → g.is_clean now → IfErr result (λ cause. cause ≢ Device Store)
+      → g.is_honest now
   pub stays_whole : OnOk result (g.is_whole before → g.is_whole now)
 
 -- an answer that was made is written, and this is whether it is accepted

@@ -1,5 +1,5 @@
 //! `list`: rows go to the writer as the store hands them out.
-ghost use Rattle.std.specs.Prelude.{◌≡◌, ℕ, ◌≤◌, IfErr, IfOk, List, OnErr, OnOk, Some, option_copied};
+ghost use Rattle.std.specs.Prelude.{◌≡◌, ◌≢◌, ◌⊎◌, ℕ, ◌≤◌, IfErr, IfOk, List, OnErr, OnOk, Some, option_copied};
 ghost use Rattle.std.specs.Io.KnownBytes.{Appends};
 ghost use Rattle.planner_machine.specs.Content.{Content};
 ghost use Rattle.planner_machine.specs.Sound.{IsSound};
@@ -89,17 +89,18 @@ fn write_lines<S: PlanStore, W: Write>(
     ensures all { S.is_honest store.new
         → IfOk result (WritesAll (IsListing what (option_copied app.entry)
         (S.content store.old)) (W.contents writer.old) (W.contents writer.new)) }
-    ensures part { S.is_honest store.new
+    ensures part { S.is_honest store.old → S.is_honest store.new ⊎ S.is_clean store.new
         → IfErr result (WritesPart (IsListing what (option_copied app.entry)
         (S.content store.old)) (W.contents writer.old) (W.contents writer.new)) }
     ensures same { S.is_honest store.new → S.content store.new ≡ S.content store.old }
-    ensures crash { S.is_honest store.new → (c : Content) → S.may_leave store.new c
-        → S.may_leave store.old c }
+    ensures crash { (c : Content) → S.may_leave store.new c → S.may_leave store.old c }
     ensures blames { IfErr result (λ fault. fault ≡ list_fault.Device
         → IsBlamed (S.failures store.old) (S.failures store.new)) }
     ensures counts { S.failures store.old ≤ S.failures store.new }
     ensures honest { S.is_honest store.new → S.is_honest store.old }
     ensures clean { S.is_clean store.new → S.is_clean store.old }
+    ensures stays_honest { S.is_honest store.old → S.is_clean store.new
+        → IfErr result (λ fault. fault ≢ list_fault.Device) → S.is_honest store.new }
     ensures stays_whole { OnOk result (S.is_whole store.old → S.is_whole store.new) }
 {
     let mut sink = LineSink { writer };

@@ -1,5 +1,5 @@
 //! A run over a whole stream.
-ghost use Rattle.std.specs.Prelude.{◌≡◌, ◌≤◌, ℕ, [], length, take, IfOk, IfErr, OnOk, Some};
+ghost use Rattle.std.specs.Prelude.{◌≡◌, ◌≢◌, ◌≤◌, ℕ, [], length, take, IfOk, IfErr, OnOk, Some};
 ghost use Rattle.std.specs.Io.KnownBytes.{Appends};
 ghost use Rattle.planner_machine.specs.Content.{Content};
 ghost use Rattle.planner_machine.specs.Sound.{IsSound};
@@ -8,7 +8,7 @@ ghost use Rattle.stream_items.specs.Items.{Alone};
 ghost use Rattle.stream_items.specs.Pages.{item_of, FitsBlock};
 ghost use Rattle.planner_cli.specs.Faults.{cause_of, fault_line, status_of};
 ghost use Rattle.planner_cli.specs.Plans.{RunsPlan};
-ghost use Rattle.planner_cli.specs.Runs.{Crashed, Ran, Stopped, ends_of};
+ghost use Rattle.planner_cli.specs.Runs.{Crashed, Ran, Stopped, StoppedSomehow, ends_of};
 ghost use Rattle.planner_cli.specs.Steps.{Step};
 ghost use Rattle.planner_cli.specs.Stores.{IsBlamed, LeavesOwn};
 ghost use Rattle.planner_cli.specs.Writes.{AnswersItem};
@@ -78,9 +78,13 @@ fn answer_all<S: PlanStore, R: BufRead, W: Write>(
     ensures fault { S.is_honest store.new
         → IfErr result (Stopped Step (λ _. []) (ends_of (S.content store.old)
         (S.content store.new) (W.contents writer.old) (W.contents writer.new) (R.remaining reader.old))) }
+    ensures replied { S.is_honest store.old → S.is_clean store.new
+        → IfErr result (StoppedSomehow Step (λ _. []) (ends_of (S.content store.old)
+        (S.content store.new) (W.contents writer.old) (W.contents writer.new) (R.remaining reader.old))) }
     ensures settled { S.is_honest store.new → LeavesOwn S.PlanStore store.old
         → OnOk result (LeavesOwn S.PlanStore store.new) }
-    ensures crash { S.is_honest store.new → LeavesOwn S.PlanStore store.old → IfErr result (λ fault.
+    ensures crash { S.is_honest store.old → S.is_clean store.new
+        → LeavesOwn S.PlanStore store.old → IfErr result (λ fault.
         (c : Content) → S.may_leave store.new c
         → Crashed Step (λ _. []) (ends_of (S.content store.old)
         (S.content store.new) (W.contents writer.old) (W.contents writer.new) (R.remaining reader.old)) fault c) }
@@ -89,6 +93,8 @@ fn answer_all<S: PlanStore, R: BufRead, W: Write>(
     ensures counts { S.failures store.old ≤ S.failures store.new }
     ensures honest { S.is_honest store.new → S.is_honest store.old }
     ensures clean { S.is_clean store.new → S.is_clean store.old }
+    ensures stays_honest { S.is_honest store.old → S.is_clean store.new
+        → IfErr result (λ fault. cause_of fault ≢ Device Store) → S.is_honest store.new }
     ensures stays_whole { OnOk result (S.is_whole store.old → S.is_whole store.new) }
 {
     streams();

@@ -1,5 +1,5 @@
 -- The grammar again, by how the words of each use are written.
-use Rattle.std.specs.Prelude.{◌≡◌, ◌≢◌, ◌⊎◌, ◌==◌, true, false, List, [], ◌∷◌, Some, codes}
+use Rattle.std.specs.Prelude.{◌≡◌, ◌≢◌, ◌⊎◌, ◌==◌, true, false, List, [], ◌∷◌, ◌++◌, Some, codes}
 use Rattle.std.specs.List.{list_any}
 use Rattle.statement_words.specs.Grammar.{Layout, Text, Use, is_complete, is_distinct, is_option}
 

@@ -8,14 +8,14 @@ use Rattle.planner_cli.proofs.jobs.answer_job.Goals as goal
 
 pub returns-in-None : goal.returns-in-None
 returns-in-None g c =
-    after_read g.S.PlanStore _ _ _ _ c.kept_answer.ensures (rw c.in_ok-answer.was at c.kept_answer.ensures.whole)
+    after_read g.S.PlanStore _ _ _ _ c.kept_answer.ensures _ c.in_ok-answer.was
     c.perform.new.store c.perform.result
     (AnswersBoth c.args.number c.args.text (job_change c.args.change)) c.perform.ensures
 
 pub returns-in-Some : goal.returns-in-Some
 returns-in-Some g c =
     let answer = c.in-Some.answer in
-    read_answered g.S.PlanStore _ _ _ _ c.kept_answer.ensures (rw c.in_ok-answer.was at c.kept_answer.ensures.whole)
+    read_answered g.S.PlanStore _ _ _ _ c.kept_answer.ensures _ c.in_ok-answer.was
     c.print_alone.result _ (λ honest. (
       answering answer,
       (

@@ -17,6 +17,6 @@ perform_within-requires-in-None-clause-ends g c honest =
 
 pub returns-in_ok-end-in-Some : goal.returns-in_ok-end-in-Some
 returns-in_ok-end-in-Some g c =
-    after_read g.S.PlanStore _ _ _ _ c.find_end.ensures (rw c.in_ok-end-in-Some.was at c.find_end.ensures.whole)
+    after_read g.S.PlanStore _ _ _ _ c.find_end.ensures _ c.in_ok-end-in-Some.was
     c.perform_within.new.store c.perform_within.result
     (AnswersBoth c.args.number c.args.text (job_change c.args.change)) c.perform_within.ensures

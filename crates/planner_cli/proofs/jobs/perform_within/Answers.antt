@@ -37,15 +37,14 @@ pub returns : goal.returns
 returns g c =
     let reads = c.read_window.follows.holds-at-none in
     let change = job_change c.args.change in
-    after_read g.S.PlanStore _ _ _ _ reads (rw c.in_ok-view.was at reads.whole) c.settle.new.store c.settle.result (AnswersBoth c.args.number c.args.text change)
+    after_read g.S.PlanStore _ _ _ _ reads _ c.in_ok-view.was c.settle.new.store c.settle.result (AnswersBoth c.args.number c.args.text change)
     (answers_so g.S.PlanStore _ _ _ _ _ (λ honest reply c'.
-    let honest' = c.settle.ensures.honest honest in
     let shows = subst (λ n. Shows n c.in_ok-view.view (g.S.PlanStore.content c.args.store.now)) c.need_of-need.ensures
-    (rw c.in_ok-view.was at reads.right honest') in
-    let decided = c.in-Ok.ensures (g.S.PlanStore.content c.args.store.now) (c.requires.ends (reads.honest honest')) shows
-    (c.requires.sound (reads.honest honest')) in
-    let same = reads.same honest' in
+    (rw c.in_ok-view.was at reads.right honest) in
+    let decided = c.in-Ok.ensures (g.S.PlanStore.content c.args.store.now) (c.requires.ends (reads.honest honest)) shows
+    (c.requires.sound (reads.honest honest)) in
+    let same = reads.same honest in
     verdict_answers c.args.number c.args.text change c.in-Ok.verdict _
     (subst (λ x. VerdictIs (decision_of change) x c.in-Ok.verdict) (sym same) decided)
     (ap (λ (x : Rattle.planner_machine.specs.Content.Content). x.jobs c.args.number) same
-    ∙ c.requires.new (reads.honest honest')) reply c') c.settle.ensures)
+    ∙ c.requires.new (reads.honest honest)) reply c') c.settle.ensures)

@@ -41,6 +41,7 @@ returns-in-Ok g c =
     ))
     (subst (λ a. Prints (answering a) printed.text.items printed.is_accepted) parts.answer c.in_ok-printed.ensures.prints)
     c.in-Ok.ensures.settled c.apply.ensures.counts c.apply.ensures.honest c.apply.ensures.clean
+    (λ honest clean. c.in-Ok.ensures.stays_honest honest clean tt)
     c.in-Ok.ensures.stays_whole
 
 pub returns-in-Err : goal.returns-in-Err
@@ -62,7 +63,7 @@ returns-in-Err g c =
       )
     ])
     (λ honest own c' leaves.
-    let fits = c.requires.fits (c.apply.ensures.honest honest) in
+    let fits = c.requires.fits honest in
     elim (c.apply.ensures.crash honest c' leaves) [
       | inl still ↦ inl (own c' still)
       | inr (inl same) ↦ inl same
@@ -76,3 +77,4 @@ returns-in-Err g c =
       )
     ])
     c.in-Err.ensures.blames c.apply.ensures.counts c.apply.ensures.honest c.apply.ensures.clean
+    c.in-Err.ensures.stays_honest

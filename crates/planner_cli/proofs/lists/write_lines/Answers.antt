@@ -18,9 +18,9 @@ returns-clause-all g c honest =
     subst (λ w. WritesAll whole (g.W.Write.contents c.args.writer.now) (g.W.Write.contents w) count) same wrote) hands
 
 pub returns-clause-part : goal.returns-clause-part
-returns-clause-part g c honest =
-    let sound = c.requires (c.rows_to.ensures.honest honest) in
-    let hands = c.rows_to.ensures.part honest sound.serials in
+returns-clause-part g c honest still =
+    let sound = c.requires honest in
+    let hands = c.rows_to.ensures.part honest still sound.serials in
     let whole = IsListing c.args.what (option_copied c.args.app) (g.S.PlanStore.content c.args.store.now) in
     if_err c.rows_to.result _ _ (λ fault h.
     let (named, wrote) = wrote_part c.rows_to.new.sink (λ k. g.W.Write.contents k.writer.now) (λ k. k.writer.ghost_name)

@@ -14,6 +14,7 @@ loop-init g c = record {
   counts = omega arith;
   honest = λ h. h;
   clean = λ h. h;
+  stays_honest = λ h clean. h;
   whole = λ h. h;
   settled = λ h own. own;
   progress = λ h. progress_starts _ _ _ _ _ c.new-tally.ensures.accepted c.new-tally.ensures.refused;
@@ -25,25 +26,58 @@ returns-in-Err-clause-fault g c honest =
     (c.new.ensures.cause ∙ c.cause_of_read.ensures) c.new.ensures.tally
 
 pub returns-in-Err-clause-crash : goal.returns-in-Err-clause-crash
-returns-in-Err-clause-crash g c honest own left leaves =
-    crashes_between _ _ _ _ _ _ _ _ c.in-Err.fault _ (c.loop.invariant.progress honest)
+returns-in-Err-clause-crash g c honest clean own left leaves =
+    let still = c.loop.invariant.stays_honest honest clean in
+    crashes_between _ _ _ _ _ _ _ _ c.in-Err.fault _ (c.loop.invariant.progress still)
     (c.new.ensures.cause ∙ c.cause_of_read.ensures) c.new.ensures.tally left
-    (c.loop.invariant.settled honest own left leaves)
+    (c.loop.invariant.settled still own left leaves)
+
+pub returns-in-Err-clause-replied : goal.returns-in-Err-clause-replied
+returns-in-Err-clause-replied g c honest clean = (
+  _,
+  halts_between _ _ _ _ _ _ _ _ c.in-Err.fault _ (c.loop.invariant.progress (c.loop.invariant.stays_honest honest clean))
+      (c.new.ensures.cause ∙ c.cause_of_read.ensures) c.new.ensures.tally,
+)
 
 pub returns-clause-crash : goal.returns-clause-crash
-returns-clause-crash g c honest own left leaves =
-    crashes_between _ _ _ _ _ _ _ _ Reads.Reader _ (c.loop.invariant.progress honest) c.new-2.ensures.cause
-    c.new-2.ensures.tally left (c.loop.invariant.settled honest own left leaves)
+returns-clause-crash g c honest clean own left leaves =
+    let still = c.loop.invariant.stays_honest honest clean in
+    crashes_between _ _ _ _ _ _ _ _ Reads.Reader _ (c.loop.invariant.progress still) c.new-2.ensures.cause
+    c.new-2.ensures.tally left (c.loop.invariant.settled still own left leaves)
+
+pub returns-clause-replied : goal.returns-clause-replied
+returns-clause-replied g c honest clean = (
+  _,
+  halts_between _ _ _ _ _ _ _ _ Reads.Reader _ (c.loop.invariant.progress (c.loop.invariant.stays_honest honest clean))
+      c.new-2.ensures.cause c.new-2.ensures.tally,
+)
 
 pub returns-in-Err-answer_one-clause-crash : goal.returns-in-Err-answer_one-clause-crash
-returns-in-Err-answer_one-clause-crash g c honest own left leaves =
+returns-in-Err-answer_one-clause-crash g c honest clean own left leaves =
     let met = sym c.item.ensures.item ∙ ap (option_map item_of) c.in-Some.is in
     let halted = c.new-in-Err-answer_one.ensures in
-    let before = c.answer_one.ensures.honest honest in
+    let before = c.loop.invariant.stays_honest honest (c.answer_one.ensures.clean clean) in
+    let (last, breaks) = c.in-Err-answer_one.ensures.replied before clean in
     crashes_within _ _ _ _ _ _ _ _ _ _ _ _ _ c.in-Err-answer_one.cause _ (c.loop.invariant.progress before)
-    c.in_default.ensures.read met halted.cause halted.tally
-    (c.in-Err-answer_one.ensures.err honest) left
-    (c.in-Err-answer_one.ensures.crash honest (c.loop.invariant.settled before own) left leaves)
+    c.in_default.ensures.read met halted.cause halted.tally breaks _ left
+    (c.in-Err-answer_one.ensures.crash before clean (c.loop.invariant.settled before own) left leaves)
+
+pub returns-in-Err-answer_one-clause-replied : goal.returns-in-Err-answer_one-clause-replied
+returns-in-Err-answer_one-clause-replied g c honest clean =
+    let met = sym c.item.ensures.item ∙ ap (option_map item_of) c.in-Some.is in
+    let halted = c.new-in-Err-answer_one.ensures in
+    let before = c.loop.invariant.stays_honest honest (c.answer_one.ensures.clean clean) in
+    let (last, breaks) = c.in-Err-answer_one.ensures.replied before clean in (
+      last,
+      halts_within _ _ _ _ _ _ _ _ _ _ _ _ _ c.in-Err-answer_one.cause _ (c.loop.invariant.progress before)
+          c.in_default.ensures.read met halted.cause halted.tally breaks,
+    )
+
+pub returns-in-Err-answer_one-clause-stays_honest : goal.returns-in-Err-answer_one-clause-stays_honest
+returns-in-Err-answer_one-clause-stays_honest g c honest clean fine =
+    c.in-Err-answer_one.ensures.stays_honest
+    (c.loop.invariant.stays_honest honest (c.answer_one.ensures.clean clean)) clean
+    (λ store. fine (c.new-in-Err-answer_one.ensures.cause ∙ store))
 
 pub returns-clause-fault : goal.returns-clause-fault
 returns-clause-fault g c honest =
@@ -75,6 +109,8 @@ loop-preserved g c =
       counts = let a = c.loop.invariant.counts in let b = c.answer_one.ensures.counts in omega arith;
       honest = λ honest. c.loop.invariant.honest (c.answer_one.ensures.honest honest);
       clean = λ clean. c.loop.invariant.clean (c.answer_one.ensures.clean clean);
+      stays_honest = λ honest clean. c.in-Ok.ensures.stays_honest
+          (c.loop.invariant.stays_honest honest (c.answer_one.ensures.clean clean)) clean tt;
       whole = λ whole. c.in-Ok.ensures.stays_whole (c.loop.invariant.whole whole);
       settled = λ honest own.
           c.in-Ok.ensures.settled honest (c.loop.invariant.settled (c.answer_one.ensures.honest honest) own);

@@ -1,11 +1,12 @@
 use Rattle.planner_cli.proofs.Progress.{crash_written, fault_written}
-use Rattle.planner_cli.proofs.PlanLemmas.{crashed_leads, ran_leads, stopped_leads}
+use Rattle.planner_cli.proofs.PlanLemmas.{crashed_leads, ran_leads, replied_leads, stopped_leads}
 use Rattle.planner_cli.proofs.stream.run.Goals as goal
 
 pub returns-in-Ok : goal.returns-in-Ok
 returns-in-Ok g c = record {
   ran = λ honest. ran_leads c.streams.ensures.sound c.streams.ensures.by_fate _ _ _ _ _ _
       (c.requires (c.answer_all.ensures.honest honest)) (c.in-Ok.ensures.ran honest);
+  replied = λ honest clean. tt;
   fault = λ honest. tt;
   settled = c.in-Ok.ensures.settled;
   crash = λ honest own. tt;
@@ -13,24 +14,30 @@ returns-in-Ok g c = record {
   counts = c.answer_all.ensures.counts;
   honest = c.answer_all.ensures.honest;
   clean = c.answer_all.ensures.clean;
+  stays_honest = λ honest clean fine. c.in-Ok.ensures.stays_honest honest clean tt;
   whole = c.in-Ok.ensures.stays_whole;
 }
 
 pub returns-in-Err : goal.returns-in-Err
 returns-in-Err g c = record {
   ran = λ honest. tt;
+  replied = λ honest clean.
+      let (last, stopped) = c.in-Err.ensures.replied honest clean in
+      replied_leads c.streams.ensures.sound c.streams.ensures.by_fate _ _ last _ _ _ _ (c.requires honest)
+      (fault_written _ _ _ _ _ _ _ _ _ stopped c.cause.ensures c.write_fault.ensures);
   fault = λ honest. stopped_leads c.streams.ensures.sound c.streams.ensures.by_fate _ _ _ _ _ _
       (c.requires (c.answer_all.ensures.honest honest))
       (fault_written _ _ _ _ _ _ _ _ _ (c.in-Err.ensures.fault honest) c.cause.ensures c.write_fault.ensures);
   settled = λ honest own. tt;
   crash = λ honest own left leaves.
-      crashed_leads c.streams.ensures.sound c.streams.ensures.by_fate _ _ _ _ _ _ left
-      (c.requires (c.answer_all.ensures.honest honest))
-      (crash_written _ _ _ _ _ _ _ _ _ left (c.in-Err.ensures.crash honest own left leaves) c.cause.ensures
-      c.write_fault.ensures);
+      crashed_leads c.streams.ensures.sound c.streams.ensures.by_fate _ _ _ _ _ _ left (c.requires honest)
+      (crash_written _ _ _ _ _ _ _ _ _ left
+      (c.in-Err.ensures.crash honest (g.met.S.PlanStore.left_is_clean _ left leaves) own left leaves)
+      c.cause.ensures c.write_fault.ensures);
   blames = c.in-Err.ensures.blames;
   counts = c.answer_all.ensures.counts;
   honest = c.answer_all.ensures.honest;
   clean = c.answer_all.ensures.clean;
+  stays_honest = c.in-Err.ensures.stays_honest;
   whole = tt;
 }

@@ -14,6 +14,6 @@ answer_within-requires-clause-ends g c honest =
 
 pub returns : goal.returns
 returns g c =
-    after_read g.S.PlanStore _ _ _ _ c.find_end.ensures (rw c.in_ok-end.was at c.find_end.ensures.whole)
+    after_read g.S.PlanStore _ _ _ _ c.find_end.ensures _ c.in_ok-end.was
     c.answer_within.new.store c.answer_within.result
     (Serves (Trial (daily_change c.args.function.now))) c.answer_within.ensures

@@ -25,10 +25,10 @@ module _ {S : Type 0} {is_honest : S → Type 0} {content : S → Content} {fail
       → content now ≡ content before → ((c : Content) → may_leave now c → may_leave before c)
       → (fault ≡ Device → MoreFailures (failures before) (failures now) ⊎ (0 < failures before))
       → (0 < failures before → fault ≡ Device) → failures before ≤ failures now
-      → (is_honest now → is_honest before) → (is_clean now → is_clean before)
+      → (is_honest now → is_honest before) → (is_clean now → is_clean before) → (is_honest before → is_honest now)
       → Applies is_honest content failures may_leave is_clean is_whole before now change result
-  unwritten (Ok v) fault is same leaves blames broken counts honest clean = absurd is
-  unwritten (Err told) fault is same leaves blames broken counts honest clean = record {
+  unwritten (Ok v) fault is same leaves blames broken counts honest clean stays = absurd is
+  unwritten (Err told) fault is same leaves blames broken counts honest clean stays = record {
     done = λ _. tt;
     unchanged = λ _ _. same;
     whole = λ _. inl same;
@@ -39,6 +39,7 @@ module _ {S : Type 0} {is_honest : S → Type 0} {content : S → Content} {fail
     counts = counts;
     honest = honest;
     clean = clean;
+    stays_honest = λ was _ _. stays was;
     stays_whole = tt;
   }
 
@@ -49,9 +50,9 @@ module _ {S : Type 0} {is_honest : S → Type 0} {content : S → Content} {fail
       → ((c : Content) → may_leave now c → may_leave before c ⊎ (c ≡ after change (content before)))
       → IfErr result (λ fault. fault ≡ Device → MoreFailures (failures before) (failures now))
       → failures before ≡ 0 → (is_honest now → is_honest before) → (is_clean now → is_clean before)
-      → OnOk result (is_whole now)
+      → (is_honest before → is_honest now) → OnOk result (is_whole now)
       → Applies is_honest content failures may_leave is_clean is_whole before now change result
-  written (Ok v) done same settled crash blames none honest clean ends_whole = record {
+  written (Ok v) done same settled crash blames none honest clean stays ends_whole = record {
     done = λ _. done;
     unchanged = λ _. tt;
     whole = λ _. tt;
@@ -62,9 +63,10 @@ module _ {S : Type 0} {is_honest : S → Type 0} {content : S → Content} {fail
     counts = omega (arith, none);
     honest = honest;
     clean = clean;
+    stays_honest = λ was _ _. stays was;
     stays_whole = λ _. ends_whole;
   }
-  written (Err fault) done same settled crash blames none honest clean ends_whole = record {
+  written (Err fault) done same settled crash blames none honest clean stays ends_whole = record {
     done = λ _. tt;
     unchanged = λ _ _. same;
     whole = λ _. inl same;
@@ -75,6 +77,7 @@ module _ {S : Type 0} {is_honest : S → Type 0} {content : S → Content} {fail
     counts = omega (arith, none);
     honest = honest;
     clean = clean;
+    stays_honest = λ was _ _. stays was;
     stays_whole = tt;
   }
 
@@ -112,7 +115,7 @@ returns-clause-applies g c =
       | inr made ↦ inr (subst (λ l. d ≡ after c.args.change (content_of l)) lists made)
     ])
     (subst (λ n. IfErr result (λ fault. fault ≡ Device → MoreFailures n now.failures)) still did.blames)
-    none (λ _. tt) calm did.ends_whole
+    none (λ _. tt) calm (λ _. tt) did.ends_whole
 
 pub returns-clause-caused : goal.returns-clause-caused
 returns-clause-caused g c none clean can =
@@ -139,7 +142,7 @@ returns-in_err-prepared-clause-applies g c =
     c.from_residual.ensures.1 refl (λ d both. both)
     (λ device. inr (c.in_err-prepared.ensures.blames device))
     (λ some. let h = c.in_err-prepared.ensures.broken some in cc h)
-    (omega arith) (λ _. tt) (λ clean. clean)
+    (omega arith) (λ _. tt) (λ clean. clean) (λ _. tt)
 
 pub returns-in_err-make_sure-clause-applies : goal.returns-in_err-make_sure-clause-applies
 returns-in_err-make_sure-clause-applies g c =
@@ -157,7 +160,7 @@ returns-in_err-make_sure-clause-applies g c =
     ))
     (λ device. inl (c.in_err-make_sure.ensures.blames device))
     (λ some. absurd (let h : ⊥ = omega (arith, none, some) in h))
-    asked.counts (λ _. tt) calm
+    asked.counts (λ _. tt) calm (λ _. tt)
 
 pub returns-in_err-make_sure-clause-caused : goal.returns-in_err-make_sure-clause-caused
 returns-in_err-make_sure-clause-caused g c none clean can =
