@@ -1,5 +1,5 @@
 -- The version of a plan is shown.
-use Rattle.std.proofs.Common.{◌≡◌, ◌⊎◌, ◌∙◌, ap, inl, inr, refl, subst, sym, true, ℕ, List, [], ◌∷◌, length, map, Option, Some, None, nat_lt}
+use Rattle.std.proofs.Common.{◌≡◌, ◌⊎◌, ◌∙◌, ap, inl, inr, refl, subst, sym, true, ℕ, List, [], ◌∷◌, map, Option, Some, None}
 use Rattle.std.specs.Prelude.{Result, Ok, Err, IfOk, IfErr, IsSome, codes}
 use Rattle.std.specs.List.{Contains}
 use Rattle.std.specs.List.Sorted.{IsPermutation}
@@ -9,10 +9,7 @@ use Rattle.sqlite.specs.Order.{Row as Values, column}
 use Rattle.sqlite.specs.State.{IsLive, Shown, State}
 use Rattle.sqlite.specs.Term.{Term, col, eval_all}
 use Rattle.sqlite_schema.specs.declared.schema.Schema.{Schema}
-use Rattle.sqlite_resolve.specs.Compile.{first}
-use Rattle.sqlite_resolve.specs.Lowering.{max_budget}
 use Rattle.sqlite_trees.specs.Objects.{catalog_tree}
-use Rattle.sqlite_typing.specs.Types.{are_typed, row_classes}
 use Rattle.sqlite_tied.specs.Compute.{everything}
 use Rattle.keyed_lists.proofs.KeyLemmas.{contains_cases, nothing}
 use Rattle.table_schema.specs.Places.{TableStandsAt}
@@ -25,8 +22,6 @@ use Rattle.table_schema.proofs.NamedLemmas.{tree_is}
 use Rattle.table_schema.proofs.QueryMeanings.{ShowsRows}
 use Rattle.table_schema.proofs.ShownLemmas.{shows_all, stays}
 use Rattle.table_schema.proofs.StatementLemmas.{text_fails, text_reads}
-use Rattle.table_schema.proofs.Written.{IfRead}
-use Rattle.table_schema.proofs.WrittenQueries.{IsBareText, has_all, shown_as, shown_column}
 use Rattle.table_facts.specs.Facts.{natural}
 use Rattle.table_opening.specs.Foreign.{RefusesVersion, version_sql}
 use Rattle.table_opening.specs.Held.{AreKnown, HoldsPlan}

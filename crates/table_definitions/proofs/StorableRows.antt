@@ -29,11 +29,11 @@ either : (b : Bool) (x : Value) → cond b x x ≡ x
 either true x = refl
 either false x = refl
 
-cast-Int : (n : ℤ) → cast Integer (Int n) ≡ Int n
+pub cast-Int : (n : ℤ) → cast Integer (Int n) ≡ Int n
 unfolding unary
 cast-Int n = either _ (Int n)
 
-cast-Null : cast Integer Null ≡ Null
+pub cast-Null : cast Integer Null ≡ Null
 unfolding unary
 cast-Null = either _ Null
 

@@ -1,16 +1,12 @@
 -- What the first row makes of the tables, and that it can be stored.
-use Rattle.std.proofs.Common.{◌≡◌, ◌↔◌, ℕ, ℤ, Bool, true, false, cond}
+use Rattle.std.proofs.Common.{◌↔◌, ℕ}
 use Rattle.std.proofs.Common.{List, [], ◌∷◌, map, refl, sym, subst, None, arith}
 use Rattle.std.specs.Cmp.Lexicographic.{slice_cmp}
 use Rattle.std.specs.List.{Contains}
 use Rattle.std.specs.Ordering.{nat_cmp}
 use Rattle.std.specs.FinMap as maps
 use Rattle.std.specs.FinMap.{get-empty}
-use Rattle.sqlite.specs.Kind.TheVariants.{Integer}
-use Rattle.sqlite.specs.Ops.{unary}
-use Rattle.sqlite.specs.Cast.{cast}
 use Rattle.sqlite.specs.Order.{Row as Values}
-use Rattle.sqlite.specs.declared.types.Value.{Value}
 use Rattle.sqlite.specs.declared.types.Value.TheVariants.{Null, Int}
 use Rattle.app_definitions.specs.Options.{default_options}
 use Rattle.planner_machine.specs.Content.{nothing_known}
@@ -22,21 +18,10 @@ use Rattle.table_facts.specs.Content.{AreEach, IsApplicationRow, IsContentOf, Is
 use Rattle.table_facts.specs.Content.{IsUnderOwn, meta_values}
 use Rattle.table_facts.specs.Facts.{IsCalendarRow, IsCycleRow, IsOffsetRow, IsPeriodRow, IsPredecessorRow}
 use Rattle.table_facts.proofs.Told.{none_some}
+use Rattle.table_definitions.proofs.StorableRows.{cast-Int, cast-Null}
 use Rattle.table_opening.specs.First.{first_rows}
 
 -- ---- kinds
-
-either : (b : Bool) (x : Value) → cond b x x ≡ x
-either true x = refl
-either false x = refl
-
-cast-Int : (n : ℤ) → cast Integer (Int n) ≡ Int n
-unfolding unary
-cast-Int n = either _ (Int n)
-
-cast-Null : cast Integer Null ≡ Null
-unfolding unary
-cast-Null = either _ Null
 
 pub first_kinds : AreOfKinds table.Meta (meta_values None 0 default_options)
 first_kinds = simp (cast-Int, cast-Null)

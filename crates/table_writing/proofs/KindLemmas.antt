@@ -1,32 +1,19 @@
 -- The values of each kind of fact are of the kinds of the columns, and are shown as they are stored.
-use Rattle.std.proofs.Common.{◌≡◌, ℕ, ℤ, pos, Bool, true, false, cond, List, Option, Some, None, option_map, refl}
+use Rattle.std.proofs.Common.{◌≡◌, ℕ, pos, List, Option, Some, None, option_map, refl}
 use Rattle.sqlite.specs.Kind.TheVariants.{Integer}
-use Rattle.sqlite.specs.declared.types.Value.{Value}
 use Rattle.sqlite.specs.declared.types.Value.TheVariants.{Null, Int, Text}
-use Rattle.sqlite.specs.Ops.{unary}
 use Rattle.sqlite.specs.Cast.{cast, as_text}
 use Rattle.table_schema.specs.Rows.{AreOfKinds}
 use Rattle.table_schema.specs.declared.tables.Table.TheVariants as table
 use Rattle.table_facts.specs.Facts.{current_key, current_values, deletion_key, deletion_values, link_key, link_values}
 use Rattle.table_facts.specs.Facts.{natural, or_null, pair_values, row_key, row_values}
+use Rattle.table_definitions.proofs.StorableRows.{cast-Int, cast-Null}
 use Rattle.app_definitions.specs.declared.options.Options.{Options}
 use Rattle.planner_machine.specs.declared.content.Bounds.{Bounds}
 use Rattle.planner_machine.specs.declared.job.Job.{Job}
 use Rattle.table_facts.specs.Content.{job_values, meta_values}
 use Rattle.table_writing.specs.Taking.{AreKeysOf}
 use Rattle.table_writing.specs.Writing.{AreStorable, StandAlone}
-
-either : (b : Bool) (x : Value) → cond b x x ≡ x
-either true x = refl
-either false x = refl
-
-pub cast-Int : (n : ℤ) → cast Integer (Int n) ≡ Int n
-unfolding unary
-cast-Int n = either _ (Int n)
-
-pub cast-Null : cast Integer Null ≡ Null
-unfolding unary
-cast-Null = either _ Null
 
 cast-text : (o : Option (List ℕ)) → as_text (or_null (option_map Text o)) ≡ or_null (option_map Text o)
 cast-text None = refl

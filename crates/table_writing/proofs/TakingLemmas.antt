@@ -1,6 +1,6 @@
 -- What statements in turn take, and why they fail.
-use Rattle.std.proofs.Common.{◌≡◌, ◌<◌, ◌+◌, ◌∙◌, ℕ, true, false, List, length, drop}
-use Rattle.std.proofs.Common.{get_or, refl, sym, ap, subst, arith, IsTrue, Result, Ok, Err}
+use Rattle.std.proofs.Common.{◌≡◌, ◌∙◌, true, false}
+use Rattle.std.proofs.Common.{refl, sym, ap, subst, arith, IsTrue, Result, Ok, Err}
 use Rattle.std.specs.Prelude.{IfErr, IsErrAnd}
 use Rattle.sqlite.specs.Order.{Row as Values}
 use Rattle.sqlite.specs.Effect.{Database, IsDatabase}
@@ -12,17 +12,18 @@ use Rattle.sqlite.specs.Steps.{FailsToCommit}
 use Rattle.sqlite.specs.Store.{Ghosts}
 use Rattle.sqlite.specs.declared.error.Error.{Error}
 use Rattle.sqlite.specs.declared.transaction.Transaction.{Transaction}
-use Rattle.table_schema.specs.Rows.{HaveRowids, IsAlone, IsPlan, MayFail, Stands, Tables, tables_of, with_cells, without_key}
+use Rattle.sqlite.proofs.InsideLemmas.{keeps_then}
+use Rattle.table_schema.specs.Rows.{AreOfKinds, HaveRowids, IsAlone, IsPlan, MayFail, Stands, Tables, tables_of, with_cells, without_key}
 use Rattle.table_schema.specs.Schema.{HasOwnIndexes}
 use Rattle.table_schema.specs.Takes.{IsSoundPlan, LosesKey, TakesRow}
 use Rattle.table_schema.specs.Writes.{Commits, TakesWhere, WritesWhere, seen}
-use Rattle.table_schema.proofs.InTurn.{cut}
+use Rattle.table_schema.proofs.InTurn.{survives_both, then_ok}
 use Rattle.table_schema.proofs.OnceLemmas.{ended_so, undone, unended}
 use Rattle.table_schema.proofs.ResultLemmas.{if_err, still_ok}
 use Rattle.table_schema.proofs.StatementLemmas.{plan_still}
 use Rattle.table_schema.proofs.StopLemmas.{vain_before, vain_since}
 use Rattle.table_schema.specs.declared.tables.Table.{Table}
-use Rattle.table_writing.specs.Taking.{TakesEach, WritesTaking}
+use Rattle.table_writing.specs.Taking.{WritesTaking}
 use Rattle.table_writing.specs.Writing.{HasRows, HoldsWritten, MayFailWhere}
 
 -- what is told is the error
@@ -89,14 +90,38 @@ module _ {S : Type 0} (g : Ghosts S) where
     sound = λ clean sound takes. tt;
   }
 
--- ---- loops
+-- ---- one after another
 
--- the next item is taken, and then the rest
-pub each_on : {A : Type 0} (t : Table) (values_of : A → Values) (items : List A) (i : ℕ) (item : A) (all : Tables)
-    → i < length items → item ≡ get_or items i item → TakesEach t values_of (drop i items) all
-    → TakesRow t (values_of item) all × TakesEach t values_of (drop (i + 1) items) (with_cells t (values_of item) all)
-each_on t values_of items i item all low is h =
-    subst (λ xs. TakesEach t values_of xs all) (cut items i item low is) h
+-- what is written first, and then the next
+pub writes_then : {S T U : Type 0} {g : Ghosts S} {A B C D : Tables → Type 0} {f h : Tables → Tables}
+    {old mid new : Transaction S} {v : T} {r : Result U Error} → WritesTaking A B g old mid (Ok v) f
+    → WritesTaking C D g mid new r h
+    → WritesTaking (λ all. A all × C (f all)) (λ all. B all × D (f all)) g old new r (λ all. h (f all))
+writes_then {g = g} {B = B} {C = C} {D = D} {f = f} {h = h} {old = old} {mid = mid} {new = new} {v = v} {r = r} first second =
+    record {
+      same_reference = second.same_reference ∙ first.same_reference;
+      ok = λ clean plan mode fits.
+          let one = first.ok (omega (arith, second.survives.clean)) plan mode fits.0 in
+          then_ok r (seen g old) (seen g mid) (seen g new) _ h one
+          (second.ok clean one.plan one.mode (subst C (sym one.rows_are) fits.1));
+      kept = λ clean. keeps_then (seen g old) (seen g mid) (seen g new)
+          (first.kept (omega (arith, second.survives.clean))) (second.kept clean);
+      survives = survives_both (seen g old) (seen g mid) (seen g new) first.survives second.survives;
+      takes = takes_then g B D f h old mid new v r first.survives second.survives first.takes second.takes;
+    }
+
+-- where one is not written, the whole is not
+pub writes_no_more : {S T U : Type 0} {g : Ghosts S} {A B C D : Tables → Type 0} {f h : Tables → Tables}
+    {old new : Transaction S} {e : Error} (r : Result U Error) → IsErrAnd r (λ told. told ≡ e)
+    → ((all : Tables) → D all → B all) → WritesTaking {T = T} A B g old new (Err e) f → WritesTaking C D g old new r h
+writes_no_more (Ok v) is from it = absurd is
+writes_no_more {g = g} {B = B} {D = D} {f = f} {h = h} {old = old} {new = new} {e = e} (Err told) is from it = record {
+  same_reference = it.same_reference;
+  ok = λ clean plan mode fits. tt;
+  kept = it.kept;
+  survives = it.survives;
+  takes = takes_no_more g B D f h old new e (Err told) is from it.takes;
+}
 
 -- ---- a transaction
 
@@ -120,6 +145,21 @@ plan_on mid new rows schema is plan rows_are in_it = (
   ap (λ (db : Database). tables_of db.trees) is ∙ rows_are,
   ap (λ (db : Database). db.schema) is ∙ in_it,
 )
+
+-- what is put in by values that were handed over is put in by those values
+pub put_by : {S : Type 0} (g : Ghosts S) (old new : Transaction S) (result : Result (Unit {0}) Error) (t : Table)
+    (given cells : Values) → given ≡ cells
+    → WritesWhere (λ _. AreOfKinds t given) g old new result (with_cells t given)
+    → TakesWhere (TakesRow t given) g old new result (with_cells t given)
+    → WritesTaking (λ _. AreOfKinds t cells) (TakesRow t cells) g old new result (with_cells t cells)
+put_by g old new result t given cells same writes takes =
+    subst (λ v. WritesTaking (λ _. AreOfKinds t v) (TakesRow t v) g old new result (with_cells t v)) same (record {
+      same_reference = writes.same_reference;
+      ok = writes.ok;
+      kept = writes.kept;
+      survives = writes.survives;
+      takes = takes;
+    })
 
 -- what is taken out by a key that was handed over is taken out by that key
 pub taken_by : {S : Type 0} (g : Ghosts S) (old new : Transaction S) (result : Result (Unit {0}) Error) (t : Table)
