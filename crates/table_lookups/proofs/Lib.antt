@@ -1,0 +1,9 @@
+pub mod WrittenQuestions
+pub mod LookTexts
+pub mod TestMeanings
+pub mod SortMeanings
+pub mod QuestionMeanings
+pub mod LookFits
+pub mod LookMeanings
+pub mod AnswerLemmas
+pub mod AskLemmas

@@ -1,0 +1,8 @@
+//! Rows of the tables that are looked up: by a number, by a name and a moment, one after another in an order.
+#![tactic(auto)]
+
+mod asking;
+mod looks;
+
+pub use asking::ask;
+pub use looks::Look;
