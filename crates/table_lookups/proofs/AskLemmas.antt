@@ -1,5 +1,5 @@
 -- What a question leaves, shows, and why it fails.
-use Rattle.std.proofs.Common.{◌≡◌, ◌∙◌, ◌^◌, nat_le, ℕ, List, [], ◌∷◌, ◌++◌, append-nil, length, Result, Ok, Err, IsSome, inl, inr, refl, sym, ap, subst, false, true, true≢false}
+use Rattle.std.proofs.Common.{◌≡◌, ◌∙◌, ◌^◌, nat_le, ℕ, List, [], ◌∷◌, ◌++◌, append-nil, length, Result, Ok, Err, IsSome, IsTrue, inl, inr, refl, sym, ap, subst, false, true, true≢false}
 use Rattle.std.specs.Prelude.{IfErr, IfOk}
 use Rattle.sqlite.specs.Clock.{timed}
 use Rattle.sqlite.specs.Effect.{Database, RefusesQuery, RefusesToRead}
@@ -7,13 +7,13 @@ use Rattle.sqlite.specs.Listing.{IsSourceOf, understood}
 use Rattle.sqlite.specs.Order.{Row}
 use Rattle.sqlite.specs.Program.{QueryOverflows, overlay}
 use Rattle.sqlite.specs.State as state
-use Rattle.sqlite.specs.State.{CommitsShowing, FailsToQuery, IsLive, IsNotRun, IsUnchanged, Shown, State, Survives}
+use Rattle.sqlite.specs.State.{Begins, CommitsShowing, FailsToQuery, IsLive, IsNotRun, IsUnchanged, Shown, State, Survives}
 use Rattle.sqlite.specs.declared.error.Error.{Error}
 use Rattle.sqlite.specs.declared.error.Error.TheVariants.{SqliteFailure}
 use Rattle.sqlite.specs.declared.error.ErrorCode.TheVariants.{OperationInterrupted}
 use Rattle.sqlite.specs.declared.types.Value.TheVariants.{Null}
 use Rattle.sqlite.specs.Tree.{Trees}
-use Rattle.sqlite.proofs.Callers.{IsPlain, command_of, never_commits, reads_as}
+use Rattle.sqlite.proofs.Callers.{IsPlain, begins_as, command_of, never_commits, reads_as}
 use Rattle.sqlite.proofs.StateLemmas.{survives_weaker}
 use Rattle.sqlite_trees.specs.Objects.{catalog_tree}
 use Rattle.sqlite_typing.specs.Types.{accepts_program}
@@ -44,15 +44,18 @@ module _ (look : Look) (asked : Row) (old new : State) (has : HasTables old.now.
   means : Means old.now.schema (look_sql look) (look_command tree look) (asked_with look)
   means = look_means old.now.schema (has.at t) tree look (has.stands t)
 
+  pub plain : IsPlain (understood old.now.schema (look_sql look))
+  plain = means.plain
+
   pub stays : (rows : List Row) → Shown (look_sql look) asked old new rows → IsUnchanged old new
   unfolding Shown
   stays rows h =
       let none = (subst IsPlain h.1.is means.plain).0 in
       (subst (state.ShowsRows old new (look_sql look) h.0 (timed asked h.0.formats h.1.now) rows) none h.2).3
 
-  told : IsLive old → IsUnchanged old new → tables_of old.now.trees t ≡ old.now.trees tree
-  told live same =
-      let sound = (live same.0.was_open).0 in
+  told : IsLive old → IsTrue old.is_open → tables_of old.now.trees t ≡ old.now.trees tree
+  told live opened =
+      let sound = (live opened).0 in
       ap old.now.trees (tells old.now.schema has (old.now.trees catalog_tree) sound.lists.listed t)
 
   pub answered : IsLive old → (rows : List Row) → Shown (look_sql look) asked old new rows
@@ -60,7 +63,17 @@ module _ (look : Look) (asked : Row) (old new : State) (has : HasTables old.now.
   answered live rows h =
       let answers = reads_as (look_sql look) asked old new old.now.schema refl _ means.is means.plain means.own rows h in
       answer_is tree look asked old.now.trees (tables_of old.now.trees) rows (own tree old.now.trees (has.stands t).stored)
-      (told live (stays rows h)) (answers.answer Null)
+      (told live (stays rows h).0.was_open) (answers.answer Null)
+
+  -- what begins an answer is the front of one
+  pub begun : IsLive old → IsTrue old.is_open → (given : List Row) → Begins (look_sql look) asked old given
+      → (rest : List Row) × Answers (question look) asked (tables_of old.now.trees) (given ++ rest)
+  begun live opened given h =
+      let sure = (begins_as (look_sql look) asked old old old.now.schema refl _ means.is means.plain means.own given h).1 in (
+        sure.0,
+        answer_is tree look asked old.now.trees (tables_of old.now.trees) (given ++ sure.0)
+            (own tree old.now.trees (has.stands t).stored) (told live opened) (sure.1 Null),
+      )
 
   -- ---- why it fails
 
@@ -98,7 +111,7 @@ module _ (look : Look) (asked : Row) (old new : State) (has : HasTables old.now.
         inr (stops it.0 e (ap (λ (d : Database). d.schema) db)
         (subst (λ k. RefusesToRead old.step_limit k it.0 asked e) (ap command_of (sym h.1.is) ∙ means.is) it.2))
 
-  failed : (e : Error) → FailsToQuery (look_sql look) asked old new e → StaysOrIsUndone old new
+  pub failed : (e : Error) → FailsToQuery (look_sql look) asked old new e → StaysOrIsUndone old new
   unfolding FailsToQuery IsNotRun
   failed e (inl (inl (h, same))) = inl same
   failed e (inl (inr h)) = inr h.3

@@ -7,3 +7,4 @@ pub mod LookFits
 pub mod LookMeanings
 pub mod AnswerLemmas
 pub mod AskLemmas
+pub mod HandLemmas

@@ -2,7 +2,9 @@
 #![tactic(auto)]
 
 mod asking;
+mod handing;
 mod looks;
 
 pub use asking::ask;
+pub use handing::{HandFault, SinkFault, ValuesSink, hand};
 pub use looks::Look;
