@@ -8,3 +8,4 @@ pub mod LookMeanings
 pub mod AnswerLemmas
 pub mod AskLemmas
 pub mod HandLemmas
+pub mod LastLemmas

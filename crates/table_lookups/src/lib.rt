@@ -2,9 +2,14 @@
 #![tactic(auto)]
 
 mod asking;
+mod finding;
 mod handing;
 mod looks;
 
 pub use asking::ask;
+pub use finding::{
+    deletion_of_serial, history_of_serial, job_of_number, last_of, operator_deletions_from,
+    pairs_of_successor,
+};
 pub use handing::{HandFault, SinkFault, ValuesSink, hand};
 pub use looks::Look;
