@@ -23,7 +23,7 @@ use Rattle.table_lookups.proofs.SortMeanings.{sort_term}
 use Rattle.table_schema.specs.Cells.{select_terms}
 use Rattle.table_schema.specs.Rows.{Tables, shown}
 
-staged_is : (p : Row → Bool) (e : Row → Env) (xs : List Row) → flat_map (λ r. cond (p r) (e r ∷ []) []) xs ≡ map e
+pub staged_is : (p : Row → Bool) (e : Row → Env) (xs : List Row) → flat_map (λ r. cond (p r) (e r ∷ []) []) xs ≡ map e
     (filter p xs)
 staged_is p e [] = refl
 staged_is p e (x ∷ xs) = go (p x) (staged_is p e xs)

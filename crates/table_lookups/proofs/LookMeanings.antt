@@ -33,7 +33,7 @@ use Rattle.table_schema.proofs.WrittenQueries.{plain_draft, select_of, shown_as}
 abbrev pub look_command : ℕ → Look → Command
 look_command tree look = command.Select (record { lets = []; body = query_to tree (question look) }) (column_names (question look).table)
 
-plans : (schema : Schema) (p : Parsed) (s : Select) (c : Command) → p.statement ≡ written.Select s → p.formats ≡ [] → compile.read schema s ≡ Ok c
+pub plans : (schema : Schema) (p : Parsed) (s : Select) (c : Command) → p.statement ≡ written.Select s → p.formats ≡ [] → compile.read schema s ≡ Ok c
     → compile.planned schema p ≡ Ok ([], (c, None))
 unfolding compile.planned compile.timed compile.meaning compile.returning compile.command
 plans schema p s c is timeless reads = rw (is, timeless, reads) refl

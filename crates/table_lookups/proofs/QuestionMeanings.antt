@@ -28,6 +28,7 @@ use Rattle.sqlite_resolve.specs.Compile as compile
 use Rattle.sqlite_resolve.specs.Terms.{number}
 use Rattle.sqlite_typing.specs.Types.{accepts_program}
 use Rattle.table_lookups.specs.Question.{By, Test}
+use Rattle.table_lookups.proofs.ReadMeanings as read
 use Rattle.table_lookups.proofs.SortMeanings.{IsPlaced, limit_term, limits, sort_term, sorts}
 use Rattle.table_lookups.proofs.TestMeanings.{IsTested, compared, filters}
 use Rattle.table_lookups.proofs.WrittenQuestions.{AreSorts, AreTests, IsLimit}
@@ -112,31 +113,7 @@ module _ (schema : Schema) (table : Table) (at : ℕ) (it : TableStandsAt schema
   unfolding select.paging select.constant_or
   pages = rw (limits schema is_one (out-Select s).limit is.limit, is.offset) refl
 
-  viewing_is : (again : Schema → Select → program.Building program.Shown) (n : ℕ) (lets : List Let) → program.viewing again schema core (out-Select s).order page (suc n) schema lets ≡ Ok ((shows, schema), lets)
-  unfolding program.viewing
-  viewing_is again n lets = rw named_is refl
-
-  sources_are : (again : Schema → Select → program.Building program.Shown) (lets : List Let) → program.sources again schema (source_table table.name ∷ []) lets ≡ Ok (schema, lets)
-  unfolding program.sources program.source
-  sources_are again lets = rw (lemmas.opens_source table.name) refl
-
-  single_is : (again : Schema → Select → program.Building program.Shown) (lets : List Let) → program.single again schema core (out-Select s).order page lets ≡ Ok ((shows, schema), lets)
-  unfolding program.single
-  single_is again lets = rw (is.from, sources_are again lets, viewing_is again 63 lets) refl
-
-  whole_is : (again : Schema → Select → program.Building program.Shown) (lets : List Let) → program.whole again schema s lets ≡ Ok (shows, lets)
-  unfolding program.whole program.alone
-  whole_is again lets = rw (pages, is.alone, single_is again lets) refl
-
-  level_is : (again : Schema → Select → program.Building program.Shown) (lets : List Let) → program.level again schema s lets ≡ Ok (shows, lets)
-  unfolding program.level program.with
-  level_is again lets = rw (is.lets, whole_is again lets) refl
-
-  query_is : program.query schema s ≡ Ok (shows, [])
-  unfolding program.query program.query_to
-  query_is = level_is (program.query_to 15) []
-
   pub reads : accepts_program schema [] (query_of draft) [] ≡ true
       → compile.read schema s ≡ Ok (command.Select (record { lets = []; body = query_of draft }) (map (λ o. o.name) outs))
-  unfolding compile.read program.program
-  reads typed = rw (query_is, typed) refl
+  reads = read.reads schema s table.name page draft (map (λ o. o.name) outs) (map (λ o. o.carried.collation) outs) is.lets
+      is.alone is.from pages named_is

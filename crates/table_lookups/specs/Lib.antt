@@ -3,3 +3,4 @@ pub mod Looks
 pub mod Handing
 pub mod Finding
 pub mod Last
+pub mod Sizes

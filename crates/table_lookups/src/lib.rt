@@ -5,6 +5,7 @@ mod asking;
 mod finding;
 mod handing;
 mod looks;
+mod sizes;
 
 pub use asking::ask;
 pub use finding::{
@@ -13,3 +14,4 @@ pub use finding::{
 };
 pub use handing::{HandFault, SinkFault, ValuesSink, hand};
 pub use looks::Look;
+pub use sizes::size_of;
