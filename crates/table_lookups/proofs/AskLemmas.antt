@@ -1,5 +1,5 @@
 -- What a question leaves, shows, and why it fails.
-use Rattle.std.proofs.Common.{◌≡◌, ℕ, List, [], ◌++◌, length, Result, IsTrue, inl, inr, ap, true}
+use Rattle.std.proofs.Common.{◌≡◌, ℕ, List, [], ◌++◌, Result, IsTrue, inl, inr, ap}
 use Rattle.std.specs.Prelude.{IfErr, IfOk}
 use Rattle.sqlite.specs.Listing.{understood}
 use Rattle.sqlite.specs.Order.{Row}
@@ -11,7 +11,6 @@ use Rattle.sqlite.specs.declared.error.Error.{Error}
 use Rattle.sqlite.proofs.Callers.{IsPlain, never_commits}
 use Rattle.sqlite.proofs.StateLemmas.{survives_weaker}
 use Rattle.sqlite_trees.specs.Objects.{catalog_tree}
-use Rattle.sqlite_typing.specs.Types.{accepts_program}
 use Rattle.table_lookups.specs.Looks.{AreAsked, look_sql, question}
 use Rattle.table_lookups.specs.Question.{Answers}
 use Rattle.table_lookups.specs.declared.looks.Look.{Look}

@@ -1,5 +1,5 @@
 -- What counting rows shows.
-use Rattle.std.proofs.Common.{◌≡◌, ◌∙◌, ◌<◌, ℕ, zero, suc, Bool, true, false, inl, inr, arith, slice_index_or, List, [], ◌∷◌, length, map, filter, min, refl, sym, ap, subst, Option, Some, None, pos, Result, Ok, Err, IsTrue}
+use Rattle.std.proofs.Common.{◌≡◌, ◌∙◌, ◌<◌, ℕ, zero, suc, true, false, inl, inr, arith, slice_index_or, List, [], ◌∷◌, length, map, filter, min, refl, sym, ap, subst, Some, None, Result}
 use Rattle.std.specs.List.{AllZip}
 use Rattle.std.specs.List.Sorted.{IsPermutation}
 use Rattle.std.specs.Prelude.{IfErr, IfOk}

@@ -1,9 +1,9 @@
 -- `SELECT count(*) FROM table` wherever the table stands.
-use Rattle.std.proofs.Common.{◌≡◌, ℕ, ◌-◌, ◌^◌, ◌==◌, nat_le, find, List, [], ◌∷◌, length, map, Ok, refl, None, Some, Option, false, true, pos, negsuc, codes}
+use Rattle.std.proofs.Common.{◌≡◌, ℕ, ◌-◌, List, [], ◌∷◌, Ok, refl, None, Some, false, true, codes}
 use Rattle.sqlite.specs.Query.{Query}
-use Rattle.sqlite.specs.declared.types.Value.TheVariants.{Int, Null}
-use Rattle.sqlite_ast.specs.declared.Core.{Core, out-Core}
-use Rattle.sqlite_ast.specs.declared.Expr.{Expr, out-Expr, roll-Expr}
+use Rattle.sqlite.specs.declared.types.Value.TheVariants.{Null}
+use Rattle.sqlite_ast.specs.declared.Core.{Core}
+use Rattle.sqlite_ast.specs.declared.Expr.{out-Expr, roll-Expr}
 use Rattle.sqlite_ast.specs.declared.Expr.TheOpen.{Expr-F, Shown-F}
 use Rattle.sqlite_ast.specs.declared.Select.{Select, out-Select}
 use Rattle.sqlite_ast.specs.declared.Shown.{Shown, out-Shown, roll-Shown}
@@ -16,7 +16,7 @@ use Rattle.sqlite_resolve.specs.Body as body
 use Rattle.sqlite_resolve.specs.Compile as compile
 use Rattle.sqlite_resolve.specs.Expr as expr
 use Rattle.sqlite_resolve.specs.Expr.{lower}
-use Rattle.sqlite_resolve.specs.Lowering.{aggregate, begin, finish, fresh, max_budget, nothing, pending, spend}
+use Rattle.sqlite_resolve.specs.Lowering.{fresh, max_budget, nothing, pending}
 use Rattle.sqlite_resolve.specs.Order as order
 use Rattle.sqlite_resolve.specs.Scope.{Context}
 use Rattle.sqlite_resolve.specs.Select as select
@@ -31,11 +31,10 @@ use Rattle.sqlite_sql.specs.Term.{col, lit}
 use Rattle.sqlite_sql.specs.declared.aggregate.AggregateOp.TheVariants.{CountRows}
 use Rattle.sqlite_tied.specs.Compute.{everything}
 use Rattle.sqlite_typing.specs.Types.{accepts_program}
-use Rattle.sqlite_value.specs.declared.keys.Collation.{Collation}
 use Rattle.sqlite_value.specs.declared.keys.Collation.TheVariants.{Binary}
 use Rattle.table_lookups.proofs.ReadMeanings as read
 use Rattle.table_schema.proofs.ColumnsLemmas as lemmas
-use Rattle.table_schema.proofs.WrittenQueries.{IsBareSelect, all_rows, only_bound, outer_level, plain_draft, source_table, with_budget}
+use Rattle.table_schema.proofs.WrittenQueries.{IsBareSelect, all_rows, only_bound, outer_level, plain_draft, with_budget}
 use Rattle.table_schema.specs.Places.{TableStandsAt}
 
 -- `count(*)`, as it is written

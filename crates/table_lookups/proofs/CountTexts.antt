@@ -1,5 +1,5 @@
 -- What the texts that count rows say and mean.
-use Rattle.std.proofs.Common.{◌≡◌, ◌^◌, ◌==◌, ℕ, nat_le, find, List, [], ◌∷◌, length, Ok, Err, refl, Some, None, false, true, codes}
+use Rattle.std.proofs.Common.{◌≡◌, ◌^◌, ◌==◌, ℕ, nat_le, find, List, [], ◌∷◌, length, Ok, Err, refl, Some, false, true, codes}
 use Rattle.sqlite_ast.specs.declared.Statement.TheVariants as written
 use Rattle.sqlite_resolve.specs.Compile.{first}
 use Rattle.sqlite_resolve.specs.Lowering.{Checked}
@@ -30,8 +30,44 @@ pub record SaysCount (name : List ℕ) (size : ℕ) (p : Parsed) : Type 0 where
 
 count_says : (t : Table) → IfRead (first (size_sql t)) (SaysCount (name t) (length (size_sql t)))
 unfolding everything
-count_says Meta = record { is = refl; timeless = refl; whole = refl; parameters = refl; bare = record { lets = refl; alone = refl; order = refl; limit = refl; offset = refl; repeats = refl; shows = refl; from = refl; filter = refl; group = refl; having = refl } }
-count_says t = record { is = refl; timeless = refl; whole = refl; parameters = refl; bare = record { lets = refl; alone = refl; order = refl; limit = refl; offset = refl; repeats = refl; shows = refl; from = refl; filter = refl; group = refl; having = refl } }
+count_says Meta = record {
+  is = refl;
+  timeless = refl;
+  whole = refl;
+  parameters = refl;
+  bare = record {
+    lets = refl;
+    alone = refl;
+    order = refl;
+    limit = refl;
+    offset = refl;
+    repeats = refl;
+    shows = refl;
+    from = refl;
+    filter = refl;
+    group = refl;
+    having = refl;
+  };
+}
+count_says t = record {
+  is = refl;
+  timeless = refl;
+  whole = refl;
+  parameters = refl;
+  bare = record {
+    lets = refl;
+    alone = refl;
+    order = refl;
+    limit = refl;
+    offset = refl;
+    repeats = refl;
+    shows = refl;
+    from = refl;
+    filter = refl;
+    group = refl;
+    having = refl;
+  };
+}
 
 -- the types of the query fit
 pub count_accepted : (schema : Schema) (tree : ℕ) (t : Table) → nat_le (2 ^ 31) tree ≡ false → find (λ o. o.tree == tree) schema.tables ≡ Some (table_at tree t)

@@ -1,20 +1,19 @@
 -- Rows that are handed out.
-use Rattle.std.proofs.Common.{◌≡◌, ◌∙◌, ◌≤◌, List, [], ◌∷◌, ◌++◌, inl, inr, refl, sym, ap, subst}
+use Rattle.std.proofs.Common.{◌≡◌, ◌≤◌, List, [], ◌∷◌, ◌++◌, refl, sym, ap, subst}
 use Rattle.sqlite.specs.Effect.{Database, IsDatabase}
 use Rattle.sqlite.specs.Given.{HasBegun, HasGiven}
 use Rattle.sqlite.specs.Held.{Held, state}
-use Rattle.sqlite.specs.Listing.{understood}
 use Rattle.sqlite.specs.Order.{Row as Values}
 use Rattle.sqlite.specs.State.{FailsToQuery, IsLive, IsUnchanged, Shown, State}
 use Rattle.sqlite.specs.declared.error.Error.{Error}
-use Rattle.sqlite.proofs.Callers.{IsPlain, begun_plain, given_begin, unchanged_then}
+use Rattle.sqlite.proofs.Callers.{begun_plain, given_begin}
 use Rattle.sqlite_trees.specs.declared.store.Store as store
 use Rattle.table_lookups.specs.Handing.{TakesAll}
 use Rattle.table_lookups.specs.Looks.{AreAsked, look_sql, question}
 use Rattle.table_lookups.specs.Question.{Answers}
 use Rattle.table_lookups.specs.declared.looks.Look.{Look}
-use Rattle.table_lookups.proofs.AskLemmas.{answered, begun, failed, fails, plain}
-use Rattle.table_schema.specs.Rows.{MayFail, StaysOrIsUndone, tables_of}
+use Rattle.table_lookups.proofs.AskLemmas.{answered, begun, fails, plain}
+use Rattle.table_schema.specs.Rows.{MayFail, tables_of}
 use Rattle.table_schema.specs.Schema.{HasTables}
 use Rattle.table_schema.proofs.StatementLemmas.{moved}
 use Rattle.table_schema.proofs.StopLemmas.{vain_since}
@@ -39,16 +38,6 @@ module _ (first now : State) (same : IsUnchanged first now) where
   pub fails_since : (new : State) (e : Error) → first.faults ≤ now.faults → now.step_limit ≡ first.step_limit
       → MayFail now new e → MayFail first new e
   fails_since new e more limit h = vain_since first now new e more (λ _. same.0.is_open) limit h
-
-  pub leaves_since : (new : State) → StaysOrIsUndone now new → StaysOrIsUndone first new
-  leaves_since new (inl h) = inl (unchanged_then first now new same h)
-  leaves_since new (inr h) = inr (record {
-    was_open = λ opened. same.0.was_open;
-    undone = λ opened. ((h.undone opened).0 ∙ same.0.committed_is, (h.undone opened).1 ∙ same.0.committed_is);
-    autocommit = h.autocommit;
-    unmarked = h.unmarked;
-    counts = record { changes = h.counts.changes ∙ same.1.changes; last_rowid = h.counts.last_rowid ∙ same.1.last_rowid };
-  })
 
 module _ {S : Type 0} (g : store.Ghosts S) (look : Look) (asked : Values) where
   -- a query has begun and has given nothing
@@ -80,7 +69,3 @@ module _ {S : Type 0} (g : store.Ghosts S) (look : Look) (asked : Values) where
         → AreAsked look asked → FailsToQuery (look_sql look) asked (state g h) new e → MayFail first new e
     fails_then new e more limit given it = fails_since first (state g h) same new e more limit
         (fails look asked (state g h) new (has_still first (state g h) same has) given e it)
-
-    pub leaves_then : (new : State) (e : Error) → FailsToQuery (look_sql look) asked (state g h) new e → StaysOrIsUndone first new
-    leaves_then new e it = leaves_since first (state g h) same new
-        (failed look asked (state g h) new (has_still first (state g h) same has) e it)

@@ -13,7 +13,7 @@ use Rattle.sqlite_sql.specs.Ops.{binary, from_truth, is_true}
 use Rattle.sqlite_sql.specs.declared.ops.CompareOp.TheVariants.{Eq, Le}
 use Rattle.sqlite_value.specs.Order.{value_cmp}
 use Rattle.sqlite_value.specs.declared.value.Value.{Value}
-use Rattle.sqlite_value.specs.declared.value.Value.TheVariants.{Int, Text}
+use Rattle.sqlite_value.specs.declared.value.Value.TheVariants.{Text}
 use Rattle.sqlite_value.proofs.KeyLemmas.{directed_total}
 use Rattle.sqlite_value.proofs.OrderLemmas.{value_cmp-Int, value_cmp-Text, value_cmp_total}
 use Rattle.table_lookups.specs.Finding.{natural}

@@ -1,13 +1,13 @@
 -- What the texts of the questions say.
-use Rattle.std.proofs.Common.{ℕ, List, length, refl}
+use Rattle.std.proofs.Common.{ℕ, length, refl}
 use Rattle.sqlite_resolve.specs.Compile.{first}
 use Rattle.sqlite_tied.specs.Compute.{everything}
 use Rattle.table_lookups.specs.Looks.{look_sql, question}
 use Rattle.table_lookups.specs.declared.looks.Look.{Look}
-use Rattle.table_lookups.specs.declared.looks.Look.TheVariants.{InHistory, InDeletions, PairsOf, LastOf, DeletedFrom, JobOf}
+use Rattle.table_lookups.specs.declared.looks.Look.TheVariants.{LastOf, DeletedFrom}
 use Rattle.table_lookups.specs.declared.looks.Look.TheVariants.{HistoryListed, HistoryOf, DeletionsListed, DeletionsOf, PairsListed}
 use Rattle.table_schema.proofs.Written.{IfRead}
-use Rattle.table_lookups.proofs.WrittenQuestions.{IsSort, IsTest, Says}
+use Rattle.table_lookups.proofs.WrittenQuestions.{Says}
 
 -- how many values are asked with
 abbrev pub asked_with : Look → ℕ
@@ -22,11 +22,91 @@ SaysLook look = IfRead (first (look_sql look)) (Says (question look) (asked_with
 
 pub look_says : (look : Look) → SaysLook look
 unfolding everything
-look_says LastOf = record { whole = refl; parameters = refl; is = refl; timeless = refl; lets = refl; alone = refl; order = (record { column_is = refl; falls = refl; nulls = refl }, refl); limit = (refl, refl); offset = refl; repeats = refl; shows = refl; from = refl; filter = (refl, refl, record { is = refl; column_is = refl; side_is = refl }, record { is = refl; column_is = refl; side_is = refl }); group = refl; having = refl }
-look_says DeletedFrom = record { whole = refl; parameters = refl; is = refl; timeless = refl; lets = refl; alone = refl; order = refl; limit = refl; offset = refl; repeats = refl; shows = refl; from = refl; filter = (refl, refl, record { is = refl; column_is = refl; side_is = refl }, record { is = refl; column_is = refl; side_is = refl }); group = refl; having = refl }
-look_says HistoryListed = record { whole = refl; parameters = refl; is = refl; timeless = refl; lets = refl; alone = refl; order = (record { column_is = refl; falls = refl; nulls = refl }, (record { column_is = refl; falls = refl; nulls = refl }, (record { column_is = refl; falls = refl; nulls = refl }, refl))); limit = refl; offset = refl; repeats = refl; shows = refl; from = refl; filter = refl; group = refl; having = refl }
-look_says DeletionsListed = record { whole = refl; parameters = refl; is = refl; timeless = refl; lets = refl; alone = refl; order = (record { column_is = refl; falls = refl; nulls = refl }, (record { column_is = refl; falls = refl; nulls = refl }, (record { column_is = refl; falls = refl; nulls = refl }, refl))); limit = refl; offset = refl; repeats = refl; shows = refl; from = refl; filter = refl; group = refl; having = refl }
-look_says PairsListed = record { whole = refl; parameters = refl; is = refl; timeless = refl; lets = refl; alone = refl; order = (record { column_is = refl; falls = refl; nulls = refl }, (record { column_is = refl; falls = refl; nulls = refl }, refl)); limit = refl; offset = refl; repeats = refl; shows = refl; from = refl; filter = refl; group = refl; having = refl }
-look_says HistoryOf = record { whole = refl; parameters = refl; is = refl; timeless = refl; lets = refl; alone = refl; order = (record { column_is = refl; falls = refl; nulls = refl }, (record { column_is = refl; falls = refl; nulls = refl }, (record { column_is = refl; falls = refl; nulls = refl }, refl))); limit = refl; offset = refl; repeats = refl; shows = refl; from = refl; filter = (refl, record { is = refl; column_is = refl; side_is = refl }); group = refl; having = refl }
-look_says DeletionsOf = record { whole = refl; parameters = refl; is = refl; timeless = refl; lets = refl; alone = refl; order = (record { column_is = refl; falls = refl; nulls = refl }, (record { column_is = refl; falls = refl; nulls = refl }, (record { column_is = refl; falls = refl; nulls = refl }, refl))); limit = refl; offset = refl; repeats = refl; shows = refl; from = refl; filter = (refl, record { is = refl; column_is = refl; side_is = refl }); group = refl; having = refl }
-look_says look = record { whole = refl; parameters = refl; is = refl; timeless = refl; lets = refl; alone = refl; order = refl; limit = refl; offset = refl; repeats = refl; shows = refl; from = refl; filter = (refl, record { is = refl; column_is = refl; side_is = refl }); group = refl; having = refl }
+look_says LastOf = record {
+  text = (refl, refl, refl);
+  is = refl;
+  asks = record {
+    whole = refl;
+    core = refl;
+    filter = (refl, refl, (refl, refl, refl), (refl, refl, refl));
+    order = ((refl, refl, refl), refl);
+    limit = (refl, refl);
+  };
+}
+look_says DeletedFrom = record {
+  text = (refl, refl, refl);
+  is = refl;
+  asks = record {
+    whole = refl;
+    core = refl;
+    filter = (refl, refl, (refl, refl, refl), (refl, refl, refl));
+    order = refl;
+    limit = refl;
+  };
+}
+look_says HistoryListed = record {
+  text = (refl, refl, refl);
+  is = refl;
+  asks = record {
+    whole = refl;
+    core = refl;
+    filter = refl;
+    order = ((refl, refl, refl), ((refl, refl, refl), ((refl, refl, refl), refl)));
+    limit = refl;
+  };
+}
+look_says HistoryOf = record {
+  text = (refl, refl, refl);
+  is = refl;
+  asks = record {
+    whole = refl;
+    core = refl;
+    filter = (refl, (refl, refl, refl));
+    order = ((refl, refl, refl), ((refl, refl, refl), ((refl, refl, refl), refl)));
+    limit = refl;
+  };
+}
+look_says DeletionsListed = record {
+  text = (refl, refl, refl);
+  is = refl;
+  asks = record {
+    whole = refl;
+    core = refl;
+    filter = refl;
+    order = ((refl, refl, refl), ((refl, refl, refl), ((refl, refl, refl), refl)));
+    limit = refl;
+  };
+}
+look_says DeletionsOf = record {
+  text = (refl, refl, refl);
+  is = refl;
+  asks = record {
+    whole = refl;
+    core = refl;
+    filter = (refl, (refl, refl, refl));
+    order = ((refl, refl, refl), ((refl, refl, refl), ((refl, refl, refl), refl)));
+    limit = refl;
+  };
+}
+look_says PairsListed = record {
+  text = (refl, refl, refl);
+  is = refl;
+  asks = record {
+    whole = refl;
+    core = refl;
+    filter = refl;
+    order = ((refl, refl, refl), ((refl, refl, refl), refl));
+    limit = refl;
+  };
+}
+look_says look = record {
+  text = (refl, refl, refl);
+  is = refl;
+  asks = record {
+    whole = refl;
+    core = refl;
+    filter = (refl, (refl, refl, refl));
+    order = refl;
+    limit = refl;
+  };
+}

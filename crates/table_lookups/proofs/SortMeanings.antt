@@ -1,5 +1,5 @@
 -- ORDER BY and LIMIT of a question, wherever the table stands.
-use Rattle.std.proofs.Common.{◌≡◌, cond, ℕ, suc, ◌+◌, ◌-◌, ◌<◌, nat_lt, List, [], ◌∷◌, ◌++◌, length, map, Ok, refl, None, Some, subst, false, true, Bool, slice_get, arith, append_assoc, append-nil, sym, pos, negsuc}
+use Rattle.std.proofs.Common.{◌≡◌, cond, ℕ, suc, ◌+◌, ◌-◌, ◌<◌, List, [], ◌∷◌, ◌++◌, length, map, Ok, refl, None, Some, subst, false, true, Bool, slice_get, arith, append_assoc, append-nil, pos, negsuc}
 use Rattle.std.proofs.lemmas.Bool.{lt-ltb}
 use Rattle.std.specs.List.{AllByRecursion}
 use Rattle.sqlite_ast.specs.declared.Expr.{Expr, out-Expr}
@@ -15,7 +15,7 @@ use Rattle.sqlite_value.specs.declared.keys.Key.{Key}
 use Rattle.sqlite.specs.declared.types.Value.TheVariants.{Int}
 use Rattle.sqlite_resolve.specs.Expr as expr
 use Rattle.sqlite_resolve.specs.Literal.{integer}
-use Rattle.sqlite_resolve.specs.Lowering.{alone, begin, finish, max_budget, nothing, spend}
+use Rattle.sqlite_resolve.specs.Lowering.{alone, begin, finish, spend}
 use Rattle.sqlite_resolve.specs.Order as order
 use Rattle.sqlite_resolve.specs.Scope as scope
 use Rattle.sqlite_resolve.specs.Scope.{Context}
@@ -50,13 +50,13 @@ module _ (schema : Schema) (table : Table) (at : ℕ) (got : slice_get schema.ta
       → alone then ≡ Binary
       → order.sort (expr.lower_to depth) cx shown done s (with_budget budget last) ≡ Ok (done ++ (col 1 p, record { collation = Binary; descending = b.falls }) ∷ [], with_budget (budget - 1) then)
   unfolding order.sort order.key order.collation_of order.placed order.peeled order.alias_in order.written_on order.is_numeral
-  sorts_by depth budget p last then done s b is bare lowered collated = rw (is.column_is, is.column_is, bare, lowered, is.column_is, collated, is.falls, is.nulls) refl
+  sorts_by depth budget p last then done s b is bare lowered collated = rw (is.0, is.0, bare, lowered, is.0, collated, is.1, is.2) refl
 
   sorts_one : (depth budget p : ℕ) (last : Carried) (done : List (Term × Key)) (s : Sort) (b : By) → IsSort b s → IsPlaced table shown b p → 1 < budget
       → (then : Carried) × (order.sort (expr.lower_to (suc depth)) cx shown done s (with_budget budget last) ≡ Ok (done ++ (col 1 p, record { collation = Binary; descending = b.falls }) ∷ [], with_budget (budget - 1) then))
   sorts_one depth budget p last done s b is of few =
       let then = scope.declared table of.k of.c in
-      let one = columns.lowers_column schema table at got table.name shown false true b.column of.k of.c of.named of.has depth budget last _ is.column_is (lt-ltb 1 budget few) in
+      let one = columns.lowers_column schema table at got table.name shown false true b.column of.k of.c of.named of.has depth budget last _ is.0 (lt-ltb 1 budget few) in
       (then, sorts_by (suc depth) budget p last then done s b is of.bare (subst (λ q. expr.lower_to (suc depth) cx (out-Sort s).key (with_budget budget last) ≡ Ok (col 1 q, with_budget (budget - 1) then)) of.there one) of.alone)
 
   sorts_all : (depth : ℕ) (places : By → ℕ) (bs : List By) (ss : List Sort) → AreSorts bs ss → AllByRecursion (λ b. IsPlaced table shown b (places b)) bs

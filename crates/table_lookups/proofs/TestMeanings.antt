@@ -1,5 +1,5 @@
 -- WHERE of a question, wherever the table stands.
-use Rattle.std.proofs.Common.{◌≡◌, ◌==◌, cond, ℕ, zero, suc, ◌+◌, ◌-◌, ◌<◌, nat_lt, List, [], ◌∷◌, ◌++◌, map, Ok, refl, Option, Some, None, subst, false, true, Bool, slice_get, arith, sym}
+use Rattle.std.proofs.Common.{◌≡◌, ◌==◌, cond, ℕ, zero, suc, ◌+◌, ◌-◌, ◌<◌, nat_lt, List, [], ◌∷◌, map, Ok, refl, Option, Some, None, subst, false, true, Bool, slice_get, arith, sym}
 use Rattle.std.proofs.lemmas.Bool.{lt-ltb}
 use Rattle.std.specs.List.{AllByRecursion}
 use Rattle.sqlite.specs.declared.types.Value.TheVariants.{Text}
@@ -13,7 +13,7 @@ use Rattle.sqlite_schema.specs.declared.schema.Table.{Table}
 use Rattle.sqlite_sql.specs.Term.{Term, col, lit, op2}
 use Rattle.sqlite_sql.specs.declared.ops.BinaryOp.TheVariants.{And, Compare}
 use Rattle.sqlite_sql.specs.declared.ops.CompareOp.{CompareOp}
-use Rattle.sqlite_sql.specs.declared.ops.CompareOp.TheVariants.{Eq, Ne, Lt, Le, Gt, Ge}
+use Rattle.sqlite_sql.specs.declared.ops.CompareOp.TheVariants.{Eq}
 use Rattle.sqlite_value.specs.declared.keys.Collation.TheVariants.{Binary}
 use Rattle.sqlite_resolve.specs.Body as body
 use Rattle.sqlite_resolve.specs.Compare as compare
@@ -108,10 +108,10 @@ module _ (schema : Schema) (table : Table) (at : ℕ) (got : slice_get schema.ta
       → expr.lower_to (suc (suc depth)) cx e (with_budget budget last) ≡ Ok (compared t.how p t.side, with_budget (budget - 1 - 1 - 1) nothing)
   lowers_test t p depth budget last e of is few =
       let enough = lt-ltb 1 budget (omega (arith, few)) in
-      let one = columns.lowers_column schema table at got table.name shown false true t.column of.k of.c of.named of.has depth (budget - 1) nothing (left e) is.column_is (lt-ltb 1 (budget - 1) (omega (arith, few))) in
-      lowers_both t.how (suc depth) budget last (scope.declared table of.k of.c) e (left e) (right e) p (side_term t.side) is.is enough
+      let one = columns.lowers_column schema table at got table.name shown false true t.column of.k of.c of.named of.has depth (budget - 1) nothing (left e) is.1 (lt-ltb 1 (budget - 1) (omega (arith, few))) in
+      lowers_both t.how (suc depth) budget last (scope.declared table of.k of.c) e (left e) (right e) p (side_term t.side) is.0 enough
       (subst (λ q. expr.lower_to (suc depth) cx (left e) (with_budget (budget - 1) nothing) ≡ Ok (col 1 q, with_budget (budget - 1 - 1) (scope.declared table of.k of.c))) of.there one)
-      (lowers_side depth (budget - 1 - 1) (scope.declared table of.k of.c) (right e) t.side is.side_is (lt-ltb 1 (budget - 1 - 1) (omega (arith, few))))
+      (lowers_side depth (budget - 1 - 1) (scope.declared table of.k of.c) (right e) t.side is.2 (lt-ltb 1 (budget - 1 - 1) (omega (arith, few))))
       of.collated (compares t.how p t.side of.kept of.bare)
 
   pub lowers_and : (depth budget less least : ℕ) (last first second : Carried) (e a b : Expr) (x y : Term)

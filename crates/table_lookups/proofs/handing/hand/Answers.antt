@@ -9,7 +9,7 @@ use Rattle.table_schema.specs.Schema.{HasTables}
 use Rattle.table_lookups.specs.Looks.{look_sql, question}
 use Rattle.table_lookups.specs.Question.{Answers}
 use Rattle.table_lookups.proofs.AskLemmas.{failed, fails, quiet}
-use Rattle.table_lookups.proofs.HandLemmas.{fails_then, front, leaves_then, none_yet, takes_more, whole}
+use Rattle.table_lookups.proofs.HandLemmas.{fails_then, front, none_yet, takes_more, whole}
 use Rattle.table_lookups.proofs.handing.hand.Goals as goal
 
 pub returns-in-Err-clause-part : goal.returns-in-Err-clause-part
