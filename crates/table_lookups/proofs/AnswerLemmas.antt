@@ -1,5 +1,6 @@
 -- What an answer to a question shows.
-use Rattle.std.proofs.Common.{◌≡◌, ◌∙◌, ℕ, ◌<◌, ◌+◌, Bool, true, false, cond, List, [], ◌∷◌, ◌++◌, length, map, filter, flat_map, take, drop, get_or, refl, sym, ap, subst, arith, pos, negsuc, All}
+use Rattle.std.proofs.Common.{◌≡◌, ◌∙◌, ℕ, ◌<◌, ◌+◌, Bool, true, false, cond, List, [], ◌∷◌, ◌++◌, length, map}
+use Rattle.std.proofs.Common.{filter, flat_map, take, drop, get_or, refl, sym, ap, subst, arith, pos, negsuc, All}
 use Rattle.std.specs.List.{AllByRecursion, list_all}
 use Rattle.std.specs.List.Sorted.{IsPermutation, IsSorted}
 use Rattle.std.specs.Ordering.{is_lt}
@@ -51,24 +52,29 @@ filter_map f p q same (x ∷ xs) = go (q x) (p (f x)) (same x) (filter_map f p q
 abbrev tests_hold : Question → Row → Row → Bool
 tests_hold q asked r = list_all (holds (asked ∷ r ∷ [])) (map (test_term (tested q)) q.tests)
 
-passes_shown : (look : Look) (asked r : Row) → tests_hold (question look) asked r ≡ passes (question look) asked (shown (question look).table r)
+passes_shown : (look : Look) (asked r : Row)
+    → tests_hold (question look) asked r ≡ passes (question look) asked (shown (question look).table r)
 passes_shown InHistory asked r = refl
 passes_shown look asked r = refl
 
-shown_same : (look : Look) (asked r : Row) → eval_all (select_terms (question look).table) (asked ∷ r ∷ []) ≡ shown (question look).table r
+shown_same : (look : Look) (asked r : Row)
+    → eval_all (select_terms (question look).table) (asked ∷ r ∷ []) ≡ shown (question look).table r
 shown_same InHistory asked r = refl
 shown_same look asked r = refl
 
-sorts_shown : (look : Look) (asked r : Row) → eval_all (map (λ k. k.0) (map (sort_term (placed (question look))) (question look).order)) (asked ∷ r ∷ [])
+sorts_shown : (look : Look) (asked r : Row)
+    → eval_all (map (λ k. k.0) (map (sort_term (placed (question look))) (question look).order)) (asked ∷ r ∷ [])
     ≡ order_values (question look) (eval_all (select_terms (question look).table) (asked ∷ r ∷ []))
 sorts_shown InHistory asked r = refl
 sorts_shown look asked r = refl
 
-keys_are : (look : Look) → map (λ k. k.1) (map (sort_term (placed (question look))) (question look).order) ≡ order_keys (question look)
+keys_are : (look : Look) → map (λ k. k.1) (map (sort_term (placed (question look))) (question look).order)
+    ≡ order_keys (question look)
 keys_are InHistory = refl
 keys_are look = refl
 
-page_is : (b : Bool) (rows : List Row) → limited (as_count (Int (cond b (pos 1) (negsuc 0)))) (drop 0 rows) ≡ cond b (take 1 rows) rows
+page_is : (b : Bool) (rows : List Row)
+    → limited (as_count (Int (cond b (pos 1) (negsuc 0)))) (drop 0 rows) ≡ cond b (take 1 rows) rows
 page_is true rows = refl
 page_is false rows = refl
 
@@ -104,7 +110,8 @@ module _ (tree : ℕ) (look : Look) (asked : Row) where
       let here = get_or-map second ordered k e d (omega (arith, inside)) in
       let next = get_or-map second ordered (k + 1) e d inside in
       (λ i. is_lt (order_cmp q (next i) (here i)))
-      ∙ sym (same_order (get_or ordered (k + 1) e) (get_or ordered k e) (by (k + 1) e inside) (by k e (omega (arith, inside))))
+      ∙ sym (same_order (get_or ordered (k + 1) e) (get_or ordered k e) (by (k + 1) e inside)
+      (by k e (omega (arith, inside))))
       ∙ sorted k e low inside
 
   pub answer_is : (db : Trees) (all : Tables) (rows : List Row) → overlay db [] tree ≡ db tree → all q.table ≡ db tree
@@ -113,8 +120,10 @@ module _ (tree : ℕ) (look : Look) (asked : Row) where
       let e = λ (r : Row). asked ∷ r ∷ [] in
       let p = tests_hold q asked in
       let passing = filter p (db tree) in
-      let staged : a.staged ≡ map e passing = a.grouped ∙ staged_is p e (overlay db [] tree) ∙ ap (λ xs. map e (filter p xs)) own in
-      let kept : a.kept ≡ map (λ r. output query (e r)) passing = a.distinct ∙ ap (map (output query)) staged ∙ map-map (output query) e passing in
+      let staged : a.staged ≡ map e passing = a.grouped ∙ staged_is p e (overlay db [] tree)
+      ∙ ap (λ xs. map e (filter p xs)) own in
+      let kept : a.kept ≡ map (λ r. output query (e r)) passing = a.distinct ∙ ap (map (output query)) staged
+      ∙ map-map (output query) e passing in
       let same = subst (λ xs. IsPermutation xs a.ordered) kept a.same in
       let by = All-permutation IsByShown _ a.ordered same (All-from_recursion IsByShown _ (by_shown passing)) in
       let outs = map-map second (λ r. output query (e r)) passing in

@@ -57,8 +57,10 @@ module _ (look : Look) (asked : Row) (old new : State) (has : HasTables old.now.
   pub answered : IsLive old → (rows : List Row) → Shown sql asked old new rows
       → Answers (question look) asked (tables_of old.now.trees) rows
   answered live rows h =
-      answer_is tree look asked old.now.trees (tables_of old.now.trees) rows (text.own tree old.now.trees (has.stands t).stored)
-      (told old has t live (stays rows h).0.was_open) (text.answers sql asked old new q (column_names t) (asked_with look) means rows h)
+      answer_is tree look asked old.now.trees (tables_of old.now.trees) rows
+      (text.own tree old.now.trees (has.stands t).stored)
+      (told old has t live (stays rows h).0.was_open)
+      (text.answers sql asked old new q (column_names t) (asked_with look) means rows h)
 
   -- what begins an answer is the front of one
   pub begun : IsLive old → IsTrue old.is_open → (given : List Row) → Begins sql asked old given
@@ -82,7 +84,8 @@ module _ (look : Look) (asked : Row) (old new : State) (has : HasTables old.now.
   pub failed : (e : Error) → FailsToQuery sql asked old new e → StaysOrIsUndone old new
   failed = text.failed sql asked old new q (column_names t) (asked_with look) means
 
-  pub leaves : {A : Type 0} (items : A → List Row) (r : Result A Error) → IfOk r (λ rows. Shown sql asked old new (items rows))
+  pub leaves : {A : Type 0} (items : A → List Row) (r : Result A Error)
+      → IfOk r (λ rows. Shown sql asked old new (items rows))
       → IfErr r (FailsToQuery sql asked old new) → StaysOrIsUndone old new
   leaves = text.leaves sql asked old new q (column_names t) (asked_with look) means
 

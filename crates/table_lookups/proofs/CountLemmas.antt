@@ -1,5 +1,6 @@
 -- What counting rows shows.
-use Rattle.std.proofs.Common.{◌≡◌, ◌∙◌, ◌<◌, ℕ, zero, suc, true, false, inl, inr, arith, slice_index_or, List, [], ◌∷◌, length, map, filter, min, refl, sym, ap, subst, Some, None, Result}
+use Rattle.std.proofs.Common.{◌≡◌, ◌∙◌, ◌<◌, ℕ, zero, suc, true, false, inl, inr, arith, slice_index_or, List, []}
+use Rattle.std.proofs.Common.{◌∷◌, length, map, filter, min, refl, sym, ap, subst, Some, None, Result}
 use Rattle.std.specs.List.{AllZip}
 use Rattle.std.specs.List.Sorted.{IsPermutation}
 use Rattle.std.specs.Prelude.{IfErr, IfOk}
@@ -62,7 +63,8 @@ summary_is : (all staged : List Env) → Summarizes grouping [] all staged
     → staged ≡ ([] ∷ (number_of (length all) ∷ []) ∷ []) ∷ []
 summary_is all staged h =
     let order = h.grouping.0 in
-    let rows = one_row order h.rows (subst (λ groups. AllZip (IsSummary grouping) groups h.rows) h.grouping.2 h.summaries) in
+    let rows = one_row order h.rows
+    (subst (λ groups. AllZip (IsSummary grouping) groups h.rows) h.grouping.2 h.summaries) in
     let many = length_permutation all order h.grouping.1 in
     h.having ∙ ap (λ (rows : List Row). filter (λ env. true) (map (λ r. [] ∷ r ∷ []) rows)) rows
     ∙ ap (λ n. ([] ∷ (number_of n ∷ []) ∷ []) ∷ []) many
@@ -76,14 +78,16 @@ count_is tree db rows own a =
     let found = staged_is (λ _. true) e (overlay db [] tree) in
     let staged = summary_is all a.staged (subst (λ xs. Summarizes grouping [] xs a.staged) found a.grouped) in
     let many : length all ≡ length (db tree) = length-map (filter (λ _. true) (overlay db [] tree)) e
-    ∙ ap length (filter_all (λ _. true) (overlay db [] tree) (all_of _ (λ _. refl) (overlay db [] tree))) ∙ ap length own in
+    ∙ ap length (filter_all (λ _. true) (overlay db [] tree) (all_of _ (λ _. refl) (overlay db [] tree)))
+    ∙ ap length own in
     let kept : a.kept ≡ ([], number_of (length all) ∷ []) ∷ [] = a.distinct ∙ ap (map (output q)) staged in
     let ordered = one_permutation _ a.ordered (subst (λ xs. IsPermutation xs a.ordered) kept a.same) in
     a.shown ∙ ap (map (λ (o : Output). o.1)) ordered ∙ ap (λ n. (number_of n ∷ []) ∷ []) many
 
 never_lost : (group : List Env) (k : ℕ) (a : Aggregate) → k < 1 → slice_index_or (counting ∷ []) k a ≡ a
     → value_over group a ≡ None → ⊥
-never_lost group zero a low is lost = absurd (let e = subst (λ (a : Aggregate). value_over group a ≡ None) (sym is) lost in cc)
+never_lost group zero a low is lost = absurd
+    (let e = subst (λ (a : Aggregate). value_over group a ≡ None) (sym is) lost in cc)
 never_lost group (suc k) a low is lost = absurd (omega (arith, low))
 
 module _ (t : Table) (old new : State) (has : HasTables old.now.schema) where
@@ -114,10 +118,12 @@ module _ (t : Table) (old new : State) (has : HasTables old.now.schema) where
   fails = text.fails (size_sql t) [] old new (count_query tree) _ 0 means refl
       (count_accepted old.now.schema tree t (has.stands t).stored (has.stands t).found) never_over
 
-  pub leaves : {A : Type 0} (items : A → List Row) (r : Result A Error) → IfOk r (λ rows. Shown (size_sql t) [] old new (items rows))
+  pub leaves : {A : Type 0} (items : A → List Row) (r : Result A Error)
+      → IfOk r (λ rows. Shown (size_sql t) [] old new (items rows))
       → IfErr r (FailsToQuery (size_sql t) [] old new) → StaysOrIsUndone old new
   leaves = text.leaves (size_sql t) [] old new (count_query tree) _ 0 means
 
 pub quiet : (t : Table) (old new : State) → Survives old new (CommitsShowing (size_sql t) [] old)
     → Survives old new (λ _. HasTables old.now.schema → ⊥)
-quiet t old new = survives_weaker old new _ _ (λ _ db c has. never_commits (size_sql t) [] old db (means t old old has).plain c)
+quiet t old new = survives_weaker old new _ _
+    (λ _ db c has. never_commits (size_sql t) [] old db (means t old old has).plain c)

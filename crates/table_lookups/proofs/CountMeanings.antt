@@ -34,7 +34,8 @@ use Rattle.sqlite_typing.specs.Types.{accepts_program}
 use Rattle.sqlite_value.specs.declared.keys.Collation.TheVariants.{Binary}
 use Rattle.table_lookups.proofs.ReadMeanings as read
 use Rattle.table_schema.proofs.ColumnsLemmas as lemmas
-use Rattle.table_schema.proofs.WrittenQueries.{IsBareSelect, all_rows, only_bound, outer_level, plain_draft, with_budget}
+use Rattle.table_schema.proofs.WrittenQueries.{IsBareSelect, all_rows, only_bound, outer_level, plain_draft}
+use Rattle.table_schema.proofs.WrittenQueries.{with_budget}
 use Rattle.table_schema.specs.Places.{TableStandsAt}
 
 -- `count(*)`, as it is written
@@ -54,10 +55,25 @@ counting = record { op = CountRows; distinct = false; collation = Binary; argume
 
 -- when the count is read
 abbrev counted : ℕ → State
-counted budget = record { next = 2; steps = []; aggregates = counting ∷ []; budget = budget; written = None; last = nothing }
+counted budget = record {
+  next = 2;
+  steps = [];
+  aggregates = counting ∷ [];
+  budget = budget;
+  written = None;
+  last =
+      nothing;
+}
 
 abbrev count_output : Output
-count_output = record { name = codes "count(*)"; is_alias = false; is_column = false; term = col pending 0; carried = nothing }
+count_output = record {
+  name = codes "count(*)";
+  is_alias = false;
+  is_column = false;
+  term = col pending 0;
+  carried =
+      nothing;
+}
 
 abbrev pub count_draft : ℕ → Draft
 count_draft tree = record (plain_draft tree [] (col 1 0 ∷ []) [] all_rows) {
@@ -74,11 +90,13 @@ module _ (schema : Schema) (table : Table) (at : ℕ) (it : TableStandsAt schema
   abbrev cx : Context
   cx = outer_level schema (record { tables = bound; shown = [] }) true
 
-  counts : expr.lower cx (roll-Expr (Expr-F.CallStar (codes "count"))) (with_budget max_budget nothing) ≡ Ok (col pending 0, counted (max_budget - 1))
+  counts : expr.lower cx (roll-Expr (Expr-F.CallStar (codes "count"))) (with_budget max_budget nothing)
+      ≡ Ok (col pending 0, counted (max_budget - 1))
   unfolding everything
   counts = refl
 
-  shows_count : body.outputs_from expr.lower cx bound [] (shown_count ∷ []) (with_budget max_budget nothing) ≡ Ok (count_output ∷ [], counted (max_budget - 1))
+  shows_count : body.outputs_from expr.lower cx bound [] (shown_count ∷ []) (with_budget max_budget nothing)
+      ≡ Ok (count_output ∷ [], counted (max_budget - 1))
   unfolding body.shown body.is_column body.heading
   shows_count = rw (opens_shown, counts, opens_call) refl
 
@@ -87,13 +105,30 @@ module _ (schema : Schema) (table : Table) (at : ℕ) (it : TableStandsAt schema
     core = (out-Select s).first
 
     abbrev whole : Body
-    whole = record { level = record { tables = bound; shown = count_output ∷ [] }; steps = Inner table.tree ∷ []; filter = [] }
+    whole = record {
+      level = record { tables = bound; shown = count_output ∷ [] };
+      steps = Inner table.tree ∷ [];
+      filter = [];
+    }
 
     body_is : body.body lower (select.outermost schema) core (fresh 1 max_budget) ≡ Ok (whole, counted (max_budget - 1))
     unfolding body.body body.result body.outputs body.matching body.joins body.join body.shared body.inner_join body.tests
-    body_is = rw (is.from, lemmas.binds_table schema table at it.got it.named, is.shows, shows_count, lemmas.opens_source, it.got, is.filter) refl
+    body_is = rw (
+      is.from,
+      lemmas.binds_table schema table at it.got it.named,
+      is.shows,
+      shows_count,
+      lemmas.opens_source,
+      it.got,
+      is.filter,
+    ) refl
 
-    parts_are : select.parts schema core [] (fresh 1 max_budget) ≡ Ok (record { body = whole; is_grouped = true; keys = []; collations = []; having = []; order = [] }, counted (max_budget - 1))
+    parts_are : select.parts schema core [] (fresh 1 max_budget)
+        ≡ Ok (
+          record { body = whole; is_grouped = true; keys = []; collations = []; having = []; order = [] },
+          counted
+              (max_budget - 1),
+        )
     unfolding select.parts select.having order.keys order.sorts body.tests
     parts_are = rw (body_is, is.group, is.having) refl
 
@@ -106,6 +141,8 @@ module _ (schema : Schema) (table : Table) (at : ℕ) (it : TableStandsAt schema
     pages = rw (is.limit, is.offset) refl
 
     pub reads : accepts_program schema [] (count_query table.tree) [] ≡ true
-        → compile.read schema s ≡ Ok (command.Select (record { lets = []; body = count_query table.tree }) (codes "count(*)" ∷ []))
-    reads = read.reads schema s table.name all_rows (count_draft table.tree) (codes "count(*)" ∷ []) (None ∷ []) is.lets is.alone is.from pages
+        → compile.read schema s ≡ Ok (command.Select (record { lets = []; body = count_query table.tree })
+        (codes "count(*)" ∷ []))
+    reads = read.reads schema s table.name all_rows (count_draft table.tree) (codes "count(*)" ∷ [])
+        (None ∷ []) is.lets is.alone is.from pages
         (rw is.order named_is)

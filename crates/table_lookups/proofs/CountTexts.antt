@@ -1,5 +1,6 @@
 -- What the texts that count rows say and mean.
-use Rattle.std.proofs.Common.{◌≡◌, ◌^◌, ◌==◌, ℕ, nat_le, find, List, [], ◌∷◌, length, Ok, Err, refl, Some, false, true, codes}
+use Rattle.std.proofs.Common.{◌≡◌, ◌^◌, ◌==◌, ℕ, nat_le, find, List, [], ◌∷◌, length, Ok, Err, refl, Some, false}
+use Rattle.std.proofs.Common.{true, codes}
 use Rattle.sqlite_ast.specs.declared.Statement.TheVariants as written
 use Rattle.sqlite_resolve.specs.Compile.{first}
 use Rattle.sqlite_resolve.specs.Lowering.{Checked}
@@ -70,7 +71,8 @@ count_says t = record {
 }
 
 -- the types of the query fit
-pub count_accepted : (schema : Schema) (tree : ℕ) (t : Table) → nat_le (2 ^ 31) tree ≡ false → find (λ o. o.tree == tree) schema.tables ≡ Some (table_at tree t)
+pub count_accepted : (schema : Schema) (tree : ℕ) (t : Table) → nat_le (2 ^ 31) tree ≡ false
+    → find (λ o. o.tree == tree) schema.tables ≡ Some (table_at tree t)
     → accepts_program schema [] (count_query tree) [] ≡ true
 unfolding everything
 count_accepted schema tree Meta stored found = rw (stored, found) refl
@@ -92,4 +94,5 @@ module _ (schema : Schema) (at tree : ℕ) (t : Table) (it : TableStandsAt schem
       )
 
   pub count_means : Means schema (size_sql t) (count_command tree) 0
-  count_means = means schema (size_sql t) (count_command tree) 0 (first (size_sql t)) refl (count_plans (first (size_sql t)) (count_says t))
+  count_means = means schema (size_sql t) (count_command tree) 0 (first (size_sql t)) refl
+      (count_plans (first (size_sql t)) (count_says t))

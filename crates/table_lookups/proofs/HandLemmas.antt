@@ -43,7 +43,8 @@ module _ {S : Type 0} (g : store.Ghosts S) (look : Look) (asked : Values) where
   -- a query has begun and has given nothing
   pub none_yet : (old new : Held S) → HasTables (state g old).now.schema → HasBegun g (look_sql look) asked old new
       → HasGiven g (look_sql look) asked new [] × IsUnchanged (state g old) (state g new)
-  none_yet old new has h = begun_plain g (look_sql look) asked old new (plain look asked (state g old) (state g old) has) h
+  none_yet old new has h = begun_plain g (look_sql look) asked old new
+      (plain look asked (state g old) (state g old) has) h
 
   module _ (first : State) (h : Held S) (has : HasTables first.now.schema) (live : IsLive first)
       (same : IsUnchanged first (state g h)) where
@@ -54,10 +55,12 @@ module _ {S : Type 0} (g : store.Ghosts S) (look : Look) (asked : Values) where
     told rows = subst (λ (d : Database). Answers (question look) asked (tables_of d.trees) rows) same.0.now_is
 
     -- the rows that were given so far are the front of an answer over the tables as they were at first
-    pub front : (given : List Values) → HasGiven g (look_sql look) asked h given → (rest : List Values) × IsAnswer (given ++ rest)
+    pub front : (given : List Values) → HasGiven g (look_sql look) asked h given
+        → (rest : List Values) × IsAnswer (given ++ rest)
     front given it =
         let more = begun look asked (state g h) (state g h) (has_still first (state g h) same has)
-        (live_still first (state g h) same live) same.0.is_open given (given_begin g (look_sql look) asked h given it) in
+        (live_still first (state g h) same live) same.0.is_open given
+        (given_begin g (look_sql look) asked h given it) in
         (more.0, told (given ++ more.0) more.1)
 
     -- at the end they are an answer
@@ -65,7 +68,8 @@ module _ {S : Type 0} (g : store.Ghosts S) (look : Look) (asked : Values) where
     whole new given it = told given (answered look asked (state g h) new (has_still first (state g h) same has)
         (live_still first (state g h) same live) given it)
 
-    pub fails_then : (new : State) (e : Error) → first.faults ≤ (state g h).faults → (state g h).step_limit ≡ first.step_limit
+    pub fails_then : (new : State) (e : Error) → first.faults ≤ (state g h).faults
+        → (state g h).step_limit ≡ first.step_limit
         → AreAsked look asked → FailsToQuery (look_sql look) asked (state g h) new e → MayFail first new e
     fails_then new e more limit given it = fails_since first (state g h) same new e more limit
         (fails look asked (state g h) new (has_still first (state g h) same has) given e it)

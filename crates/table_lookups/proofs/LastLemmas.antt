@@ -1,13 +1,16 @@
 -- The first row of an answer is the one that arrives last.
-use Rattle.std.proofs.Common.{◌≡◌, ◌∙◌, ◌↔◌, ◌≤◌, ◌⊎◌, ℕ, zero, suc, Bool, true, false, ◌&&◌, cond, List, [], ◌∷◌, length, map, filter, take, refl, sym, ap, subst, arith, pos}
-use Rattle.std.proofs.Common.{Option, Some, None, slice_get, inl, inr, true≢false, Contains, Ordering, Less, Equal, Greater, is_eq}
+use Rattle.std.proofs.Common.{◌≡◌, ◌∙◌, ◌↔◌, ◌≤◌, ◌⊎◌, ℕ, zero, suc, Bool, true, false, ◌&&◌, cond, List, [], ◌∷◌}
+use Rattle.std.proofs.Common.{length, map, filter, take, refl, sym, ap, subst, arith, pos}
+use Rattle.std.proofs.Common.{Option, Some, None, slice_get, inl, inr, true≢false, Contains, Ordering, Less, Equal}
+use Rattle.std.proofs.Common.{Greater, is_eq}
 use Rattle.std.specs.Cmp.Lexicographic.{slice_cmp, nat_list_cmp_total}
 use Rattle.std.specs.FinMap.{slice_cmp-IsAntisymmetric, nat_cmp-IsAntisymmetric}
 use Rattle.std.specs.List.Sorted.{IsPermutation, IsSorted}
 use Rattle.std.specs.Ordering.{flip_args, int_cmp, is_le, is_lt, nat_cmp, on, ordering_then}
 use Rattle.std.proofs.lemmas.Bool.Decides.{nat_tests}
 use Rattle.std.proofs.lemmas.Cmp.{tied_itself}
-use Rattle.std.proofs.lemmas.List.Sorted.{Contains-permutation, IsPermutation-sym, length_permutation, ranks_by, sorted_far}
+use Rattle.std.proofs.lemmas.List.Sorted.{Contains-permutation, IsPermutation-sym, length_permutation, ranks_by}
+use Rattle.std.proofs.lemmas.List.Sorted.{sorted_far}
 use Rattle.sqlite.specs.Order.{Row, column}
 use Rattle.sqlite_sql.specs.Ops.{binary, from_truth, is_true}
 use Rattle.sqlite_sql.specs.declared.ops.CompareOp.TheVariants.{Eq, Le}
@@ -35,7 +38,8 @@ contains_cases y x xs (zero, within, is) = inl is
 contains_cases y x xs (suc k, within, is) = inr (k, omega (arith, within), is)
 
 -- what a filter keeps
-in_filter : {X : Type 0} (p : X → Bool) (xs : List X) (x : X) → Contains (filter p xs) x ↔ (Contains xs x × (p x ≡ true))
+in_filter : {X : Type 0} (p : X → Bool) (xs : List X) (x : X)
+    → Contains (filter p xs) x ↔ (Contains xs x × (p x ≡ true))
 in_filter p [] x = ((λ there. absurd (omega (arith, there.1))), λ both. both.0)
 in_filter p (y ∷ ys) x = go (p y) refl (in_filter p ys x)
   where
@@ -77,7 +81,8 @@ first_is_latest : (x : Row) (xs : List Row) → IsSorted (order_cmp (question La
     → (other : Row) → Contains (x ∷ xs) other → is_lt (value_cmp (column x 2) (column other 2)) ≡ false
 first_is_latest x xs sorted other (k, within, is) =
     let weak = ranks_by (directed_total true value_cmp_total) (λ (v : Row). column v 2) in
-    let far = sorted_far (λ a b. is_lt (flip_args value_cmp (column a 2) (column b 2))) weak (x ∷ xs) (falls (x ∷ xs) sorted) 0 k
+    let far = sorted_far (λ a b. is_lt (flip_args value_cmp (column a 2) (column b 2))) weak (x ∷ xs)
+    (falls (x ∷ xs) sorted) 0 k
     other (omega arith) within in
     subst (λ (v : Row). is_lt (value_cmp (column x 2) (column v 2)) ≡ false) is far
 
@@ -145,7 +150,8 @@ passes_told : (app other : List ℕ) (moment ia : ℕ) (v : Row) → Arrives oth
     → passes (question LastOf) (asked_last app moment) v ≡ true → (other ≡ app) × (ia ≤ moment)
 passes_told app other moment ia v is h =
     let both = both_of _ _ h in
-    let same : is_so Eq (Text other) (Text app) ≡ true = subst (λ (c : Value). is_so Eq c (Text app) ≡ true) is.of both.0 in
+    let same : is_so Eq (Text other) (Text app)
+    ≡ true = subst (λ (c : Value). is_so Eq c (Text app) ≡ true) is.of both.0 in
     let low : is_so Le (natural ia) (natural moment) ≡ true =
     subst (λ (c : Value). is_so Le c (natural moment) ≡ true) is.at both.1 in (
       slice_cmp-IsAntisymmetric nat_cmp-IsAntisymmetric other app (equal_from _ (sym (so_texts other app) ∙ same)),
@@ -185,8 +191,10 @@ module _ (app : List ℕ) (moment : ℕ) (rows : List Row) where
       }
 
 pub last_found : (app : List ℕ) (moment : ℕ) (all : Tables) (rows : List Row) (found : Option Row)
-    → Answers (question LastOf) (asked_last app moment) all rows → found ≡ slice_get rows 0 → IsLastFound app moment all found
+    → Answers (question LastOf) (asked_last app moment) all rows → found ≡ slice_get rows 0
+    → IsLastFound app moment all found
 last_found app moment all rows found answers first =
-    let last = last_of_ordered (asked_for (question LastOf) (asked_last app moment) all) answers.ordered rows found answers.same
+    let last = last_of_ordered (asked_for (question LastOf)
+    (asked_last app moment) all) answers.ordered rows found answers.same
     answers.sorted answers.is first in
     (last, λ each. tells_last app moment (map (shown History) (all History)) found each last)

@@ -1,5 +1,6 @@
 -- What is asked of each table fits it.
-use Rattle.std.proofs.Common.{◌≡◌, ℕ, zero, ◌+◌, ◌^◌, ◌==◌, nat_le, Bool, true, false, find, List, [], length, map, refl, slice_get, Some, None, arith, pos}
+use Rattle.std.proofs.Common.{◌≡◌, ℕ, zero, ◌+◌, ◌^◌, ◌==◌, nat_le, Bool, true, false, find, List, [], length, map}
+use Rattle.std.proofs.Common.{refl, slice_get, Some, None, arith, pos}
 use Rattle.sqlite.specs.Query.{Query, inner, end}
 use Rattle.sqlite.specs.Term.{col, lit}
 use Rattle.sqlite.specs.Order.{Row}
@@ -20,8 +21,10 @@ use Rattle.sqlite_typing.specs.Types.{accepts_program}
 use Rattle.table_lookups.specs.Looks.{AreAsked, question}
 use Rattle.table_lookups.specs.Question.{By, Question, Test, place_of}
 use Rattle.table_lookups.specs.declared.looks.Look.{Look}
-use Rattle.table_lookups.specs.declared.looks.Look.TheVariants.{InHistory, InDeletions, PairsOf, LastOf, DeletedFrom, JobOf}
-use Rattle.table_lookups.specs.declared.looks.Look.TheVariants.{HistoryListed, HistoryOf, DeletionsListed, DeletionsOf, PairsListed}
+use Rattle.table_lookups.specs.declared.looks.Look.TheVariants.{InHistory, InDeletions, PairsOf, LastOf, DeletedFrom}
+use Rattle.table_lookups.specs.declared.looks.Look.TheVariants.{JobOf}
+use Rattle.table_lookups.specs.declared.looks.Look.TheVariants.{HistoryListed, HistoryOf, DeletionsListed}
+use Rattle.table_lookups.specs.declared.looks.Look.TheVariants.{DeletionsOf, PairsListed}
 use Rattle.table_lookups.proofs.LookTexts.{asked_with}
 use Rattle.table_lookups.proofs.QuestionMeanings.{IsAbout, test_term}
 use Rattle.table_lookups.proofs.SortMeanings.{IsPlaced, limit_term, sort_term}
@@ -167,7 +170,10 @@ look_fits tree HistoryListed = record {
     has = (tt, (tt, (tt, (tt, (tt, tt)))));
     few = omega arith;
     tests = tt;
-    order = (is_placed 2 _ refl refl refl refl refl, (is_placed 1 _ refl refl refl refl refl, (is_placed 0 _ refl refl refl refl refl, tt)));
+    order = (
+      is_placed 2 _ refl refl refl refl refl,
+      (is_placed 1 _ refl refl refl refl refl, (is_placed 0 _ refl refl refl refl refl, tt)),
+    );
     short = omega arith;
   };
   terms = refl;
@@ -178,7 +184,10 @@ look_fits tree HistoryOf = record {
     has = (tt, (tt, (tt, (tt, (tt, tt)))));
     few = omega arith;
     tests = (is_tested 1 _ refl refl refl refl refl refl, tt);
-    order = (is_placed 2 _ refl refl refl refl refl, (is_placed 1 _ refl refl refl refl refl, (is_placed 0 _ refl refl refl refl refl, tt)));
+    order = (
+      is_placed 2 _ refl refl refl refl refl,
+      (is_placed 1 _ refl refl refl refl refl, (is_placed 0 _ refl refl refl refl refl, tt)),
+    );
     short = omega arith;
   };
   terms = refl;
@@ -189,7 +198,10 @@ look_fits tree DeletionsListed = record {
     has = (tt, (tt, (tt, (tt, (tt, (tt, tt))))));
     few = omega arith;
     tests = tt;
-    order = (is_placed 2 _ refl refl refl refl refl, (is_placed 1 _ refl refl refl refl refl, (is_placed 0 _ refl refl refl refl refl, tt)));
+    order = (
+      is_placed 2 _ refl refl refl refl refl,
+      (is_placed 1 _ refl refl refl refl refl, (is_placed 0 _ refl refl refl refl refl, tt)),
+    );
     short = omega arith;
   };
   terms = refl;
@@ -200,7 +212,10 @@ look_fits tree DeletionsOf = record {
     has = (tt, (tt, (tt, (tt, (tt, (tt, tt))))));
     few = omega arith;
     tests = (is_tested 1 _ refl refl refl refl refl refl, tt);
-    order = (is_placed 2 _ refl refl refl refl refl, (is_placed 1 _ refl refl refl refl refl, (is_placed 0 _ refl refl refl refl refl, tt)));
+    order = (
+      is_placed 2 _ refl refl refl refl refl,
+      (is_placed 1 _ refl refl refl refl refl, (is_placed 0 _ refl refl refl refl refl, tt)),
+    );
     short = omega arith;
   };
   terms = refl;
@@ -218,7 +233,8 @@ look_fits tree PairsListed = record {
   names = refl;
 }
 
-pub look_accepted : (schema : Schema) (tree : ℕ) (look : Look) → nat_le (2 ^ 31) tree ≡ false → find (λ o. o.tree == tree) schema.tables ≡ Some (table_at tree (question look).table)
+pub look_accepted : (schema : Schema) (tree : ℕ) (look : Look) → nat_le (2 ^ 31) tree ≡ false
+    → find (λ o. o.tree == tree) schema.tables ≡ Some (table_at tree (question look).table)
     → accepts_program schema [] (query_to tree (question look)) [] ≡ true
 unfolding everything
 look_accepted schema tree JobOf stored found = rw (stored, found) refl
@@ -226,8 +242,10 @@ look_accepted schema tree LastOf stored found = rw (stored, found) refl
 look_accepted schema tree look stored found = rw (stored, found) refl
 
 -- where such values are given, the types fit
-pub look_takes : (schema : Schema) (tree : ℕ) (look : Look) → nat_le (2 ^ 31) tree ≡ false → find (λ o. o.tree == tree) schema.tables ≡ Some (table_at tree (question look).table)
-    → (asked : Row) → AreAsked look asked → (length asked ≡ asked_with look) × (accepts_program schema [] (query_to tree (question look)) asked ≡ true)
+pub look_takes : (schema : Schema) (tree : ℕ) (look : Look) → nat_le (2 ^ 31) tree ≡ false
+    → find (λ o. o.tree == tree) schema.tables ≡ Some (table_at tree (question look).table)
+    → (asked : Row) → AreAsked look asked
+    → (length asked ≡ asked_with look) × (accepts_program schema [] (query_to tree (question look)) asked ≡ true)
 unfolding everything
 look_takes schema tree InHistory stored found asked (n, is) = rw is (refl, rw (stored, found) refl)
 look_takes schema tree InDeletions stored found asked (n, is) = rw is (refl, rw (stored, found) refl)

@@ -30,35 +30,47 @@ use Rattle.table_schema.proofs.Written.{IfRead}
 use Rattle.table_schema.proofs.WrittenQueries.{plain_draft, select_of}
 
 abbrev pub look_command : ℕ → Look → Command
-look_command tree look = command.Select (record { lets = []; body = query_to tree (question look) }) (column_names (question look).table)
+look_command tree look = command.Select (record { lets = []; body = query_to tree (question look) })
+    (column_names (question look).table)
 
-pub plans : (schema : Schema) (p : Parsed) (s : Select) (c : Command) → p.statement ≡ written.Select s → p.formats ≡ [] → compile.read schema s ≡ Ok c
+pub plans : (schema : Schema) (p : Parsed) (s : Select) (c : Command) → p.statement ≡ written.Select s
+    → p.formats ≡ [] → compile.read schema s ≡ Ok c
     → compile.planned schema p ≡ Ok ([], (c, None))
 unfolding compile.planned compile.timed compile.meaning compile.returning compile.command
 plans schema p s c is timeless reads = rw (is, timeless, reads) refl
 
-module _ (schema : Schema) (at tree : ℕ) (look : Look) (it : TableStandsAt schema (table_at tree (question look).table) at) where
+module _ (schema : Schema) (at tree : ℕ) (look : Look)
+    (it : TableStandsAt schema (table_at tree (question look).table) at) where
   abbrev q : Question
   q = question look
 
   abbrev shows : List Term → Query
-  shows terms = query_of (plain_draft tree (map (test_term (tested q)) q.tests) terms (map (sort_term (placed q)) q.order) (limit_term q.is_one, number 0))
+  shows terms = query_of (plain_draft tree (map (test_term (tested q)) q.tests) terms
+      (map (sort_term (placed q)) q.order) (limit_term q.is_one, number 0))
 
   abbrev IsRead : Select → List Term → List (List ℕ) → Type 0
   IsRead s terms names = compile.read schema s ≡ Ok (command.Select (record { lets = []; body = shows terms }) names)
 
-  read_as : (s : Select) → IsWritten s (name q.table) (column_names q.table) q.tests q.order q.is_one → compile.read schema s ≡ Ok (look_command tree look)
+  read_as : (s : Select) → IsWritten s (name q.table) (column_names q.table) q.tests q.order q.is_one
+      → compile.read schema s ≡ Ok (look_command tree look)
   read_as s is =
       let fits = look_fits tree look in
       let accepted = look_accepted schema tree look it.stored it.found in
       subst₂ (IsRead s) fits.terms fits.names
-      (question_meanings.reads schema (table_at tree q.table) at it s (column_names q.table) q.tests q.order q.is_one (tested q) (placed q) fits.about is
+      (question_meanings.reads schema (table_at tree q.table) at it s (column_names q.table) q.tests q.order q.is_one
+      (tested q) (placed q) fits.about is
       (subst (λ terms. accepts_program schema [] (shows terms) [] ≡ true) (sym fits.terms) accepted))
 
-  look_plans : (r : Checked Parsed) → IfRead r (Says q (asked_with look) (length (look_sql look))) → IfRead r (Plans schema (look_command tree look) (length (look_sql look)) (asked_with look))
+  look_plans : (r : Checked Parsed) → IfRead r (Says q (asked_with look) (length (look_sql look)))
+      → IfRead r (Plans schema (look_command tree look) (length (look_sql look)) (asked_with look))
   look_plans (Err e) h = absurd h
-  look_plans (Ok p) h = (plans schema p (select_of p.statement) (look_command tree look) h.is h.text.2
-      (read_as (select_of p.statement) h.asks), h.text.0, h.text.1)
+  look_plans (Ok p) h = (
+    plans schema p (select_of p.statement) (look_command tree look) h.is h.text.2
+        (read_as (select_of p.statement) h.asks),
+    h.text.0,
+    h.text.1,
+  )
 
   pub look_means : Means schema (look_sql look) (look_command tree look) (asked_with look)
-  look_means = means schema (look_sql look) (look_command tree look) (asked_with look) (compile.first (look_sql look)) refl (look_plans (compile.first (look_sql look)) (look_says look))
+  look_means = means schema (look_sql look) (look_command tree look) (asked_with look)
+      (compile.first (look_sql look)) refl (look_plans (compile.first (look_sql look)) (look_says look))

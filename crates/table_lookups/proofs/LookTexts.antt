@@ -5,7 +5,8 @@ use Rattle.sqlite_tied.specs.Compute.{everything}
 use Rattle.table_lookups.specs.Looks.{look_sql, question}
 use Rattle.table_lookups.specs.declared.looks.Look.{Look}
 use Rattle.table_lookups.specs.declared.looks.Look.TheVariants.{LastOf, DeletedFrom}
-use Rattle.table_lookups.specs.declared.looks.Look.TheVariants.{HistoryListed, HistoryOf, DeletionsListed, DeletionsOf, PairsListed}
+use Rattle.table_lookups.specs.declared.looks.Look.TheVariants.{HistoryListed, HistoryOf, DeletionsListed}
+use Rattle.table_lookups.specs.declared.looks.Look.TheVariants.{DeletionsOf, PairsListed}
 use Rattle.table_schema.proofs.Written.{IfRead}
 use Rattle.table_lookups.proofs.WrittenQuestions.{Says}
 

@@ -16,7 +16,8 @@ use Rattle.sqlite_value.specs.declared.keys.Collation.{Collation}
 use Rattle.table_schema.proofs.ColumnsLemmas as lemmas
 use Rattle.table_schema.proofs.WrittenQueries.{source_table}
 
-module _ (schema : Schema) (s : Select) (name : List ℕ) (page : Term × Term) (draft : Draft) (names : List (List ℕ)) (collations : List (Option Collation))
+module _ (schema : Schema) (s : Select) (name : List ℕ) (page : Term
+    × Term) (draft : Draft) (names : List (List ℕ)) (collations : List (Option Collation))
     (no_lets : (out-Select s).«with» ≡ []) (no_others : (out-Select s).others ≡ [])
     (from : (out-Core (out-Select s).first).from ≡ source_table name ∷ []) (pages : select.paging schema s ≡ Ok page)
     (named : select.named schema (out-Select s).first (out-Select s).order page ≡ Ok (draft, names, collations)) where
@@ -29,15 +30,18 @@ module _ (schema : Schema) (s : Select) (name : List ℕ) (page : Term × Term) 
   abbrev Again : Type 0
   Again = Schema → Select → program.Building program.Shown
 
-  viewing_is : (again : Again) (n : ℕ) (lets : List Let) → program.viewing again schema core (out-Select s).order page (suc n) schema lets ≡ Ok ((shows, schema), lets)
+  viewing_is : (again : Again) (n : ℕ) (lets : List Let)
+      → program.viewing again schema core (out-Select s).order page (suc n) schema lets ≡ Ok ((shows, schema), lets)
   unfolding program.viewing
   viewing_is again n lets = rw named refl
 
-  sources_are : (again : Again) (lets : List Let) → program.sources again schema (source_table name ∷ []) lets ≡ Ok (schema, lets)
+  sources_are : (again : Again) (lets : List Let)
+      → program.sources again schema (source_table name ∷ []) lets ≡ Ok (schema, lets)
   unfolding program.sources program.source
   sources_are again lets = rw (lemmas.opens_source name) refl
 
-  single_is : (again : Again) (lets : List Let) → program.single again schema core (out-Select s).order page lets ≡ Ok ((shows, schema), lets)
+  single_is : (again : Again) (lets : List Let)
+      → program.single again schema core (out-Select s).order page lets ≡ Ok ((shows, schema), lets)
   unfolding program.single
   single_is again lets = rw (from, sources_are again lets, viewing_is again 63 lets) refl
 

@@ -1,5 +1,6 @@
 -- What a query whose meaning is known leaves, what it answers, and why it fails.
-use Rattle.std.proofs.Common.{◌≡◌, ◌∙◌, ◌^◌, nat_le, ℕ, List, [], ◌++◌, append-nil, length, Result, Ok, Err, IsSome, inl, inr, refl, sym, ap, subst, false, true, true≢false}
+use Rattle.std.proofs.Common.{◌≡◌, ◌∙◌, ◌^◌, nat_le, ℕ, List, [], ◌++◌, append-nil, length, Result, Ok, Err, IsSome}
+use Rattle.std.proofs.Common.{inl, inr, refl, sym, ap, subst, false, true, true≢false}
 use Rattle.std.specs.Prelude.{IfErr, IfOk}
 use Rattle.sqlite.specs.Clock.{timed}
 use Rattle.sqlite.specs.Command.TheVariants.{Select}
@@ -83,7 +84,8 @@ module _ (sql : List ℕ) (asked : Row) (old new : State) (q : Query) (names : L
       inl ran.3
 
   -- whatever it answers
-  pub leaves : {A : Type 0} (items : A → List Row) (r : Result A Error) → IfOk r (λ rows. Shown sql asked old new (items rows))
+  pub leaves : {A : Type 0} (items : A → List Row) (r : Result A Error)
+      → IfOk r (λ rows. Shown sql asked old new (items rows))
       → IfErr r (FailsToQuery sql asked old new) → StaysOrIsUndone old new
   leaves items (Ok rows) ok err = inl (stays (items rows) ok)
   leaves items (Err e) ok err = failed e err

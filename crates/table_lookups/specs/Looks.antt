@@ -6,8 +6,10 @@ use Rattle.sqlite_sql.specs.declared.ops.CompareOp.TheVariants.{Eq, Le, Ge}
 use Rattle.table_lookups.specs.Question.{By, Question, Test, question_text}
 use Rattle.table_lookups.specs.Question.Side.{Asked, Letters}
 use Rattle.table_lookups.specs.declared.looks.Look.{Look}
-use Rattle.table_lookups.specs.declared.looks.Look.TheVariants.{InHistory, InDeletions, PairsOf, LastOf, DeletedFrom, JobOf}
-use Rattle.table_lookups.specs.declared.looks.Look.TheVariants.{HistoryListed, HistoryOf, DeletionsListed, DeletionsOf, PairsListed}
+use Rattle.table_lookups.specs.declared.looks.Look.TheVariants.{InHistory, InDeletions, PairsOf, LastOf, DeletedFrom}
+use Rattle.table_lookups.specs.declared.looks.Look.TheVariants.{JobOf}
+use Rattle.table_lookups.specs.declared.looks.Look.TheVariants.{HistoryListed, HistoryOf, DeletionsListed}
+use Rattle.table_lookups.specs.declared.looks.Look.TheVariants.{DeletionsOf, PairsListed}
 use Rattle.table_schema.specs.declared.tables.Table.{Table}
 use Rattle.table_schema.specs.declared.tables.Table.TheVariants.{History, Deletion, Dependency, Job}
 

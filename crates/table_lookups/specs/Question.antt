@@ -1,5 +1,6 @@
 -- A question to one table: its text, and what answers it.
-use Rattle.std.specs.Prelude.{◌≡◌, ℕ, ◌+◌, Bool, bytes_eq, cond, List, [], ◌∷◌, ◌++◌, codes, filter, map, take, unwrap_or}
+use Rattle.std.specs.Prelude.{◌≡◌, ℕ, ◌+◌, Bool, bytes_eq, cond, List, [], ◌∷◌, ◌++◌, codes, filter, map, take}
+use Rattle.std.specs.Prelude.{unwrap_or}
 use Rattle.std.specs.List.{list_all, position_from}
 use Rattle.std.specs.List.Sorted.{IsPermutation, IsSorted}
 use Rattle.std.specs.Ordering.{on}

@@ -6,14 +6,16 @@ use sqlite::{Connection, Error, MemStore, Row};
 use std::alloc::Global;
 use std::process::Abort;
 use std::test::Fail;
-use table_lookups::{HandFault, Look, SinkFault, ValuesSink, ask, hand};
-use table_lookups::{deletion_of_serial, history_of_serial, job_of_number, last_of, operator_deletions_from};
-use table_lookups::{pairs_of_successor, size_of};
+use table_lookups::{
+    HandFault, Look, SinkFault, ValuesSink, ask, deletion_of_serial, hand, history_of_serial,
+    job_of_number, last_of, operator_deletions_from, pairs_of_successor, size_of,
+};
 use table_schema::{Table, make_tables};
 
 /// Of history three rows of A and two of B; of the deletions one for which nothing waited any more, and four by the
 /// operator.
-const ROWS: &str = "INSERT INTO history_row VALUES (1, 'A', 100, 160, NULL), (2, 'B', 100, 160, 'RC'), \
+const ROWS: &str =
+    "INSERT INTO history_row VALUES (1, 'A', 100, 160, NULL), (2, 'B', 100, 160, 'RC'), \
     (3, 'A', 200, 260, NULL), (4, 'A', 300, 360, NULL), (5, 'B', 50, 60, NULL); \
     INSERT INTO deletion_row VALUES (3, 'A', 250, 260, NULL, 'O'), (6, 'A', 150, 160, NULL, 'O'), \
     (7, 'B', 250, 260, NULL, 'O'), (8, 'A', 250, 270, NULL, 'W'), (9, 'C', 10, 20, NULL, 'O'); \
@@ -23,7 +25,9 @@ const ROWS: &str = "INSERT INTO history_row VALUES (1, 'A', 100, 160, NULL), (2,
 /// The rows, in tables that stand behind two others.
 fn plan(alloc: Global) -> Result<Connection<MemStore>, Error> {
     let mut conn = Connection::open_in_memory(alloc)?;
-    conn.execute_batch("CREATE TABLE first (x INTEGER); CREATE TABLE second (app TEXT, ia INTEGER)")?;
+    conn.execute_batch(
+        "CREATE TABLE first (x INTEGER); CREATE TABLE second (app TEXT, ia INTEGER)",
+    )?;
     if conn.is_autocommit() {
         make_tables(&mut conn)?;
     }
@@ -99,7 +103,11 @@ fn last_row_is_found(rt: HostRuntime) -> Result<(), Fail> {
     let mut conn = plan(rt.alloc())?;
     for (app, moment, wanted) in LASTS {
         let found = last_of(&mut conn, app, moment)?;
-        assert_eq!(rt; found.as_ref().map_or(0, first_number), wanted, "{app} {moment}");
+        assert_eq!(rt;
+            found.as_ref().map_or(0, first_number),
+            wanted,
+            "{app} {moment}"
+        );
     }
     Ok(())
 }
@@ -107,8 +115,17 @@ fn last_row_is_found(rt: HostRuntime) -> Result<(), Fail> {
 #[test]
 fn operator_deletions_are_found(rt: HostRuntime) -> Result<(), Fail> {
     let mut conn = plan(rt.alloc())?;
-    for (moment, wanted) in [(0, 1_011_001_000), (150, 11_001_000), (151, 10_001_000), (251, 0)] {
-        assert_eq!(rt; places_of(&operator_deletions_from(&mut conn, moment)?), wanted, "{moment}");
+    for (moment, wanted) in [
+        (0, 1_011_001_000),
+        (150, 11_001_000),
+        (151, 10_001_000),
+        (251, 0),
+    ] {
+        assert_eq!(rt;
+            places_of(&operator_deletions_from(&mut conn, moment)?),
+            wanted,
+            "{moment}"
+        );
     }
     Ok(())
 }
@@ -149,7 +166,10 @@ fn sink_may_refuse(rt: HostRuntime) -> Result<(), Fail> {
         number: 0,
         enough: 51,
     };
-    let is_refused = matches!(&hand(&mut conn, Look::HistoryListed, &[], &mut sink), Err(HandFault::Sink));
+    let is_refused = matches!(
+        &hand(&mut conn, Look::HistoryListed, &[], &mut sink),
+        Err(HandFault::Sink)
+    );
     assert!(rt; is_refused);
     assert_eq!(rt; sink.number, 51);
     assert_eq!(rt; ask(&mut conn, Look::HistoryListed, &[])?.len(), 5);

@@ -6,7 +6,8 @@ use Rattle.table_lookups.proofs.asking.ask.Goals as goal
 
 pub returns-clause-rows : goal.returns-clause-rows
 returns-clause-rows g c clean has =
-    if_ok c.query_all.result _ _ (λ rows h. answered c.args.look (bound c.args.asked.now) (state g.S.Store c.args.conn.now)
+    if_ok c.query_all.result _ _ (λ rows h. answered c.args.look (bound c.args.asked.now)
+    (state g.S.Store c.args.conn.now)
     (state g.S.Store c.query_all.new.self) has c.schema.ensures.live rows.items h)
     (rw c.look_text.ensures at (c.query_all.ensures.ok clean))
 
@@ -29,6 +30,7 @@ returns-clause-fails g c clean has given =
 
 pub returns-clause-leaves : goal.returns-clause-leaves
 returns-clause-leaves g c clean has =
-    leaves c.args.look (bound c.args.asked.now) (state g.S.Store c.args.conn.now) (state g.S.Store c.query_all.new.self) has
+    leaves c.args.look (bound c.args.asked.now) (state g.S.Store c.args.conn.now)
+    (state g.S.Store c.query_all.new.self) has
     (λ rows. rows.items) c.query_all.result (rw c.look_text.ensures at (c.query_all.ensures.ok clean))
     (rw c.look_text.ensures at (c.query_all.ensures.err clean))

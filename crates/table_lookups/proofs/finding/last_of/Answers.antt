@@ -7,7 +7,8 @@ use Rattle.table_lookups.proofs.finding.last_of.Goals as goal
 pub returns-in-Ok : goal.returns-in-Ok
 returns-in-Ok g c = record {
   found = λ clean has. last_found c.args.app.now c.args.moment (tables_of (state g.S.Store c.args.conn.now).now.trees)
-      c.in-Ok.rows.items c.first_of.result (rw (c.text.ensures, c.number.ensures) at (c.in-Ok.ensures.rows clean has)) c.first_of.ensures;
+      c.in-Ok.rows.items c.first_of.result
+      (rw (c.text.ensures, c.number.ensures) at (c.in-Ok.ensures.rows clean has)) c.first_of.ensures;
   same = search rules;
   fails = search rules;
   leaves = search rules;

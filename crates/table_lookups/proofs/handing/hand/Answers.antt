@@ -56,22 +56,28 @@ rows-init g c = (
 pub returns-in-Err-advance-clause-part : goal.returns-in-Err-advance-clause-part
 returns-in-Err-advance-clause-part g c clean has =
     let late : HasCleanDisk (state g.S.Store c.advance.new.self.conn.now) = search rules in
-    let before : HasCleanDisk (state g.S.Store c.rows.rows.conn.now) = omega (arith, late, c.advance.ensures.survives.clean) in
+    let before : HasCleanDisk (state g.S.Store c.rows.rows.conn.now) = omega
+    (arith, late, c.advance.ensures.survives.clean) in
     let was = c.rows.invariant.3.2 before has in
     let given = c.rows.invariant.3.0 in
-    let more = front g.S.Store c.args.look (bound c.args.asked.now) (state g.S.Store c.args.conn.now) c.rows.rows.conn.now has
+    let more = front g.S.Store c.args.look (bound c.args.asked.now)
+    (state g.S.Store c.args.conn.now) c.rows.rows.conn.now has
     c.schema.ensures.live was.1 given was.0 in
     record { done = given; rest = more.0; whole = inr more.1; ends = c.rows.invariant.3.1 }
 
 pub returns-in-Err-advance-clause-fails : goal.returns-in-Err-advance-clause-fails
 returns-in-Err-advance-clause-fails g c clean has asked =
     let late : HasCleanDisk (state g.S.Store c.advance.new.self.conn.now) = search rules in
-    let before : HasCleanDisk (state g.S.Store c.rows.rows.conn.now) = omega (arith, late, c.advance.ensures.survives.clean) in
+    let before : HasCleanDisk (state g.S.Store c.rows.rows.conn.now) = omega
+    (arith, late, c.advance.ensures.survives.clean) in
     let was = c.rows.invariant.3.2 before has in
-    let err = c.in-Err-advance.ensures.err late (look_sql c.args.look) (bound c.args.asked.now) c.rows.invariant.3.0 was.0 in
-    let failed : MayFail (state g.S.Store c.args.conn.now) (state g.S.Store c.advance.new.self.conn.now) c.in-Err-advance.error =
+    let err = c.in-Err-advance.ensures.err late (look_sql c.args.look)
+    (bound c.args.asked.now) c.rows.invariant.3.0 was.0 in
+    let failed : MayFail (state g.S.Store c.args.conn.now)
+    (state g.S.Store c.advance.new.self.conn.now) c.in-Err-advance.error =
     fails_then g.S.Store c.args.look (bound c.args.asked.now) (state g.S.Store c.args.conn.now) c.rows.rows.conn.now has
-    c.schema.ensures.live was.1 (state g.S.Store c.advance.new.self.conn.now) c.in-Err-advance.error c.rows.invariant.1.counts
+    c.schema.ensures.live was.1 (state g.S.Store c.advance.new.self.conn.now) c.in-Err-advance.error
+    c.rows.invariant.1.counts
     c.rows.invariant.1.limit asked err in
     search rules
 
@@ -81,19 +87,22 @@ returns-in-Err-advance-clause-survives g c =
     (λ _. HasTables c.args.conn.now.schema → ⊥) = survives_then _ (state g.S.Store c.rows.rows.conn.now) _ _ (λ _. ⊥) _
     (λ _ _ h. h) (λ _ _ h. absurd h) c.rows.invariant.1 c.advance.ensures.survives in
     let same : c.advance.new.self.conn.now ≡ c.conn-in-Err-advance-1.given.0 = search rules in
-    subst (λ h. Survives (state g.S.Store c.args.conn.now) (state g.S.Store h) (λ _. HasTables c.args.conn.now.schema → ⊥)) same all
+    subst (λ h. Survives (state g.S.Store c.args.conn.now) (state g.S.Store h)
+    (λ _. HasTables c.args.conn.now.schema → ⊥)) same all
 
 pub returns-in_default-get-clause-all : goal.returns-in_default-get-clause-all
 returns-in_default-get-clause-all g c clean has =
     let late : HasCleanDisk (state g.S.Store c.advance.new.self.conn.now) = search rules in
-    let before : HasCleanDisk (state g.S.Store c.rows.rows.conn.now) = omega (arith, late, c.advance.ensures.survives.clean) in
+    let before : HasCleanDisk (state g.S.Store c.rows.rows.conn.now) = omega
+    (arith, late, c.advance.ensures.survives.clean) in
     let was = c.rows.invariant.3.2 before has in
     let given = c.rows.invariant.3.0 in
     let shown = (rw (← c.get.ensures, c.in_default-get.is) at (c.in_default.ensures.ok late)) (look_sql c.args.look)
     (bound c.args.asked.now) given was.0 in
     record {
       rows = given;
-      whole = whole g.S.Store c.args.look (bound c.args.asked.now) (state g.S.Store c.args.conn.now) c.rows.rows.conn.now has
+      whole = whole g.S.Store c.args.look (bound c.args.asked.now)
+          (state g.S.Store c.args.conn.now) c.rows.rows.conn.now has
           c.schema.ensures.live was.1 (state g.S.Store c.advance.new.self.conn.now) given shown;
       taken = c.rows.invariant.3.1;
     }
@@ -104,23 +113,28 @@ returns-in_default-get-clause-survives g c =
     (λ _. HasTables c.args.conn.now.schema → ⊥) = survives_then _ (state g.S.Store c.rows.rows.conn.now) _ _ (λ _. ⊥) _
     (λ _ _ h. h) (λ _ _ h. absurd h) c.rows.invariant.1 c.advance.ensures.survives in
     let same : c.advance.new.self.conn.now ≡ c.conn-in_default-get-1.given.0 = search rules in
-    subst (λ h. Survives (state g.S.Store c.args.conn.now) (state g.S.Store h) (λ _. HasTables c.args.conn.now.schema → ⊥)) same all
+    subst (λ h. Survives (state g.S.Store c.args.conn.now) (state g.S.Store h)
+    (λ _. HasTables c.args.conn.now.schema → ⊥)) same all
 
 pub returns-in-Err-take-clause-part : goal.returns-in-Err-take-clause-part
 returns-in-Err-take-clause-part g c clean has =
     let late : HasCleanDisk (state g.S.Store c.advance.new.self.conn.now) = search rules in
-    let before : HasCleanDisk (state g.S.Store c.rows.rows.conn.now) = omega (arith, late, c.advance.ensures.survives.clean) in
+    let before : HasCleanDisk (state g.S.Store c.rows.rows.conn.now) = omega
+    (arith, late, c.advance.ensures.survives.clean) in
     let was = c.rows.invariant.3.2 before has in
     let row = c.in-Some.row.now in
     let given = c.rows.invariant.3.0 in
     let has_given = (rw (← c.get.ensures, c.in-Some.is) at (c.in_default.ensures.ok late)) (look_sql c.args.look)
     (bound c.args.asked.now) given was.0 in
-    let more = front g.S.Store c.args.look (bound c.args.asked.now) (state g.S.Store c.args.conn.now) c.advance.new.self.conn.now
-    has c.schema.ensures.live (unchanged_then _ _ _ was.1 (c.in_default.ensures.same late)) (given ++ row ∷ []) has_given in
+    let more = front g.S.Store c.args.look (bound c.args.asked.now)
+    (state g.S.Store c.args.conn.now) c.advance.new.self.conn.now
+    has c.schema.ensures.live (unchanged_then _ _ _ was.1 (c.in_default.ensures.same late))
+    (given ++ row ∷ []) has_given in
     record {
       done = given;
       rest = row ∷ more.0;
-      whole = inr (subst (Answers (question c.args.look) (bound c.args.asked.now) _) (append_assoc given (row ∷ []) more.0) more.1);
+      whole = inr (subst (Answers (question c.args.look) (bound c.args.asked.now) _)
+          (append_assoc given (row ∷ []) more.0) more.1);
       ends = (c.rows.sink, row, more.0, refl, c.rows.invariant.3.1, c.in-Err-take.ensures.refused);
     }
 
@@ -130,7 +144,8 @@ returns-in-Err-take-clause-survives g c =
     (λ _. HasTables c.args.conn.now.schema → ⊥) = survives_then _ (state g.S.Store c.rows.rows.conn.now) _ _ (λ _. ⊥) _
     (λ _ _ h. h) (λ _ _ h. absurd h) c.rows.invariant.1 c.advance.ensures.survives in
     let same : c.advance.new.self.conn.now ≡ c.conn-in-Err-take-1.given.0 = search rules in
-    subst (λ h. Survives (state g.S.Store c.args.conn.now) (state g.S.Store h) (λ _. HasTables c.args.conn.now.schema → ⊥)) same all
+    subst (λ h. Survives (state g.S.Store c.args.conn.now) (state g.S.Store h)
+    (λ _. HasTables c.args.conn.now.schema → ⊥)) same all
 
 pub rows-preserved : goal.rows-preserved
 rows-preserved g c =
@@ -145,7 +160,8 @@ rows-preserved g c =
         takes_more g.K.ValuesSink.takes c.args.sink.now given c.rows.sink row c.take.new.self c.rows.invariant.3.1
             c.in_default-take.ensures.taken,
         λ clean has.
-            let before : HasCleanDisk (state g.S.Store c.rows.rows.conn.now) = omega (arith, clean, c.advance.ensures.survives.clean) in
+            let before : HasCleanDisk (state g.S.Store c.rows.rows.conn.now) = omega
+            (arith, clean, c.advance.ensures.survives.clean) in
             let was = c.rows.invariant.3.2 before has in (
               (rw (← c.get.ensures, c.in-Some.is) at (c.in_default.ensures.ok clean)) (look_sql c.args.look)
                   (bound c.args.asked.now) given was.0,
@@ -159,6 +175,7 @@ returns-clause-part g c clean has =
     let before : HasCleanDisk (state g.S.Store c.rows.rows.conn.now) = search rules in
     let was = c.rows.invariant.3.2 before has in
     let given = c.rows.invariant.3.0 in
-    let more = front g.S.Store c.args.look (bound c.args.asked.now) (state g.S.Store c.args.conn.now) c.rows.rows.conn.now has
+    let more = front g.S.Store c.args.look (bound c.args.asked.now)
+    (state g.S.Store c.args.conn.now) c.rows.rows.conn.now has
     c.schema.ensures.live was.1 given was.0 in
     record { done = given; rest = more.0; whole = inr more.1; ends = c.rows.invariant.3.1 }

@@ -16,4 +16,5 @@ invariant-rows g l =
     (l.rows.conn.ghost_name ≡ l.initial.rows.conn.ghost_name) × Survives old now (λ _. HasTables old.now.schema → ⊥)
     × (l.fn.conn.in_transaction ≡ false → l.rows.conn.now.in_transaction ≡ false)
     × ((given : List Values) × TakesAll g.K.ValuesSink.takes l.fn.sink given l.sink
-    × (HasCleanDisk now → HasTables old.now.schema → HasGiven g.S.Store (look_sql l.fn.look) (bound l.fn.asked) l.rows.conn.now given × IsUnchanged old now))
+    × (HasCleanDisk now → HasTables old.now.schema
+    → HasGiven g.S.Store (look_sql l.fn.look) (bound l.fn.asked) l.rows.conn.now given × IsUnchanged old now))

@@ -12,9 +12,11 @@ returns-in-Err g c =
     record {
       found = search rules;
       same = search rules;
-      fails = λ clean has. fails c.args.table old new has c.in-Err.error (rw c.size_text.ensures at (c.in-Err.ensures.err clean));
+      fails = λ clean has. fails c.args.table old new has c.in-Err.error
+          (rw c.size_text.ensures at (c.in-Err.ensures.err clean));
       leaves = λ clean has. leaves c.args.table old new has (λ rows. rows.items) c.query_all.result
-          (rw c.size_text.ensures at (c.query_all.ensures.ok clean)) (rw c.size_text.ensures at (c.query_all.ensures.err clean));
+          (rw c.size_text.ensures at (c.query_all.ensures.ok clean))
+          (rw c.size_text.ensures at (c.query_all.ensures.err clean));
       mode = search rules;
       survives = quiet c.args.table old new (rw c.size_text.ensures at c.query_all.ensures.survives);
     }
@@ -25,15 +27,20 @@ returns-in-Some g c =
     let new = state g.S.Store c.query_all.new.self in
     record {
       found = λ clean has.
-          let rows = counted c.args.table old new has c.schema.ensures.live c.in-Ok.rows.items (rw c.size_text.ensures at (c.in-Ok.ensures.ok clean)) in
-          let number = c.only_number.ensures (size_of (tables_of old.now.trees c.args.table)) (c.deref.ensures.value ∙ rows) in
-          let same : Some c.in-Some.n ≡ Some (size_of (tables_of old.now.trees c.args.table)) = sym c.in-Some.is ∙ number in
+          let rows = counted c.args.table old new has c.schema.ensures.live c.in-Ok.rows.items
+          (rw c.size_text.ensures at (c.in-Ok.ensures.ok clean)) in
+          let number = c.only_number.ensures (size_of (tables_of old.now.trees c.args.table)) (c.deref.ensures.value
+          ∙ rows) in
+          let same : Some c.in-Some.n ≡ Some (size_of (tables_of old.now.trees c.args.table)) = sym c.in-Some.is
+          ∙ number in
           let is : c.in-Some.n ≡ size_of (tables_of old.now.trees c.args.table) = cc in
           is;
-      same = λ clean has. stays c.args.table old new has c.in-Ok.rows.items (rw c.size_text.ensures at (c.in-Ok.ensures.ok clean));
+      same = λ clean has. stays c.args.table old new has c.in-Ok.rows.items
+          (rw c.size_text.ensures at (c.in-Ok.ensures.ok clean));
       fails = search rules;
       leaves = λ clean has. leaves c.args.table old new has (λ rows. rows.items) c.query_all.result
-          (rw c.size_text.ensures at (c.query_all.ensures.ok clean)) (rw c.size_text.ensures at (c.query_all.ensures.err clean));
+          (rw c.size_text.ensures at (c.query_all.ensures.ok clean))
+          (rw c.size_text.ensures at (c.query_all.ensures.err clean));
       mode = search rules;
       survives = quiet c.args.table old new (rw c.size_text.ensures at c.query_all.ensures.survives);
     }
@@ -46,12 +53,15 @@ returns g c =
       found = search rules;
       same = search rules;
       fails = λ clean has.
-          let rows = counted c.args.table old new has c.schema.ensures.live c.in-Ok.rows.items (rw c.size_text.ensures at (c.in-Ok.ensures.ok clean)) in
-          let number = c.only_number.ensures (size_of (tables_of old.now.trees c.args.table)) (c.deref.ensures.value ∙ rows) in
+          let rows = counted c.args.table old new has c.schema.ensures.live c.in-Ok.rows.items
+          (rw c.size_text.ensures at (c.in-Ok.ensures.ok clean)) in
+          let number = c.only_number.ensures (size_of (tables_of old.now.trees c.args.table)) (c.deref.ensures.value
+          ∙ rows) in
           let none = sym c.in-None.is ∙ number in
           absurd (let e = none in cc);
       leaves = λ clean has. leaves c.args.table old new has (λ rows. rows.items) c.query_all.result
-          (rw c.size_text.ensures at (c.query_all.ensures.ok clean)) (rw c.size_text.ensures at (c.query_all.ensures.err clean));
+          (rw c.size_text.ensures at (c.query_all.ensures.ok clean))
+          (rw c.size_text.ensures at (c.query_all.ensures.err clean));
       mode = search rules;
       survives = quiet c.args.table old new (rw c.size_text.ensures at c.query_all.ensures.survives);
     }
