@@ -1,0 +1,75 @@
+-- Rows that are handed out.
+use Rattle.std.proofs.Common.{◌≡◌, ◌≤◌, List, [], ◌∷◌, ◌++◌, refl, sym, ap, subst}
+use Rattle.sqlite.specs.Effect.{Database, IsDatabase}
+use Rattle.sqlite.specs.Given.{HasBegun, HasGiven}
+use Rattle.sqlite.specs.Held.{Held, state}
+use Rattle.sqlite.specs.Order.{Row as Values}
+use Rattle.sqlite.specs.State.{FailsToQuery, IsLive, IsUnchanged, Shown, State}
+use Rattle.sqlite.specs.declared.error.Error.{Error}
+use Rattle.sqlite.proofs.Callers.{begun_plain, given_begin}
+use Rattle.sqlite_trees.specs.declared.store.Store as store
+use Rattle.table_lookups.specs.Handing.{TakesAll}
+use Rattle.table_lookups.specs.Looks.{AreAsked, look_sql, question}
+use Rattle.table_lookups.specs.Question.{Answers}
+use Rattle.table_lookups.specs.declared.looks.Look.{Look}
+use Rattle.table_lookups.proofs.AskLemmas.{answered, begun, fails, plain}
+use Rattle.table_schema.specs.Rows.{MayFail, tables_of}
+use Rattle.table_schema.specs.Schema.{HasTables}
+use Rattle.table_schema.proofs.StatementLemmas.{moved}
+use Rattle.table_schema.proofs.StopLemmas.{vain_since}
+
+module _ {K : Type 0} (Takes : K → Values → K → Type 0) where
+  pub takes_more : (old : K) (given : List Values) (mid : K) (row : Values) (new : K) → TakesAll Takes old given mid
+      → Takes mid row new → TakesAll Takes old (given ++ row ∷ []) new
+  takes_more old [] mid row new all last = (new, subst (λ k. Takes k row new) all last, refl)
+  takes_more old (r ∷ rs) mid row new all last = (all.0, all.1, takes_more all.0 rs mid row new all.2 last)
+
+-- a connection that is unchanged is as it was to one who asks
+module _ (first now : State) (same : IsUnchanged first now) where
+  has_still : HasTables first.now.schema → HasTables now.now.schema
+  has_still = moved first.now.schema now.now.schema (sym (ap (λ (d : Database). d.schema) same.0.now_is))
+
+  live_still : IsLive first → IsLive now
+  live_still live opened =
+      let was = live same.0.was_open in
+      (subst IsDatabase (sym same.0.now_is) was.0, subst IsDatabase (sym same.0.committed_is) was.1)
+
+  -- what fails later fails
+  pub fails_since : (new : State) (e : Error) → first.faults ≤ now.faults → now.step_limit ≡ first.step_limit
+      → MayFail now new e → MayFail first new e
+  fails_since new e more limit h = vain_since first now new e more (λ _. same.0.is_open) limit h
+
+module _ {S : Type 0} (g : store.Ghosts S) (look : Look) (asked : Values) where
+  -- a query has begun and has given nothing
+  pub none_yet : (old new : Held S) → HasTables (state g old).now.schema → HasBegun g (look_sql look) asked old new
+      → HasGiven g (look_sql look) asked new [] × IsUnchanged (state g old) (state g new)
+  none_yet old new has h = begun_plain g (look_sql look) asked old new
+      (plain look asked (state g old) (state g old) has) h
+
+  module _ (first : State) (h : Held S) (has : HasTables first.now.schema) (live : IsLive first)
+      (same : IsUnchanged first (state g h)) where
+    abbrev IsAnswer : List Values → Type 0
+    IsAnswer = Answers (question look) asked (tables_of first.now.trees)
+
+    told : (rows : List Values) → Answers (question look) asked (tables_of (state g h).now.trees) rows → IsAnswer rows
+    told rows = subst (λ (d : Database). Answers (question look) asked (tables_of d.trees) rows) same.0.now_is
+
+    -- the rows that were given so far are the front of an answer over the tables as they were at first
+    pub front : (given : List Values) → HasGiven g (look_sql look) asked h given
+        → (rest : List Values) × IsAnswer (given ++ rest)
+    front given it =
+        let more = begun look asked (state g h) (state g h) (has_still first (state g h) same has)
+        (live_still first (state g h) same live) same.0.is_open given
+        (given_begin g (look_sql look) asked h given it) in
+        (more.0, told (given ++ more.0) more.1)
+
+    -- at the end they are an answer
+    pub whole : (new : State) (given : List Values) → Shown (look_sql look) asked (state g h) new given → IsAnswer given
+    whole new given it = told given (answered look asked (state g h) new (has_still first (state g h) same has)
+        (live_still first (state g h) same live) given it)
+
+    pub fails_then : (new : State) (e : Error) → first.faults ≤ (state g h).faults
+        → (state g h).step_limit ≡ first.step_limit
+        → AreAsked look asked → FailsToQuery (look_sql look) asked (state g h) new e → MayFail first new e
+    fails_then new e more limit given it = fails_since first (state g h) same new e more limit
+        (fails look asked (state g h) new (has_still first (state g h) same has) given e it)

@@ -1,0 +1,16 @@
+pub mod WrittenQuestions
+pub mod LookTexts
+pub mod TestMeanings
+pub mod SortMeanings
+pub mod ReadMeanings
+pub mod CountMeanings
+pub mod QuestionMeanings
+pub mod LookFits
+pub mod LookMeanings
+pub mod AnswerLemmas
+pub mod TextLemmas
+pub mod AskLemmas
+pub mod HandLemmas
+pub mod LastLemmas
+pub mod CountTexts
+pub mod CountLemmas

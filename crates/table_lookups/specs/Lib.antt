@@ -1,0 +1,6 @@
+pub mod Question
+pub mod Looks
+pub mod Handing
+pub mod Finding
+pub mod Last
+pub mod Sizes

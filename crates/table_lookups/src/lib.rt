@@ -1,0 +1,17 @@
+//! Rows of the tables that are looked up: by a number, by a name and a moment, one after another in an order.
+#![tactic(auto)]
+
+mod asking;
+mod finding;
+mod handing;
+mod looks;
+mod sizes;
+
+pub use asking::ask;
+pub use finding::{
+    deletion_of_serial, history_of_serial, job_of_number, last_of, operator_deletions_from,
+    pairs_of_successor,
+};
+pub use handing::{HandFault, SinkFault, ValuesSink, hand};
+pub use looks::Look;
+pub use sizes::size_of;
