@@ -1,7 +1,6 @@
 -- How far a run over a store has come.
 use Rattle.std.specs.Prelude.{ℕ, ◌≤◌, List, Option}
 use Rattle.plan_store.specs.declared.stores.PlanStore.{Ghosts}
-use Rattle.planner_machine.specs.Content.{Content}
 use Rattle.planner_machine.specs.Sound.{IsSound}
 use Rattle.planner_cli.specs.Steps.{Step}
 use Rattle.planner_cli.specs.Stores.{LeavesOwn}

@@ -2,7 +2,6 @@
 use Rattle.std.proofs.Common.{◌≡◌, ℕ, List, refl, sym, ap}
 use Rattle.std.specs.Prelude.{Bool, IfErr, IfOk, None, Option, Result, Some}
 use Rattle.occurrences.specs.declared.refusal.Refusal.TheVariants.{NotAStatement}
-use Rattle.planner_machine.specs.Content.{Content}
 use Rattle.planner_machine.specs.Statement.{Statement}
 use Rattle.plan_store.specs.declared.stores.PlanStore.{Ghosts}
 use Rattle.plan_store.specs.declared.stores.StoreFault.{StoreFault}

@@ -233,28 +233,6 @@ module _ {S : Type 0} (g : Ghosts S) where
     read_answered (Ok printed) Does told memory = read_printed printed Does told
     read_answered (Err fault) Does told memory = read_refused (Err fault) Does memory
 
-  -- the store failed when it was read, and nothing is answered
-  pub read_failed : {T : Type 0} (before now : S) (read : Result T StoreFault) (IsRight : T → Type 0)
-      → ReadsBy g before now read IsRight → (fault : StoreFault) → read ≡ Err fault
-      → (result : Result Printed StoreFault) (Does : AnswerLines → Content → Type 0)
-      → IsErrAnd result (λ told. told ≡ fault) → AnswersBy g before now result Does
-  read_failed before now read IsRight reads fault was (Ok printed) Does is = absurd is
-  read_failed before now read IsRight reads fault was (Err told) Does is = record {
-    answers = λ honest. tt;
-    unchanged = λ honest memory. reads.same honest;
-    whole = λ honest. inl (reads.same honest);
-    settled = λ honest own. tt;
-    crash = λ honest clean own c leaves. inl (own c (reads.crash c leaves));
-    blames = λ device. subst (λ r. IfErr r (λ f. f ≡ Device → IsBlamed (g.failures before) (g.failures now))) was
-        reads.blames (sym is ∙ device);
-    counts = reads.counts;
-    honest = reads.honest;
-    clean = reads.clean;
-    stays_honest = λ honest clean fine. reads.stays_honest honest clean
-        (subst (λ r. IfErr r (λ f. f ≡ Device → ⊥)) (sym was) (λ device. fine (is ∙ device)));
-    stays_whole = tt;
-  }
-
   module _ {T U : Type 0} (before now : S) (read : Result T StoreFault) (IsRight : T → Type 0)
       (reads : ReadsBy g before now read IsRight) (value : T) (was : read ≡ Ok value) (Tells : U → Type 0) where
     own : ReadsBy g before now (Ok value) IsRight
