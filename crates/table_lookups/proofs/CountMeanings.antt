@@ -112,7 +112,8 @@ module _ (schema : Schema) (table : Table) (at : ℕ) (it : TableStandsAt schema
     }
 
     body_is : body.body lower (select.outermost schema) core (fresh 1 max_budget) ≡ Ok (whole, counted (max_budget - 1))
-    unfolding body.body body.result body.outputs body.matching body.joins body.join body.shared body.inner_join body.tests
+    unfolding
+        body.body body.result body.outputs body.matching body.joins body.join body.shared body.inner_join body.tests
     body_is = rw (
       is.from,
       lemmas.binds_table schema table at it.got it.named,
@@ -133,7 +134,9 @@ module _ (schema : Schema) (table : Table) (at : ℕ) (it : TableStandsAt schema
     parts_are = rw (body_is, is.group, is.having) refl
 
     named_is : select.named schema core [] all_rows ≡ Ok (count_draft table.tree, codes "count(*)" ∷ [], None ∷ [])
-    unfolding select.named select.assembled select.ungrouped select.finished select.completed select.covering select.grouped select.regrouped all_covered order_covered sampled
+    unfolding
+        select.named select.assembled select.ungrouped select.finished select.completed select.covering select.grouped
+        select.regrouped all_covered order_covered sampled
     named_is = rw (parts_are, is.repeats) refl
 
     pages : select.paging schema s ≡ Ok all_rows

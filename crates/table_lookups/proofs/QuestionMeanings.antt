@@ -15,6 +15,7 @@ use Rattle.sqlite_value.specs.declared.keys.Key.{Key}
 use Rattle.sqlite_resolve.specs.declared.scope.Level.{Level}
 use Rattle.sqlite_resolve.specs.declared.scope.Output.{Output}
 use Rattle.sqlite_resolve.specs.declared.body.Body.{Body}
+use Rattle.sqlite_resolve.specs.declared.select.Clauses.{Clauses}
 use Rattle.sqlite_resolve.specs.declared.state.Carried.{Carried}
 use Rattle.sqlite_resolve.specs.Lowering.{fresh, max_budget}
 use Rattle.sqlite_resolve.specs.Expr.{lower}
@@ -39,8 +40,8 @@ abbrev pub test_term : (Test → ℕ) → Test → Term
 test_term places t = compared t.how (places t) t.side
 
 -- the columns, tests and orders are those of the table
-pub record IsAbout (table : Table) (ns : List (List ℕ)) (ts : List Test) (bs : List By) (tested : Test
-    → ℕ) (placed : By → ℕ) : Type 0 where
+pub record IsAbout (table : Table) (ns : List (List ℕ)) (ts : List Test) (bs : List By) (tested : Test → ℕ)
+    (placed : By → ℕ) : Type 0 where
   pub has : HasColumns table ns
   pub few : length ns < 1000
   pub tests : AllByRecursion (λ t. IsTested table t (tested t)) ts
@@ -49,8 +50,8 @@ pub record IsAbout (table : Table) (ns : List (List ℕ)) (ts : List Test) (bs :
 
 module _ (schema : Schema) (table : Table) (at : ℕ) (it : TableStandsAt schema table at) (s : Select)
     (ns : List (List ℕ)) (ts : List Test) (bs : List By) (is_one : Bool)
-    (tested : Test → ℕ) (placed : By
-    → ℕ) (of : IsAbout table ns ts bs tested placed) (is : IsWritten s table.name ns ts bs is_one) where
+    (tested : Test → ℕ) (placed : By → ℕ) (of : IsAbout table ns ts bs tested placed)
+    (is : IsWritten s table.name ns ts bs is_one) where
   abbrev core : Core
   core = (out-Select s).first
 
@@ -62,6 +63,17 @@ module _ (schema : Schema) (table : Table) (at : ℕ) (it : TableStandsAt schema
 
   abbrev whole : Body
   whole = record { level = level; steps = Inner table.tree ∷ []; filter = map (test_term tested) ts }
+
+  -- without GROUP BY and HAVING
+  abbrev clauses : List (Term × Key) → Clauses
+  clauses terms = record {
+    body = whole;
+    is_grouped = false;
+    keys = [];
+    collations = [];
+    having = [];
+    order = terms;
+  }
 
   abbrev page : Term × Term
   page = (limit_term is_one, number 0)
@@ -105,28 +117,12 @@ module _ (schema : Schema) (table : Table) (at : ℕ) (it : TableStandsAt schema
       → body.body lower (select.outermost schema) core (fresh 1 max_budget) ≡ Ok (whole, with_budget budget next)
       → order.sorts lower (outer_level schema level false) outs (out-Select s).order (with_budget budget next)
       ≡ Ok (terms, with_budget less then)
-      → select.parts schema core (out-Select s).order (fresh 1 max_budget)
-      ≡ Ok (
-        record { body = whole; is_grouped = false; keys = []; collations = []; having = []; order = terms },
-        with_budget less then,
-      )
+      → select.parts schema core (out-Select s).order (fresh 1 max_budget) ≡ Ok (clauses terms, with_budget less then)
   unfolding select.parts select.having order.keys body.tests
   parts_by budget less next then terms made sorted = rw (made, group_is, having_is, sorted) refl
 
-  named_by : (less : ℕ) (then : Carried)
-      → select.parts schema core (out-Select s).order (fresh 1 max_budget)
-      ≡ Ok (
-        record {
-          body = whole;
-          is_grouped = false;
-          keys = [];
-          collations = [];
-          having = [];
-          order = map
-              (sort_term placed) bs;
-        },
-        with_budget less then,
-      )
+  named_by : (less : ℕ) (then : Carried) → select.parts schema core (out-Select s).order (fresh 1 max_budget)
+      ≡ Ok (clauses (map (sort_term placed) bs), with_budget less then)
       → select.named schema core (out-Select s).order page ≡ Ok shows
   unfolding select.named select.assembled select.ungrouped
   named_by less then parts = rw (parts, repeats_is) refl

@@ -16,8 +16,8 @@ use Rattle.sqlite_value.specs.declared.keys.Collation.{Collation}
 use Rattle.table_schema.proofs.ColumnsLemmas as lemmas
 use Rattle.table_schema.proofs.WrittenQueries.{source_table}
 
-module _ (schema : Schema) (s : Select) (name : List ℕ) (page : Term
-    × Term) (draft : Draft) (names : List (List ℕ)) (collations : List (Option Collation))
+module _ (schema : Schema) (s : Select) (name : List ℕ) (page : Term × Term) (draft : Draft)
+    (names : List (List ℕ)) (collations : List (Option Collation))
     (no_lets : (out-Select s).«with» ≡ []) (no_others : (out-Select s).others ≡ [])
     (from : (out-Core (out-Select s).first).from ≡ source_table name ∷ []) (pages : select.paging schema s ≡ Ok page)
     (named : select.named schema (out-Select s).first (out-Select s).order page ≡ Ok (draft, names, collations)) where

@@ -23,7 +23,7 @@ use Rattle.sqlite_resolve.specs.Scope.{Context}
 use Rattle.sqlite_resolve.specs.Select as select
 use Rattle.sqlite_resolve.specs.declared.scope.Output.{Output}
 use Rattle.sqlite_resolve.specs.declared.state.Carried.{Carried}
-use Rattle.table_lookups.specs.Question.{By}
+use Rattle.table_lookups.specs.Question.{By, key_of}
 use Rattle.table_lookups.proofs.WrittenQuestions.{AreSorts, IsLimit, IsSort}
 use Rattle.table_schema.proofs.ColumnLemmas as columns
 use Rattle.table_schema.proofs.Written.{test_in}
@@ -40,55 +40,44 @@ pub record IsPlaced (table : Table) (shown : List Output) (b : By) (p : ℕ) : T
   pub bare : scope.alias_of b.column shown ≡ None
 
 abbrev pub sort_term : (By → ℕ) → By → Term × Key
-sort_term places b = (col 1 (places b), record { collation = Binary; descending = b.falls })
+sort_term places b = (col 1 (places b), key_of b)
 
-module _ (schema : Schema) (table : Table) (at : ℕ) (got : slice_get schema.tables at
-    ≡ Some table) (shown : List Output) where
+module _ (schema : Schema) (table : Table) (at : ℕ) (got : slice_get schema.tables at ≡ Some table)
+    (shown : List Output) where
   abbrev cx : Context
   cx = outer_level schema (record { tables = only_bound table.name at; shown = shown }) false
 
   sorts_by : (depth budget p : ℕ) (last then : Carried) (done : List (Term × Key)) (s : Sort) (b : By) → IsSort b s
       → scope.alias_of b.column shown ≡ None
       → expr.lower_to depth cx (out-Sort s).key (with_budget budget last) ≡ Ok (col 1 p, with_budget (budget - 1) then)
-      → alone then ≡ Binary
-      → order.sort (expr.lower_to depth) cx shown done s (with_budget budget last)
-      ≡ Ok (
-        done ++ (col 1 p, record { collation = Binary; descending = b.falls }) ∷ [],
-        with_budget
-            (budget - 1) then,
-      )
-  unfolding order.sort order.key order.collation_of order.placed order.peeled order.alias_in order.written_on order.is_numeral
-  sorts_by depth budget p last then done s b is bare lowered collated = rw
-      (is.0, is.0, bare, lowered, is.0, collated, is.1, is.2) refl
+      → alone then ≡ Binary → order.sort (expr.lower_to depth) cx shown done s (with_budget budget last)
+      ≡ Ok (done ++ (col 1 p, key_of b) ∷ [], with_budget (budget - 1) then)
+  unfolding
+      order.sort order.key order.collation_of order.placed order.peeled order.alias_in order.written_on
+      order.is_numeral
+  sorts_by depth budget p last then done s b is bare lowered collated =
+      rw (is.0, is.0, bare, lowered, is.0, collated, is.1, is.2) refl
 
   sorts_one : (depth budget p : ℕ) (last : Carried) (done : List (Term × Key)) (s : Sort) (b : By) → IsSort b s
       → IsPlaced table shown b p → 1 < budget
       → (then : Carried) × (order.sort (expr.lower_to (suc depth)) cx shown done s (with_budget budget last)
-      ≡ Ok (
-        done ++ (col 1 p, record { collation = Binary; descending = b.falls }) ∷ [],
-        with_budget
-            (budget - 1) then,
-      ))
+      ≡ Ok (done ++ (col 1 p, key_of b) ∷ [], with_budget (budget - 1) then))
   sorts_one depth budget p last done s b is of few =
       let then = scope.declared table of.k of.c in
       let one = columns.lowers_column schema table at got table.name shown false true b.column of.k of.c of.named
-      of.has depth budget last _ is.0 (lt-ltb 1 budget few) in (
-        then,
-        sorts_by (suc depth) budget p last then done s b is of.bare
-            (subst (λ q. expr.lower_to (suc depth) cx (out-Sort s).key (with_budget budget last) ≡ Ok
-            (col 1 q, with_budget (budget - 1) then)) of.there one) of.alone,
-      )
+      of.has depth budget last _ is.0 (lt-ltb 1 budget few) in
+      let placed = subst (λ q. expr.lower_to (suc depth) cx (out-Sort s).key (with_budget budget last)
+      ≡ Ok (col 1 q, with_budget (budget - 1) then)) of.there one in
+      (then, sorts_by (suc depth) budget p last then done s b is of.bare placed of.alone)
 
   sorts_all : (depth : ℕ) (places : By → ℕ) (bs : List By) (ss : List Sort) → AreSorts bs ss
       → AllByRecursion (λ b. IsPlaced table shown b (places b)) bs
       → (budget : ℕ) (last : Carried) (done : List (Term × Key)) → length bs + 1 < budget
       → (then : Carried) × (order.sorts_from (expr.lower_to (suc depth)) cx shown done ss (with_budget budget last)
       ≡ Ok (done ++ map (sort_term places) bs, with_budget (budget - length bs) then))
-  sorts_all depth places [] ss are of budget last done few = (
-    last,
-    let e : budget - 0
-        ≡ budget = omega arith in rw (are, append-nil, e) refl,
-  )
+  sorts_all depth places [] ss are of budget last done few =
+      let e : budget - 0 ≡ budget = omega arith in
+      (last, rw (are, append-nil, e) refl)
   sorts_all depth places (b ∷ bs) [] are of budget last done few = absurd are
   sorts_all depth places (b ∷ bs) (s ∷ ss) are of budget last done few =
       let one = sorts_one depth budget (places b) last done s b are.0 of.0 (omega (arith, few)) in
@@ -112,7 +101,9 @@ limit_term is_one = lit (Int (cond is_one (pos 1) (negsuc 0)))
 
 one_is : (schema : Schema) (e : Expr) → out-Expr e ≡ Expr-F.Integer (49 ∷ [])
     → select.constant schema e ≡ Ok (limit_term true)
-unfolding select.constant select.stepless expr.lower_to expr.node expr.opened expr.passes spend begin finish integer Rattle.sqlite_resolve.specs.Literal.decimal
+unfolding
+    select.constant select.stepless expr.lower_to expr.node expr.opened expr.passes spend begin finish integer
+    Rattle.sqlite_resolve.specs.Literal.decimal
 one_is schema e is = rw is refl
 
 pub limits : (schema : Schema) (is_one : Bool) (o : _) → IsLimit is_one o

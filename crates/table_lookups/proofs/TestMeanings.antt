@@ -51,8 +51,8 @@ pub record IsTested (table : Table) (t : Test) (p : ℕ) : Type 0 where
 abbrev pub compared : CompareOp → ℕ → Side → Term
 compared how p side = op2 (Compare how Binary) (col 1 p) (side_term side)
 
-module _ (schema : Schema) (table : Table) (at : ℕ) (got : slice_get schema.tables at
-    ≡ Some table) (shown : List Output) where
+module _ (schema : Schema) (table : Table) (at : ℕ) (got : slice_get schema.tables at ≡ Some table)
+    (shown : List Output) where
   abbrev cx : Context
   cx = outer_level schema (record { tables = only_bound table.name at; shown = shown }) false
 
@@ -107,7 +107,9 @@ module _ (schema : Schema) (table : Table) (at : ℕ) (got : slice_get schema.ta
       → compare.compared cx (Compare how Binary) (col 1 p) y ≡ op2 (Compare how Binary) (col 1 p) y
       → expr.lower_to (suc depth) cx e (with_budget budget last)
       ≡ Ok (op2 (Compare how Binary) (col 1 p) y, with_budget (budget - 1 - 1 - 1) nothing)
-  unfolding expr.lower_to expr.node expr.opened expr.passes expr.operation expr.both expr.combine expr.wanted_truth expr.tests_truth expr.tests_alias spend begin finish
+  unfolding
+      expr.lower_to expr.node expr.opened expr.passes expr.operation expr.both expr.combine expr.wanted_truth
+      expr.tests_truth expr.tests_alias spend begin finish
   lowers_both Eq depth budget last first e a b p y is enough one two collated same = rw
       (enough, is, one, two, collated, same) refl
   lowers_both how depth budget last first e a b p y is enough one two collated same = rw
@@ -135,7 +137,9 @@ module _ (schema : Schema) (table : Table) (at : ℕ) (got : slice_get schema.ta
       → expr.lower_to depth cx a (with_budget (budget - 1) nothing) ≡ Ok (x, with_budget less first)
       → expr.lower_to depth cx b (with_budget less first) ≡ Ok (y, with_budget least second)
       → expr.lower_to (suc depth) cx e (with_budget budget last) ≡ Ok (op2 And x y, with_budget least nothing)
-  unfolding expr.lower_to expr.node expr.opened expr.passes expr.operation expr.both expr.combine expr.wanted_truth expr.tests_truth expr.tests_alias spend begin finish
+  unfolding
+      expr.lower_to expr.node expr.opened expr.passes expr.operation expr.both expr.combine expr.wanted_truth
+      expr.tests_truth expr.tests_alias spend begin finish
   lowers_and depth budget less least last first second e a b x y is enough one two = rw (enough, is, one, two) refl
 
   -- WHERE of one term
@@ -150,7 +154,7 @@ module _ (schema : Schema) (table : Table) (at : ℕ) (got : slice_get schema.ta
   unfolding body.tests
   tests_none budget last = refl
 
-  -- the terms of the tests, when few steps are left
+  -- the terms of the tests, each of which spends little
   abbrev pub Filters : List Test → (Test → ℕ) → Option Expr → ℕ → Carried → Type 0
   Filters ts places o budget last = (left_over : ℕ) × (then : Carried) × (budget < left_over + 8)
       × (body.tests expr.lower cx [] o (with_budget budget last)

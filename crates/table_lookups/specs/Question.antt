@@ -109,8 +109,11 @@ asked_for q asked all = filter (passes q asked) (map (shown q.table) (all q.tabl
 abbrev pub order_values : Question → Row → Row
 order_values q v = map (λ (b : By). column v (place_of q.table b.column)) q.order
 
+abbrev pub key_of : By → Key
+key_of b = record { collation = Binary; descending = b.falls }
+
 abbrev pub order_keys : Question → List Key
-order_keys q = map (λ (b : By). record { collation = Binary; descending = b.falls }) q.order
+order_keys q = map key_of q.order
 
 -- rows that are shown, in its order
 abbrev pub order_cmp : Question → Row → Row → Ordering

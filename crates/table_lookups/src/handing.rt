@@ -43,8 +43,8 @@ pub trait ValuesSink {
         ensures refused { OnErr result (refuses self.old row.now self.new) };
 }
 
-/// Hands out the rows that are asked for with these values, each before the next is read. It fails where the sink refuses
-/// a row, and as `ask` does.
+/// Hands out the rows that are asked for with these values, each before the next is read. It fails where the sink
+/// refuses a row, and as `ask` does.
 pub fn hand<S: Alter, K: ValuesSink>(
     conn: &mut Connection<S>,
     look: Look,

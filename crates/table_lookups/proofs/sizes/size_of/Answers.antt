@@ -29,8 +29,8 @@ returns-in-Some g c =
       found = λ clean has.
           let rows = counted c.args.table old new has c.schema.ensures.live c.in-Ok.rows.items
           (rw c.size_text.ensures at (c.in-Ok.ensures.ok clean)) in
-          let number = c.only_number.ensures (size_of (tables_of old.now.trees c.args.table)) (c.deref.ensures.value
-          ∙ rows) in
+          let number = c.only_number.ensures (size_of (tables_of old.now.trees c.args.table))
+          (c.deref.ensures.value ∙ rows) in
           let same : Some c.in-Some.n ≡ Some (size_of (tables_of old.now.trees c.args.table)) = sym c.in-Some.is
           ∙ number in
           let is : c.in-Some.n ≡ size_of (tables_of old.now.trees c.args.table) = cc in
@@ -55,8 +55,8 @@ returns g c =
       fails = λ clean has.
           let rows = counted c.args.table old new has c.schema.ensures.live c.in-Ok.rows.items
           (rw c.size_text.ensures at (c.in-Ok.ensures.ok clean)) in
-          let number = c.only_number.ensures (size_of (tables_of old.now.trees c.args.table)) (c.deref.ensures.value
-          ∙ rows) in
+          let number = c.only_number.ensures (size_of (tables_of old.now.trees c.args.table))
+          (c.deref.ensures.value ∙ rows) in
           let none = sym c.in-None.is ∙ number in
           absurd (let e = none in cc);
       leaves = λ clean has. leaves c.args.table old new has (λ rows. rows.items) c.query_all.result
