@@ -22,8 +22,9 @@ pub returns-in-Err : goal.returns-in-Err
 returns-in-Err g c = record {
   ran = λ honest. tt;
   replied = λ honest clean.
-      replied_leads c.streams.ensures.sound c.streams.ensures.by_fate _ _ _ _ _ _ _ (c.requires honest)
-      (fault_written _ _ _ _ _ _ _ _ _ (c.in-Err.ensures.replied honest clean).1 c.cause.ensures c.write_fault.ensures);
+      let (last, stopped) = c.in-Err.ensures.replied honest clean in
+      replied_leads c.streams.ensures.sound c.streams.ensures.by_fate _ _ last _ _ _ _ (c.requires honest)
+      (fault_written _ _ _ _ _ _ _ _ _ stopped c.cause.ensures c.write_fault.ensures);
   fault = λ honest. stopped_leads c.streams.ensures.sound c.streams.ensures.by_fate _ _ _ _ _ _
       (c.requires (c.answer_all.ensures.honest honest))
       (fault_written _ _ _ _ _ _ _ _ _ (c.in-Err.ensures.fault honest) c.cause.ensures c.write_fault.ensures);
