@@ -29,7 +29,8 @@ use Rattle.sqlite_wal.specs.Recovery.{Image}
 use Rattle.planner_machine.specs.Content.{Content}
 use Rattle.table_schema.specs.Rows.{tables_of}
 use Rattle.table_schema.specs.Free.{IsFree}
-use Rattle.table_schema.specs.Schema.{HasTables, name, table_at}
+use Rattle.table_schema.specs.Schema.{HasTables, name, table, table_at}
+use Rattle.table_schema.proofs.EachLemmas.{each}
 use Rattle.table_schema.specs.declared.tables.Table.TheVariants.{Meta}
 use Rattle.table_facts.specs.Content.{HaveOneContent, IsContentOf}
 use Rattle.table_opening.specs.Opened.{IsStored, IsToldBy}
@@ -67,7 +68,9 @@ never_free schema free db has sound room other =
     let there = zipped_right IsTableRow (filter is_table_row (db catalog_tree)) free.tables row.0 other.lists.listed.tables row.1 in
     let named : Text there.0.name ≡ Text (name Meta) = sym there.2.described.name_is ∙ row.2.described.name_is in
     let same : there.0.name ≡ name Meta = cc in
-    true≢false (sym (subst (λ n. is_used free n ≡ true) same (name_used free there.0 there.1)) ∙ room.names.0)
+    let unused : is_used free (name Meta) ≡ false =
+    each table (λ (d : Described). is_used free d.name ≡ false) room.unused.tables Meta in
+    true≢false (sym (subst (λ n. is_used free n ≡ true) same (name_used free there.0 there.1)) ∙ unused)
 
 -- what a crash leaves of a database that keeps a content
 pub tells_kept : {S : Type 0} (g : Ghosts S)
