@@ -1,8 +1,9 @@
 -- Room for a change.
-use Rattle.std.specs.Prelude.{◌≡◌, ◌+◌, ◌≤◌, List, length, vec_len, vec_capacity}
+use Rattle.std.specs.Prelude.{◌≡◌, ℕ, ◌+◌, ◌≤◌, List, Option, None, length, vec_len, vec_capacity}
 use Rattle.app_definitions.specs.declared.definitions.Definitions.{Definitions}
 use Rattle.external_dependencies.specs.declared.pairs.Pair.{Pair}
 use Rattle.planner_machine.specs.Content.{Content}
+use Rattle.planner_machine.specs.declared.job.Job.{Job}
 use Rattle.keyed_lists.specs.Rows.{of_current, of_deletion, of_row}
 use Rattle.keyed_lists.specs.Seats.{HasSeats}
 use Rattle.plan_store.specs.declared.changes.Change.{Change}
@@ -28,6 +29,20 @@ with_definitions definitions c = record {
   pairs = c.pairs;
   jobs = c.jobs;
 }
+
+-- the content with these jobs, by number
+abbrev pub with_job_set : (ℕ → Option Job) → Content → Content
+with_job_set jobs c = record {
+  definitions = c.definitions;
+  sets = c.sets;
+  in_force = c.in_force;
+  pairs = c.pairs;
+  jobs = jobs;
+}
+
+-- no job is kept
+abbrev pub no_jobs : ℕ → Option Job
+no_jobs number = None
 
 -- the two hold the same
 pub record HasSame (old new : Kept) : Type 0 where

@@ -1,10 +1,10 @@
 -- What the calls of a store do.
-use Rattle.std.specs.Prelude.{◌≡◌, ◌≢◌, ◌⊎◌, ℕ, ◌<◌, ◌≤◌, IfOk, IfErr, OnOk, OnErr, Result, Err}
+use Rattle.std.specs.Prelude.{◌≡◌, ◌⊎◌, ℕ, ◌<◌, ◌≤◌, IfOk, IfErr, OnOk, OnErr, Result, Err}
 use Rattle.std.specs.Borrow.{Fml, MutBor, RattleType}
 use Rattle.std.specs.Io.BufRead.{Rests}
 use Rattle.planner_machine.specs.Content.{Content}
 use Rattle.plan_store.specs.Changes.{after}
-use Rattle.plan_store.specs.Faults.{MoreFailures}
+use Rattle.plan_store.specs.Faults.{IsMild, MoreFailures}
 use Rattle.plan_store.specs.declared.changes.Change.{Change}
 use Rattle.plan_store.specs.declared.stores.StoreFault.{StoreFault}
 use Rattle.plan_store.specs.declared.stores.StoreFault.TheVariants.{Device, Memory}
@@ -26,8 +26,8 @@ pub record ReadsStore {S T : Type 0} (is_honest : S → Type 0) (content : S →
   pub counts : failures before ≤ failures now
   pub honest : is_honest now → is_honest before
   pub clean : is_clean now → is_clean before
-  -- an honest store stays honest where its device told no wrong answer, unless the device is blamed
-  pub stays_honest : is_honest before → is_clean now → IfErr result (λ fault. fault ≢ Device) → is_honest now
+  -- an honest store stays honest where its device told no wrong answer, unless the device is blamed or in doubt
+  pub stays_honest : is_honest before → is_clean now → IfErr result (IsMild (is_whole now)) → is_honest now
   -- a store that answers is as whole as it was
   pub whole : OnOk result (is_whole before → is_whole now)
 
@@ -60,7 +60,7 @@ pub record Applies {S : Type 0} (is_honest : S → Type 0) (content : S → Cont
   pub counts : failures before ≤ failures now
   pub honest : is_honest now → is_honest before
   pub clean : is_clean now → is_clean before
-  -- an honest store stays honest where its device told no wrong answer, unless the device is blamed
-  pub stays_honest : is_honest before → is_clean now → IfErr result (λ fault. fault ≢ Device) → is_honest now
+  -- an honest store stays honest where its device told no wrong answer, unless the device is blamed or in doubt
+  pub stays_honest : is_honest before → is_clean now → IfErr result (IsMild (is_whole now)) → is_honest now
   -- a store that answers is as whole as it was
   pub stays_whole : OnOk result (is_whole before → is_whole now)

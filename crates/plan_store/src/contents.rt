@@ -76,6 +76,7 @@ impl Content {
     ghost use Rattle.plan_store.specs.Views.{row_serial, shown, with_part, with_plans_alone};
     ghost use Rattle.occurrences.specs.declared.row.Row.{Row as RowValue};
     ghost use Rattle.plan_store.specs.Room.{HasPutSeats, HasRoom, HasRowRoom, HasSame, with_definitions, with_pairs_of};
+    ghost use Rattle.plan_store.specs.Room.{no_jobs, with_job_set};
     ghost use Rattle.plan_store.specs.declared.changes.DefinitionChange.TheVariants.{AsBefore};
 
     /// What a planner knows that was told nothing.
@@ -234,6 +235,13 @@ impl Content {
             Ok(at) => Some(&self.jobs[at]),
             Err(_at) => None,
         }
+    }
+
+    /// Lets go of the kept jobs, where they are kept elsewhere.
+    pub fn forget_jobs(&mut self, alloc: Global)
+        ensures { content_of self.new ≡ with_job_set no_jobs (content_of self.old) }
+    {
+        self.jobs = Vec::new(alloc);
     }
 
     // The serials noted of all rows that the change puts.

@@ -1,9 +1,9 @@
-ghost use Rattle.std.specs.Prelude.{◌≡◌, ◌≢◌, ◌⊎◌, ℕ, ◌<◌, ◌≤◌, Err, OnOk, IfOk, IfErr, option_copied};
+ghost use Rattle.std.specs.Prelude.{◌≡◌, ◌⊎◌, ℕ, ◌<◌, ◌≤◌, Err, OnOk, IfOk, IfErr, option_copied};
 ghost use Rattle.std.specs.Borrow.{sem};
 ghost use Rattle.planner_machine.specs.Content.{Content as ContentValue};
 ghost use Rattle.plan_store.specs.Changes.{Fits, after};
 ghost use Rattle.planner_machine.specs.Sound.{AreNumbered, IsSound};
-ghost use Rattle.plan_store.specs.Faults.{MoreFailures};
+ghost use Rattle.plan_store.specs.Faults.{IsMildListing, MoreFailures};
 ghost use Rattle.plan_store.specs.Listings.{HandsAll, HandsPart, IsListing};
 ghost use Rattle.plan_store.specs.Stores.{Applies, LendsRead, ReadsStore};
 ghost use Rattle.plan_store.specs.Views.{Shows};
@@ -133,7 +133,7 @@ pub trait PlanStore {
         ensures honest { is_honest self.new → is_honest self.old }
         ensures clean { is_clean self.new → is_clean self.old }
         ensures stays_honest { is_honest self.old → is_clean self.new
-            → IfErr result (λ fault. fault ≢ ListFault.Device) → is_honest self.new }
+            → IfErr result (IsMildListing (is_whole self.new)) → is_honest self.new }
         ensures stays_whole { OnOk result (is_whole self.old → is_whole self.new) };
 
     /// Makes the change, whole or not at all.

@@ -8,6 +8,7 @@ use Rattle.std.proofs.Math.Seq.{take-append-add}
 use Rattle.std.proofs.lemmas.List.{length-append, length-map}
 use Rattle.occurrences.specs.declared.reply.Reply.TheVariants.{Rows}
 use Rattle.plan_listings.specs.Line.{AreLinesOf}
+use Rattle.plan_store.specs.Faults.{IsMildListing}
 use Rattle.plan_store.specs.Listings.{EndsSo, HandsAll, HandsPart, IsListing, Shown, ShowLinks, ShowPairs, ShowRows}
 use Rattle.plan_store.specs.Listings.{TakesAll, in_force_shown, link_shown, row_shown}
 use Rattle.plan_store.specs.declared.listings.ListFault.{ListFault}
@@ -388,7 +389,7 @@ module _ {S : Type 0} (g : Ghosts S) (before now : S) (old mid new : Option (Lis
       → (g.is_honest before → g.is_honest now ⊎ g.is_clean now
       → WritesPart (IsListing what app (g.content before)) old new fault)
       → (fault ≡ Faults.Device → IsBlamed (g.failures before) (g.failures now))
-      → (g.is_honest before → g.is_clean now → (fault ≡ Faults.Device → ⊥) → g.is_honest now)
+      → (g.is_honest before → g.is_clean now → IsMildListing (g.is_whole now) fault → g.is_honest now)
       → AnswersItem g before now old new item (Err cause)
   list_stopped fault cause is part blames stays = subst (λ x. AnswersItem g before now old new item (Err x)) is (record {
     ok = λ honest. tt;
@@ -400,6 +401,7 @@ module _ {S : Type 0} (g : Ghosts S) (before now : S) (old mid new : Option (Lis
     counts = counts;
     honest = honest';
     clean = clean';
-    stays_honest = λ honest clean fine. stays honest clean (λ device. fine (ap list_cause device));
+    stays_honest = λ honest clean mild.
+        stays honest clean (λ device. mild.0 (ap list_cause device), λ memory. mild.1 (ap list_cause memory));
     stays_whole = tt;
   })

@@ -2,6 +2,7 @@
 use Rattle.std.proofs.Common.{◌≡◌, ◌⊎◌, ℕ, zero, suc, ◌+◌, ◌-◌, ◌^◌, ◌≤◌, ◌∙◌, refl, sym, subst, inl, inr, arith, min}
 use Rattle.std.specs.Prelude.{Err, IfErr, IfOk, IsErrAnd, Ok, OnErr, OnOk, Result}
 use Rattle.planner_machine.specs.Content.{Content}
+use Rattle.plan_store.specs.Faults.{IsMild}
 use Rattle.plan_store.specs.declared.stores.PlanStore.{Ghosts}
 use Rattle.plan_store.specs.declared.stores.StoreFault.{StoreFault}
 use Rattle.plan_store.specs.declared.stores.StoreFault.TheVariants.{Device, Memory}
@@ -303,7 +304,7 @@ module _ {S : Type 0} (g : Ghosts S) (before now : S) where
       → (c ≡ g.content before) ⊎ ((reply : AnswerLines) × Does reply c))
       → (fault ≡ Device → IsBlamed (g.failures before) (g.failures now)) → g.failures before ≤ g.failures now
       → (g.is_honest now → g.is_honest before) → (g.is_clean now → g.is_clean before)
-      → (g.is_honest before → g.is_clean now → (fault ≡ Device → ⊥) → g.is_honest now)
+      → (g.is_honest before → g.is_clean now → IsMild (g.is_whole now) fault → g.is_honest now)
       → AnswersBy g before now (Err fault) Does
   not_made fault Does unchanged whole crash blames counts honest' clean' stays_honest' = record {
     answers = λ honest. tt;

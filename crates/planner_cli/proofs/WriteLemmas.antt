@@ -103,7 +103,10 @@ module _ {S : Type 0} (g : Ghosts S) (before now : S) (old new : Option (List �
     counts = a.counts;
     honest = a.honest;
     clean = a.clean;
-    stays_honest = λ honest clean fine. a.stays_honest honest clean (λ device. fine (store_device fault cause is device));
+    stays_honest = λ honest clean mild. a.stays_honest honest clean (
+      λ device. mild.0 (store_device fault cause is device),
+      λ memory. mild.1 (is ∙ ap store_cause memory),
+    );
     stays_whole = tt;
   }
 

@@ -1,5 +1,5 @@
 -- Faults: their numbers, and their lines.
-use Rattle.std.specs.Prelude.{ℕ, List, [], Result, Ok, Err, ◌==◌, if◌then◌else◌, codes}
+use Rattle.std.specs.Prelude.{◌≡◌, ◌≢◌, ℕ, List, [], Result, Ok, Err, ◌==◌, if◌then◌else◌, codes}
 use Rattle.planner_cli.specs.Replies.{ended}
 use Rattle.planner_cli.specs.declared.tally.Tally.{Tally}
 use Rattle.stream_items.specs.declared.lines.ReadFault.{ReadFault}
@@ -21,6 +21,10 @@ cause_of (Faults.Device part tally) = Causes.Device part
 abbrev pub tally_in : RunFault → Tally
 tally_in (Faults.Memory tally) = tally
 tally_in (Faults.Device part tally) = tally
+
+-- the store is not blamed; and where memory was refused, the store is whole
+abbrev pub IsMildCause : Type 0 → Cause → Type 0
+IsMildCause is_whole cause = (cause ≢ Causes.Device Store) × (cause ≡ Causes.Memory → is_whole)
 
 abbrev pub fault_number : Cause → ℕ
 fault_number Causes.Memory = 40

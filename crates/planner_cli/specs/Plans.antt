@@ -1,5 +1,5 @@
 -- What a stream makes of the plans.
-use Rattle.std.specs.Prelude.{◌≡◌, ◌≢◌, ◌⊎◌, ℕ, ◌≤◌, All, List, [], ◌∷◌, ◌++◌, IfErr, IfOk, OnOk, Option, Result, Some}
+use Rattle.std.specs.Prelude.{◌≡◌, ◌⊎◌, ℕ, ◌≤◌, All, List, [], ◌∷◌, ◌++◌, IfErr, IfOk, OnOk, Option, Result, Some}
 use Rattle.external_dependencies.specs.declared.rows.PlacedRow.{PlacedRow}
 use Rattle.planner_machine.specs.Content.{Content, StandsAt}
 use Rattle.planner_machine.specs.Sound.{IsSound}
@@ -7,7 +7,7 @@ use Rattle.planner_machine.specs.Statement.{Answer, Statement}
 use Rattle.planner_machine.specs.Stream.{Goes, IsStatement, Lives, Runs}
 use Rattle.stream_items.specs.Items.{Item}
 use Rattle.planner_cli.specs.Asked.{AreAsked}
-use Rattle.planner_cli.specs.Faults.{cause_of, fault_line}
+use Rattle.planner_cli.specs.Faults.{IsMildCause, cause_of, fault_line}
 use Rattle.planner_cli.specs.Runs.{Crashed, Ends, Ran, Stopped, with_last}
 use Rattle.planner_cli.specs.Steps.{Step}
 use Rattle.planner_cli.specs.Stores.{IsBlamed, LeavesOnly}
@@ -85,8 +85,9 @@ pub record RunsPlan {S : Type 0} (is_honest : S → Type 0) (failures : S → �
   pub honest : is_honest now → is_honest before
   -- the same of what its device told, whatever the store made of it
   pub clean : is_clean now → is_clean before
-  -- an honest store stays honest where its device told no wrong answer, unless the run blames it
-  pub stays_honest : is_honest before → is_clean now → IfErr result (λ fault. cause_of fault ≢ Device Store)
-      → is_honest now
+  -- an honest store stays honest where its device told no wrong answer, unless the run blames it; and where memory was
+  -- refused, if nothing of its device is in doubt
+  pub stays_honest : is_honest before → is_clean now
+      → IfErr result (λ fault. IsMildCause (is_whole now) (cause_of fault)) → is_honest now
   -- and a run that came to its end leaves the store as whole as it was
   pub whole : OnOk result (is_whole before → is_whole now)

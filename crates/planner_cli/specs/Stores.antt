@@ -1,9 +1,9 @@
 -- What a call that answers does to a store.
-use Rattle.std.specs.Prelude.{◌≡◌, ◌≢◌, ◌⊎◌, ℕ, ◌<◌, ◌≤◌, IfErr, IfOk, OnErr, OnOk, Result}
+use Rattle.std.specs.Prelude.{◌≡◌, ◌⊎◌, ℕ, ◌<◌, ◌≤◌, IfErr, IfOk, OnErr, OnOk, Result}
 use Rattle.planner_machine.specs.Content.{Content}
 use Rattle.planner_cli.specs.Replies.{Answered, AnswerLines}
 use Rattle.planner_cli.specs.declared.answers.Printed.{Printed}
-use Rattle.plan_store.specs.Faults.{MoreFailures}
+use Rattle.plan_store.specs.Faults.{IsMild, MoreFailures}
 use Rattle.plan_store.specs.Stores.{ReadsStore}
 use Rattle.plan_store.specs.declared.stores.PlanStore.{Ghosts}
 use Rattle.plan_store.specs.declared.stores.StoreFault.{StoreFault}
@@ -43,7 +43,7 @@ pub record Answering {S T : Type 0} (g : Ghosts S) (before now : S) (result : Re
   pub counts : g.failures before ≤ g.failures now
   pub honest : g.is_honest now → g.is_honest before
   pub clean : g.is_clean now → g.is_clean before
-  pub stays_honest : g.is_honest before → g.is_clean now → IfErr result (λ fault. fault ≢ Device) → g.is_honest now
+  pub stays_honest : g.is_honest before → g.is_clean now → IfErr result (IsMild (g.is_whole now)) → g.is_honest now
   pub stays_whole : OnOk result (g.is_whole before → g.is_whole now)
 
 -- a call that answers by printing: the reply is one that this may give

@@ -1,11 +1,11 @@
 -- What a call that answers an item does to a store and a writer.
-use Rattle.std.specs.Prelude.{◌≡◌, ◌≢◌, ◌⊎◌, ℕ, ◌≤◌, Bool, Err, IfErr, IfOk, List, Ok, OnErr, OnOk, Option, Result}
+use Rattle.std.specs.Prelude.{◌≡◌, ◌⊎◌, ℕ, ◌≤◌, Bool, Err, IfErr, IfOk, List, Ok, OnErr, OnOk, Option, Result}
 use Rattle.std.specs.Io.KnownBytes.{Appends, Keeps}
 use Rattle.plan_store.specs.declared.stores.PlanStore.{Ghosts}
 use Rattle.plan_store.specs.declared.stores.StoreFault.{StoreFault}
 use Rattle.planner_machine.specs.Content.{Content}
 use Rattle.stream_items.specs.Items.{Item}
-use Rattle.planner_cli.specs.Faults.{store_cause}
+use Rattle.planner_cli.specs.Faults.{IsMildCause, store_cause}
 use Rattle.planner_cli.specs.Replies.{Answered, AnswerLines}
 use Rattle.planner_cli.specs.Runs.{IsFrontOf, ItemBreaks}
 use Rattle.planner_cli.specs.Steps.{Step}
@@ -35,7 +35,7 @@ pub record AnswersItem {S : Type 0} (g : Ghosts S) (before now : S) (old new : O
   pub counts : g.failures before ≤ g.failures now
   pub honest : g.is_honest now → g.is_honest before
   pub clean : g.is_clean now → g.is_clean before
-  pub stays_honest : g.is_honest before → g.is_clean now → IfErr result (λ cause. cause ≢ Device Store)
+  pub stays_honest : g.is_honest before → g.is_clean now → IfErr result (IsMildCause (g.is_whole now))
       → g.is_honest now
   pub stays_whole : OnOk result (g.is_whole before → g.is_whole now)
 

@@ -1,8 +1,9 @@
 //! `list`: rows go to the writer as the store hands them out.
-ghost use Rattle.std.specs.Prelude.{◌≡◌, ◌≢◌, ◌⊎◌, ℕ, ◌≤◌, IfErr, IfOk, List, OnErr, OnOk, Some, option_copied};
+ghost use Rattle.std.specs.Prelude.{◌≡◌, ◌⊎◌, ℕ, ◌≤◌, IfErr, IfOk, List, OnErr, OnOk, Some, option_copied};
 ghost use Rattle.std.specs.Io.KnownBytes.{Appends};
 ghost use Rattle.planner_machine.specs.Content.{Content};
 ghost use Rattle.planner_machine.specs.Sound.{IsSound};
+ghost use Rattle.plan_store.specs.Faults.{IsMildListing};
 ghost use Rattle.plan_store.specs.Listings.{IsListing, item_shown};
 ghost use Rattle.plan_store.specs.declared.listings.ListFault.TheVariants as list_fault;
 ghost use Rattle.stream_items.specs.Items.{Alone};
@@ -100,7 +101,7 @@ fn write_lines<S: PlanStore, W: Write>(
     ensures honest { S.is_honest store.new → S.is_honest store.old }
     ensures clean { S.is_clean store.new → S.is_clean store.old }
     ensures stays_honest { S.is_honest store.old → S.is_clean store.new
-        → IfErr result (λ fault. fault ≢ list_fault.Device) → S.is_honest store.new }
+        → IfErr result (IsMildListing (S.is_whole store.new)) → S.is_honest store.new }
     ensures stays_whole { OnOk result (S.is_whole store.old → S.is_whole store.new) }
 {
     let mut sink = LineSink { writer };

@@ -1,12 +1,12 @@
 //! A run over a whole stream.
-ghost use Rattle.std.specs.Prelude.{◌≡◌, ◌≢◌, ◌≤◌, ℕ, [], length, take, IfOk, IfErr, OnOk, Some};
+ghost use Rattle.std.specs.Prelude.{◌≡◌, ◌≤◌, ℕ, [], length, take, IfOk, IfErr, OnOk, Some};
 ghost use Rattle.std.specs.Io.KnownBytes.{Appends};
 ghost use Rattle.planner_machine.specs.Content.{Content};
 ghost use Rattle.planner_machine.specs.Sound.{IsSound};
 ghost use Rattle.statements.specs.Statement.{Reads};
 ghost use Rattle.stream_items.specs.Items.{Alone};
 ghost use Rattle.stream_items.specs.Pages.{item_of, FitsBlock};
-ghost use Rattle.planner_cli.specs.Faults.{cause_of, fault_line, status_of};
+ghost use Rattle.planner_cli.specs.Faults.{IsMildCause, cause_of, fault_line, status_of};
 ghost use Rattle.planner_cli.specs.Plans.{RunsPlan};
 ghost use Rattle.planner_cli.specs.Runs.{Crashed, Ran, Stopped, StoppedSomehow, ends_of};
 ghost use Rattle.planner_cli.specs.Steps.{Step};
@@ -94,7 +94,8 @@ fn answer_all<S: PlanStore, R: BufRead, W: Write>(
     ensures honest { S.is_honest store.new → S.is_honest store.old }
     ensures clean { S.is_clean store.new → S.is_clean store.old }
     ensures stays_honest { S.is_honest store.old → S.is_clean store.new
-        → IfErr result (λ fault. cause_of fault ≢ Device Store) → S.is_honest store.new }
+        → IfErr result (λ fault. IsMildCause (S.is_whole store.new) (cause_of fault))
+        → S.is_honest store.new }
     ensures stays_whole { OnOk result (S.is_whole store.old → S.is_whole store.new) }
 {
     streams();

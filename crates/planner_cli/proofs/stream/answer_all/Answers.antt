@@ -74,10 +74,12 @@ returns-in-Err-answer_one-clause-replied g c honest clean =
     )
 
 pub returns-in-Err-answer_one-clause-stays_honest : goal.returns-in-Err-answer_one-clause-stays_honest
-returns-in-Err-answer_one-clause-stays_honest g c honest clean fine =
+returns-in-Err-answer_one-clause-stays_honest g c honest clean mild =
     c.in-Err-answer_one.ensures.stays_honest
-    (c.loop.invariant.stays_honest honest (c.answer_one.ensures.clean clean)) clean
-    (λ store. fine (c.new-in-Err-answer_one.ensures.cause ∙ store))
+    (c.loop.invariant.stays_honest honest (c.answer_one.ensures.clean clean)) clean (
+      λ store. mild.0 (c.new-in-Err-answer_one.ensures.cause ∙ store),
+      λ memory. mild.1 (c.new-in-Err-answer_one.ensures.cause ∙ memory),
+    )
 
 pub returns-clause-fault : goal.returns-clause-fault
 returns-clause-fault g c honest =
