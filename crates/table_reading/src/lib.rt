@@ -22,3 +22,4 @@ pub use meta::Meta;
 pub use order::place_of;
 pub use parts::Part;
 pub use reading::read_lists;
+pub use told::Told;

@@ -18,7 +18,7 @@ use sqlite::Row as Cells;
 use std::alloc::{AllocError, Global};
 
 /// What stands in one row of a table.
-pub(crate) trait Told: Sized {
+pub trait Told: Sized {
     // the values of its row
     ghost values: { Self → Values };
 

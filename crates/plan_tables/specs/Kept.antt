@@ -1,0 +1,43 @@
+-- What a store over tables keeps: lists in memory, and kept jobs in their table alone.
+use Rattle.std.specs.Prelude.{◌≡◌, ◌⊎◌, ℕ, IsTrue, None, Option}
+use Rattle.sqlite.specs.State.{HasCleanDisk, State}
+use Rattle.planner_machine.specs.Content.{Content}
+use Rattle.planner_machine.specs.Sound.{IsSound}
+use Rattle.planner_machine.specs.declared.job.Job.{Job}
+use Rattle.plan_store.specs.Changes.{Fits}
+use Rattle.plan_store.specs.Room.{with_job_set}
+use Rattle.plan_store.specs.declared.changes.Change.{Change}
+use Rattle.table_schema.specs.Rows.{tables_of}
+use Rattle.table_facts.specs.ToldSets.{told_jobs}
+use Rattle.table_opening.specs.Opened.{IsStored}
+use Rattle.table_writing.specs.Redefining.{AreMovesOf}
+use Rattle.table_writing.specs.declared.redefining.DefinitionMoves.{DefinitionMoves}
+
+-- the content of the lists, with the jobs that the tables tell
+abbrev pub kept_in : State → Content → Content
+kept_in s lists = with_job_set (told_jobs (tables_of s.now.trees)) lists
+
+-- the database keeps it, and it is sound
+pub record IsKept (s : State) (lists : Content) : Type 0 where
+  pub stored : IsStored s (kept_in s lists)
+  pub sound : IsSound (kept_in s lists)
+
+-- what was read of the database is what was written, and it can be read still
+abbrev pub CanRead : State → Type 0
+CanRead s = HasCleanDisk s × IsTrue s.is_open
+
+-- an open connection was open before, sees what it saw then or what was committed, and has committed nothing
+abbrev pub StaysPut : State → State → Type 0
+StaysPut old new = IsTrue new.is_open → IsTrue old.is_open
+    × (((new.now ≡ old.now) ⊎ (new.now ≡ old.committed)) × (new.committed ≡ old.committed))
+
+-- the change without its job, as the lists take it
+abbrev pub jobless : Change → Change
+jobless change = record change { job = None }
+
+-- the database keeps the content of the lists with these jobs, and the change with these moves fits it
+pub record IsMet (s : State) (lists : Content) (change : Change) (moves : DefinitionMoves) (jobs : ℕ → Option Job)
+    : Type 0 where
+  pub stored : IsStored s (with_job_set jobs lists)
+  pub fits : Fits change (with_job_set jobs lists)
+  pub moves : AreMovesOf change.definitions moves
