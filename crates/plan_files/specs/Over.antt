@@ -1,8 +1,8 @@
 -- What a run over files does.
-use Rattle.std.specs.Prelude.{◌≡◌, ◌⊎◌, IfErr, IfOk, Result, Ok, Err}
+use Rattle.std.specs.Prelude.{◌⊎◌, IfErr, IfOk, Result, Ok, Err}
 use Rattle.sqlite.specs.Files.{file_state}
 use Rattle.sqlite.specs.Held.{Held}
-use Rattle.sqlite.specs.State.{HasCleanDisk, State}
+use Rattle.sqlite.specs.State.{HasCleanDisk}
 use Rattle.sqlite.specs.Tree.{Trees}
 use Rattle.plan_store.specs.declared.stores.StoreFault.{StoreFault}
 use Rattle.sqlite_disk.specs.declared.Disk as disk
@@ -13,15 +13,11 @@ use Rattle.sqlite_trees.specs.View.{IsClean}
 use Rattle.sqlite_wal.specs.Files.{outcomes}
 use Rattle.sqlite_wal.specs.Reads.{AreClean}
 use Rattle.sqlite_wal.specs.Recovery.{Image}
-use Rattle.planner_machine.specs.Content.{Content}
 use Rattle.planner_cli.specs.Plans.{RanPlan, StoppedPlan}
 use Rattle.planner_cli.specs.Runs.{Ends}
 use Rattle.planner_cli.specs.declared.faults.RunFault.{RunFault}
 use Rattle.planner_cli.specs.declared.tally.Tally.{Tally}
-use Rattle.table_schema.specs.Rows.{tables_of}
-use Rattle.table_remaking.specs.FirstSchema.{CanRemake}
 use Rattle.table_opening.specs.Opened.{IsToldBy}
-use Rattle.plan_migrations.specs.FirstContent.{IsFirstContentOf}
 use Rattle.plan_tables.specs.Found.{IsFoundIn}
 use Rattle.plan_files.specs.FileRuns.{Leaves}
 use Rattle.plan_files.specs.Found.{IsFirstFoundIn, IsToldNow}
@@ -36,11 +32,13 @@ abbrev pub AreHonest : {D : Type 0} (g : disk.Ghosts D) → LetGo g → Type 0
 AreHonest g (Ok both) = AreClean g both.log both.db
 AreHonest g (Err it) = IsClean (view it.1)
 
--- a run and what it leaves in its files: what its replies print leads from the one content to the other
+-- a run and what it leaves in its files: what its replies print leads from the one content to the other, which after a
+-- fault is some content that such a run may leave, whatever became of the store. A store that looks things up in its
+-- tables answers by what it reads, so nothing is said where bytes were read that nobody wrote
 pub record RunsFiles {D : Type 0} {g : disk.Ghosts D} (ends : Ends) (outcome : Result Tally RunFault) (files : LetGo g)
     : Type 0 where
-  pub ran : IfOk outcome (RanPlan ends)
-  pub fault : IfErr outcome (StoppedPlan ends)
+  pub ran : AreHonest g files → IfOk outcome (RanPlan ends)
+  pub fault : AreHonest g files → IfErr outcome (StoppedPlan ends)
   -- closed: the database file alone tells what the run led to, whatever a crash left since
   pub closed : IfOk files (λ both. AreClean g both.log both.db → (left : Image) → outcomes g both.log both.db left
       → ∥ HoldsLedAlone left (Leaves ends outcome) ∥₁)

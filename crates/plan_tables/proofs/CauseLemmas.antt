@@ -30,11 +30,10 @@ use Rattle.plan_store.specs.Room.{with_definitions, with_pairs_of}
 use Rattle.plan_store.specs.declared.changes.Change.{Change}
 use Rattle.plan_store.specs.declared.changes.DefinitionChange.TheVariants.{AsBefore}
 use Rattle.plan_tables.specs.Causes.{AreTaken, CanTake, fault_in, HasFailed}
-use Rattle.plan_tables.specs.Stored.{LeavesSound, MayLeave}
+use Rattle.plan_tables.specs.Kept.{StaysPut}
 use Rattle.plan_tables.specs.Taken.{FindsRoom, FittingIsTaken, HasRoomFor, KeepsSchema}
 use Rattle.table_writing.specs.Writing.{IsTellableChange}
 use Rattle.plan_tables.proofs.BegunLemmas.{same_options}
-use Rattle.plan_tables.proofs.StoredLemmas.{stored_still}
 
 -- ---- it is asked whether a connection is open
 
@@ -76,6 +75,12 @@ module _ (old new : State) where
       absurd (let no : None ≡ Some Memory = sym (refused old sql [] e none) ∙ is in let h : ⊥ = cc no in h)
   asked_memory sql e (inr (cause, at, has, back, more)) is = back
 
+  pub asked_puts : (sql : List ℕ) (e : Error) → IsNotRun old new sql [] e → StaysPut old new
+  unfolding IsNotRun
+  asked_puts sql e (inl (none, same)) opens = (same.0.was_open, inl same.0.now_is, same.0.committed_is)
+  asked_puts sql e (inr (cause, at, has, back, more)) opens =
+      let undone = back.undone opens in (back.was_open opens, inr undone.0, undone.1)
+
   pub asked_shut : (sql : List ℕ) (e : Error) → IsNotRun old new sql [] e → fault_in e ≡ Some Device
       → MoreFaults old.faults new.faults ⊎ (old.is_open ≡ false)
   unfolding IsNotRun
@@ -86,27 +91,10 @@ module _ (old new : State) where
 
 -- ---- what is kept
 
--- a content is kept where a call undid what was not committed, if the connection is open
-pub stored_back : (old mid new : State) (c : Content) → IsStored old c
-    → (IsTrue mid.is_open → (mid.now ≡ old.now) × (mid.committed ≡ old.committed)) → IsRolledBack mid new
-    → IsTrue new.is_open → IsStored new c
-stored_back old mid new c is kept back opens =
-    let same = kept (back.was_open opens) in
-    let undone = back.undone opens in
-    stored_still old new c is opens (undone.0 ∙ same.1 ∙ sym is.settled) (undone.1 ∙ same.1)
-
 -- a doubt that is not there asks nothing
 pub certain : {A B O C : Type 0} (doubt : Bool) → doubt ≡ false → ∥ (A → B → (IsTrue doubt → O) → C) ∥₁
     → ∥ (A → B → C) ∥₁
 certain doubt sure h = ∥∥₁_map h (λ f a b. f a b (λ is. absurd (true≢false (sym is ∙ sure))))
-
--- what a crash leaves of a connection that was asked is what it left before
-pub sound_still : (old new : State) → ∥ (HasCleanDisk old → LeavesSound old) ∥₁ → Survives old new (λ _. ⊥)
-    → ∥ (HasCleanDisk new → LeavesSound new) ∥₁
-sound_still old new told survives = ∥∥₁_map told (λ h clean db left. elim (survives.crash clean db left) [
-  | inl earlier ↦ h (omega (arith, survives.clean, clean)) db earlier
-  | inr none ↦ absurd none
-])
 
 -- ---- why a change is not made
 
@@ -160,15 +148,6 @@ taken_rest c change moves left is_rest d pairs is out all takes =
 
 -- ---- a store that asks before it changes
 
--- what a crash leaves after it was asked it left before
-pub left_still : (old mid : State) (c : Content) → Survives old mid (λ _. ⊥) → HasCleanDisk mid → MayLeave mid c
-    → MayLeave old c
-left_still old mid c survives clean (db, left, is) = (
-  db,
-  elim (survives.crash clean db left) [ inl was ↦ was | inr none ↦ absurd none ],
-  is,
-)
-
 pub can_still : (old mid : State) (c d : Content) (change : Change) → mid.now ≡ old.now → d ≡ c → CanTake old c change
     → CanTake mid d change
 can_still old mid c d change now is can =
@@ -196,6 +175,12 @@ told_shut (Err told) e old new is h = λ device. ∣ (go (h (sym is ∙ device))
     go : MoreFaults old.faults new.faults ⊎ (old.is_open ≡ false) → HasFailed old new ⊎ (old.is_open ≡ false)
     go (inl more) = inl (inl more)
     go (inr shut) = inr shut
+
+-- where the device is never told
+pub never_told : {T : Type 0} (P : Type 0) (r : Result T StoreFault) (e : StoreFault) → IsErrAnd r (λ told. told ≡ e)
+    → (e ≡ Device → ⊥) → IfErr r (λ fault. fault ≡ Device → P)
+never_told P (Ok v) e is h = tt
+never_told P (Err told) e is h = λ device. absurd (h (sym is ∙ device))
 
 -- what is told is why the schema stays, where memory is short
 pub told_kept : {T : Type 0} (r : Result T StoreFault) (e : StoreFault) (old new : State) → IsErrAnd r (λ told. told ≡ e)

@@ -7,6 +7,9 @@ pub mod ChangeLemmas
 pub mod ContentAfter
 mod BegunLemmas
 pub mod StoredLemmas
+mod HidingLemmas
+pub mod LookLemmas
+pub mod MetLemmas
 pub mod SetLemmas
 pub mod NameTables
 pub mod NamedRows

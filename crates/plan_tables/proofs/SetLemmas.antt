@@ -1,5 +1,6 @@
 -- Contents are a set: two equations between two contents are the same.
 use Rattle.std.proofs.Props.{props}
+use Rattle.std.specs.Prelude.{Bool, IsTrue, Option}
 use base.Stored.{Coded-set}
 use Rattle.app_definitions.specs.declared.definitions.Definitions.{Definitions}
 use Rattle.app_definitions.specs.contracts.definitions.Definitions as definitions
@@ -48,3 +49,12 @@ sets_set = hlevel (props, current_set, deletion_set, row_set, bounds_set)
 
 pub content_set : IsSet Content
 content_set = hlevel (props, definitions_set, sets_set, link_set, pair_set, job_set)
+
+pub found_set : IsSet (Option Job)
+found_set = hlevel (props, job_set)
+
+pub truth_prop : (b : Bool) → IsProp (IsTrue b)
+truth_prop b = hlevel props
+
+pub no_prop : IsProp ⊥
+no_prop x y = absurd x

@@ -17,6 +17,7 @@ use Rattle.table_facts.specs.Content.{ByName, IsOfSome}
 use Rattle.table_writing.specs.Redefining.{AreMovesOf, AreRowsFor, AreRowsOf, AreStorableMoves, BringsRows, CanStore}
 use Rattle.table_writing.specs.Redefining.{kind_of}
 use Rattle.table_writing.specs.declared.redefining.DefinitionMoves.{DefinitionMoves}
+use Rattle.plan_tables.specs.Told.{BringMoves, IsToldChange}
 
 rows_for : {D : Type 0} {cells : ℕ} (t : Table) (IsRow : List ℕ → D → Values → Type 0) (all : ByName D)
     (names : List (List ℕ)) (rows : List Values)
@@ -45,10 +46,17 @@ removed_storable kind.RunCycles moves none no_offsets =
     (none_for _ moves.rows.items none, none_for _ moves.offsets.items no_offsets)
 removed_storable kind.Options moves none no_offsets = tt
 
-pub storable_moves : (change : DefinitionChange) (moves : DefinitionMoves) → AreMovesOf change moves
+pub storable_moves : (change : DefinitionChange) (moves : DefinitionMoves) → BringMoves change moves
     → AreStorableMoves moves
 storable_moves AsBefore moves none = subst (λ (k : Option Kind). CanStore k moves) (sym none) tt
-storable_moves (Merged b) moves (at, are, told) =
+storable_moves (Merged b) moves (at, are) =
     subst (λ (k : Option Kind). CanStore k moves) (sym at) (block_storable b moves are)
 storable_moves (Removed k name) moves (at, one, none, no_offsets) =
     subst (λ (o : Option Kind). CanStore o moves) (sym at) (removed_storable k moves none no_offsets)
+
+-- and they are those of the change, where this can be told
+pub told_moves : (change : DefinitionChange) (moves : DefinitionMoves) → BringMoves change moves → IsToldChange change
+    → AreMovesOf change moves
+told_moves AsBefore moves is told = is
+told_moves (Merged b) moves (at, are) told = (at, are, told)
+told_moves (Removed k name) moves is told = is

@@ -1,10 +1,10 @@
 -- A database keeps a content, before and after.
-use Rattle.std.proofs.Common.{List, ◌≡◌, ◌∙◌, refl, sym, ap, subst, IsTrue, Result, Ok, Err, []}
-use Rattle.std.specs.Prelude.{OnOk}
+use Rattle.std.proofs.Common.{List, ◌≡◌, ◌∙◌, refl, sym, ap, subst, IsTrue, Result, Ok, Err, [], None, Some}
+use Rattle.std.specs.Prelude.{ℕ, OnOk, Option}
 use Rattle.sqlite.specs.Tree.{Trees}
 use Rattle.sqlite.specs.Effect.{Database, IsDatabase}
 use Rattle.std.proofs.Common.{◌⊎◌, inl, inr, arith}
-use Rattle.std.proofs.Math.Logic.{∥∥₁_elim, ∥∥₁_map}
+use Rattle.std.proofs.Math.Logic.{∥∥₁_elim}
 use Rattle.sqlite.specs.Held.{Held, state}
 use Rattle.sqlite.specs.Store.{Ghosts}
 use Rattle.sqlite.specs.State.{HasCleanDisk, IsLive, IsUnchanged, State, Survives}
@@ -15,13 +15,16 @@ use Rattle.table_schema.specs.Rows.{tables_of}
 use Rattle.app_definitions.specs.declared.definitions.Definitions.{Definitions}
 use Rattle.plan_store.specs.Changes.{after, Fits, redefined}
 use Rattle.plan_store.specs.Redefining.{half_redefined}
-use Rattle.plan_store.specs.Room.{with_definitions, with_pairs_of}
+use Rattle.plan_store.specs.Room.{no_jobs, with_definitions, with_job_set, with_pairs_of}
 use Rattle.plan_store.specs.declared.changes.Change.{Change}
 use Rattle.plan_store.specs.declared.changes.DefinitionChange.TheVariants.{AsBefore}
+use Rattle.planner_machine.specs.declared.job.Job.{Job}
 use Rattle.table_facts.specs.Content.{HaveOneContent, IsContentOf}
+use Rattle.table_facts.specs.ToldSets.{AllTellSets, told_jobs}
 use Rattle.table_opening.specs.Opened.{IsStored}
 use Rattle.table_opening.specs.Stored.{AllHaveRowids}
 use Rattle.plan_tables.specs.Found.{Tells}
+use Rattle.plan_tables.specs.Kept.{IsKept, LooksOn, StaysPut, jobless, kept_in}
 use Rattle.plan_tables.specs.Stored.{LeavesSound, MayLeave}
 use Rattle.table_writing.specs.Redefining.{AreMovesOf, definitions_moved, written}
 use Rattle.table_writing.specs.Writing.{HoldsWritten, IsTellableChange}
@@ -42,15 +45,25 @@ stored_still old new c is opens now committed = record {
   content = subst (λ (d : Database). IsContentOf (tables_of d.trees) c) (sym now) is.content;
 }
 
-pub stored_unchanged : (old new : State) (c : Content) → IsStored old c → IsUnchanged old new → IsStored new c
-stored_unchanged old new c is same = stored_still old new c is same.0.is_open same.0.now_is same.0.committed_is
-
 -- of the definitions the tables are written from the options alone
 written_alike : (c : Content) (a b : Definitions) (moves : DefinitionMoves) (change : Change) (all : Tables)
     → a.options ≡ b.options
     → written (with_definitions a c) moves change all ≡ written (with_definitions b c) moves change all
 written_alike c a b moves change all same =
     λ i. written (with_definitions (record a { options = same i }) c) moves change all
+
+-- what is left, without its job, fits the lists once the definitions are changed and the pairs are out
+pub left_fits : (c : Content) (change : Change) → Fits change c → (left : Change)
+    → left ≡ record change { definitions = AsBefore; job = None } → (d : Content)
+    → d ≡ with_definitions (half_redefined change.definitions c.definitions) (with_pairs_of [] c) → Fits left d
+left_fits c change fits left is_left d is = subst (λ (k : Change). Fits k d) (sym is_left)
+    (subst (λ (k : Content). Fits (record change { definitions = AsBefore; job = None }) k) (sym is) (record {
+      ltp = fits.ltp;
+      cp = fits.cp;
+      history = fits.history;
+      deletions = fits.deletions;
+      job = λ job some. absurd (let no : None ≡ Some job = some in let h : ⊥ = cc no in h);
+    }))
 
 module _ (c : Content) (change : Change) (moves : DefinitionMoves) (fits : Fits change c)
     (are : AreMovesOf change.definitions moves) (told : IsTellableChange change) where
@@ -67,13 +80,6 @@ module _ (c : Content) (change : Change) (moves : DefinitionMoves) (fits : Fits 
       (redefined_content c all is change.definitions moves are)
       (record { ltp = fits.ltp; cp = fits.cp; history = fits.history; deletions = fits.deletions; job = fits.job })
       refl (record { links = told.links; job = told.job })
-
-  -- what is left fits the lists once the definitions are changed and the pairs are out
-  pub left_fits : (left : Change) → left ≡ rest → (d : Content)
-      → d ≡ with_definitions (half_redefined change.definitions c.definitions) (with_pairs_of [] c) → Fits left d
-  left_fits left is_rest d is = subst (λ (k : Change). Fits k d) (sym is_rest)
-      (subst (λ (k : Content). Fits rest k) (sym is)
-      (record { ltp = fits.ltp; cp = fits.cp; history = fits.history; deletions = fits.deletions; job = fits.job }))
 
   -- the pairs are out of the lists while the tables are written, and stand beside them
   pub tables_after : (left : Change) → left ≡ rest → (old : State) (db : Trees) (d : Content) (pairs : List Pair)
@@ -142,28 +148,26 @@ stored_sound g law held c stored sound live db left =
     ∣ (c, sound, told.0, told.1) ∣₁
 
 -- so it is after a change that makes a sound content
-pub leaves_sound : (old new : State) (c goal : Content) → ∥ (HasCleanDisk old → LeavesSound old) ∥₁
-    → ∥ (HasCleanDisk old → IsStored old c) ∥₁ → ∥ IsSound goal ∥₁
-    → Survives old new (λ db. IsStored old c → Tells db goal × AllHaveRowids (tables_of db))
-    → HasCleanDisk new → LeavesSound new
-leaves_sound old new c goal told was sound survives clean db left =
+pub leaves_sound : (old new : State) (goal : Content) (P : Trees → Type 0) → ∥ (HasCleanDisk old → LeavesSound old) ∥₁
+    → ∥ (HasCleanDisk old → IsSound goal × ((db : Trees) → P db → Tells db goal × AllHaveRowids (tables_of db))) ∥₁
+    → Survives old new P → HasCleanDisk new → LeavesSound new
+leaves_sound old new goal P told made survives clean db left =
     let before : HasCleanDisk old = omega (arith, survives.clean, clean) in
     elim (survives.crash clean db left) [
       | inl earlier ↦ ∥∥₁_elim told squash₁ (λ h. h before db earlier)
-      | inr made ↦ ∥∥₁_elim was squash₁ (λ h. ∥∥₁_map sound (λ s.
-          let tells = made (h before) in (goal, s, tells.0, tells.1)))
+      | inr is ↦ ∥∥₁_elim made squash₁ (λ h.
+          let next = h before in
+          let tells = next.1 db is in ∣ (goal, next.0, tells.0, tells.1) ∣₁)
     ]
 
 -- what a crash leaves after a change is what it left before, or what the change makes
-pub leaves_either : (old new : State) (d : Content) (c : Content) → HaveOneContent → ∥ (HasCleanDisk old
-    → IsStored old d) ∥₁
-    → (goal : Content) → HasCleanDisk new
-    → Survives old new (λ db. IsStored old d → Tells db goal × AllHaveRowids (tables_of db))
-    → MayLeave new c → MayLeave old c ⊎ (c ≡ goal)
-leaves_either old new d c one was goal clean survives (db, left, is) = elim (survives.crash clean db left) [
+pub leaves_either : (old new : State) (c goal : Content) (P : Trees → Type 0) → HaveOneContent
+    → ∥ (HasCleanDisk old → IsSound goal × ((db : Trees) → P db → Tells db goal × AllHaveRowids (tables_of db))) ∥₁
+    → Survives old new P → HasCleanDisk new → MayLeave new c → MayLeave old c ⊎ (c ≡ goal)
+leaves_either old new c goal P one made survives clean (db, left, is) = elim (survives.crash clean db left) [
   | inl earlier ↦ inl (db, earlier, is)
-  | inr made ↦ inr (∥∥₁_elim was (content_set c goal) (λ h. one (tables_of db) c goal is (made (h (omega
-      (arith, survives.clean)))).0.content))
+  | inr told ↦ inr (∥∥₁_elim made (content_set c goal) (λ h. one (tables_of db) c goal is ((h (omega
+      (arith, survives.clean, clean))).1 db told).0.content))
 ]
 
 -- a crash of a clean disk leaves one content
@@ -176,3 +180,57 @@ settled_so (Err e) IsClean May d h = tt
 pub stays_so : {A E : Type 0} (r : Result A E) (P Q : Type 0) → OnOk r Q → OnOk r (P → Q)
 stays_so (Ok a) P Q h = λ _. h
 stays_so (Err e) P Q h = tt
+
+-- ---- lists beside jobs
+
+-- the jobs that the tables of a kept content tell are its own
+pub told_kept : AllTellSets → (s : State) (c : Content) → IsStored s c → told_jobs (tables_of s.now.trees) ≡ c.jobs
+told_kept tell s c stored = (tell (tables_of s.now.trees) c stored.content).jobs
+
+-- a store that lets go of the jobs of a content that the tables keep, keeps it
+pub kept_without : AllTellSets → (s : State) (c lists : Content) → lists ≡ with_job_set no_jobs c → IsStored s c
+    → kept_in s lists ≡ c
+kept_without tell s c lists is stored =
+    ap (kept_in s) is ∙ ap (λ jobs. with_job_set jobs c) (told_kept tell s c stored)
+
+-- what is kept after a change: the lists have it without its job, and the tables have all of it
+pub kept_after : AllTellSets → (s : State) (jobs : ℕ → Option Job) (change : Change) (lists new : Content)
+    → new ≡ after (jobless change) lists → IsStored s (after change (with_job_set jobs lists))
+    → kept_in s new ≡ after change (with_job_set jobs lists)
+kept_after tell s jobs change lists new is stored =
+    ap (kept_in s) is ∙ ap (λ told. with_job_set told (after (jobless change) lists))
+    (told_kept tell s (after change (with_job_set jobs lists)) stored)
+
+-- a connection that stays put sees what a kept content was committed as
+pub put_still : (old new : State) (c : Content) → IsStored old c → StaysPut old new → IsTrue new.is_open
+    → (new.now ≡ old.now) × (new.committed ≡ old.committed)
+put_still old new c stored stays opens =
+    let put = stays opens in (
+      elim put.1 [ inl now ↦ now | inr back ↦ back ∙ sym stored.settled ],
+      put.2,
+    )
+
+pub kept_still : (old new : State) (lists : Content) → new.now ≡ old.now → kept_in new lists ≡ kept_in old lists
+kept_still old new lists now = ap (λ (db : Database). with_job_set (told_jobs (tables_of db.trees)) lists) now
+
+-- a store keeps what it kept
+pub keeps_still : (old new : State) (lists : Content) → IsKept old lists → IsTrue new.is_open → new.now ≡ old.now
+    → new.committed ≡ old.committed → IsKept new lists
+keeps_still old new lists kept opens now committed =
+    let same : kept_in new lists ≡ kept_in old lists = kept_still old new lists now in
+    record {
+      stored = subst (IsStored new) (sym same) (stored_still old new (kept_in old lists) kept.stored opens now committed);
+      sound = subst IsSound (sym same) kept.sound;
+    }
+
+pub keeps_unchanged : (old new : State) (lists : Content) → IsKept old lists → IsUnchanged old new → IsKept new lists
+keeps_unchanged old new lists kept same = keeps_still old new lists kept same.0.is_open same.0.now_is same.0.committed_is
+
+-- of a connection that was not asked
+pub looks_same : (s : State) (lists : Content) → LooksOn s s lists
+looks_same s lists = record {
+  clean = λ clean. clean;
+  opens = λ clean opens. opens;
+  same = λ can. refl;
+  crash = λ c both. both;
+}

@@ -3,22 +3,30 @@ use Rattle.std.specs.Prelude.{◌≡◌, false}
 use Rattle.sqlite.specs.Held.{Held, state}
 use Rattle.sqlite.specs.State.{HasCleanDisk, Survives}
 use Rattle.sqlite.specs.Store.{Ghosts}
+use Rattle.planner_machine.specs.Sound.{IsSound}
 use Rattle.plan_store.specs.Contents.{content_of}
 use Rattle.table_opening.specs.Held.{HoldsPlan}
 use Rattle.table_opening.specs.Opened.{IsCommon, MakesFirst}
 use Rattle.table_opening.specs.Opening.{IsOpened, IsUnopened}
 use Rattle.table_opening.specs.declared.faults.OpenFault.{OpenFault}
+use Rattle.plan_tables.specs.Kept.{kept_in}
 use Rattle.plan_tables.specs.Stored.{LeavesOne}
 use Rattle.plan_tables.specs.declared.table_store.TableStore.{TableStore}
 
--- the store is over its database, and has its content, which a crash leaves alone; no failure was counted, and it is known
--- that the connection is open
+-- the store is over its database, and has its content, where its disk gave back what was written; a crash leaves that
+-- alone; no failure was counted, and it is known that the connection is open
 pub record IsOver {S : Type 0} {g : Ghosts S} (conn : Held S) (store : TableStore S g) : Type 0 where
-  pub opened : IsOpened (state g conn) (state g store.conn) (content_of store.lists)
-  pub settled : LeavesOne (state g store.conn) (content_of store.lists)
+  pub opened : HasCleanDisk (state g store.conn)
+      → IsOpened (state g conn) (state g store.conn) (kept_in (state g store.conn) (content_of store.lists))
+  pub settled : LeavesOne (state g store.conn) (kept_in (state g store.conn) (content_of store.lists))
   pub whole : store.failures ≡ 0
   pub sure : store.in_doubt ≡ false
   pub crash : Survives (state g conn) (state g store.conn) (MakesFirst (state g conn))
+
+-- what the store keeps is sound, where its disk gave back what was written
+abbrev pub KeepsSound : {S : Type 0} {g : Ghosts S} → TableStore S g → Type 0
+KeepsSound {S} {g} store =
+    HasCleanDisk (state g store.conn) → IsSound (kept_in (state g store.conn) (content_of store.lists))
 
 -- it comes back, and with it why its database is not opened, by what is there: one that holds a sound plan for nothing
 -- that stands in it

@@ -11,6 +11,7 @@ use Rattle.table_schema.specs.Rows.{tables_of}
 use Rattle.table_facts.specs.ToldSets.{told_jobs}
 use Rattle.table_opening.specs.Opened.{IsStored}
 use Rattle.table_writing.specs.Redefining.{AreMovesOf}
+use Rattle.plan_tables.specs.Stored.{MayLeave}
 use Rattle.table_writing.specs.declared.redefining.DefinitionMoves.{DefinitionMoves}
 
 -- the content of the lists, with the jobs that the tables tell
@@ -29,7 +30,7 @@ CanRead s = HasCleanDisk s × IsTrue s.is_open
 -- an open connection was open before, sees what it saw then or what was committed, and has committed nothing
 abbrev pub StaysPut : State → State → Type 0
 StaysPut old new = IsTrue new.is_open → IsTrue old.is_open
-    × (((new.now ≡ old.now) ⊎ (new.now ≡ old.committed)) × (new.committed ≡ old.committed))
+    × ((new.now ≡ old.now) ⊎ (new.now ≡ old.committed)) × (new.committed ≡ old.committed)
 
 -- the change without its job, as the lists take it
 abbrev pub jobless : Change → Change
@@ -40,4 +41,12 @@ pub record IsMet (s : State) (lists : Content) (change : Change) (moves : Defini
     : Type 0 where
   pub stored : IsStored s (with_job_set jobs lists)
   pub fits : Fits change (with_job_set jobs lists)
-  pub moves : AreMovesOf change.definitions moves
+  pub told : AreMovesOf change.definitions moves
+
+-- a connection that was asked: it is clean and open only where it was, and sees what it saw then; and a crash leaves no
+-- other content than before
+pub record LooksOn (old new : State) (lists : Content) : Type 0 where
+  pub clean : HasCleanDisk new → HasCleanDisk old
+  pub opens : HasCleanDisk new → IsTrue new.is_open → IsTrue old.is_open
+  pub same : CanRead new → kept_in new lists ≡ kept_in old lists
+  pub crash : (c : Content) → HasCleanDisk new × MayLeave new c → HasCleanDisk old × MayLeave old c

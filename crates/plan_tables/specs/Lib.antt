@@ -1,4 +1,6 @@
 pub mod Stored
+pub mod Kept
+pub mod Hiding
 pub mod Adopted
 pub mod Unopened
 pub mod Found

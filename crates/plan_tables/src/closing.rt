@@ -15,6 +15,7 @@ ghost use Rattle.planner_machine.specs.Content.{Content as ContentValue};
 ghost use Rattle.plan_store.specs.Contents.{content_of};
 ghost use Rattle.plan_store.specs.declared.stores.StoreFault.TheVariants.{Device, Memory};
 ghost use Rattle.plan_tables.specs.Found.{HoldsLeft, IsFoundIn, IsFoundInEither, KeepsAlone, Tells};
+ghost use Rattle.plan_tables.specs.Kept.{kept_in};
 ghost use Rattle.plan_tables.specs.Stored.{MayLeave, TellsSound};
 
 use crate::table_store::TableStore;
@@ -36,7 +37,8 @@ impl<S: Alter + Drop> TableStore<S> {
         ensures plans { IsClean (S.Store.view result)
             → (db : Trees) → S.Store.recovers result db → ∥ TellsSound db ∥₁ }
         ensures tells { self.failures ≡ 0 → self.in_doubt ≡ false → IsClean (S.Store.view result)
-            → (db : Trees) → S.Store.recovers result db → ∥ Tells db (content_of self.lists) ∥₁ }
+            → (db : Trees) → S.Store.recovers result db
+            → ∥ Tells db (kept_in (state S.Store self.conn) (content_of self.lists)) ∥₁ }
     {
         let conn = self.into_connection();
         let _schema = conn.schema();
@@ -58,7 +60,8 @@ impl<D: Disk + Drop> TableStore<FileStore<D>> {
             → (c : ContentValue) → IsFoundIn left c → ∥ MayLeave (file_state self.conn) c ∥₁ }
         ensures found_again { self.failures ≡ 0 → self.in_doubt ≡ false → IsClean (view result)
             → (left : Image) → (files_state result).may_leave left
-            → (c : ContentValue) → IsFoundIn left c → c ≡ content_of self.lists }
+            → (c : ContentValue) → IsFoundIn left c
+            → c ≡ kept_in (file_state self.conn) (content_of self.lists) }
     {
         tables_have_one_content();
         self.into_store()
@@ -100,7 +103,8 @@ impl<D: Disk + Drop> TableStore<FileStore<D>> {
         ensures found_again { IfOk result (λ files. self.failures ≡ 0 → self.in_doubt ≡ false
             → AreClean D.Disk files.log files.db
             → (left : Image) → outcomes D.Disk files.log files.db left
-            → (c : ContentValue) → IsFoundInEither left c → c ≡ content_of self.lists) }
+            → (c : ContentValue) → IsFoundInEither left c
+            → c ≡ kept_in (file_state self.conn) (content_of self.lists)) }
         ensures sound { IfErr result (λ left. IsClean (view left.1)
             → AreDatabases (recovers left.1)) }
         ensures still_honest { IfErr result (λ left. IsClean (view left.1)
@@ -111,7 +115,7 @@ impl<D: Disk + Drop> TableStore<FileStore<D>> {
             → (db : Trees) → recovers left.1 db → ∥ TellsSound db ∥₁) }
         ensures tells { IfErr result (λ left. self.failures ≡ 0 → self.in_doubt ≡ false
             → IsClean (view left.1) → (db : Trees) → recovers left.1 db
-            → ∥ Tells db (content_of self.lists) ∥₁) }
+            → ∥ Tells db (kept_in (file_state self.conn) (content_of self.lists)) ∥₁) }
         ensures blames { IfErr result (λ left. IsClean (view left.1) → left.0 ≡ Device
             → ((file_state self.conn).is_open ≡ false)
             ⊎ MoreFaults (faults self.conn.store) (faults left.1)) }

@@ -1,8 +1,8 @@
 // What a change of definitions moves in their tables.
 
 ghost use Rattle.std.specs.Prelude.{◌≡◌, ◌∷◌, [], None, Some, IfOk};
-ghost use Rattle.table_writing.specs.Redefining.{AreMovesOf, BringsRows, kind_of};
-ghost use Rattle.plan_tables.specs.Told.{IsToldChange};
+ghost use Rattle.table_writing.specs.Redefining.{BringsRows, kind_of};
+ghost use Rattle.plan_tables.specs.Told.{BringMoves};
 
 use app_definitions::{Block, Kind};
 use plan_store::DefinitionChange;
@@ -93,8 +93,7 @@ pub(crate) fn moves_of(
     alloc: Global,
     change: &DefinitionChange,
 ) -> Result<DefinitionMoves, AllocError>
-    requires { IsToldChange change.now }
-    ensures { IfOk result (AreMovesOf change.now) }
+    ensures { IfOk result (BringMoves change.now) }
 {
     match change {
         DefinitionChange::AsBefore => Ok(nothing(alloc)),

@@ -1,6 +1,6 @@
 // The lists and the tables of a content change together.
 
-ghost use Rattle.std.specs.Prelude.{◌≡◌, ◌⊎◌, ◌<◌, ◌^◌, false, [], Some, OnOk, OnErr, IfOk, IfErr, IsTrue, IfSome};
+ghost use Rattle.std.specs.Prelude.{◌≡◌, ◌⊎◌, ℕ, ◌<◌, ◌^◌, false, [], Some, Option, OnOk, OnErr, IfOk, IfErr, IsTrue, IfSome};
 ghost use Rattle.sqlite.specs.State.{HasCleanDisk, IsRolledBack, IsUnchanged, Survives};
 ghost use Rattle.sqlite.specs.Held.{state};
 ghost use Rattle.sqlite_disk.specs.Disk.{MoreFaults};
@@ -9,16 +9,17 @@ ghost use Rattle.planner_machine.specs.declared.job.Job.{Job as JobValue};
 ghost use Rattle.plan_store.specs.Changes.{Fits, after, redefined};
 ghost use Rattle.plan_store.specs.Contents.{content_of};
 ghost use Rattle.plan_store.specs.Redefining.{CanUndo, ended, half_redefined, undone};
-ghost use Rattle.plan_store.specs.Room.{HasRoom, with_definitions, with_pairs_of};
+ghost use Rattle.plan_store.specs.Room.{HasRoom, with_definitions, with_job_set, with_pairs_of};
 ghost use Rattle.plan_store.specs.declared.changes.DefinitionChange.TheVariants.{AsBefore};
 ghost use Rattle.plan_store.specs.declared.stores.StoreFault.TheVariants.{Device, Memory};
 ghost use Rattle.table_facts.specs.Content.{answer_text};
 ghost use Rattle.table_opening.specs.Opened.{IsStored};
 ghost use Rattle.table_opening.specs.Stored.{AllHaveRowids};
-ghost use Rattle.table_writing.specs.Redefining.{AreMovesOf};
+ghost use Rattle.table_writing.specs.Redefining.{AreStorableMoves};
 ghost use Rattle.table_writing.specs.Writing.{IsTellableChange};
 ghost use Rattle.plan_tables.specs.Causes.{CanTake, HasFailed, fault_in};
 ghost use Rattle.plan_tables.specs.Found.{Tells};
+ghost use Rattle.plan_tables.specs.Kept.{IsMet, StaysPut, jobless};
 
 use plan_store::{Change, Content, DefinitionChange, Redefining, Room, StoreFault};
 use sqlite::{Alter, Connection, Error, ErrorCode};
@@ -26,7 +27,7 @@ use std::alloc::{AllocError, Global};
 use std::mem::replace;
 use table_writing::{DefinitionMoves, commit_change};
 
-/// Why a change is not made.
+/// Why something is not done.
 #[derive(Clone, Copy)]
 pub(crate) enum Unmade {
     /// Memory was refused; the tables are as they were.
@@ -64,6 +65,8 @@ pub(crate) fn ask_open<S: Alter>(conn: &mut Connection<S>) -> Result<(), StoreFa
         → IfErr result (λ fault. fault ≡ Device
         → MoreFaults (state S.Store conn.old).faults (state S.Store conn.new).faults
         ⊎ ((state S.Store conn.old).is_open ≡ false)) }
+    ensures stays { HasCleanDisk (state S.Store conn.new)
+        → StaysPut (state S.Store conn.old) (state S.Store conn.new) }
     ensures mode { conn.old.in_transaction ≡ false → conn.new.in_transaction ≡ false }
     ensures survives { Survives (state S.Store conn.old) (state S.Store conn.new) (λ _. ⊥) }
 {
@@ -76,8 +79,8 @@ pub(crate) fn ask_open<S: Alter>(conn: &mut Connection<S>) -> Result<(), StoreFa
     }
 }
 
-// Why a change is not made whose call failed so.
-fn cause_of<S: Alter>(conn: &mut Connection<S>, error: &Error) -> Unmade
+/// Why something is not done whose call failed so.
+pub(crate) fn cause_of<S: Alter>(conn: &mut Connection<S>, error: &Error) -> Unmade
     ensures open { HasCleanDisk (state S.Store conn.new) → result ≡ Unmade.Memory
         → IsUnchanged (state S.Store conn.old) (state S.Store conn.new) }
     ensures doubt { HasCleanDisk (state S.Store conn.new) → result ≡ Unmade.Doubt
@@ -86,6 +89,8 @@ fn cause_of<S: Alter>(conn: &mut Connection<S>, error: &Error) -> Unmade
         → (fault_in error.now ≡ Some Memory → ⊥)
         ⊎ MoreFaults (state S.Store conn.old).faults (state S.Store conn.new).faults
         ⊎ ((state S.Store conn.old).is_open ≡ false) }
+    ensures stays { HasCleanDisk (state S.Store conn.new)
+        → StaysPut (state S.Store conn.old) (state S.Store conn.new) }
     ensures mode { conn.old.in_transaction ≡ false → conn.new.in_transaction ≡ false }
     ensures survives { Survives (state S.Store conn.old) (state S.Store conn.new) (λ _. ⊥) }
 {
@@ -201,8 +206,8 @@ fn complete(lists: &mut Content, underway: Underway)
     lists.end_redefining(redefining);
 }
 
-/// Makes a change in the lists and in the tables, all of it or nothing, also over a crash. The line is that of the
-/// answer of its job.
+/// Makes a change in the lists and in the tables, all of it or nothing, also over a crash; its job in the tables alone.
+/// The line is that of the answer of its job.
 pub(crate) fn change_both<S: Alter>(
     conn: &mut Connection<S>,
     lists: &mut Content,
@@ -213,51 +218,48 @@ pub(crate) fn change_both<S: Alter>(
 ) -> Result<(), Unmade>
     requires mode { conn.old.in_transaction ≡ false }
     requires fits { Fits change (content_of lists.old) }
-    requires moves { AreMovesOf change.definitions moves.now }
+    requires storable { AreStorableMoves moves.now }
     requires told { IsTellableChange change }
     requires number { IfSome change.job (λ (job : JobValue). job.number < 2 ^ 63) }
     requires line { IfSome change.job (λ (job : JobValue). line.now ≡ answer_text job.reply) }
-    ensures lists { OnOk result (content_of lists.new ≡ after change (content_of lists.old)) }
+    ensures lists { OnOk result (content_of lists.new
+        ≡ after (jobless change) (content_of lists.old)) }
     ensures same { OnErr result (content_of lists.new ≡ content_of lists.old) }
-    ensures done { HasCleanDisk (state S.Store conn.new)
-        → IsStored (state S.Store conn.old) (content_of lists.old)
-        → OnOk result (IsStored (state S.Store conn.new) (after change (content_of lists.old))) }
-    ensures memory { HasCleanDisk (state S.Store conn.new)
-        → IsStored (state S.Store conn.old) (content_of lists.old)
-        → IfErr result (λ why. why ≡ Unmade.Memory
-        → IsStored (state S.Store conn.new) (content_of lists.old)) }
-    ensures doubt { HasCleanDisk (state S.Store conn.new)
-        → IsStored (state S.Store conn.old) (content_of lists.old)
-        → IfErr result (λ why. why ≡ Unmade.Doubt → IsTrue (state S.Store conn.new).is_open
-        → IsStored (state S.Store conn.new) (content_of lists.old)) }
-    ensures blames { HasCleanDisk (state S.Store conn.new)
-        → IsStored (state S.Store conn.old) (content_of lists.old)
-        → CanTake (state S.Store conn.old) (content_of lists.old) change
+    ensures done { HasCleanDisk (state S.Store conn.new) → (jobs : ℕ → Option JobValue)
+        → IsMet (state S.Store conn.old) (content_of lists.old) change moves.now jobs
+        → OnOk result (IsStored (state S.Store conn.new)
+        (after change (with_job_set jobs (content_of lists.old)))) }
+    ensures undone { HasCleanDisk (state S.Store conn.new) → (jobs : ℕ → Option JobValue)
+        → IsMet (state S.Store conn.old) (content_of lists.old) change moves.now jobs
+        → OnErr result (IsTrue (state S.Store conn.new).is_open
+        → ((state S.Store conn.new).now ≡ (state S.Store conn.old).now)
+        × ((state S.Store conn.new).committed ≡ (state S.Store conn.old).committed)) }
+    ensures memory { HasCleanDisk (state S.Store conn.new) → (jobs : ℕ → Option JobValue)
+        → IsMet (state S.Store conn.old) (content_of lists.old) change moves.now jobs
+        → IfErr result (λ why. why ≡ Unmade.Memory → IsTrue (state S.Store conn.new).is_open) }
+    ensures blames { HasCleanDisk (state S.Store conn.new) → (jobs : ℕ → Option JobValue)
+        → IsMet (state S.Store conn.old) (content_of lists.old) change moves.now jobs
+        → CanTake (state S.Store conn.old) (with_job_set jobs (content_of lists.old)) change
         → IfErr result (λ why. why ≡ Unmade.Device
         → HasFailed (state S.Store conn.old) (state S.Store conn.new)) }
-    ensures schema { HasCleanDisk (state S.Store conn.new)
-        → IsStored (state S.Store conn.old) (content_of lists.old)
+    ensures schema { HasCleanDisk (state S.Store conn.new) → (jobs : ℕ → Option JobValue)
+        → IsMet (state S.Store conn.old) (content_of lists.old) change moves.now jobs
         → OnOk result ((state S.Store conn.new).now.schema ≡ (state S.Store conn.old).now.schema) }
-    ensures unmade { HasCleanDisk (state S.Store conn.new)
-        → IsStored (state S.Store conn.old) (content_of lists.old)
-        → IfErr result (λ why. why ≡ Unmade.Memory
-        → (state S.Store conn.new).now ≡ (state S.Store conn.old).now) }
-    ensures unsure { HasCleanDisk (state S.Store conn.new)
-        → IsStored (state S.Store conn.old) (content_of lists.old)
-        → IfErr result (λ why. why ≡ Unmade.Doubt → IsTrue (state S.Store conn.new).is_open
-        → (state S.Store conn.new).now ≡ (state S.Store conn.old).now) }
     ensures ended { conn.new.in_transaction ≡ false }
     ensures crash { Survives (state S.Store conn.old) (state S.Store conn.new)
-        (λ db. IsStored (state S.Store conn.old) (content_of lists.old)
-        → Tells db (after change (content_of lists.old)) × AllHaveRowids (tables_of db)) }
+        (λ db. (jobs : ℕ → Option JobValue)
+        → IsMet (state S.Store conn.old) (content_of lists.old) change moves.now jobs
+        → Tells db (after change (with_job_set jobs (content_of lists.old)))
+        × AllHaveRowids (tables_of db)) }
 {
-    let underway = match start(lists, alloc, change) {
+    let mut underway = match start(lists, alloc, change) {
         Ok(underway) => underway,
         Err(_) => return Err(Unmade::Memory),
     };
     let pairs = underway.begun.room.pairs();
     match commit_change(conn, alloc, lists, pairs, moves, &underway.rest, line) {
         Ok(()) => {
+            underway.rest.job = None;
             complete(lists, underway);
             Ok(())
         }

@@ -4,7 +4,9 @@
 mod answers;
 mod closing;
 mod definition_moves;
+mod hiding;
 mod keeping;
+mod looking;
 mod opening;
 mod prepared;
 mod table_store;

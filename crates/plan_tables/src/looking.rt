@@ -13,15 +13,6 @@ use planner_machine::Job;
 use sqlite::{Alter, Connection};
 use std::alloc::Global;
 
-// Why a fact was not found out.
-fn cause_in<S: Alter>(conn: &mut Connection<S>, fault: &LookupFault) -> Unmade {
-    match fault {
-        LookupFault::Memory => Unmade::Memory,
-        LookupFault::Untold => Unmade::Device,
-        LookupFault::Store(error) => cause_of(conn, error),
-    }
-}
-
 /// The job that the tables keep under the number, if there is one.
 pub(crate) fn job_kept<S: Alter>(
     alloc: Global,
@@ -50,6 +41,8 @@ pub(crate) fn job_kept<S: Alter>(
     }
     match kept_job(alloc, conn, number) {
         Ok(found) => Ok(found),
-        Err(fault) => Err(cause_in(conn, &fault)),
+        Err(LookupFault::Memory) => Err(Unmade::Memory),
+        Err(LookupFault::Untold) => Err(Unmade::Device),
+        Err(LookupFault::Store(error)) => Err(cause_of(conn, &error)),
     }
 }

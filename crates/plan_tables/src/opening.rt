@@ -10,9 +10,9 @@ ghost use Rattle.sqlite_wal.specs.Files.{image_at};
 ghost use Rattle.planner_machine.specs.Content.{nothing_known};
 ghost use Rattle.planner_machine.specs.Sound.{IsSound};
 ghost use Rattle.plan_store.specs.Contents.{content_of};
-ghost use Rattle.table_opening.specs.Opened.{IsStored};
 ghost use Rattle.plan_tables.specs.Adopted.{ComesBack, IsOver};
 ghost use Rattle.plan_tables.specs.Found.{IsFoundIn};
+ghost use Rattle.plan_tables.specs.Kept.{IsKept, kept_in};
 ghost use Rattle.plan_tables.specs.Refused.{IsGivenBack, IsNotOpened};
 ghost use Rattle.plan_tables.specs.Stored.{LeavesOne};
 ghost use Rattle.plan_tables.specs.Unopened.{IsUnmadeBy};
@@ -40,7 +40,7 @@ impl<S: Alter + Drop> TableStore<S> {
         tables_have_one_content();
         let mut conn = conn;
         match open_content(alloc, &mut conn) {
-            Ok(lists) => Ok(TableStore::over(conn, lists)),
+            Ok(lists) => Ok(TableStore::over(alloc, conn, lists)),
             Err(fault) => Err((fault, conn)),
         }
     }
@@ -73,12 +73,14 @@ impl<S: Alter + Drop> TableStore<S> {
 impl TableStore<MemStore> {
     /// A store in memory of what a planner knows that was told nothing. Only memory can be short for it.
     pub fn open_memory(alloc: Global) -> Result<TableStore<MemStore>, OpenFault>
-        ensures empty { IfOk result (λ store. content_of store.lists ≡ nothing_known) }
-        ensures sound { IfOk result (λ store. IsSound (content_of store.lists)) }
+        ensures empty { IfOk result (λ store.
+            kept_in (state over_memory store.conn) (content_of store.lists) ≡ nothing_known) }
+        ensures sound { IfOk result (λ store.
+            IsSound (kept_in (state over_memory store.conn) (content_of store.lists))) }
         ensures whole { IfOk result (λ store. store.failures ≡ 0) }
         ensures sure { IfOk result (λ store. store.in_doubt ≡ false) }
         ensures settled { IfOk result (λ store. LeavesOne (state over_memory store.conn)
-            (content_of store.lists)) }
+            (kept_in (state over_memory store.conn) (content_of store.lists))) }
         ensures refused { IfErr result (λ fault. fault ≡ Memory) }
     {
         match Connection::open_in_memory(alloc) {
@@ -99,15 +101,15 @@ impl<S: Start> TableStore<FileStore<FileFrom<S>>> {
         path: &str,
         start: S,
     ) -> Result<TableStore<FileStore<FileFrom<S>>>, (OpenFault, Option<Leftover<FileFrom<S>>>)>
-        ensures sound { IfOk result (λ store. IsSound (content_of store.lists)) }
         ensures whole { IfOk result (λ store. store.failures ≡ 0) }
         ensures sure { IfOk result (λ store. store.in_doubt ≡ false) }
         ensures opened { IfOk result (λ store. HasCleanDisk (file_state store.conn)
-            → IsStored (file_state store.conn) (content_of store.lists)) }
+            → IsKept (file_state store.conn) (content_of store.lists)) }
         ensures settled { IfOk result (λ store. LeavesOne (file_state store.conn)
-            (content_of store.lists)) }
+            (kept_in (file_state store.conn) (content_of store.lists))) }
         ensures found { IfOk result (λ store. HasCleanDisk (file_state store.conn)
-            → IsFoundIn (image_at S.Start) (content_of store.lists)) }
+            → IsFoundIn (image_at S.Start)
+            (kept_in (file_state store.conn) (content_of store.lists))) }
         ensures refused { IfErr result (IsNotOpened (λ is_log file. IsFresh is_log file)
             (image_at S.Start)) }
     {
@@ -129,13 +131,12 @@ impl TableStore<FileStore<File>> {
         alloc: Global,
         path: &str,
     ) -> Result<TableStore<FileStore<File>>, (OpenFault, Option<Leftover<File>>)>
-        ensures sound { IfOk result (λ store. IsSound (content_of store.lists)) }
         ensures whole { IfOk result (λ store. store.failures ≡ 0) }
         ensures sure { IfOk result (λ store. store.in_doubt ≡ false) }
         ensures opened { IfOk result (λ store. HasCleanDisk (file_state store.conn)
-            → IsStored (file_state store.conn) (content_of store.lists)) }
+            → IsKept (file_state store.conn) (content_of store.lists)) }
         ensures settled { IfOk result (λ store. LeavesOne (file_state store.conn)
-            (content_of store.lists)) }
+            (kept_in (file_state store.conn) (content_of store.lists))) }
         ensures refused { IfErr result (IsNotOpened (λ is_log file. IsFresh is_log file)
             (image_at ⟦<Unknown as Start>⟧)) }
     {

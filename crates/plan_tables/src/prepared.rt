@@ -1,14 +1,14 @@
 // What is made of a change before it is written.
 
-ghost use Rattle.std.specs.Prelude.{◌≡◌, IfOk, IfSome};
+ghost use Rattle.std.specs.Prelude.{◌≡◌, ◌↔◌, ◌<◌, ◌^◌, IfOk, IfSome, IsTrue};
 ghost use Rattle.planner_machine.specs.declared.job.Job.{Job as JobValue};
 ghost use Rattle.table_facts.specs.Content.{answer_text};
-ghost use Rattle.table_writing.specs.Redefining.{AreMovesOf};
-ghost use Rattle.plan_tables.specs.Told.{IsToldChange};
+ghost use Rattle.plan_tables.specs.Told.{BringMoves};
 
 use crate::answers::job_line;
 use crate::definition_moves::moves_of;
 use plan_store::Change;
+use planner_machine::Job;
 use std::alloc::{AllocError, Global};
 use table_writing::DefinitionMoves;
 
@@ -21,12 +21,21 @@ pub(crate) struct Prepared {
 
 /// What is made of a change before it is written.
 pub(crate) fn prepare(alloc: Global, change: &Change) -> Result<Prepared, AllocError>
-    requires { IsToldChange change.now.definitions }
-    ensures moves { IfOk result (λ made. AreMovesOf change.now.definitions made.moves) }
+    ensures moves { IfOk result (λ made. BringMoves change.now.definitions made.moves) }
     ensures line { IfOk result (λ made. IfSome change.now.job
         (λ (job : JobValue). made.line.items ≡ answer_text job.reply)) }
 {
     let line = job_line(alloc, &change.job)?;
     let moves = moves_of(alloc, &change.definitions)?;
     Ok(Prepared { moves, line })
+}
+
+/// Whether the number of the job, if there is one, can be stored.
+pub(crate) fn can_number(job: &Option<Job>) -> bool
+    ensures { IsTrue result ↔ IfSome job.now (λ (job : JobValue). job.number < 2 ^ 63) }
+{
+    match job {
+        Some(job) => job.number < 1 << 63,
+        None => true,
+    }
 }

@@ -1,7 +1,7 @@
 // A store over a database.
 
-ghost use Rattle.std.specs.Prelude.{◌≡◌, ◌⊎◌, ◌↔◌, ◌<◌, ◌≤◌, false, ◌^◌, Ok, Err, OnOk, OnErr, IfOk, IfErr, IfSome, IsTrue};
-ghost use Rattle.std.specs.Prelude.{option_copied, ⊤};
+ghost use Rattle.std.specs.Prelude.{◌≡◌, ◌≢◌, ◌⊎◌, ◌↔◌, ◌<◌, ◌≤◌, false, true, ◌^◌, Ok, Err, OnOk, OnErr, IfOk, IfErr, IfSome, IsTrue};
+ghost use Rattle.std.specs.Prelude.{option_copied};
 ghost use Rattle.sqlite.specs.State.{HasCleanDisk, Survives};
 ghost use Rattle.sqlite.specs.Held.{state};
 ghost use Rattle.sqlite_disk.specs.Disk.{MoreFaults};
@@ -12,20 +12,23 @@ ghost use Rattle.plan_store.specs.Changes.{Fits, after};
 ghost use Rattle.plan_store.specs.Contents.{content_of};
 ghost use Rattle.plan_store.specs.Faults.{MoreFailures};
 ghost use Rattle.plan_store.specs.Listings.{HandsAll, HandsPart, IsListing};
+ghost use Rattle.plan_store.specs.Room.{no_jobs};
 ghost use Rattle.plan_store.specs.declared.stores.StoreFault.TheVariants.{Device, Memory};
 ghost use Rattle.table_facts.specs.Content.{answer_text};
 ghost use Rattle.table_schema.specs.Schema.{HasOwnIndexes, HasTables};
 ghost use Rattle.table_opening.specs.Opened.{IsStored};
-ghost use Rattle.table_writing.specs.Redefining.{AreMovesOf};
-ghost use Rattle.plan_tables.specs.Applied.{AppliesBy};
+ghost use Rattle.plan_tables.specs.Applied.{AppliesBy, ReadsBy};
 ghost use Rattle.plan_tables.specs.Causes.{CanTake, HasFailed};
+ghost use Rattle.plan_tables.specs.Kept.{CanRead, IsKept, LooksOn, kept_in};
 ghost use Rattle.plan_tables.specs.Stored.{LeavesSound, MayLeave};
 ghost use Rattle.plan_tables.specs.Taken.{HasRoomFor, KeepsSchema};
-ghost use Rattle.plan_tables.specs.Told.{IsToldChange};
+ghost use Rattle.plan_tables.specs.Told.{BringMoves};
 
 use crate::answers::{added_rise, change_is_tellable};
+use crate::hiding::{listings_hide_jobs, windows_hide_jobs};
 use crate::keeping::{Unmade, ask_open, change_both};
-use crate::prepared::{Prepared, prepare};
+use crate::looking::job_kept;
+use crate::prepared::{Prepared, can_number, prepare};
 use crate::taking::fitting_changes_are_taken;
 use app_definitions::Definitions;
 use external_dependencies::Links;
@@ -33,35 +36,33 @@ use plan_store::{Change, Content, ListFault, Need, PlanStore, RowSink, StoreFaul
 use planner_machine::{Bounds, Job};
 use sqlite::{Alter, Connection, Error};
 use std::alloc::Global;
-use table_facts::tables_have_one_content;
+use table_facts::{tables_have_one_content, tables_tell_sets};
 use table_opening::has_own_indexes;
 use work_calendars::App;
 
-/// What a planner knows, in the tables of a database, with lists of the same content in memory, which serve what is
-/// read. After a failure it answers that the device failed.
+/// What a planner knows, in the tables of a database. Lists in memory hold all but the kept jobs, and serve what is
+/// read; a job is looked up in its table. After a failure it answers that the device failed.
 #[derive(Drop)]
 pub struct TableStore<S: Alter> {
     conn: Connection<S>,
+    // all but the kept jobs
     lists: Content,
     // how often sqlite failed, or refused for another cause than memory, up to the greatest number that is counted
     failures: u64,
     // whether memory was refused when it was asked if the connection is open
     in_doubt: bool,
+    // the job that was looked up last, which is lent
+    found: Option<Job>,
+    alloc: Global,
     ghost settled: { conn.in_transaction ≡ false },
+    ghost jobless: { (content_of lists).jobs ≡ no_jobs },
     ghost stored: { ∥ (failures ≡ 0 → HasCleanDisk (state S.Store conn)
         → (IsTrue in_doubt → IsTrue (state S.Store conn).is_open)
-        → IsStored (state S.Store conn) (content_of lists)) ∥₁ },
+        → IsKept (state S.Store conn) (content_of lists)) ∥₁ },
     ghost told: { ∥ (HasCleanDisk (state S.Store conn) → LeavesSound (state S.Store conn)) ∥₁ },
 }
 
 impl<S: Alter + Drop> TableStore<S> {
-    /// The content that it keeps.
-    pub fn content(&self) -> &Content
-        ensures { result.now ≡ self.now.lists }
-    {
-        &self.lists
-    }
-
     /// Whether the tables have no indexes but those of their keys: one that someone made beside may refuse a row.
     pub fn has_own_indexes(&self, alloc: Global) -> Result<bool, Error>
         ensures { IfOk result (λ own. HasTables (state S.Store self.now.conn).now.schema
@@ -78,24 +79,30 @@ impl<S: Alter + Drop> TableStore<S> {
         conn
     }
 
-    // A store over a database that has the content of the lists.
-    pub(crate) fn over(conn: Connection<S>, lists: Content) -> TableStore<S>
+    // A store over a database that has the content of the lists, of which it keeps all but the jobs.
+    pub(crate) fn over(alloc: Global, conn: Connection<S>, lists: Content) -> TableStore<S>
         requires mode { conn.in_transaction ≡ false }
         requires opened { HasCleanDisk (state S.Store conn)
             → IsStored (state S.Store conn) (content_of lists) }
         requires sound { IsSound (content_of lists) }
         ensures conn { result.conn ≡ conn }
-        ensures lists { result.lists ≡ lists }
+        ensures kept { HasCleanDisk (state S.Store result.conn)
+            → kept_in (state S.Store result.conn) (content_of result.lists) ≡ content_of lists }
         ensures whole { result.failures ≡ 0 }
         ensures sure { result.in_doubt ≡ false }
     {
+        tables_tell_sets();
         // its clause says that an open connection has a database
         let _ = conn.schema();
+        let mut lists = lists;
+        lists.forget_jobs(alloc);
         TableStore {
             conn,
             lists,
             failures: 0,
             in_doubt: false,
+            found: None,
+            alloc,
         }
     }
 
@@ -104,9 +111,15 @@ impl<S: Alter + Drop> TableStore<S> {
         requires { self.old.failures ≡ 0 }
         ensures sure { OnOk result (self.new.in_doubt ≡ false) }
         ensures whole { OnOk result (self.new.failures ≡ 0) }
+        ensures doubt { IfErr result (λ fault. fault ≡ Memory → self.new.in_doubt ≡ true) }
         ensures lists { self.new.lists ≡ self.old.lists }
         ensures same { HasCleanDisk (state S.Store self.new.conn)
             → OnOk result ((state S.Store self.new.conn).now ≡ (state S.Store self.old.conn).now) }
+        ensures still { HasCleanDisk (state S.Store self.new.conn)
+            → OnOk result (IsTrue (state S.Store self.old.conn).is_open
+            → IsTrue (state S.Store self.new.conn).is_open) }
+        ensures looks { LooksOn (state S.Store self.old.conn) (state S.Store self.new.conn)
+            (content_of self.old.lists) }
         ensures survives { Survives (state S.Store self.old.conn) (state S.Store self.new.conn)
             (λ _. ⊥) }
         ensures blames { IfErr result (λ fault. fault ≡ Device
@@ -136,11 +149,60 @@ impl<S: Alter + Drop> TableStore<S> {
         }
     }
 
+    // Looks up the job that is kept under the number, which can be lent then.
+    fn look_up(&mut self, number: u64) -> Result<(), StoreFault>
+        ensures { ReadsBy ⟦<TableStore<S> as PlanStore>⟧ self.old self.new result
+            (λ _. self.new.found
+            ≡ (kept_in (state S.Store self.old.conn) (content_of self.old.lists)).jobs number) }
+    {
+        if self.failures > 0 {
+            return Err(StoreFault::Device);
+        }
+        self.make_sure()?;
+        self.look_up_job(number)
+    }
+
+    // The same, where nothing failed and the connection is known to be open.
+    fn look_up_job(&mut self, number: u64) -> Result<(), StoreFault>
+        requires whole { self.old.failures ≡ 0 }
+        requires sure { self.old.in_doubt ≡ false }
+        ensures right { HasCleanDisk (state S.Store self.new.conn)
+            → OnOk result (self.new.found
+            ≡ (kept_in (state S.Store self.old.conn) (content_of self.old.lists)).jobs number) }
+        ensures lists { self.new.lists ≡ self.old.lists }
+        ensures looks { LooksOn (state S.Store self.old.conn) (state S.Store self.new.conn)
+            (content_of self.old.lists) }
+        ensures opens { HasCleanDisk (state S.Store self.new.conn)
+            → OnOk result (IsTrue (state S.Store self.new.conn).is_open) }
+        ensures memory { HasCleanDisk (state S.Store self.new.conn)
+            → IfErr result (λ fault. fault ≡ Memory → self.new.in_doubt ≡ false
+            → IsTrue (state S.Store self.new.conn).is_open) }
+        ensures blames { IfErr result (λ fault. fault ≡ Device
+            → MoreFailures self.old.failures self.new.failures) }
+        ensures counts { self.old.failures ≤ self.new.failures }
+        ensures whole { OnOk result ((self.new.failures ≡ 0) × (self.new.in_doubt ≡ false)) }
+    {
+        match job_kept(self.alloc, &mut self.conn, number) {
+            Ok(found) => {
+                self.found = found;
+                Ok(())
+            }
+            Err(Unmade::Memory) => Err(StoreFault::Memory),
+            Err(Unmade::Doubt) => {
+                self.in_doubt = true;
+                Err(StoreFault::Memory)
+            }
+            Err(Unmade::Device) => {
+                self.failures = self.failures.saturating_add(1);
+                Err(StoreFault::Device)
+            }
+        }
+    }
+
     // What is made of a change before it is written. None is where the store failed before, or where memory is refused.
     fn prepared(&self, alloc: Global, change: &Change) -> Result<Prepared, StoreFault>
-        requires { IsToldChange change.now.definitions }
         ensures whole { OnOk result (self.now.failures ≡ 0) }
-        ensures moves { IfOk result (λ made. AreMovesOf change.now.definitions made.moves) }
+        ensures moves { IfOk result (λ made. BringMoves change.now.definitions made.moves) }
         ensures line { IfOk result (λ made. IfSome change.now.job
             (λ (job : JobValue). made.line.items ≡ answer_text job.reply)) }
         ensures blames { IfErr result (λ fault. fault ≡ Device → 0 < self.now.failures) }
@@ -152,6 +214,47 @@ impl<S: Alter + Drop> TableStore<S> {
         Ok(prepare(alloc, change)?)
     }
 
+    // Whether the lists admit a change, and the number of its job can be stored.
+    fn admits(&self, alloc: Global, change: &Change) -> Result<bool, StoreFault>
+        ensures admits { IfOk result (λ is. IsTrue is ↔ (Fits change.now (content_of self.now.lists)
+            × IfSome change.now.job (λ (job : JobValue). job.number < 2 ^ 63))) }
+        ensures memory { IfErr result (λ fault. fault ≡ Memory) }
+    {
+        if !can_number(&change.job) {
+            return Ok(false);
+        }
+        Ok(self.lists.admits(alloc, change)?)
+    }
+
+    // Tests whether a change fits, as any does that was decided over what is kept here. One that doesn't was decided over
+    // bytes that a disk gave back and that were not written, and counts as a failure.
+    fn admit(&mut self, alloc: Global, change: &Change) -> Result<(), StoreFault>
+        requires whole { self.old.failures ≡ 0 }
+        requires sure { self.old.in_doubt ≡ false }
+        requires fits { CanRead (state S.Store self.old.conn) → Fits change.now
+            (kept_in (state S.Store self.old.conn) (content_of self.old.lists)) }
+        requires sound { CanRead (state S.Store self.old.conn) → IsSound (after change.now
+            (kept_in (state S.Store self.old.conn) (content_of self.old.lists))) }
+        ensures fits { OnOk result (Fits change.now (content_of self.new.lists)) }
+        ensures number { OnOk result (IfSome change.now.job
+            (λ (job : JobValue). job.number < 2 ^ 63)) }
+        ensures ok { OnOk result (self.new ≡ self.old) }
+        ensures memory { IfErr result (λ fault. fault ≡ Memory → self.new ≡ self.old) }
+        ensures conn { self.new.conn ≡ self.old.conn }
+        ensures lists { self.new.lists ≡ self.old.lists }
+        ensures blames { IfErr result (λ fault. fault ≡ Device
+            → MoreFailures self.old.failures self.new.failures) }
+        ensures counts { self.old.failures ≤ self.new.failures }
+        ensures admits { HasCleanDisk (state S.Store self.old.conn)
+            → IfErr result (λ fault. fault ≢ Device) }
+    {
+        if self.admits(alloc, change)? {
+            return Ok(());
+        }
+        self.failures = self.failures.saturating_add(1);
+        Err(StoreFault::Device)
+    }
+
     // Makes a change that is prepared in the tables and in the lists, all of it or nothing, also over a crash.
     fn change_so(
         &mut self,
@@ -161,26 +264,40 @@ impl<S: Alter + Drop> TableStore<S> {
     ) -> Result<(), StoreFault>
         requires whole { self.old.failures ≡ 0 }
         requires sure { self.old.in_doubt ≡ false }
-        requires fits { Fits change (content_of self.old.lists) }
-        requires sound { IsSound (after change (content_of self.old.lists)) }
-        requires moves { AreMovesOf change.definitions prepared.now.moves }
+        requires listed { Fits change (content_of self.old.lists) }
+        requires fits { CanRead (state S.Store self.old.conn) → Fits change
+            (kept_in (state S.Store self.old.conn) (content_of self.old.lists)) }
+        requires sound { CanRead (state S.Store self.old.conn) → IsSound (after change
+            (kept_in (state S.Store self.old.conn) (content_of self.old.lists))) }
+        requires moves { BringMoves change.definitions prepared.now.moves }
         requires number { IfSome change.job (λ (job : JobValue). job.number < 2 ^ 63) }
         requires line { IfSome change.job (λ (job : JobValue). prepared.now.line.items
             ≡ answer_text job.reply) }
-        ensures done { OnOk result (content_of self.new.lists ≡ after change
-            (content_of self.old.lists)) }
-        ensures same { OnErr result (content_of self.new.lists ≡ content_of self.old.lists) }
+        ensures done { HasCleanDisk (state S.Store self.new.conn)
+            → OnOk result (kept_in (state S.Store self.new.conn) (content_of self.new.lists)
+            ≡ after change (kept_in (state S.Store self.old.conn) (content_of self.old.lists))) }
+        ensures same { CanRead (state S.Store self.new.conn)
+            → OnErr result (kept_in (state S.Store self.new.conn) (content_of self.new.lists)
+            ≡ kept_in (state S.Store self.old.conn) (content_of self.old.lists)) }
+        ensures opens { HasCleanDisk (state S.Store self.new.conn)
+            → OnOk result (IsTrue (state S.Store self.new.conn).is_open) }
+        ensures memory { HasCleanDisk (state S.Store self.new.conn)
+            → IfErr result (λ fault. fault ≡ Memory → self.new.in_doubt ≡ false
+            → IsTrue (state S.Store self.new.conn).is_open) }
+        ensures was_open { HasCleanDisk (state S.Store self.new.conn)
+            → IsTrue (state S.Store self.old.conn).is_open }
         ensures settled { HasCleanDisk (state S.Store self.new.conn)
             → OnOk result ((c : ContentValue) → MayLeave (state S.Store self.new.conn) c
-            → c ≡ content_of self.new.lists) }
+            → c ≡ kept_in (state S.Store self.new.conn) (content_of self.new.lists)) }
         ensures crash { HasCleanDisk (state S.Store self.new.conn)
             → (c : ContentValue) → MayLeave (state S.Store self.new.conn) c
-            → MayLeave (state S.Store self.old.conn) c
-            ⊎ (c ≡ after change (content_of self.old.lists)) }
+            → MayLeave (state S.Store self.old.conn) c ⊎ (c ≡ after change
+            (kept_in (state S.Store self.old.conn) (content_of self.old.lists))) }
         ensures blames { IfErr result (λ fault. fault ≡ Device
             → MoreFailures self.old.failures self.new.failures) }
         ensures caused { HasCleanDisk (state S.Store self.new.conn)
-            → CanTake (state S.Store self.old.conn) (content_of self.old.lists) change
+            → CanTake (state S.Store self.old.conn)
+            (kept_in (state S.Store self.old.conn) (content_of self.old.lists)) change
             → IfErr result (λ fault. fault ≡ Device
             → ∥ HasFailed (state S.Store self.old.conn) (state S.Store self.new.conn) ∥₁) }
         ensures taken { HasCleanDisk (state S.Store self.new.conn)
@@ -195,6 +312,7 @@ impl<S: Alter + Drop> TableStore<S> {
             (state S.Store self.new.conn) result }
     {
         tables_have_one_content();
+        tables_tell_sets();
         fitting_changes_are_taken();
         change_is_tellable(&change);
         added_rise(&change);
@@ -221,16 +339,17 @@ impl<S: Alter + Drop> TableStore<S> {
 }
 
 impl<S: Alter + Drop> PlanStore for TableStore<S> {
-    ghost use Rattle.std.specs.Prelude.{◌≡◌, ⊤};
+    ghost use Rattle.std.specs.Prelude.{◌≡◌};
     ghost use Rattle.sqlite.specs.State.{HasCleanDisk};
     ghost use Rattle.sqlite.specs.Held.{state};
     ghost use Rattle.plan_store.specs.Contents.{content_of};
+    ghost use Rattle.plan_tables.specs.Kept.{CanRead, kept_in};
     ghost use Rattle.plan_tables.specs.Stored.{MayLeave};
 
-    ghost content = { λ store. content_of store.lists };
+    // the jobs are those of the table, and all else that of the lists
+    ghost content = { λ store. kept_in (state S.Store store.conn) (content_of store.lists) };
 
-    // what is read comes from the lists, and is right whatever the disk does
-    ghost is_honest = { λ _. ⊤ };
+    ghost is_honest = { λ store. CanRead (state S.Store store.conn) };
 
     ghost failures = { λ store. store.failures };
 
@@ -285,15 +404,17 @@ impl<S: Alter + Drop> PlanStore for TableStore<S> {
         if self.failures > 0 {
             return Err(StoreFault::Device);
         }
+        windows_hide_jobs();
         self.lists.fill_window(&need)?;
         Ok(self.lists.window(&need))
     }
 
     fn job<'a>(&'a mut self, number: u64) -> Result<Option<&'a Job>, StoreFault> {
-        if self.failures > 0 {
-            return Err(StoreFault::Device);
+        self.look_up(number)?;
+        match &self.found {
+            Some(job) => Ok(Some(job)),
+            None => Ok(None),
         }
-        Ok(self.lists.job(number))
     }
 
     fn rows_to<K: RowSink>(
@@ -305,15 +426,18 @@ impl<S: Alter + Drop> PlanStore for TableStore<S> {
     ) -> Result<usize, ListFault>
         ensures all { AreNumbered (content_of self.old.lists).sets
             → IfOk result (HandsAll K.takes (IsListing what (option_copied app.entry)
-            (content_of self.old.lists)) sink.old sink.new) }
+            (kept_in (state S.Store self.old.conn) (content_of self.old.lists)))
+            sink.old sink.new) }
         ensures part { AreNumbered (content_of self.old.lists).sets
             → IfErr result (HandsPart K.takes K.refuses (IsListing what (option_copied app.entry)
-            (content_of self.old.lists)) sink.old sink.new) }
+            (kept_in (state S.Store self.old.conn) (content_of self.old.lists)))
+            sink.old sink.new) }
         ensures kept { self.new ≡ self.old }
         ensures blames { IfErr result (λ fault. fault ≡ ListFault.Device → 0 < self.old.failures) }
         ensures broken { 0 < self.old.failures → (result ≡ Err ListFault.Device)
             × (sink.new ≡ sink.old) }
     {
+        listings_hide_jobs();
         self.lists.has_listings();
         if self.failures > 0 {
             return Err(ListFault::Device);
@@ -325,11 +449,14 @@ impl<S: Alter + Drop> PlanStore for TableStore<S> {
     // failed meanwhile, by the count of sqlite, or a limit on steps is set. They take each change that finds room, and
     // keep their schema.
     fn apply(&mut self, alloc: Global, change: Change) -> Result<(), StoreFault>
-        requires fits { ⊤ → Fits change (content_of self.old.lists) }
-        requires sound { ⊤ → IsSound (after change (content_of self.old.lists)) }
+        requires fits { CanRead (state S.Store self.old.conn) → Fits change
+            (kept_in (state S.Store self.old.conn) (content_of self.old.lists)) }
+        requires sound { CanRead (state S.Store self.old.conn) → IsSound (after change
+            (kept_in (state S.Store self.old.conn) (content_of self.old.lists))) }
         ensures applies { AppliesBy ⟦<TableStore<S> as PlanStore>⟧ self.old self.new change result }
         ensures caused { self.old.failures ≡ 0 → HasCleanDisk (state S.Store self.new.conn)
-            → CanTake (state S.Store self.old.conn) (content_of self.old.lists) change
+            → CanTake (state S.Store self.old.conn)
+            (kept_in (state S.Store self.old.conn) (content_of self.old.lists)) change
             → IfErr result (λ fault. fault ≡ StoreFault.Device
             → ∥ HasFailed (state S.Store self.old.conn) (state S.Store self.new.conn)
             ⊎ ((state S.Store self.old.conn).is_open ≡ false) ∥₁) }
@@ -343,6 +470,7 @@ impl<S: Alter + Drop> PlanStore for TableStore<S> {
     {
         let prepared = self.prepared(alloc, &change)?;
         self.make_sure()?;
+        self.admit(alloc, &change)?;
         self.change_so(alloc, &prepared, change)
     }
 }

@@ -1,8 +1,7 @@
 //! The tables of schema 1 with what a run of a stream leaves.
 ghost use Rattle.std.specs.Prelude.{◌≡◌, false, IfOk};
 ghost use Rattle.sqlite.specs.Held.{IsNew};
-ghost use Rattle.planner_machine.specs.Sound.{IsSound};
-ghost use Rattle.plan_store.specs.Contents.{content_of};
+ghost use Rattle.plan_tables.specs.Adopted.{KeepsSound};
 
 use crate::disks::{Disks, Stopping, new_disks};
 use crate::stores::connect;
@@ -32,7 +31,7 @@ fn connection_after<S: Alter + Drop>(
     store: TableStore<S>,
     text: &[u8],
 ) -> Connection<S>
-    requires { IsSound (content_of store.lists) }
+    requires { KeepsSound store }
 {
     let mut store = store;
     let mut left = text;

@@ -1,14 +1,11 @@
 //! A plan of schema 1 over files in memory, which is migrated while one of them stops at some call.
 ghost use Rattle.std.specs.Prelude.{◌≡◌, false};
-ghost use Rattle.planner_machine.specs.Sound.{IsSound};
-ghost use Rattle.plan_store.specs.Contents.{content_of};
 
 use crate::disks::{Disks, MOST_CALLS, Stopping, copied, have_stopped};
 use crate::first_tables::first_files;
-use crate::stores::{adopt, connect, connect_again, is_after, run_again};
+use crate::stores::{connect, connect_again, is_after, run_again};
 use crate::streams::{Stream, Wrong};
 use plan_migrations::{FIRST_VERSION, migrate, version};
-use plan_tables::TableStore;
 use sqlite::{Alter, Connection, FileStore, Files};
 use sqlite_disk::{Crash, Disk};
 use std::alloc::{AllocError, Global};
@@ -90,29 +87,19 @@ fn migrate_again<S: Alter>(alloc: Global, conn: &mut Connection<S>) -> Result<u3
     }
 }
 
-/// Nothing where the store has what a run of the stream leaves, answers the stream as that run, and has the same then.
+/// Nothing where the tables have what a run of the stream leaves, and a store over them answers the stream as that run, and
+/// leaves the same.
 fn is_same<S: Alter + Drop>(
-    alloc: Global,
-    store: &mut TableStore<S>,
-    stream: &Stream<'_>,
-) -> Result<(), Wrong>
-    requires { IsSound (content_of store.old.lists) }
-{
-    is_after(alloc, store, stream.text)?;
-    run_again(alloc, store, stream)?;
-    is_after(alloc, store, stream.text)
-}
-
-/// Nothing where a store over the connection has what a run of the stream leaves, and answers the stream as that run.
-fn is_adopted<S: Alter + Drop>(
     alloc: Global,
     conn: Connection<S>,
     stream: &Stream<'_>,
 ) -> Result<(), Wrong>
     requires { conn.in_transaction ≡ false }
 {
-    let mut store = adopt(alloc, conn)?;
-    is_same(alloc, &mut store, stream)
+    let mut conn = conn;
+    is_after(alloc, &mut conn, stream.text)?;
+    let mut conn = run_again(alloc, conn, stream)?;
+    is_after(alloc, &mut conn, stream.text)
 }
 
 /// Goes on from what a crash left of the files: the plan is migrated, has what a run of the stream leaves, and answers
@@ -124,7 +111,7 @@ fn go_on<D: Crash + Drop>(
 ) -> Result<u32, Wrong> {
     let mut conn = connect_again(alloc, disks)?;
     let found = migrate_again(alloc, &mut conn)?;
-    is_adopted(alloc, conn, stream)?;
+    is_same(alloc, conn, stream)?;
     Ok(found)
 }
 

@@ -1,14 +1,11 @@
 //! A stream over files in memory of which one stops at some call, and the same stream run again over what a crash left.
 ghost use Rattle.std.specs.Prelude.{◌≡◌, false};
-ghost use Rattle.planner_machine.specs.Sound.{IsSound};
-ghost use Rattle.plan_store.specs.Contents.{content_of};
 
 use crate::disks::{MOST_CALLS, Stopping, new_disks};
-use crate::stores::{connect, is_after, let_go, open_again, run_again};
+use crate::stores::{connect, connect_again, is_after, run_again};
 use crate::streams::{Reached, Stream, Wrong};
 use plan_files::{Begun, Ended, Opening, Unrun, run_over_connection};
 use plan_store::StoreFault;
-use plan_tables::TableStore;
 use sqlite::{Alter, Connection, FileStore, Files};
 use sqlite_disk::{Crash, Disk};
 use std::alloc::{AllocError, Global};
@@ -102,34 +99,40 @@ fn run_first<D: Disk + Drop>(alloc: Global, disks: Files<D>, stream: &Stream<'_>
     }
 }
 
-/// Nothing where the store has what the first so many statements leave, or those and one more.
-fn is_after_count<S: Alter + Drop>(
+/// Nothing where the tables have what the first so many statements leave, or those and one more.
+fn is_after_count<S: Alter>(
     alloc: Global,
-    store: &TableStore<S>,
+    conn: &mut Connection<S>,
     stream: &Stream<'_>,
     count: usize,
-) -> Result<(), Wrong> {
+) -> Result<(), Wrong>
+    requires { conn.old.in_transaction ≡ false }
+    ensures { conn.new.in_transaction ≡ false }
+{
     let Some(answered) = stream.beginning(count) else {
         return Err("count");
     };
-    let wrong = is_after(alloc, store, answered);
+    let wrong = is_after(alloc, conn, answered);
     match stream.beginning(count.saturating_add(1)) {
-        Some(text) if wrong.is_err() => is_after(alloc, store, text),
+        Some(text) if wrong.is_err() => is_after(alloc, conn, text),
         Some(_) | None => wrong,
     }
 }
 
-/// Nothing where the store has what a run leaves that came so far.
-fn is_reached<S: Alter + Drop>(
+/// Nothing where the tables have what a run leaves that came so far.
+fn is_reached<S: Alter>(
     alloc: Global,
-    store: &TableStore<S>,
+    conn: &mut Connection<S>,
     stream: &Stream<'_>,
     how_far: Reached,
-) -> Result<(), Wrong> {
+) -> Result<(), Wrong>
+    requires { conn.old.in_transaction ≡ false }
+    ensures { conn.new.in_transaction ≡ false }
+{
     match how_far {
-        Reached::Nothing => is_after(alloc, store, &[]),
-        Reached::Answered(count) => is_after_count(alloc, store, stream, count),
-        Reached::End => is_after(alloc, store, stream.text),
+        Reached::Nothing => is_after(alloc, conn, &[]),
+        Reached::Answered(count) => is_after_count(alloc, conn, stream, count),
+        Reached::End => is_after(alloc, conn, stream.text),
         Reached::Wrong => Err("end"),
     }
 }
@@ -137,14 +140,15 @@ fn is_reached<S: Alter + Drop>(
 /// Looks at what a run left that came so far, and runs the whole stream again.
 fn go_on_over<S: Alter + Drop>(
     alloc: Global,
-    store: &mut TableStore<S>,
+    conn: Connection<S>,
     stream: &Stream<'_>,
     how_far: Reached,
-) -> Result<(), Wrong>
-    requires { IsSound (content_of store.old.lists) }
+) -> Result<Connection<S>, Wrong>
+    requires { conn.in_transaction ≡ false }
 {
-    is_reached(alloc, store, stream, how_far)?;
-    run_again(alloc, store, stream)
+    let mut conn = conn;
+    is_reached(alloc, &mut conn, stream, how_far)?;
+    run_again(alloc, conn, stream)
 }
 
 /// Looks at what a crash left of the files after a run that came so far, and runs the whole stream again; with the
@@ -155,11 +159,9 @@ fn go_on<D: Crash + Drop>(
     stream: &Stream<'_>,
     how_far: Reached,
 ) -> Result<Files<D>, Wrong> {
-    let mut store = open_again(alloc, disks)?;
-    let went_on = go_on_over(alloc, &mut store, stream, how_far);
-    let disks = let_go(store);
-    went_on?;
-    Ok(disks)
+    let conn = connect_again(alloc, disks)?;
+    let conn = go_on_over(alloc, conn, stream, how_far)?;
+    Ok(conn.into_store().close())
 }
 
 /// Looks at what a crash left of the files after the second run.
@@ -168,8 +170,8 @@ fn look_at_end<D: Crash + Drop>(
     disks: Files<D>,
     stream: &Stream<'_>,
 ) -> Result<(), Wrong> {
-    let store = open_again(alloc, disks)?;
-    is_after(alloc, &store, stream.text)
+    let mut conn = connect_again(alloc, disks)?;
+    is_after(alloc, &mut conn, stream.text)
 }
 
 /// Tries the stream over the files, of which one may stop; answers whether none did until they were closed.

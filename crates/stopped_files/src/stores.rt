@@ -2,8 +2,7 @@
 //! files that are named takes ten times as long.
 ghost use Rattle.std.specs.Prelude.{◌≡◌, false, IfOk};
 ghost use Rattle.sqlite.specs.Held.{IsNew};
-ghost use Rattle.planner_machine.specs.Sound.{IsSound};
-ghost use Rattle.plan_store.specs.Contents.{content_of};
+ghost use Rattle.plan_tables.specs.Adopted.{KeepsSound};
 
 use crate::disks::crashed;
 use crate::streams::{Stream, Wrong};
@@ -13,6 +12,7 @@ use planner_cli::run;
 use sqlite::{Alter, Connection, FileStore, Files, Options};
 use sqlite_disk::{Crash, Disk};
 use std::alloc::Global;
+use table_opening::open_content;
 
 /// A connection to the files; they come back where they are not opened.
 pub fn connect<D: Disk + Drop>(
@@ -43,10 +43,10 @@ pub fn connect_again<D: Crash + Drop>(
     }
 }
 
-/// A store over the connection.
-pub fn adopt<S: Alter + Drop>(alloc: Global, conn: Connection<S>) -> Result<TableStore<S>, Wrong>
+// A store over the connection.
+fn adopt<S: Alter + Drop>(alloc: Global, conn: Connection<S>) -> Result<TableStore<S>, Wrong>
     requires { conn.in_transaction ≡ false }
-    ensures { IfOk result (λ store. IsSound (content_of store.lists)) }
+    ensures { IfOk result KeepsSound }
 {
     match TableStore::adopt(alloc, conn) {
         Ok(store) => Ok(store),
@@ -54,45 +54,24 @@ pub fn adopt<S: Alter + Drop>(alloc: Global, conn: Connection<S>) -> Result<Tabl
     }
 }
 
-/// A store over what a crash left of the files.
-pub fn open_again<D: Crash + Drop>(
-    alloc: Global,
-    disks: Files<D>,
-) -> Result<TableStore<FileStore<D>>, Wrong>
-    ensures { IfOk result (λ store. IsSound (content_of store.lists)) }
+/// Nothing where the tables have what a run of the text over lists leaves.
+pub fn is_after<S: Alter>(alloc: Global, conn: &mut Connection<S>, text: &[u8]) -> Result<(), Wrong>
+    requires { conn.old.in_transaction ≡ false }
+    ensures { conn.new.in_transaction ≡ false }
 {
-    match connect_again(alloc, disks) {
-        Ok(conn) => adopt(alloc, conn),
-        Err(part) => Err(part),
+    match open_content(alloc, conn) {
+        Ok(content) => has_run(alloc, &content, text),
+        Err(_) => Err("content"),
     }
 }
 
-/// What the connection of a store was over.
-fn unconnected<S: Alter + Drop>(store: TableStore<S>) -> S {
-    store.into_connection().into_store()
-}
-
-/// The files of a store, which is let go.
-pub fn let_go<D: Disk + Drop>(store: TableStore<FileStore<D>>) -> Files<D> {
-    unconnected(store).close()
-}
-
-/// Nothing where the store has what a run of the text over lists leaves.
-pub fn is_after<S: Alter + Drop>(
-    alloc: Global,
-    store: &TableStore<S>,
-    text: &[u8],
-) -> Result<(), Wrong> {
-    has_run(alloc, store.content(), text)
-}
-
-/// Runs the whole stream over what a first run left.
-pub fn run_again<S: Alter + Drop>(
+// Runs the whole stream over what a store has.
+fn run_whole<S: Alter + Drop>(
     alloc: Global,
     store: &mut TableStore<S>,
     stream: &Stream<'_>,
 ) -> Result<(), Wrong>
-    requires { IsSound (content_of store.old.lists) }
+    requires { KeepsSound store.old }
 {
     let mut left = stream.text;
     let mut written = Vec::new(alloc);
@@ -101,4 +80,20 @@ pub fn run_again<S: Alter + Drop>(
         Ok(_) => Err("second run's answer"),
         Err(_) => Err("second run's end"),
     }
+}
+
+/// Runs the whole stream over what a first run left.
+pub fn run_again<S: Alter + Drop>(
+    alloc: Global,
+    conn: Connection<S>,
+    stream: &Stream<'_>,
+) -> Result<Connection<S>, Wrong>
+    requires { conn.in_transaction ≡ false }
+    ensures { IfOk result (λ conn. conn.in_transaction ≡ false) }
+{
+    let mut store = adopt(alloc, conn)?;
+    let ended = run_whole(alloc, &mut store, stream);
+    let conn = store.into_connection();
+    ended?;
+    Ok(conn)
 }

@@ -17,12 +17,13 @@ use Rattle.sqlite_keyed.proofs.ListLemmas.{map-map}
 use Rattle.table_lookups.specs.Looks.{question}
 use Rattle.table_lookups.specs.Question.{Answers, Question, order_cmp, order_keys, order_values, passes}
 use Rattle.table_lookups.specs.declared.looks.Look.{Look}
-use Rattle.table_lookups.specs.declared.looks.Look.TheVariants.{InHistory}
+use Rattle.table_lookups.specs.declared.looks.Look.TheVariants.{InHistory, Whole}
 use Rattle.table_lookups.proofs.LookFits.{placed, query_to, tested}
 use Rattle.table_lookups.proofs.QuestionMeanings.{test_term}
 use Rattle.table_lookups.proofs.SortMeanings.{sort_term}
 use Rattle.table_schema.specs.Cells.{select_terms}
 use Rattle.table_schema.specs.Rows.{Tables, shown}
+use Rattle.table_schema.specs.declared.tables.Table.TheVariants.{Meta}
 
 pub staged_is : (p : Row → Bool) (e : Row → Env) (xs : List Row) → flat_map (λ r. cond (p r) (e r ∷ []) []) xs ≡ map e
     (filter p xs)
@@ -60,6 +61,7 @@ passes_shown look asked r = refl
 shown_same : (look : Look) (asked r : Row)
     → eval_all (select_terms (question look).table) (asked ∷ r ∷ []) ≡ shown (question look).table r
 shown_same InHistory asked r = refl
+shown_same (Whole Meta) asked r = refl
 shown_same look asked r = refl
 
 sorts_shown : (look : Look) (asked r : Row)

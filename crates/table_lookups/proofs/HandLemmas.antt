@@ -1,5 +1,6 @@
 -- Rows that are handed out.
-use Rattle.std.proofs.Common.{◌≡◌, ◌≤◌, List, [], ◌∷◌, ◌++◌, refl, sym, ap, subst}
+use Rattle.std.proofs.Common.{◌≡◌, ◌≤◌, true, List, [], ◌∷◌, ◌++◌, map, refl, sym, ap, subst}
+use Rattle.std.specs.List.Sorted.{IsPermutation}
 use Rattle.sqlite.specs.Effect.{Database, IsDatabase}
 use Rattle.sqlite.specs.Given.{HasBegun, HasGiven}
 use Rattle.sqlite.specs.Held.{Held, state}
@@ -8,13 +9,17 @@ use Rattle.sqlite.specs.State.{FailsToQuery, IsLive, IsUnchanged, Shown, State}
 use Rattle.sqlite.specs.declared.error.Error.{Error}
 use Rattle.sqlite.proofs.Callers.{begun_plain, given_begin}
 use Rattle.sqlite_trees.specs.declared.store.Store as store
-use Rattle.table_lookups.specs.Handing.{TakesAll}
+use Rattle.sqlite_keyed.proofs.ListLemmas.{all_of, filter_all}
+use Rattle.table_lookups.specs.Handing.{HandsAll, HandsPart, TakesAll}
 use Rattle.table_lookups.specs.Looks.{AreAsked, look_sql, question}
 use Rattle.table_lookups.specs.Question.{Answers}
+use Rattle.table_lookups.specs.declared.handing.HandFault.{HandFault}
 use Rattle.table_lookups.specs.declared.looks.Look.{Look}
+use Rattle.table_lookups.specs.declared.looks.Look.TheVariants.{Whole}
 use Rattle.table_lookups.proofs.AskLemmas.{answered, begun, fails, plain}
-use Rattle.table_schema.specs.Rows.{MayFail, tables_of}
+use Rattle.table_schema.specs.Rows.{MayFail, Tables, shown, tables_of}
 use Rattle.table_schema.specs.Schema.{HasTables}
+use Rattle.table_schema.specs.declared.tables.Table.{Table}
 use Rattle.table_schema.proofs.StatementLemmas.{moved}
 use Rattle.table_schema.proofs.StopLemmas.{vain_since}
 
@@ -26,10 +31,10 @@ module _ {K : Type 0} (Takes : K → Values → K → Type 0) where
 
 -- a connection that is unchanged is as it was to one who asks
 module _ (first now : State) (same : IsUnchanged first now) where
-  has_still : HasTables first.now.schema → HasTables now.now.schema
+  pub has_still : HasTables first.now.schema → HasTables now.now.schema
   has_still = moved first.now.schema now.now.schema (sym (ap (λ (d : Database). d.schema) same.0.now_is))
 
-  live_still : IsLive first → IsLive now
+  pub live_still : IsLive first → IsLive now
   live_still live opened =
       let was = live same.0.was_open in
       (subst IsDatabase (sym same.0.now_is) was.0, subst IsDatabase (sym same.0.committed_is) was.1)
@@ -73,3 +78,28 @@ module _ {S : Type 0} (g : store.Ghosts S) (look : Look) (asked : Values) where
         → AreAsked look asked → FailsToQuery (look_sql look) asked (state g h) new e → MayFail first new e
     fails_then new e more limit given it = fails_since first (state g h) same new e more limit
         (fails look asked (state g h) new (has_still first (state g h) same has) given e it)
+
+-- what is handed out of a question of all rows is a table's rows
+module _ (t : Table) (asked : Values) (all : Tables) where
+  abbrev IsTable : List Values → Type 0
+  IsTable = IsPermutation (map (shown t) (all t))
+
+  of_table : (rows : List Values) → Answers (question (Whole t)) asked all rows → IsTable rows
+  of_table rows a =
+      let every = map (shown t) (all t) in
+      subst (IsPermutation every) (sym a.is) (subst (λ xs. IsPermutation xs a.ordered)
+      (filter_all (λ _. true) every (all_of _ (λ _. refl) every)) a.same)
+
+  module _ {K : Type 0} (Takes Refuses : K → Values → K → Type 0) (old new : K) where
+    pub table_handed : HandsAll Takes (Answers (question (Whole t)) asked all) old new → HandsAll Takes IsTable old new
+    table_handed h = record { rows = h.rows; whole = of_table h.rows h.whole; taken = h.taken }
+
+    pub table_parted : (fault : HandFault)
+        → HandsPart Takes Refuses (Answers (question (Whole t)) asked all) old new fault
+        → HandsPart Takes Refuses IsTable old new fault
+    table_parted fault h = record {
+      done = h.done;
+      rest = h.rest;
+      whole = of_table (h.done ++ h.rest) h.whole;
+      ends = h.ends;
+    }

@@ -14,3 +14,4 @@ pub mod HandLemmas
 pub mod LastLemmas
 pub mod CountTexts
 pub mod CountLemmas
+pub mod SomeAnswer

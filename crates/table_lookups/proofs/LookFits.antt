@@ -1,6 +1,6 @@
 -- What is asked of each table fits it.
-use Rattle.std.proofs.Common.{◌≡◌, ℕ, zero, ◌+◌, ◌^◌, ◌==◌, nat_le, Bool, true, false, find, List, [], length, map}
-use Rattle.std.proofs.Common.{refl, slice_get, Some, None, arith, pos}
+use Rattle.std.proofs.Common.{◌≡◌, ℕ, zero, ◌+◌, ◌^◌, ◌==◌, nat_le, Bool, true, false, find, List, [], ◌∷◌, length, map}
+use Rattle.std.proofs.Common.{refl, slice_get, Option, Some, None, is_some, ◌&&◌, ◌<◌, arith, pos}
 use Rattle.sqlite.specs.Query.{Query, inner, end}
 use Rattle.sqlite.specs.Term.{col, lit}
 use Rattle.sqlite.specs.Order.{Row}
@@ -24,7 +24,7 @@ use Rattle.table_lookups.specs.declared.looks.Look.{Look}
 use Rattle.table_lookups.specs.declared.looks.Look.TheVariants.{InHistory, InDeletions, PairsOf, LastOf, DeletedFrom}
 use Rattle.table_lookups.specs.declared.looks.Look.TheVariants.{JobOf}
 use Rattle.table_lookups.specs.declared.looks.Look.TheVariants.{HistoryListed, HistoryOf, DeletionsListed}
-use Rattle.table_lookups.specs.declared.looks.Look.TheVariants.{DeletionsOf, PairsListed}
+use Rattle.table_lookups.specs.declared.looks.Look.TheVariants.{DeletionsOf, PairsListed, Whole}
 use Rattle.table_lookups.proofs.LookTexts.{asked_with}
 use Rattle.table_lookups.proofs.QuestionMeanings.{IsAbout, test_term}
 use Rattle.table_lookups.proofs.SortMeanings.{IsPlaced, limit_term, sort_term}
@@ -34,7 +34,8 @@ use Rattle.table_schema.specs.Form.{has_rowid}
 use Rattle.table_schema.specs.Forms.{form}
 use Rattle.table_schema.specs.Schema.{table_at}
 use Rattle.table_schema.specs.declared.tables.Table.{Table}
-use Rattle.table_schema.proofs.WrittenQueries.{shown_as}
+use Rattle.table_schema.specs.declared.tables.Table.TheVariants.{Meta}
+use Rattle.table_schema.proofs.WrittenQueries.{HasColumns, IfFound, has_all, is_there, shown_as}
 use Rattle.table_schema.proofs.WrittenTests.{affinity_at}
 
 abbrev pub row_place_by : Bool → ℕ → ℕ
@@ -96,6 +97,35 @@ is_placed k c named has there collated bare = record {
   alone = collated;
   bare = bare;
 }
+
+both : (a b : Bool) → (a && b) ≡ true → (a ≡ true) × (b ≡ true)
+both true b h = (refl, h)
+both false b h = absurd (cc)
+
+kept : (o : Option Column) → is_some o ≡ true → IfFound o (λ c. Unit {0})
+kept (Some c) h = tt
+kept None h = absurd (cc)
+
+there : (table : Described) (o : Option ℕ) → is_there table o ≡ true
+    → IfFound o (λ k. IfFound (slice_get table.columns k) (λ c. Unit {0}))
+there table (Some k) h = kept (slice_get table.columns k) h
+there table None h = absurd (cc)
+
+all_there : (table : Described) (ns : List (List ℕ)) → has_all table ns ≡ true → HasColumns table ns
+all_there table [] h = tt
+all_there table (n ∷ ns) h =
+    let parts = both (is_there table (column_named table n)) (has_all table ns) h in
+    (there table (column_named table n) parts.0, all_there table ns parts.1)
+
+-- a table has all its columns
+has_own : (tree : ℕ) (t : Table) → has_all (table_at tree t) (column_names t) ≡ true
+unfolding everything
+has_own tree Meta = refl
+has_own tree t = refl
+
+few_own : (t : Table) → length (column_names t) < 1000
+few_own Meta = omega arith
+few_own t = omega arith
 
 pub look_fits : (tree : ℕ) (look : Look) → Fits tree (question look)
 unfolding everything
@@ -232,6 +262,28 @@ look_fits tree PairsListed = record {
   terms = refl;
   names = refl;
 }
+look_fits tree (Whole Meta) = record {
+  about = record {
+    has = all_there (table_at tree Meta) (column_names Meta) (has_own tree Meta);
+    few = few_own Meta;
+    tests = tt;
+    order = tt;
+    short = omega arith;
+  };
+  terms = refl;
+  names = refl;
+}
+look_fits tree (Whole t) = record {
+  about = record {
+    has = all_there (table_at tree t) (column_names t) (has_own tree t);
+    few = few_own t;
+    tests = tt;
+    order = tt;
+    short = omega arith;
+  };
+  terms = refl;
+  names = refl;
+}
 
 pub look_accepted : (schema : Schema) (tree : ℕ) (look : Look) → nat_le (2 ^ 31) tree ≡ false
     → find (λ o. o.tree == tree) schema.tables ≡ Some (table_at tree (question look).table)
@@ -239,6 +291,7 @@ pub look_accepted : (schema : Schema) (tree : ℕ) (look : Look) → nat_le (2 ^
 unfolding everything
 look_accepted schema tree JobOf stored found = rw (stored, found) refl
 look_accepted schema tree LastOf stored found = rw (stored, found) refl
+look_accepted schema tree (Whole Meta) stored found = rw (stored, found) refl
 look_accepted schema tree look stored found = rw (stored, found) refl
 
 -- where such values are given, the types fit
@@ -258,3 +311,5 @@ look_takes schema tree HistoryOf stored found asked (n, is) = rw is (refl, rw (s
 look_takes schema tree DeletionsListed stored found asked is = rw is (refl, rw (stored, found) refl)
 look_takes schema tree DeletionsOf stored found asked (n, is) = rw is (refl, rw (stored, found) refl)
 look_takes schema tree PairsListed stored found asked is = rw is (refl, rw (stored, found) refl)
+look_takes schema tree (Whole Meta) stored found asked is = rw is (refl, rw (stored, found) refl)
+look_takes schema tree (Whole t) stored found asked is = rw is (refl, rw (stored, found) refl)

@@ -1,5 +1,5 @@
 -- What becomes of a sink that is handed rows one after another.
-use Rattle.std.specs.Prelude.{◌≡◌, ◌⊎◌, List, [], ◌∷◌, ◌++◌}
+use Rattle.std.specs.Prelude.{◌≡◌, List, [], ◌∷◌, ◌++◌}
 use Rattle.sqlite.specs.Order.{Row as Values}
 use Rattle.sqlite.specs.State.{IsUnchanged, State}
 use Rattle.table_lookups.specs.declared.handing.HandFault.{HandFault}
@@ -30,7 +30,7 @@ pub record HandsPart {K : Type 0} (Takes Refuses : K → Values → K → Type 0
     (old new : K) (fault : HandFault) : Type 0 where
   pub done : List Values
   pub rest : List Values
-  pub whole : (done ≡ []) ⊎ IsWhole (done ++ rest)
+  pub whole : IsWhole (done ++ rest)
   pub ends : EndsSo Takes Refuses old done rest new fault
 
 -- why not all rows were handed out: for one of the common causes; or the sink refused a row, and nothing is changed

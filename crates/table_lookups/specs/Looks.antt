@@ -9,7 +9,7 @@ use Rattle.table_lookups.specs.declared.looks.Look.{Look}
 use Rattle.table_lookups.specs.declared.looks.Look.TheVariants.{InHistory, InDeletions, PairsOf, LastOf, DeletedFrom}
 use Rattle.table_lookups.specs.declared.looks.Look.TheVariants.{JobOf}
 use Rattle.table_lookups.specs.declared.looks.Look.TheVariants.{HistoryListed, HistoryOf, DeletionsListed}
-use Rattle.table_lookups.specs.declared.looks.Look.TheVariants.{DeletionsOf, PairsListed}
+use Rattle.table_lookups.specs.declared.looks.Look.TheVariants.{DeletionsOf, PairsListed, Whole}
 use Rattle.table_schema.specs.declared.tables.Table.{Table}
 use Rattle.table_schema.specs.declared.tables.Table.TheVariants.{History, Deletion, Dependency, Job}
 
@@ -56,6 +56,7 @@ question PairsListed = record {
   order = rising (codes "successor") ∷ rising (codes "predecessor") ∷ [];
   is_one = false;
 }
+question (Whole t) = those t []
 
 abbrev pub look_sql : Look → List ℕ
 look_sql look = question_text (question look)
@@ -66,6 +67,7 @@ AreAsked LastOf asked = (app : List ℕ) × (moment : ℤ) × (asked ≡ Text ap
 AreAsked HistoryListed asked = asked ≡ []
 AreAsked DeletionsListed asked = asked ≡ []
 AreAsked PairsListed asked = asked ≡ []
+AreAsked (Whole t) asked = asked ≡ []
 AreAsked HistoryOf asked = (app : List ℕ) × (asked ≡ Text app ∷ [])
 AreAsked DeletionsOf asked = (app : List ℕ) × (asked ≡ Text app ∷ [])
 AreAsked look asked = (number : ℤ) × (asked ≡ Int number ∷ [])

@@ -12,6 +12,7 @@ ghost use Rattle.table_schema.specs.Schema.{HasTables};
 use crate::looks::Look;
 use sqlite::types::ValueRef;
 use sqlite::{Alter, Connection, Error, Row};
+use table_schema::select_text;
 
 /// The text that asks.
 pub(crate) fn look_text(look: Look) -> &'static str
@@ -51,6 +52,7 @@ pub(crate) fn look_text(look: Look) -> &'static str
         Look::PairsListed => {
             "SELECT successor, predecessor FROM dependency ORDER BY successor, predecessor"
         }
+        Look::Whole(table) => select_text(table),
     }
 }
 

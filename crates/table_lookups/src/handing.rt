@@ -1,6 +1,7 @@
 // Rows are handed out one at a time.
 
-ghost use Rattle.std.specs.Prelude.{◌≡◌, false, IfErr, OnErr, OnOk};
+ghost use Rattle.std.specs.Prelude.{◌≡◌, false, map, IfErr, OnErr, OnOk};
+ghost use Rattle.std.specs.List.Sorted.{IsPermutation};
 ghost use Rattle.sqlite.specs.Order.{Row as Values};
 ghost use Rattle.sqlite.specs.State.{HasCleanDisk, IsUnchanged, Survives};
 ghost use Rattle.sqlite.specs.Held.{state};
@@ -8,13 +9,14 @@ ghost use Rattle.sqlite.specs.Values.{bound};
 ghost use Rattle.table_lookups.specs.Handing.{HandsAll, HandsPart, StopsFor};
 ghost use Rattle.table_lookups.specs.Looks.{AreAsked, question};
 ghost use Rattle.table_lookups.specs.Question.{Answers};
-ghost use Rattle.table_schema.specs.Rows.{StaysOrIsUndone, tables_of};
+ghost use Rattle.table_schema.specs.Rows.{StaysOrIsUndone, shown, tables_of};
 ghost use Rattle.table_schema.specs.Schema.{HasTables};
 
 use crate::asking::look_text;
 use crate::looks::Look;
 use sqlite::types::ValueRef;
 use sqlite::{Alter, Connection, Error, ErrorCode, Row};
+use table_schema::Table;
 
 /// A sink refused a row.
 #[derive(Clone, Copy, Debug, PartialEq, Eq)]
@@ -91,4 +93,36 @@ pub fn hand<S: Alter, K: ValuesSink>(
     }
     // no memory has so many rows
     Err(HandFault::Store(Error::SqliteFailure(ErrorCode::OutOfMemory)))
+}
+
+/// Hands out all rows of the table, each before the next is read, in no order. It fails as `hand` does.
+pub fn hand_all<S: Alter, K: ValuesSink>(
+    conn: &mut Connection<S>,
+    table: Table,
+    sink: &mut K,
+) -> Result<(), HandFault>
+    ensures all { HasCleanDisk (state S.Store conn.new)
+        → HasTables (state S.Store conn.old).now.schema
+        → OnOk result (HandsAll K.takes (IsPermutation
+        (map (shown table) (tables_of (state S.Store conn.old).now.trees table)))
+        sink.old sink.new) }
+    ensures part { HasCleanDisk (state S.Store conn.new)
+        → HasTables (state S.Store conn.old).now.schema
+        → IfErr result (HandsPart K.takes K.refuses (IsPermutation
+        (map (shown table) (tables_of (state S.Store conn.old).now.trees table)))
+        sink.old sink.new) }
+    ensures same { HasCleanDisk (state S.Store conn.new)
+        → HasTables (state S.Store conn.old).now.schema
+        → OnOk result (IsUnchanged (state S.Store conn.old) (state S.Store conn.new)) }
+    ensures fails { HasCleanDisk (state S.Store conn.new)
+        → HasTables (state S.Store conn.old).now.schema
+        → IfErr result (StopsFor (state S.Store conn.old) (state S.Store conn.new)) }
+    ensures leaves { HasCleanDisk (state S.Store conn.new)
+        → HasTables (state S.Store conn.old).now.schema
+        → StaysOrIsUndone (state S.Store conn.old) (state S.Store conn.new) }
+    ensures mode { conn.old.in_transaction ≡ false → conn.new.in_transaction ≡ false }
+    ensures survives { Survives (state S.Store conn.old) (state S.Store conn.new)
+        (λ _. HasTables (state S.Store conn.old).now.schema → ⊥) }
+{
+    hand(conn, Look::Whole(table), &[], sink)
 }

@@ -12,6 +12,6 @@ pub use finding::{
     deletion_of_serial, history_of_serial, job_of_number, last_of, operator_deletions_from,
     pairs_of_successor,
 };
-pub use handing::{HandFault, SinkFault, ValuesSink, hand};
+pub use handing::{HandFault, SinkFault, ValuesSink, hand, hand_all};
 pub use looks::Look;
 pub use sizes::size_of;

@@ -1,5 +1,7 @@
 // What is asked of the tables.
 
+use table_schema::Table;
+
 /// A question to one table.
 #[derive(Clone, Copy, Debug, PartialEq, Eq)]
 pub enum Look {
@@ -25,4 +27,6 @@ pub enum Look {
     DeletionsOf,
     /// The pairs, by successor and predecessor.
     PairsListed,
+    /// All rows of a table, in no order.
+    Whole(Table),
 }

@@ -4,6 +4,7 @@ pub mod FactLemmas
 pub mod MadeLemmas
 pub mod LookLemmas
 pub mod TableLemmas
+pub mod CollectLemmas
 pub mod OrderLemmas
 pub mod LineLemmas
 pub mod AnswerLemmas
@@ -11,3 +12,4 @@ pub mod LinkLemmas
 pub mod RowidLemmas
 mod PairLemmas
 mod PairTexts
+mod PairHandLemmas

@@ -3,11 +3,11 @@
 
 mod answers;
 mod cells;
+mod collecting;
 mod contents;
 mod jobs;
 mod links;
 mod lists;
-mod loops;
 mod meta;
 mod order;
 mod pairs;

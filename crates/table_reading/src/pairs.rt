@@ -1,10 +1,12 @@
 // The pairs, read with the rowids of their rows.
 
-ghost use Rattle.std.specs.Prelude.{◌≡◌, false, is_ok, map, None, IfErr, IfOk, IfSome};
+ghost use Rattle.std.specs.Prelude.{◌≡◌, false, is_ok, map, None, IfErr, IfOk, IfSome, OnOk};
 ghost use Rattle.std.specs.List.Sorted.{IsPermutation};
-ghost use Rattle.sqlite.specs.State.{HasCleanDisk};
+ghost use Rattle.sqlite.specs.State.{HasCleanDisk, IsUnchanged, Survives};
 ghost use Rattle.sqlite.specs.Held.{state};
-ghost use Rattle.table_schema.specs.Rows.{MayFail, tables_of};
+ghost use Rattle.table_lookups.specs.Handing.{HandsAll, HandsPart, StopsFor};
+ghost use Rattle.table_schema.specs.Rows.{MayFail, StaysOrIsUndone, tables_of};
+ghost use Rattle.table_schema.specs.Schema.{HasTables};
 ghost use Rattle.table_schema.specs.declared.tables.Table.TheVariants.{Dependency};
 ghost use Rattle.table_facts.specs.Facts.{pair_values};
 ghost use Rattle.table_reading.specs.Cells.{IsPair};
@@ -15,12 +17,13 @@ ghost use Rattle.table_reading.specs.Rowids.{pair_shown, pair_sql};
 ghost use Rattle.table_reading.specs.declared.pairs.PairRow.{PairRow as PairRowValue};
 
 use crate::cells::{integer_at, serial_at};
-use crate::loops::tell_each;
+use crate::collecting::Collector;
 use crate::order::{Numbered, place_of};
 use crate::told::Told;
 use external_dependencies::Pair;
-use sqlite::{Alter, Connection, Error, Row as Cells};
+use sqlite::{Alter, Connection, Error, ErrorCode, Row as Cells};
 use std::alloc::{AllocError, Global};
+use table_lookups::{HandFault, SinkFault, ValuesSink};
 
 /// A pair, and the rowid of its row.
 #[derive(Drop)]
@@ -75,22 +78,57 @@ fn pair_text() -> &'static str
     "SELECT successor, predecessor, rowid FROM dependency"
 }
 
-// The pairs and the rowids of their rows, in some order.
-fn select_pairs<S: Alter>(conn: &mut Connection<S>) -> Result<Vec<Cells>, Error>
-    ensures rows { HasCleanDisk (state S.Store conn.new) → HasPlan (state S.Store conn.old)
-        → IfOk result (λ rows. IsPermutation (map pair_shown
-        (tables_of (state S.Store conn.old).now.trees Dependency)) rows.items) }
-    ensures looks { Looks (state S.Store conn.old) (state S.Store conn.new) (is_ok result) }
-    ensures fails { HasCleanDisk (state S.Store conn.new) → HasPlan (state S.Store conn.old)
-        → IfErr result (MayFail (state S.Store conn.old) (state S.Store conn.new)) }
+// Hands out the pairs and the rowids of their rows, each before the next is read, in no order.
+fn hand_pairs<S: Alter, K: ValuesSink>(
+    conn: &mut Connection<S>,
+    sink: &mut K,
+) -> Result<(), HandFault>
+    ensures all { HasCleanDisk (state S.Store conn.new)
+        → HasTables (state S.Store conn.old).now.schema
+        → OnOk result (HandsAll K.takes (IsPermutation
+        (map pair_shown (tables_of (state S.Store conn.old).now.trees Dependency)))
+        sink.old sink.new) }
+    ensures part { HasCleanDisk (state S.Store conn.new)
+        → HasTables (state S.Store conn.old).now.schema
+        → IfErr result (HandsPart K.takes K.refuses (IsPermutation
+        (map pair_shown (tables_of (state S.Store conn.old).now.trees Dependency)))
+        sink.old sink.new) }
+    ensures same { HasCleanDisk (state S.Store conn.new)
+        → HasTables (state S.Store conn.old).now.schema
+        → OnOk result (IsUnchanged (state S.Store conn.old) (state S.Store conn.new)) }
+    ensures fails { HasCleanDisk (state S.Store conn.new)
+        → HasTables (state S.Store conn.old).now.schema
+        → IfErr result (StopsFor (state S.Store conn.old) (state S.Store conn.new)) }
+    ensures leaves { HasCleanDisk (state S.Store conn.new)
+        → HasTables (state S.Store conn.old).now.schema
+        → StaysOrIsUndone (state S.Store conn.old) (state S.Store conn.new) }
     ensures mode { conn.old.in_transaction ≡ false → conn.new.in_transaction ≡ false }
+    ensures survives { Survives (state S.Store conn.old) (state S.Store conn.new)
+        (λ _. HasTables (state S.Store conn.old).now.schema → ⊥) }
 {
     // its clause says that an open connection has a database
     let _ = conn.schema();
-    conn.query_all(pair_text(), &[])
+    let mut rows = match conn.query(pair_text(), &[]) {
+        Ok(rows) => rows,
+        Err(error) => return Err(HandFault::Store(error)),
+    };
+    'rows: for _ in 0..u64::MAX {
+        if let Err(error) = rows.advance() {
+            return Err(HandFault::Store(error));
+        }
+        let Some(row) = rows.get() else {
+            return Ok(());
+        };
+        if let Err(SinkFault) = sink.take(row) {
+            return Err(HandFault::Sink);
+        }
+    }
+    // no memory has so many rows
+    Err(HandFault::Store(Error::SqliteFailure(ErrorCode::OutOfMemory)))
 }
 
 /// What the rows of the pairs tell.
+#[tactic(auto, unfolding(crate::specs::Reading::HasPlan))]
 pub(crate) fn read_pairs<S: Alter>(
     alloc: Global,
     conn: &mut Connection<S>,
@@ -108,8 +146,17 @@ pub(crate) fn read_pairs<S: Alter>(
         → IfErr result (MayFail (state S.Store conn.old) (state S.Store conn.new)) }
     ensures mode { conn.old.in_transaction ≡ false → conn.new.in_transaction ≡ false }
 {
-    let rows = select_pairs(conn)?;
-    Ok(tell_each(alloc, &rows)?)
+    let mut told: Collector<PairRow> = Collector {
+        alloc,
+        xs: Vec::new(alloc),
+        is_short: false,
+    };
+    match hand_pairs(conn, &mut told) {
+        Ok(()) => Ok(Some(told.xs)),
+        Err(HandFault::Store(error)) => Err(error),
+        Err(HandFault::Sink) if told.is_short => Err(Error::from(AllocError)),
+        Err(HandFault::Sink) => Ok(None),
+    }
 }
 
 /// Their pairs alone.

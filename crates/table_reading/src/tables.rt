@@ -10,12 +10,13 @@ ghost use Rattle.table_reading.specs.Order.{NumbersRise};
 ghost use Rattle.table_reading.specs.Tables.{IsOneOf, ShowsOnly};
 ghost use Rattle.table_reading.specs.Readable.{ShowsEach, ShowsEachOnce, ShowsNumbers};
 
-use crate::loops::tell_each;
+use crate::collecting::Collector;
 use crate::order::{Numbered, in_order};
 use crate::told::Told;
 use sqlite::{Alter, Connection, Error};
-use std::alloc::Global;
-use table_schema::{Table, select};
+use std::alloc::{AllocError, Global};
+use table_lookups::{HandFault, hand_all};
+use table_schema::Table;
 
 /// What the rows of the table tell.
 #[tactic(auto, unfolding(crate::specs::Reading::HasPlan))]
@@ -40,8 +41,17 @@ pub(crate) fn read_table<X: Told + Drop, S: Alter>(
         → IfErr result (MayFail (state S.Store conn.old) (state S.Store conn.new)) }
     ensures mode { conn.old.in_transaction ≡ false → conn.new.in_transaction ≡ false }
 {
-    let rows = select(conn, table)?;
-    Ok(tell_each(alloc, &rows)?)
+    let mut told: Collector<X> = Collector {
+        alloc,
+        xs: Vec::new(alloc),
+        is_short: false,
+    };
+    match hand_all(conn, table, &mut told) {
+        Ok(()) => Ok(Some(told.xs)),
+        Err(HandFault::Store(error)) => Err(error),
+        Err(HandFault::Sink) if told.is_short => Err(Error::from(AllocError)),
+        Err(HandFault::Sink) => Ok(None),
+    }
 }
 
 /// What the rows of the table tell, in the order of their numbers, where no two have the same. Numbers that are shown as

@@ -3,4 +3,6 @@
 #![tactic(auto)]
 
 #[cfg(test)]
+mod facts;
+#[cfg(test)]
 mod lookups;

@@ -7,8 +7,9 @@ use std::alloc::Global;
 use std::process::Abort;
 use std::test::Fail;
 use table_lookups::{
-    HandFault, Look, SinkFault, ValuesSink, ask, deletion_of_serial, hand, history_of_serial,
-    job_of_number, last_of, operator_deletions_from, pairs_of_successor, size_of,
+    HandFault, Look, SinkFault, ValuesSink, ask, deletion_of_serial, hand, hand_all,
+    history_of_serial, job_of_number, last_of, operator_deletions_from, pairs_of_successor,
+    size_of,
 };
 use table_schema::{Table, make_tables};
 
@@ -44,11 +45,16 @@ fn first_number(row: &Row) -> u64 {
     row.get::<u64>(0).unwrap_or(0)
 }
 
+/// The first number of a row, as a digit of its own place.
+fn place_of(row: &Row) -> u64 {
+    10u64.wrapping_pow((first_number(row) % 10) as u32)
+}
+
 /// The first numbers of rows, added up, each as a digit of its own place.
 fn places_of(rows: &[Row]) -> u64 {
     let mut number: u64 = 0;
     for row in rows {
-        number = number.wrapping_add(10u64.wrapping_pow((first_number(row) % 10) as u32));
+        number = number.wrapping_add(place_of(row));
     }
     number
 }
@@ -70,6 +76,23 @@ impl ValuesSink for Digits {
             return Err(SinkFault);
         }
         self.number = with_digit(self.number, first_number(row));
+        Ok(())
+    }
+}
+
+/// The first numbers of the rows that it takes, added up, each as a digit of its own place.
+#[derive(Drop)]
+struct Places {
+    number: u64,
+}
+
+impl ValuesSink for Places {
+    ghost takes = { λ old row new. ⊤ };
+
+    ghost refuses = { λ old row new. ⊤ };
+
+    fn take(&mut self, row: &Row) -> Result<(), SinkFault> {
+        self.number = self.number.wrapping_add(place_of(row));
         Ok(())
     }
 }
@@ -156,6 +179,30 @@ fn try_lists(rt: &impl Abort, conn: &mut Connection<MemStore>) {
 fn rows_are_handed_out(rt: HostRuntime) -> Result<(), Fail> {
     let mut conn = plan(rt.alloc())?;
     try_lists(&rt, &mut conn);
+    Ok(())
+}
+
+/// The first numbers of all rows of the table that are handed out, each as a digit of its own place.
+fn places_handed(conn: &mut Connection<MemStore>, table: Table) -> u64 {
+    let mut places = Places { number: 0 };
+    match hand_all(conn, table, &mut places) {
+        Ok(()) => places.number,
+        Err(_) => u64::MAX,
+    }
+}
+
+#[test]
+fn whole_tables_are_handed_out(rt: HostRuntime) -> Result<(), Fail> {
+    let mut conn = plan(rt.alloc())?;
+    for (table, wanted) in [
+        (Table::History, 111_110),
+        (Table::Deletion, 1_111_001_000),
+        (Table::Dependency, 21_100),
+        (Table::Job, 10_000_010),
+        (Table::Current, 0),
+    ] {
+        assert_eq!(rt; places_handed(&mut conn, table), wanted, "{table:?}");
+    }
     Ok(())
 }
 

@@ -1,7 +1,6 @@
 //! A stream over a store on tables in memory, beside one of lists.
 ghost use Rattle.std.specs.Prelude.{◌≡◌, false, IfOk};
-ghost use Rattle.planner_machine.specs.Sound.{IsSound};
-ghost use Rattle.plan_store.specs.Contents.{content_of};
+ghost use Rattle.plan_tables.specs.Adopted.{KeepsSound};
 
 use crate::trials::Answered;
 use content_differences::has_run;
@@ -10,7 +9,7 @@ use planner_cli::{exit_status, run};
 use sqlite::{Alter, Connection, MemStore};
 use std::alloc::Global;
 use stopped_files::middle_of;
-use table_opening::OpenFault;
+use table_opening::{OpenFault, open_content};
 
 /// The exit status after a fault.
 const FAILED: u8 = 8;
@@ -31,7 +30,7 @@ fn run_part<S: Alter + Drop>(
     text: &[u8],
     replies: &mut Vec<u8>,
 ) -> (Connection<S>, u8)
-    requires { IsSound (content_of store.lists) }
+    requires { KeepsSound store }
     ensures { result.0.in_transaction ≡ false }
 {
     let mut store = store;
@@ -57,7 +56,7 @@ fn begin_tables(
 /// Takes tables up.
 fn take_up<S: Alter + Drop>(alloc: Global, conn: Connection<S>) -> Result<TableStore<S>, OpenFault>
     requires { conn.in_transaction ≡ false }
-    ensures { IfOk result (λ store. IsSound (content_of store.lists)) }
+    ensures { IfOk result KeepsSound }
 {
     match TableStore::adopt(alloc, conn) {
         Ok(store) => Ok(store),
@@ -107,8 +106,9 @@ fn unlike_lists<S: Alter + Drop>(
 ) -> Result<Option<&'static str>, OpenFault>
     requires { conn.in_transaction ≡ false }
 {
-    let store = take_up(alloc, conn)?;
-    Ok(has_run(alloc, store.content(), text).err())
+    let mut conn = conn;
+    let content = open_content(alloc, &mut conn)?;
+    Ok(has_run(alloc, &content, text).err())
 }
 
 /// Runs a stream over tables in memory, which are let go and taken up again in its midst and behind it, and holds the

@@ -2,6 +2,7 @@ use Rattle.std.proofs.Common.{arith, refl}
 use Rattle.sqlite.specs.Files.{file_state}
 use Rattle.sqlite.specs.State.{HasCleanDisk}
 use Rattle.plan_store.specs.Contents.{content_of}
+use Rattle.plan_tables.specs.Kept.{kept_in}
 use Rattle.plan_files.proofs.LeftLemmas.{holds_such}
 use Rattle.plan_files.proofs.over_files.run_adopted.Goals as goal
 
@@ -9,14 +10,18 @@ pub returns-in-Ok-clause-ran : goal.returns-in-Ok-clause-ran
 returns-in-Ok-clause-ran g c =
     let over = c.in-Ok.ensures.opened in
     let ran = c.run_and_close.ensures.runs in (
-      content_of c.in-Ok.store.lists,
+      kept_in (file_state c.in-Ok.store.conn) (content_of c.in-Ok.store.lists),
       ran.0,
       record {
         honest = λ honest. omega (arith, over.crash.clean, c.run_and_close.ensures.honest honest);
-        told = λ honest. over.opened.told (c.run_and_close.ensures.honest honest);
+        told = λ honest. let clean = c.run_and_close.ensures.honest honest in (over.opened clean).told clean;
         runs = ran.1;
       },
     )
+
+pub run_and_close-requires-clause-kept : goal.run_and_close-requires-clause-kept
+run_and_close-requires-clause-kept g c clean =
+    let opened = c.in-Ok.ensures.opened.opened clean in record { stored = opened.stored clean; sound = opened.sound }
 
 pub returns-in-Err-clause-unrun : goal.returns-in-Err-clause-unrun
 returns-in-Err-clause-unrun g c =

@@ -1,19 +1,23 @@
-use Rattle.std.proofs.Common.{◌≡◌, ◌∙◌, [], ◌∷◌, ◌++◌, inl, inr, refl, subst, rules, arith, append_assoc}
+use Rattle.std.proofs.Common.{◌≡◌, ◌∙◌, [], ◌∷◌, ◌++◌, refl, subst, rules, arith, append_assoc}
 use Rattle.sqlite.specs.State.{HasCleanDisk, Survives, CommitsShowing, FailsToQuery}
 use Rattle.sqlite.specs.Held.{state}
 use Rattle.sqlite.specs.Values.{bound}
 use Rattle.sqlite.proofs.Callers.{unchanged_then}
 use Rattle.sqlite.proofs.StateLemmas.{survives_then}
-use Rattle.table_schema.specs.Rows.{MayFail}
+use Rattle.table_schema.specs.Rows.{MayFail, tables_of}
 use Rattle.table_schema.specs.Schema.{HasTables}
 use Rattle.table_lookups.specs.Looks.{look_sql, question}
 use Rattle.table_lookups.specs.Question.{Answers}
 use Rattle.table_lookups.proofs.AskLemmas.{failed, fails, quiet}
 use Rattle.table_lookups.proofs.HandLemmas.{fails_then, front, none_yet, takes_more, whole}
+use Rattle.table_lookups.proofs.SomeAnswer.{some_answer}
 use Rattle.table_lookups.proofs.handing.hand.Goals as goal
 
 pub returns-in-Err-clause-part : goal.returns-in-Err-clause-part
-returns-in-Err-clause-part g c clean has = record { done = []; rest = []; whole = inl refl; ends = refl }
+returns-in-Err-clause-part g c clean has =
+    let some = some_answer (question c.args.look) (bound c.args.asked.now)
+    (tables_of (state g.S.Store c.args.conn.now).now.trees) in
+    record { done = []; rest = some.0; whole = some.1; ends = refl }
 
 pub returns-in-Err-clause-fails : goal.returns-in-Err-clause-fails
 returns-in-Err-clause-fails g c clean has given =
@@ -63,7 +67,7 @@ returns-in-Err-advance-clause-part g c clean has =
     let more = front g.S.Store c.args.look (bound c.args.asked.now)
     (state g.S.Store c.args.conn.now) c.rows.rows.conn.now has
     c.schema.ensures.live was.1 given was.0 in
-    record { done = given; rest = more.0; whole = inr more.1; ends = c.rows.invariant.3.1 }
+    record { done = given; rest = more.0; whole = more.1; ends = c.rows.invariant.3.1 }
 
 pub returns-in-Err-advance-clause-fails : goal.returns-in-Err-advance-clause-fails
 returns-in-Err-advance-clause-fails g c clean has asked =
@@ -133,8 +137,8 @@ returns-in-Err-take-clause-part g c clean has =
     record {
       done = given;
       rest = row ∷ more.0;
-      whole = inr (subst (Answers (question c.args.look) (bound c.args.asked.now) _)
-          (append_assoc given (row ∷ []) more.0) more.1);
+      whole = subst (Answers (question c.args.look) (bound c.args.asked.now) _)
+          (append_assoc given (row ∷ []) more.0) more.1;
       ends = (c.rows.sink, row, more.0, refl, c.rows.invariant.3.1, c.in-Err-take.ensures.refused);
     }
 
@@ -178,4 +182,4 @@ returns-clause-part g c clean has =
     let more = front g.S.Store c.args.look (bound c.args.asked.now)
     (state g.S.Store c.args.conn.now) c.rows.rows.conn.now has
     c.schema.ensures.live was.1 given was.0 in
-    record { done = given; rest = more.0; whole = inr more.1; ends = c.rows.invariant.3.1 }
+    record { done = given; rest = more.0; whole = more.1; ends = c.rows.invariant.3.1 }

@@ -1,20 +1,25 @@
-use Rattle.std.proofs.Common.{◌∙◌, map, subst, sym}
-use Rattle.std.specs.List.Sorted.{IsPermutation}
 use Rattle.sqlite.specs.Held.{state}
 use Rattle.table_schema.specs.Rows.{tables_of}
-use Rattle.table_schema.specs.declared.tables.Table.TheVariants.{Dependency}
-use Rattle.table_reading.specs.Rowids.{pair_shown}
+use Rattle.table_facts.specs.Facts.{pair_values}
+use Rattle.table_reading.specs.Cells.{IsPair}
+use Rattle.table_reading.specs.Reading.{HasPlan}
+use Rattle.table_reading.specs.Rowids.{pair_row_values}
+use Rattle.table_reading.proofs.CollectLemmas.{kept_rows, untold}
+use Rattle.table_reading.proofs.PairHandLemmas.{ArePairs}
 use Rattle.table_reading.proofs.PairLemmas.{no_pair}
-use Rattle.table_reading.proofs.TableLemmas.{if_some}
 use Rattle.table_reading.proofs.pairs.read_pairs.Goals as goal
 
-pub returns-clause-listed : goal.returns-clause-listed
-returns-clause-listed g c clean plan =
-    let all = tables_of (state g.S.Store c.args.conn.now).now.trees in
-    if_some c.in_ok-tell_each.field-0 _ _ (λ told is. subst (IsPermutation (map pair_shown (all Dependency)))
-    (sym (is ∙ c.deref.ensures.value)) (c.in_ok-rows.ensures.rows clean plan)) c.in_ok-tell_each.ensures.told
+pub returns-in-Ok-clause-listed : goal.returns-in-Ok-clause-listed
+unfolding HasPlan
+returns-in-Ok-clause-listed g c clean plan =
+    kept_rows (λ w. w.xs.items) (λ w. w.is_short) (λ x. IsPair x.pair) pair_row_values
+    (ArePairs (state g.S.Store c.args.conn.now)) _ c.hand_pairs.new.sink c.new.ensures.items
+    (c.in-Ok.ensures.all clean plan)
 
 pub returns-clause-refused : goal.returns-clause-refused
-returns-clause-refused g c clean plan none =
-    no_pair (tables_of (state g.S.Store c.args.conn.now).now.trees) c.in_ok-rows.rows.items
-    (c.in_ok-rows.ensures.rows clean plan) (rw c.deref.ensures.value at (c.in_ok-tell_each.ensures.none none))
+unfolding HasPlan
+returns-clause-refused g c clean plan _ shows =
+    let (rows, whole, none) = untold (λ w. w.xs.items) (λ w. w.is_short) (λ x. IsPair x.pair) pair_row_values
+    (ArePairs (state g.S.Store c.args.conn.now)) _ c.hand_pairs.new.sink
+    (rw c.in-Err-Sink-2.field-0-is at (c.in-Err-Sink.ensures.part clean plan)) c.if-told.false in
+    no_pair (tables_of (state g.S.Store c.args.conn.now).now.trees) rows whole none shows

@@ -1,4 +1,5 @@
 use Rattle.std.proofs.Common.{◌≡◌, ◌⊎◌, arith, false, subst}
+use Rattle.std.proofs.Math.Logic.{∥∥₁_map}
 use Rattle.sqlite.specs.Files.{file_state, over_files}
 use Rattle.sqlite.specs.Held.{Held}
 use Rattle.sqlite.specs.State.{HasCleanDisk}
@@ -7,6 +8,7 @@ use Rattle.sqlite_store.specs.FileStore.{faults}
 use Rattle.sqlite_store.specs.Laws.{settled_at}
 use Rattle.sqlite_store.specs.declared.store.FileStore.{FileStore}
 use Rattle.plan_store.specs.Contents.{content_of}
+use Rattle.plan_tables.specs.Kept.{kept_in}
 use Rattle.plan_tables.specs.Found.{KeepsAlone}
 use Rattle.plan_tables.specs.Stored.{MayLeave}
 use Rattle.plan_tables.proofs.CauseLemmas.{certain}
@@ -39,11 +41,13 @@ pub returns-in-Ok-clause-found_again : goal.returns-in-Ok-clause-found_again
 returns-in-Ok-clause-found_again g c none sure clean left out d found =
     let copied = c.in-Ok.ensures.copied clean in
     let own = c.args.self in
-    copied_again c.into_connection-connection.result c.in-Ok.files copied left out (content_of own.lists)
+    copied_again c.into_connection-connection.result c.in-Ok.files copied left out
+    (kept_in (file_state own.conn) (content_of own.lists))
     c.tables_have_one_content.ensures
     (λ db may. tells_kept over_files (λ s. settled_at s g.met.D.Disk.seen_may_stay) own.conn
-    c.into_connection-connection.result (content_of own.lists) own.failures
-    c.into_connection-connection.ensures none (certain own.in_doubt sure own.stored) copied.was_clean c.schema-schema.ensures.live db may)
+    c.into_connection-connection.result (kept_in (file_state own.conn) (content_of own.lists)) own.failures
+    c.into_connection-connection.ensures none
+    (∥∥₁_map (certain own.in_doubt sure own.stored) (λ h whole clean. (h whole clean).stored)) copied.was_clean c.schema-schema.ensures.live db may)
     g.met.D.Disk.seen_may_stay d found
 
 pub returns-in-Err-clause-stays : goal.returns-in-Err-clause-stays
@@ -67,8 +71,9 @@ returns-in-Err-clause-tells g c none sure clean db found =
     let own = c.args.self in
     let quiet = c.in-Err.ensures.err.0.quiet in
     tells_kept over_files (λ s. settled_at s g.met.D.Disk.seen_may_stay) own.conn
-    c.into_connection-connection.result (content_of own.lists) own.failures
-    c.into_connection-connection.ensures none (certain own.in_doubt sure own.stored) (omega (arith, quiet.clean, clean))
+    c.into_connection-connection.result (kept_in (file_state own.conn) (content_of own.lists)) own.failures
+    c.into_connection-connection.ensures none
+    (∥∥₁_map (certain own.in_doubt sure own.stored) (λ h whole clean. (h whole clean).stored)) (omega (arith, quiet.clean, clean))
     c.schema-schema.ensures.live db (quiet.outcomes db found)
 
 pub returns-in-Err-clause-blames : goal.returns-in-Err-clause-blames

@@ -1,4 +1,6 @@
+use Rattle.sqlite.specs.Files.{file_state}
 use Rattle.plan_store.specs.Contents.{content_of}
+use Rattle.plan_tables.specs.Kept.{kept_in}
 use Rattle.plan_tables.proofs.FoundLemmas.{found_again, found_left, holds_left}
 use Rattle.plan_tables.proofs.closing.TableStore+FileStore+D.into_files.Goals as goal
 
@@ -15,5 +17,5 @@ returns-clause-goes_on g c clean =
 
 pub returns-clause-found_again : goal.returns-clause-found_again
 returns-clause-found_again g c none sure clean =
-    found_again c.into_store.result (content_of c.args.self.lists) c.tables_have_one_content.ensures
+    found_again c.into_store.result (kept_in (file_state c.args.self.conn) (content_of c.args.self.lists)) c.tables_have_one_content.ensures
     (c.into_store.ensures.numbered clean) (c.into_store.ensures.sound clean) (c.into_store.ensures.tells none sure clean)

@@ -3,6 +3,7 @@ use Rattle.sqlite.specs.Files.{file_state}
 use Rattle.sqlite.specs.State.{HasCleanDisk}
 use Rattle.sqlite_wal.specs.Files.{image_at}
 use Rattle.plan_store.specs.Contents.{content_of}
+use Rattle.plan_tables.specs.Kept.{kept_in}
 use Rattle.plan_tables.proofs.FoundLemmas.{found_in}
 use Rattle.plan_tables.proofs.RefusedLemmas.{no_plan}
 use Rattle.plan_tables.proofs.opening.TableStore+FileStore+FileFrom+S.open_path_from.Goals as goal
@@ -14,9 +15,10 @@ pub returns-in-Ok-over_store-clause-found : goal.returns-in-Ok-over_store-clause
 returns-in-Ok-over_store-clause-found g c clean =
     let over = c.in-Ok-over_store.ensures.opened in
     let first : HasCleanDisk (file_state c.in-Ok.conn) = omega (arith, over.crash.clean, clean) in
-    found_in (image_at g.S.Start) (file_state c.in-Ok.conn) (content_of c.in-Ok-over_store.store.lists)
+    found_in (image_at g.S.Start) (file_state c.in-Ok.conn)
+    (kept_in (file_state c.in-Ok-over_store.store.conn) (content_of c.in-Ok-over_store.store.lists))
     (c.in-Ok.ensures.opened first).0 (c.in-Ok.ensures.opened first).1 (c.in-Ok.ensures.found first)
-    (over.opened.told clean)
+    ((over.opened clean).told clean)
 
 pub returns-in-Err-over_store-clause-refused : goal.returns-in-Err-over_store-clause-refused
 returns-in-Err-over_store-clause-refused g c = (
@@ -28,3 +30,8 @@ returns-in-Err-over_store-clause-refused g c = (
         c.in-Ok.ensures.fresh c.in-Ok.ensures.opened c.in-Ok.ensures.found c.in-Err-over_store.ensures.refused,
   ),
 )
+
+pub returns-in-Ok-over_store-clause-opened : goal.returns-in-Ok-over_store-clause-opened
+returns-in-Ok-over_store-clause-opened g c clean =
+    let opened = c.in-Ok-over_store.ensures.opened.opened clean in
+    record { stored = opened.stored clean; sound = opened.sound }

@@ -1,4 +1,5 @@
-use Rattle.std.proofs.Common.{subst, sym}
+use Rattle.std.proofs.Common.{refl, subst, sym, true}
+use Rattle.sqlite_trees.proofs.Doubt.{no_doubt}
 use Rattle.table_schema.specs.Free.{IsFree}
 use Rattle.table_schema.proofs.MadeLemmas.{nothing_is_free}
 use Rattle.table_schema.proofs.ResultLemmas.{if_ok}
@@ -12,13 +13,13 @@ returns-in-Ok-clause-refused c =
 
 pub returns-in-Ok-clause-empty : goal.returns-in-Ok-clause-empty
 returns-in-Ok-clause-empty c =
-    if_ok c.over_connection.result _ _ (λ store over. over.opened.empty (subst IsFree (sym c.in-Ok.ensures.empty.2)
+    if_ok c.over_connection.result _ _ (λ store over. (over.opened (no_doubt true refl)).empty (subst IsFree (sym c.in-Ok.ensures.empty.2)
     nothing_is_free))
     c.over_connection.ensures.opened
 
 pub returns-in-Ok-clause-sound : goal.returns-in-Ok-clause-sound
 returns-in-Ok-clause-sound c =
-    if_ok c.over_connection.result _ _ (λ store over. over.opened.sound) c.over_connection.ensures.opened
+    if_ok c.over_connection.result _ _ (λ store over. (over.opened (no_doubt true refl)).sound) c.over_connection.ensures.opened
 
 pub returns-in-Ok-clause-settled : goal.returns-in-Ok-clause-settled
 returns-in-Ok-clause-settled c =

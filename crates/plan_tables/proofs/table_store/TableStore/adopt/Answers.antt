@@ -1,23 +1,25 @@
 use Rattle.std.proofs.Common.{subst, sym}
 use Rattle.sqlite.specs.Held.{state}
-use Rattle.sqlite.specs.State.{Survives}
+use Rattle.sqlite.specs.State.{HasCleanDisk, Survives}
 use Rattle.plan_store.specs.Contents.{content_of}
 use Rattle.table_opening.specs.Opened.{MakesFirst}
 use Rattle.table_opening.specs.Opening.{IsOpened}
+use Rattle.plan_tables.specs.Kept.{kept_in}
 use Rattle.plan_tables.proofs.StoredLemmas.{leaves_one}
 use Rattle.plan_tables.proofs.table_store.TableStore.adopt.Goals as goal
 
 pub returns-in-Ok-clause-opened : goal.returns-in-Ok-clause-opened
 returns-in-Ok-clause-opened g c =
     let old = state g.S.Store c.args.conn in
-    let opened : IsOpened old (state g.S.Store c.over.result.conn) (content_of c.over.result.lists) =
-    subst (λ lists. IsOpened old (state g.S.Store c.over.result.conn) (content_of lists))
-    (sym c.over.ensures.lists) (subst (λ conn. IsOpened old (state g.S.Store conn) (content_of c.in-Ok.lists))
+    let now = state g.S.Store c.over.result.conn in
+    let kept = kept_in now (content_of c.over.result.lists) in
+    let opened : HasCleanDisk now → IsOpened old now kept = λ clean. subst (IsOpened old now)
+    (sym (c.over.ensures.kept clean)) (subst (λ conn. IsOpened old (state g.S.Store conn) (content_of c.in-Ok.lists))
     (sym c.over.ensures.conn) c.in-Ok.ensures.opened) in
     record {
       opened = opened;
-      settled = λ left both. leaves_one g.S.Store g.met.S.Store.settled c.over.result.conn left
-          (content_of c.over.result.lists) c.tables_have_one_content.ensures (opened.stored both.0) both.1;
+      settled = λ left both. leaves_one g.S.Store g.met.S.Store.settled c.over.result.conn left kept
+          c.tables_have_one_content.ensures ((opened both.0).stored both.0) both.1;
       whole = c.over.ensures.whole;
       sure = c.over.ensures.sure;
       crash = subst (λ conn. Survives old (state g.S.Store conn) (MakesFirst old)) (sym c.over.ensures.conn)

@@ -1,0 +1,67 @@
+-- What is handed out of a table is a listing of what stands there.
+use Rattle.std.proofs.Common.{◌≡◌, ◌↔◌, ℕ, false, List, Contains, Option, Result, IfErr, IfOk, map}
+use Rattle.sqlite.specs.Held.{Held, state}
+use Rattle.sqlite.specs.Order.{Row as Values}
+use Rattle.sqlite.specs.State.{HasCleanDisk, IsUnchanged, Survives}
+use Rattle.sqlite.specs.Store.{Ghosts}
+use Rattle.occurrences.specs.declared.place.Place.{Place}
+use Rattle.occurrences.specs.declared.row.Row.{Row}
+use Rattle.planner_machine.specs.Content.{Content}
+use Rattle.planner_machine.specs.Shown.{Listed}
+use Rattle.planner_machine.specs.Sound.{IsSound}
+use Rattle.plan_store.specs.Listings.{ShowRows, Shown}
+use Rattle.table_schema.specs.Rows.{StaysOrIsUndone, Tables, shown, tables_of}
+use Rattle.table_schema.specs.Schema.{HasTables}
+use Rattle.table_schema.proofs.ResultLemmas.{if_err, if_ok}
+use Rattle.table_lookups.specs.Looks.{AreAsked, question}
+use Rattle.table_lookups.specs.Question.{Answers}
+use Rattle.table_lookups.specs.declared.looks.Look.{Look}
+use Rattle.table_facts.specs.Content.{IsContentOf, IsOfSet}
+use Rattle.fact_listings.specs.Listing.{Lists, StopsFor}
+use Rattle.fact_listings.specs.Telling.{TellsAll, TellsPart}
+use Rattle.fact_listings.specs.declared.faults.ListedFault.{ListedFault}
+use Rattle.fact_listings.proofs.ListingLemmas.{AsksFor, IsShownSet, each_tells, hands_all, hands_part}
+
+module _ {X : Type 0} (values_of : X → Values) (row_of : X → Row) (letter_of : X → ℕ) (place : X → Place)
+    (Is : X → Type 0) (set_of : Content → ℕ → Option X) (listed : Listed)
+    (kind : (c : Content) → IsSound c → IsShownSet values_of row_of letter_of place Is (set_of c) listed c)
+    (look : Look) (asked : Values) (app : Option (List ℕ)) (asks : AsksFor values_of row_of (question look) asked app)
+    (facts : (all : Tables) (c : Content) → IsContentOf all c → (v : Values)
+    → Contains (map (shown (question look).table) (all (question look).table)) v ↔ IsOfSet values_of (set_of c) v)
+    (given : AreAsked look asked)
+    {S K : Type 0} (g : Ghosts S) (old new : Held S) (Takes Refuses : K → Shown → K → Type 0) (before after : K)
+    (result : Result ℕ ListedFault) where
+  abbrev all_tables : Tables
+  all_tables = tables_of (state g old).now.trees
+
+  -- over the tables of a plan
+  abbrev Over : Type 0 → Type 0
+  Over P = HasCleanDisk (state g new) → HasTables (state g old).now.schema → P
+
+  pub lists : Over (IfOk result (TellsAll values_of row_of letter_of Takes (Answers (question look) asked all_tables)
+      before after))
+      → Over (IfErr result (TellsPart Is values_of row_of letter_of Takes Refuses
+      (Answers (question look) asked all_tables) before after))
+      → Over (IfOk result (λ _. IsUnchanged (state g old) (state g new)))
+      → (HasCleanDisk (state g new) → HasTables (state g old).now.schema → AreAsked look asked
+      → IfErr result (StopsFor (state g old) (state g new)))
+      → Over (StaysOrIsUndone (state g old) (state g new))
+      → (old.in_transaction ≡ false → new.in_transaction ≡ false)
+      → Survives (state g old) (state g new) (λ _. HasTables (state g old).now.schema → ⊥)
+      → Lists g old new (question look).table Takes Refuses before after (ShowRows listed app) result
+  lists all part same fails leaves mode survives = record {
+    all = λ clean has c is sound have. if_ok result _ _
+        (hands_all values_of row_of letter_of place Is (set_of c) listed c (kind c sound) (question look) asked app asks
+        all_tables (facts all_tables c is) Takes Refuses before after have) (all clean has);
+    part = λ clean has c is sound have. if_err result _ _
+        (hands_part values_of row_of letter_of place Is (set_of c) listed c (kind c sound) (question look) asked app
+        asks all_tables (facts all_tables c is) Takes Refuses before after have) (part clean has);
+    told = λ clean has c is sound. if_err result _ _
+        (each_tells values_of row_of letter_of place Is (set_of c) listed c (kind c sound) (question look) asked app
+        asks all_tables (facts all_tables c is) Takes Refuses before after) (part clean has);
+    same = same;
+    fails = λ clean has. fails clean has given;
+    leaves = leaves;
+    mode = mode;
+    survives = survives;
+  }

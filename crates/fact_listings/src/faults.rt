@@ -1,0 +1,17 @@
+// Why a listing ended before its last row.
+
+use plan_store::SinkFault;
+use sqlite::Error;
+
+/// Why a listing ended before its last row.
+#[derive(Clone, Copy, Debug)]
+pub enum ListedFault {
+    /// Memory was refused as a row was told.
+    Memory,
+    /// A row tells no fact.
+    Untold,
+    /// The sink refused a row.
+    Sink(SinkFault),
+    /// The tables could not be read.
+    Store(Error),
+}

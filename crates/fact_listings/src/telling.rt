@@ -1,0 +1,167 @@
+// Each row of a question is told and handed on.
+
+ghost use Rattle.std.specs.Prelude.{◌≡◌, ℕ, false, IfErr, IfOk};
+ghost use Rattle.sqlite.specs.Held.{state};
+ghost use Rattle.sqlite.specs.State.{HasCleanDisk, IsUnchanged, Survives};
+ghost use Rattle.sqlite.specs.Values.{bound};
+ghost use Rattle.occurrences.specs.Place.{reason_letter};
+ghost use Rattle.occurrences.specs.Status.{status_letter};
+ghost use Rattle.occurrences.specs.declared.row.Row.{Row as RowValue};
+ghost use Rattle.occurrences.specs.declared.status.Status.TheVariants.{C};
+ghost use Rattle.table_lookups.specs.Looks.{AreAsked, question};
+ghost use Rattle.table_lookups.specs.Question.{Answers};
+ghost use Rattle.table_schema.specs.Rows.{StaysOrIsUndone, tables_of};
+ghost use Rattle.table_schema.specs.Schema.{HasTables};
+ghost use Rattle.fact_listings.specs.Listing.{StopsFor};
+ghost use Rattle.fact_listings.specs.Telling.{RefusesRow, TakesRow, TellsAll, TellsPart};
+
+use crate::faults::ListedFault;
+use occurrences::{Deletion, Row, Status};
+use plan_store::{Item, RowSink};
+use sqlite::types::ValueRef;
+use sqlite::{Alter, Connection, Row as Cells};
+use std::alloc::{AllocError, Global};
+use std::marker::PhantomData;
+use table_lookups::{HandFault, Look, SinkFault, ValuesSink, hand};
+use table_reading::Told;
+
+/// What a row tells, and the letter with which a listing shows it.
+pub(crate) trait Marked: Told {
+    ghost row_of: { Self → RowValue };
+
+    ghost letter_of: { Self → ℕ };
+
+    fn occurrence(&self) -> &Row
+        ensures { result.now ≡ row_of self.now };
+
+    fn letter(&self) -> u8
+        ensures { result ≡ letter_of self.now };
+}
+
+impl Marked for Row {
+    ghost row_of = { λ row. row };
+
+    ghost letter_of = { λ _. status_letter C };
+
+    fn occurrence(&self) -> &Row {
+        self
+    }
+
+    fn letter(&self) -> u8 {
+        Status::C.letter()
+    }
+}
+
+impl Marked for Deletion {
+    ghost row_of = { λ deletion. deletion.row };
+
+    ghost letter_of = { λ deletion. reason_letter deletion.reason };
+
+    fn occurrence(&self) -> &Row {
+        &self.row
+    }
+
+    fn letter(&self) -> u8 {
+        self.reason.letter()
+    }
+}
+
+// Tells each row that it takes, and hands on what it tells.
+#[derive(Drop)]
+struct Teller<'a, T, K> {
+    alloc: Global,
+    sink: &'a mut K,
+    // how many it took
+    count: usize,
+    // why it refused a row, where it did
+    why: ListedFault,
+    told: PhantomData<T>,
+}
+
+impl<T: Marked + Drop, K: RowSink> ValuesSink for Teller<'_, T, K> {
+    ghost takes = { λ old row new. (new.sink.ghost_name ≡ old.sink.ghost_name)
+        × TakesRow T.values T.row_of T.letter_of K.takes old.sink.now old.count row new.sink.now
+        new.count };
+
+    ghost refuses = { λ old row new. (new.sink.ghost_name ≡ old.sink.ghost_name)
+        × RefusesRow T.has_form T.values T.row_of T.letter_of K.refuses old.sink.now row
+        new.sink.now new.why };
+
+    fn take(&mut self, cells: &Cells) -> Result<(), SinkFault> {
+        let fact = match T::tell(self.alloc, cells) {
+            Ok(Some(fact)) => fact,
+            Ok(None) => {
+                self.why = ListedFault::Untold;
+                return Err(SinkFault);
+            }
+            Err(AllocError) => {
+                self.why = ListedFault::Memory;
+                return Err(SinkFault);
+            }
+        };
+        // no memory has so many rows
+        let Some(count) = self.count.checked_add(1) else {
+            self.why = ListedFault::Memory;
+            return Err(SinkFault);
+        };
+        match self
+            .sink
+            .take(Item::Marked(fact.occurrence(), fact.letter()))
+        {
+            Ok(()) => {
+                self.count = count;
+                Ok(())
+            }
+            Err(fault) => {
+                self.why = ListedFault::Sink(fault);
+                Err(SinkFault)
+            }
+        }
+    }
+}
+
+/// Hands the sink what each row tells that is asked for with these values, before the next is read, and answers how
+/// many.
+pub(crate) fn tell_rows<T: Marked + Drop, S: Alter, K: RowSink>(
+    alloc: Global,
+    conn: &mut Connection<S>,
+    look: Look,
+    asked: &[ValueRef<'_>],
+    sink: &mut K,
+) -> Result<usize, ListedFault>
+    ensures all { HasCleanDisk (state S.Store conn.new)
+        → HasTables (state S.Store conn.old).now.schema
+        → IfOk result (TellsAll T.values T.row_of T.letter_of K.takes
+        (Answers (question look) (bound asked.now) (tables_of (state S.Store conn.old).now.trees))
+        sink.old sink.new) }
+    ensures part { HasCleanDisk (state S.Store conn.new)
+        → HasTables (state S.Store conn.old).now.schema
+        → IfErr result (TellsPart T.has_form T.values T.row_of T.letter_of K.takes K.refuses
+        (Answers (question look) (bound asked.now) (tables_of (state S.Store conn.old).now.trees))
+        sink.old sink.new) }
+    ensures same { HasCleanDisk (state S.Store conn.new)
+        → HasTables (state S.Store conn.old).now.schema
+        → IfOk result (λ _. IsUnchanged (state S.Store conn.old) (state S.Store conn.new)) }
+    ensures fails { HasCleanDisk (state S.Store conn.new)
+        → HasTables (state S.Store conn.old).now.schema → AreAsked look (bound asked.now)
+        → IfErr result (StopsFor (state S.Store conn.old) (state S.Store conn.new)) }
+    ensures leaves { HasCleanDisk (state S.Store conn.new)
+        → HasTables (state S.Store conn.old).now.schema
+        → StaysOrIsUndone (state S.Store conn.old) (state S.Store conn.new) }
+    ensures mode { conn.old.in_transaction ≡ false → conn.new.in_transaction ≡ false }
+    ensures survives { Survives (state S.Store conn.old) (state S.Store conn.new)
+        (λ _. HasTables (state S.Store conn.old).now.schema → ⊥) }
+{
+    let mut teller: Teller<'_, T, K> = Teller {
+        alloc,
+        sink,
+        count: 0,
+        why: ListedFault::Memory,
+        told: PhantomData,
+    };
+    match hand(conn, look, asked, &mut teller) {
+        Ok(()) => Ok(teller.count),
+        Err(HandFault::Store(error)) => Err(ListedFault::Store(error)),
+        Err(HandFault::Sink) => Err(teller.why),
+    }
+}

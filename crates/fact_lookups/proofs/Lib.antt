@@ -1,0 +1,6 @@
+pub mod FindLemmas
+pub mod TestLemmas
+pub mod RowLemmas
+pub mod SerialLemmas
+pub mod JobLemmas
+pub mod DeletionLemmas

@@ -1,0 +1,21 @@
+-- Of a sound content what stands somewhere has a serial.
+use Rattle.std.proofs.Common.{ℕ, ◌≤◌, sym, subst, inl, inr, arith}
+use Rattle.occurrences.specs.Serial.{IsSerial}
+use Rattle.occurrences.specs.declared.serial.TheConstants.{GREATEST_SERIAL}
+use Rattle.external_dependencies.specs.declared.rows.PlacedRow.{PlacedRow}
+use Rattle.planner_machine.specs.Content.{Content, StandsAt}
+use Rattle.planner_machine.specs.Sound.{IsSound}
+use Rattle.planner_machine.proofs.SeatLemmas.{cases_issued, not_empty}
+
+small : (n issued : ℕ) → n ≤ issued → issued ≤ GREATEST_SERIAL → n ≤ GREATEST_SERIAL
+small n issued within few = omega arith
+
+is_serial : (c : Content) → IsSound c → (n : ℕ) (p : PlacedRow) → StandsAt c.sets n p → IsSerial n
+is_serial c sound n p there = elim (cases_issued c.sets.issued n) [
+  | inl within ↦ (within.0, small n c.sets.issued within.1 sound.sizes.issued)
+  | inr past ↦ absurd (not_empty c.sets n p there (sound.serials.unissued n past))
+]
+
+pub serial_of : (c : Content) → IsSound c → (n : ℕ) (p : PlacedRow) → StandsAt c.sets n p → IsSerial p.row.serial
+serial_of c sound n p there =
+    subst IsSerial (sym (sound.serials.numbered n p there)) (is_serial c sound n p there)

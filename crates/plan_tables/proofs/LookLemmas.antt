@@ -1,0 +1,194 @@
+-- A connection that is asked.
+use Rattle.std.proofs.Common.{◌≡◌, ◌∙◌, ◌≤◌, ◌^◌, ℕ, Bool, Err, Ok, Result, false, true, None, Option, Some, inl, inr, ap, arith, refl, subst, sym, true≢false}
+use Rattle.std.proofs.Math.Logic.{∥∥₁_elim, ∥∥₁_map}
+use Rattle.std.specs.Prelude.{IfErr, IfOk, IsTrue, OnOk}
+use Rattle.sqlite.specs.State.{HasCleanDisk, IsUnchanged, State, Survives}
+use Rattle.sqlite.specs.Tree.{Trees}
+use Rattle.planner_machine.specs.Content.{Content}
+use Rattle.planner_machine.specs.Sound.{IsSound}
+use Rattle.planner_machine.specs.declared.job.Job.{Job}
+use Rattle.plan_store.specs.Contents.{content_of}
+use Rattle.plan_store.specs.Faults.{IsMild, MoreFailures}
+use Rattle.plan_store.specs.declared.contents.Content.{Content as Kept}
+use Rattle.plan_store.specs.Stores.{ReadsStore}
+use Rattle.plan_store.specs.declared.stores.StoreFault.{StoreFault}
+use Rattle.plan_store.specs.declared.stores.StoreFault.TheVariants.{Device, Memory}
+use Rattle.table_schema.specs.Rows.{StaysOrIsUndone}
+use Rattle.table_schema.specs.Schema.{HasTables}
+use Rattle.fact_lookups.specs.Finding.{StopsFor}
+use Rattle.fact_lookups.specs.declared.faults.LookupFault.{LookupFault}
+use Rattle.plan_tables.specs.Kept.{CanRead, IsKept, LooksOn, StaysPut, kept_in}
+use Rattle.plan_tables.specs.Stored.{LeavesSound}
+use Rattle.plan_tables.proofs.CauseLemmas.{certain}
+use Rattle.plan_tables.proofs.SetLemmas.{content_set, no_prop, truth_prop}
+use Rattle.plan_tables.proofs.StoredLemmas.{kept_still, put_still}
+
+module _ (old new : State) (P : Trees → Type 0) (survives : Survives old new P) where
+  before : HasCleanDisk new → HasCleanDisk old
+  before clean = omega (arith, survives.clean, clean)
+
+  -- it stays put and commits nothing
+  pub looks_on : (lists : Content) → ∥ (HasCleanDisk old → IsTrue old.is_open → IsKept old lists) ∥₁
+      → ∥ (HasCleanDisk new → StaysPut old new) ∥₁ → ∥ (HasCleanDisk old → (db : Trees) → P db → ⊥) ∥₁
+      → LooksOn old new lists
+  looks_on lists kept puts none = record {
+    clean = before;
+    opens = λ clean opens. ∥∥₁_elim puts (truth_prop old.is_open) (λ put. (put clean opens).0);
+    same = λ (clean, opens). ∥∥₁_elim kept (content_set _ _) (λ h. ∥∥₁_elim puts (content_set _ _) (λ put.
+        let was = h (before clean) (put clean opens).0 in
+        kept_still old new lists (put_still old new (kept_in old lists) was.stored (put clean) opens).0));
+    crash = λ c (clean, (db, left, is)). (
+      before clean,
+      (
+        db,
+        elim (survives.crash clean db left) [
+          | inl was ↦ was
+          | inr made ↦ absurd (∥∥₁_elim none no_prop (λ h. h (before clean) db made))
+        ],
+        is,
+      ),
+    );
+  }
+
+  -- what a crash leaves of it is sound as before
+  pub told_still : ∥ (HasCleanDisk old → LeavesSound old) ∥₁ → ∥ (HasCleanDisk old → (db : Trees) → P db → ⊥) ∥₁
+      → ∥ (HasCleanDisk new → LeavesSound new) ∥₁
+  told_still told none = ∥∥₁_map told (λ h clean db left. elim (survives.crash clean db left) [
+    | inl earlier ↦ h (before clean) db earlier
+    | inr made ↦ absurd (∥∥₁_elim none no_prop (λ k. k (before clean) db made))
+  ])
+
+-- why a kept content is known: nothing failed, and the connection is known to be open
+pub kept_sure : {A B C : Type 0} (doubt : Bool) (failures : ℕ) → doubt ≡ false → failures ≡ 0
+    → ∥ (failures ≡ 0 → A → (IsTrue doubt → B) → C) ∥₁ → ∥ (A → C) ∥₁
+kept_sure doubt failures sure whole h = ∥∥₁_map (certain doubt sure h) (λ f. f whole)
+
+module _ (old new : State) (survives : Survives old new (λ _. HasTables old.now.schema → ⊥)) (lists : Content)
+    (kept : ∥ (HasCleanDisk old → IsKept old lists) ∥₁) where
+  none_made : ∥ (HasCleanDisk old → (db : Trees) → (HasTables old.now.schema → ⊥) → ⊥) ∥₁
+  none_made = ∥∥₁_map kept (λ h clean db none. none (h clean).stored.plan.schema)
+
+  pub looks_kept : (HasCleanDisk new → (l : Content) → IsKept old l → StaysPut old new) → LooksOn old new lists
+  looks_kept puts = looks_on old new _ survives lists (∥∥₁_map kept (λ h clean _. h clean))
+      (∥∥₁_map kept (λ h clean. puts clean lists (h (before old new _ survives clean)))) none_made
+
+  pub told_kept_still : ∥ (HasCleanDisk old → LeavesSound old) ∥₁ → ∥ (HasCleanDisk new → LeavesSound new) ∥₁
+  told_kept_still told = told_still old new _ survives told none_made
+
+-- ---- what was asked
+
+pub put_by : (old new : State) → StaysOrIsUndone old new → StaysPut old new
+put_by old new (inl same) opens = (same.0.was_open, inl same.0.now_is, same.0.committed_is)
+put_by old new (inr back) opens = let undone = back.undone opens in (back.was_open opens, inr undone.0, undone.1)
+
+pub put_then : (old mid new : State) → StaysPut old mid → StaysPut mid new → StaysPut old new
+put_then old mid new one two opens =
+    let later = two opens in
+    let first = one later.0 in (
+      first.0,
+      elim later.1 [
+        | inl now ↦ elim first.1 [ inl was ↦ inl (now ∙ was) | inr back ↦ inr (now ∙ back) ]
+        | inr back ↦ inr (back ∙ first.2)
+      ],
+      later.2 ∙ first.2,
+    )
+
+-- a connection that is open, and was not asked
+pub unasked : (s : State) → IsTrue s.is_open → IsUnchanged s s
+unasked s opens = (
+  record { was_open = opens; is_open = opens; now_is = refl; committed_is = refl; mode = refl },
+  record { changes = refl; last_rowid = refl },
+  refl,
+)
+
+-- no job of a sound content has so great a number
+pub none_so_great : (c : Content) (number : ℕ) → IsSound c → 2 ^ 63 ≤ number → c.jobs number ≡ None
+none_so_great c number sound great = go (c.jobs number) refl
+  where
+    go : (o : Option Job) → c.jobs number ≡ o → c.jobs number ≡ None
+    go None is = is
+    go (Some job) is = let greatest = (sound.jobs number job is).greatest in absurd (let h : ⊥ = omega (arith, greatest, great) in h)
+
+pub stopped_open : (old new : State) (fault : LookupFault) → fault ≡ LookupFault.Memory → StopsFor old new fault
+    → IsTrue new.is_open
+stopped_open old new fault is stops = (subst (StopsFor old new) is stops).0.is_open
+
+-- ---- what a call does that reads
+
+module _ {S T : Type 0} {is_honest : S → Type 0} {content : S → Content} {failures : S → ℕ}
+    {may_leave : S → Content → Type 0} {is_clean is_whole : S → Type 0} where
+  -- by a store that had not failed
+  pub read_so : (before now : S) (result : Result T StoreFault) (IsRight : T → Type 0)
+      → (is_honest now → IfOk result IsRight) → (is_honest now → content now ≡ content before)
+      → ((c : Content) → may_leave now c → may_leave before c)
+      → IfErr result (λ fault. fault ≡ Device → MoreFailures (failures before) (failures now))
+      → failures before ≡ 0 → (is_honest now → is_honest before) → (is_clean now → is_clean before)
+      → (is_honest before → is_clean now → IfErr result (IsMild (is_whole now)) → is_honest now)
+      → OnOk result (is_whole before → is_whole now)
+      → ReadsStore is_honest content failures may_leave is_clean is_whole before now result IsRight
+  read_so before now (Ok v) IsRight right same crash blames none honest clean stays whole = record {
+    right = right;
+    same = same;
+    crash = crash;
+    blames = tt;
+    broken = λ some. absurd (let h : ⊥ = omega (arith, none, some) in h);
+    counts = omega (arith, none);
+    honest = honest;
+    clean = clean;
+    stays_honest = stays;
+    whole = whole;
+  }
+  read_so before now (Err fault) IsRight right same crash blames none honest clean stays whole = record {
+    right = right;
+    same = same;
+    crash = crash;
+    blames = λ device. inl (blames device);
+    broken = λ some. absurd (let h : ⊥ = omega (arith, none, some) in h);
+    counts = omega (arith, none);
+    honest = honest;
+    clean = clean;
+    stays_honest = stays;
+    whole = whole;
+  }
+
+-- an answer that comes of another
+pub read_lent : {S T U : Type 0} {is_honest : S → Type 0} {content : S → Content} {failures : S → ℕ}
+    {may_leave : S → Content → Type 0} {is_clean is_whole : S → Type 0} (before now : S) (first : T) (second : U)
+    (IsRight : T → Type 0) (IsLent : U → Type 0) → (IsRight first → IsLent second)
+    → ReadsStore is_honest content failures may_leave is_clean is_whole before now (Ok first) IsRight
+    → ReadsStore is_honest content failures may_leave is_clean is_whole before now (Ok second) IsLent
+read_lent before now first second IsRight IsLent lent reads = record {
+  right = λ honest. lent (reads.right honest);
+  same = reads.same;
+  crash = reads.crash;
+  blames = tt;
+  broken = λ some. absurd (let no : Ok first ≡ Err Device = reads.broken some in let h : ⊥ = cc no in h);
+  counts = reads.counts;
+  honest = reads.honest;
+  clean = reads.clean;
+  stays_honest = reads.stays_honest;
+  whole = reads.whole;
+}
+
+-- ---- faults after which a store is honest still
+
+pub mild_open : {A : Type 0} (r : Result A StoreFault) (b doubt : Bool) (W : Type 0) → OnOk r (IsTrue b)
+    → IfErr r (λ fault. fault ≡ Memory → doubt ≡ false → IsTrue b) → IfErr r (IsMild (W × (doubt ≡ false))) → IsTrue b
+mild_open (Ok v) b doubt W opens memory mild = opens
+mild_open (Err Memory) b doubt W opens memory mild = memory refl (mild.1 refl).1
+mild_open (Err Device) b doubt W opens memory mild = absurd (mild.0 refl)
+
+-- where it is in doubt, or the device is blamed
+pub no_mild : (fault : StoreFault) (doubt : Bool) (W : Type 0) → (fault ≡ Memory → doubt ≡ true)
+    → IsMild (W × (doubt ≡ false)) fault → ⊥
+no_mild Memory doubt W told mild = true≢false (sym (told refl) ∙ (mild.1 refl).1)
+no_mild Device doubt W told mild = mild.0 refl
+
+-- where the lists are the same, too
+pub looks_listed : (old new : State) (l k : Kept) → LooksOn old new (content_of l) → k ≡ l → CanRead new
+    → kept_in new (content_of k) ≡ kept_in old (content_of l)
+looks_listed old new l k looks is can = ap (λ (x : Kept). kept_in new (content_of x)) is ∙ looks.same can
+
+pub ok_if : {A : Type 0} (r : Result A StoreFault) (P Q : Type 0) → (P → Q) → OnOk r P → IfOk r (λ _. Q)
+ok_if (Ok v) P Q so h = so h
+ok_if (Err e) P Q so h = tt

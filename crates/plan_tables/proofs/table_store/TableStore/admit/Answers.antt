@@ -1,0 +1,35 @@
+use Rattle.std.proofs.Common.{◌∙◌, arith, sym, true≢false}
+use Rattle.std.proofs.Math.Logic.{∥∥₁_elim}
+use Rattle.sqlite.specs.Held.{state}
+use Rattle.plan_store.specs.Contents.{content_of}
+use Rattle.plan_tables.specs.Kept.{CanRead, kept_in}
+use Rattle.plan_tables.proofs.LookLemmas.{kept_sure}
+use Rattle.plan_tables.proofs.MetLemmas.{fits_lists}
+use Rattle.plan_tables.proofs.SetLemmas.{no_prop}
+use Rattle.plan_tables.proofs.ToldLemmas.{told_by_tables}
+use Rattle.plan_tables.proofs.table_store.TableStore.admit.Goals as goal
+
+pub invariant_of-self : goal.invariant_of-self
+invariant_of-self g c =
+    let old = c.args.self.now in
+    record {
+      settled = old.settled;
+      jobless = old.jobless;
+      stored = ∣ (λ none clean doubt. absurd (omega arith)) ∣₁;
+      told = old.told;
+    }
+
+pub returns-clause-admits : goal.returns-clause-admits
+returns-clause-admits g c clean _ =
+    let old = c.args.self.now in
+    let before = state g.S.Store old.conn in
+    let lists = content_of old.lists in
+    let change = c.args.change.now in
+    ∥∥₁_elim (kept_sure old.in_doubt old.failures c.requires.sure c.requires.whole old.stored) no_prop (λ h.
+    let k = h clean in
+    let can : CanRead before = (clean, k.stored.is_open) in
+    let yes = c.in_ok-admits.ensures.admits.1 (
+      fits_lists before lists change old.jobless (c.requires.fits can),
+      (told_by_tables change (kept_in before lists) (c.requires.sound can)).1,
+    ) in
+    true≢false (sym yes ∙ c.if-branch.false))
